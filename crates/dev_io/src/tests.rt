@@ -1,0 +1,90 @@
+// The adapters over memory, and the numbering of the fakes' calls.
+ghost use Rattle.std.specs.Prelude.{◌≡◌, ◌<◌, ◌+◌};
+
+use crate::*;
+use std::marker::Brand;
+use std::sync::ledger::{Blank, Ledger};
+use std::test::Fail;
+
+#[test]
+fn a_reader_is_read_to_its_end(rt: HostRuntime) -> Result<(), Fail> {
+    let bytes: &[u8] = b"abcde";
+    let mut source = ReadSource::new(bytes);
+    let mut front = [0u8; 3];
+    assert_eq!(rt; fill(&mut source, &mut front), Ok(3));
+    assert_eq!(rt; &front[..], b"abc".as_slice());
+    let mut rest = [0u8; 3];
+    assert_eq!(rt; fill(&mut source, &mut rest), Ok(2));
+    assert_eq!(rt; &rest[..2], b"de".as_slice());
+    assert_eq!(rt; source.take(&mut rest), Ok(0));
+    Ok(())
+}
+
+#[test]
+fn a_writer_is_given_each_piece(rt: HostRuntime) -> Result<(), Fail> {
+    let mut text = Vec::new(rt.alloc());
+    let mut sink = WriteSink::new(&mut text);
+    assert_eq!(rt; sink.put(b"abc"), Ok(()));
+    assert_eq!(rt; sink.put(b"de"), Ok(()));
+    assert_eq!(rt; sink.done(), Ok(()));
+    assert_eq!(rt; text.as_slice(), b"abcde".as_slice());
+    Ok(())
+}
+
+#[test]
+fn the_fakes_fail_at_the_calls_named(rt: HostRuntime) -> Result<(), Fail> {
+    let alloc = rt.alloc();
+    let mut source = MemSource::new(b"abcde", 2, &[2]);
+    let mut buf = [0u8; 4];
+    assert_eq!(rt; fill(&mut source, &mut buf), Err(Failed));
+    assert_eq!(rt; source.rest(), b"cde".as_slice());
+    assert_eq!(rt; fill(&mut source, &mut buf), Ok(3));
+    let mut plain = PlainSource::new(b"abc");
+    assert_eq!(rt; fill(&mut plain, &mut buf), Ok(3));
+    assert_eq!(rt; plain.rest(), b"".as_slice());
+
+    let mut sink = MemSink::new(vec![in alloc; 0; 6]?, &[2, 3], 1);
+    assert_eq!(rt; sink.put(b"abc"), Ok(()));
+    assert_eq!(rt; sink.put(b"de"), Err(Failed));
+    assert_eq!(rt; sink.done(), Err(Failed));
+    assert_eq!(rt; sink.put(b"fgh"), Err(Failed));
+    assert_eq!(rt; sink.bytes(), b"abcdfg".as_slice());
+    assert_eq!(rt; sink.done(), Ok(()));
+    Ok(())
+}
+
+#[test]
+fn a_block_puts_full_pieces(rt: HostRuntime) -> Result<(), Fail> {
+    let mut sink = MemSink::new(vec![in rt.alloc(); 0; 2900]?, &[], 0);
+    let mut block = Block::new();
+    assert_eq!(rt; block.add(&mut sink, &[1; 2000]), Ok(()));
+    assert_eq!(rt; sink.bytes().len(), 0);
+    assert_eq!(rt; block.add(&mut sink, &[2; 890]), Ok(()));
+    assert_eq!(rt; sink.bytes().len(), 2880);
+    assert_eq!(rt; block.flush(&mut sink), Ok(()));
+    assert_eq!(rt; sink.bytes().len(), 2890);
+    assert_eq!(rt; block.flush(&mut sink), Ok(()));
+    Ok(())
+}
+
+fn tick_twice<L: Ledger>(steps: &mut Steps<L>)
+    ensures { steps.new ≡ steps.old + 2 }
+{
+    steps.tick();
+    steps.tick();
+}
+
+fn count<L: Ledger>(blank: Blank)
+    requires name { blank.name ≡ L.name }
+    requires parts { blank.parts ≡ L.parts }
+    requires some { 0 < blank.parts }
+{
+    let mut steps = Steps::<L>::start(blank);
+    tick_twice(&mut steps);
+}
+
+// The count is a ghost: `tick_twice` says in its contract what the ticks add up to.
+#[test]
+fn a_counter_counts(_: HostRuntime) {
+    count::<Brand>(Blank::new(1));
+}
