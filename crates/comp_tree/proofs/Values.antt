@@ -1,0 +1,73 @@
+-- Values of a plane stay within their range, and are read as they were kept.
+use Rattle.std.proofs.Common.{◌≡◌, ◌∙◌, ℕ, zero, suc, ◌<◌, Bool, true, false, cond, List, [], ◌∷◌, length, map, get_or, set, refl, sym, ap, subst, arith}
+use Rattle.std.specs.Prelude.{ℤ, Option, Some, None, IfSome, replicate, slice_get, slice_set}
+use Rattle.std.specs.Ordering.{int_eq}
+use Rattle.std.proofs.lemmas.Int.{ints}
+use Rattle.std.proofs.lemmas.List.{get_or-map, map-set}
+use Rattle.comp_tree.specs.Limits.{IsWithinRange}
+use Rattle.comp_tree.specs.Raster.{HasValuesInRange, value_at}
+use Rattle.comp_tree.specs.Stored.{undefined_number, pixel_of}
+use Rattle.comp_tree.proofs.Levels.{int_eq-true}
+
+none_some : (v : ℤ) → (let o : Option (Option ℤ) = None in o) ≡ Some (Some v) → ⊥
+none_some v h = cc
+
+undefined_some : (v : ℤ) → (let o : Option (Option ℤ) = Some None in o) ≡ Some (Some v) → ⊥
+undefined_some v h = cc
+
+pub in_range-blank : (n : ℕ) → HasValuesInRange (replicate n None)
+in_range-blank zero p v h = absurd (none_some v h)
+in_range-blank (suc n) zero v h = absurd (undefined_some v h)
+in_range-blank (suc n) (suc p) v h = in_range-blank n p v h
+
+pub in_range-set : (xs : List (Option ℤ)) (p : ℕ) (value : Option ℤ) → HasValuesInRange xs → IfSome value (λ v. IsWithinRange v) → HasValuesInRange (slice_set xs p value)
+in_range-set [] p value old new q v h = old q v h
+in_range-set (x ∷ xs) zero value old new zero v h = go value new h
+  where
+    go : (o : Option ℤ) → IfSome o (λ v. IsWithinRange v) → (let a : Option (Option ℤ) = Some o in a) ≡ Some (Some v) → IsWithinRange v
+    go None k e = absurd (undefined_some v e)
+    go (Some w) k e = let f : w ≡ v = cc in subst (λ (z : ℤ). IsWithinRange z) f k
+in_range-set (x ∷ xs) zero value old new (suc q) v h = old (suc q) v h
+in_range-set (x ∷ xs) (suc p) value old new zero v h = old zero v h
+in_range-set (x ∷ xs) (suc p) value old new (suc q) v h = in_range-set xs p value (λ j w k. old (suc j) w k) new q v h
+
+pub in_range-get : (xs : List (Option ℤ)) (p : ℕ) (o : Option ℤ) → HasValuesInRange xs → slice_get xs p ≡ Some o → IfSome o (λ v. IsWithinRange v)
+in_range-get xs p None h e = tt
+in_range-get xs p (Some v) h e = h p v e
+
+-- ---- pixels as they are kept
+
+pub pixel_of-undefined : pixel_of undefined_number ≡ None
+unfolding pixel_of
+pixel_of-undefined = refl
+
+-- no value of a pixel is the number of the undefined ones
+pub pixel_of-in_range : (v : ℤ) → IsWithinRange v → pixel_of v ≡ Some v
+unfolding pixel_of
+pixel_of-in_range v r = go (int_eq v undefined_number) refl
+  where
+    go : (b : Bool) → int_eq v undefined_number ≡ b → cond b None (Some v) ≡ Some v
+    go true e = absurd (
+        let same : v ≡ undefined_number = int_eq-true v undefined_number e in
+        let low : _ = r.low in
+        omega (arith, ints))
+    go false e = refl
+
+pub pixels-replicate : (n : ℕ) → map pixel_of (replicate n undefined_number) ≡ replicate n None
+pixels-replicate zero = refl
+pixels-replicate (suc n) = rw (pixel_of-undefined, pixels-replicate n)
+
+-- what is read at a pixel is within the range
+pub in_range-read : (numbers : List ℤ) (p : ℕ) → HasValuesInRange (map pixel_of numbers) → IfSome (value_at (map pixel_of numbers) p) (λ v. IsWithinRange v)
+in_range-read [] p h = tt
+in_range-read (x ∷ xs) zero h = in_range-get (map pixel_of (x ∷ xs)) 0 (pixel_of x) h refl
+in_range-read (x ∷ xs) (suc p) h = in_range-read xs p (λ j v e. h (suc j) v e)
+
+-- the pixel that is kept as this number, read from a plane
+pub in_range-number : (numbers : List ℤ) (p : ℕ) (number d : ℤ) → p < length numbers → HasValuesInRange (map pixel_of numbers) → number ≡ get_or numbers p d → IfSome (pixel_of number) (λ v. IsWithinRange v)
+in_range-number numbers p number d below h e =
+    subst (λ o. IfSome o (λ v. IsWithinRange v)) (get_or-map pixel_of numbers p d None below ∙ ap pixel_of (sym e)) (in_range-read numbers p h)
+
+-- a number that was put in is read as the pixel that it was put in for
+pub pixels-set : (numbers : List ℤ) (p : ℕ) (number : ℤ) (value : Option ℤ) → pixel_of number ≡ value → map pixel_of (set numbers p number) ≡ slice_set (map pixel_of numbers) p value
+pixels-set numbers p number value e = map-set pixel_of numbers p number ∙ ap (λ (v : Option ℤ). slice_set (map pixel_of numbers) p v) e

@@ -1,0 +1,15 @@
+pub mod Limits
+pub mod Shapes
+pub mod Raster
+pub mod Stored
+pub mod Grid
+pub mod Joined
+pub mod Forest
+pub mod Counts
+pub mod ComponentTree
+pub mod Reaches
+pub mod Components
+pub mod Marks
+pub mod Laws
+pub mod TreeFacts
+pub mod Flooding

@@ -1,0 +1,27 @@
+//! Planes of whole numbers, forests of links, and the component tree (max-tree) of a plane.
+//!
+//! The threshold set of a level is the set of the pixels of at least this value. The nodes of the tree are the connected
+//! components of all threshold sets, and the parent of a node is the smallest component around it (Salembier, Oliveras
+//! and Garrido 1998). A forest of links between pixels stands for such a tree while it is built in pieces (Wilkinson et
+//! al. 2008). `specs/` defines both by paths of adjacent pixels, and `laws` says that the definitions fit together.
+#![tactic(auto)]
+
+mod forest;
+mod grid;
+pub mod laws;
+mod plain;
+mod plane;
+mod shape;
+#[cfg(test)]
+mod tests;
+mod tree;
+
+pub use forest::{Forest, is_forest};
+pub use grid::neighbours;
+pub use plain::plain_tree;
+pub use plane::Plane;
+pub use shape::{Connect, Shape};
+pub use tree::{NodeRow, Tree};
+
+/// Stands for "no pixel" and "no node". An image has at most 2^24 pixels, so it is the number of none of them.
+pub const NONE: u32 = u32::MAX;

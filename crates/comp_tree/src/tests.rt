@@ -1,0 +1,164 @@
+use super::*;
+use dev_io::OutOfMemory;
+use std::alloc::Global;
+
+#[derive(Drop)]
+struct Case<'a> {
+    width: u32,
+    height: u32,
+    connect: Connect,
+    // -1 stands for an undefined pixel
+    values: &'a [i64],
+    // level, representative and parent of each node
+    rows: &'a [(i64, u32, u32)],
+    node_of: &'a [u32],
+}
+
+// A plane of these values.
+fn plane_of(alloc: Global, shape: Shape, values: &[i64]) -> Result<Plane, OutOfMemory> {
+    let mut plane = Plane::blank(alloc, shape)?;
+    for (p, value) in values.iter().enumerate() {
+        if *value >= 0 && *value < 100 && p < plane.shape().pixels() as usize {
+            plane.set(p as u32, Some(*value));
+        }
+    }
+    Ok(plane)
+}
+
+// Worked examples, among them plateaus, undefined pixels and pixels that touch at a corner.
+#[test]
+fn trees_of_small_planes(rt: HostRuntime) {
+    let cases = [
+        Case {
+            width: 3,
+            height: 1,
+            connect: Connect::Four,
+            values: &[1, 2, 1],
+            rows: &[(1, 0, NONE), (2, 1, 0)],
+            node_of: &[0, 1, 0],
+        },
+        Case {
+            width: 1,
+            height: 1,
+            connect: Connect::Four,
+            values: &[0],
+            rows: &[(0, 0, NONE)],
+            node_of: &[0],
+        },
+        Case {
+            width: 2,
+            height: 2,
+            connect: Connect::Four,
+            values: &[9, 0, 0, 9],
+            rows: &[(0, 1, NONE), (9, 0, 0), (9, 3, 0)],
+            node_of: &[1, 0, 0, 2],
+        },
+        Case {
+            width: 2,
+            height: 2,
+            connect: Connect::Eight,
+            values: &[9, 0, 0, 9],
+            rows: &[(0, 1, NONE), (9, 0, 0)],
+            node_of: &[1, 0, 0, 1],
+        },
+        Case {
+            width: 2,
+            height: 1,
+            connect: Connect::Four,
+            values: &[-1, -1],
+            rows: &[],
+            node_of: &[NONE, NONE],
+        },
+        Case {
+            width: 3,
+            height: 1,
+            connect: Connect::Four,
+            values: &[5, -1, 5],
+            rows: &[(5, 0, NONE), (5, 2, NONE)],
+            node_of: &[0, NONE, 1],
+        },
+        Case {
+            width: 3,
+            height: 2,
+            connect: Connect::Four,
+            values: &[1, 5, 1, 7, 1, 1],
+            rows: &[(1, 0, NONE), (5, 1, 0), (7, 3, 0)],
+            node_of: &[0, 1, 0, 2, 0, 0],
+        },
+        Case {
+            width: 3,
+            height: 2,
+            connect: Connect::Eight,
+            values: &[1, 5, 1, 7, 1, 1],
+            rows: &[(1, 0, NONE), (5, 1, 0), (7, 3, 1)],
+            node_of: &[0, 1, 0, 2, 0, 0],
+        },
+        Case {
+            width: 3,
+            height: 3,
+            connect: Connect::Four,
+            values: &[5, 0, 6, 5, 2, 6, 3, 3, 3],
+            rows: &[(0, 1, NONE), (2, 4, 0), (3, 6, 1), (5, 0, 2), (6, 2, 2)],
+            node_of: &[3, 0, 4, 3, 1, 4, 2, 2, 2],
+        },
+    ];
+    for (number, case) in cases.iter().enumerate() {
+        let shape = Shape::of(case.width, case.height).expect(&rt, "a shape");
+        let plane = plane_of(rt.alloc(), shape, case.values).expect(&rt, "memory");
+        let tree = plain_tree(rt.alloc(), &plane, case.connect).expect(&rt, "memory");
+        assert!(rt; tree.shape() == shape, "case {number}");
+        assert_eq!(rt; tree.rows().len(), case.rows.len(), "case {number}");
+        assert!(rt; tree.node_of() == case.node_of, "case {number}");
+        for (row, wanted) in tree.rows().iter().zip(case.rows.iter()) {
+            assert_eq!(rt; row.level, wanted.0, "case {number}");
+            assert_eq!(rt; row.rep, wanted.1, "case {number}");
+            assert_eq!(rt; row.parent, wanted.2, "case {number}");
+        }
+    }
+}
+
+#[test]
+fn shapes_have_limits(rt: HostRuntime) {
+    assert!(rt; Shape::of(0, 1).is_none());
+    assert!(rt; Shape::of(1, 65536).is_none());
+    assert!(rt; Shape::of(4097, 4096).is_none());
+    assert!(rt; Shape::of(4096, 4096).is_some());
+    assert!(rt; Shape::of(65535, 256).is_some());
+}
+
+#[test]
+fn pixels_of_a_plane(rt: HostRuntime) {
+    let shape = Shape::of(3, 2).expect(&rt, "a shape");
+    let plane = plane_of(rt.alloc(), shape, &[5, -1, 6, 5, 0, 7]).expect(&rt, "memory");
+    assert_eq!(rt; plane.shape().pixels(), 6);
+    assert_eq!(rt; plane.get(2), Some(6));
+    assert_eq!(rt; plane.get(1), None);
+    assert!(rt; plane.is_defined(4) && !plane.is_defined(1));
+    assert_eq!(rt; plane.level(5), 7);
+    assert!(rt; plane.is_at_least(0, 4) && !plane.is_at_least(0, 1));
+    // a smaller value is earlier, and of equal values the smaller pixel
+    assert!(rt; plane.is_earlier(4, 0) && plane.is_earlier(0, 3) && !plane.is_earlier(3, 0));
+}
+
+#[test]
+fn neighbours_in_rising_order(rt: HostRuntime) {
+    let shape = Shape::of(3, 2).expect(&rt, "a shape");
+    assert_eq!(rt; shape.pixels(), 6);
+    let sides = neighbours(shape, Connect::Four, 1);
+    assert!(rt; sides.as_slice() == &[0, 2, 4][..]);
+    let corners = neighbours(shape, Connect::Eight, 1);
+    assert!(rt; corners.as_slice() == &[0, 2, 3, 4, 5][..]);
+}
+
+#[test]
+fn links_of_a_forest(rt: HostRuntime) {
+    let shape = Shape::of(3, 1).expect(&rt, "a shape");
+    let plane = plane_of(rt.alloc(), shape, &[1, 2, 1]).expect(&rt, "memory");
+    assert_eq!(rt; plane.shape().pixels(), 3);
+    let links = [NONE, 2, 0].to_vec(rt.alloc()).expect(&rt, "memory");
+    let forest = Forest::of(links);
+    assert_eq!(rt; forest.parents().len(), 3);
+    assert!(rt; is_forest(&plane, 0, forest.parents()));
+    // pixel 1 is later than pixel 2
+    assert!(rt; !is_forest(&plane, 0, &[NONE, NONE, 1]));
+}

@@ -1,0 +1,5 @@
+pub mod Clamped
+pub mod Laws
+pub mod Pieces
+pub mod Values
+pub mod Written

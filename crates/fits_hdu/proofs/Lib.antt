@@ -1,0 +1,12 @@
+mod Saturating
+mod Keeping
+mod Keywords
+mod Least
+mod Places
+mod Filled
+mod Reaching
+mod Stages
+mod Judging
+mod Skipping
+mod Heads
+mod Searching

@@ -1,0 +1,16 @@
+//! Headers and data units of a FITS file (FITS Standard 4.0, sections 3 and 4.4): an HDU is found by its number in a stream of bytes.
+#![tactic(auto)]
+
+mod answer;
+mod axes;
+mod cards;
+mod finding;
+mod header;
+mod others;
+mod stream;
+
+pub use answer::{Hdu, HduFault, Kind};
+pub use finding::find_hdu;
+
+#[cfg(test)]
+mod tests;

@@ -1,0 +1,4 @@
+pub mod Sums
+pub mod Flux
+pub mod Laws
+pub mod Merging

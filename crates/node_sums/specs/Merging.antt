@@ -1,0 +1,103 @@
+-- Sums over two sets of pixels that share none, made from the sums over each.
+use Rattle.std.specs.Prelude.{◌≡◌, ℕ, ◌+◌, ◌*◌, ◌/◌, ◌%◌, ◌^◌, ◌≤◌, min, max, Bool, true, ◌&&◌, not, nat_lt, zero, suc, ℤ, pos, neg_ℤ, ◌+ℤ◌, ◌*ℤ◌, ◌≤ℤ◌, List, length, filter, slice_get, Some, slice_index, ◌==◌}
+use Rattle.std.specs.Int.{int_max}
+use Rattle.comp_tree.specs.declared.shape.Connect.{Connect}
+use Rattle.comp_tree.specs.Raster.{Raster, is_defined, pixels}
+use Rattle.comp_tree.specs.ComponentTree.{ComponentTree}
+use Rattle.comp_tree.specs.Components.{is_in_node, tree_of}
+use Rattle.node_sums.specs.declared.entry.Sums.{Sums}
+use Rattle.node_sums.specs.Sums.{sums_over}
+
+-- the sums over pixel p of a plane of this width, which has this value
+abbrev pub sums_of_pixel : ℕ → ℕ → ℤ → Sums
+sums_of_pixel width p value =
+    let x = p % width + 1 in
+    let y = p / width + 1 in
+    record {
+      area = 1;
+      r = value;
+      x = x;
+      y = y;
+      xx = x * x;
+      xy = x * y;
+      yy = y * y;
+      rx = value *ℤ pos x;
+      ry = value *ℤ pos y;
+      xmin = x;
+      xmax = x;
+      ymin = y;
+      ymax = y;
+      first = p;
+      peak = value;
+    }
+
+-- the sums over two sets of pixels that share none, from those over each
+abbrev pub together : Sums → Sums → Sums
+together a b = record {
+  area = a.area + b.area;
+  r = a.r +ℤ b.r;
+  x = a.x + b.x;
+  y = a.y + b.y;
+  xx = a.xx + b.xx;
+  xy = a.xy + b.xy;
+  yy = a.yy + b.yy;
+  rx = a.rx +ℤ b.rx;
+  ry = a.ry +ℤ b.ry;
+  xmin = min a.xmin b.xmin;
+  xmax = max a.xmax b.xmax;
+  ymin = min a.ymin b.ymin;
+  ymax = max a.ymax b.ymax;
+  first = min a.first b.first;
+  peak = int_max a.peak b.peak;
+}
+
+-- a whole number lies between -m and m
+pub record IsUpTo (m : ℕ) (z : ℤ) : Type 0 where
+  pub low : neg_ℤ (pos m) ≤ℤ z
+  pub high : z ≤ℤ pos m
+
+-- how far from zero the values of planes lie at most, a value times a coordinate, and the sum of the values of a plane
+abbrev pub value_bound : ℕ
+value_bound = 2 ^ 34
+
+abbrev pub moment_bound : ℕ
+moment_bound = 2 ^ 50
+
+abbrev pub total_bound : ℕ
+total_bound = 2 ^ 58
+
+-- how large the sums over some pixels of a plane are, by their number
+pub record HasSizes (s : Sums) : Type 0 where
+  pub area : s.area ≤ 2 ^ 24
+  pub r : IsUpTo (value_bound * s.area) s.r
+  pub x : s.x ≤ 2 ^ 16 * s.area
+  pub y : s.y ≤ 2 ^ 16 * s.area
+  pub xx : s.xx ≤ 2 ^ 32 * s.area
+  pub xy : s.xy ≤ 2 ^ 32 * s.area
+  pub yy : s.yy ≤ 2 ^ 32 * s.area
+  pub rx : IsUpTo (moment_bound * s.area) s.rx
+  pub ry : IsUpTo (moment_bound * s.area) s.ry
+
+-- no node numbered above m and below k holds pixel q
+unfoldable pub none_between : Raster → Connect → ℕ → ℕ → ℕ → Bool
+none_between r connect q m zero = true
+none_between r connect q m (suc k) = none_between r connect q m k && not (nat_lt m k && is_in_node r connect k q)
+
+-- when the nodes numbered from k on have been added to their parents, the entry of node m has the pixels of m
+-- that belong to no node with a number above m and below k
+unfoldable pub is_counted : Raster → Connect → ℕ → ℕ → ℕ → Bool
+is_counted r connect k m q = is_in_node r connect m q && none_between r connect q m k
+
+-- each entry has those pixels, for each connectivity for which the tree is the plane's
+pub record AreCounted (r : Raster) (tree : ComponentTree) (k : ℕ) (sums : List Sums) : Type 0 where
+  pub one_each : length sums ≡ length tree.rows
+  pub counted : (connect : Connect) (m : ℕ) (s : Sums) → tree ≡ tree_of r connect → slice_get sums m ≡ Some s
+      → s ≡ sums_over r (filter (is_counted r connect k m) (pixels r))
+
+-- pixel q is defined, and its smallest node is m
+abbrev pub is_own : Raster → List ℕ → ℕ → ℕ → Bool
+is_own r node_of m q = is_defined r q && (slice_index node_of q == m)
+
+-- each entry has the pixels of a list whose smallest node it is
+pub record AreOwn (r : Raster) (node_of ps : List ℕ) (sums : List Sums) : Type 0 where
+  pub own : (m : ℕ) (s : Sums) → slice_get sums m ≡ Some s → s ≡ sums_over r (filter (is_own r node_of m) ps)

@@ -1,0 +1,107 @@
+ghost use Rattle.std.specs.Prelude.{◌<◌, length};
+ghost use Rattle.node_sums.specs.Sums.{AreTheTrees};
+
+use super::*;
+use comp_tree::{Connect, Plane, Shape, Tree, plain_tree};
+
+#[derive(Drop)]
+struct Case<'a> {
+    width: u32,
+    height: u32,
+    connect: Connect,
+    // 99 stands for an undefined pixel
+    values: &'a [i64],
+    // the level, the base and the flux of each node
+    nodes: &'a [(i64, i64, i64)],
+    // a node and its sums
+    node: usize,
+    sums: Sums,
+}
+
+// The level, the base and the flux of a node.
+fn measures(tree: &Tree, sums: &[Sums], n: u32) -> (i64, i64, i64)
+    requires node { n < length tree.now.rows }
+    requires sums { AreTheTrees tree.now sums.now }
+{
+    (
+        tree.rows()[n as usize].level,
+        base(tree, n),
+        flux(tree, sums, n),
+    )
+}
+
+#[test]
+fn sums_and_fluxes_of_small_planes(rt: HostRuntime) {
+    let cases = [
+        Case {
+            width: 5,
+            height: 1,
+            connect: Connect::Four,
+            values: &[1, 6, 2, 5, 1],
+            nodes: &[(1, 1, 10), (2, 1, 10), (5, 2, 3), (6, 2, 4)],
+            node: 1,
+            sums: Sums {
+                area: 3,
+                r: 13,
+                x: 9,
+                y: 3,
+                xx: 29,
+                xy: 9,
+                yy: 3,
+                rx: 38,
+                ry: 13,
+                xmin: 2,
+                xmax: 4,
+                ymin: 1,
+                ymax: 1,
+                first: 1,
+                peak: 6,
+            },
+        },
+        Case {
+            width: 2,
+            height: 2,
+            connect: Connect::Eight,
+            values: &[3, -1, 99, 4],
+            nodes: &[(-1, -1, 9), (3, -1, 9), (4, 3, 1)],
+            node: 0,
+            sums: Sums {
+                area: 3,
+                r: 6,
+                x: 5,
+                y: 4,
+                xx: 9,
+                xy: 7,
+                yy: 6,
+                rx: 9,
+                ry: 10,
+                xmin: 1,
+                xmax: 2,
+                ymin: 1,
+                ymax: 2,
+                first: 0,
+                peak: 4,
+            },
+        },
+    ];
+    for (number, case) in cases.iter().enumerate() {
+        let shape = Shape::of(case.width, case.height).expect(&rt, "a shape");
+        let mut plane = Plane::blank(rt.alloc(), shape).expect(&rt, "memory");
+        for (p, value) in case.values.iter().enumerate() {
+            if *value > -99 && *value < 99 && p < plane.shape().pixels() as usize {
+                plane.set(p as u32, Some(*value));
+            }
+        }
+        let tree = plain_tree(rt.alloc(), &plane, case.connect).expect(&rt, "memory");
+        let found = sums(rt.alloc(), &plane, &tree).expect(&rt, "memory");
+        let count = tree.rows().len();
+        assert_eq!(rt; count, case.nodes.len(), "case {number}");
+        assert!(rt; count < 9);
+        for n in 0..count {
+            let found = measures(&tree, &found, n as u32);
+            assert_eq!(rt; found, case.nodes[n], "node {n} of case {number}");
+        }
+        assert!(rt; case.node < found.len());
+        assert!(rt; found[case.node] == case.sums, "sums of case {number}");
+    }
+}

@@ -1,0 +1,85 @@
+-- What an HDU without a fault as an image has.
+use Rattle.std.proofs.Common.{◌≡◌, ℕ, ◌^◌, ◌/◌, ◌==◌, Bool, true, false, ◌&&◌, ◌||◌, not, List, [], ◌∷◌, None, Option, Some, ℤ, pos, neg_ℤ, ◌≤ℤ◌, refl, sym, ◌⊎◌, inl, inr, ⊎_elim, unsigned_abs}
+use Rattle.std.specs.Prelude.{Result, Ok, Err, IfOk}
+use Rattle.std.specs.Result.{result_err}
+use Rattle.std.proofs.lemmas.Bool.{or_cases, not-false}
+use Rattle.std.specs.Ordering.{int_eq}
+use Rattle.comp_tree.proofs.Levels.{int_eq-true, int_le-true}
+use Rattle.comp_tree.specs.declared.shape.Shape.{Shape}
+use Rattle.comp_tree.proofs.Shapes.{shape_of_sides}
+use Rattle.fits_card.specs.declared.number.Whole.{Whole}
+use Rattle.fits_card.specs.declared.number.Whole.TheVariants.{Is, NotWhole, Beyond, Unreadable}
+use Rattle.fits_hdu.specs.declared.answer.Hdu.{Hdu}
+use Rattle.pixel_plane.specs.declared.fault.ImageFault.{ImageFault}
+use Rattle.pixel_plane.specs.declared.fault.ImageFault.TheVariants.{NotImage, NoImage, ImageTooLarge, Bitpix, Bscale, Bzero, Blank}
+use Rattle.pixel_plane.specs.Images.{checked, shape_unless, image_fault, first_fault, is_other, has_no_pixels, is_small, is_stored_size, is_one, is_zero_point, is_blank_or_none}
+use Rattle.pixel_plane.specs.Stored.{size_of, is_number_size, whole_or_zero}
+
+none_passed : (a b c d e f g : Bool) → first_fault ((a, NotImage) ∷ (b, NoImage) ∷ (c, ImageTooLarge) ∷ (d, Bitpix) ∷ (e, Bscale) ∷ (f, Bzero) ∷ (g, Blank) ∷ []) ≡ None
+    → (d ≡ false) × (f ≡ false)
+none_passed true b c d e f g h = absurd (cc)
+none_passed false true c d e f g h = absurd (cc)
+none_passed false false true d e f g h = absurd (cc)
+none_passed false false false true e f g h = absurd (cc)
+none_passed false false false false true f g h = absurd (cc)
+none_passed false false false false false true g h = absurd (cc)
+none_passed false false false false false false g h = (refl, refl)
+
+-- the tests that a readable image passes
+pub record IsReadable (hdu : Hdu) : Type 0 where
+  pub size : is_stored_size hdu.bitpix ≡ true
+  pub zero : is_zero_point hdu.bzero ≡ true
+
+and_first : (a b : Bool) → (a && b) ≡ true → a ≡ true
+and_first true b h = refl
+and_first false b h = absurd (cc)
+
+and_second : (a b : Bool) → (a && b) ≡ true → b ≡ true
+and_second true b h = h
+and_second false b h = absurd (cc)
+
+pub readable : (hdu : Hdu) → image_fault hdu ≡ None → IsReadable hdu
+unfolding image_fault
+readable hdu h =
+    let tests = none_passed (is_other hdu.kind) (has_no_pixels hdu) (not (is_small hdu.width hdu.height)) (not (is_stored_size hdu.bitpix)) (not (is_one hdu.bscale)) (not (is_zero_point hdu.bzero)) (not (is_blank_or_none hdu.blank)) h in
+    record { size = not-false _ tests.0; zero = not-false _ tests.1 }
+
+size_from : (bitpix : ℤ) → (int_eq bitpix (pos 8) || int_eq bitpix (pos 16)) ≡ true ⊎ int_eq bitpix (pos 32) ≡ true → is_number_size (unsigned_abs bitpix / 8) ≡ true
+size_from bitpix (inr h) = rw (int_eq-true bitpix (pos 32) h) refl
+size_from bitpix (inl h) =
+    ⊎_elim (λ e. rw (int_eq-true bitpix (pos 8) e) refl) (λ e. rw (int_eq-true bitpix (pos 16) e) refl) (or_cases _ _ h)
+
+-- the stored numbers have one, two or four bytes
+pub size_fits : (hdu : Hdu) → image_fault hdu ≡ None → is_number_size (size_of hdu) ≡ true
+size_fits hdu h = size_from hdu.bitpix (or_cases _ _ (readable hdu h).size)
+
+pub record IsNear (zero : ℤ) : Type 0 where
+  pub low : neg_ℤ (pos (2 ^ 32)) ≤ℤ zero
+  pub high : zero ≤ℤ pos (2 ^ 32)
+
+near_from : (zero : Whole) → is_zero_point zero ≡ true → IsNear (whole_or_zero zero)
+near_from (Is n) h = record { low = int_le-true _ _ (and_first _ _ h); high = int_le-true _ _ (and_second _ _ h) }
+near_from NotWhole h = absurd (cc)
+near_from Beyond h = absurd (cc)
+near_from Unreadable h = absurd (cc)
+
+-- what is added to each stored number is from -2 ^ 32 to 2 ^ 32
+pub zero_is_near : (hdu : Hdu) → image_fault hdu ≡ None → IsNear (whole_or_zero hdu.bzero)
+zero_is_near hdu h = near_from hdu.bzero (readable hdu h).zero
+
+-- ---- the shape
+
+-- an answer with the first fault or with the sides is the right one
+pub checked_from : (hdu : Hdu) (r : Result Shape ImageFault) → result_err r ≡ image_fault hdu → IfOk r (λ shape. (shape.width ≡ hdu.width) × (shape.height ≡ hdu.height)) → r ≡ checked hdu
+unfolding checked
+checked_from hdu (Err fault) h sides = rw (sym h) refl
+checked_from hdu (Ok shape) h sides = rw (sym h, shape_of_sides hdu.width hdu.height shape sides.0 sides.1) refl
+
+-- an image with a shape has no fault
+pub shape_without_fault : (hdu : Hdu) (shape : Shape) → checked hdu ≡ Ok shape → image_fault hdu ≡ None
+unfolding checked
+shape_without_fault hdu shape h = go (image_fault hdu) refl
+  where
+    go : (fault : Option ImageFault) → image_fault hdu ≡ fault → image_fault hdu ≡ None
+    go None e = e
+    go (Some fault) e = let k : checked hdu ≡ Err fault = rw e refl in absurd (cc)

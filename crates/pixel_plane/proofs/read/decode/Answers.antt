@@ -1,0 +1,16 @@
+use Rattle.std.proofs.Common.{◌≡◌, ◌-◌, ◌∙◌, ◌<◌, length, arith}
+use Rattle.std.proofs.lemmas.List.{length-set}
+use Rattle.pixel_plane.specs.Reading.{decoded}
+use Rattle.pixel_plane.proofs.Decoding.{decoded_next, value_from}
+use Rattle.pixel_plane.proofs.read.decode.Goals as goal
+
+pub loop-p-preserved : goal.loop-p-preserved
+loop-p-preserved c =
+    let inside : c.loop-p.p < length c.loop-p.plane.values = omega (arith, c.loop-p-test.true, c.requires.within, c.loop-p.invariant.count) in
+    let value : c.value.result ≡ decoded c.args.encoding.now c.args.bytes.now (c.loop-p.p - c.args.first) =
+    c.value.ensures.value ∙ value_from c.args.encoding.now c.args.bytes.now (c.loop-p.p - c.args.first) in
+    rw c.set.ensures (record {
+      shape = c.loop-p.invariant.shape;
+      count = length-set _ _ _ ∙ c.loop-p.invariant.count;
+      decoded = decoded_next _ _ _ _ _ _ _ c.loop-p.auto.p inside value c.loop-p.invariant.decoded;
+    })

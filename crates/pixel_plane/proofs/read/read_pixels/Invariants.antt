@@ -1,0 +1,17 @@
+-- The pixels before the first are read, from exactly the bytes of their numbers.
+use Rattle.std.proofs.Common.{◌≡◌, ◌-◌, ◌*◌, ◌≤◌, length}
+use Rattle.std.specs.Option.{ForSome}
+use Rattle.pixel_plane.specs.Reading.{ReadSoFar}
+use Rattle.pixel_plane.proofs.read.read_pixels.Given as goal
+
+abbrev pub invariant-loop-first : goal.invariant-loop-first
+invariant-loop-first g l = record {
+  within : l.first ≤ l.count;
+  shape : l.plane.shape ≡ l.initial.plane.shape;
+  values : length l.plane.values ≡ length l.initial.plane.values;
+  told : ForSome (g.S.Source.left l.initial.src) (λ bytes. ReadSoFar l.encoding bytes (g.S.Source.left l.src) l.plane.values l.first);
+  later : g.S.Source.faults l.initial.src ≤ g.S.Source.faults l.src;
+}
+
+abbrev pub decreases-loop-first : goal.decreases-loop-first
+decreases-loop-first g l = l.count - l.first

@@ -1,0 +1,19 @@
+use Rattle.std.proofs.Common.{◌∙◌, ◌≡◌, ◌*◌, ap, length}
+use Rattle.std.proofs.lemmas.List.{length-replicate}
+use Rattle.pixel_plane.proofs.Readable.{shape_without_fault}
+use Rattle.pixel_plane.proofs.Planes.{IsEncodingOf, plane_is_read}
+use Rattle.pixel_plane.proofs.read.read_plane.Goals as goal
+
+pub of-encoding-requires : goal.of-encoding-requires
+of-encoding-requires g c = shape_without_fault c.args.hdu.now c.args.shape c.requires
+
+pub returns-in-Ok-read_pixels-clause-told : goal.returns-in-Ok-read_pixels-clause-told
+returns-in-Ok-read_pixels-clause-told g c = λ x e.
+    let encoding : IsEncodingOf c.args.hdu.now c.of-encoding.result = record {
+      size = c.of-encoding.ensures.size;
+      zero = c.of-encoding.ensures.zero;
+      blank = c.of-encoding.ensures.blank;
+    } in
+    let blank : length c.in-Ok.plane.values ≡ c.args.shape.width * c.args.shape.height = ap length c.in-Ok.ensures.undefined ∙ length-replicate _ _ in
+    plane_is_read c.args.hdu.now c.args.shape c.of-encoding.result x _ _ encoding (c.in-Ok-read_pixels.ensures.shape ∙ c.in-Ok.ensures.shape)
+    (c.in-Ok-read_pixels.ensures.count ∙ blank) (c.in-Ok-read_pixels.ensures.told x e)

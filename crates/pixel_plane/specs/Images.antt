@@ -1,0 +1,69 @@
+-- Which HDUs are images that can be read.
+use Rattle.std.specs.Prelude.{ℕ, ◌*◌, ◌^◌, ◌/◌, Bool, true, false, ◌||◌, ◌&&◌, ◌==◌, not, nat_lt, nat_le, ℤ, pos, neg_ℤ, int_le, List, [], ◌∷◌, Option, Some, None, Result, Ok, Err, if◌then◌else◌}
+use Rattle.std.specs.Ordering.{int_eq}
+use Rattle.comp_tree.specs.declared.shape.Shape.{Shape}
+use Rattle.comp_tree.specs.Shapes.{shape_of}
+use Rattle.fits_card.specs.declared.number.Whole.{Whole}
+use Rattle.fits_card.specs.declared.number.Whole.TheVariants.{Is, NotWhole, Beyond, Unreadable}
+use Rattle.fits_hdu.specs.declared.answer.Kind.{Kind}
+use Rattle.fits_hdu.specs.declared.answer.Kind.TheVariants.{Primary, Image, Other}
+use Rattle.fits_hdu.specs.declared.answer.Hdu.{Hdu}
+use Rattle.pixel_plane.specs.declared.fault.ImageFault.{ImageFault}
+use Rattle.pixel_plane.specs.declared.fault.ImageFault.TheVariants.{NotImage, NoImage, ImageTooLarge, Bitpix, Bscale, Bzero, Blank}
+
+abbrev pub is_other : Kind → Bool
+is_other Other = true
+is_other _ = false
+
+-- it has fewer than two axes, an empty one, or a further one that is longer than 1
+abbrev pub has_no_pixels : Hdu → Bool
+has_no_pixels hdu = nat_lt hdu.naxis 2 || hdu.width == 0 || hdu.height == 0 || not hdu.flat
+
+-- both sides are at most 65,535, and there are at most 2 ^ 24 pixels
+abbrev pub is_small : ℕ → ℕ → Bool
+is_small width height = (nat_le width 65535 && nat_le height 65535) && nat_le (width * height) (2 ^ 24)
+
+-- the stored numbers have 8, 16 or 32 bits
+abbrev pub is_stored_size : ℤ → Bool
+is_stored_size bitpix = int_eq bitpix (pos 8) || int_eq bitpix (pos 16) || int_eq bitpix (pos 32)
+
+abbrev pub is_one : Whole → Bool
+is_one (Is n) = int_eq n (pos 1)
+is_one _ = false
+
+-- a whole number from -2 ^ 32 to 2 ^ 32
+abbrev pub is_zero_point : Whole → Bool
+is_zero_point (Is n) = int_le (neg_ℤ (pos (2 ^ 32))) n && int_le n (pos (2 ^ 32))
+is_zero_point _ = false
+
+-- there is no BLANK, or it is a whole number
+abbrev pub is_blank_or_none : Option Whole → Bool
+is_blank_or_none None = true
+is_blank_or_none (Some (Is n)) = true
+is_blank_or_none (Some _) = false
+
+-- the first fault of which the test passes
+abbrev pub first_fault : List (Bool × ImageFault) → Option ImageFault
+first_fault [] = None
+first_fault (test ∷ rest) = if test.0 then Some test.1 else first_fault rest
+
+-- the first fault of an HDU as an image, if it has one
+unfoldable pub image_fault : Hdu → Option ImageFault
+image_fault hdu = first_fault (
+    (is_other hdu.kind, NotImage)
+    ∷ (has_no_pixels hdu, NoImage)
+    ∷ (not (is_small hdu.width hdu.height), ImageTooLarge)
+    ∷ (not (is_stored_size hdu.bitpix), Bitpix)
+    ∷ (not (is_one hdu.bscale), Bscale)
+    ∷ (not (is_zero_point hdu.bzero), Bzero)
+    ∷ (not (is_blank_or_none hdu.blank), Blank)
+    ∷ [])
+
+abbrev pub shape_unless : Option ImageFault → Option Shape → Result Shape ImageFault
+shape_unless (Some fault) shape = Err fault
+shape_unless None None = Err ImageTooLarge
+shape_unless None (Some shape) = Ok shape
+
+-- the shape of an HDU's image, or its first fault
+unfoldable pub checked : Hdu → Result Shape ImageFault
+checked hdu = shape_unless (image_fault hdu) (shape_of hdu.width hdu.height)

@@ -1,0 +1,47 @@
+-- What the bytes of an input are: the stored image of the HDU with a number, or their first fault.
+use Rattle.std.specs.Prelude.{ℕ, ◌+◌, List, length, drop, Result, Ok, Err, nat_lt, if◌then◌else◌}
+use Rattle.comp_tree.specs.declared.shape.Shape.{Shape}
+use Rattle.comp_tree.specs.Raster.{Raster}
+use Rattle.fits_hdu.specs.declared.answer.Hdu.{Hdu}
+use Rattle.fits_hdu.specs.declared.answer.HduFault.{HduFault}
+use Rattle.fits_hdu.specs.Headers as at_header
+use Rattle.fits_hdu.specs.Finding.{find_of}
+use Rattle.pixel_plane.specs.declared.fault.ImageFault.{ImageFault}
+use Rattle.pixel_plane.specs.Images.{checked}
+use Rattle.pixel_plane.specs.Stored.{stored_plane}
+use Rattle.pixel_plane.specs.Reading.{image_bytes}
+
+pub data Verdict : Type 0 where
+  -- the image, the end of its header and the place after its last data byte
+  image : (plane : Raster) → (head end : ℕ) → Verdict
+  -- no HDU was found, and so many bytes are taken
+  unfound : (fault : HduFault) → (taken : ℕ) → Verdict
+  -- the HDU isn't an image that can be read
+  unreadable : (fault : ImageFault) → (head : ℕ) → Verdict
+  -- the bytes end before the image does
+  truncated : (head taken : ℕ) → Verdict
+
+-- the image behind a header
+abbrev pub image_behind : List ℕ → Hdu → ℕ → Shape → Verdict
+image_behind bytes hdu head shape =
+    if nat_lt (length bytes) (head + image_bytes hdu shape) then truncated head (length bytes)
+    else image (stored_plane hdu shape (drop head bytes)) head (head + image_bytes hdu shape)
+
+abbrev pub verdict_by : List ℕ → Hdu → ℕ → Result Shape ImageFault → Verdict
+verdict_by bytes hdu head (Err fault) = unreadable fault head
+verdict_by bytes hdu head (Ok shape) = image_behind bytes hdu head shape
+
+abbrev pub verdict_of : List ℕ → at_header.Found → Verdict
+verdict_of bytes (at_header.found hdu head) = verdict_by bytes hdu head (checked hdu)
+verdict_of bytes (at_header.refused fault taken) = unfound fault taken
+
+-- the verdict on the HDU with this number
+unfoldable pub verdict : List ℕ → ℕ → Verdict
+verdict bytes number = verdict_of bytes (find_of bytes number)
+
+-- how many bytes are taken for it
+abbrev pub taken_by : Verdict → ℕ
+taken_by (image plane head end) = end
+taken_by (unfound fault taken) = taken
+taken_by (unreadable fault head) = head
+taken_by (truncated head taken) = taken

@@ -1,0 +1,61 @@
+//! Whether an HDU is an image that can be read.
+ghost use Rattle.std.specs.Prelude.{◌≡◌, ◌<◌, IfOk, IfSome, IsTrue, is_some};
+ghost use Rattle.std.specs.Result.{result_err};
+ghost use Rattle.pixel_plane.specs.Images.{checked, image_fault, is_small};
+
+use crate::ImageFault;
+use comp_tree::Shape;
+use fits_card::number::Whole;
+use fits_hdu::{Hdu, Kind};
+
+// The greatest distance of BZERO from 0: 2^32.
+const MOST_ZERO: i64 = 1 << 32;
+
+/// The shape of the HDU's image, or its first fault. It takes no memory.
+pub fn check_image(hdu: &Hdu) -> Result<Shape, ImageFault>
+    ensures { result ≡ checked hdu.now }
+{
+    judge(hdu)
+}
+
+#[tactic(auto, unfolding(crate::specs::Images::image_fault))]
+fn judge(hdu: &Hdu) -> Result<Shape, ImageFault>
+    ensures fault { result_err result ≡ image_fault hdu.now }
+    ensures sides { IfOk result (λ shape. (shape.width ≡ hdu.now.width) × (shape.height ≡ hdu.now.height)) }
+{
+    if hdu.kind == Kind::Other {
+        return Err(ImageFault::NotImage);
+    }
+    if hdu.naxis < 2 || hdu.width == 0 || hdu.height == 0 || !hdu.flat {
+        return Err(ImageFault::NoImage);
+    }
+    let Some(shape) = shape_of(hdu.width, hdu.height) else {
+        return Err(ImageFault::ImageTooLarge);
+    };
+    if !matches!(hdu.bitpix, 8 | 16 | 32) {
+        return Err(ImageFault::Bitpix);
+    }
+    if hdu.bscale != Whole::Is(1) {
+        return Err(ImageFault::Bscale);
+    }
+    if !matches!(hdu.bzero, Whole::Is(zero) if -MOST_ZERO <= zero && zero <= MOST_ZERO) {
+        return Err(ImageFault::Bzero);
+    }
+    if !matches!(hdu.blank, None | Some(Whole::Is(_))) {
+        return Err(ImageFault::Blank);
+    }
+    Ok(shape)
+}
+
+// The shape of these sides, which aren't 0, where they are within the limits.
+fn shape_of(width: u64, height: u64) -> Option<Shape>
+    requires columns { 0 < width }
+    requires rows { 0 < height }
+    ensures accepted { is_some result ≡ is_small width height }
+    ensures sides { IfSome result (λ shape. (shape.width ≡ width) × (shape.height ≡ height)) }
+{
+    if width > 65_535 || height > 65_535 {
+        return None;
+    }
+    Shape::of(width as u32, height as u32)
+}

@@ -1,0 +1,135 @@
+// Checks and planes of small images.
+use crate::*;
+use dev_io::{MemSource, PlainSource};
+use fits_card::number::Whole;
+use fits_hdu::{Hdu, Kind};
+use std::test::Fail;
+
+// An image of 2 x 1 pixels of 16 bits, BZERO 32768 and BLANK 1.
+const IMAGE: Hdu = Hdu {
+    kind: Kind::Primary,
+    bitpix: 16,
+    naxis: 2,
+    width: 2,
+    height: 1,
+    flat: true,
+    data_bytes: 4,
+    bscale: Whole::Is(1),
+    bzero: Whole::Is(32_768),
+    blank: Some(Whole::Is(1)),
+};
+
+#[test]
+fn the_first_fault_is_answered(rt: HostRuntime) {
+    let cases = [
+        (
+            Hdu {
+                kind: Kind::Other,
+                naxis: 0,
+                ..IMAGE
+            },
+            ImageFault::NotImage,
+        ),
+        (
+            Hdu {
+                naxis: 1,
+                bitpix: 64,
+                ..IMAGE
+            },
+            ImageFault::NoImage,
+        ),
+        (
+            Hdu {
+                flat: false,
+                ..IMAGE
+            },
+            ImageFault::NoImage,
+        ),
+        (
+            Hdu {
+                width: 65_536,
+                bitpix: 64,
+                ..IMAGE
+            },
+            ImageFault::ImageTooLarge,
+        ),
+        (
+            Hdu {
+                width: 4_097,
+                height: 4_096,
+                ..IMAGE
+            },
+            ImageFault::ImageTooLarge,
+        ),
+        (
+            Hdu {
+                bitpix: -32,
+                bscale: Whole::Is(2),
+                ..IMAGE
+            },
+            ImageFault::Bitpix,
+        ),
+        (
+            Hdu {
+                bscale: Whole::Is(2),
+                bzero: Whole::NotWhole,
+                ..IMAGE
+            },
+            ImageFault::Bscale,
+        ),
+        (
+            Hdu {
+                bzero: Whole::Is(4_294_967_297),
+                ..IMAGE
+            },
+            ImageFault::Bzero,
+        ),
+        (
+            Hdu {
+                blank: Some(Whole::Beyond),
+                ..IMAGE
+            },
+            ImageFault::Blank,
+        ),
+    ];
+    for (hdu, fault) in cases {
+        assert!(rt; matches!(check_image(&hdu), Err(first) if first == fault));
+    }
+}
+
+#[test]
+fn stored_numbers_become_values(rt: HostRuntime) -> Result<(), Fail> {
+    let Ok(shape) = check_image(&IMAGE) else {
+        return Ok(());
+    };
+    let mut source = PlainSource::new(&[0x80, 0, 0, 1, 9]);
+    let plane = read_plane(rt.alloc(), &mut source, &IMAGE, shape).expect(&rt, "a plane");
+    assert_eq!(rt; plane.shape().pixels(), 2);
+    assert_eq!(rt; plane.get(0), Some(0));
+    assert_eq!(rt; plane.shape().pixels(), 2);
+    assert_eq!(rt; plane.get(1), None);
+    assert_eq!(rt; source.rest(), &[9][..]);
+    Ok(())
+}
+
+#[test]
+fn a_cut_and_a_failing_source_are_told_apart(rt: HostRuntime) -> Result<(), Fail> {
+    let Ok(shape) = check_image(&IMAGE) else {
+        return Ok(());
+    };
+    let mut cut = MemSource::new(&[0x80, 0, 0], 2, &[]);
+    assert!(rt;
+        matches!(
+            read_plane(rt.alloc(), &mut cut, &IMAGE, shape),
+            Err(PlaneFault::TruncatedData)
+        )
+    );
+    let mut failing = MemSource::new(&[0x80, 0, 0, 1], 2, &[2]);
+    assert!(rt;
+        matches!(
+            read_plane(rt.alloc(), &mut failing, &IMAGE, shape),
+            Err(PlaneFault::ReadFault)
+        )
+    );
+    Ok(())
+}

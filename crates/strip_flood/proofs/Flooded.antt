@@ -1,0 +1,81 @@
+-- A strip in which nothing is queued and each pixel with a value was seen.
+use Rattle.std.proofs.Common.{◌≡◌, ℕ, ◌+◌, ◌-◌, ◌<◌, ◌≤◌, false, is_some, List, length, slice_index, Option, Some, None, ℤ, ◌⊎◌, inl, inr, refl, sym, subst, ◌∙◌, ⊎_elim, arith}
+use Rattle.std.specs.Prelude.{nat_lt}
+use Rattle.std.proofs.lemmas.Bool.{cases_lt, and_parts, true≢false}
+use Rattle.comp_tree.specs.Joined.{IsPairOf}
+use Rattle.comp_tree.specs.Forest.{no_node, value_at, IsDefined, IsLink, JoinSame, StandsFor}
+use Rattle.comp_tree.specs.Counts.{count_below, count_defined}
+use Rattle.comp_tree.specs.Grid.{are_adjacent, IsInner}
+use Rattle.strip_flood.specs.Queue.{IsEmpty}
+use Rattle.strip_flood.specs.Flood.{Ground, State, ends, direction, IsOf, rank_of, cursor_of, IsOpen, IsLooked, IsRanked, IsTurning, seen_count, is_looked, looks, inner_count}
+use Rattle.comp_tree.proofs.Flooding.{flooded}
+use Rattle.comp_tree.proofs.Order.{at_least_defined}
+use Rattle.comp_tree.proofs.Ranks.{count_below_up}
+use Rattle.comp_tree.proofs.Sames.{stands_from}
+use Rattle.strip_flood.proofs.Flow.{ends_small}
+use Rattle.strip_flood.proofs.Directions.{inner_direction}
+use Rattle.strip_flood.proofs.Stepping.{High, Adj}
+use Rattle.strip_flood.proofs.Retiring.{contains_some}
+use Rattle.strip_flood.proofs.Seeing.{open_list}
+use Rattle.strip_flood.proofs.Counting.{sum_up, count_same, lt_true, le_false}
+
+some_by : (v : Option ℤ) → (IsDefined v → ⊥) → is_some v ≡ false
+some_by (Some v) f = absurd (f refl)
+some_by None f = refl
+
+defined_cases : (v : Option ℤ) → IsDefined v ⊎ (IsDefined v → ⊥)
+defined_cases (Some v) = inl refl
+defined_cases None = inr (λ d. true≢false (sym d))
+
+module _ (g : Ground) (s : State) (ok : IsRanked g) (turning : IsTurning g s) (empty : IsEmpty s.lists) (all : (x : ℕ) → IsOf g x → rank_of g x < g.size → 0 < cursor_of g s.cursors x) where
+  -- each pixel with a value is finished
+  finished : (x : ℕ) → IsOf g x → rank_of g x < g.size → cursor_of g s.cursors x ≡ 10
+  finished x w low = ⊎_elim
+      (λ (l : cursor_of g s.cursors x < 10). absurd (contains_some _ _ (turning.fair.listed.from x (record { inside = w; low = all x w low; high = l })) (empty.empty (rank_of g x))))
+      (λ (m : 10 ≤ cursor_of g s.cursors x). let b : cursor_of g s.cursors x ≤ 10 = turning.fair.bound x w in omega arith)
+      (cases_lt (cursor_of g s.cursors x) 10)
+
+  looked : (h : ℤ) (x y : ℕ) → High g h x → High g h y → Adj g x y → IsPairOf (IsLooked g s.cursors) x y
+  looked h x y hx hy i = inl (record {
+    inner = i;
+    turned = (let d : direction g.connect g.width x y < ends g.connect = inner_direction g.values g.width g.connect g.first (length g.ranks) x y ok.wide i in
+        let e : ends g.connect ≤ 8 = ends_small g.connect in
+        let f : cursor_of g s.cursors x ≡ 10 = finished x hx.within (ok.there x hx.within (at_least_defined h (value_at g.values x) hx.value)) in omega arith);
+  })
+
+  links_join : JoinSame g.values g.first (length g.ranks) (IsLink g.first s.links) (IsInner g.values g.width g.connect g.first (length g.ranks))
+  links_join = record {
+    same = λ h p q. flooded (High g h) (Adj g) (IsLooked g s.cursors) (IsLink g.first s.links) (IsOpen g s.cursors s.earliest)
+        (λ x o. open_list g s ok turning x o (empty.empty (rank_of g x))) (looked h) (turning.fair.joining.sound h) (turning.fair.joining.complete h) p q;
+  }
+
+  -- the links stand for the strip's adjacencies
+  pub flooded_stands : StandsFor g.values g.first s.links (IsInner g.values g.width g.connect g.first (length s.links))
+  flooded_stands = stands_from g.values g.first s.links turning.fair.forest (let l : length s.links ≡ length g.ranks = turning.fair.links_length in let m : g.first + length g.ranks ≤ no_node = ok.small in omega arith)
+      (IsInner g.values g.width g.connect g.first (length s.links))
+      (subst (λ n. JoinSame g.values g.first n (IsLink g.first s.links) (IsInner g.values g.width g.connect g.first n)) (sym turning.fair.links_length) links_join)
+
+  seen_is_defined : (i : ℕ) → i < length g.ranks → nat_lt 0 (slice_index s.cursors i) ≡ is_some (value_at g.values (g.first + i))
+  seen_is_defined i l = subst (λ j. nat_lt 0 (slice_index s.cursors j) ≡ is_some (value_at g.values (g.first + i))) at (⊎_elim
+      (λ (d : IsDefined (value_at g.values (g.first + i))). lt_true 0 (cursor_of g s.cursors (g.first + i)) (all (g.first + i) inside (ok.there (g.first + i) inside d)) ∙ sym d)
+      (λ (n : IsDefined (value_at g.values (g.first + i)) → ⊥). le_false 0 (cursor_of g s.cursors (g.first + i)) (⊎_elim
+      (λ (some : 0 < cursor_of g s.cursors (g.first + i)). absurd (n (ok.value (g.first + i) inside (turning.fair.seen (g.first + i) inside some))))
+      (λ (no_more : cursor_of g s.cursors (g.first + i) ≤ 0). no_more)
+      (cases_lt 0 (cursor_of g s.cursors (g.first + i)))) ∙ sym (some_by (value_at g.values (g.first + i)) n))
+      (defined_cases (value_at g.values (g.first + i)))) where
+        inside : IsOf g (g.first + i)
+        inside = record { low = omega arith; high = omega arith }
+
+        at : g.first + i - g.first ≡ i
+        at = omega arith
+
+  -- as many pixels were queued as have a value
+  pub seen_all : seen_count s.cursors ≡ count_defined g.values g.first (length g.ranks)
+  seen_all = subst (λ n. count_below (λ i. nat_lt 0 (slice_index s.cursors i)) n ≡ count_defined g.values g.first (length g.ranks)) (sym turning.fair.cursors_length)
+      (count_same (λ i. nat_lt 0 (slice_index s.cursors i)) (λ k. is_some (value_at g.values (g.first + k))) (length g.ranks) seen_is_defined)
+
+-- no more looks than ordered adjacencies
+pub looks_all : (g : Ground) (cursors : List ℕ) → looks g cursors ≤ inner_count g.values g.width g.connect g.first (length g.ranks)
+looks_all g cursors = sum_up (λ i. count_below (is_looked g cursors i) (length g.ranks)) (λ i. count_below (λ j. are_adjacent g.values g.width g.connect (g.first + i) (g.first + j)) (length g.ranks)) (length g.ranks)
+    (λ i l. count_below_up (is_looked g cursors i) (λ j. are_adjacent g.values g.width g.connect (g.first + i) (g.first + j)) (length g.ranks)
+    (λ j m t. (and_parts (are_adjacent g.values g.width g.connect (g.first + i) (g.first + j)) (nat_lt (direction g.connect g.width (g.first + i) (g.first + j) + 1) (slice_index cursors i)) t).0))

@@ -1,0 +1,11 @@
+pub mod Flow
+pub mod Listing
+pub mod Directions
+pub mod Stepping
+pub mod Counting
+pub mod Retiring
+pub mod Seeing
+pub mod Flooded
+pub mod Working
+pub mod Sorting
+pub mod Adapting

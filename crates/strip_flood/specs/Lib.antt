@@ -1,0 +1,4 @@
+pub mod Flood
+pub mod Jobs
+pub mod Queue
+pub mod Strips

@@ -1,0 +1,79 @@
+-- A strip and its flooding as the code keeps them.
+use Rattle.std.specs.Prelude.{◌≡◌, ℕ, ◌+◌, ◌<◌, ◌≤◌, ◌++◌, List, length, map, replicate, slice_index, slice_get, Option, None, ℤ}
+use Rattle.comp_tree.specs.Counts.{count_defined}
+use Rattle.comp_tree.specs.Forest.{no_node, StandsFor}
+use Rattle.comp_tree.specs.Grid.{IsInner}
+use Rattle.strip_flood.specs.declared.strip.Strip.{Strip}
+use Rattle.strip_flood.specs.declared.flood.Flood.{Flood}
+use Rattle.strip_flood.specs.Queue.{IsEmpty}
+use Rattle.strip_flood.specs.Flood.{Ground, State, as_ground, state, cursor_of, inner_count, IsRanked, IsTurning, IsAtFront, IsStep}
+
+-- the values of pixels by their ranks
+abbrev pub ranked_values : List ℤ → List ℕ → List (Option ℤ)
+ranked_values levels ranks = map (λ r. slice_get levels r) ranks
+
+-- the values of a plane that has these from the pixel `first` on, and none before
+unfoldable pub plane_values : ℕ → List ℤ → List ℕ → List (Option ℤ)
+plane_values first levels ranks = replicate first None ++ ranked_values levels ranks
+
+-- the strip's values, in such a plane
+abbrev pub values_of : Strip → List (Option ℤ)
+values_of s = plane_values s.first s.levels.items s.ranks.items
+
+-- what flooding reads of a strip
+abbrev pub ground_of : Strip → Ground
+ground_of s = as_ground (values_of s) s.width s.connect s.first s.ranks.items (length s.levels.items)
+
+-- what flooding changes
+abbrev pub state_of : Flood → State
+state_of f = state f.queue.lists f.cursors.items f.earliest.items f.links.items
+
+pub record IsStrip (s : Strip) : Type 0 where
+  pub ranked : IsRanked (ground_of s)
+  pub narrow : s.width ≤ 65535
+  pub few : s.first + length s.ranks.items ≤ 16777216
+
+-- what holds between two turns of the flooding
+pub record IsBetweenTurns (s : Strip) (f : Flood) : Type 0 where
+  pub items : f.queue.items ≡ length s.ranks.items
+  pub turning : IsTurning (ground_of s) (state_of f)
+
+-- the cursor of a pixel
+abbrev pub cursor_at : Strip → Flood → ℕ → ℕ
+cursor_at s f p = cursor_of (ground_of s) f.cursors.items p
+
+-- the pixel is the front of this rank, and no open pixel is higher
+abbrev pub IsCurrent : Strip → Flood → ℕ → ℕ → Type 0
+IsCurrent s f rank pixel = IsAtFront (ground_of s) (state_of f) rank pixel
+
+-- what some steps did with the cursors and the two counters
+abbrev pub IsStepOf : Strip → Flood → Flood → ℕ → ℕ → ℕ → ℕ → Type 0
+IsStepOf s old new queued_old queued_new looked_old looked_new = IsStep (ground_of s) old.cursors.items new.cursors.items queued_old queued_new looked_old looked_new
+
+-- the links stand for the strip's adjacencies
+abbrev pub StandsForStrip : Strip → List ℕ → Type 0
+StandsForStrip s links = StandsFor (values_of s) s.first links (IsInner (values_of s) s.width s.connect s.first (length links))
+
+-- how many of the strip's pixels are defined
+abbrev pub defined_in : Strip → ℕ
+defined_in s = count_defined (values_of s) s.first (length s.ranks.items)
+
+-- how many ordered adjacencies the strip has
+abbrev pub adjacencies_in : Strip → ℕ
+adjacencies_in s = inner_count (values_of s) s.width s.connect s.first (length s.ranks.items)
+
+-- each is x
+pub record IsAll (xs : List ℕ) (x : ℕ) : Type 0 where
+  pub each : (i : ℕ) → i < length xs → slice_index xs i ≡ x
+
+-- what a flooding is like before its first turn
+pub record IsFresh (count size : ℕ) (f : Flood) : Type 0 where
+  pub items : f.queue.items ≡ count
+  pub lists : length f.queue.lists ≡ size
+  pub empty : IsEmpty f.queue.lists
+  pub cursors_length : length f.cursors.items ≡ count
+  pub earliest_length : length f.earliest.items ≡ size
+  pub links_length : length f.links.items ≡ count
+  pub unseen : IsAll f.cursors.items 0
+  pub unkept : IsAll f.earliest.items no_node
+  pub unlinked : IsAll f.links.items no_node

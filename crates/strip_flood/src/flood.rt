@@ -1,0 +1,356 @@
+// The flooding of a strip.
+//
+// It goes on from the front of the highest rank that has queued pixels. That pixel looks at one neighbour after the other. A
+// neighbour that was not seen is queued, and where it is higher, the flooding goes on from it. A pixel that looked in all
+// directions is finished: it leaves the queue and is linked. Of the finished pixels of a rank that has queued ones, the
+// earliest is kept, and the others are linked to it. When the rank runs empty, its kept pixel is linked to the front of the next
+// rank.
+
+ghost use Rattle.std.specs.Prelude.{◌≡◌, ◌≢◌, ℕ, ◌+◌, ◌-◌, ◌%◌, ◌<◌, ◌≤◌, length, IfOk, slice_set, slice_index, [], true, false};
+ghost use Rattle.comp_tree.specs.Forest.{no_node, IsForest};
+ghost use Rattle.strip_flood.specs.Queue.{IsEmpty};
+ghost use Rattle.strip_flood.specs.Flood.{list_at, ends, rank_of, IsOf, IsNeighbour, IsFair, IsBusyBut, IsAround, IsSeen, IsQueued, work, seen_count, looks};
+ghost use Rattle.strip_flood.specs.Strips.{ground_of, state_of, values_of, cursor_at, IsStrip, IsBetweenTurns, IsCurrent, IsStepOf, IsFresh, StandsForStrip, defined_in, adjacencies_in};
+
+use crate::lists::{add, front, highest, take};
+use crate::strip::{Strip, directions};
+use comp_tree::NONE;
+use dev_io::{OutOfMemory, Steps};
+use level_queue::LevelQueue;
+use std::alloc::Global;
+use std::sync::ledger::Ledger;
+
+/// The cursor of a finished pixel.
+const FINISHED: u8 = 10;
+
+/// What the flooding of a strip changes.
+#[derive(Drop)]
+pub struct Flood {
+    /// The pixels that were seen and are not finished, each by its place in the strip.
+    pub(crate) queue: LevelQueue,
+    /// For each pixel 0 until it is seen, then the number of its next direction and 1, and `FINISHED` in the end.
+    pub(crate) cursors: Vec<u8>,
+    /// For each rank that has queued pixels, the earliest of its finished ones, or `NONE`.
+    pub(crate) earliest: Vec<u32>,
+    pub(crate) links: Vec<u32>,
+}
+
+/// The pixel that looks at its neighbours, the front of the highest rank.
+#[derive(Clone, Copy)]
+struct Current {
+    rank: u32,
+    pixel: u32,
+    column: u32,
+}
+
+impl Flood {
+    /// The memory for a strip of so many pixels and ranks. No other call takes any.
+    pub(crate) fn new(alloc: Global, count: u32, ranks: u32) -> Result<Flood, OutOfMemory>
+        requires count { count ≤ 16777216 }
+        requires ranks { ranks ≤ 16777216 }
+        ensures fresh { IfOk result (λ flood. IsFresh count ranks flood) }
+    {
+        let queue = LevelQueue::new(alloc, count, ranks)?;
+        let cursors = vec![in alloc; 0u8; count as usize]?;
+        let earliest = vec![in alloc; NONE; ranks as usize]?;
+        let links = vec![in alloc; NONE; count as usize]?;
+        Ok(Flood {
+            queue,
+            cursors,
+            earliest,
+            links,
+        })
+    }
+
+    /// Sees to it that the neighbour `n` was seen, where it is defined. It tells whether the current pixel stays the front.
+    fn see<A: Ledger, B: Ledger>(
+        &mut self,
+        strip: &Strip,
+        at: Current,
+        k: u32,
+        n: u32,
+        queued: &mut Steps<A>,
+        looked: &mut Steps<B>,
+    ) -> bool
+        requires strip { IsStrip strip.now }
+        requires between { IsBetweenTurns strip.now self.old }
+        requires front { IsCurrent strip.now self.old at.rank at.pixel }
+        requires next { IsNeighbour strip.now.connect strip.now.width strip.now.first
+            (length strip.now.ranks.items) at.pixel k n }
+        ensures between { IsBetweenTurns strip.now self.new }
+        ensures queued { IsQueued (ground_of strip.now) self.new.cursors.items at.pixel }
+        ensures same { cursor_at strip.now self.new at.pixel ≡ cursor_at strip.now self.old at.pixel }
+        ensures seen { IsSeen (ground_of strip.now) self.new.cursors.items at.pixel k }
+        ensures step { IsStepOf strip.now self.old self.new queued.old queued.new looked.old looked.old }
+        ensures around { IsAround (ground_of strip.now) at.pixel k looked.old looked.new }
+        ensures stays { result ≡ true → IsCurrent strip.now self.new at.rank at.pixel }
+    {
+        let there = (n - strip.first) as usize;
+        // most neighbours were seen, and of those no rank is read
+        if self.cursors[there] > 0 {
+            looked.tick();
+            return true;
+        }
+        let Some(rank) = strip.rank(n) else {
+            return true;
+        };
+        looked.tick();
+        add(&mut self.queue, rank, n - strip.first, queued);
+        self.cursors[there] = 1;
+        rank <= at.rank
+    }
+
+    /// Looks in direction `k`. It tells whether the current pixel stays the front.
+    fn look_out<A: Ledger, B: Ledger>(
+        &mut self,
+        strip: &Strip,
+        at: Current,
+        k: u32,
+        queued: &mut Steps<A>,
+        looked: &mut Steps<B>,
+    ) -> bool
+        requires strip { IsStrip strip.now }
+        requires between { IsBetweenTurns strip.now self.old }
+        requires front { IsCurrent strip.now self.old at.rank at.pixel }
+        requires column { at.column ≡ at.pixel % strip.now.width }
+        requires direction { k < ends strip.now.connect }
+        ensures between { IsBetweenTurns strip.now self.new }
+        ensures queued { IsQueued (ground_of strip.now) self.new.cursors.items at.pixel }
+        ensures same { cursor_at strip.now self.new at.pixel ≡ cursor_at strip.now self.old at.pixel }
+        ensures seen { IsSeen (ground_of strip.now) self.new.cursors.items at.pixel k }
+        ensures step { IsStepOf strip.now self.old self.new queued.old queued.new looked.old looked.old }
+        ensures around { IsAround (ground_of strip.now) at.pixel k looked.old looked.new }
+        ensures stays { result ≡ true → IsCurrent strip.now self.new at.rank at.pixel }
+    {
+        let Some(n) = strip.neighbour(at.pixel, at.column, k) else {
+            return true;
+        };
+        self.see(strip, at, k, n, queued, looked)
+    }
+
+    /// Looks in the current pixel's next direction. It tells whether that pixel stays the front.
+    fn look<A: Ledger, B: Ledger>(
+        &mut self,
+        strip: &Strip,
+        at: Current,
+        queued: &mut Steps<A>,
+        looked: &mut Steps<B>,
+    ) -> bool
+        requires strip { IsStrip strip.now }
+        requires between { IsBetweenTurns strip.now self.old }
+        requires front { IsCurrent strip.now self.old at.rank at.pixel }
+        requires column { at.column ≡ at.pixel % strip.now.width }
+        requires more { cursor_at strip.now self.old at.pixel ≤ ends strip.now.connect }
+        ensures between { IsBetweenTurns strip.now self.new }
+        ensures step { IsStepOf strip.now self.old self.new queued.old queued.new looked.old looked.new }
+        ensures work { work self.new.cursors.items < work self.old.cursors.items }
+        ensures stays { result ≡ true → IsCurrent strip.now self.new at.rank at.pixel }
+    {
+        let place = (at.pixel - strip.first) as usize;
+        let cursor = self.cursors[place];
+        let stays = self.look_out(strip, at, u32::from(cursor - 1), queued, looked);
+        self.cursors[place] = cursor + 1;
+        stays
+    }
+
+    /// Looks in all directions that are left, up to the first that leads to a higher pixel. It tells whether there was none.
+    fn look_around<A: Ledger, B: Ledger>(
+        &mut self,
+        strip: &Strip,
+        at: Current,
+        queued: &mut Steps<A>,
+        looked: &mut Steps<B>,
+    ) -> bool
+        requires strip { IsStrip strip.now }
+        requires between { IsBetweenTurns strip.now self.old }
+        requires front { IsCurrent strip.now self.old at.rank at.pixel }
+        requires column { at.column ≡ at.pixel % strip.now.width }
+        ensures between { IsBetweenTurns strip.now self.new }
+        ensures step { IsStepOf strip.now self.old self.new queued.old queued.new looked.old looked.new }
+        ensures work { result ≡ false → work self.new.cursors.items < work self.old.cursors.items }
+        ensures front { result ≡ true → IsCurrent strip.now self.new at.rank at.pixel }
+        ensures turned { result ≡ true → cursor_at strip.now self.new at.pixel ≡ ends strip.now.connect + 1 }
+    {
+        let last = directions(strip.connect);
+        let place = (at.pixel - strip.first) as usize;
+        while self.cursors[place] <= last {
+            if !self.look(strip, at, queued, looked) {
+                return false;
+            }
+        }
+        true
+    }
+
+    /// Takes out the current pixel, which has no direction left. It is linked to the kept pixel of its rank, or kept in its place.
+    fn retire(&mut self, strip: &Strip, at: Current)
+        requires strip { IsStrip strip.now }
+        requires between { IsBetweenTurns strip.now self.old }
+        requires front { IsCurrent strip.now self.old at.rank at.pixel }
+        requires turned { cursor_at strip.now self.old at.pixel ≡ ends strip.now.connect + 1 }
+        ensures items { self.new.queue.items ≡ self.old.queue.items }
+        ensures fair { IsFair (ground_of strip.now) (state_of self.new) }
+        ensures busy { IsBusyBut (ground_of strip.now) (state_of self.new) at.rank }
+        ensures kept { slice_index self.new.earliest.items at.rank ≢ no_node }
+        ensures above { (t : ℕ) → at.rank < t → list_at self.new.queue.lists t ≡ [] }
+        ensures cursors { self.new.cursors.items ≡ slice_set self.old.cursors.items (at.pixel - strip.now.first) 10 }
+    {
+        let place = (at.pixel - strip.first) as usize;
+        let _ = take(&mut self.queue, at.rank);
+        self.cursors[place] = FINISHED;
+        let kept = self.earliest[at.rank as usize];
+        if kept == NONE {
+            self.earliest[at.rank as usize] = at.pixel;
+            return;
+        }
+        if kept < at.pixel {
+            self.links[place] = kept;
+            return;
+        }
+        self.links[(kept - strip.first) as usize] = at.pixel;
+        self.earliest[at.rank as usize] = at.pixel;
+    }
+
+    /// Closes a rank that ran empty: its kept pixel is linked to the front of the highest rank, if there is one.
+    fn close(&mut self, strip: &Strip, rank: u32)
+        requires strip { IsStrip strip.now }
+        requires items { self.old.queue.items ≡ length strip.now.ranks.items }
+        requires fair { IsFair (ground_of strip.now) (state_of self.old) }
+        requires busy { IsBusyBut (ground_of strip.now) (state_of self.old) rank }
+        requires low { rank < length strip.now.levels.items }
+        requires kept { slice_index self.old.earliest.items rank ≢ no_node }
+        requires empty { list_at self.old.queue.lists rank ≡ [] }
+        requires above { (t : ℕ) → rank < t → list_at self.old.queue.lists t ≡ [] }
+        ensures between { IsBetweenTurns strip.now self.new }
+        ensures cursors { self.new.cursors ≡ self.old.cursors }
+    {
+        let kept = self.earliest[rank as usize];
+        let Some(next) = highest(&self.queue) else {
+            self.earliest[rank as usize] = NONE;
+            return;
+        };
+        let Some(item) = front(&self.queue, next) else {
+            unreachable!()
+        };
+        self.links[(kept - strip.first) as usize] = strip.first + item;
+        self.earliest[rank as usize] = NONE;
+    }
+
+    /// Takes out the current pixel, which has no direction left, and closes its rank where it was the last.
+    fn finish(&mut self, strip: &Strip, at: Current)
+        requires strip { IsStrip strip.now }
+        requires between { IsBetweenTurns strip.now self.old }
+        requires front { IsCurrent strip.now self.old at.rank at.pixel }
+        requires turned { cursor_at strip.now self.old at.pixel ≡ ends strip.now.connect + 1 }
+        ensures between { IsBetweenTurns strip.now self.new }
+        ensures cursors { self.new.cursors.items ≡ slice_set self.old.cursors.items (at.pixel - strip.now.first) 10 }
+    {
+        self.retire(strip, at);
+        if let Some(_) = front(&self.queue, at.rank) {
+            return;
+        }
+        self.close(strip, at.rank);
+    }
+
+    /// One turn of the flooding. It tells whether a pixel was queued.
+    fn turn<A: Ledger, B: Ledger>(
+        &mut self,
+        strip: &Strip,
+        queued: &mut Steps<A>,
+        looked: &mut Steps<B>,
+    ) -> bool
+        requires strip { IsStrip strip.now }
+        requires between { IsBetweenTurns strip.now self.old }
+        ensures between { IsBetweenTurns strip.now self.new }
+        ensures step { IsStepOf strip.now self.old self.new queued.old queued.new looked.old looked.new }
+        ensures work { result ≡ true → work self.new.cursors.items < work self.old.cursors.items }
+        ensures ended { result ≡ false → IsEmpty self.new.queue.lists }
+    {
+        let Some(rank) = highest(&self.queue) else {
+            return false;
+        };
+        let Some(item) = front(&self.queue, rank) else {
+            unreachable!()
+        };
+        let pixel = strip.first + item;
+        let at = Current {
+            rank,
+            pixel,
+            column: pixel % strip.width,
+        };
+        if !self.look_around(strip, at, queued, looked) {
+            return true;
+        }
+        self.finish(strip, at);
+        true
+    }
+
+    /// Goes on until no pixel is queued.
+    fn drain<A: Ledger, B: Ledger>(
+        &mut self,
+        strip: &Strip,
+        queued: &mut Steps<A>,
+        looked: &mut Steps<B>,
+    )
+        requires strip { IsStrip strip.now }
+        requires between { IsBetweenTurns strip.now self.old }
+        ensures between { IsBetweenTurns strip.now self.new }
+        ensures step { IsStepOf strip.now self.old self.new queued.old queued.new looked.old looked.new }
+        ensures ended { IsEmpty self.new.queue.lists }
+    {
+        while self.turn(strip, queued, looked) {}
+    }
+
+    /// Floods the component of the pixel `p`, if it is defined and was not seen.
+    fn flood_from<A: Ledger, B: Ledger>(
+        &mut self,
+        strip: &Strip,
+        p: u32,
+        queued: &mut Steps<A>,
+        looked: &mut Steps<B>,
+    )
+        requires strip { IsStrip strip.now }
+        requires between { IsBetweenTurns strip.now self.old }
+        requires inside { IsOf (ground_of strip.now) p }
+        requires empty { IsEmpty self.old.queue.lists }
+        ensures between { IsBetweenTurns strip.now self.new }
+        ensures step { IsStepOf strip.now self.old self.new queued.old queued.new looked.old looked.new }
+        ensures ended { IsEmpty self.new.queue.lists }
+        ensures seen { rank_of (ground_of strip.now) p < length strip.now.levels.items →
+            0 < cursor_at strip.now self.new p }
+    {
+        let Some(rank) = strip.rank(p) else {
+            return;
+        };
+        let place = (p - strip.first) as usize;
+        if self.cursors[place] > 0 {
+            return;
+        }
+        add(&mut self.queue, rank, p - strip.first, queued);
+        self.cursors[place] = 1;
+        self.drain(strip, queued, looked);
+    }
+
+    /// Floods the strip: the links then stand for its adjacencies.
+    pub(crate) fn run<A: Ledger, B: Ledger>(
+        &mut self,
+        strip: &Strip,
+        queued: &mut Steps<A>,
+        looked: &mut Steps<B>,
+    )
+        requires strip { IsStrip strip.now }
+        requires between { IsBetweenTurns strip.now self.old }
+        requires empty { IsEmpty self.old.queue.lists }
+        requires unseen { seen_count self.old.cursors.items ≡ 0 }
+        requires unlooked { looks (ground_of strip.now) self.old.cursors.items ≡ 0 }
+        ensures links { length self.new.links.items ≡ length strip.now.ranks.items }
+        ensures forest { IsForest (values_of strip.now) strip.now.first self.new.links.items }
+        ensures stands { StandsForStrip strip.now self.new.links.items }
+        ensures queued { queued.new ≡ queued.old + defined_in strip.now }
+        ensures looked { looked.new ≤ looked.old + adjacencies_in strip.now }
+    {
+        let end = strip.first + strip.count();
+        for p in strip.first..end {
+            self.flood_from(strip, p, queued, looked);
+        }
+    }
+}

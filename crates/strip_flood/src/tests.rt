@@ -1,0 +1,187 @@
+//! Small strips: the last pixel of at least some value on the walk from a pixel.
+ghost use Rattle.std.specs.Prelude.{◌≡◌, ◌<◌};
+
+use crate::StripJob;
+use comp_tree::{Connect, NONE, Plane, Shape};
+use dev_io::Steps;
+use std::alloc::Global;
+use std::marker::Brand;
+use std::process::Abort;
+use std::sync::ledger::{Blank, Ledger};
+use std::test::Fail;
+
+#[derive(Drop)]
+struct Case<'a> {
+    width: u32,
+    height: u32,
+    connect: Connect,
+    first_row: u32,
+    end_row: u32,
+    // -1 stands for an undefined pixel
+    values: &'a [i64],
+    // a pixel, a value, and the last pixel of at least this value on the walk from that pixel
+    lasts: &'a [(u32, i64, u32)],
+}
+
+fn last(rt: &impl Abort, plane: &Plane, first: u32, links: &[u32], pixel: u32, value: i64) -> u32 {
+    let mut at = pixel;
+    for _ in 0..links.len() {
+        assert!(rt; first <= at && ((at - first) as usize) < links.len());
+        let next = links[(at - first) as usize];
+        if next >= plane.shape().pixels() || !plane.is_at_least(value, next) {
+            return at;
+        }
+        at = next;
+    }
+    NONE
+}
+
+fn try_case<A: Ledger, B: Ledger>(
+    rt: &impl Abort,
+    alloc: Global,
+    case: &Case,
+    queued: &mut Steps<A>,
+    looked: &mut Steps<B>,
+) -> Result<(), Fail> {
+    let shape = Shape::of(case.width, case.height).ok_or("a shape")?;
+    let mut plane = Plane::blank(alloc, shape)?;
+    for (pixel, value) in case.values.iter().enumerate() {
+        if *value >= 0 && *value < 100 && pixel < plane.shape().pixels() as usize {
+            plane.set(pixel as u32, Some(*value));
+        }
+    }
+    assert!(rt; case.first_row < case.end_row && case.end_row <= plane.shape().height);
+    let mut job = StripJob::prepare(alloc, &plane, case.connect, case.first_row, case.end_row)?;
+    assert!(rt; !job.is_flooded());
+    job.flood(&plane, queued, looked);
+    assert!(rt; job.is_flooded());
+    assert_eq!(rt; job.first_row(), case.first_row);
+    assert_eq!(rt; job.end_row(), case.end_row);
+    let first = case.first_row * plane.shape().width;
+    for (pixel, value, wanted) in case.lasts {
+        assert_eq!(rt;
+            last(rt, &plane, first, job.parents(), *pixel, *value),
+            *wanted
+        );
+    }
+    Ok(())
+}
+
+fn try_cases<A: Ledger, B: Ledger>(
+    rt: &impl Abort,
+    alloc: Global,
+    first: Blank,
+    second: Blank,
+    cases: &[Case],
+) -> Result<(), Fail>
+    requires first_name { first.name ≡ A.name }
+    requires first_parts { first.parts ≡ A.parts }
+    requires first_some { 0 < first.parts }
+    requires second_name { second.name ≡ B.name }
+    requires second_parts { second.parts ≡ B.parts }
+    requires second_some { 0 < second.parts }
+{
+    let mut queued = Steps::<A>::start(first);
+    let mut looked = Steps::<B>::start(second);
+    for case in cases {
+        try_case(rt, alloc, case, &mut queued, &mut looked)?;
+    }
+    Ok(())
+}
+
+#[test]
+fn a_strip_of_one_row(rt: HostRuntime) -> Result<(), Fail> {
+    let case = Case {
+        width: 3,
+        height: 2,
+        connect: Connect::Four,
+        first_row: 1,
+        end_row: 2,
+        values: &[1, 5, 1, 7, 1, 1],
+        lasts: &[(3, 1, 4), (4, 1, 4), (5, 1, 4)],
+    };
+    try_cases::<Brand, Brand>(&rt, rt.alloc(), Blank::new(1), Blank::new(1), &[case])
+}
+
+#[test]
+fn small_images(rt: HostRuntime) -> Result<(), Fail> {
+    let cases = [
+        Case {
+            width: 4,
+            height: 3,
+            connect: Connect::Four,
+            first_row: 0,
+            end_row: 3,
+            values: &[6, 6, 6, 6, 6, 6, 6, 6, 6, 6, 6, 6],
+            lasts: &[(5, 6, 0), (11, 6, 0)],
+        },
+        Case {
+            width: 5,
+            height: 5,
+            connect: Connect::Four,
+            first_row: 0,
+            end_row: 5,
+            values: &[
+                3, 3, 3, 3, 3, 0, 0, 0, 0, 3, 3, 3, 3, 0, 3, 3, 0, 0, 0, 3, 3, 3, 3, 3, 3,
+            ],
+            lasts: &[(12, 3, 0), (12, 0, 5), (18, 0, 5)],
+        },
+        Case {
+            width: 5,
+            height: 5,
+            connect: Connect::Four,
+            first_row: 1,
+            end_row: 5,
+            values: &[
+                3, 3, 3, 3, 3, 0, 0, 0, 0, 3, 3, 3, 3, 0, 3, 3, 0, 0, 0, 3, 3, 3, 3, 3, 3,
+            ],
+            lasts: &[(12, 3, 9), (20, 0, 5)],
+        },
+        Case {
+            width: 5,
+            height: 3,
+            connect: Connect::Four,
+            first_row: 0,
+            end_row: 3,
+            values: &[4, 0, 5, 0, 6, 4, 0, 5, 0, 6, 2, 2, 2, 2, 2],
+            lasts: &[(5, 4, 0), (9, 6, 4), (4, 1, 10), (14, 2, 10), (7, 0, 1)],
+        },
+        Case {
+            width: 5,
+            height: 3,
+            connect: Connect::Four,
+            first_row: 0,
+            end_row: 2,
+            values: &[4, 0, 5, 0, 6, 4, 0, 5, 0, 6, 2, 2, 2, 2, 2],
+            lasts: &[(5, 1, 0), (9, 1, 4), (9, 0, 1)],
+        },
+        Case {
+            width: 3,
+            height: 3,
+            connect: Connect::Eight,
+            first_row: 0,
+            end_row: 3,
+            values: &[7, -1, 7, -1, 3, -1, 7, -1, 7],
+            lasts: &[(8, 7, 8), (8, 3, 4), (0, 1, 4)],
+        },
+        Case {
+            width: 3,
+            height: 3,
+            connect: Connect::Four,
+            first_row: 0,
+            end_row: 3,
+            values: &[7, -1, 7, -1, 3, -1, 7, -1, 7],
+            lasts: &[(8, 3, 8), (0, 0, 0)],
+        },
+        Case {
+            width: 3,
+            height: 3,
+            connect: Connect::Four,
+            first_row: 0,
+            end_row: 3,
+            values: &[5, 0, 6, 5, 2, 6, 3, 3, 3],
+            lasts: &[(3, 5, 0), (5, 3, 6), (2, 2, 4), (8, 1, 4), (4, 0, 1)],
+        },
+    ];
+    try_cases::<Brand, Brand>(&rt, rt.alloc(), Blank::new(1), Blank::new(1), &cases)
+}

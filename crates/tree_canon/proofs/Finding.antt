@@ -1,0 +1,98 @@
+-- Which pixels are canonical, by the links as the code reads them, and the list of these pixels.
+use Rattle.std.proofs.Common.{◌≡◌, ◌≢◌, ℕ, zero, suc, ◌+◌, ◌-◌, ◌<◌, Bool, true, false, cond, ◌&&◌, ◌||◌, not, List, [], ◌∷◌, ◌++◌, length, map, get_or, refl, sym, ap, ◌∙◌, inl, inr, ◌⊎◌, arith}
+use Rattle.std.specs.Prelude.{IsTrue, IsFalse, ◌==◌, filter}
+use Rattle.std.specs.List.{range_with_len}
+use Rattle.std.proofs.lemmas.Bool.{true≢false, eq-eqb}
+use Rattle.std.proofs.lemmas.List.{get_or_default, map-append, append-nil}
+use Rattle.comp_tree.specs.declared.tree.NodeRow.{NodeRow}
+use Rattle.comp_tree.specs.Raster.{Raster, value_at, is_defined, is_at_least, level, pixels}
+use Rattle.comp_tree.specs.Forest.{no_node, IsWithin, IsEarlier, link_of, IsForest}
+use Rattle.comp_tree.proofs.Order.{before_defined}
+use Rattle.tree_canon.specs.Canonical.{is_canonical, loose_row}
+
+-- a link, as the code reads it
+pub read_link : (links : List ℕ) (p : ℕ) → p < length links → get_or links p 0 ≡ link_of 0 links p
+read_link links p lt = get_or_default links p 0 no_node lt ∙ ap (λ k. get_or links k no_node) (let e : p ≡ p - 0 = omega arith in e)
+
+-- what is known of a link that isn't none
+pub record IsPixelLink (r : Raster) (links : List ℕ) (p : ℕ) : Type 0 where
+  pub below : link_of 0 links p < length links
+  pub earlier : IsEarlier r.values (link_of 0 links p) p
+  pub defined : IsTrue (is_defined r p)
+  pub link_defined : IsTrue (is_defined r (link_of 0 links p))
+
+pub pixel_link : (r : Raster) (links : List ℕ) (p : ℕ) → IsForest r.values 0 links → p < length links → link_of 0 links p ≢ no_node → IsPixelLink r links p
+pixel_link r links p forest lt some = on (forest.earlier p (record { low = omega arith; high = omega arith }))
+  where
+    on : (link_of 0 links p ≡ no_node) ⊎ (IsWithin 0 (length links) (link_of 0 links p) × IsEarlier r.values (link_of 0 links p) p) → IsPixelLink r links p
+    on (inl e) = absurd (some e)
+    on (inr k) =
+        let d = before_defined (value_at r.values (link_of 0 links p)) (value_at r.values p) (link_of 0 links p) p k.1 in
+        record { below = omega (arith, k.0.high); earlier = k.1; defined = d.1; link_defined = d.0 }
+
+and_true : (b : Bool) → b && true ≡ b
+and_true true = refl
+and_true false = refl
+
+-- a pixel whose link is none
+pub canonical-none : (r : Raster) (links : List ℕ) (p : ℕ) → link_of 0 links p ≡ no_node → is_defined r p ≡ is_canonical r links p
+unfolding is_canonical
+canonical-none r links p none =
+    sym (ap (λ (b : Bool). is_defined r p && (b || not (is_at_least r (level r p) (link_of 0 links p)))) (eq-eqb (link_of 0 links p) no_node none) ∙ and_true (is_defined r p))
+
+not_equal : (a b : ℕ) → a ≢ b → a == b ≡ false
+not_equal a b ne = grind arith
+
+-- and one whose link is a pixel
+pub canonical-some : (r : Raster) (links : List ℕ) (p : ℕ) → IsTrue (is_defined r p) → link_of 0 links p ≢ no_node
+    → not (is_at_least r (level r p) (link_of 0 links p)) ≡ is_canonical r links p
+unfolding is_canonical
+canonical-some r links p d some =
+    sym (ap (λ (b : Bool). b && (link_of 0 links p == no_node || not (is_at_least r (level r p) (link_of 0 links p)))) d
+    ∙ ap (λ (b : Bool). b || not (is_at_least r (level r p) (link_of 0 links p))) (not_equal (link_of 0 links p) no_node some))
+
+-- the link of a defined pixel that isn't canonical is no lower
+pub link_high : (r : Raster) (links : List ℕ) (p : ℕ) → IsTrue (is_defined r p) → link_of 0 links p ≢ no_node → IsFalse (is_canonical r links p)
+    → IsTrue (is_at_least r (level r p) (link_of 0 links p))
+link_high r links p d some low = on (is_at_least r (level r p) (link_of 0 links p)) (canonical-some r links p d some ∙ low)
+  where
+    on : (b : Bool) → not b ≡ false → b ≡ true
+    on true e = refl
+    on false e = absurd (true≢false e)
+
+-- ---- the list, as it grows
+
+filter-one : (t : ℕ → Bool) (a n : ℕ) → filter t (range_with_len a (suc n)) ≡ filter t (range_with_len a n) ++ filter t ((a + n) ∷ [])
+filter-one t a zero = ap (λ k. filter t (k ∷ [])) (let e : a ≡ a + 0 = omega arith in e)
+filter-one t a (suc n) = on (t a) (filter-one t (a + 1) n) where
+  next : a + 1 + n ≡ a + suc n
+  next = omega arith
+
+  on : (b : Bool) → filter t (range_with_len (a + 1) (suc n)) ≡ filter t (range_with_len (a + 1) n) ++ filter t ((a + 1 + n) ∷ [])
+      → cond b (a ∷ filter t (range_with_len (a + 1) (suc n))) (filter t (range_with_len (a + 1) (suc n)))
+      ≡ cond b (a ∷ filter t (range_with_len (a + 1) n)) (filter t (range_with_len (a + 1) n)) ++ filter t ((a + suc n) ∷ [])
+  on true ih = ap (λ xs. a ∷ xs) (ih ∙ ap (λ k. filter t (range_with_len (a + 1) n) ++ filter t (k ∷ [])) next)
+  on false ih = ih ∙ ap (λ k. filter t (range_with_len (a + 1) n) ++ filter t (k ∷ [])) next
+
+-- the rows of the canonical pixels below n
+abbrev pub listed : Raster → List ℕ → ℕ → List NodeRow
+listed r links n = map (loose_row r) (filter (is_canonical r links) (range_with_len 0 n))
+
+listed_one : (r : Raster) (links : List ℕ) (n : ℕ) → listed r links (n + 1) ≡ listed r links n ++ map (loose_row r) (filter (is_canonical r links) (n ∷ []))
+listed_one r links n =
+    ap (λ k. listed r links k) (let e : n + 1 ≡ suc n = omega arith in e)
+    ∙ ap (map (loose_row r)) (filter-one (is_canonical r links) 0 n ∙ ap (λ k. filter (is_canonical r links) (range_with_len 0 n) ++ filter (is_canonical r links) (k ∷ [])) (let e : 0 + n ≡ n = omega arith in e))
+    ∙ map-append (loose_row r) (filter (is_canonical r links) (range_with_len 0 n)) (filter (is_canonical r links) (n ∷ []))
+
+pub listed-yes : (r : Raster) (links : List ℕ) (n : ℕ) (xs : List NodeRow) → xs ≡ listed r links n → is_canonical r links n ≡ true → xs ++ loose_row r n ∷ [] ≡ listed r links (n + 1)
+listed-yes r links n xs e is =
+    ap (λ ys. ys ++ loose_row r n ∷ []) e
+    ∙ sym (listed_one r links n ∙ ap (λ (b : Bool). listed r links n ++ map (loose_row r) (cond b (n ∷ []) [])) is)
+
+pub listed-no : (r : Raster) (links : List ℕ) (n : ℕ) (xs : List NodeRow) → xs ≡ listed r links n → is_canonical r links n ≡ false → xs ≡ listed r links (n + 1)
+listed-no r links n xs e not_so =
+    e ∙ sym (listed_one r links n ∙ ap (λ (b : Bool). listed r links n ++ map (loose_row r) (cond b (n ∷ []) [])) not_so ∙ append-nil (listed r links n))
+
+pub listed-all : (r : Raster) (links : List ℕ) (n : ℕ) (xs : List NodeRow) → n ≡ length r.values → xs ≡ listed r links n → xs ≡ map (loose_row r) (filter (is_canonical r links) (pixels r))
+unfolding pixels
+listed-all r links n xs all e = e ∙ ap (listed r links) all

@@ -1,0 +1,6 @@
+mod Finding
+pub mod Fitting
+mod Numbering
+mod Parents
+mod Sorting
+mod Trees

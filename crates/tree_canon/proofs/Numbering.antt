@@ -1,0 +1,224 @@
+-- How the pixels get their numbers: those of the rows first, then all others along the links.
+use Rattle.std.proofs.Common.{◌≡◌, ◌≢◌, ℕ, suc, ◌+◌, ◌-◌, ◌^◌, ◌<◌, ◌≤◌, Bool, true, false, cond, List, [], ◌∷◌, length, map, get_or, set, replicate, refl, sym, ap, subst, ◌∙◌, inl, inr, arith, Some, slice_get, length-set, get_or-set_same, get_or-set_other}
+use Rattle.std.specs.Prelude.{IsTrue, All, filter}
+use Rattle.std.proofs.lemmas.Bool.{true≢false, cases_eq}
+use Rattle.std.proofs.lemmas.Bool.Decides.{leb_tells}
+use Rattle.std.proofs.lemmas.List.{get_or_past, length-map, length-replicate, get_or-replicate}
+use Rattle.std.proofs.lemmas.Option.{slice_get_within, same_Some, slice_get-get_or}
+use Rattle.comp_tree.specs.declared.tree.NodeRow.{NodeRow}
+use Rattle.comp_tree.specs.Raster.{Raster, value_at, level, pixels}
+use Rattle.comp_tree.specs.Forest.{no_node, link_of, IsForest}
+use Rattle.comp_tree.proofs.Canonical.{value-level}
+use Rattle.comp_tree.proofs.Representatives.{before_level}
+use Rattle.comp_tree.proofs.Reaching.{below_from_defined, among_from_defined}
+use Rattle.comp_tree.proofs.Members.{IsAmong, among-filter}
+use Rattle.comp_tree.proofs.Finding.{length-in_order, length-pixels}
+use Rattle.comp_tree.proofs.Ordering.{ordered-same_place, among_at, among_in_order-from}
+use Rattle.comp_tree.proofs.OneTree.{IsImage, get_is, get-map, get_from_map}
+use Rattle.tree_canon.specs.Canonical.{is_canonical, canonical_pixels, loose_row, number_at, IsNumbering}
+use Rattle.tree_canon.specs.Numbers.{HaveOwnPixels, HasRowNumbers, LeadBack, HasLinkNumbers}
+use Rattle.tree_canon.proofs.Finding.{IsPixelLink, pixel_link, link_high}
+use Rattle.tree_canon.proofs.Sorting.{canonical-ordered, canonical-is, canonical-defined}
+
+-- ---- the pixels of the first k rows
+
+pub record IsNumberedTo (rows : List NodeRow) (old new : List ℕ) (k : ℕ) : Type 0 where
+  pub one_each : length new ≡ length old
+  pub of_rows : (n : ℕ) (row : NodeRow) → n < k → slice_get rows n ≡ Some row → number_at new row.rep ≡ n
+  pub others : (p : ℕ) → ((n : ℕ) (row : NodeRow) → n < k → slice_get rows n ≡ Some row → row.rep ≢ p) → number_at new p ≡ number_at old p
+
+pub numbered_none : (rows : List NodeRow) (old : List ℕ) → IsNumberedTo rows old old 0
+numbered_none rows old = record { one_each = refl; of_rows = λ n row lt at. absurd (omega arith); others = λ p apart. refl }
+
+pub numbered_more : (rows : List NodeRow) (old new : List ℕ) (k : ℕ) (row : NodeRow) → HaveOwnPixels rows → slice_get rows k ≡ Some row → row.rep < length old
+    → IsNumberedTo rows old new k → IsNumberedTo rows old (set new row.rep k) (k + 1)
+numbered_more rows old new k row own at below h = record {
+  one_each = length-set new row.rep k ∙ h.one_each;
+  of_rows = λ n other lt got. elim (cases_eq n k) [
+    | inl e ↦
+        let same : other ≡ row = same_Some other row (sym got ∙ ap (slice_get rows) e ∙ at) in
+        ap (λ (x : NodeRow). number_at (set new row.rep k) x.rep) same ∙ get_or-set_same new row.rep k no_node (omega (arith, below, h.one_each)) ∙ sym e
+    | inr ne ↦
+        get_or-set_other new row.rep other.rep k no_node (λ (e : other.rep ≡ row.rep). ne (own n k other row got at e))
+        ∙ h.of_rows n other (omega arith) got
+  ];
+  others = λ p apart.
+      get_or-set_other new row.rep p k no_node (λ (e : p ≡ row.rep). apart k row (omega arith) at (sym e))
+      ∙ h.others p (λ n other lt got. apart n other (omega arith) got);
+}
+
+pub numbered_all : (rows : List NodeRow) (old new : List ℕ) (k : ℕ) → length rows ≤ k → IsNumberedTo rows old new k → HasRowNumbers rows old new
+numbered_all rows old new k long h = record {
+  one_each = h.one_each;
+  of_rows = λ n row got. h.of_rows n row (let lt = slice_get_within rows n row got in omega (arith, lt)) got;
+  others = λ p apart. h.others p (λ n row lt got. apart n row got);
+}
+
+-- ---- the first k pixels, along the links
+
+pub record IsFollowedTo (links old new : List ℕ) (k : ℕ) : Type 0 where
+  pub one_each : length new ≡ length old
+  pub kept : (p : ℕ) → number_at old p ≢ no_node → number_at new p ≡ number_at old p
+  pub followed : (p : ℕ) → p < k → number_at old p ≡ no_node → number_at new p ≡ number_at new (link_of 0 links p)
+  pub ahead : (p : ℕ) → k ≤ p → number_at new p ≡ number_at old p
+
+pub followed_none : (links old : List ℕ) → IsFollowedTo links old old 0
+followed_none links old = record { one_each = refl; kept = λ p some. refl; followed = λ p lt none. absurd (omega arith); ahead = λ p le. refl }
+
+-- a pixel that has a number keeps it
+pub followed_same : (links old new : List ℕ) (k : ℕ) → number_at new k ≢ no_node → IsFollowedTo links old new k → IsFollowedTo links old new (k + 1)
+followed_same links old new k some h = record {
+  one_each = h.one_each;
+  kept = h.kept;
+  followed = λ p lt none. elim (cases_eq p k) [
+    | inl e ↦ absurd (some (h.ahead k (omega arith) ∙ ap (number_at old) (sym e) ∙ none))
+    | inr ne ↦ h.followed p (omega arith) none
+  ];
+  ahead = λ p le. h.ahead p (omega arith);
+}
+
+-- one that has none gets that of its link
+pub followed_set : (links old new : List ℕ) (k m : ℕ) → LeadBack links old → length old ≡ length links → length links ≤ 2 ^ 24 → k < length links
+    → number_at new k ≡ no_node → m ≡ number_at new (link_of 0 links k) → IsFollowedTo links old new k → IsFollowedTo links old (set new k m) (k + 1)
+followed_set links old new k m back count few below none is h = record {
+  one_each = length-set new k m ∙ h.one_each;
+  kept = λ p some. elim (cases_eq p k) [
+    | inl e ↦ absurd (some (ap (number_at old) e ∙ none_old))
+    | inr ne ↦ get_or-set_other new k p m no_node ne ∙ h.kept p some
+  ];
+  followed = λ p lt bare. elim (cases_eq p k) [
+    | inl e ↦
+        ap (number_at (set new k m)) e ∙ get_or-set_same new k m no_node (omega (arith, h.one_each)) ∙ is
+        ∙ sym (get_or-set_other new k (link_of 0 links k) m no_node (away k (omega arith) none_old)) ∙ ap (λ q. number_at (set new k m) (link_of 0 links q)) (sym e)
+    | inr ne ↦
+        get_or-set_other new k p m no_node ne ∙ h.followed p (omega arith) bare
+        ∙ sym (get_or-set_other new k (link_of 0 links p) m no_node (away p (omega arith) bare))
+  ];
+  ahead = λ p le. get_or-set_other new k p m no_node (λ (e : p ≡ k). let f : p ≡ k = e in omega arith) ∙ h.ahead p (omega arith);
+}
+  where
+    none_old : number_at old k ≡ no_node
+    none_old = sym (h.ahead k (omega arith)) ∙ none
+
+    away : (p : ℕ) → p ≤ k → number_at old p ≡ no_node → link_of 0 links p ≢ k
+    away p le bare e = elim (back p (omega arith) bare) [
+      | inl f ↦ let g : no_node ≡ k = sym f ∙ e in omega (arith, g)
+      | inr lt ↦ omega (arith, lt, e)
+    ]
+
+past_link : (links : List ℕ) (p : ℕ) → length links ≤ p → link_of 0 links p ≡ no_node
+past_link links p le = get_or_past links (p - 0) no_node (omega arith)
+
+past_number : (numbers : List ℕ) (p : ℕ) → length numbers ≤ p → number_at numbers p ≡ no_node
+past_number numbers p le = get_or_past numbers p no_node le
+
+pub followed_all : (links old new : List ℕ) (k : ℕ) → length old ≡ length links → length links ≤ 2 ^ 24 → length links ≤ k → IsFollowedTo links old new k → HasLinkNumbers links old new
+followed_all links old new k count few long h = record {
+  one_each = h.one_each;
+  kept = h.kept;
+  followed = λ p bare. elim (leb_tells (length links) p) [
+    | inl far ↦
+        past_number new p (omega (arith, h.one_each, far.1)) ∙ sym (past_number new no_node (omega (arith, h.one_each)))
+        ∙ ap (number_at new) (sym (past_link links p far.1))
+    | inr near ↦ h.followed p (omega (arith, near.1)) bare
+  ];
+}
+
+-- ---- both together
+
+-- a canonical pixel has a place
+placed : (p : ℕ) (ps : List ℕ) → IsAmong p ps → (n : ℕ) × (slice_get ps n ≡ Some p)
+placed p [] m = absurd m
+placed p (q ∷ ps) (inl e) = (0, ap (λ x. Some x) e)
+placed p (q ∷ ps) (inr m) = let k = placed p ps m in (suc k.0, k.1)
+
+among : (r : Raster) (links : List ℕ) (p : ℕ) → IsTrue (is_canonical r links p) → IsAmong p (canonical_pixels r links)
+unfolding canonical_pixels
+among r links p h =
+    among_in_order-from r (filter (is_canonical r links) (pixels r)) p
+    (among-filter (is_canonical r links) p (pixels r) (among_from_defined r p (canonical-defined r links p h)) h)
+
+pub place_of : (r : Raster) (links : List ℕ) (p : ℕ) → IsTrue (is_canonical r links p) → (n : ℕ) × (slice_get (canonical_pixels r links) n ≡ Some p)
+place_of r links p h = placed p (canonical_pixels r links) (among r links p h)
+
+module _ (r : Raster) (links : List ℕ) (whole : length links ≡ length r.values) (forest : IsForest r.values 0 links) (few : length links ≤ 2 ^ 24)
+    (rows : List NodeRow) (is : rows ≡ map (loose_row r) (canonical_pixels r links)) where
+  length-filter_le : (t : ℕ → Bool) (ps : List ℕ) → length (filter t ps) ≤ length ps
+  length-filter_le t [] = omega arith
+  length-filter_le t (p ∷ ps) = on (t p) (length-filter_le t ps)
+    where
+      on : (b : Bool) → length (filter t ps) ≤ length ps → length (cond b (p ∷ filter t ps) (filter t ps)) ≤ suc (length ps)
+      on true h = omega arith
+      on false h = omega arith
+
+  canonical_few : length (canonical_pixels r links) ≤ length links
+  unfolding canonical_pixels
+  canonical_few =
+      omega (arith, length-in_order r (filter (is_canonical r links) (pixels r)), length-filter_le (is_canonical r links) (pixels r), length-pixels r, whole)
+
+  pub rows_few : length rows ≤ 2 ^ 24
+  rows_few = omega (arith, ap length is, length-map (canonical_pixels r links) (loose_row r), canonical_few, few)
+
+  -- the row at a place is that of the canonical pixel there
+  record IsRowOf (n : ℕ) (row : NodeRow) : Type 0 where
+    pixel : slice_get (canonical_pixels r links) n ≡ Some row.rep
+    canonical : IsTrue (is_canonical r links row.rep)
+
+  row_of : (n : ℕ) (row : NodeRow) → slice_get rows n ≡ Some row → IsRowOf n row
+  row_of n row got =
+      let image : IsImage (loose_row r) (canonical_pixels r links) n row = get_from_map (loose_row r) (canonical_pixels r links) n row (subst (λ (xs : List NodeRow). slice_get xs n ≡ Some row) is got) in
+      let same : image.it ≡ row.rep = ap (λ (x : NodeRow). x.rep) image.gives in
+      let place = get_is (canonical_pixels r links) n image.it image.at in
+      record {
+        pixel = image.at ∙ ap (λ x. Some x) same;
+        canonical = subst (λ x. IsTrue (is_canonical r links x)) (place.1 ∙ same) (canonical-is r links (get_or (canonical_pixels r links) n 0) (among_at (canonical_pixels r links) n place.0));
+      }
+
+  row_at : (n p : ℕ) → slice_get (canonical_pixels r links) n ≡ Some p → slice_get rows n ≡ Some (loose_row r p)
+  row_at n p got = subst (λ (xs : List NodeRow). slice_get xs n ≡ Some (loose_row r p)) (sym is) (get-map (loose_row r) (canonical_pixels r links) n p got)
+
+  pub rows_own : HaveOwnPixels rows
+  rows_own m n first second got_first got_second same =
+      let a = get_is (canonical_pixels r links) m first.rep ((row_of m first got_first).pixel) in
+      let b = get_is (canonical_pixels r links) n second.rep ((row_of n second got_second).pixel) in
+      ordered-same_place r (canonical_pixels r links) m n (canonical-ordered r links) a.0 b.0 (a.1 ∙ same ∙ sym b.1)
+
+  pub rows_within : (numbers : List ℕ) → length numbers ≡ length links → All (λ row. row.rep < length numbers) rows
+  rows_within numbers count k d lt =
+      let got : slice_get rows k ≡ Some (get_or rows k d) = slice_get-get_or rows k d lt in
+      let below = below_from_defined r (get_or rows k d).rep (canonical-defined r links (get_or rows k d).rep (row_of k (get_or rows k d) got).canonical) in
+      omega (arith, below, whole, count)
+
+  module _ (none numbers : List ℕ) (bare : none ≡ replicate (length links) no_node) (numbered : HasRowNumbers rows none numbers) where
+    bare_at : (p : ℕ) → number_at none p ≡ no_node
+    bare_at p = ap (λ xs. number_at xs p) bare ∙ elim (leb_tells (length links) p) [
+      | inl far ↦ get_or_past (replicate (length links) no_node) p no_node (let e = length-replicate {A = ℕ} (length links) no_node in omega (arith, e, far.1))
+      | inr near ↦ get_or-replicate (length links) p no_node no_node near.1
+    ]
+
+    number_of_place : (n p : ℕ) → slice_get (canonical_pixels r links) n ≡ Some p → number_at numbers p ≡ n
+    number_of_place n p got = numbered.of_rows n (loose_row r p) (row_at n p got)
+
+    small : (n p : ℕ) → slice_get (canonical_pixels r links) n ≡ Some p → n ≢ no_node
+    small n p got e = let lt = slice_get_within (canonical_pixels r links) n p got in omega (arith, lt, canonical_few, few, e)
+
+    pub rows_lead_back : LeadBack links numbers
+    rows_lead_back p lt none_yet = elim (cases_eq (link_of 0 links p) no_node) [
+      | inl e ↦ inl e
+      | inr some ↦ inr (lower some (is_canonical r links p) refl)
+    ]
+      where
+        lower : link_of 0 links p ≢ no_node → (b : Bool) → is_canonical r links p ≡ b → link_of 0 links p < p
+        lower some true u = let k = place_of r links p u in absurd (small k.0 p k.1 (sym (number_of_place k.0 p k.1) ∙ none_yet))
+        lower some false u =
+            let k : IsPixelLink r links p = pixel_link r links p forest lt some in
+            (before_level (value_at r.values (link_of 0 links p)) (value_at r.values p) (level r p) (link_of 0 links p) p (value-level r p k.defined)
+            (link_high r links p k.defined some u) k.earlier).1
+
+    pub is_numbering : (all : List ℕ) → length none ≡ length links → HasLinkNumbers links numbers all → IsNumbering r links all
+    is_numbering all count linked = record {
+      one_each = linked.one_each ∙ numbered.one_each ∙ count;
+      canonical = λ n p got. linked.kept p (λ e. small n p got (sym (number_of_place n p got) ∙ e)) ∙ number_of_place n p got;
+      others = λ p low. linked.followed p (numbered.others p (λ n row got (e : row.rep ≡ p).
+          true≢false (sym (subst (λ x. IsTrue (is_canonical r links x)) e (row_of n row got).canonical) ∙ low)) ∙ bare_at p);
+    }

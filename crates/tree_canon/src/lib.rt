@@ -1,0 +1,43 @@
+//! Canonical numbering: the component tree (max-tree) that the links of a forest stand for, with its nodes in the order of
+//! levels and pixels.
+//!
+//! Whichever way a forest came about, by flooding strips in any order and joining them, the tree is the same: the pixel that
+//! represents a component is the last one of its level on the walk along the links, and so the least pixel of that level. The
+//! parent of its node is the node of its link.
+#![tactic(auto)]
+
+mod numbers;
+mod rows;
+
+ghost use Rattle.std.specs.Prelude.{◌≡◌, ◌⊎◌, length, IfOk};
+ghost use Rattle.comp_tree.specs.declared.shape.Connect.{Connect};
+ghost use Rattle.comp_tree.specs.declared.shape.Connect.TheVariants.{Four, Eight};
+ghost use Rattle.comp_tree.specs.Components.{tree_of};
+ghost use Rattle.comp_tree.specs.Forest.{IsForest};
+ghost use Rattle.tree_canon.specs.Canonical.{StandsForAll};
+
+use comp_tree::{Forest, Plane, Tree};
+use dev_io::OutOfMemory;
+use numbers::number_pixels;
+use rows::{canonical_rows, set_parents};
+use std::alloc::Global;
+
+/// The component tree of a plane, from a forest that stands for all its adjacencies under connectivity 4 or 8. The call isn't
+/// told which of the two, so the links decide the tree. Beside a sort of the nodes it takes one pass over the pixels to find
+/// the nodes, one to number the pixels, and two over the nodes.
+pub fn canon(alloc: Global, plane: &Plane, forest: &Forest) -> Result<Tree, OutOfMemory>
+    requires one_each { length forest.now ≡ length plane.now.values }
+    requires forest { IsForest plane.now.values 0 forest.now }
+    requires stands { StandsForAll plane.now Four forest.now ⊎ StandsForAll plane.now Eight forest.now }
+    ensures { IfOk result (λ tree. (connect : Connect) → StandsForAll plane.now connect forest.now → tree ≡ tree_of plane.now connect) }
+{
+    let shape = plane.shape();
+    let links = forest.parents();
+    let mut rows = canonical_rows(alloc, plane, links)?;
+    let node_of = number_pixels(alloc, plane, links, &rows)?;
+    set_parents(links, &node_of, &mut rows);
+    Ok(Tree::of(shape, rows, node_of))
+}
+
+#[cfg(test)]
+mod tests;

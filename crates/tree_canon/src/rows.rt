@@ -1,0 +1,81 @@
+//! The rows of the nodes: one for each canonical pixel, which is a defined pixel whose link is `NONE` or has a smaller value (the
+//! level roots of Wilkinson et al. 2008).
+
+ghost use Rattle.std.specs.Prelude.{◌≡◌, ◌<◌, length, map, filter, All, IfOk};
+ghost use Rattle.comp_tree.specs.Raster.{pixels};
+ghost use Rattle.comp_tree.specs.Forest.{IsForest};
+ghost use Rattle.tree_canon.specs.Canonical.{is_canonical as is_canonical_in, canonical_pixels, loose_row, with_parent};
+
+use crate::numbers::number_at;
+use comp_tree::{NONE, NodeRow, Plane};
+use dev_io::OutOfMemory;
+use std::alloc::Global;
+
+/// The rows of all nodes in their order, without the parents.
+pub(crate) fn canonical_rows(
+    alloc: Global,
+    plane: &Plane,
+    links: &[u32],
+) -> Result<Vec<NodeRow>, OutOfMemory>
+    requires one_each { length links.now ≡ length plane.now.values }
+    requires forest { IsForest plane.now.values 0 links.now }
+    ensures { IfOk result (λ rows. rows.items ≡ map (loose_row plane.now) (canonical_pixels plane.now links.now)) }
+{
+    let mut rows = find_canonical(alloc, plane, links)?;
+    rows.sort_unstable_by_key(|row| (row.level, row.rep));
+    Ok(rows)
+}
+
+// The same rows in the order of pixel numbers.
+fn find_canonical(alloc: Global, plane: &Plane, links: &[u32]) -> Result<Vec<NodeRow>, OutOfMemory>
+    requires one_each { length links.now ≡ length plane.now.values }
+    requires forest { IsForest plane.now.values 0 links.now }
+    ensures { IfOk result (λ rows. rows.items ≡ map (loose_row plane.now) (filter (is_canonical_in plane.now links.now) (pixels plane.now))) }
+{
+    let mut rows = Vec::new(alloc);
+    for p in 0..plane.shape().pixels() {
+        if is_canonical(plane, links, p) {
+            let row = loose(plane, p);
+            rows.push(row)?;
+        }
+    }
+    Ok(rows)
+}
+
+// The row of a canonical pixel, as yet without its parent.
+#[inline]
+fn loose(plane: &Plane, p: u32) -> NodeRow
+    requires { p < length plane.now.values }
+    ensures { result ≡ loose_row plane.now p }
+{
+    NodeRow {
+        level: plane.level(p),
+        rep: p,
+        parent: NONE,
+    }
+}
+
+// Whether a pixel is canonical. In a forest only a defined pixel has a link.
+#[inline]
+fn is_canonical(plane: &Plane, links: &[u32], p: u32) -> bool
+    requires one_each { length links.now ≡ length plane.now.values }
+    requires forest { IsForest plane.now.values 0 links.now }
+    requires pixel { p < length plane.now.values }
+    ensures { result ≡ is_canonical_in plane.now links.now p }
+{
+    let link = links[p as usize];
+    if link == NONE {
+        return plane.is_defined(p);
+    }
+    !plane.is_at_least(plane.level(p), link)
+}
+
+/// Gives each row its parent: the node of its pixel's link, and `NONE` where that is `NONE`.
+pub(crate) fn set_parents(links: &[u32], numbers: &[u32], rows: &mut [NodeRow])
+    requires { All (λ row. row.rep < length links.now) rows.old }
+    ensures { rows.new ≡ map (with_parent links.now numbers.now) rows.old }
+{
+    for row in rows.iter_mut() {
+        row.parent = number_at(numbers, links[row.rep as usize]);
+    }
+}

@@ -1,0 +1,152 @@
+//! Trees of small planes from forests that are given by hand. `canon` takes only a forest that stands for the adjacencies, so
+//! each forest is first compared, link by link, with the tree that `plain_tree` makes.
+
+ghost use Rattle.std.specs.Prelude.{◌≡◌, ◌<◌, length, IsTrue};
+ghost use Rattle.comp_tree.specs.Components.{tree_of};
+ghost use Rattle.tree_canon.specs.Fitting.{IsFit, AreFit};
+
+use crate::canon;
+use comp_tree::{Connect, Forest, NONE, Plane, Shape, Tree, plain_tree};
+use dev_io::OutOfMemory;
+use std::alloc::Global;
+
+// Whether the link of a pixel leads to a smaller pixel of its node, or from the node's representative to the parent.
+fn is_fit(plane: &Plane, connect: Connect, tree: &Tree, links: &[u32], p: u32) -> bool
+    requires tree { tree.now ≡ tree_of plane.now connect }
+    requires one_each { length links.now ≡ length plane.now.values }
+    requires pixel { p < length plane.now.values }
+    ensures { IsTrue result → IsFit plane.now connect links.now p }
+{
+    let shape = plane.shape();
+    let node = tree.node_of()[p as usize];
+    let link = links[p as usize];
+    if node == NONE {
+        return link == NONE;
+    }
+    let row = tree.rows()[node as usize];
+    if link == NONE {
+        return row.rep == p && row.parent == NONE;
+    }
+    if link >= shape.pixels() {
+        return false;
+    }
+    let up = tree.node_of()[link as usize];
+    if up == NONE {
+        return false;
+    }
+    if up == node {
+        return link < p;
+    }
+    row.rep == p && up == row.parent
+}
+
+fn are_fit(plane: &Plane, connect: Connect, tree: &Tree, links: &[u32]) -> bool
+    requires tree { tree.now ≡ tree_of plane.now connect }
+    requires one_each { length links.now ≡ length plane.now.values }
+    ensures { IsTrue result → AreFit plane.now connect links.now (length plane.now.values) }
+{
+    for p in 0..plane.shape().pixels() {
+        if !is_fit(plane, connect, tree, links, p) {
+            return false;
+        }
+    }
+    true
+}
+
+// The tree by `canon`, where the links fit.
+fn tree_from(
+    alloc: Global,
+    plane: &Plane,
+    connect: Connect,
+    links: &[u32],
+) -> Result<Option<Tree>, OutOfMemory> {
+    let tree = plain_tree(alloc, plane, connect)?;
+    let shape = plane.shape();
+    if links.len() != shape.pixels() as usize || !are_fit(plane, connect, &tree, links) {
+        return Ok(None);
+    }
+    let mut parents = Vec::new(alloc);
+    parents.extend_from_slice(links)?;
+    let forest = Forest::of(parents);
+    let found = canon(alloc, plane, &forest)?;
+    Ok(Some(found))
+}
+
+#[derive(Drop)]
+struct Case<'a> {
+    width: u32,
+    height: u32,
+    connect: Connect,
+    // -1 stands for an undefined pixel
+    values: &'a [i64],
+    links: &'a [u32],
+    rows: &'a [(i64, u32, u32)],
+    node_of: &'a [u32],
+}
+
+#[test]
+fn trees_from_links(rt: HostRuntime) {
+    let cases = [
+        Case {
+            width: 3,
+            height: 3,
+            connect: Connect::Four,
+            values: &[5, 0, 6, 5, 2, 6, 3, 3, 3],
+            links: &[8, NONE, 8, 0, 1, 2, 4, 6, 7],
+            rows: &[(0, 1, NONE), (2, 4, 0), (3, 6, 1), (5, 0, 2), (6, 2, 2)],
+            node_of: &[3, 0, 4, 3, 1, 4, 2, 2, 2],
+        },
+        Case {
+            width: 3,
+            height: 3,
+            connect: Connect::Eight,
+            values: &[5, 0, 6, 5, 2, 6, 3, 3, 3],
+            links: &[8, NONE, 8, 0, 1, 2, 4, 6, 7],
+            rows: &[(0, 1, NONE), (2, 4, 0), (3, 6, 1), (5, 0, 2), (6, 2, 2)],
+            node_of: &[3, 0, 4, 3, 1, 4, 2, 2, 2],
+        },
+        Case {
+            width: 3,
+            height: 2,
+            connect: Connect::Four,
+            values: &[1, 5, 1, 7, 1, 1],
+            links: &[NONE, 0, 0, 2, 2, 4],
+            rows: &[(1, 0, NONE), (5, 1, 0), (7, 3, 0)],
+            node_of: &[0, 1, 0, 2, 0, 0],
+        },
+        Case {
+            width: 3,
+            height: 2,
+            connect: Connect::Eight,
+            values: &[1, 5, 1, 7, 1, 1],
+            links: &[NONE, 0, 0, 1, 2, 4],
+            rows: &[(1, 0, NONE), (5, 1, 0), (7, 3, 1)],
+            node_of: &[0, 1, 0, 2, 0, 0],
+        },
+        Case {
+            width: 3,
+            height: 1,
+            connect: Connect::Four,
+            values: &[5, -1, 5],
+            links: &[NONE, NONE, NONE],
+            rows: &[(5, 0, NONE), (5, 2, NONE)],
+            node_of: &[0, NONE, 1],
+        },
+    ];
+    for (number, case) in cases.iter().enumerate() {
+        let shape = Shape::of(case.width, case.height).expect(&rt, "a shape");
+        let mut plane = Plane::blank(rt.alloc(), shape).expect(&rt, "memory");
+        for (p, value) in case.values.iter().enumerate() {
+            if *value >= 0 && *value < 100 && p < plane.shape().pixels() as usize {
+                plane.set(p as u32, Some(*value));
+            }
+        }
+        let found = tree_from(rt.alloc(), &plane, case.connect, case.links).expect(&rt, "memory");
+        let tree = found.expect(&rt, "links that fit");
+        assert_eq!(rt; tree.rows().len(), case.rows.len(), "case {number}");
+        assert!(rt; tree.node_of() == case.node_of, "case {number}");
+        for (row, wanted) in tree.rows().iter().zip(case.rows.iter()) {
+            assert_eq!(rt; (row.level, row.rep, row.parent), *wanted, "case {number}");
+        }
+    }
+}

@@ -1,0 +1,205 @@
+ghost use Rattle.std.specs.Prelude.{◌≡◌, ◌<◌};
+
+use super::*;
+use comp_tree::{Shape, Tree, is_forest, plain_tree};
+use dev_io::OutOfMemory;
+use std::alloc::Global;
+use std::marker::Brand;
+use std::sync::ledger::Blank;
+
+#[derive(Drop)]
+struct Case<'a> {
+    width: u32,
+    height: u32,
+    connect: Connect,
+    // -1 stands for an undefined pixel
+    values: &'a [i64],
+    // the links of the strips, before they are joined
+    links: &'a [u32],
+    // the rows that are joined with the rows above them
+    rows: &'a [u32],
+}
+
+// A plane of these values.
+fn plane_of(alloc: Global, shape: Shape, values: &[i64]) -> Result<Plane, OutOfMemory> {
+    let mut plane = Plane::blank(alloc, shape)?;
+    for (p, value) in values.iter().enumerate() {
+        if *value >= 0 && *value < 100 && p < plane.shape().pixels() as usize {
+            plane.set(p as u32, Some(*value));
+        }
+    }
+    Ok(plane)
+}
+
+fn join_by<L: Ledger>(
+    blank: Blank,
+    parents: &mut [u32],
+    plane: &Plane,
+    connect: Connect,
+    rows: &[u32],
+) -> bool
+    requires name { blank.name ≡ L.name }
+    requires parts { blank.parts ≡ L.parts }
+    requires some { 0 < blank.parts }
+{
+    let mut moves = Steps::<L>::start(blank);
+    let shape = plane.shape();
+    for row in rows {
+        let row = *row;
+        if parents.len() != shape.pixels() as usize || !is_forest(plane, 0, parents) {
+            return false;
+        }
+        if row == 0 || row >= shape.height {
+            return false;
+        }
+        join_row(parents, plane, connect, 0, row, &mut moves);
+    }
+    true
+}
+
+// Joins these rows, if the links are a forest.
+fn join(parents: &mut [u32], plane: &Plane, connect: Connect, rows: &[u32]) -> bool {
+    join_by::<Brand>(Blank::new(1), parents, plane, connect, rows)
+}
+
+// The last pixel of at least this value on the walk from `p` along the links.
+fn last_of(values: &[i64], parents: &[u32], value: i64, p: u32) -> u32 {
+    let mut last = p;
+    for _ in 0..parents.len() {
+        let link = parents.get(last as usize).copied().unwrap_or(NONE);
+        if values.get(link as usize).copied().unwrap_or(-1) >= value {
+            last = link;
+        }
+    }
+    last
+}
+
+// Whether the links give `p` the node that the tree gives it: its last ancestor at the node's level represents the node, and
+// the link of this ancestor leads to the node's parent.
+fn has_its_node(values: &[i64], parents: &[u32], tree: &Tree, p: u32) -> bool {
+    let node = tree.node_of().get(p as usize).copied().unwrap_or(NONE);
+    let Some(row) = tree.rows().get(node as usize) else {
+        return parents.get(p as usize).copied() == Some(NONE);
+    };
+    let link = parents.get(row.rep as usize).copied().unwrap_or(NONE);
+    let parent = tree.node_of().get(link as usize).copied().unwrap_or(NONE);
+    last_of(values, parents, row.level, p) == row.rep && parent == row.parent
+}
+
+#[test]
+fn joined_strips_have_the_plain_tree(rt: HostRuntime) {
+    let cases = [
+        Case {
+            width: 1,
+            height: 3,
+            connect: Connect::Four,
+            values: &[1, 2, 1],
+            links: &[NONE, NONE, NONE],
+            rows: &[1, 2],
+        },
+        Case {
+            width: 1,
+            height: 3,
+            connect: Connect::Four,
+            values: &[5, -1, 5],
+            links: &[NONE, NONE, NONE],
+            rows: &[1, 2],
+        },
+        Case {
+            width: 2,
+            height: 2,
+            connect: Connect::Four,
+            values: &[9, 0, 0, 9],
+            links: &[1, NONE, NONE, 2],
+            rows: &[1],
+        },
+        Case {
+            width: 2,
+            height: 2,
+            connect: Connect::Eight,
+            values: &[9, 0, 0, 9],
+            links: &[1, NONE, NONE, 2],
+            rows: &[1],
+        },
+        Case {
+            width: 3,
+            height: 2,
+            connect: Connect::Four,
+            values: &[1, 5, 1, 7, 1, 1],
+            links: &[NONE, 2, 0, 4, NONE, 4],
+            rows: &[1],
+        },
+        Case {
+            width: 3,
+            height: 2,
+            connect: Connect::Eight,
+            values: &[1, 5, 1, 7, 1, 1],
+            links: &[NONE, 2, 0, 4, NONE, 4],
+            rows: &[1],
+        },
+        Case {
+            width: 3,
+            height: 3,
+            connect: Connect::Four,
+            values: &[5, 0, 6, 5, 2, 6, 3, 3, 3],
+            links: &[1, NONE, 1, 4, NONE, 4, NONE, 6, 7],
+            rows: &[1, 2],
+        },
+        Case {
+            width: 3,
+            height: 3,
+            connect: Connect::Eight,
+            values: &[5, 0, 6, 5, 2, 6, 3, 3, 3],
+            links: &[1, NONE, 1, 4, NONE, 4, NONE, 6, 7],
+            rows: &[2, 1],
+        },
+        // two strips, of two rows and of one
+        Case {
+            width: 3,
+            height: 3,
+            connect: Connect::Four,
+            values: &[5, 0, 6, 5, 2, 6, 3, 3, 3],
+            links: &[4, NONE, 4, 0, 1, 2, NONE, 6, 7],
+            rows: &[2],
+        },
+        // a plateau on both sides of the boundary
+        Case {
+            width: 3,
+            height: 2,
+            connect: Connect::Four,
+            values: &[6, 6, 6, 6, 6, 6],
+            links: &[NONE, 0, 1, NONE, 3, 4],
+            rows: &[1],
+        },
+        // one that is joined on both sides of an undefined pixel
+        Case {
+            width: 3,
+            height: 2,
+            connect: Connect::Four,
+            values: &[4, -1, 4, 4, 4, 5],
+            links: &[NONE, NONE, NONE, NONE, 3, 4],
+            rows: &[1],
+        },
+        // and one that touches at corners alone
+        Case {
+            width: 3,
+            height: 2,
+            connect: Connect::Eight,
+            values: &[7, -1, 7, -1, 7, -1],
+            links: &[NONE, NONE, NONE, NONE, NONE, NONE],
+            rows: &[1],
+        },
+    ];
+    for (number, case) in cases.iter().enumerate() {
+        let shape = Shape::of(case.width, case.height).expect(&rt, "a shape");
+        let plane = plane_of(rt.alloc(), shape, case.values).expect(&rt, "memory");
+        let mut parents = case.links.to_vec(rt.alloc()).expect(&rt, "memory");
+        let joined = join(&mut parents, &plane, case.connect, case.rows);
+        assert!(rt; joined, "case {number}");
+        let tree = plain_tree(rt.alloc(), &plane, case.connect).expect(&rt, "memory");
+        for p in 0..shape.pixels() {
+            let same = has_its_node(case.values, &parents, &tree, p);
+            assert!(rt; same, "case {number}, pixel {p}");
+        }
+    }
+}
