@@ -1,0 +1,82 @@
+-- What is answered to these words and these bytes.
+use Rattle.std.specs.Prelude.{ℕ, List, [], ◌∷◌, Result, Ok, Err, Option, Some, None, codes, decimal}
+use Rattle.std.specs.List.{concat}
+use Rattle.comp_tree.specs.declared.shape.Connect.{Connect}
+use Rattle.comp_tree.specs.Raster.{Raster}
+use Rattle.pixel_plane.specs.Verdicts.{Verdict, image, unfound, unreadable, truncated, verdict}
+use Rattle.detect_top.specs.declared.words.Order.{Order}
+use Rattle.detect_top.specs.declared.words.Job.{Job}
+use Rattle.detect_top.specs.declared.words.Job.TheVariants.{Tree}
+use Rattle.detect_top.specs.declared.words.Usage.{Usage as AtFault}
+use Rattle.detect_top.specs.declared.fault.Fault.{Fault}
+use Rattle.detect_top.specs.declared.top.End.{End}
+use Rattle.detect_top.specs.declared.top.End.TheVariants.{Done, Usage, Refused, ReadFault, WriteFault, NoMemory}
+use Rattle.detect_top.specs.Words.{order_of}
+use Rattle.detect_top.specs.declared.fault.Fault.TheVariants.{TruncatedData}
+use Rattle.detect_top.specs.declared.fault.CardPlace.{CardPlace}
+use Rattle.detect_top.specs.declared.image.Stop.{Stop}
+use Rattle.detect_top.specs.declared.image.Stop.TheVariants as at_image
+use Rattle.detect_top.specs.Faults.{number_of, name_of, place_of, stop_at_hdu, fault_of_image}
+use Rattle.detect_top.specs.Lines.{node_list}
+
+abbrev pub usage_line : ℕ → List ℕ
+usage_line word = concat (codes "usage: word " ∷ decimal word ∷ codes "\n" ∷ [])
+
+-- the number and the name of a fault, and where a card at fault stands
+abbrev pub line_at_card : List ℕ → List ℕ → CardPlace → List ℕ
+line_at_card number name place =
+    concat (codes "refused: " ∷ number ∷ codes " " ∷ name ∷ codes " hdu " ∷ decimal place.hdu ∷ codes " card " ∷ decimal place.card ∷ codes "\n" ∷ [])
+
+abbrev pub refusal_by : List ℕ → List ℕ → Option CardPlace → List ℕ
+refusal_by number name None = concat (codes "refused: " ∷ number ∷ codes " " ∷ name ∷ codes "\n" ∷ [])
+refusal_by number name (Some place) = line_at_card number name place
+
+abbrev pub refusal_line : Fault → List ℕ
+refusal_line fault = refusal_by (decimal (number_of fault)) (name_of fault) (place_of fault)
+
+-- how a run ends, as its status and as its line on the notes
+abbrev pub status_of : End → ℕ
+status_of Done = 0
+status_of (Usage usage) = 1
+status_of (Refused fault) = 2
+status_of ReadFault = 3
+status_of WriteFault = 4
+status_of NoMemory = 5
+
+abbrev pub note_of : End → List ℕ
+note_of Done = []
+note_of (Usage usage) = usage_line usage.word
+note_of (Refused fault) = refusal_line fault
+note_of ReadFault = codes "read fault\n"
+note_of WriteFault = codes "write fault\n"
+note_of NoMemory = codes "out of memory\n"
+
+-- how a run ends, with its status and its line on the notes; what it writes; and how many bytes it takes
+pub record Answer : Type 0 where
+  pub end : End
+  pub output : List ℕ
+  pub taken : ℕ
+
+-- how a run ends whose reading stops
+abbrev pub end_at : Stop → End
+end_at (at_image.Refused fault) = Refused fault
+end_at at_image.ReadFault = ReadFault
+end_at at_image.NoMemory = NoMemory
+
+-- what is written of a plane
+abbrev pub output_of : Job → Connect → Raster → List ℕ
+output_of Tree connect plane = node_list plane connect
+
+-- to the verdict on the input's bytes; that the input isn't FITS or has no such HDU is among the faults of a search for an HDU
+abbrev pub answer_to : Order → Verdict → Answer
+answer_to order (image plane head end) = record { end = Done; output = output_of order.job order.connect plane; taken = end }
+answer_to order (unfound fault taken) = record { end = end_at (stop_at_hdu fault); output = []; taken = taken }
+answer_to order (unreadable fault head) = record { end = Refused (fault_of_image fault); output = []; taken = head }
+answer_to order (truncated head taken) = record { end = Refused TruncatedData; output = []; taken = taken }
+
+abbrev pub answer_by : Result Order AtFault → List ℕ → Answer
+answer_by (Err usage) bytes = record { end = Usage usage; output = []; taken = 0 }
+answer_by (Ok order) bytes = answer_to order (verdict bytes order.hdu)
+
+abbrev pub answer : List (List ℕ) → List ℕ → Answer
+answer words bytes = answer_by (order_of words) bytes

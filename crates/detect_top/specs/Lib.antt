@@ -1,0 +1,10 @@
+pub mod Numbers
+pub mod Words
+pub mod Given
+pub mod Faults
+pub mod Areas
+pub mod Lines
+pub mod Streams
+pub mod Answers
+pub mod Runs
+pub mod Headline

@@ -1,0 +1,93 @@
+-- What a run does to its source and its sinks.
+use Rattle.std.specs.Prelude.{◌≡◌, ℕ, ◌<◌, ◌≤◌, ◌⊎◌, Bool, List, length, Result, Ok, Err, Some, IsOk, IsTrue}
+use Rattle.std.specs.declared.option.Option.{Option}
+use Rattle.std.specs.Option.{ForSome}
+use Rattle.std.specs.Io.KnownBytes.{Appends, Keeps}
+use Rattle.dev_io.specs.Causes.{Rose}
+use Rattle.dev_io.specs.Streams.{Takes, TakesAtMost, AppendsPrefix}
+use Rattle.comp_tree.specs.declared.tree.NodeRow.{NodeRow}
+use Rattle.comp_tree.specs.Raster.{Raster}
+use Rattle.pixel_plane.specs.Verdicts.{image, verdict}
+use Rattle.detect_top.specs.declared.words.Order.{Order}
+use Rattle.detect_top.specs.declared.words.Usage.{Usage as AtFault}
+use Rattle.detect_top.specs.declared.top.End.{End}
+use Rattle.detect_top.specs.declared.top.End.TheVariants.{Done, Usage, Refused, ReadFault, WriteFault, NoMemory}
+use Rattle.detect_top.specs.Lines.{tree_lines, node_list}
+use Rattle.detect_top.specs.Faults.{IsCut}
+use Rattle.detect_top.specs.Answers.{answer_by}
+use Rattle.detect_top.specs.Streams.{MemoryWanted}
+
+-- the image was read, and these are the rows of its nodes and their areas
+pub record NodesRead (order : Order) (bytes : List ℕ) (left : Option (List ℕ)) (rows : List NodeRow) (areas : List ℕ) : Type 0 where
+  pub plane : Raster
+  pub head : ℕ
+  pub end : ℕ
+  pub is_image : verdict bytes order.hdu ≡ image plane head end
+  pub lines : tree_lines rows areas ≡ node_list plane order.connect
+  pub takes : Takes bytes left end
+
+-- where the words give an order these are the bytes that it reads, and without one they are any bytes
+abbrev pub Tells : Result Order AtFault → Option (List ℕ) → List ℕ → Type 0
+Tells (Ok order) left bytes = left ≡ Some bytes
+Tells (Err usage) left bytes = Unit {0}
+
+-- the first n bytes were taken, where they are told
+abbrev pub Took : Option (List ℕ) → Option (List ℕ) → ℕ → Type 0
+Took old new n = ForSome old (λ bytes. Takes bytes new n)
+
+-- a front of the first n bytes was taken
+abbrev pub TookAtMost : Option (List ℕ) → Option (List ℕ) → ℕ → Type 0
+TookAtMost old new n = ForSome old (λ bytes. TakesAtMost bytes new n)
+
+-- nothing was asked of a source
+pub record Untouched {S : Type 0} (left : S → Option (List ℕ)) (ended : S → Bool) (faults : S → ℕ) (old new : S) : Type 0 where
+  pub same_left : left new ≡ left old
+  pub same_end : ended new ≡ ended old
+  pub same_faults : faults new ≡ faults old
+
+-- words for which the input is left alone
+abbrev pub LeavesInput : Result Order AtFault → Type 0
+LeavesInput (Ok order) = ⊥
+LeavesInput (Err usage) = Unit {0}
+
+-- where memory may be wanted, and what was taken then
+abbrev pub WantsMemory : Result Order AtFault → List ℕ → Option (List ℕ) → Option (List ℕ) → Type 0
+WantsMemory (Ok order) bytes old new = ForSome old (λ told. MemoryWanted (verdict bytes order.hdu) told new)
+WantsMemory (Err usage) bytes old new = ⊥
+
+-- what an end of its own says of the bytes: it is the answer's, the output was written, and the bytes were taken
+pub record Answers (order : Result Order AtFault) (bytes : List ℕ) (left left' written written' : Option (List ℕ)) (end : End) : Type 0 where
+  pub end_is : (answer_by order bytes).end ≡ end
+  pub written_is : Appends written written' (answer_by order bytes).output
+  pub taken_is : Took left left' (answer_by order bytes).taken
+
+-- what the end at a write fault says of the bytes
+pub record Cuts (order : Result Order AtFault) (bytes : List ℕ) (left left' written written' : Option (List ℕ)) : Type 0 where
+  pub done : (answer_by order bytes).end ≡ Done
+  pub front : AppendsPrefix written written' (answer_by order bytes).output
+  pub taken_is : Took left left' (answer_by order bytes).taken
+
+-- what an end says of the bytes
+abbrev pub EndBytes : Result Order AtFault → List ℕ → Option (List ℕ) → Option (List ℕ) → Option (List ℕ) → Option (List ℕ) → End → Type 0
+EndBytes order bytes left left' written written' Done = Answers order bytes left left' written written' Done
+EndBytes order bytes left left' written written' (Usage usage) = Answers order bytes left left' written written' (Usage usage)
+EndBytes order bytes left left' written written' (Refused fault) = Answers order bytes left left' written written' (Refused fault)
+EndBytes order bytes left left' written written' ReadFault = TookAtMost left left' (answer_by order bytes).taken
+EndBytes order bytes left left' written written' WriteFault = Cuts order bytes left left' written written'
+EndBytes order bytes left left' written written' NoMemory = WantsMemory order bytes left left'
+
+-- what an end says in any case
+abbrev pub EndCause : Result Order AtFault → Bool → ℕ → ℕ → Option (List ℕ) → Option (List ℕ) → Bool → ℕ → ℕ → End → Type 0
+EndCause order ended' faults faults' written written' settled' sink_faults sink_faults' Done = IsOk order × IsTrue settled'
+EndCause order ended' faults faults' written written' settled' sink_faults sink_faults' (Usage usage) = (order ≡ Err usage) × Keeps written written'
+EndCause order ended' faults faults' written written' settled' sink_faults sink_faults' (Refused fault) =
+    IsOk order × (IsCut fault → IsTrue ended') × Keeps written written'
+EndCause order ended' faults faults' written written' settled' sink_faults sink_faults' ReadFault = IsOk order × Rose faults faults' × Keeps written written'
+EndCause order ended' faults faults' written written' settled' sink_faults sink_faults' WriteFault = IsOk order × Rose sink_faults sink_faults'
+EndCause order ended' faults faults' written written' settled' sink_faults sink_faults' NoMemory = IsOk order × Keeps written written'
+
+-- a line on the notes: all of it and handed on, or a front of it where the count rose
+pub record Noted (old new : Option (List ℕ)) (settled' : Bool) (faults faults' : ℕ) (line : List ℕ) : Type 0 where
+  pub later : faults ≤ faults'
+  pub front : AppendsPrefix old new line
+  pub whole : Rose faults faults' ⊎ (Appends old new line × (0 < length line → IsTrue settled'))

@@ -1,0 +1,87 @@
+// The image: its HDU is found and judged, and its pixels are read.
+ghost use Rattle.std.specs.Prelude.{◌≡◌, ◌≤◌, ℕ, List, IfErr, IsErrOf, IsTrue, MatchResult};
+ghost use Rattle.std.specs.Option.{ForSome};
+ghost use Rattle.dev_io.specs.Causes.{Rose};
+ghost use Rattle.dev_io.specs.Streams.{Takes};
+ghost use Rattle.pixel_plane.specs.Images.{checked};
+ghost use Rattle.pixel_plane.specs.Verdicts.{verdict, verdict_by};
+ghost use Rattle.detect_top.specs.Faults.{stop_at_hdu, stop_at_plane, IsCutStop};
+ghost use Rattle.detect_top.specs.Streams.{ImageRead, ImageStopped};
+
+use crate::Fault;
+use comp_tree::Plane;
+use dev_io::Source;
+use fits_hdu::{Hdu, HduFault, find_hdu};
+use pixel_plane::{PlaneFault, check_image, read_plane};
+use std::alloc::Global;
+
+/// Why there is no image.
+#[derive(Clone, Copy, Debug, PartialEq, Eq)]
+pub(crate) enum Stop {
+    Refused(Fault),
+    ReadFault,
+    NoMemory,
+}
+
+impl Stop {
+    fn at_hdu(fault: HduFault) -> Stop
+        ensures { result ≡ stop_at_hdu fault }
+    {
+        Stop::Refused(match fault {
+            HduFault::NotFits => Fault::NotFits,
+            HduFault::TruncatedHeader => Fault::TruncatedHeader,
+            HduFault::BadKeyword { hdu, card } => Fault::BadKeyword { hdu, card },
+            HduFault::HeaderTooLong => Fault::HeaderTooLong,
+            HduFault::Groups => Fault::Groups,
+            HduFault::DataTooLong => Fault::DataTooLong,
+            HduFault::NoSuchHdu => Fault::NoSuchHdu,
+            HduFault::TruncatedSkip => Fault::TruncatedSkip,
+            HduFault::ReadFault => return Stop::ReadFault,
+        })
+    }
+
+    fn at_plane(fault: PlaneFault) -> Stop
+        ensures { result ≡ stop_at_plane fault }
+    {
+        match fault {
+            PlaneFault::TruncatedData => Stop::Refused(Fault::TruncatedData),
+            PlaneFault::ReadFault => Stop::ReadFault,
+            PlaneFault::OutOfMemory => Stop::NoMemory,
+        }
+    }
+}
+
+// Reads the image of an HDU whose data are the next bytes.
+fn read_found<S: Source>(alloc: Global, src: &mut S, hdu: &Hdu) -> Result<Plane, Stop>
+    ensures told { (bytes : List ℕ) (head : ℕ) → Takes bytes (S.left src.old) head → MatchResult result
+        (λ plane. ImageRead (verdict_by bytes hdu.now head (checked hdu.now)) bytes (S.left src.new) plane)
+        (λ stop. ImageStopped (verdict_by bytes hdu.now head (checked hdu.now)) bytes (S.left src.new) stop) }
+    ensures ended { IfErr result (λ stop. IsCutStop stop → IsTrue (S.ended src.new)) }
+    ensures later { S.faults src.old ≤ S.faults src.new }
+    ensures fault { IsErrOf result Stop.ReadFault → Rose (S.faults src.old) (S.faults src.new) }
+{
+    let shape = match check_image(hdu) {
+        Ok(shape) => shape,
+        Err(fault) => return Err(Stop::Refused(Fault::of_image(fault))),
+    };
+    match read_plane(alloc, src, hdu, shape) {
+        Ok(plane) => Ok(plane),
+        Err(fault) => Err(Stop::at_plane(fault)),
+    }
+}
+
+/// Finds the HDU with this number, judges it and reads its pixels.
+pub(crate) fn read_image<S: Source>(alloc: Global, src: &mut S, number: u16) -> Result<Plane, Stop>
+    ensures told { ForSome (S.left src.old) (λ bytes. MatchResult result
+        (λ plane. ImageRead (verdict bytes number) bytes (S.left src.new) plane)
+        (λ stop. ImageStopped (verdict bytes number) bytes (S.left src.new) stop)) }
+    ensures ended { IfErr result (λ stop. IsCutStop stop → IsTrue (S.ended src.new)) }
+    ensures later { S.faults src.old ≤ S.faults src.new }
+    ensures fault { IsErrOf result Stop.ReadFault → Rose (S.faults src.old) (S.faults src.new) }
+{
+    let hdu = match find_hdu(src, number) {
+        Ok(hdu) => hdu,
+        Err(fault) => return Err(Stop::at_hdu(fault)),
+    };
+    read_found(alloc, src, &hdu)
+}

@@ -1,0 +1,113 @@
+// The lines of a tree.
+ghost use Rattle.std.specs.Prelude.{◌≡◌, ◌≤◌, ◌++◌, length, OnOk, OnErr};
+ghost use Rattle.dev_io.specs.Causes.{HasCause};
+ghost use Rattle.dev_io.specs.Streams.{PutAppends, AppendsPrefix};
+ghost use Rattle.dev_io.specs.Blocks.{Moves};
+ghost use Rattle.detect_top.specs.Lines.{joined, parent_text as text_of_parent, node_line, tree_lines};
+
+use comp_tree::{NONE, NodeRow, Tree};
+use dev_io::{Block, Failed, Sink};
+use itoa::Buffer;
+
+/// A sink failed: what it was given is a front of what was to be written.
+#[derive(Clone, Copy, Debug, PartialEq, Eq)]
+pub struct WriteFault;
+
+// Lets these pieces wait, one behind the other.
+fn add_all<O: Sink>(sink: &mut O, block: &mut Block, pieces: &[&[u8]]) -> Result<(), Failed>
+    requires { length (joined pieces.now) ≤ 2880 }
+    ensures ok { OnOk result (Moves (O.written sink.old) (O.written sink.new) (block.old ++ joined pieces.now) block.new) }
+    ensures err { OnErr result (AppendsPrefix (O.written sink.old) (O.written sink.new) (block.old ++ joined pieces.now)) }
+    ensures cause { HasCause (O.faults sink.old) (O.faults sink.new) result }
+{
+    for piece in pieces {
+        if let Err(failed) = block.add(sink, piece) {
+            return Err(failed);
+        }
+    }
+    Ok(())
+}
+
+/// Writes a line of these pieces.
+pub(crate) fn put_line<O: Sink>(sink: &mut O, pieces: &[&[u8]]) -> Result<(), Failed>
+    requires { length (joined pieces.now) ≤ 2880 }
+    ensures bytes { PutAppends (O.written sink.old) (O.written sink.new) result (joined pieces.now) }
+    ensures cause { HasCause (O.faults sink.old) (O.faults sink.new) result }
+{
+    let mut block = Block::new();
+    if let Err(failed) = add_all(sink, &mut block, pieces) {
+        return Err(failed);
+    }
+    block.flush(sink)
+}
+
+// The number of a node's parent, or `-` at a root.
+fn parent_text(buffer: &mut Buffer, parent: u32) -> &str
+    ensures text { result.now ≡ text_of_parent parent }
+    ensures short { length result.now ≤ 40 }
+{
+    if parent == NONE {
+        "-"
+    } else {
+        buffer.format(parent)
+    }
+}
+
+// Lets the line of a node wait.
+fn add_node<O: Sink>(
+    sink: &mut O,
+    block: &mut Block,
+    number: usize,
+    row: NodeRow,
+    area: u32,
+) -> Result<(), Failed>
+    ensures ok { OnOk result (Moves (O.written sink.old) (O.written sink.new) (block.old ++ node_line number row area) block.new) }
+    ensures err { OnErr result (AppendsPrefix (O.written sink.old) (O.written sink.new) (block.old ++ node_line number row area)) }
+    ensures cause { HasCause (O.faults sink.old) (O.faults sink.new) result }
+{
+    let mut number_buffer = Buffer::new();
+    let mut level_buffer = Buffer::new();
+    let mut rep_buffer = Buffer::new();
+    let mut parent_buffer = Buffer::new();
+    let mut area_buffer = Buffer::new();
+    let pieces: [&[u8]; 10] = [
+        number_buffer.format(number).as_bytes(),
+        b" ",
+        level_buffer.format(row.level).as_bytes(),
+        b" ",
+        rep_buffer.format(row.rep).as_bytes(),
+        b" ",
+        parent_text(&mut parent_buffer, row.parent).as_bytes(),
+        b" ",
+        area_buffer.format(area).as_bytes(),
+        b"\n",
+    ];
+    add_all(sink, block, &pieces)
+}
+
+fn put_nodes<O: Sink>(sink: &mut O, rows: &[NodeRow], areas: &[u32]) -> Result<(), Failed>
+    requires { length areas.now ≡ length rows.now }
+    ensures bytes { PutAppends (O.written sink.old) (O.written sink.new) result (tree_lines rows.now areas.now) }
+    ensures cause { HasCause (O.faults sink.old) (O.faults sink.new) result }
+{
+    let mut block = Block::new();
+    for (number, row) in rows.iter().enumerate() {
+        if let Err(failed) = add_node(sink, &mut block, number, *row, areas[number]) {
+            return Err(failed);
+        }
+    }
+    block.flush(sink)
+}
+
+/// Writes a line for each node: its number, its level, the pixel that represents it, the number of its parent or `-` at a
+/// root, and its area in pixels. Pixels are counted from 0, row by row.
+pub fn put_tree<O: Sink>(sink: &mut O, tree: &Tree, areas: &[u32]) -> Result<(), WriteFault>
+    requires { length areas.now ≡ length tree.now.rows }
+    ensures bytes { PutAppends (O.written sink.old) (O.written sink.new) result (tree_lines tree.now.rows areas.now) }
+    ensures cause { HasCause (O.faults sink.old) (O.faults sink.new) result }
+{
+    match put_nodes(sink, tree.rows(), areas) {
+        Ok(()) => Ok(()),
+        Err(_) => Err(WriteFault),
+    }
+}

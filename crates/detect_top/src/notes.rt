@@ -1,0 +1,91 @@
+// The line on the notes.
+ghost use Rattle.std.specs.Prelude.{◌≡◌, ◌≤◌, length};
+ghost use Rattle.dev_io.specs.Causes.{HasCause};
+ghost use Rattle.dev_io.specs.Streams.{PutAppends};
+ghost use Rattle.detect_top.specs.Answers.{note_of, usage_line, line_at_card, refusal_line};
+ghost use Rattle.detect_top.specs.Runs.{Noted};
+
+use crate::fault::CardPlace;
+use crate::lines::put_line;
+use crate::top::End;
+use crate::{Fault, Usage};
+use dev_io::{Failed, Sink};
+use itoa::Buffer;
+
+fn put_usage<N: Sink>(notes: &mut N, usage: Usage) -> Result<(), Failed>
+    ensures bytes { PutAppends (N.written notes.old) (N.written notes.new) result (usage_line usage.word) }
+    ensures cause { HasCause (N.faults notes.old) (N.faults notes.new) result }
+{
+    let mut word = Buffer::new();
+    put_line(
+        notes,
+        &[b"usage: word ", word.format(usage.word).as_bytes(), b"\n"],
+    )
+}
+
+fn put_place<N: Sink>(
+    notes: &mut N,
+    number: &[u8],
+    name: &[u8],
+    place: CardPlace,
+) -> Result<(), Failed>
+    requires short_number { length number.now ≤ 40 }
+    requires short_name { length name.now ≤ 15 }
+    ensures bytes { PutAppends (N.written notes.old) (N.written notes.new) result (line_at_card number.now name.now place) }
+    ensures cause { HasCause (N.faults notes.old) (N.faults notes.new) result }
+{
+    let mut hdu = Buffer::new();
+    let mut card = Buffer::new();
+    let pieces: [&[u8]; 9] = [
+        b"refused: ",
+        number,
+        b" ",
+        name,
+        b" hdu ",
+        hdu.format(place.hdu).as_bytes(),
+        b" card ",
+        card.format(place.card).as_bytes(),
+        b"\n",
+    ];
+    put_line(notes, &pieces)
+}
+
+fn put_refusal<N: Sink>(notes: &mut N, fault: Fault) -> Result<(), Failed>
+    ensures bytes { PutAppends (N.written notes.old) (N.written notes.new) result (refusal_line fault) }
+    ensures cause { HasCause (N.faults notes.old) (N.faults notes.new) result }
+{
+    let mut number = Buffer::new();
+    let number = number.format(fault.number()).as_bytes();
+    let name = fault.name().as_bytes();
+    match fault.place() {
+        Some(place) => put_place(notes, number, name, place),
+        None => put_line(notes, &[b"refused: ", number, b" ", name, b"\n"]),
+    }
+}
+
+fn put_note<N: Sink>(notes: &mut N, end: End) -> Result<(), Failed>
+    ensures bytes { PutAppends (N.written notes.old) (N.written notes.new) result (note_of end) }
+    ensures cause { HasCause (N.faults notes.old) (N.faults notes.new) result }
+{
+    match end {
+        End::Done => Ok(()),
+        End::Usage(usage) => put_usage(notes, usage),
+        End::Refused(fault) => put_refusal(notes, fault),
+        End::ReadFault => notes.put(b"read fault\n"),
+        End::WriteFault => notes.put(b"write fault\n"),
+        End::NoMemory => notes.put(b"out of memory\n"),
+    }
+}
+
+/// Tells how the run ended. What the notes answer changes nothing.
+pub(crate) fn tell<N: Sink>(notes: &mut N, end: End)
+    ensures { Noted (N.written notes.old) (N.written notes.new) (N.settled notes.new) (N.faults notes.old) (N.faults notes.new) (note_of end) }
+{
+    if matches!(end, End::Done) {
+        return;
+    }
+    if let Err(_) = put_note(notes, end) {
+        return;
+    }
+    let _ = notes.done();
+}

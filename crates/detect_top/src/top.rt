@@ -1,0 +1,227 @@
+// The run as a whole.
+ghost use Rattle.std.specs.Prelude.{◌≡◌, ◌<◌, ◌≤◌, ◌↔◌, ℕ, List, length, Ok, IfOk, IfErr, MatchResult, IsErrOf, OnOk, IsErr, IsTrue};
+ghost use Rattle.std.specs.Option.{ForSome};
+ghost use Rattle.std.specs.Io.KnownBytes.{Appends, Keeps};
+ghost use Rattle.dev_io.specs.Causes.{Rose, HasCause};
+ghost use Rattle.dev_io.specs.Streams.{PutAppends};
+ghost use Rattle.pixel_plane.specs.Verdicts.{verdict};
+ghost use Rattle.detect_top.specs.Words.{texts, order_of, HasCrew};
+ghost use Rattle.detect_top.specs.Faults.{IsCutStop};
+ghost use Rattle.detect_top.specs.Lines.{tree_lines};
+ghost use Rattle.detect_top.specs.Streams.{ImageStopped};
+ghost use Rattle.detect_top.specs.Answers.{answer, note_of, status_of};
+ghost use Rattle.detect_top.specs.Runs.{Noted, Took, TookAtMost, NodesRead, Untouched, Tells, EndBytes, EndCause, LeavesInput};
+ghost use Rattle.detect_top.specs.Headline.{ForBytes, IsComplete, IsStatus, CutsAnswer, MayWantMemory, ReadFails, TellsEnd};
+
+use crate::areas::areas;
+use crate::component::component_tree;
+use crate::image::{Stop, read_image};
+use crate::lines::put_tree;
+use crate::notes::tell;
+use crate::words::read_words;
+use crate::{Fault, Job, Order, Usage, WriteFault};
+use comp_tree::Tree;
+use dev_io::{Sink, Source};
+use std::alloc::Global;
+use std::thread::Threads;
+use strip_crew::Gate;
+
+/// How a run ends.
+#[derive(Clone, Copy, Debug, PartialEq, Eq)]
+pub(crate) enum End {
+    Done,
+    Usage(Usage),
+    Refused(Fault),
+    ReadFault,
+    WriteFault,
+    NoMemory,
+}
+
+impl End {
+    fn status(self) -> u8
+        ensures { result ≡ status_of self }
+    {
+        match self {
+            End::Done => 0,
+            End::Usage(_) => 1,
+            End::Refused(_) => 2,
+            End::ReadFault => 3,
+            End::WriteFault => 4,
+            End::NoMemory => 5,
+        }
+    }
+}
+
+// A tree, and the area of each of its nodes.
+#[derive(Drop)]
+struct Nodes {
+    tree: Tree,
+    areas: Vec<u32>,
+}
+
+// Reads the image, and makes its tree.
+fn read_nodes<R: Threads + Sync, S: Source, G: Gate>(
+    rt: &R,
+    alloc: Global,
+    order: Order,
+    input: &mut S,
+    gate: &G,
+) -> Result<Nodes, Stop>
+    requires crew { HasCrew order }
+    ensures told { ForSome (S.left input.old) (λ bytes. MatchResult result
+        (λ nodes. NodesRead order bytes (S.left input.new) nodes.tree.rows nodes.areas.items)
+        (λ stop. ImageStopped (verdict bytes order.hdu) bytes (S.left input.new) stop)) }
+    ensures one_each { IfOk result (λ nodes. length nodes.areas.items ≡ length nodes.tree.rows) }
+    ensures reads { IsErrOf result Stop.ReadFault → Rose (S.faults input.old) (S.faults input.new) }
+    ensures ended { IfErr result (λ stop. IsCutStop stop → IsTrue (S.ended input.new)) }
+    ensures later { S.faults input.old ≤ S.faults input.new }
+{
+    let plane = match read_image(alloc, input, order.hdu) {
+        Ok(plane) => plane,
+        Err(stop) => return Err(stop),
+    };
+    let Ok(tree) = component_tree(rt, alloc, &plane, order, gate) else {
+        return Err(Stop::NoMemory);
+    };
+    let Ok(areas) = areas(alloc, &plane, &tree) else {
+        return Err(Stop::NoMemory);
+    };
+    Ok(Nodes { tree, areas })
+}
+
+// Writes the list of nodes, and hands all of it on.
+fn write_nodes<O: Sink>(output: &mut O, nodes: &Nodes) -> Result<(), WriteFault>
+    requires { length nodes.now.areas.items ≡ length nodes.now.tree.rows }
+    ensures bytes { PutAppends (O.written output.old) (O.written output.new) result (tree_lines nodes.now.tree.rows nodes.now.areas.items) }
+    ensures settled { OnOk result (IsTrue (O.settled output.new)) }
+    ensures cause { HasCause (O.faults output.old) (O.faults output.new) result }
+{
+    if let Err(fault) = put_tree(output, &nodes.tree, &nodes.areas) {
+        return Err(fault);
+    }
+    match output.done() {
+        Ok(()) => Ok(()),
+        Err(_) => Err(WriteFault),
+    }
+}
+
+// Does the work of `tree`.
+fn list_nodes<R: Threads + Sync, S: Source, O: Sink, G: Gate>(
+    rt: &R,
+    alloc: Global,
+    order: Order,
+    input: &mut S,
+    output: &mut O,
+    gate: &G,
+) -> End
+    requires job { order.job ≡ Job.Tree }
+    requires crew { HasCrew order }
+    ensures bytes { (bytes : List ℕ) → Tells (Ok order) (S.left input.old) bytes →
+        EndBytes (Ok order) bytes (S.left input.old) (S.left input.new) (O.written output.old) (O.written output.new) result }
+    ensures cause { EndCause (Ok order) (S.ended input.new) (S.faults input.old) (S.faults input.new)
+        (O.written output.old) (O.written output.new) (O.settled output.new) (O.faults output.old) (O.faults output.new) result }
+    ensures read_later { S.faults input.old ≤ S.faults input.new }
+    ensures write_later { O.faults output.old ≤ O.faults output.new }
+{
+    let nodes = match read_nodes(rt, alloc, order, input, gate) {
+        Ok(nodes) => nodes,
+        Err(Stop::Refused(fault)) => return End::Refused(fault),
+        Err(Stop::ReadFault) => return End::ReadFault,
+        Err(Stop::NoMemory) => return End::NoMemory,
+    };
+    match write_nodes(output, &nodes) {
+        Ok(()) => End::Done,
+        Err(_) => End::WriteFault,
+    }
+}
+
+fn work<R: Threads + Sync, S: Source, O: Sink, G: Gate>(
+    rt: &R,
+    alloc: Global,
+    words: &[&str],
+    input: &mut S,
+    output: &mut O,
+    gate: &G,
+) -> End
+    ensures bytes { (bytes : List ℕ) → Tells (order_of (texts words.now)) (S.left input.old) bytes →
+        EndBytes (order_of (texts words.now)) bytes (S.left input.old) (S.left input.new)
+        (O.written output.old) (O.written output.new) result }
+    ensures cause { EndCause (order_of (texts words.now)) (S.ended input.new) (S.faults input.old) (S.faults input.new)
+        (O.written output.old) (O.written output.new) (O.settled output.new) (O.faults output.old) (O.faults output.new) result }
+    ensures read_later { S.faults input.old ≤ S.faults input.new }
+    ensures write_later { O.faults output.old ≤ O.faults output.new }
+    ensures untouched { LeavesInput (order_of (texts words.now)) → Untouched S.left S.ended S.faults input.old input.new }
+{
+    let order = match read_words(words) {
+        Ok(order) => order,
+        Err(usage) => return End::Usage(usage),
+    };
+    match order.job {
+        Job::Tree => list_nodes(rt, alloc, order, input, output, gate),
+    }
+}
+
+/// Does what the words say, over this input. The status is 0 where all was written, 1 where the words give no order, 2
+/// where the input is refused, 3 at a read fault, 4 at a write fault and 5 where memory is wanted.
+///
+/// All memory is taken before the first byte of output, which comes in pieces of at most 2,880 bytes. The notes get one
+/// line where the status isn't 0.
+pub fn run<R: Threads + Sync, S: Source, O: Sink, N: Sink, G: Gate>(
+    rt: &R,
+    alloc: Global,
+    words: &[&str],
+    input: &mut S,
+    output: &mut O,
+    notes: &mut N,
+    gate: &G,
+) -> u8
+    // The status is the answer's, or a device's fault or want of memory came between.
+    ensures status { ForBytes (texts words.now) (S.left input.old) (λ bytes.
+        IsStatus (answer (texts words.now) bytes) result) }
+
+    // At the answer's own status its output was written, and its bytes were taken.
+    ensures writes { result < 3 → ForBytes (texts words.now) (S.left input.old) (λ bytes.
+        Appends (O.written output.old) (O.written output.new) (answer (texts words.now) bytes).output) }
+    ensures takes { result < 3 → ForBytes (texts words.now) (S.left input.old) (λ bytes.
+        Took (S.left input.old) (S.left input.new) (answer (texts words.now) bytes).taken) }
+    ensures settled { result ≡ 0 → IsTrue (O.settled output.new) }
+
+    // A read fault comes only where the input's count rose.
+    ensures read_fault { result ≡ 3 → ReadFails (texts words.now) (S.faults input.old) (S.faults input.new)
+        (O.written output.old) (O.written output.new) }
+    ensures read_so_far { result ≡ 3 → ForBytes (texts words.now) (S.left input.old) (λ bytes.
+        TookAtMost (S.left input.old) (S.left input.new) (answer (texts words.now) bytes).taken) }
+
+    // A write fault comes only where the output's count rose.
+    ensures write_fault { result ≡ 4 → Rose (O.faults output.old) (O.faults output.new) }
+    ensures written_so_far { result ≡ 4 → ForBytes (texts words.now) (S.left input.old) (λ bytes.
+        CutsAnswer (answer (texts words.now) bytes) (O.written output.old) (O.written output.new)) }
+    ensures taken_before { result ≡ 4 → ForBytes (texts words.now) (S.left input.old) (λ bytes.
+        Took (S.left input.old) (S.left input.new) (answer (texts words.now) bytes).taken) }
+
+    // Memory is wanted only for an image or a cut one, and before anything is written.
+    ensures memory { result ≡ 5 → Keeps (O.written output.old) (O.written output.new) }
+    ensures memory_wanted { result ≡ 5 → ForBytes (texts words.now) (S.left input.old) (λ bytes.
+        MayWantMemory (texts words.now) bytes (S.left input.old) (S.left input.new)) }
+
+    // The notes get one line, and change nothing.
+    ensures noted { (end : End) × TellsEnd result (S.ended input.new) (N.written notes.old) (N.written notes.new)
+        (N.settled notes.new) (N.faults notes.old) (N.faults notes.new) end }
+    ensures notes { result < 3 → ForBytes (texts words.now) (S.left input.old) (λ bytes.
+        Noted (N.written notes.old) (N.written notes.new) (N.settled notes.new) (N.faults notes.old) (N.faults notes.new)
+        (note_of (answer (texts words.now) bytes).end)) }
+
+    // Without an order the input is left alone.
+    ensures untouched { LeavesInput (order_of (texts words.now)) → Untouched S.left S.ended S.faults input.old input.new }
+
+    // Where no count rose the status is the answer's, or memory is wanted where it may be.
+    ensures complete { (Rose (S.faults input.old) (S.faults input.new) → ⊥) → (Rose (O.faults output.old) (O.faults output.new) → ⊥) →
+        ForBytes (texts words.now) (S.left input.old) (λ bytes. IsComplete (answer (texts words.now) bytes) result) }
+
+    // Words without an order give status 1, and no others do.
+    ensures usage { IsErr (order_of (texts words.now)) ↔ (result ≡ 1) }
+{
+    let end = work(rt, alloc, words, input, output, gate);
+    tell(notes, end);
+    end.status()
+}

@@ -1,0 +1,12 @@
+pub mod Lists
+pub mod Counting
+pub mod Core
+pub mod History
+pub mod Keeping
+pub mod Working
+pub mod Jobs
+pub mod Groups
+pub mod Crews
+pub mod Copying
+pub mod EvenCuts
+pub mod Flooded

@@ -1,0 +1,24 @@
+use Rattle.std.proofs.Common.{◌≡◌, ℕ, ◌*◌, ◌/◌, ◌<◌, ◌≤◌, ◌++◌, List, [], ◌∷◌, sym, ap, ◌∙◌, subst, arith}
+use Rattle.tree_join.specs.Cuts.{IsCut}
+use Rattle.strip_crew.specs.Run.{rows_of_cut}
+use Rattle.strip_crew.proofs.EvenCuts.{rows_none, rows_more, even_is_cut}
+use Rattle.strip_crew.proofs.cut.even_cut.Goals as goal
+
+pub loop-i-init : goal.loop-i-init
+loop-i-init c = (c.in_ok-cut.ensures.items ∙ rows_none c.args.height c.min-count.result, c.in_ok-cut.ensures.len, c.in_ok-cut.ensures.capacity)
+
+pub loop-i-preserved : goal.loop-i-preserved
+loop-i-preserved c =
+    let inv = c.loop-i.invariant in let push = c.push_reserved.ensures in (
+      push.items ∙ (ap (λ (l : List ℕ). l ++ c.loop-i.i * c.args.height / c.min-count.result ∷ []) inv.0 ∙ sym (rows_more c.args.height c.min-count.result c.loop-i.i)),
+      (let more = push.len in let was = inv.1 in omega arith),
+      (let same = push.capacity in let was = inv.2 in omega arith),
+    )
+
+pub returns-clause-cut : goal.returns-clause-cut
+returns-clause-cut c =
+    let n = c.min-count.result in
+    let all : c.loop-i.i ≡ n = grind arith in
+    let some_strip : 0 < n = grind arith in
+    let few : n ≤ c.args.height = grind arith in
+    subst (IsCut c.args.height) (sym (c.loop-i.invariant.0 ∙ ap (rows_of_cut c.args.height n) all)) (even_is_cut c.args.height n some_strip few)

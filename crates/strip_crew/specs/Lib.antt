@@ -1,0 +1,5 @@
+pub mod Run
+pub mod Counting
+pub mod Core
+pub mod Claims
+pub mod Copied

@@ -1,0 +1,204 @@
+//! A crew of workers that floods all strips of a plane.
+
+ghost use Rattle.std.specs.Prelude.{◌≡◌, ℕ, ◌+◌, ◌-◌, ◌*◌, ◌++◌, ◌<◌, ◌≤◌, List, [], ◌∷◌, All, IfOk, IsSomeAnd, length, vec_len, vec_capacity, false};
+ghost use Rattle.std.specs.Mem.Slots.{slots_items, slots_len, IsFull};
+ghost use Rattle.comp_tree.specs.Grid.{IsAdjacency};
+ghost use Rattle.tree_join.specs.Cuts.{IsCut};
+ghost use Rattle.comp_tree.specs.Forest.{IsForest, StandsFor};
+ghost use Rattle.strip_crew.specs.Copied.{AreCopied};
+ghost use Rattle.strip_crew.specs.Run.{plan_of, run_with};
+ghost use Rattle.strip_crew.specs.Counting.{fresh};
+ghost use Rattle.strip_crew.specs.Claims.{view, run_of, IsOver, IsRecruit, IsVeteran, HasPast, HasSettled, AreFlooded};
+
+use crate::claiming::worker;
+use crate::cut::join_strips;
+use crate::gate::Gate;
+use crate::prepare::prepare_all;
+use crate::rule::{ClaimSeat, ClaimTable, Dismiss, Key, Recruit};
+use atomic_table::{Closed, Refused};
+use comp_tree::{Connect, Forest, Plane};
+use dev_io::OutOfMemory;
+use std::alloc::Global;
+use std::snapshot::Snapshot;
+use std::thread;
+use std::thread::Threads;
+use strip_flood::StripJob;
+
+// A seat for each worker, out of the first one, in places that have room.
+fn recruit(
+    table: &ClaimTable,
+    seat: ClaimSeat,
+    workers: u32,
+    places: Vec<Option<ClaimSeat>>,
+) -> Vec<Option<ClaimSeat>>
+    requires table { seat.table_id ≡ table.now.shared.table_id }
+    requires words { table.now.shared.table_id.words ≡ 2 }
+    requires first { seat.me ≡ (view (fresh workers) (run_of table.now.shared.key), []) }
+    requires workers { 0 < workers }
+    requires empty { vec_len places ≡ 0 }
+    requires room { workers ≤ vec_capacity places }
+    ensures count { vec_len result ≡ workers }
+    ensures each { All (IsRecruit table.now.shared.table_id (run_of table.now.shared.key)) result.items }
+{
+    let mut seat = seat;
+    let mut places = places;
+    for _ in 1..workers {
+        let next = table.shared.split_seat::<Recruit>(&mut seat);
+        places.push_reserved(Some(next));
+    }
+    places.push_reserved(Some(seat));
+    places
+}
+
+// Runs the worker whose seat lies in this place, and puts the seat back.
+fn work<G: Gate>(table: &ClaimTable, place: &mut Option<ClaimSeat>, plane: &Plane, gate: &G)
+    requires words { table.now.shared.table_id.words ≡ 2 }
+    requires plane { IsOver (run_of table.now.shared.key) plane.now }
+    requires recruit { IsRecruit table.now.shared.table_id (run_of table.now.shared.key) place.old }
+    ensures { IsVeteran table.now.shared.table_id (run_of table.now.shared.key) place.new }
+{
+    if let Some(seat) = place.take() {
+        *place = Some(worker(table, seat, plane, gate));
+    }
+}
+
+// Runs all workers, each in a thread of its own where one can be made.
+fn run_workers<R: Threads + Sync, G: Gate>(
+    rt: &R,
+    table: &ClaimTable,
+    places: &mut [Option<ClaimSeat>],
+    workers: u32,
+    plane: &Plane,
+    gate: &G,
+)
+    requires workers { 0 < workers }
+    requires words { table.now.shared.table_id.words ≡ 2 }
+    requires plane { IsOver (run_of table.now.shared.key) plane.now }
+    requires recruits { All (IsRecruit table.now.shared.table_id (run_of table.now.shared.key)) places.old }
+    ensures { All (IsVeteran table.now.shared.table_id (run_of table.now.shared.key)) places.new }
+{
+    thread::for_each_mut(
+        rt,
+        places,
+        workers as usize,
+        &|_, place: &mut Option<ClaimSeat>|
+            requires { (table.now.shared.table_id.words ≡ 2)
+                × IsOver (run_of table.now.shared.key) plane.now
+                × IsRecruit table.now.shared.table_id (run_of table.now.shared.key) place.now }
+            ensures { IsVeteran table.entry.now.shared.table_id (run_of table.entry.now.shared.key) place.exit.now }
+        { work(table, place, plane, gate) },
+    );
+}
+
+// Joins the seats of all workers into one.
+fn dismiss(table: &ClaimTable, places: Vec<Option<ClaimSeat>>) -> Option<ClaimSeat>
+    requires words { table.now.shared.table_id.words ≡ 2 }
+    requires some { 0 < vec_len places }
+    requires each { All (IsVeteran table.now.shared.table_id (run_of table.now.shared.key)) places.items }
+    ensures { IsSomeAnd result (HasPast table.now.shared.table_id (vec_len places)) }
+{
+    let mut places = places;
+    let mut last = places.pop()??;
+    while let Some(place) = places.pop() {
+        let seat = place?;
+        table.shared.join_seat::<Dismiss>(&mut last, seat);
+    }
+    Some(last)
+}
+
+// Closes the table, once the seats of all workers are one.
+fn close_crew(table: ClaimTable, last: ClaimSeat) -> Closed<StripJob, Global>
+    requires last { HasPast table.shared.table_id (run_of table.shared.key).workers last }
+    ensures full { IsFull result.slots }
+    ensures settled { HasSettled (run_of table.shared.key) (slots_items result.words) (slots_items result.slots) }
+    ensures count { slots_len result.slots ≡ table.shared.table_id.slots }
+{
+    table.close_with(last)
+}
+
+// Puts links behind others, where there is room.
+fn append_links(links: &mut Vec<u32>, more: &[u32])
+    requires { vec_len links.old + length more.now ≤ vec_capacity links.old }
+    ensures items { links.new.items ≡ links.old.items ++ more.now }
+    ensures room { vec_capacity links.old ≤ vec_capacity links.new }
+{
+    let Ok(()) = links.extend_from_slice(more) else {
+        unreachable!()
+    };
+}
+
+// Copies the links of all jobs, in order.
+fn copy_links(
+    closed: Closed<StripJob, Global>,
+    links: Vec<u32>,
+    plane: &Plane,
+    connect: Connect,
+    cut: &[u32],
+) -> Vec<u32>
+    requires full { IsFull closed.slots }
+    requires cut { IsCut plane.now.shape.height cut.now }
+    requires jobs { AreFlooded (plan_of plane.now connect cut.now) (slots_items closed.slots) }
+    requires empty { links.items ≡ [] }
+    requires room { length plane.now.values ≤ vec_capacity links }
+    ensures { AreCopied (plan_of plane.now connect cut.now) (length cut.now) result.items }
+{
+    let mut closed = closed;
+    let mut links = links;
+    let _shape = plane.shape();
+    for i in 0..closed.slot_count() {
+        let job = closed.take(i);
+        append_links(&mut links, job.parents());
+    }
+    closed.free();
+    links
+}
+
+/// Floods the plane in strips and joins them: a forest of the plane that stands for all its adjacencies, whatever the
+/// cut, the number of workers and the schedule.
+///
+/// `cut` has the first row of each strip: it begins with 0 and rises, up to a row of the plane (`even_cut` gives such
+/// a one). There are from 1 to 64 workers, each in a thread of its own where one can be made; else they run one after
+/// another. All memory is taken before the first of them starts: the jobs of the strips (prepared in parallel), the
+/// table of claims, a place for each worker's seat, and the links.
+pub fn flood_all<R: Threads + Sync, G: Gate>(
+    rt: &R,
+    alloc: Global,
+    plane: &Plane,
+    connect: Connect,
+    cut: &[u32],
+    workers: u32,
+    gate: &G,
+) -> Result<Forest, OutOfMemory>
+    requires cut { IsCut plane.now.shape.height cut.now }
+    requires some { 0 < workers }
+    requires most { workers ≤ 64 }
+    ensures count { IfOk result (λ forest. length forest ≡ length plane.now.values) }
+    ensures forest { IfOk result (λ forest. IsForest plane.now.values 0 forest) }
+    ensures stands { IfOk result (λ forest. StandsFor plane.now.values 0 forest
+        (IsAdjacency plane.now.values plane.now.shape.width connect)) }
+{
+    let shape = plane.shape();
+    let jobs = prepare_all(rt, alloc, plane, connect, cut, workers)?;
+    let links = Vec::with_capacity(alloc, shape.pixels() as usize)?;
+    let places = Vec::with_capacity(alloc, workers as usize)?;
+    let mut rows = Vec::with_capacity(alloc, cut.len())?;
+    append_links(&mut rows, cut);
+    let key = Key {
+        plane: Snapshot::of(plane),
+        connect,
+        cut: rows,
+        workers,
+    };
+    let (table, seat) = match ClaimTable::new(alloc, &[0, 0], jobs, &key) {
+        Ok(made) => made,
+        Err(Refused { slots: _ }) => return Err(OutOfMemory),
+    };
+    let mut places = recruit(&table, seat, workers, places);
+    run_workers(rt, &table, &mut places, workers, plane, gate);
+    let Some(last) = dismiss(&table, places) else {
+        unreachable!()
+    };
+    let mut links = copy_links(close_crew(table, last), links, plane, connect, cut);
+    join_strips(&mut links, plane, connect, cut);
+    Ok(Forest::of(links))
+}
