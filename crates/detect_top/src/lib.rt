@@ -16,6 +16,8 @@ pub use top::run;
 pub use words::{Job, Order, Usage, read_words};
 
 #[cfg(test)]
+mod header_tests;
+#[cfg(test)]
 mod strips_tests;
 #[cfg(test)]
 mod tests;
