@@ -43,7 +43,8 @@ def commands(maxdetect, folder):
     tree = [maxdetect, "tree", "--connect", "8"]
     yield "maxdetect, one strip", tree
     for workers in WORKERS:
-        yield f"maxdetect, {STRIPS} strips, {workers} workers", tree + ["--strips", str(STRIPS), "--workers", str(workers)]
+        crew = "1 worker" if workers == 1 else f"{workers} workers"
+        yield f"maxdetect, {STRIPS} strips, {crew}", tree + ["--strips", str(STRIPS), "--workers", str(workers)]
 
 
 def main():
