@@ -3,9 +3,13 @@
 //! The pixels of an adjacency are joined by walking up from both at once, as two sorted lists are merged: the later of the
 //! two pixels at hand is hung under the earlier one, unless its own link lies between them, and the walk goes on with
 //! what is left to join. No walk is longer than the number of defined pixels.
+//!
+//! The moves hang pixels of one value under each other, one after the other, so ways through one value would grow along a
+//! boundary and from strip to strip. Before each move such a way is halved, as in a union-find (Tarjan and van Leeuwen
+//! 1984).
 #![tactic(auto)]
 
-ghost use Rattle.std.specs.Prelude.{◌≡◌, ◌≢◌, ℕ, ◌+◌, ◌-◌, ◌*◌, ◌<◌, ◌≤◌, length, List, MatchOption};
+ghost use Rattle.std.specs.Prelude.{◌≡◌, ◌≢◌, ℕ, ◌+◌, ◌-◌, ◌*◌, ◌<◌, ◌≤◌, length, List, MatchOption, IfSome};
 ghost use Rattle.comp_tree.specs.Joined.{Or, Only, Has};
 ghost use Rattle.comp_tree.specs.Counts.{count_defined};
 ghost use Rattle.comp_tree.specs.Forest.{StandsFor, IsEarlier, IsForest, IsPixel, IsLink, JoinSame, IsWithin};
@@ -19,6 +23,51 @@ mod tests;
 use comp_tree::{Connect, NONE, Plane};
 use dev_io::Steps;
 use std::sync::ledger::Ledger;
+
+// Where the link of `p` leads to a pixel that is linked within its own value, `p` is linked past it: straight to that
+// pixel's link, which is then told. The two pixels lie in the same threshold sets, so nothing comes apart.
+fn link_past(parents: &mut [u32], plane: &Plane, first: u32, p: u32) -> Option<u32>
+    requires rows { first + length parents.old ≤ length plane.now.values }
+    requires small { length plane.now.values ≤ 16777216 }
+    requires forest { IsForest plane.now.values first parents.old }
+    requires p_in { IsPixel plane.now.values first (length parents.old) p }
+    ensures forest { IsForest plane.now.values first parents.new }
+    ensures same { JoinSame plane.now.values first (length parents.old)
+        (IsLink first parents.new)
+        (IsLink first parents.old) }
+    ensures pixel { IfSome result (λ next. IsPixel plane.now.values first (length parents.old) next) }
+    ensures earlier { IfSome result (λ next. IsEarlier plane.now.values next p) }
+{
+    let place = (p - first) as usize;
+    let link = parents[place];
+    if link == NONE {
+        return None;
+    }
+    let next = parents[(link - first) as usize];
+    if next == NONE || !plane.is_at_least(plane.level(link), next) {
+        return None;
+    }
+    parents[place] = next;
+    Some(next)
+}
+
+// Shortens the way up from `p`: each pixel met is linked past its link, up to the first whose link is the last pixel of
+// its value. So of a way through one value every second pixel is left out.
+fn shorten(parents: &mut [u32], plane: &Plane, first: u32, p: u32)
+    requires rows { first + length parents.old ≤ length plane.now.values }
+    requires small { length plane.now.values ≤ 16777216 }
+    requires forest { IsForest plane.now.values first parents.old }
+    requires p_in { IsPixel plane.now.values first (length parents.old) p }
+    ensures forest { IsForest plane.now.values first parents.new }
+    ensures same { JoinSame plane.now.values first (length parents.old)
+        (IsLink first parents.new)
+        (IsLink first parents.old) }
+{
+    let mut at = p;
+    while let Some(next) = link_past(parents, plane, first, at) {
+        at = next;
+    }
+}
 
 // One move of a walk, where `b` is earlier than `a`. It gives the two pixels that are left to join, if any.
 // Where the link of `a` is not earlier than `b`, `a` stays where it is: `b` belongs further up on its way.
@@ -47,7 +96,8 @@ fn move_later(parents: &mut [u32], plane: &Plane, first: u32, a: u32, b: u32) ->
     }
 }
 
-// One move of a walk from `a` and `b`, two different pixels. It gives the two pixels that are left to join, if any.
+// One move of a walk from `a` and `b`, two different pixels, once the way of the later one is shortened. It gives the
+// two pixels that are left to join, if any.
 fn turn(parents: &mut [u32], plane: &Plane, first: u32, a: u32, b: u32) -> Option<(u32, u32)>
     requires rows { first + length parents.old ≤ length plane.now.values }
     requires small { length plane.now.values ≤ 16777216 }
@@ -61,8 +111,10 @@ fn turn(parents: &mut [u32], plane: &Plane, first: u32, a: u32, b: u32) -> Optio
         (λ rest. IsMoved plane.now.values first parents.old parents.new a b rest) }
 {
     if plane.is_earlier(a, b) {
+        shorten(parents, plane, first, b);
         move_later(parents, plane, first, b, a)
     } else {
+        shorten(parents, plane, first, a);
         move_later(parents, plane, first, a, b)
     }
 }
@@ -199,8 +251,8 @@ fn join_rows<L: Ledger>(
 ///
 /// `parents` holds the links of the pixels of some rows from the start of `first_row` on: pixel p stands at place
 /// `p - first_row * width`. What they joined before stays joined, whether these rows were just flooded or have been
-/// joined with others, so boundaries can be joined in any order. `moves` counts each move of each walk. It takes no
-/// memory.
+/// joined with others, so boundaries can be joined in any order. `moves` counts each move of each walk, and not the links
+/// that are shortened before it. It takes no memory.
 pub fn join_row<L: Ledger>(
     parents: &mut [u32],
     plane: &Plane,

@@ -203,3 +203,49 @@ fn joined_strips_have_the_plain_tree(rt: HostRuntime) {
         }
     }
 }
+
+// Shortens the way up from `p`, if the links are a forest and `p` is defined.
+fn shorten_from(parents: &mut [u32], plane: &Plane, p: u32) -> bool {
+    let shape = plane.shape();
+    if parents.len() != shape.pixels() as usize || !is_forest(plane, 0, parents) {
+        return false;
+    }
+    if p >= shape.pixels() || !plane.is_defined(p) {
+        return false;
+    }
+    shorten(parents, plane, 0, p);
+    true
+}
+
+#[test]
+fn ways_through_one_value_are_halved(rt: HostRuntime) {
+    // the values, the links before, the pixel whose way is shortened, and the links after
+    let cases: [(&[i64], &[u32], u32, &[u32]); 4] = [
+        // one value: every second pixel is left out
+        (
+            &[4, 4, 4, 4, 4, 4, 4, 4, 4],
+            &[NONE, 0, 1, 2, 3, 4, 5, 6, 7],
+            8,
+            &[NONE, 0, 0, 2, 2, 4, 4, 6, 6],
+        ),
+        // two values: 3, the last pixel of the higher one, is linked past 2
+        (
+            &[1, 1, 1, 2, 2, 2],
+            &[NONE, 0, 1, 2, 3, 4],
+            5,
+            &[NONE, 0, 1, 1, 3, 3],
+        ),
+        // the link is the last pixel of its value
+        (&[1, 2, 3], &[NONE, 0, 1], 2, &[NONE, 0, 1]),
+        // and a pixel without a link
+        (&[3, -1, 3], &[NONE, NONE, NONE], 2, &[NONE, NONE, NONE]),
+    ];
+    for (number, (values, links, p, wanted)) in cases.iter().enumerate() {
+        let shape = Shape::of(values.len() as u32, 1).expect(&rt, "a shape");
+        let plane = plane_of(rt.alloc(), shape, values).expect(&rt, "memory");
+        let mut parents = links.to_vec(rt.alloc()).expect(&rt, "memory");
+        let shortened = shorten_from(&mut parents, &plane, *p);
+        assert!(rt; shortened, "case {number}");
+        assert!(rt; parents.as_slice() == *wanted, "case {number}");
+    }
+}
