@@ -1,3 +1,4 @@
 pub mod Readable
 pub mod Decoding
 pub mod Planes
+pub mod Storable

@@ -1,5 +1,5 @@
 -- The numbers that an image stores (FITS Standard 4.0, section 5.2), and the plane of their values (section 4.4.2.5, BZERO and BLANK).
-use Rattle.std.specs.Prelude.{ℕ, ◌*◌, ◌/◌, Bool, false, ◌==◌, ◌||◌, List, drop, map, ℤ, pos, ◌+ℤ◌, Option, Some, None, unsigned_abs, slice_index, if◌then◌else◌}
+use Rattle.std.specs.Prelude.{ℕ, ◌*◌, ◌/◌, Bool, false, ◌==◌, ◌||◌, List, drop, map, ℤ, pos, ◌+ℤ◌, ◌≤ℤ◌, neg_ℤ, ◌^◌, ◌≡◌, slice_get, Option, Some, None, unsigned_abs, slice_index, if◌then◌else◌}
 use Rattle.std.specs.List.{range_with_len}
 use Rattle.std.specs.Ordering.{int_eq}
 use Rattle.std.specs.Int.{w16, w32, cast_signed}
@@ -53,3 +53,12 @@ pixel_value hdu bytes p = pixel_at (size_of hdu) (whole_or_zero hdu.bzero) (blan
 unfoldable pub stored_plane : Hdu → Shape → List ℕ → Raster
 stored_plane hdu shape bytes =
     record { shape = shape; values = map (pixel_value hdu bytes) (range_with_len 0 (shape.width * shape.height)) }
+
+-- what a stored number and BZERO together can be: from -2 ^ 33 to 2 ^ 33
+pub record IsStorable (value : ℤ) : Type 0 where
+  pub low : neg_ℤ (pos (2 ^ 33)) ≤ℤ value
+  pub high : value ≤ℤ pos (2 ^ 33)
+
+-- each value of a plane is so
+pub record HasStorableValues (values : List (Option ℤ)) : Type 0 where
+  pub each : (p : ℕ) (v : ℤ) → slice_get values p ≡ Some (Some v) → IsStorable v

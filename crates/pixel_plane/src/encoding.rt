@@ -2,7 +2,7 @@
 ghost use Rattle.std.specs.Prelude.{◌≡◌, ◌≤◌, length, IsTrue, None, IfSome, ◌≤ℤ◌, pos, neg_ℤ, ◌^◌};
 ghost use Rattle.comp_tree.specs.Limits.{IsWithinRange};
 ghost use Rattle.pixel_plane.specs.Images.{image_fault};
-ghost use Rattle.pixel_plane.specs.Stored.{size_of, is_number_size, stored_number, value_of, whole_or_zero, blank_of};
+ghost use Rattle.pixel_plane.specs.Stored.{size_of, is_number_size, stored_number, value_of, whole_or_zero, blank_of, IsStorable};
 
 use byteorder::{BigEndian, ByteOrder};
 use fits_card::number::Whole;
@@ -39,6 +39,7 @@ impl Encoding {
         requires { self.now.size ≤ length bytes.now }
         ensures value { result ≡ value_of self.now.zero self.now.blank (stored_number self.now.size bytes.now) }
         ensures in_range { IfSome result (λ v. IsWithinRange v) }
+        ensures storable { IfSome result (λ v. IsStorable v) }
     {
         let stored = self.stored(bytes);
         if self.blank == Some(stored) {

@@ -1,8 +1,9 @@
 //! Reading the pixels.
-ghost use Rattle.std.specs.Prelude.{◌≡◌, ◌≤◌, ◌-◌, ◌*◌, Ok, length, IsErrOf, IsTrue, MatchResult};
+ghost use Rattle.std.specs.Prelude.{◌≡◌, ◌≤◌, ◌-◌, ◌*◌, Ok, length, IfOk, IsErrOf, IsTrue, MatchResult};
 ghost use Rattle.std.specs.Option.{ForSome};
 ghost use Rattle.dev_io.specs.Causes.{Rose};
 ghost use Rattle.pixel_plane.specs.Images.{checked};
+ghost use Rattle.pixel_plane.specs.Stored.{HasStorableValues};
 ghost use Rattle.pixel_plane.specs.Reading.{PlaneRead, PlaneStopped, PixelsRead, PixelsStopped, IsDecoded};
 
 use crate::PlaneFault;
@@ -27,6 +28,7 @@ pub fn read_plane<S: Source>(
     ensures told { ForSome (S.left src.old) (λ bytes. MatchResult result
         (λ plane. PlaneRead hdu.now shape bytes (S.left src.new) plane)
         (λ fault. PlaneStopped hdu.now shape bytes (S.left src.new) fault)) }
+    ensures storable { IfOk result (λ plane. HasStorableValues plane.values) }
     ensures truncated { IsErrOf result PlaneFault.TruncatedData → IsTrue (S.ended src.new) }
     ensures later { S.faults src.old ≤ S.faults src.new }
     ensures fault { IsErrOf result PlaneFault.ReadFault → Rose (S.faults src.old) (S.faults src.new) }
@@ -49,6 +51,7 @@ fn read_pixels<S: Source>(
 ) -> Result<(), PlaneFault>
     ensures shape { plane.new.shape ≡ plane.old.shape }
     ensures count { length plane.new.values ≡ length plane.old.values }
+    ensures storable { HasStorableValues plane.old.values → HasStorableValues plane.new.values }
     ensures told { ForSome (S.left src.old) (λ bytes. MatchResult result
         (λ _. PixelsRead encoding.now bytes (S.left src.new) plane.new.values)
         (λ fault. PixelsStopped (length plane.old.values * encoding.now.size) bytes (S.left src.new) fault)) }
@@ -81,6 +84,7 @@ fn decode(encoding: &Encoding, bytes: &[u8], plane: &mut Plane, first: u32, end:
     requires within { end ≤ length plane.old.values }
     ensures shape { plane.new.shape ≡ plane.old.shape }
     ensures count { length plane.new.values ≡ length plane.old.values }
+    ensures storable { HasStorableValues plane.old.values → HasStorableValues plane.new.values }
     ensures decoded { IsDecoded encoding.now bytes.now first end plane.old.values plane.new.values }
 {
     for p in first..end {

@@ -11,6 +11,7 @@ loop-first-preserved g c =
       within = search rules;
       shape = search rules;
       values = search rules;
+      storable = λ h. c.decode.ensures.storable (c.loop-first.invariant.storable h);
       told = λ x e.
           let before = c.loop-first.invariant.told x e in
           let fills = c.in-Ok.ensures.moved _ before.takes.rest in

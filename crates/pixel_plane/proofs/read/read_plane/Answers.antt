@@ -1,6 +1,7 @@
 use Rattle.std.proofs.Common.{◌∙◌, ◌≡◌, ◌*◌, ap, length}
 use Rattle.std.proofs.lemmas.List.{length-replicate}
 use Rattle.pixel_plane.proofs.Readable.{shape_without_fault}
+use Rattle.pixel_plane.proofs.Storable.{blank_storable}
 use Rattle.pixel_plane.proofs.Planes.{IsEncodingOf, plane_is_read}
 use Rattle.pixel_plane.proofs.read.read_plane.Goals as goal
 
@@ -17,3 +18,6 @@ returns-in-Ok-read_pixels-clause-told g c = λ x e.
     let blank : length c.in-Ok.plane.values ≡ c.args.shape.width * c.args.shape.height = ap length c.in-Ok.ensures.undefined ∙ length-replicate _ _ in
     plane_is_read c.args.hdu.now c.args.shape c.of-encoding.result x _ _ encoding (c.in-Ok-read_pixels.ensures.shape ∙ c.in-Ok.ensures.shape)
     (c.in-Ok-read_pixels.ensures.count ∙ blank) (c.in-Ok-read_pixels.ensures.told x e)
+
+pub returns-in-Ok-read_pixels-clause-storable : goal.returns-in-Ok-read_pixels-clause-storable
+returns-in-Ok-read_pixels-clause-storable g c = c.in-Ok-read_pixels.ensures.storable (blank_storable _ _ c.in-Ok.ensures.undefined)

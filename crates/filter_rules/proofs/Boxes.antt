@@ -1,0 +1,135 @@
+-- What is known of the sums and the rows of a tree.
+use Rattle.std.proofs.Common.{◌≡◌, ℕ, ◌^◌, ◌<◌, ◌≤◌, suc, Bool, true, false, cond, List, [], ◌∷◌, length, refl, sym, ◌∙◌, ap, subst, arith, inl, inr, get_or}
+use Rattle.std.specs.Prelude.{filter, ℤ, ◌≤ℤ◌, ◌<ℤ◌}
+use Rattle.std.proofs.lemmas.Int.{ints}
+use Rattle.std.proofs.lemmas.List.FromFn.{get_or-map-range_with_len}
+use Rattle.comp_tree.specs.declared.shape.Connect.{Connect}
+use Rattle.comp_tree.specs.Limits.{IsWithinRange}
+use Rattle.comp_tree.specs.Raster.{Raster, IsPlane, HasValuesInRange, pixels, level}
+use Rattle.comp_tree.specs.ComponentTree.{ComponentTree, parent_in}
+use Rattle.comp_tree.specs.Components.{nodes, is_in_node, tree_of}
+use Rattle.comp_tree.specs.Laws.{top_of}
+use Rattle.comp_tree.proofs.Members.{IsAmong, among_from_filter}
+use Rattle.comp_tree.proofs.Reaching.{below_from_defined}
+use Rattle.comp_tree.proofs.Finding.{length-pixels}
+use Rattle.comp_tree.proofs.Ancestors.{length-rows, parent-of_node, parent-candidate}
+use Rattle.comp_tree.proofs.Levels.{int_lt-true}
+use Rattle.node_sums.specs.declared.entry.Sums.{Sums}
+use Rattle.node_sums.specs.Sums.{AreTheTrees, sums_of, sums_in, sums_over, pixels_of, x_of, y_of, least, greatest}
+use Rattle.node_sums.proofs.Sizes.{x_small, y_small, level_up_to}
+use Rattle.node_sums.proofs.Fluxes.{level-of_node}
+use Rattle.node_sums.specs.Flux.{level_in, flux_of}
+use Rattle.node_sums.specs.Merging.{IsUpTo, value_bound}
+use Rattle.node_sums.proofs.Counting.{in_node-defined, goes_down}
+use Rattle.filter_rules.specs.declared.rule.Criterion.{Criterion}
+use Rattle.filter_rules.specs.Criteria.{admits, satisfies, HasBox}
+use Rattle.filter_rules.specs.Passes.{IsRising}
+use Rattle.filter_rules.proofs.Around.{among_pixels, top_in}
+
+least_at_most : (f : ℕ → ℕ) (ps : List ℕ) (p : ℕ) → IsAmong p ps → least f ps ≤ f p
+least_at_most f [] p m = absurd m
+least_at_most f (q ∷ ps) p (inl e) = let g : f q ≡ f p = ap f e in omega arith
+least_at_most f (q ∷ ps) p (inr m) = let g : least f ps ≤ f p = least_at_most f ps p m in omega arith
+
+greatest_at_least : (f : ℕ → ℕ) (ps : List ℕ) (p : ℕ) → IsAmong p ps → f p ≤ greatest f ps
+greatest_at_least f [] p m = absurd m
+greatest_at_least f (q ∷ ps) p (inl e) = let g : f q ≡ f p = ap f e in omega arith
+greatest_at_least f (q ∷ ps) p (inr m) = let g : f p ≤ greatest f ps = greatest_at_least f ps p m in omega arith
+
+greatest_up_to : (f : ℕ → ℕ) (k : ℕ) (ps : List ℕ) → ((p : ℕ) → IsAmong p ps → f p ≤ k) → greatest f ps ≤ k
+greatest_up_to f k [] h = omega arith
+greatest_up_to f k (q ∷ ps) h =
+    let a : f q ≤ k = h q (inl refl) in
+    let b : greatest f ps ≤ k = greatest_up_to f k ps (λ p m. h p (inr m)) in
+    omega arith
+
+pixel_below : (r : Raster) (connect : Connect) (n p : ℕ) → IsAmong p (pixels_of r connect n) → p < length r.values
+unfolding pixels_of
+pixel_below r connect n p m = below_from_defined r p (in_node-defined r connect n p (among_from_filter (is_in_node r connect n) p (pixels r) m).1)
+
+pub length_grows : (f g : ℕ → Bool) (ps : List ℕ) → ((p : ℕ) → f p ≡ true → g p ≡ true) → length (filter f ps) ≤ length (filter g ps)
+length_grows f g [] h = omega arith
+length_grows f g (p ∷ ps) h = go (f p) (g p) refl refl (length_grows f g ps h)
+  where
+    go : (s t : Bool) → f p ≡ s → g p ≡ t → length (filter f ps) ≤ length (filter g ps) → length (filter f (p ∷ ps)) ≤ length (filter g (p ∷ ps))
+    go true t u v ih = rw (u, h p u) (omega arith)
+    go false true u v ih = rw (u, v) (omega arith)
+    go false false u v ih = rw (u, v) ih
+
+pub few_in : (r : Raster) (connect : Connect) (n : ℕ) → IsPlane r → length (pixels_of r connect n) ≤ 2 ^ 24
+unfolding pixels_of
+few_in r connect n plane =
+    omega (arith, length-filter-le (is_in_node r connect n) (pixels r), length-pixels r, plane, r.shape.within_limits.few_pixels)
+  where
+    length-filter-le : (test : ℕ → Bool) (ps : List ℕ) → length (filter test ps) ≤ length ps
+    length-filter-le test [] = omega arith
+    length-filter-le test (p ∷ ps) = go (test p) (length-filter-le test ps)
+      where
+        go : (b : Bool) → length (filter test ps) ≤ length ps → length (cond b (p ∷ filter test ps) (filter test ps)) ≤ suc (length ps)
+        go true ih = omega arith
+        go false ih = omega arith
+
+pub has_box : (r : Raster) (connect : Connect) (n : ℕ) → IsPlane r → n < length (nodes r connect) → HasBox (sums_of r connect n)
+unfolding sums_of sums_over
+has_box r connect n plane hn = record {
+  area = few_in r connect n plane;
+  columns = omega (arith, least_at_most (x_of r) (pixels_of r connect n) (top_of r connect n) there, greatest_at_least (x_of r) (pixels_of r connect n) (top_of r connect n) there);
+  few_columns = greatest_up_to (x_of r) 65535 (pixels_of r connect n) (λ p m. x_small r p);
+  rows = omega (arith, least_at_most (y_of r) (pixels_of r connect n) (top_of r connect n) there, greatest_at_least (y_of r) (pixels_of r connect n) (top_of r connect n) there);
+  few_rows = greatest_up_to (y_of r) 65535 (pixels_of r connect n) (λ p m. y_small r p plane (pixel_below r connect n p m));
+}
+  where
+    there : IsAmong (top_of r connect n) (pixels_of r connect n)
+    there = among_pixels r connect n (top_of r connect n) (top_in r connect n hn)
+
+-- ---- the sums of some plane's tree
+
+entry_is : (r : Raster) (connect : Connect) (sums : List Sums) (n : ℕ) (d : Sums) → sums ≡ sums_in r connect → n < length (nodes r connect) → get_or sums n d ≡ sums_of r connect n
+unfolding sums_in
+entry_is r connect sums n d e h = ap (λ (xs : List Sums). get_or xs n d) e ∙ get_or-map-range_with_len (sums_of r connect) 0 (length (nodes r connect)) n n d h (omega arith)
+
+rows_of : (tree : ComponentTree) (sums : List Sums) → (t : AreTheTrees tree sums) → length tree.rows ≡ length (nodes t.plane t.of_plane.connect)
+rows_of tree sums t = ap (λ (x : ComponentTree). length x.rows) t.of_plane.tree_is ∙ length-rows t.plane t.of_plane.connect
+
+pub trees_box : (tree : ComponentTree) (sums : List Sums) (n : ℕ) (d : Sums) → AreTheTrees tree sums → n < length tree.rows → HasBox (get_or sums n d)
+trees_box tree sums n d t h =
+    let hn : n < length (nodes t.plane t.of_plane.connect) = omega (arith, rows_of tree sums t) in
+    subst HasBox (sym (entry_is t.plane t.of_plane.connect sums n d t.of_plane.sums_are hn)) (has_box t.plane t.of_plane.connect n t.one_each hn)
+
+-- what is asked of the entry is asked of the node
+pub admitted : (r : Raster) (connect : Connect) (tree : ComponentTree) (sums : List Sums) (criterion : Criterion) (n : ℕ) (d : Sums) (flux : ℤ)
+    → tree ≡ tree_of r connect → sums ≡ sums_in r connect → n < length tree.rows → flux ≡ flux_of r connect n
+    → admits criterion (get_or sums n d) flux ≡ satisfies r connect criterion n
+unfolding satisfies
+admitted r connect tree sums criterion n d flux e f h g =
+    ap (λ (s : Sums). admits criterion s flux)
+    (entry_is r connect sums n d f (omega (arith, ap (λ (x : ComponentTree). length x.rows) e, length-rows r connect)))
+    ∙ ap (λ (z : ℤ). admits criterion (sums_of r connect n) z) g
+
+-- the rows of the tree rise
+pub trees_rise : (tree : ComponentTree) (sums : List Sums) → AreTheTrees tree sums → IsRising tree.rows
+trees_rise tree sums t =
+    subst (λ (x : ComponentTree). IsRising x.rows) (sym t.of_plane.tree_is) (rise t.plane t.of_plane.connect t.one_each t.in_range)
+  where
+    rise : (r : Raster) (connect : Connect) → IsPlane r → HasValuesInRange r.values → IsRising (tree_of r connect).rows
+    rise r connect plane range = record {
+      few = (goes_down r connect plane).few;
+      parents = (goes_down r connect plane).parents;
+      levels = λ n h. let hn : n < length (nodes r connect) = omega (arith, length-rows r connect) in
+          subst IsWithinRange (sym (level-of_node r connect n hn)) (in_range (top_of r connect n));
+      rising = λ n h k. rising n (omega (arith, length-rows r connect)) (omega (arith, length-rows r connect));
+    }
+      where
+        in_range : (p : ℕ) → IsWithinRange (level r p)
+        in_range p = let u : IsUpTo value_bound (level r p) = level_up_to r p range in record { low = u.low; high = u.high }
+
+        rising : (n : ℕ) → n < length (nodes r connect) → parent_in (tree_of r connect).rows n < length (nodes r connect)
+            → level_in (tree_of r connect).rows (parent_in (tree_of r connect).rows n) ≤ℤ level_in (tree_of r connect).rows n
+        rising n hn hp =
+            let low : level r (top_of r connect (parent_in (tree_of r connect).rows n)) <ℤ level r (top_of r connect n) =
+            int_lt-true (level r (top_of r connect (parent_in (tree_of r connect).rows n))) (level r (top_of r connect n))
+            (parent-candidate r connect (parent_in (tree_of r connect).rows n) n plane hn hp (sym (parent-of_node r connect n hn))).candidate.lower in
+            let a : level_in (tree_of r connect).rows n ≡ level r (top_of r connect n) = level-of_node r connect n hn in
+            let b : level_in (tree_of r connect).rows (parent_in (tree_of r connect).rows n) ≡ level r (top_of r connect (parent_in (tree_of r connect).rows n)) =
+            level-of_node r connect (parent_in (tree_of r connect).rows n) hp in
+            omega (arith, ints)

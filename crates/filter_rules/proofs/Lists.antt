@@ -1,0 +1,76 @@
+-- Tests over lists, and sums over the members that pass one.
+use Rattle.std.proofs.Common.{◌≡◌, ℕ, ◌+◌, ◌<◌, ◌≤◌, zero, suc, Bool, true, false, cond, List, [], ◌∷◌, map, refl, sym, ◌∙◌, ap, arith, inl, inr}
+use Rattle.std.specs.Prelude.{ℤ, pos, ◌+ℤ◌, filter, ◌==◌, ◌≢◌}
+use Rattle.std.specs.List.{list_all, range_with_len}
+use Rattle.std.proofs.lemmas.Int.{ints}
+use Rattle.std.proofs.lemmas.Bool.{and_parts, and_from, eqb-true, eqb-false, ne_eqb}
+use Rattle.comp_tree.proofs.Members.{IsAmong}
+use Rattle.node_sums.specs.Sums.{total}
+
+pub same_bool : (a b : Bool) → (a ≡ true → b ≡ true) → (b ≡ true → a ≡ true) → a ≡ b
+same_bool true b h k = sym (h refl)
+same_bool false b h k = go b refl
+  where
+    go : (c : Bool) → b ≡ c → false ≡ b
+    go true u = k u ∙ sym u
+    go false u = sym u
+
+pub all_gives : {X : Type 0} (test : X → Bool) (xs : List X) (x : X) → list_all test xs ≡ true → IsAmong x xs → test x ≡ true
+all_gives test [] x h m = absurd m
+all_gives test (y ∷ xs) x h m = go (and_parts (test y) (list_all test xs) h) m (all_gives test xs x)
+  where
+    go : (test y ≡ true) × (list_all test xs ≡ true) → IsAmong x (y ∷ xs) → (list_all test xs ≡ true → IsAmong x xs → test x ≡ true) → test x ≡ true
+    go p (inl e) ih = ap test (sym e) ∙ p.0
+    go p (inr k) ih = ih p.1 k
+
+pub all_from : {X : Type 0} (test : X → Bool) (xs : List X) → ((x : X) → IsAmong x xs → test x ≡ true) → list_all test xs ≡ true
+all_from test [] h = refl
+all_from test (y ∷ xs) h = and_from (test y) (list_all test xs) (h y (inl refl)) (all_from test xs (λ x m. h x (inr m)))
+
+pub filter_on : {X : Type 0} (f g : X → Bool) (xs : List X) → ((x : X) → IsAmong x xs → f x ≡ g x) → filter f xs ≡ filter g xs
+filter_on f g [] h = refl
+filter_on f g (y ∷ xs) h =
+    ap (λ (b : Bool). cond b (y ∷ filter f xs) (filter f xs)) (h y (inl refl))
+    ∙ ap (λ (ys : List _). cond (g y) (y ∷ ys) ys) (filter_on f g xs (λ x m. h x (inr m)))
+
+pub map_on : {X Y : Type 0} (f g : X → Y) (xs : List X) → ((x : X) → IsAmong x xs → f x ≡ g x) → map f xs ≡ map g xs
+map_on f g [] h = refl
+map_on f g (y ∷ xs) h = ap (λ (z : _). z ∷ map f xs) (h y (inl refl)) ∙ ap (λ (ys : List _). g y ∷ ys) (map_on f g xs (λ x m. h x (inr m)))
+
+-- the sum over those that pass `all` is that over those that pass `some` and that over the others
+pub total_split : (f : ℕ → ℤ) (all some others : ℕ → Bool) (xs : List ℕ)
+    → ((x : ℕ) → IsAmong x xs → some x ≡ true → (all x ≡ true) × (others x ≡ false))
+    → ((x : ℕ) → IsAmong x xs → some x ≡ false → all x ≡ others x)
+    → total f (filter all xs) ≡ total f (filter some xs) +ℤ total f (filter others xs)
+total_split f all some others [] h k = omega (arith, ints)
+total_split f all some others (y ∷ xs) h k =
+    go (some y) (others y) refl refl (total_split f all some others xs (λ x m. h x (inr m)) (λ x m. k x (inr m)))
+  where
+    go : (s o : Bool) → some y ≡ s → others y ≡ o → total f (filter all xs) ≡ total f (filter some xs) +ℤ total f (filter others xs)
+        → total f (filter all (y ∷ xs)) ≡ total f (filter some (y ∷ xs)) +ℤ total f (filter others (y ∷ xs))
+    go true o u v ih = rw ((h y (inl refl) u).0, u, (h y (inl refl) u).1) (omega (arith, ints))
+    go false true u v ih = rw (k y (inl refl) u, u, v) (omega (arith, ints))
+    go false false u v ih = rw (k y (inl refl) u, u, v) ih
+
+-- the sum over no number that passes
+pub total_none : (f : ℕ → ℤ) (test : ℕ → Bool) (xs : List ℕ) → ((x : ℕ) → IsAmong x xs → test x ≡ false) → total f (filter test xs) ≡ pos 0
+total_none f test [] h = refl
+total_none f test (y ∷ xs) h = rw (h y (inl refl)) (total_none f test xs (λ x m. h x (inr m)))
+
+-- the sum over one number of a range
+pub total_one : (f : ℕ → ℤ) (a n k : ℕ) → a ≤ k → k < a + n → total f (filter (λ m. m == k) (range_with_len a n)) ≡ f k
+total_one f a zero k low high = absurd (omega arith)
+total_one f a (suc n) k low high = go (a == k) refl (total_one f (a + 1) n k)
+  where
+    later : (b m : ℕ) → k < b → total f (filter (λ x. x == k) (range_with_len b m)) ≡ pos 0
+    later b zero l = refl
+    later b (suc m) l = rw (ne_eqb b k (λ e. absurd (omega arith))) (later (b + 1) m (omega arith))
+
+    go : (t : Bool) → a == k ≡ t → (a + 1 ≤ k → k < a + 1 + n → total f (filter (λ m. m == k) (range_with_len (a + 1) n)) ≡ f k)
+        → total f (filter (λ m. m == k) (range_with_len a (suc n))) ≡ f k
+    go true u ih =
+        let e : a ≡ k = eqb-true a k u in
+        let z : total f (filter (λ m. m == k) (range_with_len (a + 1) n)) ≡ pos 0 = later (a + 1) n (omega arith) in
+        let g : f a ≡ f k = ap f e in
+        rw u (omega (arith, ints))
+    go false u ih = let ne : a ≢ k = eqb-false a k u in rw u (ih (omega arith) (omega arith))

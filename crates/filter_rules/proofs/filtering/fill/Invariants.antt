@@ -1,0 +1,9 @@
+use Rattle.std.proofs.Common.{◌≡◌}
+use Rattle.filter_rules.proofs.Filling.{IsFilled}
+use Rattle.filter_rules.proofs.filtering.fill.Given as goal
+
+abbrev pub invariant-loop-p : goal.invariant-loop-p
+invariant-loop-p l = record {
+  same_shape : l.plane.shape ≡ l.fn.shape;
+  filled : IsFilled l.node_of l.values l.plane.values l.p;
+}

@@ -1,0 +1,4 @@
+pub mod Criteria
+pub mod Filtered
+pub mod Passes
+pub mod Laws

@@ -1,0 +1,145 @@
+ghost use Rattle.std.specs.Prelude.{◌≤◌};
+
+use super::*;
+use comp_tree::{Connect, Plane, Shape, plain_tree};
+use dev_io::OutOfMemory;
+use node_sums::sums;
+use std::alloc::Global;
+
+#[derive(Drop)]
+struct Case<'a> {
+    width: u32,
+    height: u32,
+    // 99 stands for an undefined pixel
+    values: &'a [i64],
+    rule: Rule,
+    criterion: Criterion,
+    filtered: &'a [i64],
+}
+
+// A plane of these values.
+fn plane_of(alloc: Global, shape: Shape, values: &[i64]) -> Result<Plane, OutOfMemory> {
+    let mut plane = Plane::blank(alloc, shape)?;
+    for (p, value) in values.iter().enumerate() {
+        if *value > -99 && *value < 99 && p < plane.shape().pixels() as usize {
+            plane.set(p as u32, Some(*value));
+        }
+    }
+    Ok(plane)
+}
+
+// What is left of this plane by its tree with four neighbours.
+fn filtered(
+    alloc: Global,
+    plane: &Plane,
+    rule: Rule,
+    criterion: &Criterion,
+) -> Result<Plane, OutOfMemory>
+    requires { criterion.now.min_fill ≤ 1000 }
+{
+    let tree = plain_tree(alloc, plane, Connect::Four)?;
+    let sums = sums(alloc, plane, &tree)?;
+    filter(alloc, plane, &tree, &sums, rule, criterion)
+}
+
+// No node is refused for its area, flux or fill.
+fn anything() -> Criterion {
+    Criterion {
+        min_area: 0,
+        max_area: 1 << 24,
+        min_flux: i64::MIN,
+        min_fill: 0,
+    }
+}
+
+#[test]
+fn small_planes(rt: HostRuntime) {
+    let two_pixels = Criterion {
+        min_area: 2,
+        max_area: 2,
+        min_flux: i64::MIN,
+        min_fill: 0,
+    };
+    let three_quarters = Criterion {
+        min_fill: 750,
+        ..anything()
+    };
+    let more = Criterion {
+        min_fill: 751,
+        ..anything()
+    };
+    let cases = [
+        Case {
+            width: 5,
+            height: 1,
+            values: &[0, 1, 3, 2, 0],
+            rule: Rule::Min,
+            criterion: two_pixels,
+            filtered: &[0, 0, 0, 0, 0],
+        },
+        Case {
+            width: 5,
+            height: 1,
+            values: &[0, 1, 3, 2, 0],
+            rule: Rule::Max,
+            criterion: two_pixels,
+            filtered: &[0, 1, 2, 2, 0],
+        },
+        Case {
+            width: 5,
+            height: 1,
+            values: &[0, 1, 3, 2, 0],
+            rule: Rule::Direct,
+            criterion: two_pixels,
+            filtered: &[0, 0, 2, 2, 0],
+        },
+        Case {
+            width: 5,
+            height: 1,
+            values: &[0, 1, 3, 2, 0],
+            rule: Rule::Subtractive,
+            criterion: two_pixels,
+            filtered: &[0, 0, 1, 1, 0],
+        },
+        Case {
+            width: 2,
+            height: 2,
+            values: &[1, 1, 1, 0],
+            rule: Rule::Direct,
+            criterion: three_quarters,
+            filtered: &[1, 1, 1, 0],
+        },
+        Case {
+            width: 2,
+            height: 2,
+            values: &[1, 1, 1, 0],
+            rule: Rule::Direct,
+            criterion: more,
+            filtered: &[0, 0, 0, 0],
+        },
+        // two roots, and an undefined pixel between them
+        Case {
+            width: 4,
+            height: 1,
+            values: &[-3, 5, 99, 7],
+            rule: Rule::Min,
+            criterion: two_pixels,
+            filtered: &[-3, -3, 99, 7],
+        },
+    ];
+    for (number, case) in cases.iter().enumerate() {
+        let shape = Shape::of(case.width, case.height).expect(&rt, "a shape");
+        let plane = plane_of(rt.alloc(), shape, case.values).expect(&rt, "memory");
+        assert!(rt; case.criterion.min_fill <= 1000);
+        let left = filtered(rt.alloc(), &plane, case.rule, &case.criterion).expect(&rt, "memory");
+        let count = left.shape().pixels();
+        assert_eq!(rt; count as usize, case.filtered.len(), "case {number}");
+        for p in 0..count {
+            assert_eq!(rt;
+                left.get(p).unwrap_or(99),
+                case.filtered[p as usize],
+                "pixel {p} of case {number}"
+            );
+        }
+    }
+}

@@ -1,0 +1,129 @@
+-- The values of the defined pixels of a list, gathered one by one.
+use Rattle.std.proofs.Common.{◌≡◌, ℕ, ◌+◌, ◌-◌, ◌*◌, ◌<◌, ◌≤◌, suc, min, cond, List, [], ◌∷◌, ◌++◌, length, map, refl, sym, ap, ◌∙◌, arith}
+use Rattle.std.specs.Prelude.{ℤ, pos, filter, Option, Some, None, unwrap_or, is_some, slice_get}
+use Rattle.std.specs.Option.{option_to_list}
+use Rattle.std.specs.List.{range_with_len}
+use Rattle.std.proofs.lemmas.List.{map-append, append-nil, append_assoc}
+use Rattle.std.proofs.lemmas.List.Elements.{filter-append}
+use Rattle.std.proofs.Math.Nat.{mul-le-mul_right}
+use Rattle.comp_tree.specs.Raster.{Raster, IsPlane, pixels, value_at, is_defined, level}
+use Rattle.mesh_background.specs.Medians.{lower_median}
+use Rattle.mesh_background.specs.Mesh.{IsCell, cells_of, defined_values, cell_pixels, image_value, mesh_value, values_of_mesh}
+use Rattle.mesh_background.proofs.Extents.{range-append, pixels_before, before-start, before-row, before-end, pixels_of_cell}
+
+pub defined-append : (r : Raster) (ps qs : List ℕ) → defined_values r (ps ++ qs) ≡ defined_values r ps ++ defined_values r qs
+unfolding defined_values
+defined-append r ps qs = ap (map (level r)) (filter-append (is_defined r) ps qs) ∙ map-append (level r) (filter (is_defined r) ps) (filter (is_defined r) qs)
+
+pub defined-none : (r : Raster) → defined_values r [] ≡ []
+unfolding defined_values
+defined-none r = refl
+
+defined-one : (r : Raster) (p : ℕ) → defined_values r (p ∷ []) ≡ option_to_list (value_at r.values p)
+unfolding defined_values level
+defined-one r p = go (value_at r.values p) refl
+  where
+    go : (o : Option ℤ) → value_at r.values p ≡ o → map (level r) (cond (is_some o) (p ∷ []) []) ≡ option_to_list o
+    go None e = refl
+    go (Some v) e = ap (λ (o : Option ℤ). unwrap_or o (pos 0) ∷ []) e
+
+-- one more pixel
+range-next : (first p : ℕ) → first ≤ p → range_with_len first (p + 1 - first) ≡ range_with_len first (p - first) ++ p ∷ []
+range-next first p le =
+    let long : p + 1 - first ≡ p - first + 1 = omega arith in
+    ap (range_with_len first) long ∙ range-append first (p - first) 1 p (omega arith)
+
+-- the values so far are those of the pixels from `first` up to p, behind the old ones
+pub gathered-none : (r : Raster) (first p : ℕ) (old : List ℤ) → p ≡ first → old ≡ old ++ defined_values r (range_with_len first (p - first))
+gathered-none r first p old e =
+    let none : p - first ≡ 0 = omega arith in
+    sym (append-nil old) ∙ ap (λ (xs : List ℤ). old ++ xs) (sym (defined-none r)) ∙ ap (λ (n : ℕ). old ++ defined_values r (range_with_len first n)) (sym none)
+
+pub gathered-next : (r : Raster) (first p : ℕ) (old items new : List ℤ) → first ≤ p → items ≡ old ++ defined_values r (range_with_len first (p - first))
+    → new ≡ items ++ option_to_list (value_at r.values p) → new ≡ old ++ defined_values r (range_with_len first (p + 1 - first))
+gathered-next r first p old items new le here is =
+    let seen : List ℤ = defined_values r (range_with_len first (p - first)) in
+    let more : List ℤ = option_to_list (value_at r.values p) in
+    is ∙ ap (λ (xs : List ℤ). xs ++ more) here ∙ append_assoc old seen more ∙ ap (λ (xs : List ℤ). old ++ (seen ++ xs)) (sym (defined-one r p))
+    ∙ ap (λ (xs : List ℤ). old ++ xs) (sym (defined-append r (range_with_len first (p - first)) (p ∷ [])))
+    ∙ ap (λ (ps : List ℕ). old ++ defined_values r ps) (sym (range-next first p le))
+
+pub gathered-all : (r : Raster) (first p end : ℕ) (old items : List ℤ) → p - first ≡ end - first → items ≡ old ++ defined_values r (range_with_len first (p - first))
+    → items ≡ old ++ defined_values r (range_with_len first (end - first))
+gathered-all r first p end old items e here = here ∙ ap (λ (n : ℕ). old ++ defined_values r (range_with_len first n)) e
+
+-- ---- the rows of a cell
+
+-- the values of those of the first n pixels that lie in cell k
+abbrev pub values_before : Raster → ℕ → ℕ → ℕ → List ℤ
+values_before r mesh k n = defined_values r (pixels_before mesh r.shape.width k n)
+
+pub gather-start : (r : Raster) (mesh k left right top bottom y : ℕ) (items : List ℤ) → IsCell mesh r.shape.width r.shape.height k left right top bottom → y ≡ top → items ≡ []
+    → items ≡ values_before r mesh k (y * r.shape.width)
+gather-start r mesh k left right top bottom y items c e none =
+    none ∙ sym (defined-none r) ∙ ap (defined_values r) (sym (before-start mesh r.shape.width r.shape.height k left right top bottom c))
+    ∙ ap (λ (q : ℕ). values_before r mesh k (q * r.shape.width)) (sym e)
+
+-- the pixels of a row of the cell are pixels of the plane
+pub row-within : (r : Raster) (mesh k left right top bottom y w : ℕ) → IsPlane r → IsCell mesh r.shape.width r.shape.height k left right top bottom → y < bottom → w ≡ r.shape.width
+    → y * w + right ≤ length r.values
+row-within r mesh k left right top bottom y w plane c lt e =
+    let width : ℕ = r.shape.width in
+    let height : ℕ = r.shape.height in
+    let short : right ≡ min (left + mesh) width = c.right_is in
+    let low : bottom ≡ min (top + mesh) height = c.bottom_is in
+    let rows : (y + 1) * width ≤ height * width = mul-le-mul_right width (omega arith) in
+    let same : y * w ≡ y * width = ap (λ (q : ℕ). y * q) e in
+    let long : length r.values ≡ width * height = plane in
+    omega arith
+
+pub gather-row : (r : Raster) (mesh k left right top bottom y w : ℕ) (items new : List ℤ) → IsCell mesh r.shape.width r.shape.height k left right top bottom → top ≤ y → y < bottom
+    → w ≡ r.shape.width → items ≡ values_before r mesh k (y * r.shape.width) → new ≡ items ++ defined_values r (range_with_len (y * w + left) (y * w + right - (y * w + left)))
+    → new ≡ values_before r mesh k ((y + 1) * r.shape.width)
+gather-row r mesh k left right top bottom y w items new c low high e here is =
+    let width : ℕ = r.shape.width in
+    is ∙ ap (λ (q : ℕ). items ++ defined_values r (range_with_len (y * q + left) (y * q + right - (y * q + left)))) e
+    ∙ ap (λ (xs : List ℤ). xs ++ defined_values r (range_with_len (y * width + left) (y * width + right - (y * width + left)))) here
+    ∙ sym (defined-append r (pixels_before mesh width k (y * width)) (range_with_len (y * width + left) (y * width + right - (y * width + left))))
+    ∙ ap (defined_values r) (sym (before-row mesh width r.shape.height k left right top bottom y c low high))
+
+pub gather-end : (r : Raster) (mesh k left right top bottom y : ℕ) (items : List ℤ) → IsPlane r → IsCell mesh r.shape.width r.shape.height k left right top bottom → y ≡ bottom
+    → items ≡ values_before r mesh k (y * r.shape.width) → items ≡ defined_values r (cell_pixels r mesh k)
+gather-end r mesh k left right top bottom y items plane c e here =
+    let width : ℕ = r.shape.width in
+    let height : ℕ = r.shape.height in
+    let low : bottom ≡ min (top + mesh) height = c.bottom_is in
+    let rows : bottom * width ≤ height * width = mul-le-mul_right width (omega arith) in
+    let long : length r.values ≡ width * height = plane in
+    here ∙ ap (λ (q : ℕ). values_before r mesh k (q * width)) e
+    ∙ ap (defined_values r) (before-end mesh width height k left right top bottom (length r.values) c long (omega arith) ∙ pixels_of_cell r mesh k)
+
+-- ---- the whole image, and the cells that have no defined pixel
+
+pub image-is : (r : Raster) (n : ℕ) (old new : List ℤ) → old ≡ [] → new ≡ old ++ defined_values r (range_with_len 0 (n - 0)) → n ≡ length r.values → new ≡ defined_values r (pixels r)
+unfolding pixels
+image-is r n old new none is count =
+    let whole : n - 0 ≡ length r.values = omega arith in
+    is ∙ ap (λ (xs : List ℤ). xs ++ defined_values r (range_with_len 0 (n - 0))) none ∙ ap (λ (q : ℕ). defined_values r (range_with_len 0 q)) whole
+
+pub image-median : (r : Raster) (members : List ℤ) (median : Option ℤ) (value : ℤ) → members ≡ defined_values r (pixels r) → median ≡ lower_median members → value ≡ unwrap_or median (pos 0)
+    → value ≡ image_value r
+unfolding image_value
+image-median r members median value all is got = got ∙ ap (λ (o : Option ℤ). unwrap_or o (pos 0)) (is ∙ ap lower_median all)
+
+same_fill : (xs : List (Option ℤ)) (a b : ℤ) → ((k : ℕ) → slice_get xs k ≡ Some None → a ≡ b) → map (λ m. unwrap_or m a) xs ≡ map (λ m. unwrap_or m b) xs
+same_fill [] a b h = refl
+same_fill (None ∷ xs) a b h = ap (λ (z : ℤ). z ∷ map (λ m. unwrap_or m a) xs) (h 0 refl) ∙ ap (λ (ys : List ℤ). b ∷ ys) (same_fill xs a b (λ k e. h (suc k) e))
+same_fill (Some v ∷ xs) a b h = ap (λ (ys : List ℤ). v ∷ ys) (same_fill xs a b (λ k e. h (suc k) e))
+
+fill-map : (r : Raster) (mesh : ℕ) (ks : List ℕ) → map (λ m. unwrap_or m (image_value r)) (map (λ k. lower_median (defined_values r (cell_pixels r mesh k))) ks) ≡ map (mesh_value r mesh) ks
+unfolding mesh_value
+fill-map r mesh [] = refl
+fill-map r mesh (k ∷ ks) = ap (λ (ys : List ℤ). mesh_value r mesh k ∷ ys) (fill-map r mesh ks)
+
+pub filled-is : (r : Raster) (mesh : ℕ) (medians : List (Option ℤ)) (value : ℤ) (items : List ℤ)
+    → medians ≡ map (λ k. lower_median (defined_values r (cell_pixels r mesh k))) (range_with_len 0 (cells_of mesh r.shape))
+    → ((k : ℕ) → slice_get medians k ≡ Some None → value ≡ image_value r) → items ≡ map (λ m. unwrap_or m value) medians → items ≡ values_of_mesh r mesh
+unfolding values_of_mesh
+filled-is r mesh medians value items are otherwise is =
+    is ∙ same_fill medians value (image_value r) otherwise ∙ ap (map (λ m. unwrap_or m (image_value r))) are ∙ fill-map r mesh (range_with_len 0 (cells_of mesh r.shape))

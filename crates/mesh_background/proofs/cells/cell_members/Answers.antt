@@ -1,0 +1,61 @@
+use Rattle.std.proofs.Common.{◌≡◌, ◌-◌, ◌*◌, ◌<◌, ◌≤◌, ◌^◌, ap, subst, ◌∙◌, arith}
+use Rattle.comp_tree.specs.declared.shape.Shape.{Shape}
+use Rattle.comp_tree.specs.Raster.{IsPlane}
+use Rattle.mesh_background.specs.Mesh.{IsCell}
+use Rattle.mesh_background.proofs.Extents.{room-few}
+use Rattle.mesh_background.proofs.Gathering.{gather-start, row-within, gather-row, gather-end}
+use Rattle.mesh_background.proofs.cells.cell_members.Goals as goal
+
+pub overflow_sub-room : goal.overflow_sub-room
+overflow_sub-room c = omega (arith, c.cell-bounds.ensures.some_columns)
+
+pub overflow_sub-room-2 : goal.overflow_sub-room-2
+overflow_sub-room-2 c = omega (arith, c.cell-bounds.ensures.some_rows)
+
+pub overflow_mul-room : goal.overflow_mul-room
+overflow_mul-room c =
+    let g = c.args.grid.now in
+    let b = c.cell-bounds.result in
+    let few : (b.right - b.left) * (b.bottom - b.top) ≤ 2 ^ 24 =
+    room-few g.mesh g.shape.width g.shape.height c.args.cell b.left b.right b.top b.bottom g.shape.within_limits c.cell-bounds.ensures in
+    omega arith
+
+pub loop-y-init : goal.loop-y-init
+loop-y-init c =
+    let g = c.args.grid.now in
+    let b = c.cell-bounds.result in
+    let cell = subst (λ (s : Shape). IsCell g.mesh s.width s.height c.args.cell b.left b.right b.top b.bottom) c.requires.shape c.cell-bounds.ensures in
+    gather-start c.args.plane.now g.mesh c.args.cell b.left b.right b.top b.bottom b.top c.in_ok-members.members.items cell (λ i. b.top) c.in_ok-members.ensures.items
+
+pub push_values-requires-clause-ordered : goal.push_values-requires-clause-ordered
+push_values-requires-clause-ordered c = omega (arith, c.cell-bounds.ensures.some_columns)
+
+pub push_values-requires-clause-within : goal.push_values-requires-clause-within
+push_values-requires-clause-within c =
+    let g = c.args.grid.now in
+    let b = c.cell-bounds.result in
+    let r = c.args.plane.now in
+    let cell = subst (λ (s : Shape). IsCell g.mesh s.width s.height c.args.cell b.left b.right b.top b.bottom) c.requires.shape c.cell-bounds.ensures in
+    let wide : c.shape-width.result.width ≡ r.shape.width = ap (λ (s : Shape). s.width) c.shape-width.ensures.same in
+    let plane : IsPlane r = c.shape-width.ensures.pixels ∙ ap (λ (s : Shape). s.width * s.height) c.shape-width.ensures.same in
+    row-within r g.mesh c.args.cell b.left b.right b.top b.bottom c.loop-y.y c.shape-width.result.width plane cell c.loop-y-test.true wide
+
+pub loop-y-preserved : goal.loop-y-preserved
+loop-y-preserved c =
+    let g = c.args.grid.now in
+    let b = c.cell-bounds.result in
+    let r = c.args.plane.now in
+    let cell = subst (λ (s : Shape). IsCell g.mesh s.width s.height c.args.cell b.left b.right b.top b.bottom) c.requires.shape c.cell-bounds.ensures in
+    let wide : c.shape-width.result.width ≡ r.shape.width = ap (λ (s : Shape). s.width) c.shape-width.ensures.same in
+    gather-row r g.mesh c.args.cell b.left b.right b.top b.bottom c.loop-y.y c.shape-width.result.width c.loop-y.members.items c.push_values.new.members.items cell
+    c.loop-y.auto.y c.loop-y-test.true wide c.loop-y.invariant c.in_ok-push_values.ensures
+
+pub returns : goal.returns
+returns c =
+    let g = c.args.grid.now in
+    let b = c.cell-bounds.result in
+    let r = c.args.plane.now in
+    let cell = subst (λ (s : Shape). IsCell g.mesh s.width s.height c.args.cell b.left b.right b.top b.bottom) c.requires.shape c.cell-bounds.ensures in
+    let plane : IsPlane r = c.shape-width.ensures.pixels ∙ ap (λ (s : Shape). s.width * s.height) c.shape-width.ensures.same in
+    let low : b.top < b.bottom = c.cell-bounds.ensures.some_rows in
+    gather-end r g.mesh c.args.cell b.left b.right b.top b.bottom c.loop-y.y c.loop-y.members.items plane cell (omega arith) c.loop-y.invariant

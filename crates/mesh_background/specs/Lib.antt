@@ -1,0 +1,4 @@
+pub mod Medians
+pub mod Mesh
+pub mod Residuals
+pub mod Laws

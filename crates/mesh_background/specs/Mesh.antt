@@ -1,0 +1,48 @@
+-- A mesh of size M cuts an image from pixel 0 into cells of M by M pixels. The last cells of a row or a column may be short.
+use Rattle.std.specs.Prelude.{◌≡◌, ℕ, ◌+◌, ◌-◌, ◌*◌, ◌/◌, ◌%◌, ◌<◌, min, ◌==◌, ℤ, pos, List, map, filter, unwrap_or}
+use Rattle.std.specs.List.{range_with_len}
+use Rattle.comp_tree.specs.declared.shape.Shape.{Shape}
+use Rattle.comp_tree.specs.Raster.{Raster, pixels, is_defined, level}
+use Rattle.mesh_background.specs.Medians.{lower_median}
+
+-- how many cells cover a side of so many pixels: the length over the mesh, rounded up
+abbrev pub cells_along : ℕ → ℕ → ℕ
+cells_along mesh side = (side + (mesh - 1)) / mesh
+
+-- how many cells the mesh has
+abbrev pub cells_of : ℕ → Shape → ℕ
+cells_of mesh shape = cells_along mesh shape.width * cells_along mesh shape.height
+
+-- the cell of pixel p. Cells are numbered row by row, from 0
+unfoldable pub cell_of : ℕ → ℕ → ℕ → ℕ
+cell_of mesh width p = p / width / mesh * cells_along mesh width + p % width / mesh
+
+-- the bounds of cell k in an image of this width and height: it has the columns from left up to right and the rows from top
+-- up to bottom, and at least one of each
+pub record IsCell (mesh width height k left right top bottom : ℕ) : Type 0 where
+  pub left_is : left ≡ k % cells_along mesh width * mesh
+  pub right_is : right ≡ min (left + mesh) width
+  pub top_is : top ≡ k / cells_along mesh width * mesh
+  pub bottom_is : bottom ≡ min (top + mesh) height
+  pub some_columns : left < right
+  pub some_rows : top < bottom
+
+-- the pixels of a cell, in rising order
+unfoldable pub cell_pixels : Raster → ℕ → ℕ → List ℕ
+cell_pixels r mesh k = filter (λ p. cell_of mesh r.shape.width p == k) (pixels r)
+
+-- the values of those pixels of a list that are defined
+unfoldable pub defined_values : Raster → List ℕ → List ℤ
+defined_values r ps = map (level r) (filter (is_defined r) ps)
+
+-- the lower median of all defined pixels of the image, or 0 where it has none
+unfoldable pub image_value : Raster → ℤ
+image_value r = unwrap_or (lower_median (defined_values r (pixels r))) (pos 0)
+
+-- the number of cell k: the lower median of its defined pixels, or that of the whole image where it has none
+unfoldable pub mesh_value : Raster → ℕ → ℕ → ℤ
+mesh_value r mesh k = unwrap_or (lower_median (defined_values r (cell_pixels r mesh k))) (image_value r)
+
+-- the numbers of all cells, row by row
+unfoldable pub values_of_mesh : Raster → ℕ → List ℤ
+values_of_mesh r mesh = map (mesh_value r mesh) (range_with_len 0 (cells_of mesh r.shape))

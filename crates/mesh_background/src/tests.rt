@@ -1,0 +1,89 @@
+//! Small planes under meshes with full, short and empty cells.
+
+ghost use Rattle.std.specs.Prelude.{IfOk};
+ghost use Rattle.comp_tree.specs.Raster.{Raster};
+ghost use Rattle.mesh_background.specs.Residuals.{HasValuesInHalfRange};
+
+use crate::{mesh_values, residual};
+use comp_tree::{Plane, Shape};
+use std::alloc::Global;
+use std::process::Abort;
+use std::test::Fail;
+use std::thread::Threads;
+
+// Stands for an undefined pixel in the tables below.
+const U: i64 = 99;
+
+// A plane of these values.
+fn plane_of(alloc: Global, width: u32, height: u32, values: &[i64]) -> Result<Plane, Fail>
+    ensures { IfOk result (λ plane. HasValuesInHalfRange plane.values) }
+{
+    let shape = Shape::of(width, height).ok_or("a shape")?;
+    let mut plane = Plane::blank(alloc, shape)?;
+    for (p, value) in values.iter().enumerate() {
+        if *value > -U && *value < U && p < plane.shape().pixels() as usize {
+            plane.set(p as u32, Some(*value));
+        }
+    }
+    Ok(plane)
+}
+
+// Compares the residual of a plane with a table.
+fn try_residual<R: Threads + Sync + Abort>(
+    rt: &R,
+    alloc: Global,
+    plane: &Plane,
+    mesh: u32,
+    wanted: &[i64],
+) -> Result<(), Fail>
+    requires { HasValuesInHalfRange plane.now.values }
+{
+    assert!(rt; mesh <= 9);
+    let left = residual(rt, alloc, plane, mesh)?;
+    assert_eq!(rt; left.shape().pixels() as usize, wanted.len());
+    for (p, value) in wanted.iter().enumerate() {
+        if p < left.shape().pixels() as usize {
+            assert_eq!(rt; left.get(p as u32).unwrap_or(U), *value, "pixel {p}");
+        }
+    }
+    Ok(())
+}
+
+// Four pixels, two, and none: the last cell gets the median of the image.
+#[test]
+fn medians_of_full_short_and_empty_cells(rt: HostRuntime) -> Result<(), Fail> {
+    let plane = plane_of(rt.alloc(), 5, 2, &[1, 4, U, U, 9, 2, 3, U, U, 7])?;
+    let values = mesh_values(&rt, rt.alloc(), &plane, 2)?;
+    assert_eq!(rt; values.as_slice(), [2, 3, 7].as_slice());
+    Ok(())
+}
+
+// 3 and 4 have the lower median 3, the last column stands alone, and a mesh larger than the image has one cell.
+#[test]
+fn medians_of_an_image_under_several_meshes(rt: HostRuntime) -> Result<(), Fail> {
+    let plane = plane_of(rt.alloc(), 3, 2, &[4, -7, 5, 3, 20, -6])?;
+    let single = mesh_values(&rt, rt.alloc(), &plane, 1)?;
+    assert_eq!(rt; single.as_slice(), [4, -7, 5, 3, 20, -6].as_slice());
+    let pairs = mesh_values(&rt, rt.alloc(), &plane, 2)?;
+    assert_eq!(rt; pairs.as_slice(), [3, -6].as_slice());
+    let whole = mesh_values(&rt, rt.alloc(), &plane, 65535)?;
+    assert_eq!(rt; whole.as_slice(), [3].as_slice());
+    Ok(())
+}
+
+#[test]
+fn an_image_without_defined_pixels_has_zeros(rt: HostRuntime) -> Result<(), Fail> {
+    let plane = plane_of(rt.alloc(), 2, 1, &[U, U])?;
+    let values = mesh_values(&rt, rt.alloc(), &plane, 1)?;
+    assert_eq!(rt; values.as_slice(), [0, 0].as_slice());
+    try_residual(&rt, rt.alloc(), &plane, 1, &[U, U])
+}
+
+#[test]
+fn residual_under_a_mesh_and_without(rt: HostRuntime) -> Result<(), Fail> {
+    let plane = plane_of(rt.alloc(), 5, 2, &[1, 4, U, U, 9, 2, 3, U, U, 7])?;
+    let left = [-1, 2, U, U, 2, 0, 1, U, U, 0];
+    try_residual(&rt, rt.alloc(), &plane, 2, &left)?;
+    let same = [1, 4, U, U, 9, 2, 3, U, U, 7];
+    try_residual(&rt, rt.alloc(), &plane, 0, &same)
+}

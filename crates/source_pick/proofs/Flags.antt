@@ -1,0 +1,404 @@
+-- Which nodes the arrays show as sources, and the list that is made of them.
+use Rattle.std.proofs.Common.{◌≡◌, ℕ, ◌+◌, ◌*◌, ◌<◌, ◌≤◌, zero, suc, Bool, true, false, ◌&&◌, ◌||◌, not, List, [], ◌∷◌, ◌++◌, length, map, refl, sym, ◌∙◌, ap, subst, arith, ◌⊎◌, inl, inr, get_or, set, Result, Ok, Err, Vec, Global}
+use Rattle.std.specs.Prelude.{unwrap_or, IfOk, Option, Some, None, replicate, slice_get, slice_index, slice_index_or}
+use Rattle.std.specs.List.{range_with_len, flat_map}
+use Rattle.std.proofs.lemmas.Bool.{true≢false, and_from, and_left, and_right, not_from_true, false_from_ne_true, cases_lt, cases_order}
+use Rattle.std.proofs.lemmas.List.{append-nil, length-set, length-replicate, length-map}
+use Rattle.std.proofs.lemmas.Option.{slice_get-get_or, slice_get_within, same_Some}
+use Rattle.comp_tree.specs.declared.shape.Shape.{Shape}
+use Rattle.comp_tree.specs.declared.shape.Connect.{Connect}
+use Rattle.comp_tree.specs.declared.tree.NodeRow.{NodeRow}
+use Rattle.comp_tree.specs.Raster.{Raster, IsPlane, pixels}
+use Rattle.comp_tree.specs.ComponentTree.{ComponentTree, parent_in, no_node}
+use Rattle.comp_tree.specs.Components.{nodes, tree_of}
+use Rattle.comp_tree.specs.Laws.{parent_of_node}
+use Rattle.comp_tree.proofs.Ancestors.{below_no_node}
+use Rattle.node_sums.specs.declared.entry.Sums.{Sums}
+use Rattle.node_sums.specs.Sums.{sums_of, sums_in, AreTheTrees}
+use Rattle.node_sums.proofs.Reading.{get-written}
+use Rattle.source_pick.specs.declared.choice.Choice.{Choice}
+use Rattle.source_pick.specs.declared.splitting.StrongChildren.{StrongChildren}
+use Rattle.source_pick.specs.declared.splitting.StrongChildren.TheVariants.{Zero, One, Several}
+use Rattle.source_pick.specs.Sources.{is_entry, entry_of, is_strong, is_split, has_strong_sibling, contains_split, is_source, sources_at, sources}
+use Rattle.source_pick.specs.Segmentation.{AreDisjointNodes}
+use Rattle.source_pick.specs.Passes.{IsOf, entry_number, AreEntries, AreStrong, IsInner, HasTwo, HasOne, HasNone, Has, AreCounted, are_several, IsOnWay, IsAboveSplit, AreAboveSplits, AreSources, IsFirstOf, IsNoFirst, StandAtFirst, ArePicked}
+use Rattle.source_pick.proofs.Entries.{node_from_row, IsEntryOf, entry_of-parts, entry_of-self, entry_of-found, entry_of_child}
+use Rattle.source_pick.proofs.Splits.{same_bool, AreTwins, other_way, IsSplitNode, split_parts, split_from, split_entry, HasSibling, sibling_parts, sibling_from, ContainsSplit, contains_parts, contains_from}
+use Rattle.source_pick.proofs.Sourcing.{source_from}
+use Rattle.source_pick.proofs.Listing.{IsSourceAt, sources_at-one, sources_at-none, flat-push, first_below, source_node, sources_apart}
+use Rattle.source_pick.proofs.Readings.{of_trees, numbers-length, tree-shape, rows-length, node_inside, filled}
+use Rattle.source_pick.proofs.Strong.{entry_from_number}
+
+-- ---- what the arrays say
+
+-- the arrays are those of the nodes
+pub record IsKnown (r : Raster) (connect : Connect) (choice : Choice) (tree : ComponentTree) (sums : List Sums) (entries : List ℕ) (strong : List Bool) (children : List StrongChildren) (above : List Bool) : Type 0 where
+  pub of : IsOf r connect tree sums
+  pub entries_are : AreEntries choice tree sums (length tree.rows) entries
+  pub strong_are : AreStrong choice tree sums (length tree.rows) strong
+  pub children_are : AreCounted tree.rows entries strong (length tree.rows) children
+  pub above_are : AreAboveSplits tree.rows (map are_several children) above
+
+two_from_several : (rows : List NodeRow) (entries : List ℕ) (strong : List Bool) (count m : ℕ) (c : StrongChildren) → Has rows entries strong count m c → are_several c ≡ true
+    → HasTwo rows entries strong count m
+two_from_several rows entries strong count m Zero h e = absurd (true≢false (sym e))
+two_from_several rows entries strong count m One h e = absurd (true≢false (sym e))
+two_from_several rows entries strong count m Several h e = h
+
+several_from_two : (rows : List NodeRow) (entries : List ℕ) (strong : List Bool) (count m a b : ℕ) (c : StrongChildren) → Has rows entries strong count m c → a < b → b < count
+    → IsInner rows entries strong m a → IsInner rows entries strong m b → are_several c ≡ true
+several_from_two rows entries strong count m a b Zero h l u i j = absurd (h.none b u j)
+several_from_two rows entries strong count m a b One h l u i j =
+    let e : a ≡ h.first = h.only a (omega arith) i in
+    let f : b ≡ h.first = h.only b u j in
+    absurd (omega arith)
+several_from_two rows entries strong count m a b Several h l u i j = refl
+
+flag-is : (children : List StrongChildren) (m : ℕ) (d : StrongChildren) → m < length children → slice_index_or (map are_several children) m false ≡ are_several (slice_index_or children m d)
+flag-is [] m d h = absurd (omega arith)
+flag-is (x ∷ xs) zero d h = refl
+flag-is (x ∷ xs) (suc m) d h = flag-is xs m d (omega arith)
+
+module _ (r : Raster) (connect : Connect) (choice : Choice) (tree : ComponentTree) (sums : List Sums) (entries : List ℕ) (strong : List Bool) (children : List StrongChildren) (above : List Bool)
+    (k : IsKnown r connect choice tree sums entries strong children above) where
+  plane : IsPlane r
+  plane = k.of.plane
+
+  node : (n : ℕ) → n < length tree.rows → n < length (nodes r connect)
+  node n h = node_inside r connect tree n k.of.tree_is h
+
+  row : (n : ℕ) → n < length (nodes r connect) → n < length tree.rows
+  row n h = let l : length tree.rows ≡ length (nodes r connect) = rows-length r connect tree k.of.tree_is in omega arith
+
+  child_of : (n : ℕ) → parent_in tree.rows n ≡ parent_of_node r connect n
+  child_of n = ap (λ (t : ComponentTree). parent_in t.rows n) k.of.tree_is
+
+  entry_at : (m : ℕ) → m < length tree.rows → (slice_index entries m ≡ no_node → ⊥) → entry_of r connect choice m ≡ Some (slice_index entries m)
+  entry_at m h some = entry_from_number r connect choice m (slice_index entries m) plane (node m h) (k.entries_are.each r connect k.of m h) some
+
+  inner_entry : (m a : ℕ) → m < length tree.rows → a < length tree.rows → IsInner tree.rows entries strong m a → entry_of r connect choice a ≡ Some (slice_index entries m)
+  inner_entry m a hm ha i =
+      entry_of-found r connect choice a (slice_index entries m) plane (node a ha)
+      (entry_of_child r connect choice a m (slice_index entries m) (sym (child_of a) ∙ i.is_child) (node m hm)
+      (entry_of-parts r connect choice m (slice_index entries m) plane (node m hm) (entry_at m hm i.has_entry)))
+
+  twins_from_inner : (m a b : ℕ) → m < length tree.rows → a < length tree.rows → b < length tree.rows → a < b
+      → IsInner tree.rows entries strong m a → IsInner tree.rows entries strong m b → AreTwins r connect choice m a b
+  twins_from_inner m a b hm ha hb l i j = record {
+    apart = λ e. absurd (omega arith);
+    one_child = sym (child_of a) ∙ i.is_child;
+    other_child = sym (child_of b) ∙ j.is_child;
+    one_strong = sym (k.strong_are.each r connect k.of a ha) ∙ i.is_strong;
+    other_strong = sym (k.strong_are.each r connect k.of b hb) ∙ j.is_strong;
+    entry = slice_index entries m;
+    one_entry = inner_entry m a hm ha i;
+    other_entry = inner_entry m b hm hb j;
+  }
+
+  inner_from_twins : (m a b : ℕ) → m < length tree.rows → a < length (nodes r connect) → b < length (nodes r connect) → AreTwins r connect choice m a b → IsInner tree.rows entries strong m a
+  unfolding entry_number
+  inner_from_twins m a b hm ha hb t = record {
+    is_child = child_of a ∙ t.one_child;
+    is_strong = k.strong_are.each r connect k.of a (row a ha) ∙ t.one_strong;
+    has_entry = λ e. below_no_node r connect t.entry plane
+        (entry_of-parts r connect choice m t.entry plane (node m hm) (split_entry r connect choice m a b plane (node m hm) ha hb t)).node
+        (sym (k.entries_are.each r connect k.of m hm ∙ ap (λ (o : Option ℕ). unwrap_or o no_node) (split_entry r connect choice m a b plane (node m hm) ha hb t)) ∙ e);
+  }
+
+  child_state : (m : ℕ) → m < length tree.rows → Has tree.rows entries strong (length tree.rows) m (slice_index_or children m Zero)
+  child_state m h =
+      k.children_are.each m (slice_index_or children m Zero)
+      (slice_get-get_or children m Zero (let l : length children ≡ length tree.rows = k.children_are.one_each in omega arith))
+
+  several-is : (m : ℕ) → m < length tree.rows → are_several (slice_index_or children m Zero) ≡ is_split r connect choice m
+  several-is m h = same_bool (are_several (slice_index_or children m Zero)) (is_split r connect choice m) there back
+    where
+      there : are_several (slice_index_or children m Zero) ≡ true → is_split r connect choice m ≡ true
+      there e =
+          let t : HasTwo tree.rows entries strong (length tree.rows) m = two_from_several tree.rows entries strong (length tree.rows) m (slice_index_or children m Zero) (child_state m h) e in
+          let u : t.second < length tree.rows = t.below in
+          let v : t.first < length tree.rows = omega (arith, t.apart) in
+          split_from r connect choice m t.first t.second (node t.first v) (node t.second u) (twins_from_inner m t.first t.second h v u t.apart t.one t.other)
+
+      back : is_split r connect choice m ≡ true → are_several (slice_index_or children m Zero) ≡ true
+      back e = order (cases_order s.first s.second)
+        where
+          s : IsSplitNode r connect choice m
+          s = split_parts r connect choice m e
+
+          one : IsInner tree.rows entries strong m s.first
+          one = inner_from_twins m s.first s.second h s.first_node s.second_node s.twins
+
+          other : IsInner tree.rows entries strong m s.second
+          other = inner_from_twins m s.second s.first h s.second_node s.first_node (other_way r connect choice m s.first s.second s.twins)
+
+          order : (s.first ≡ s.second) ⊎ ((s.first < s.second) ⊎ (s.second < s.first)) → are_several (slice_index_or children m Zero) ≡ true
+          order (inl f) = absurd (s.twins.apart f)
+          order (inr (inl l)) = several_from_two tree.rows entries strong (length tree.rows) m s.first s.second (slice_index_or children m Zero) (child_state m h) l (row s.second s.second_node) one other
+          order (inr (inr l)) = several_from_two tree.rows entries strong (length tree.rows) m s.second s.first (slice_index_or children m Zero) (child_state m h) l (row s.first s.first_node) other one
+
+  split_flag : (m : ℕ) → m < length tree.rows → slice_index_or (map are_several children) m false ≡ is_split r connect choice m
+  split_flag m h = flag-is children m Zero (let l : length children ≡ length tree.rows = k.children_are.one_each in omega arith) ∙ several-is m h
+
+  pub several_read : (m : ℕ) (d : StrongChildren) → m < length tree.rows → are_several (slice_index_or children m d) ≡ is_split r connect choice m
+  several_read m d h = sym (flag-is children m d (let l : length children ≡ length tree.rows = k.children_are.one_each in omega arith)) ∙ split_flag m h
+
+  way_same : (m n : ℕ) → IsOnWay tree.rows m n → IsOnWay (tree_of r connect).rows m n
+  way_same m n w = subst (λ (t : ComponentTree). IsOnWay t.rows m n) k.of.tree_is w
+
+  way_back : (m n : ℕ) → IsOnWay (tree_of r connect).rows m n → IsOnWay tree.rows m n
+  way_back m n w = subst (λ (t : ComponentTree). IsOnWay t.rows m n) (sym k.of.tree_is) w
+
+  pub above-is : (n : ℕ) → n < length tree.rows → slice_index_or above n false ≡ contains_split r connect choice n
+  above-is n h = same_bool (slice_index_or above n false) (contains_split r connect choice n) there back
+    where
+      there : slice_index_or above n false ≡ true → contains_split r connect choice n ≡ true
+      there e =
+          let s : IsAboveSplit tree.rows (map are_several children) n = k.above_are.sound n h e in
+          contains_from r connect choice n plane (node n h)
+          (record { split = s.split; node = node s.split s.inside; way = way_same n s.split s.on_way; is_split = sym (split_flag s.split s.inside) ∙ s.is_split })
+
+      back : contains_split r connect choice n ≡ true → slice_index_or above n false ≡ true
+      back e =
+          let s : ContainsSplit r connect choice n = contains_parts r connect choice n plane (node n h) e in
+          k.above_are.complete n
+          (record { split = s.split; inside = row s.split s.node; on_way = way_back n s.split s.way; is_split = split_flag s.split (row s.split s.node) ∙ s.is_split })
+
+  -- ---- each exit of the test
+
+  pub exit_above : (n : ℕ) → n < length tree.rows → slice_index_or above n false ≡ true → false ≡ is_source r connect choice n
+  unfolding is_source
+  exit_above n h e =
+      sym (and_right (is_entry r connect choice n || has_strong_sibling r connect choice n) (not (contains_split r connect choice n))
+      (not_from_true (contains_split r connect choice n) (sym (above-is n h) ∙ e)))
+
+  pub exit_entry : (n : ℕ) → n < length tree.rows → slice_index_or above n false ≡ false → slice_index entries n ≡ n → true ≡ is_source r connect choice n
+  exit_entry n h e f =
+      let own : entry_of r connect choice n ≡ Some (slice_index entries n) = entry_at n h (λ g. below_no_node r connect n plane (node n h) (sym f ∙ g)) in
+      let parts : IsEntryOf r connect choice n (slice_index entries n) = entry_of-parts r connect choice n (slice_index entries n) plane (node n h) own in
+      sym (source_from r connect choice n (record { stands = inl (subst (λ (x : ℕ). is_entry r connect choice x ≡ true) f parts.entry); whole = sym (above-is n h) ∙ e }))
+
+  no_entry : (n : ℕ) → n < length tree.rows → (slice_index entries n ≡ n → ⊥) → is_entry r connect choice n ≡ false
+  unfolding entry_number
+  no_entry n h other =
+      false_from_ne_true (is_entry r connect choice n)
+      (λ e. other (k.entries_are.each r connect k.of n h ∙ ap (λ (o : Option ℕ). unwrap_or o no_node) (entry_of-self r connect choice n plane (node n h) e)))
+
+  by_sibling : (n : ℕ) (b : Bool) → n < length tree.rows → slice_index_or above n false ≡ false → (slice_index entries n ≡ n → ⊥) → b ≡ has_strong_sibling r connect choice n
+      → b ≡ is_source r connect choice n
+  unfolding is_source
+  by_sibling n b h e other f = rw (no_entry n h other, sym (above-is n h) ∙ e) (f ∙ last (has_strong_sibling r connect choice n))
+    where
+      last : (t : Bool) → t ≡ (t && true)
+      last true = refl
+      last false = refl
+
+  pub exit_weak : (n : ℕ) → n < length tree.rows → slice_index_or above n false ≡ false → (slice_index entries n ≡ n → ⊥) → slice_index_or strong n false ≡ false → false ≡ is_source r connect choice n
+  exit_weak n h e other weak =
+      by_sibling n false h e other
+      (sym (false_from_ne_true (has_strong_sibling r connect choice n)
+      (λ s. true≢false (sym (sibling_parts r connect choice n plane (node n h) s).strong ∙ sym (k.strong_are.each r connect k.of n h) ∙ weak))))
+
+  pub exit_root : (n p : ℕ) → n < length tree.rows → slice_index_or above n false ≡ false → (slice_index entries n ≡ n → ⊥) → p ≡ parent_of_node r connect n → p ≡ no_node
+      → false ≡ is_source r connect choice n
+  exit_root n p h e other is_parent none =
+      by_sibling n false h e other
+      (sym (false_from_ne_true (has_strong_sibling r connect choice n)
+      (λ s. below_no_node r connect (parent_of_node r connect n) plane (sibling_parts r connect choice n plane (node n h) s).node (sym is_parent ∙ none))))
+
+  pub exit_child : (n p : ℕ) (b : Bool) → n < length tree.rows → slice_index_or above n false ≡ false → (slice_index entries n ≡ n → ⊥) → slice_index_or strong n false ≡ true
+      → p ≡ parent_of_node r connect n → p < n → b ≡ is_split r connect choice p → b ≡ is_source r connect choice n
+  exit_child n p b h e other on is_parent l f =
+      by_sibling n b h e other (f ∙ same_bool (is_split r connect choice p) (has_strong_sibling r connect choice n) there back)
+    where
+      there : is_split r connect choice p ≡ true → has_strong_sibling r connect choice n ≡ true
+      there s = sibling_from r connect choice n plane (node n h) (record {
+        node = subst (λ (x : ℕ). x < length (nodes r connect)) is_parent (node p (omega arith));
+        strong = sym (k.strong_are.each r connect k.of n h) ∙ on;
+        split = subst (λ (x : ℕ). is_split r connect choice x ≡ true) is_parent s;
+      })
+
+      back : has_strong_sibling r connect choice n ≡ true → is_split r connect choice p ≡ true
+      back s = subst (λ (x : ℕ). is_split r connect choice x ≡ true) (sym is_parent) (sibling_parts r connect choice n plane (node n h) s).split
+
+-- ---- the flags
+
+pub sources_none : (choice : Choice) (tree : ComponentTree) (sums : List Sums) (flags : List Bool) → length flags ≡ length tree.rows → AreSources choice tree sums 0 flags
+sources_none choice tree sums flags l = record { one_each = l; each = λ r connect o n h. absurd (omega arith) }
+
+pub sources_more : (choice : Choice) (tree : ComponentTree) (sums : List Sums) (k : ℕ) (x : Bool) (flags : List Bool) → AreSources choice tree sums k flags → k < length tree.rows
+    → ((r : Raster) (connect : Connect) → IsOf r connect tree sums → x ≡ is_source r connect choice k) → AreSources choice tree sums (k + 1) (set flags k x)
+sources_more choice tree sums k x flags h inside here = record {
+  one_each = length-set flags k x ∙ h.one_each;
+  each = λ r connect o. filled flags k x false (is_source r connect choice) (let l : length flags ≡ length tree.rows = h.one_each in omega arith) (h.each r connect o) (here r connect o);
+}
+
+pub sources_up_to : (choice : Choice) (tree : ComponentTree) (sums : List Sums) (j k : ℕ) (flags : List Bool) → AreSources choice tree sums k flags → j ≤ k → AreSources choice tree sums j flags
+sources_up_to choice tree sums j k flags h l = record { one_each = h.one_each; each = λ r connect o n m. h.each r connect o n (omega arith) }
+
+-- ---- the marks at least pixels
+
+pub stand_none : (choice : Choice) (tree : ComponentTree) (sums : List Sums) (marks : List ℕ) → marks ≡ replicate (length tree.node_of) no_node → StandAtFirst choice tree sums 0 marks
+stand_none choice tree sums marks e = record {
+  one_each = ap length e ∙ length-replicate (length tree.node_of) no_node;
+  each = λ r connect o p n g. inr (record {
+    none = nothing (length tree.node_of) p n (ap (λ (xs : List ℕ). slice_get xs p) (sym e) ∙ g);
+    no_source = λ m l. absurd (omega arith);
+  });
+}
+  where
+    nothing : (k i n : ℕ) → slice_get (replicate k no_node) i ≡ Some n → n ≡ no_node
+    nothing zero i n f = absurd (cc)
+    nothing (suc k) zero n f = sym (same_Some no_node n f)
+    nothing (suc k) (suc i) n f = nothing k i n f
+
+pub stand_source : (choice : Choice) (tree : ComponentTree) (sums : List Sums) (k f : ℕ) (marks : List ℕ) → StandAtFirst choice tree sums k marks
+    → ((r : Raster) (connect : Connect) → IsOf r connect tree sums → is_source r connect choice k ≡ true)
+    → ((r : Raster) (connect : Connect) → IsOf r connect tree sums → f ≡ (sums_of r connect k).first) → StandAtFirst choice tree sums (k + 1) (set marks f k)
+stand_source choice tree sums k f marks h source first = record {
+  one_each = length-set marks f k ∙ h.one_each;
+  each = λ r connect o p n g. go r connect o p n (get-written marks f k p n g);
+}
+  where
+    go : (r : Raster) (connect : Connect) → IsOf r connect tree sums → (p n : ℕ) → ((p ≡ f) × (k ≡ n)) ⊎ ((p ≡ f → ⊥) × (slice_get marks p ≡ Some n))
+        → IsFirstOf r connect choice (k + 1) p n ⊎ IsNoFirst r connect choice (k + 1) p n
+    go r connect o p n (inl x) = inl (record {
+      below = let e : k ≡ n = x.1 in omega arith;
+      source = subst (λ (y : ℕ). is_source r connect choice y ≡ true) x.1 (source r connect o);
+      first = subst (λ (y : ℕ). (sums_of r connect y).first ≡ p) x.1 (sym (first r connect o) ∙ sym x.0);
+    })
+    go r connect o p n (inr x) = old (h.each r connect o p n x.1)
+      where
+        old : IsFirstOf r connect choice k p n ⊎ IsNoFirst r connect choice k p n → IsFirstOf r connect choice (k + 1) p n ⊎ IsNoFirst r connect choice (k + 1) p n
+        old (inl a) = inl (record { below = omega (arith, a.below); source = a.source; first = a.first })
+        old (inr a) = inr (record { none = a.none; no_source = λ m l s e. last m (cases_lt m k) l s e })
+          where
+            last : (m : ℕ) → (m < k) ⊎ (k ≤ m) → m < k + 1 → is_source r connect choice m ≡ true → (sums_of r connect m).first ≡ p → ⊥
+            last m (inl y) l s e = a.no_source m y s e
+            last m (inr y) l s e =
+                let same : m ≡ k = omega arith in
+                x.0 (sym e ∙ ap (λ (z : ℕ). (sums_of r connect z).first) same ∙ sym (first r connect o))
+
+pub stand_other : (choice : Choice) (tree : ComponentTree) (sums : List Sums) (k : ℕ) (marks : List ℕ) → StandAtFirst choice tree sums k marks
+    → ((r : Raster) (connect : Connect) → IsOf r connect tree sums → is_source r connect choice k ≡ false) → StandAtFirst choice tree sums (k + 1) marks
+stand_other choice tree sums k marks h other = record { one_each = h.one_each; each = λ r connect o p n g. old r connect o p n (h.each r connect o p n g) }
+  where
+    old : (r : Raster) (connect : Connect) → IsOf r connect tree sums → (p n : ℕ) → IsFirstOf r connect choice k p n ⊎ IsNoFirst r connect choice k p n
+        → IsFirstOf r connect choice (k + 1) p n ⊎ IsNoFirst r connect choice (k + 1) p n
+    old r connect o p n (inl a) = inl (record { below = omega (arith, a.below); source = a.source; first = a.first })
+    old r connect o p n (inr a) = inr (record { none = a.none; no_source = λ m l s e. last m (cases_lt m k) l s e })
+      where
+        last : (m : ℕ) → (m < k) ⊎ (k ≤ m) → m < k + 1 → is_source r connect choice m ≡ true → (sums_of r connect m).first ≡ p → ⊥
+        last m (inl y) l s e = a.no_source m y s e
+        last m (inr y) l s e = let same : m ≡ k = omega arith in true≢false (sym s ∙ ap (is_source r connect choice) same ∙ other r connect o)
+
+pub stand_up_to : (choice : Choice) (tree : ComponentTree) (sums : List Sums) (j k : ℕ) (marks : List ℕ) → StandAtFirst choice tree sums k marks → j ≡ k → StandAtFirst choice tree sums j marks
+stand_up_to choice tree sums j k marks h e = subst (λ (n : ℕ). StandAtFirst choice tree sums n marks) (sym e) h
+
+-- a node's least pixel has a place
+pub first_place : (r : Raster) (connect : Connect) (tree : ComponentTree) (sums : List Sums) (n : ℕ) (s : Sums) (marks : List ℕ) → IsOf r connect tree sums → n < length tree.rows
+    → s ≡ sums_of r connect n → length marks ≡ length tree.node_of → s.first < length marks
+first_place r connect tree sums n s marks o h e l =
+    let a : (sums_of r connect n).first < length r.values = first_below r connect n o.plane (node_inside r connect tree n o.tree_is h) in
+    let b : length tree.node_of ≡ length r.values = numbers-length r connect tree o.tree_is in
+    let f : s.first ≡ (sums_of r connect n).first = ap (λ (x : Sums). x.first) e in
+    omega arith
+
+-- ---- the list
+
+pub picked_none : (choice : Choice) (tree : ComponentTree) (sums : List Sums) (picked : List ℕ) → picked ≡ [] → ArePicked choice tree sums 0 picked
+picked_none choice tree sums picked e = record { listed = λ r connect o. e }
+
+picked_step : (choice : Choice) (tree : ComponentTree) (sums : List Sums) (i : ℕ) (picked here : List ℕ) → ArePicked choice tree sums i picked
+    → ((r : Raster) (connect : Connect) → IsOf r connect tree sums → sources_at r connect choice i ≡ here) → ArePicked choice tree sums (i + 1) (picked ++ here)
+picked_step choice tree sums i picked here h at = record {
+  listed = λ r connect o.
+      let next : suc i ≡ i + 1 = omega arith in
+      ap (λ (xs : List ℕ). xs ++ here) (h.listed r connect o)
+      ∙ ap (λ (xs : List ℕ). flat_map (sources_at r connect choice) (range_with_len 0 i) ++ xs) (sym (at r connect o))
+      ∙ sym (flat-push r connect choice i)
+      ∙ ap (λ (n : ℕ). flat_map (sources_at r connect choice) (range_with_len 0 n)) next;
+}
+
+pub picked_more : (choice : Choice) (tree : ComponentTree) (sums : List Sums) (i n : ℕ) (marks picked : List ℕ) → StandAtFirst choice tree sums (length tree.rows) marks
+    → slice_get marks i ≡ Some n → (n ≡ no_node → ⊥) → ArePicked choice tree sums i picked → ArePicked choice tree sums (i + 1) (picked ++ n ∷ [])
+picked_more choice tree sums i n marks picked s g some h = picked_step choice tree sums i picked (n ∷ []) h (λ r connect o. at r connect o (s.each r connect o i n g))
+  where
+    at : (r : Raster) (connect : Connect) → IsOf r connect tree sums → IsFirstOf r connect choice (length tree.rows) i n ⊎ IsNoFirst r connect choice (length tree.rows) i n
+        → sources_at r connect choice i ≡ n ∷ []
+    at r connect o (inl a) = sources_at-one r connect choice i n o.plane (record { node = node_inside r connect tree n o.tree_is a.below; source = a.source; first = a.first })
+    at r connect o (inr a) = absurd (some a.none)
+
+pub picked_same : (choice : Choice) (tree : ComponentTree) (sums : List Sums) (i n : ℕ) (marks picked : List ℕ) → StandAtFirst choice tree sums (length tree.rows) marks
+    → slice_get marks i ≡ Some n → n ≡ no_node → ArePicked choice tree sums i picked → ArePicked choice tree sums (i + 1) picked
+picked_same choice tree sums i n marks picked s g none h =
+    subst (ArePicked choice tree sums (i + 1)) (append-nil picked) (picked_step choice tree sums i picked [] h (λ r connect o. at r connect o (s.each r connect o i n g)))
+  where
+    at : (r : Raster) (connect : Connect) → IsOf r connect tree sums → IsFirstOf r connect choice (length tree.rows) i n ⊎ IsNoFirst r connect choice (length tree.rows) i n
+        → sources_at r connect choice i ≡ []
+    at r connect o (inl a) = absurd (below_no_node r connect n o.plane (node_inside r connect tree n o.tree_is a.below) none)
+    at r connect o (inr a) =
+        sources_at-none r connect choice i
+        (λ m x. a.no_source m (let l : length tree.rows ≡ length (nodes r connect) = rows-length r connect tree o.tree_is in let y : m < length (nodes r connect) = x.node in omega arith) x.source x.first)
+
+pub picked_up_to : (choice : Choice) (tree : ComponentTree) (sums : List Sums) (j k : ℕ) (picked : List ℕ) → ArePicked choice tree sums k picked → j ≡ k → ArePicked choice tree sums j picked
+picked_up_to choice tree sums j k picked h e = subst (λ (n : ℕ). ArePicked choice tree sums n picked) (sym e) h
+
+list-is : (r : Raster) (connect : Connect) (choice : Choice) → sources r connect choice ≡ flat_map (sources_at r connect choice) (range_with_len 0 (length r.values))
+unfolding sources pixels
+list-is r connect choice = refl
+
+pub picked_all : (r : Raster) (connect : Connect) (choice : Choice) (tree : ComponentTree) (sums : List Sums) (count : ℕ) (picked : List ℕ) → ArePicked choice tree sums count picked
+    → count ≡ length tree.node_of → IsOf r connect tree sums → picked ≡ sources r connect choice
+picked_all r connect choice tree sums count picked h e o =
+    h.listed r connect o
+    ∙ ap (λ (n : ℕ). flat_map (sources_at r connect choice) (range_with_len 0 n)) (e ∙ numbers-length r connect tree o.tree_is)
+    ∙ sym (list-is r connect choice)
+
+-- any plane with this tree and these sums
+pub of_same : (r : Raster) (connect : Connect) (tree : ComponentTree) (sums : List Sums) → AreTheTrees tree sums → tree ≡ tree_of r connect → sums ≡ sums_in r connect → IsOf r connect tree sums
+of_same r connect tree sums t e f = record { plane = plane; tree_is = e; sums_are = f }
+  where
+    plane : IsPlane r
+    plane =
+        sym (numbers-length r connect tree e) ∙ numbers-length t.plane t.of_plane.connect tree t.of_plane.tree_is ∙ t.one_each
+        ∙ ap (λ (s : Shape). s.width * s.height) (sym (tree-shape t.plane t.of_plane.connect tree t.of_plane.tree_is) ∙ tree-shape r connect tree e)
+
+pub picked_disjoint : (choice : Choice) (tree : ComponentTree) (sums : List Sums) (picked : List ℕ) → (t : AreTheTrees tree sums) → picked ≡ sources t.plane t.of_plane.connect choice
+    → AreDisjointNodes tree picked
+picked_disjoint choice tree sums picked t e = record {
+  plane = t.plane;
+  connect = t.of_plane.connect;
+  one_each = t.one_each;
+  tree_is = t.of_plane.tree_is;
+  nodes = λ i s g.
+      let a : s < length (nodes t.plane t.of_plane.connect) = source_node t.plane t.of_plane.connect choice i s t.one_each (ap (λ (xs : List ℕ). slice_get xs i) (sym e) ∙ g) in
+      let b : length tree.rows ≡ length (nodes t.plane t.of_plane.connect) = rows-length t.plane t.of_plane.connect tree t.of_plane.tree_is in
+      omega arith;
+  disjoint = λ i j m n l f g.
+      sources_apart t.plane t.of_plane.connect choice i j m n t.one_each l (ap (λ (xs : List ℕ). slice_get xs i) (sym e) ∙ f) (ap (λ (xs : List ℕ). slice_get xs j) (sym e) ∙ g);
+}
+
+-- ---- as the code answers
+
+pub flags_exact : {E : Type 0} (result : Result (Vec Bool Global) E) (choice : Choice) (tree : ComponentTree) (sums : List Sums) (entries : List ℕ) (strong : List Bool)
+    → AreEntries choice tree sums (length tree.rows) entries → AreStrong choice tree sums (length tree.rows) strong
+    → IfOk result (λ flags. (c : Choice) (s : List Sums) → AreEntries c tree s (length tree.rows) entries → AreStrong c tree s (length tree.rows) strong
+    → AreSources c tree s (length tree.rows) flags.items)
+    → IfOk result (λ flags. AreSources choice tree sums (length tree.rows) flags.items)
+flags_exact (Ok v) choice tree sums entries strong a b h = h choice sums a b
+flags_exact (Err d) choice tree sums entries strong a b h = tt
+
+pub picked_exact : {E : Type 0} (result : Result (Vec ℕ Global) E) (choice : Choice) (tree : ComponentTree) (sums : List Sums) (marks : List ℕ) → AreTheTrees tree sums
+    → StandAtFirst choice tree sums (length tree.rows) marks
+    → IfOk result (λ picked. (c : Choice) (t : ComponentTree) (s : List Sums) → StandAtFirst c t s (length t.rows) marks → ArePicked c t s (length marks) picked.items)
+    → IfOk result (λ picked. (plane : Raster) (connect : Connect) → tree ≡ tree_of plane connect → sums ≡ sums_in plane connect → picked.items ≡ sources plane connect choice)
+picked_exact (Ok v) choice tree sums marks t stand h = λ plane connect e f.
+    picked_all plane connect choice tree sums (length marks) v.items (h choice tree sums stand) stand.one_each (of_same plane connect tree sums t e f)
+picked_exact (Err d) choice tree sums marks t stand h = tt
+
+pub picked_apart : {E : Type 0} (result : Result (Vec ℕ Global) E) (choice : Choice) (tree : ComponentTree) (sums : List Sums) → AreTheTrees tree sums
+    → IfOk result (λ picked. (plane : Raster) (connect : Connect) → tree ≡ tree_of plane connect → sums ≡ sums_in plane connect → picked.items ≡ sources plane connect choice)
+    → IfOk result (λ picked. AreDisjointNodes tree picked.items)
+picked_apart (Ok v) choice tree sums t h = picked_disjoint choice tree sums v.items t (h t.plane t.of_plane.connect t.of_plane.tree_is t.of_plane.sums_are)
+picked_apart (Err d) choice tree sums t h = tt

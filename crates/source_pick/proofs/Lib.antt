@@ -1,0 +1,12 @@
+pub mod Within
+pub mod Entries
+pub mod Splits
+pub mod Sourcing
+pub mod Listing
+pub mod Readings
+pub mod Strong
+pub mod Counts
+pub mod Flags
+pub mod Marks
+pub mod Means
+pub mod Rows

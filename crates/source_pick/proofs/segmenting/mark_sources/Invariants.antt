@@ -1,0 +1,5 @@
+use Rattle.source_pick.specs.Passes.{AreMarked}
+use Rattle.source_pick.proofs.segmenting.mark_sources.Given as goal
+
+abbrev pub invariant-loop-i : goal.invariant-loop-i
+invariant-loop-i l = AreMarked l.tree.rows l.sources l.i l.numbers

@@ -1,0 +1,6 @@
+pub mod Sources
+pub mod Segmentation
+pub mod Catalogue
+pub mod Laws
+pub mod Passes
+pub mod Numbers

@@ -1,0 +1,153 @@
+-- What the passes over the nodes keep.
+use Rattle.std.specs.Prelude.{◌≡◌, ℕ, ◌<◌, ◌+◌, ◌≤◌, Bool, true, false, List, length, ◌⊎◌, slice_get, slice_index, slice_index_or, Some, unwrap_or}
+use Rattle.std.specs.List.{range_with_len, flat_map}
+use Rattle.comp_tree.specs.declared.shape.Connect.{Connect}
+use Rattle.comp_tree.specs.declared.tree.NodeRow.{NodeRow}
+use Rattle.comp_tree.specs.Raster.{Raster, IsPlane}
+use Rattle.comp_tree.specs.ComponentTree.{ComponentTree, parent_in, no_node}
+use Rattle.comp_tree.specs.Components.{tree_of}
+use Rattle.comp_tree.specs.Laws.{IsAncestor, top_of}
+use Rattle.node_sums.specs.declared.entry.Sums.{Sums}
+use Rattle.node_sums.specs.Sums.{sums_of, sums_in}
+use Rattle.source_pick.specs.declared.choice.Choice.{Choice}
+use Rattle.source_pick.specs.declared.splitting.StrongChildren.{StrongChildren}
+use Rattle.source_pick.specs.declared.splitting.StrongChildren.TheVariants.{Zero, One, Several}
+use Rattle.source_pick.specs.Sources.{entry_of, is_strong, is_source, sources_at}
+use Rattle.source_pick.specs.Segmentation.{number_at}
+
+-- the tree and the sums are those of the plane r
+pub record IsOf (r : Raster) (connect : Connect) (tree : ComponentTree) (sums : List Sums) : Type 0 where
+  pub plane : IsPlane r
+  pub tree_is : tree ≡ tree_of r connect
+  pub sums_are : sums ≡ sums_in r connect
+
+-- ---- entries and strong nodes
+
+-- the number of the entry in which node n lies, or none
+unfoldable pub entry_number : Raster → Connect → Choice → ℕ → ℕ
+entry_number r connect choice n = unwrap_or (entry_of r connect choice n) no_node
+
+-- the first count numbers are those of the nodes' entries
+pub record AreEntries (choice : Choice) (tree : ComponentTree) (sums : List Sums) (count : ℕ) (entries : List ℕ) : Type 0 where
+  pub one_each : length entries ≡ length tree.rows
+  pub each : (r : Raster) (connect : Connect) → IsOf r connect tree sums → (n : ℕ) → n < count → slice_index entries n ≡ entry_number r connect choice n
+
+-- the first count flags say which nodes are strong
+pub record AreStrong (choice : Choice) (tree : ComponentTree) (sums : List Sums) (count : ℕ) (strong : List Bool) : Type 0 where
+  pub one_each : length strong ≡ length tree.rows
+  pub each : (r : Raster) (connect : Connect) → IsOf r connect tree sums → (n : ℕ) → n < count → slice_index_or strong n false ≡ is_strong r connect choice n
+
+-- ---- splits
+
+-- n is a child of m with a flag, and m has an entry
+pub record IsInner (rows : List NodeRow) (entries : List ℕ) (strong : List Bool) (m n : ℕ) : Type 0 where
+  pub is_child : parent_in rows n ≡ m
+  pub is_strong : slice_index_or strong n false ≡ true
+  pub has_entry : slice_index entries m ≡ no_node → ⊥
+
+-- two such children have numbers below count
+pub record HasTwo (rows : List NodeRow) (entries : List ℕ) (strong : List Bool) (count m : ℕ) : Type 0 where
+  pub first : ℕ
+  pub second : ℕ
+  pub apart : first < second
+  pub below : second < count
+  pub one : IsInner rows entries strong m first
+  pub other : IsInner rows entries strong m second
+
+-- of the children with numbers below count one alone is so
+pub record HasOne (rows : List NodeRow) (entries : List ℕ) (strong : List Bool) (count m : ℕ) : Type 0 where
+  pub first : ℕ
+  pub below : first < count
+  pub one : IsInner rows entries strong m first
+  pub only : (n : ℕ) → n < count → IsInner rows entries strong m n → n ≡ first
+
+-- none is
+pub record HasNone (rows : List NodeRow) (entries : List ℕ) (strong : List Bool) (count m : ℕ) : Type 0 where
+  pub none : (n : ℕ) → n < count → IsInner rows entries strong m n → ⊥
+
+abbrev pub Has : List NodeRow → List ℕ → List Bool → ℕ → ℕ → StrongChildren → Type 0
+Has rows entries strong count m Zero = HasNone rows entries strong count m
+Has rows entries strong count m One = HasOne rows entries strong count m
+Has rows entries strong count m Several = HasTwo rows entries strong count m
+
+-- what is counted of the children with numbers below count
+pub record AreCounted (rows : List NodeRow) (entries : List ℕ) (strong : List Bool) (count : ℕ) (children : List StrongChildren) : Type 0 where
+  pub one_each : length children ≡ length rows
+  pub each : (m : ℕ) (c : StrongChildren) → slice_get children m ≡ Some c → Has rows entries strong count m c
+
+abbrev pub one_more : StrongChildren → StrongChildren
+one_more Zero = One
+one_more One = Several
+one_more Several = Several
+
+abbrev pub are_several : StrongChildren → Bool
+are_several Zero = false
+are_several One = false
+are_several Several = true
+
+-- m is n, or is met on the way from n upwards
+abbrev pub IsOnWay : List NodeRow → ℕ → ℕ → Type 0
+IsOnWay rows m n = (n ≡ m) ⊎ IsAncestor rows m n
+
+-- m is on the way from a split
+pub record IsAboveSplit (rows : List NodeRow) (splits : List Bool) (m : ℕ) : Type 0 where
+  pub split : ℕ
+  pub inside : split < length rows
+  pub on_way : IsOnWay rows m split
+  pub is_split : slice_index_or splits split false ≡ true
+
+-- the flags of the splits were handed to the parents from the nodes numbered from count on
+pub record ArePassed (rows : List NodeRow) (splits : List Bool) (count : ℕ) (flags : List Bool) : Type 0 where
+  pub one_each : length flags ≡ length rows
+  pub sound : (m : ℕ) → m < length rows → slice_index_or flags m false ≡ true → IsAboveSplit rows splits m
+  pub kept : (m : ℕ) → slice_index_or splits m false ≡ true → slice_index_or flags m false ≡ true
+  pub handed : (m n : ℕ) → count ≤ n → n < length rows → parent_in rows n ≡ m → m < length rows → slice_index_or flags n false ≡ true
+      → slice_index_or flags m false ≡ true
+
+-- the flags are those of the nodes that are on the way from a split
+pub record AreAboveSplits (rows : List NodeRow) (splits flags : List Bool) : Type 0 where
+  pub one_each : length flags ≡ length rows
+  pub sound : (m : ℕ) → m < length rows → slice_index_or flags m false ≡ true → IsAboveSplit rows splits m
+  pub complete : (m : ℕ) → IsAboveSplit rows splits m → slice_index_or flags m false ≡ true
+
+-- ---- sources
+
+-- the first count flags say which nodes are sources
+pub record AreSources (choice : Choice) (tree : ComponentTree) (sums : List Sums) (count : ℕ) (flags : List Bool) : Type 0 where
+  pub one_each : length flags ≡ length tree.rows
+  pub each : (r : Raster) (connect : Connect) → IsOf r connect tree sums → (n : ℕ) → n < count → slice_index_or flags n false ≡ is_source r connect choice n
+
+-- n is a source below count whose least pixel is p
+pub record IsFirstOf (r : Raster) (connect : Connect) (choice : Choice) (count p n : ℕ) : Type 0 where
+  pub below : n < count
+  pub source : is_source r connect choice n ≡ true
+  pub first : (sums_of r connect n).first ≡ p
+
+-- n is none, and there is no such source
+pub record IsNoFirst (r : Raster) (connect : Connect) (choice : Choice) (count p n : ℕ) : Type 0 where
+  pub none : n ≡ no_node
+  pub no_source : (m : ℕ) → m < count → is_source r connect choice m ≡ true → (sums_of r connect m).first ≡ p → ⊥
+
+-- the sources below count stand at their least pixels
+pub record StandAtFirst (choice : Choice) (tree : ComponentTree) (sums : List Sums) (count : ℕ) (marks : List ℕ) : Type 0 where
+  pub one_each : length marks ≡ length tree.node_of
+  pub each : (r : Raster) (connect : Connect) → IsOf r connect tree sums → (p n : ℕ) → slice_get marks p ≡ Some n
+      → IsFirstOf r connect choice count p n ⊎ IsNoFirst r connect choice count p n
+
+-- the list has the sources with least pixels below count, in the order of these
+pub record ArePicked (choice : Choice) (tree : ComponentTree) (sums : List Sums) (count : ℕ) (picked : List ℕ) : Type 0 where
+  pub listed : (r : Raster) (connect : Connect) → IsOf r connect tree sums → picked ≡ flat_map (sources_at r connect choice) (range_with_len 0 count)
+
+-- ---- the map
+
+-- the first count nodes of the list have their places from 1 at their numbers, and all other nodes have 0
+pub record AreMarked (rows : List NodeRow) (marked : List ℕ) (count : ℕ) (numbers : List ℕ) : Type 0 where
+  pub one_each : length numbers ≡ length rows
+  pub sound : (n : ℕ) → n < length rows → (slice_index numbers n ≡ 0) ⊎ ((i : ℕ) × (i < count) × (slice_get marked i ≡ Some n) × (slice_index numbers n ≡ i + 1))
+  pub complete : (i n : ℕ) → i < count → slice_get marked i ≡ Some n → slice_index numbers n ≡ 0 → ⊥
+
+-- the first count nodes have the number of the node of the list that is on their way upwards
+pub record AreNumbered (tree : ComponentTree) (marked : List ℕ) (count : ℕ) (numbers : List ℕ) : Type 0 where
+  pub one_each : length numbers ≡ length tree.rows
+  pub each : (r : Raster) (connect : Connect) → IsPlane r → tree ≡ tree_of r connect → (n : ℕ) → n < count
+      → slice_index numbers n ≡ number_at r connect marked (top_of r connect n)

@@ -1,0 +1,17 @@
+//! Sources, their segmentation map and their catalogue, from the component tree of a plane and the sums over its nodes.
+#![tactic(auto)]
+
+mod catalogue;
+mod choice;
+pub mod laws;
+mod marking;
+mod picking;
+mod segmenting;
+mod splitting;
+#[cfg(test)]
+mod tests;
+
+pub use catalogue::{CatRow, cells, row};
+pub use choice::Choice;
+pub use picking::pick;
+pub use segmenting::segment;

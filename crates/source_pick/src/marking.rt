@@ -1,0 +1,181 @@
+//! The nodes that lie in entries, and the strong ones among them.
+
+ghost use Rattle.std.specs.Prelude.{◌≡◌, ◌&&◌, ◌<◌, ◌≤◌, ◌^◌, IfOk, length};
+ghost use Rattle.comp_tree.specs.declared.shape.Connect.{Connect};
+ghost use Rattle.comp_tree.specs.Raster.{Raster};
+ghost use Rattle.comp_tree.specs.Components.{tree_of};
+ghost use Rattle.node_sums.specs.Sums.{AreTheTrees};
+ghost use Rattle.source_pick.specs.Sources.{is_large, is_lowest, is_entry, is_strong, has_contrast};
+ghost use Rattle.source_pick.specs.Passes.{IsOf, AreEntries, AreStrong, entry_number};
+
+use crate::choice::Choice;
+use comp_tree::{NONE, Tree};
+use dev_io::OutOfMemory;
+use node_sums::{Sums, flux};
+use std::alloc::Global;
+
+/// The number of nodes.
+pub(crate) fn node_count(tree: &Tree) -> u32
+    ensures all { result ≡ length tree.now.rows }
+    ensures few { result ≤ 2 ^ 24 }
+{
+    let pixels = tree.shape().pixels();
+    let count = tree.rows().len();
+    if count <= pixels as usize {
+        count as u32
+    } else {
+        pixels
+    }
+}
+
+/// For each node the entry in which it lies, or `NONE`.
+pub(crate) fn entries_of_nodes(
+    alloc: Global,
+    tree: &Tree,
+    sums: &[Sums],
+    choice: &Choice,
+) -> Result<Vec<u32>, OutOfMemory>
+    requires { AreTheTrees tree.now sums.now }
+    ensures { IfOk result (λ entries. AreEntries choice.now tree.now sums.now (length tree.now.rows) entries.items) }
+{
+    let count = node_count(tree);
+    match vec![in alloc; NONE; count as usize] {
+        Ok(mut entries) => {
+            find_entries(tree, sums, choice, &mut entries);
+            Ok(entries)
+        }
+        Err(_) => Err(OutOfMemory),
+    }
+}
+
+// One pass from the roots: parents have smaller numbers.
+fn find_entries(tree: &Tree, sums: &[Sums], choice: &Choice, entries: &mut [u32])
+    requires sums { AreTheTrees tree.now sums.now }
+    requires one_each { length entries.old ≡ length tree.now.rows }
+    ensures { AreEntries choice.now tree.now sums.now (length tree.now.rows) entries.new }
+{
+    for n in 0..node_count(tree) {
+        let entry = entry_of_node(tree, sums, choice, entries, n);
+        entries[n as usize] = entry;
+    }
+}
+
+// An entry lies in itself, and any other node in the entry of its parent.
+fn entry_of_node(tree: &Tree, sums: &[Sums], choice: &Choice, entries: &[u32], n: u32) -> u32
+    requires node { n < length tree.now.rows }
+    requires sums { AreTheTrees tree.now sums.now }
+    requires parents { AreEntries choice.now tree.now sums.now n entries.now }
+    ensures { (r : Raster) (connect : Connect) → IsOf r connect tree.now sums.now → result ≡ entry_number r connect choice.now n }
+{
+    if passes_as_entry(tree, sums, choice, n) {
+        return n;
+    }
+    let _shape = tree.shape();
+    let parent = tree.rows()[n as usize].parent;
+    if parent == NONE {
+        return NONE;
+    }
+    entries[parent as usize]
+}
+
+fn passes_as_entry(tree: &Tree, sums: &[Sums], choice: &Choice, n: u32) -> bool
+    requires node { n < length tree.now.rows }
+    requires sums { AreTheTrees tree.now sums.now }
+    ensures { (r : Raster) (connect : Connect) → IsOf r connect tree.now sums.now → result ≡ is_entry r connect choice.now n }
+{
+    if tree.rows()[n as usize].level < choice.threshold {
+        return false;
+    }
+    if !lies_lowest(tree, choice, n) {
+        return false;
+    }
+    has_size(tree, sums, choice, n)
+}
+
+// Whether a node is a root, or its parent lies below the threshold.
+fn lies_lowest(tree: &Tree, choice: &Choice, n: u32) -> bool
+    requires { n < length tree.now.rows }
+    ensures { (r : Raster) (connect : Connect) → tree.now ≡ tree_of r connect → result ≡ is_lowest r connect choice.now n }
+{
+    let _shape = tree.shape();
+    let rows = tree.rows();
+    let parent = rows[n as usize].parent;
+    if parent == NONE {
+        return true;
+    }
+    rows[parent as usize].level < choice.threshold
+}
+
+// Whether a node has the area and the flux that are asked for.
+fn has_size(tree: &Tree, sums: &[Sums], choice: &Choice, n: u32) -> bool
+    requires node { n < length tree.now.rows }
+    requires sums { AreTheTrees tree.now sums.now }
+    ensures { (r : Raster) (connect : Connect) → IsOf r connect tree.now sums.now → result ≡ is_large r connect choice.now n }
+{
+    if sums[n as usize].area < choice.min_area {
+        return false;
+    }
+    flux(tree, sums, n) >= choice.min_flux
+}
+
+/// For each node whether it is strong.
+pub(crate) fn strong_nodes(
+    alloc: Global,
+    tree: &Tree,
+    sums: &[Sums],
+    choice: &Choice,
+    entries: &[u32],
+) -> Result<Vec<bool>, OutOfMemory>
+    requires sums { AreTheTrees tree.now sums.now }
+    requires entries { AreEntries choice.now tree.now sums.now (length tree.now.rows) entries.now }
+    ensures { IfOk result (λ strong. AreStrong choice.now tree.now sums.now (length tree.now.rows) strong.items) }
+{
+    let count = node_count(tree);
+    match vec![in alloc; false; count as usize] {
+        Ok(mut strong) => {
+            find_strong(tree, sums, choice, entries, &mut strong);
+            Ok(strong)
+        }
+        Err(_) => Err(OutOfMemory),
+    }
+}
+
+fn find_strong(tree: &Tree, sums: &[Sums], choice: &Choice, entries: &[u32], strong: &mut [bool])
+    requires sums { AreTheTrees tree.now sums.now }
+    requires entries { AreEntries choice.now tree.now sums.now (length tree.now.rows) entries.now }
+    requires one_each { length strong.old ≡ length tree.now.rows }
+    ensures { AreStrong choice.now tree.now sums.now (length tree.now.rows) strong.new }
+{
+    for n in 0..node_count(tree) {
+        let is_strong_node = passes_as_strong(tree, sums, choice, entries, n);
+        strong[n as usize] = is_strong_node;
+    }
+}
+
+fn passes_as_strong(tree: &Tree, sums: &[Sums], choice: &Choice, entries: &[u32], n: u32) -> bool
+    requires node { n < length tree.now.rows }
+    requires sums { AreTheTrees tree.now sums.now }
+    requires entries { AreEntries choice.now tree.now sums.now (length tree.now.rows) entries.now }
+    ensures { (r : Raster) (connect : Connect) → IsOf r connect tree.now sums.now → result ≡ is_strong r connect choice.now n }
+{
+    let entry = entries[n as usize];
+    if entry == NONE {
+        return false;
+    }
+    if !has_size(tree, sums, choice, n) {
+        return false;
+    }
+    has_part(tree, sums, choice, n, entry)
+}
+
+// Whether node `n` has its part of the flux of its entry.
+fn has_part(tree: &Tree, sums: &[Sums], choice: &Choice, n: u32, entry: u32) -> bool
+    requires node { n < length tree.now.rows }
+    requires entry { entry < length tree.now.rows }
+    requires sums { AreTheTrees tree.now sums.now }
+    ensures { (r : Raster) (connect : Connect) → IsOf r connect tree.now sums.now → result ≡ has_contrast r connect choice.now n entry }
+{
+    let whole = flux(tree, sums, entry) as i128;
+    let part = flux(tree, sums, n) as i128;
+    1000 * part >= choice.contrast as i128 * whole
+}

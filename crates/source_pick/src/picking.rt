@@ -1,0 +1,198 @@
+ghost use Rattle.std.specs.Prelude.{◌≡◌, ◌<◌, ◌≤◌, List, IfOk, length, map, replicate};
+ghost use Rattle.comp_tree.specs.declared.shape.Connect.{Connect};
+ghost use Rattle.comp_tree.specs.Raster.{Raster};
+ghost use Rattle.comp_tree.specs.ComponentTree.{ComponentTree, no_node};
+ghost use Rattle.comp_tree.specs.Components.{tree_of};
+ghost use Rattle.node_sums.specs.declared.entry.Sums.{Sums as Entry};
+ghost use Rattle.node_sums.specs.Sums.{sums_in, AreTheTrees};
+ghost use Rattle.source_pick.specs.declared.choice.Choice.{Choice as Chosen};
+ghost use Rattle.source_pick.specs.Sources.{is_source, sources};
+ghost use Rattle.source_pick.specs.Segmentation.{AreDisjointNodes};
+ghost use Rattle.source_pick.specs.Passes.{
+  IsOf,
+  AreEntries,
+  AreStrong,
+  AreCounted,
+  AreAboveSplits,
+  AreSources,
+  StandAtFirst,
+  ArePicked,
+  are_several,
+};
+
+use crate::choice::Choice;
+use crate::marking::{entries_of_nodes, node_count, strong_nodes};
+use crate::splitting::{StrongChildren, above_splits, strong_children};
+use comp_tree::{NONE, Tree};
+use dev_io::OutOfMemory;
+use node_sums::Sums;
+use std::alloc::Global;
+
+/// The nodes of the sources, in the order of their numbers: passes over the nodes, and one over the pixels. The one error
+/// is that memory was refused.
+pub fn pick(
+    alloc: Global,
+    tree: &Tree,
+    sums: &[Sums],
+    choice: &Choice,
+) -> Result<Vec<u32>, OutOfMemory>
+    requires sums { AreTheTrees tree.now sums.now }
+    requires contrast { choice.now.contrast ≤ 1000 }
+    ensures exact { IfOk result (λ picked. (plane : Raster) (connect : Connect) → tree.now ≡ tree_of plane connect → sums.now ≡ sums_in plane connect → picked.items ≡ sources plane connect choice.now) }
+    ensures disjoint { IfOk result (λ picked. AreDisjointNodes tree.now picked.items) }
+{
+    let flags = flags_of_sources(alloc, tree, sums, choice)?;
+    let marks = first_pixels(alloc, tree, sums, &flags)?;
+    marked_nodes(alloc, &marks)
+}
+
+// For each node whether it is a source.
+fn flags_of_sources(
+    alloc: Global,
+    tree: &Tree,
+    sums: &[Sums],
+    choice: &Choice,
+) -> Result<Vec<bool>, OutOfMemory>
+    requires { AreTheTrees tree.now sums.now }
+    ensures { IfOk result (λ flags. AreSources choice.now tree.now sums.now (length tree.now.rows) flags.items) }
+{
+    let entries = entries_of_nodes(alloc, tree, sums, choice)?;
+    let strong = strong_nodes(alloc, tree, sums, choice, &entries)?;
+    let children = strong_children(alloc, tree, &entries, &strong)?;
+    let above = above_splits(alloc, tree, &children)?;
+    source_flags(alloc, tree, &entries, &strong, &children, &above)
+}
+
+// The same from what the passes found.
+fn source_flags(
+    alloc: Global,
+    tree: &Tree,
+    entries: &[u32],
+    strong: &[bool],
+    children: &[StrongChildren],
+    above: &[bool],
+) -> Result<Vec<bool>, OutOfMemory>
+    requires entries { length entries.now ≡ length tree.now.rows }
+    requires strong { length strong.now ≡ length tree.now.rows }
+    requires children { AreCounted tree.now.rows entries.now strong.now (length tree.now.rows) children.now }
+    requires above { AreAboveSplits tree.now.rows (map are_several children.now) above.now }
+    ensures { IfOk result (λ flags. (choice : Chosen) (sums : List Entry) → AreEntries choice tree.now sums (length tree.now.rows) entries.now
+        → AreStrong choice tree.now sums (length tree.now.rows) strong.now → AreSources choice tree.now sums (length tree.now.rows) flags.items) }
+{
+    match vec![in alloc; false; node_count(tree) as usize] {
+        Ok(mut flags) => {
+            flag_sources(tree, entries, strong, children, above, &mut flags);
+            Ok(flags)
+        }
+        Err(_) => Err(OutOfMemory),
+    }
+}
+
+fn flag_sources(
+    tree: &Tree,
+    entries: &[u32],
+    strong: &[bool],
+    children: &[StrongChildren],
+    above: &[bool],
+    flags: &mut [bool],
+)
+    requires entries { length entries.now ≡ length tree.now.rows }
+    requires strong { length strong.now ≡ length tree.now.rows }
+    requires children { AreCounted tree.now.rows entries.now strong.now (length tree.now.rows) children.now }
+    requires above { AreAboveSplits tree.now.rows (map are_several children.now) above.now }
+    requires flags { length flags.old ≡ length tree.now.rows }
+    ensures { (choice : Chosen) (sums : List Entry) → AreEntries choice tree.now sums (length tree.now.rows) entries.now
+        → AreStrong choice tree.now sums (length tree.now.rows) strong.now → AreSources choice tree.now sums (length tree.now.rows) flags.new }
+{
+    for n in 0..node_count(tree) {
+        let is_flagged = passes_as_source(tree, entries, strong, children, above, n);
+        flags[n as usize] = is_flagged;
+    }
+}
+
+fn passes_as_source(
+    tree: &Tree,
+    entries: &[u32],
+    strong: &[bool],
+    children: &[StrongChildren],
+    above: &[bool],
+    n: u32,
+) -> bool
+    requires node { n < length tree.now.rows }
+    requires entries { length entries.now ≡ length tree.now.rows }
+    requires strong { length strong.now ≡ length tree.now.rows }
+    requires children { AreCounted tree.now.rows entries.now strong.now (length tree.now.rows) children.now }
+    requires above { AreAboveSplits tree.now.rows (map are_several children.now) above.now }
+    ensures { (r : Raster) (connect : Connect) (choice : Chosen) (sums : List Entry) → IsOf r connect tree.now sums
+        → AreEntries choice tree.now sums (length tree.now.rows) entries.now → AreStrong choice tree.now sums (length tree.now.rows) strong.now
+        → result ≡ is_source r connect choice n }
+{
+    if above[n as usize] {
+        return false;
+    }
+    if entries[n as usize] == n {
+        return true;
+    }
+    if !strong[n as usize] {
+        return false;
+    }
+    let _shape = tree.shape();
+    let parent = tree.rows()[n as usize].parent;
+    if parent == NONE {
+        return false;
+    }
+    children[parent as usize].are_several()
+}
+
+// For each pixel the source whose least pixel it is, or `NONE`.
+fn first_pixels(
+    alloc: Global,
+    tree: &Tree,
+    sums: &[Sums],
+    flags: &[bool],
+) -> Result<Vec<u32>, OutOfMemory>
+    requires sums { AreTheTrees tree.now sums.now }
+    requires flags { length flags.now ≡ length tree.now.rows }
+    ensures { IfOk result (λ marks. (choice : Chosen) → AreSources choice tree.now sums.now (length tree.now.rows) flags.now
+        → StandAtFirst choice tree.now sums.now (length tree.now.rows) marks.items) }
+{
+    match vec![in alloc; NONE; tree.node_of().len()] {
+        Ok(mut marks) => {
+            mark_first_pixels(tree, sums, flags, &mut marks);
+            Ok(marks)
+        }
+        Err(_) => Err(OutOfMemory),
+    }
+}
+
+fn mark_first_pixels(tree: &Tree, sums: &[Sums], flags: &[bool], marks: &mut [u32])
+    requires sums { AreTheTrees tree.now sums.now }
+    requires flags { length flags.now ≡ length tree.now.rows }
+    requires none { marks.old ≡ replicate (length tree.now.node_of) no_node }
+    ensures { (choice : Chosen) → AreSources choice tree.now sums.now (length tree.now.rows) flags.now
+        → StandAtFirst choice tree.now sums.now (length tree.now.rows) marks.new }
+{
+    for n in 0..node_count(tree) {
+        if flags[n as usize] {
+            let first = sums[n as usize].first;
+            marks[first as usize] = n;
+        }
+    }
+}
+
+// The nodes that stand at pixels, in the order of these.
+fn marked_nodes(alloc: Global, marks: &[u32]) -> Result<Vec<u32>, OutOfMemory>
+    ensures { IfOk result (λ picked. (choice : Chosen) (tree : ComponentTree) (sums : List Entry) → StandAtFirst choice tree sums (length tree.rows) marks.now
+        → ArePicked choice tree sums (length marks.now) picked.items) }
+{
+    let mut picked = Vec::new(alloc);
+    for n in marks {
+        if *n != NONE {
+            match picked.push(*n) {
+                Ok(_) => {}
+                Err(_) => return Err(OutOfMemory),
+            }
+        }
+    }
+    Ok(picked)
+}

@@ -1,0 +1,88 @@
+ghost use Rattle.std.specs.Prelude.{◌≡◌, ◌≤◌, ◌^◌, ℕ, IfOk, length, replicate, slice_index};
+ghost use Rattle.comp_tree.specs.declared.shape.Connect.{Connect};
+ghost use Rattle.comp_tree.specs.Raster.{Raster};
+ghost use Rattle.comp_tree.specs.Components.{tree_of};
+ghost use Rattle.source_pick.specs.Segmentation.{segmentation_of, AreDisjointNodes};
+ghost use Rattle.source_pick.specs.Passes.{AreMarked, AreNumbered};
+
+use comp_tree::{NONE, Tree};
+use dev_io::OutOfMemory;
+use std::alloc::Global;
+
+/// For each pixel the number of the source that holds it, from 1, else 0: a pass over the nodes and one over the pixels.
+/// The one error is that memory was refused.
+pub fn segment(alloc: Global, tree: &Tree, sources: &[u32]) -> Result<Vec<u32>, OutOfMemory>
+    requires { AreDisjointNodes tree.now sources.now }
+    ensures exact { IfOk result (λ numbers. (plane : Raster) (connect : Connect) → tree.now ≡ tree_of plane connect → numbers.items ≡ segmentation_of plane connect sources.now) }
+    ensures one_each { IfOk result (λ numbers. length numbers.items ≡ length tree.now.node_of) }
+    ensures few { IfOk result (λ numbers. (p : ℕ) → slice_index numbers.items p ≤ 2 ^ 24) }
+{
+    let numbers = numbers_of_nodes(alloc, tree, sources)?;
+    match vec![in alloc; 0u32; tree.node_of().len()] {
+        Ok(mut map) => {
+            number_pixels(tree, sources, &numbers, &mut map);
+            Ok(map)
+        }
+        Err(_) => Err(OutOfMemory),
+    }
+}
+
+// For each node the number of the source in which it lies, else 0.
+fn numbers_of_nodes(alloc: Global, tree: &Tree, sources: &[u32]) -> Result<Vec<u32>, OutOfMemory>
+    requires { AreDisjointNodes tree.now sources.now }
+    ensures { IfOk result (λ numbers. AreNumbered tree.now sources.now (length tree.now.rows) numbers.items) }
+{
+    match vec![in alloc; 0u32; tree.rows().len()] {
+        Ok(mut numbers) => {
+            mark_sources(tree, sources, &mut numbers);
+            pass_down(tree, sources, &mut numbers);
+            Ok(numbers)
+        }
+        Err(_) => Err(OutOfMemory),
+    }
+}
+
+fn mark_sources(tree: &Tree, sources: &[u32], numbers: &mut [u32])
+    requires sources { AreDisjointNodes tree.now sources.now }
+    requires none { numbers.old ≡ replicate (length tree.now.rows) 0 }
+    ensures { AreMarked tree.now.rows sources.now (length sources.now) numbers.new }
+{
+    for (i, n) in sources.iter().enumerate() {
+        numbers[*n as usize] = i as u32 + 1;
+    }
+}
+
+// One pass from the roots: a node that is no source has the number of its parent.
+fn pass_down(tree: &Tree, sources: &[u32], numbers: &mut [u32])
+    requires sources { AreDisjointNodes tree.now sources.now }
+    requires marked { AreMarked tree.now.rows sources.now (length sources.now) numbers.old }
+    ensures { AreNumbered tree.now sources.now (length tree.now.rows) numbers.new }
+{
+    let _shape = tree.shape();
+    let rows = tree.rows();
+    for n in 0..rows.len() {
+        let parent = rows[n].parent;
+        if numbers[n] == 0 && parent != NONE {
+            let number = numbers[parent as usize];
+            numbers[n] = number;
+        }
+    }
+}
+
+// A pixel has the number of its smallest node.
+fn number_pixels(tree: &Tree, sources: &[u32], numbers: &[u32], map: &mut [u32])
+    requires sources { AreDisjointNodes tree.now sources.now }
+    requires numbers { AreNumbered tree.now sources.now (length tree.now.rows) numbers.now }
+    requires one_each { map.old ≡ replicate (length tree.now.node_of) 0 }
+    ensures { (plane : Raster) (connect : Connect) → tree.now ≡ tree_of plane connect → map.new ≡ segmentation_of plane connect sources.now }
+{
+    let _shape = tree.shape();
+    let node_of = tree.node_of();
+    for p in 0..node_of.len() {
+        let n = node_of[p];
+        if n != NONE {
+            let number = numbers[n as usize];
+            map[p] = number;
+        }
+    }
+}

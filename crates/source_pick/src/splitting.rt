@@ -1,0 +1,136 @@
+//! Splits: nodes with two or more strong children in one entry.
+
+ghost use Rattle.std.specs.Prelude.{◌≡◌, ◌<◌, ◌≤◌, ℕ, IfOk, IfSome, IfNone, length, map};
+ghost use Rattle.comp_tree.specs.ComponentTree.{IsWellFormed, ComponentTree};
+ghost use Rattle.source_pick.specs.Passes.{IsInner, AreCounted, AreAboveSplits, ArePassed, one_more, are_several};
+
+use comp_tree::{NONE, NodeRow, Tree};
+use dev_io::OutOfMemory;
+use std::alloc::{AllocError, Global};
+
+/// How many strong children a node has in its entry, as far as it matters.
+#[derive(Clone, Copy, PartialEq, Eq, Debug)]
+pub(crate) enum StrongChildren {
+    Zero,
+    One,
+    Several,
+}
+
+impl StrongChildren {
+    fn and_one(self) -> StrongChildren
+        ensures { result ≡ one_more self }
+    {
+        match self {
+            StrongChildren::Zero => StrongChildren::One,
+            StrongChildren::One => StrongChildren::Several,
+            StrongChildren::Several => StrongChildren::Several,
+        }
+    }
+
+    pub(crate) fn are_several(&self) -> bool
+        ensures { result ≡ are_several self.now }
+    {
+        match self {
+            StrongChildren::Zero => false,
+            StrongChildren::One => false,
+            StrongChildren::Several => true,
+        }
+    }
+}
+
+/// For each node how many strong children it has in its entry.
+pub(crate) fn strong_children(
+    alloc: Global,
+    tree: &Tree,
+    entries: &[u32],
+    strong: &[bool],
+) -> Result<Vec<StrongChildren>, OutOfMemory>
+    requires entries { length entries.now ≡ length tree.now.rows }
+    requires strong { length strong.now ≡ length tree.now.rows }
+    ensures { IfOk result (λ children. AreCounted tree.now.rows entries.now strong.now (length tree.now.rows) children.items) }
+{
+    match vec![in alloc; StrongChildren::Zero; tree.rows().len()] {
+        Ok(mut children) => {
+            count_children(tree, entries, strong, &mut children);
+            Ok(children)
+        }
+        Err(_) => Err(OutOfMemory),
+    }
+}
+
+fn count_children(tree: &Tree, entries: &[u32], strong: &[bool], children: &mut [StrongChildren])
+    requires entries { length entries.now ≡ length tree.now.rows }
+    requires strong { length strong.now ≡ length tree.now.rows }
+    requires none { AreCounted tree.now.rows entries.now strong.now 0 children.old }
+    ensures { AreCounted tree.now.rows entries.now strong.now (length tree.now.rows) children.new }
+{
+    for n in 0..tree.rows().len() {
+        if let Some(parent) = inner_parent(tree, entries, strong, n) {
+            let more = children[parent as usize].and_one();
+            children[parent as usize] = more;
+        }
+    }
+}
+
+// The parent of a strong node, where it lies in an entry.
+fn inner_parent(tree: &Tree, entries: &[u32], strong: &[bool], n: usize) -> Option<u32>
+    requires node { n < length tree.now.rows }
+    requires entries { length entries.now ≡ length tree.now.rows }
+    requires strong { length strong.now ≡ length tree.now.rows }
+    ensures inside { IfSome result (λ m. m < length tree.now.rows) }
+    ensures found { IfSome result (λ m. IsInner tree.now.rows entries.now strong.now m n) }
+    ensures none { IfNone result ((m : ℕ) → m < length tree.now.rows → IsInner tree.now.rows entries.now strong.now m n → ⊥) }
+{
+    if !strong[n] {
+        return None;
+    }
+    let _shape = tree.shape();
+    let parent = tree.rows()[n].parent;
+    if parent == NONE {
+        return None;
+    }
+    if entries[parent as usize] == NONE {
+        return None;
+    }
+    Some(parent)
+}
+
+/// For each node whether a split lies within it.
+pub(crate) fn above_splits(
+    alloc: Global,
+    tree: &Tree,
+    children: &[StrongChildren],
+) -> Result<Vec<bool>, OutOfMemory>
+    requires { length children.now ≡ length tree.now.rows }
+    ensures { IfOk result (λ flags. AreAboveSplits tree.now.rows (map are_several children.now) flags.items) }
+{
+    match split_flags(alloc, children) {
+        Ok(mut flags) => {
+            pass_up(tree, &mut flags);
+            Ok(flags)
+        }
+        Err(_) => Err(OutOfMemory),
+    }
+}
+
+// For each node whether it is a split.
+fn split_flags(alloc: Global, children: &[StrongChildren]) -> Result<Vec<bool>, AllocError>
+    ensures { IfOk result (λ flags. flags.items ≡ map are_several children.now) }
+{
+    children.iter().map(|c| c.are_several()).collect(alloc)
+}
+
+// One pass from the last node: children have greater numbers.
+fn pass_up(tree: &Tree, flags: &mut [bool])
+    requires { length flags.old ≡ length tree.now.rows }
+    ensures { AreAboveSplits tree.now.rows flags.old flags.new }
+{
+    let _shape = tree.shape();
+    let rows = tree.rows();
+    for n in (0..rows.len()).rev() {
+        let parent = rows[n].parent;
+        if flags[n] && parent != NONE {
+            flags[parent as usize] = true;
+        }
+    }
+}

@@ -1,0 +1,135 @@
+ghost use Rattle.std.specs.Prelude.{◌<◌, ◌≤◌, ◌^◌, length};
+ghost use Rattle.node_sums.specs.Sums.{AreTheTrees};
+
+use super::*;
+use comp_tree::{Connect, Plane, Shape, Tree, plain_tree};
+use node_sums::{Sums, sums};
+
+#[derive(Drop)]
+struct Case<'a> {
+    width: u32,
+    height: u32,
+    // 0 stands for an undefined pixel
+    values: &'a [i64],
+    threshold: i64,
+    contrast: u32,
+    // the nodes of the sources, the number of each pixel, and the row of each source
+    nodes: &'a [u32],
+    map: &'a [u32],
+    rows: &'a [[i64; 17]],
+}
+
+// The numbers of a source's row.
+fn numbers_of(tree: &Tree, sums: &[Sums], number: u32, n: u32) -> [i64; 17]
+    requires sums { AreTheTrees tree.now sums.now }
+    requires node { n < length tree.now.rows }
+    requires from_one { 1 ≤ number }
+    requires few { number ≤ 2 ^ 24 }
+{
+    cells(&row(tree, sums, number, n))
+}
+
+#[test]
+fn sources_of_small_planes(rt: HostRuntime) {
+    let cases = [
+        // two parts with 400 and 300 thousandths of the whole flux
+        Case {
+            width: 5,
+            height: 1,
+            values: &[1, 6, 2, 5, 1],
+            threshold: 2,
+            contrast: 300,
+            nodes: &[3, 2],
+            map: &[0, 1, 0, 2, 0],
+            rows: &[
+                [1, 6, 2, 1, 4, 6, 2, 2, 1, 1, 2, 1, 2000, 1000, 0, 0, 0],
+                [2, 5, 2, 1, 3, 5, 4, 4, 1, 1, 4, 1, 4000, 1000, 0, 0, 0],
+            ],
+        },
+        Case {
+            width: 5,
+            height: 1,
+            values: &[1, 6, 2, 5, 1],
+            threshold: 2,
+            contrast: 301,
+            nodes: &[1],
+            map: &[0, 1, 1, 1, 0],
+            rows: &[[1, 2, 1, 3, 10, 6, 2, 4, 1, 1, 2, 1, 2900, 1000, 666, 0, 0]],
+        },
+        Case {
+            width: 5,
+            height: 1,
+            values: &[1, 6, 2, 5, 1],
+            threshold: 2,
+            contrast: 1000,
+            nodes: &[1],
+            map: &[0, 1, 1, 1, 0],
+            rows: &[[1, 2, 1, 3, 10, 6, 2, 4, 1, 1, 2, 1, 2900, 1000, 666, 0, 0]],
+        },
+        // a split, and an entry by itself: numbers follow the least pixels, and not the nodes
+        Case {
+            width: 3,
+            height: 2,
+            values: &[61, 233, 156, 237, 12, 219],
+            threshold: 128,
+            contrast: 5,
+            nodes: &[4, 5, 3],
+            map: &[0, 1, 0, 2, 0, 3],
+            rows: &[
+                [
+                    1, 233, 156, 1, 77, 233, 2, 2, 1, 1, 2, 1, 2000, 1000, 0, 0, 0,
+                ],
+                [
+                    2, 237, 61, 1, 176, 237, 1, 1, 2, 2, 1, 2, 1000, 2000, 0, 0, 0,
+                ],
+                [
+                    3, 219, 156, 1, 63, 219, 3, 3, 2, 2, 3, 2, 3000, 2000, 0, 0, 0,
+                ],
+            ],
+        },
+        // a flat root has no flux; its covariance is negative, and not a whole number of thousandths
+        Case {
+            width: 2,
+            height: 2,
+            values: &[5, 5, 5, 0],
+            threshold: 5,
+            contrast: 0,
+            nodes: &[0],
+            map: &[1, 1, 1, 0],
+            rows: &[[
+                1, 5, 5, 3, 0, 5, 1, 2, 1, 2, 1, 1, 1333, 1333, 222, 222, -112,
+            ]],
+        },
+    ];
+    for (number, case) in cases.iter().enumerate() {
+        let shape = Shape::of(case.width, case.height).expect(&rt, "a shape");
+        let mut plane = Plane::blank(rt.alloc(), shape).expect(&rt, "memory");
+        for (p, value) in case.values.iter().enumerate() {
+            if *value > 0 && *value < 256 && p < plane.shape().pixels() as usize {
+                plane.set(p as u32, Some(*value));
+            }
+        }
+        let tree = plain_tree(rt.alloc(), &plane, Connect::Four).expect(&rt, "memory");
+        let found = sums(rt.alloc(), &plane, &tree).expect(&rt, "memory");
+        assert!(rt; case.contrast <= 1000);
+        let choice = Choice {
+            threshold: case.threshold,
+            min_area: 1,
+            min_flux: 0,
+            contrast: case.contrast,
+        };
+        let picked = pick(rt.alloc(), &tree, &found, &choice).expect(&rt, "memory");
+        assert_eq!(rt; picked.as_slice(), case.nodes, "sources of case {number}");
+        let map = segment(rt.alloc(), &tree, &picked).expect(&rt, "memory");
+        assert_eq!(rt; map.as_slice(), case.map, "map of case {number}");
+        let count = picked.len();
+        assert_eq!(rt; count, case.rows.len(), "case {number}");
+        assert!(rt; count < 9);
+        for i in 0..count {
+            let n = picked[i];
+            assert!(rt; (n as usize) < tree.rows().len());
+            let row = numbers_of(&tree, &found, i as u32 + 1, n);
+            assert_eq!(rt; row, case.rows[i], "row {i} of case {number}");
+        }
+    }
+}
