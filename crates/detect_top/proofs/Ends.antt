@@ -5,12 +5,10 @@ use Rattle.std.specs.declared.option.Option.{Option}
 use Rattle.std.specs.Io.KnownBytes.{Appends}
 use Rattle.dev_io.specs.Streams.{Takes, TakesAtMost, AppendsPrefix}
 use Rattle.comp_tree.specs.declared.shape.Connect.{Connect}
-use Rattle.comp_tree.specs.declared.tree.NodeRow.{NodeRow}
 use Rattle.comp_tree.specs.Raster.{Raster}
 use Rattle.comp_tree.specs.ComponentTree.{ComponentTree}
 use Rattle.comp_tree.specs.Components.{tree_of}
 use Rattle.detect_top.specs.declared.words.Order.{Order}
-use Rattle.detect_top.specs.declared.words.Job.TheVariants.{Tree}
 use Rattle.detect_top.specs.Areas.{areas}
 use Rattle.detect_top.specs.declared.words.Usage.{Usage as AtFault}
 use Rattle.detect_top.specs.declared.fault.Fault.{Fault}
@@ -21,9 +19,9 @@ use Rattle.detect_top.specs.Streams.{ImageRead, ImageStopped, MemoryWanted, stop
 use Rattle.detect_top.specs.declared.image.Stop.{Stop}
 use Rattle.detect_top.specs.declared.image.Stop.TheVariants as at_image
 use Rattle.detect_top.specs.Lines.{tree_lines, node_list}
-use Rattle.detect_top.specs.Answers.{answer_by, answer_to, end_at, output_of, status_of}
+use Rattle.detect_top.specs.Answers.{answer_by, answer_to, end_at, status_of}
 use Rattle.detect_top.specs.Headline.{MayLackMemory, IsComplete}
-use Rattle.detect_top.specs.Runs.{Tells, Took, TookAtMost, WantsMemory, EndBytes, EndCause, NodesRead, Answers, Cuts}
+use Rattle.detect_top.specs.Runs.{Tells, Took, TookAtMost, WantsMemory, EndBytes, EndCause, ProductRead, Answers, Cuts}
 
 -- where memory was wanted it may be
 verdict_may : (order : Order) (found : Verdict) (bytes : List ℕ) (left : Option (List ℕ)) → MemoryWanted found bytes left → MayLackMemory (answer_to order found).end
@@ -98,7 +96,7 @@ pub memory_answered : (order : Order) (bytes : List ℕ) (left left' : Option (L
     → ImageStopped (verdict bytes order.hdu) bytes left' at_image.NoMemory → WantsMemory (Ok order) bytes left left'
 memory_answered order bytes left left' told stopped = λ x e. subst (λ l. MemoryWanted (verdict bytes order.hdu) l left') (same_bytes bytes x left told e) stopped
 
--- ---- the list of nodes
+-- ---- an image, and what is made of it
 
 pub list_is : (r : Raster) (connect : Connect) (t : ComponentTree) (counts : List ℕ) → t ≡ tree_of r connect → counts ≡ areas r connect → tree_lines t.rows counts ≡ node_list r connect
 unfolding node_list
@@ -108,32 +106,28 @@ list_is r connect t counts p q = ap (λ (u : ComponentTree). tree_lines u.rows c
 pub memory_after : (found : Verdict) (bytes : List ℕ) (left : Option (List ℕ)) (plane : Raster) → ImageRead found bytes left plane → MemoryWanted found bytes left
 memory_after found bytes left plane read = subst (λ v. MemoryWanted v bytes left) (sym read.is_image) (inr read.takes)
 
-image_output : (order : Order) (plane : Raster) (head end : ℕ) → order.job ≡ Tree → (answer_to order (image plane head end)).output ≡ node_list plane order.connect
-image_output order plane head end job = ap (λ j. output_of j order.connect plane) job
+output_is : (order : Order) (bytes : List ℕ) (left' : Option (List ℕ)) (output : List ℕ) → (read : ProductRead order bytes left' output)
+    → output ≡ (answer_to order (verdict bytes order.hdu)).output
+output_is order bytes left' output read = read.output_is ∙ sym (ap (λ v. (answer_to order v).output) read.is_image)
 
-output_is : (order : Order) (bytes : List ℕ) (left' : Option (List ℕ)) (rows : List NodeRow) (counts : List ℕ) → order.job ≡ Tree → (read : NodesRead order bytes left' rows counts)
-    → tree_lines rows counts ≡ (answer_to order (verdict bytes order.hdu)).output
-output_is order bytes left' rows counts job read =
-    read.lines ∙ sym (image_output order read.plane read.head read.end job) ∙ sym (ap (λ v. (answer_to order v).output) read.is_image)
-
-nodes_took : (order : Order) (bytes : List ℕ) (left left' : Option (List ℕ)) (rows : List NodeRow) (counts : List ℕ) → left ≡ Some bytes
-    → NodesRead order bytes left' rows counts → Took left left' (answer_to order (verdict bytes order.hdu)).taken
-nodes_took order bytes left left' rows counts told read =
+product_took : (order : Order) (bytes : List ℕ) (left left' : Option (List ℕ)) (output : List ℕ) → left ≡ Some bytes
+    → ProductRead order bytes left' output → Took left left' (answer_to order (verdict bytes order.hdu)).taken
+product_took order bytes left left' output told read =
     λ x e. subst (λ l. Takes l left' (answer_to order (verdict bytes order.hdu)).taken) (same_bytes bytes x left told e)
     (subst (Takes bytes left') (sym (ap (λ v. (answer_to order v).taken) read.is_image)) read.takes)
 
-pub nodes_answered : (order : Order) (bytes : List ℕ) (left left' written written' : Option (List ℕ)) (rows : List NodeRow) (counts : List ℕ) → order.job ≡ Tree → left ≡ Some bytes
-    → NodesRead order bytes left' rows counts → Appends written written' (tree_lines rows counts) → Answers (Ok order) bytes left left' written written' Done
-nodes_answered order bytes left left' written written' rows counts job told read all = record {
+pub product_answered : (order : Order) (bytes : List ℕ) (left left' written written' : Option (List ℕ)) (output : List ℕ) → left ≡ Some bytes
+    → ProductRead order bytes left' output → Appends written written' output → Answers (Ok order) bytes left left' written written' Done
+product_answered order bytes left left' written written' output told read all = record {
   end_is = ap (λ v. (answer_to order v).end) read.is_image;
-  written_is = subst (Appends written written') (output_is order bytes left' rows counts job read) all;
-  taken_is = nodes_took order bytes left left' rows counts told read;
+  written_is = subst (Appends written written') (output_is order bytes left' output read) all;
+  taken_is = product_took order bytes left left' output told read;
 }
 
-pub nodes_cut : (order : Order) (bytes : List ℕ) (left left' written written' : Option (List ℕ)) (rows : List NodeRow) (counts : List ℕ) → order.job ≡ Tree → left ≡ Some bytes
-    → NodesRead order bytes left' rows counts → AppendsPrefix written written' (tree_lines rows counts) → Cuts (Ok order) bytes left left' written written'
-nodes_cut order bytes left left' written written' rows counts job told read front = record {
+pub product_cut : (order : Order) (bytes : List ℕ) (left left' written written' : Option (List ℕ)) (output : List ℕ) → left ≡ Some bytes
+    → ProductRead order bytes left' output → AppendsPrefix written written' output → Cuts (Ok order) bytes left left' written written'
+product_cut order bytes left left' written written' output told read front = record {
   done = ap (λ v. (answer_to order v).end) read.is_image;
-  front = subst (AppendsPrefix written written') (output_is order bytes left' rows counts job read) front;
-  taken_is = nodes_took order bytes left left' rows counts told read;
+  front = subst (AppendsPrefix written written') (output_is order bytes left' output read) front;
+  taken_is = product_took order bytes left left' output told read;
 }

@@ -1,7 +1,10 @@
 pub mod Numerals
 pub mod Places
+pub mod FewOptions
 pub mod Images
 pub mod NodeLines
 pub mod Ends
+pub mod Products
 pub mod EachArea
-pub mod Crew
+pub mod Given
+pub mod Limits

@@ -1,12 +1,8 @@
 -- What is answered to these words and these bytes.
 use Rattle.std.specs.Prelude.{ℕ, List, [], ◌∷◌, Result, Ok, Err, Option, Some, None, codes, decimal}
 use Rattle.std.specs.List.{concat}
-use Rattle.comp_tree.specs.declared.shape.Connect.{Connect}
-use Rattle.comp_tree.specs.Raster.{Raster}
 use Rattle.pixel_plane.specs.Verdicts.{Verdict, image, unfound, unreadable, truncated, verdict}
 use Rattle.detect_top.specs.declared.words.Order.{Order}
-use Rattle.detect_top.specs.declared.words.Job.{Job}
-use Rattle.detect_top.specs.declared.words.Job.TheVariants.{Tree}
 use Rattle.detect_top.specs.declared.words.Usage.{Usage as AtFault}
 use Rattle.detect_top.specs.declared.fault.Fault.{Fault}
 use Rattle.detect_top.specs.declared.top.End.{End}
@@ -17,7 +13,7 @@ use Rattle.detect_top.specs.declared.fault.CardPlace.{CardPlace}
 use Rattle.detect_top.specs.declared.image.Stop.{Stop}
 use Rattle.detect_top.specs.declared.image.Stop.TheVariants as at_image
 use Rattle.detect_top.specs.Faults.{number_of, name_of, place_of, stop_at_hdu, fault_of_image}
-use Rattle.detect_top.specs.Lines.{node_list}
+use Rattle.detect_top.specs.Products.{output_of}
 
 abbrev pub usage_line : ℕ → List ℕ
 usage_line word = concat (codes "usage: word " ∷ decimal word ∷ codes "\n" ∷ [])
@@ -63,13 +59,9 @@ end_at (at_image.Refused fault) = Refused fault
 end_at at_image.ReadFault = ReadFault
 end_at at_image.NoMemory = NoMemory
 
--- what is written of a plane
-abbrev pub output_of : Job → Connect → Raster → List ℕ
-output_of Tree connect plane = node_list plane connect
-
 -- to the verdict on the input's bytes; that the input isn't FITS or has no such HDU is among the faults of a search for an HDU
 abbrev pub answer_to : Order → Verdict → Answer
-answer_to order (image plane head end) = record { end = Done; output = output_of order.job order.connect plane; taken = end }
+answer_to order (image plane head end) = record { end = Done; output = output_of order plane; taken = end }
 answer_to order (unfound fault taken) = record { end = end_at (stop_at_hdu fault); output = []; taken = taken }
 answer_to order (unreadable fault head) = record { end = Refused (fault_of_image fault); output = []; taken = head }
 answer_to order (truncated head taken) = record { end = Refused TruncatedData; output = []; taken = taken }

@@ -1,9 +1,11 @@
 pub mod Numbers
+pub mod Options
 pub mod Words
 pub mod Given
 pub mod Faults
 pub mod Areas
 pub mod Lines
+pub mod Products
 pub mod Streams
 pub mod Answers
 pub mod Runs

@@ -5,25 +5,24 @@ use Rattle.std.specs.Option.{ForSome}
 use Rattle.std.specs.Io.KnownBytes.{Appends, Keeps}
 use Rattle.dev_io.specs.Causes.{Rose}
 use Rattle.dev_io.specs.Streams.{Takes, TakesAtMost, AppendsPrefix}
-use Rattle.comp_tree.specs.declared.tree.NodeRow.{NodeRow}
 use Rattle.comp_tree.specs.Raster.{Raster}
 use Rattle.pixel_plane.specs.Verdicts.{image, verdict}
 use Rattle.detect_top.specs.declared.words.Order.{Order}
 use Rattle.detect_top.specs.declared.words.Usage.{Usage as AtFault}
 use Rattle.detect_top.specs.declared.top.End.{End}
 use Rattle.detect_top.specs.declared.top.End.TheVariants.{Done, Usage, Refused, ReadFault, WriteFault, NoMemory}
-use Rattle.detect_top.specs.Lines.{tree_lines, node_list}
+use Rattle.detect_top.specs.Products.{output_of}
 use Rattle.detect_top.specs.Faults.{IsCut}
 use Rattle.detect_top.specs.Answers.{answer_by}
 use Rattle.detect_top.specs.Streams.{MemoryWanted}
 
--- the image was read, and these are the rows of its nodes and their areas
-pub record NodesRead (order : Order) (bytes : List ℕ) (left : Option (List ℕ)) (rows : List NodeRow) (areas : List ℕ) : Type 0 where
+-- the image was read, and this is what the order writes of it
+pub record ProductRead (order : Order) (bytes : List ℕ) (left : Option (List ℕ)) (output : List ℕ) : Type 0 where
   pub plane : Raster
   pub head : ℕ
   pub end : ℕ
   pub is_image : verdict bytes order.hdu ≡ image plane head end
-  pub lines : tree_lines rows areas ≡ node_list plane order.connect
+  pub output_is : output ≡ output_of order plane
   pub takes : Takes bytes left end
 
 -- where the words give an order these are the bytes that it reads, and without one they are any bytes

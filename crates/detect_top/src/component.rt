@@ -1,15 +1,35 @@
-//! The component tree of a plane, by workers that flood its strips.
-ghost use Rattle.std.specs.Prelude.{◌≡◌, IfOk};
+//! The residual of a plane, and its component tree, by workers that flood its strips.
+ghost use Rattle.std.specs.Prelude.{◌≡◌, ◌≤◌, IfOk};
 ghost use Rattle.comp_tree.specs.Components.{tree_of};
-ghost use Rattle.detect_top.specs.Words.{HasCrew};
+ghost use Rattle.mesh_background.specs.Residuals.{residual_of, HasValuesInHalfRange};
+ghost use Rattle.detect_top.specs.Words.{HasLimits};
 
 use crate::Order;
 use comp_tree::{Plane, Tree};
 use dev_io::OutOfMemory;
+use mesh_background::residual;
 use std::alloc::Global;
 use std::thread::Threads;
 use strip_crew::{Gate, even_cut, flood_all};
 use tree_canon::canon;
+
+/// The plane less its background over a mesh; without a mesh it is the plane itself, which isn't copied.
+pub(crate) fn residual_plane<R: Threads + Sync>(
+    rt: &R,
+    alloc: Global,
+    plane: Plane,
+    mesh: u32,
+) -> Result<Plane, OutOfMemory>
+    requires mesh { mesh ≤ 65535 }
+    requires in_range { HasValuesInHalfRange plane.values }
+    ensures { IfOk result (λ residual. residual ≡ residual_of plane mesh) }
+{
+    if mesh == 0 {
+        Ok(plane)
+    } else {
+        residual(rt, alloc, &plane, mesh)
+    }
+}
 
 /// The component tree of a plane under the order's connectivity. Its workers flood the strips, and the nodes of the joined forest are numbered: the
 /// tree doesn't depend on how many strips and workers there are.
@@ -20,7 +40,7 @@ pub(crate) fn component_tree<R: Threads + Sync, G: Gate>(
     order: Order,
     gate: &G,
 ) -> Result<Tree, OutOfMemory>
-    requires { HasCrew order }
+    requires { HasLimits order }
     ensures { IfOk result (λ tree. tree ≡ tree_of plane.now order.connect) }
 {
     let cut = even_cut(alloc, plane.shape().height, order.strips)?;

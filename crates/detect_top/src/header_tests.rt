@@ -257,24 +257,41 @@ fn an_ordinary_frame_has_one_node(rt: HostRuntime) -> Result<(), Fail> {
     for _ in 0..2048 {
         bytes.extend_from_slice(&[0; 4096])?;
     }
-    let words = ["tree", "--connect", "8", "--strips", "16", "--workers", "4"];
-    let mut input = PlainSource::new(&bytes);
-    let mut output = MemSink::new(vec![in alloc; 0; 99]?, &[], 0);
-    let mut notes = MemSink::new(vec![in alloc; 0; 99]?, &[], 0);
-    assert_eq!(rt;
-        run(
-            &rt,
-            alloc,
-            &words,
-            &mut input,
-            &mut output,
-            &mut notes,
-            &OpenGate
-        ),
-        0
-    );
-    assert_eq!(rt; output.bytes(), b"0 32768 0 - 4194304\n".as_slice());
-    assert_eq!(rt; input.rest().len(), 0);
     assert_eq!(rt; bytes.len(), 8_394_368);
+    // the side of the mesh cells, and the one line
+    let cases: [(&str, &[u8]); 2] = [
+        ("0", b"0 32768 0 - 4194304\n"),
+        ("64", b"0 0 0 - 4194304\n"),
+    ];
+    for (mesh, line) in cases {
+        let words = [
+            "tree",
+            "--connect",
+            "8",
+            "--strips",
+            "16",
+            "--workers",
+            "4",
+            "--mesh",
+            mesh,
+        ];
+        let mut input = PlainSource::new(&bytes);
+        let mut output = MemSink::new(vec![in alloc; 0; 99]?, &[], 0);
+        let mut notes = MemSink::new(vec![in alloc; 0; 99]?, &[], 0);
+        assert_eq!(rt;
+            run(
+                &rt,
+                alloc,
+                &words,
+                &mut input,
+                &mut output,
+                &mut notes,
+                &OpenGate
+            ),
+            0
+        );
+        assert_eq!(rt; output.bytes(), line);
+        assert_eq!(rt; input.rest().len(), 0);
+    }
     Ok(())
 }

@@ -1,9 +1,10 @@
 // The image: its HDU is found and judged, and its pixels are read.
-ghost use Rattle.std.specs.Prelude.{◌≡◌, ◌≤◌, ℕ, List, IfErr, IsErrOf, IsTrue, MatchResult};
+ghost use Rattle.std.specs.Prelude.{◌≡◌, ◌≤◌, ℕ, List, IfOk, IfErr, IsErrOf, IsTrue, MatchResult};
 ghost use Rattle.std.specs.Option.{ForSome};
 ghost use Rattle.dev_io.specs.Causes.{Rose};
 ghost use Rattle.dev_io.specs.Streams.{Takes};
 ghost use Rattle.pixel_plane.specs.Images.{checked};
+ghost use Rattle.pixel_plane.specs.Stored.{HasStorableValues};
 ghost use Rattle.pixel_plane.specs.Verdicts.{verdict, verdict_by};
 ghost use Rattle.detect_top.specs.Faults.{stop_at_hdu, stop_at_plane, IsCutStop};
 ghost use Rattle.detect_top.specs.Streams.{ImageRead, ImageStopped};
@@ -56,6 +57,7 @@ fn read_found<S: Source>(alloc: Global, src: &mut S, hdu: &Hdu) -> Result<Plane,
     ensures told { (bytes : List ℕ) (head : ℕ) → Takes bytes (S.left src.old) head → MatchResult result
         (λ plane. ImageRead (verdict_by bytes hdu.now head (checked hdu.now)) bytes (S.left src.new) plane)
         (λ stop. ImageStopped (verdict_by bytes hdu.now head (checked hdu.now)) bytes (S.left src.new) stop) }
+    ensures storable { IfOk result (λ plane. HasStorableValues plane.values) }
     ensures ended { IfErr result (λ stop. IsCutStop stop → IsTrue (S.ended src.new)) }
     ensures later { S.faults src.old ≤ S.faults src.new }
     ensures fault { IsErrOf result Stop.ReadFault → Rose (S.faults src.old) (S.faults src.new) }
@@ -75,6 +77,7 @@ pub(crate) fn read_image<S: Source>(alloc: Global, src: &mut S, number: u16) -> 
     ensures told { ForSome (S.left src.old) (λ bytes. MatchResult result
         (λ plane. ImageRead (verdict bytes number) bytes (S.left src.new) plane)
         (λ stop. ImageStopped (verdict bytes number) bytes (S.left src.new) stop)) }
+    ensures storable { IfOk result (λ plane. HasStorableValues plane.values) }
     ensures ended { IfErr result (λ stop. IsCutStop stop → IsTrue (S.ended src.new)) }
     ensures later { S.faults src.old ≤ S.faults src.new }
     ensures fault { IsErrOf result Stop.ReadFault → Rose (S.faults src.old) (S.faults src.new) }

@@ -7,14 +7,19 @@ mod fault;
 mod image;
 mod lines;
 mod notes;
+mod options;
+mod product;
 mod top;
 mod words;
 
 pub use fault::Fault;
-pub use lines::{WriteFault, put_tree};
+pub use fits_write::WriteFault;
+pub use lines::put_tree;
 pub use top::run;
 pub use words::{Job, Order, Usage, read_words};
 
+#[cfg(test)]
+mod filter_tests;
 #[cfg(test)]
 mod header_tests;
 #[cfg(test)]

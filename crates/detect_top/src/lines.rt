@@ -7,11 +7,8 @@ ghost use Rattle.detect_top.specs.Lines.{joined, parent_text as text_of_parent, 
 
 use comp_tree::{NONE, NodeRow, Tree};
 use dev_io::{Block, Failed, Sink};
+use fits_write::WriteFault;
 use itoa::Buffer;
-
-/// A sink failed: what it was given is a front of what was to be written.
-#[derive(Clone, Copy, Debug, PartialEq, Eq)]
-pub struct WriteFault;
 
 // Lets these pieces wait, one behind the other.
 fn add_all<O: Sink>(sink: &mut O, block: &mut Block, pieces: &[&[u8]]) -> Result<(), Failed>

@@ -90,7 +90,7 @@ fn each_image_has_its_lines(rt: HostRuntime) -> Result<(), Fail> {
         &[u8],
         &[u8],
         usize,
-    ); 11] = [
+    ); 12] = [
         (&["tree"], 8, (3, 1), (b"", b""), &[1, 2, 1], HILL, 2883),
         (
             &["tree"],
@@ -181,6 +181,15 @@ fn each_image_has_its_lines(rt: HostRuntime) -> Result<(), Fail> {
             &[5, 0, 6, 5, 2, 6, 3, 3, 3],
             b"0 0 1 - 9\n1 2 4 0 8\n2 3 6 1 7\n3 5 0 2 2\n4 6 2 2 2\n",
             2889,
+        ),
+        (
+            &["tree", "--mesh", "2"],
+            8,
+            (5, 2),
+            (b"BLANK   = 255", b""),
+            &[1, 4, 255, 255, 9, 2, 3, 255, 255, 7],
+            b"0 -1 0 - 4\n1 0 5 0 3\n2 0 9 - 2\n3 1 6 1 2\n4 2 1 3 1\n5 2 4 2 1\n",
+            2890,
         ),
     ];
     for (words, bitpix, sides, others, data, lines, taken) in cases {
@@ -344,7 +353,7 @@ fn a_card_at_fault_is_named(rt: HostRuntime) -> Result<(), Fail> {
 
 #[test]
 fn each_wrong_word_is_named(rt: HostRuntime) -> Result<(), Fail> {
-    let cases: [(&[&str], u32); 12] = [
+    let cases: [(&[&str], u32); 19] = [
         (&[], 1),
         (&["draw"], 1),
         (&["tree", "--rows", "1"], 2),
@@ -357,6 +366,13 @@ fn each_wrong_word_is_named(rt: HostRuntime) -> Result<(), Fail> {
         (&["tree", "--workers", "65"], 3),
         (&["tree", "--hdu", "1", "--hdu", "1"], 4),
         (&["tree", "--hdu", "-0", "--connect"], 5),
+        (&["tree", "--mesh", "65536"], 3),
+        (&["tree", "--mesh", "2", "--mesh", "2"], 4),
+        (&["tree", "--rule", "min"], 2),
+        (&["filter"], 2),
+        (&["filter", "--rule", "middle"], 3),
+        (&["filter", "--rule", "min", "--min-fill", "1001"], 5),
+        (&["filter", "--min-area", "2", "--max-area", "2"], 6),
     ];
     for (words, word) in cases {
         assert_eq!(rt; read_words(words), Err(Usage { word }));

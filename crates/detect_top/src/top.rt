@@ -2,25 +2,21 @@
 ghost use Rattle.std.specs.Prelude.{◌≡◌, ◌<◌, ◌≤◌, ◌↔◌, ℕ, List, length, Ok, IfOk, IfErr, MatchResult, IsErrOf, OnOk, IsErr, IsTrue};
 ghost use Rattle.std.specs.Option.{ForSome};
 ghost use Rattle.std.specs.Io.KnownBytes.{Appends, Keeps};
-ghost use Rattle.dev_io.specs.Causes.{Rose, HasCause};
-ghost use Rattle.dev_io.specs.Streams.{PutAppends};
+ghost use Rattle.dev_io.specs.Causes.{Rose};
 ghost use Rattle.pixel_plane.specs.Verdicts.{verdict};
-ghost use Rattle.detect_top.specs.Words.{texts, order_of, HasCrew};
+ghost use Rattle.detect_top.specs.Words.{texts, order_of, HasLimits};
 ghost use Rattle.detect_top.specs.Faults.{IsCutStop};
-ghost use Rattle.detect_top.specs.Lines.{tree_lines};
+ghost use Rattle.detect_top.specs.Products.{bytes_of, IsWritable};
 ghost use Rattle.detect_top.specs.Streams.{ImageStopped};
 ghost use Rattle.detect_top.specs.Answers.{answer, note_of, status_of};
-ghost use Rattle.detect_top.specs.Runs.{Noted, Took, TookAtMost, NodesRead, Untouched, Tells, EndBytes, EndCause, LeavesInput};
+ghost use Rattle.detect_top.specs.Runs.{Noted, Took, TookAtMost, ProductRead, Untouched, Tells, EndBytes, EndCause, LeavesInput};
 ghost use Rattle.detect_top.specs.Headline.{ForBytes, IsComplete, IsStatus, CutsAnswer, MayWantMemory, ReadFails, TellsEnd};
 
-use crate::areas::areas;
-use crate::component::component_tree;
 use crate::image::{Stop, read_image};
-use crate::lines::put_tree;
 use crate::notes::tell;
+use crate::product::{Product, make, write};
 use crate::words::read_words;
-use crate::{Fault, Job, Order, Usage, WriteFault};
-use comp_tree::Tree;
+use crate::{Fault, Order, Usage};
 use dev_io::{Sink, Source};
 use std::alloc::Global;
 use std::thread::Threads;
@@ -52,61 +48,35 @@ impl End {
     }
 }
 
-// A tree, and the area of each of its nodes.
-#[derive(Drop)]
-struct Nodes {
-    tree: Tree,
-    areas: Vec<u32>,
-}
-
-// Reads the image, and makes its tree.
-fn read_nodes<R: Threads + Sync, S: Source, G: Gate>(
+// Reads the image, and makes what the order asks for.
+fn read_and_make<R: Threads + Sync, S: Source, G: Gate>(
     rt: &R,
     alloc: Global,
     order: Order,
     input: &mut S,
     gate: &G,
-) -> Result<Nodes, Stop>
-    requires crew { HasCrew order }
+) -> Result<Product, Stop>
+    requires limits { HasLimits order }
     ensures told { ForSome (S.left input.old) (λ bytes. MatchResult result
-        (λ nodes. NodesRead order bytes (S.left input.new) nodes.tree.rows nodes.areas.items)
+        (λ product. ProductRead order bytes (S.left input.new) (bytes_of product))
         (λ stop. ImageStopped (verdict bytes order.hdu) bytes (S.left input.new) stop)) }
-    ensures one_each { IfOk result (λ nodes. length nodes.areas.items ≡ length nodes.tree.rows) }
+    ensures writable { IfOk result (λ product. IsWritable product) }
     ensures reads { IsErrOf result Stop.ReadFault → Rose (S.faults input.old) (S.faults input.new) }
     ensures ended { IfErr result (λ stop. IsCutStop stop → IsTrue (S.ended input.new)) }
     ensures later { S.faults input.old ≤ S.faults input.new }
 {
-    let plane = match read_image(alloc, input, order.hdu) {
-        Ok(plane) => plane,
+    let image = match read_image(alloc, input, order.hdu) {
+        Ok(image) => image,
         Err(stop) => return Err(stop),
     };
-    let Ok(tree) = component_tree(rt, alloc, &plane, order, gate) else {
-        return Err(Stop::NoMemory);
-    };
-    let Ok(areas) = areas(alloc, &plane, &tree) else {
-        return Err(Stop::NoMemory);
-    };
-    Ok(Nodes { tree, areas })
-}
-
-// Writes the list of nodes, and hands all of it on.
-fn write_nodes<O: Sink>(output: &mut O, nodes: &Nodes) -> Result<(), WriteFault>
-    requires { length nodes.now.areas.items ≡ length nodes.now.tree.rows }
-    ensures bytes { PutAppends (O.written output.old) (O.written output.new) result (tree_lines nodes.now.tree.rows nodes.now.areas.items) }
-    ensures settled { OnOk result (IsTrue (O.settled output.new)) }
-    ensures cause { HasCause (O.faults output.old) (O.faults output.new) result }
-{
-    if let Err(fault) = put_tree(output, &nodes.tree, &nodes.areas) {
-        return Err(fault);
-    }
-    match output.done() {
-        Ok(()) => Ok(()),
-        Err(_) => Err(WriteFault),
+    match make(rt, alloc, image, order, gate) {
+        Ok(product) => Ok(product),
+        Err(_) => Err(Stop::NoMemory),
     }
 }
 
-// Does the work of `tree`.
-fn list_nodes<R: Threads + Sync, S: Source, O: Sink, G: Gate>(
+// Does the work of an order.
+fn carry_out<R: Threads + Sync, S: Source, O: Sink, G: Gate>(
     rt: &R,
     alloc: Global,
     order: Order,
@@ -114,8 +84,7 @@ fn list_nodes<R: Threads + Sync, S: Source, O: Sink, G: Gate>(
     output: &mut O,
     gate: &G,
 ) -> End
-    requires job { order.job ≡ Job.Tree }
-    requires crew { HasCrew order }
+    requires limits { HasLimits order }
     ensures bytes { (bytes : List ℕ) → Tells (Ok order) (S.left input.old) bytes →
         EndBytes (Ok order) bytes (S.left input.old) (S.left input.new) (O.written output.old) (O.written output.new) result }
     ensures cause { EndCause (Ok order) (S.ended input.new) (S.faults input.old) (S.faults input.new)
@@ -123,13 +92,13 @@ fn list_nodes<R: Threads + Sync, S: Source, O: Sink, G: Gate>(
     ensures read_later { S.faults input.old ≤ S.faults input.new }
     ensures write_later { O.faults output.old ≤ O.faults output.new }
 {
-    let nodes = match read_nodes(rt, alloc, order, input, gate) {
-        Ok(nodes) => nodes,
+    let product = match read_and_make(rt, alloc, order, input, gate) {
+        Ok(product) => product,
         Err(Stop::Refused(fault)) => return End::Refused(fault),
         Err(Stop::ReadFault) => return End::ReadFault,
         Err(Stop::NoMemory) => return End::NoMemory,
     };
-    match write_nodes(output, &nodes) {
+    match write(output, &product) {
         Ok(()) => End::Done,
         Err(_) => End::WriteFault,
     }
@@ -156,9 +125,7 @@ fn work<R: Threads + Sync, S: Source, O: Sink, G: Gate>(
         Ok(order) => order,
         Err(usage) => return End::Usage(usage),
     };
-    match order.job {
-        Job::Tree => list_nodes(rt, alloc, order, input, output, gate),
-    }
+    carry_out(rt, alloc, order, input, output, gate)
 }
 
 /// Does what the words say, over this input. The status is 0 where all was written, 1 where the words give no order, 2

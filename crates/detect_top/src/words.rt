@@ -1,12 +1,14 @@
 // The words of the command.
-ghost use Rattle.std.specs.Prelude.{◌≡◌, ◌≤◌, ◌<◌, ◌+◌, ◌*◌, ◌≤ℤ◌, ℕ, Some, IfOk, IfSome, MatchResult, length};
-ghost use Rattle.std.specs.List.{list_all};
-ghost use Rattle.std.specs.Char.{is_ascii_digit};
-ghost use Rattle.detect_top.specs.Words.{order_of, texts, HasCrew, command_of, job_of, option_named, hdu_in, connect_in, strips_in, workers_in};
-ghost use Rattle.detect_top.specs.Numbers.{without_minus as digits_of, is_numeral, within, number_between as number_in};
-ghost use Rattle.detect_top.specs.Given.{IsGiven, IsFirstFault, has, with_value, order_from, is_nothing};
+ghost use Rattle.std.specs.Prelude.{◌≡◌, ◌≤◌, ◌<◌, ◌+◌, ◌*◌, ℕ, IfOk, IfSome, MatchResult, length, is_some};
+ghost use Rattle.std.specs.Option.{option_map};
+ghost use Rattle.detect_top.specs.Words.{order_of, texts, HasLimits, command_of, naming as naming_of, value_given, criterion_given, job_given, order_for, order_given};
+ghost use Rattle.detect_top.specs.Given.{AreRead, IsFirstFault};
 
+use crate::options::{
+    Command, Setting, area, connect, flux, hdu, mesh, rule, strips, thousandths, workers,
+};
 use comp_tree::Connect;
+use filter_rules::{Criterion, Rule};
 
 /// What a run is to do.
 #[derive(Clone, Copy, Debug, PartialEq, Eq)]
@@ -20,6 +22,8 @@ pub struct Order {
     pub strips: u32,
     /// How many workers flood them, from 1 to 64.
     pub workers: u32,
+    /// The side of the cells whose medians are the background, in pixels; 0 for none.
+    pub mesh: u32,
 }
 
 /// What is made of the image.
@@ -27,6 +31,8 @@ pub struct Order {
 pub enum Job {
     /// The list of the nodes of its component tree.
     Tree,
+    /// The plane that a filter of its component tree leaves.
+    Filter { rule: Rule, criterion: Criterion },
 }
 
 /// The words give no order: this one, counted from 1, is the first at fault.
@@ -35,237 +41,125 @@ pub struct Usage {
     pub word: u32,
 }
 
-// The first word.
-#[derive(Clone, Copy, Debug, PartialEq, Eq)]
-enum Command {
-    Tree,
-}
-
-impl Command {
-    fn of(words: &[&str]) -> Option<Command>
-        ensures { result ≡ command_of (texts words.now) }
-    {
-        match words.first() {
-            Some(word) if *word == "tree" => Some(Command::Tree),
-            _ => None,
-        }
-    }
-
-    fn job(self) -> Job
-        ensures { result ≡ job_of self }
-    {
-        match self {
-            Command::Tree => Job::Tree,
-        }
-    }
-}
-
-// An option of a command.
-#[derive(Clone, Copy, Debug, PartialEq, Eq)]
-enum Setting {
-    Hdu,
-    Connect,
-    Strips,
-    Workers,
-}
-
-impl Setting {
-    #[tactic(auto, unfolding(crate::specs::Words::option_named))]
-    fn named(command: Command, text: &str) -> Option<Setting>
-        ensures { result ≡ option_named command text.now }
-    {
-        match command {
-            Command::Tree => match text {
-                "--hdu" => Some(Setting::Hdu),
-                "--connect" => Some(Setting::Connect),
-                "--strips" => Some(Setting::Strips),
-                "--workers" => Some(Setting::Workers),
-                _ => None,
-            },
-        }
-    }
-}
-
-// The values of the options that were named so far.
-#[derive(Clone, Copy, Debug, PartialEq, Eq)]
-struct Given {
-    hdu: Option<u16>,
-    connect: Option<Connect>,
-    strips: Option<u32>,
-    workers: Option<u32>,
-}
-
-impl Given {
-    fn nothing() -> Given
-        ensures { is_nothing result }
-    {
-        Given {
-            hdu: None,
-            connect: None,
-            strips: None,
-            workers: None,
-        }
-    }
-
-    fn has(&self, setting: Setting) -> bool
-        ensures { result ≡ has self.now setting }
-    {
-        match setting {
-            Setting::Hdu => self.hdu.is_some(),
-            Setting::Connect => self.connect.is_some(),
-            Setting::Strips => self.strips.is_some(),
-            Setting::Workers => self.workers.is_some(),
-        }
-    }
-
-    // With the value of one option more, if the text is one.
-    fn with(self, setting: Setting, text: &str) -> Option<Given>
-        ensures { result ≡ with_value self setting text.now }
-    {
-        match setting {
-            Setting::Hdu => Some(Given {
-                hdu: Some(hdu(text)?),
-                ..self
-            }),
-            Setting::Connect => Some(Given {
-                connect: Some(connect(text)?),
-                ..self
-            }),
-            Setting::Strips => Some(Given {
-                strips: Some(strips(text)?),
-                ..self
-            }),
-            Setting::Workers => Some(Given {
-                workers: Some(workers(text)?),
-                ..self
-            }),
-        }
-    }
-
-    fn order(self, command: Command) -> Order
-        ensures { result ≡ order_from command self }
-    {
-        Order {
-            job: command.job(),
-            hdu: self.hdu.unwrap_or(0),
-            connect: self.connect.unwrap_or(Connect::Four),
-            strips: self.strips.unwrap_or(1),
-            workers: self.workers.unwrap_or(1),
-        }
-    }
-}
-
-fn without_minus(text: &[u8]) -> &[u8]
-    ensures { result.now ≡ digits_of text.now }
+fn command(words: &[&str]) -> Option<Command>
+    ensures { result ≡ command_of (texts words.now) }
 {
-    match text {
-        [b'-', digits @ ..] => digits,
-        _ => text,
-    }
-}
-
-fn are_digits(bytes: &[u8]) -> bool
-    ensures { result ≡ list_all is_ascii_digit bytes.now }
-{
-    bytes.iter().all(|byte| byte.is_ascii_digit())
-}
-
-fn is_numeral(digits: &[u8]) -> bool
-    ensures { result ≡ is_numeral digits.now }
-{
-    !digits.is_empty() && digits.len() <= 19 && are_digits(digits)
-}
-
-fn within(number: i64, least: i64, most: i64) -> Option<i64>
-    ensures found { result ≡ within least most (Some number) }
-    ensures low { IfSome result (λ n. least ≤ℤ n) }
-    ensures high { IfSome result (λ n. n ≤ℤ most) }
-{
-    if least <= number && number <= most {
-        Some(number)
-    } else {
-        None
-    }
-}
-
-// The whole number from `least` to `most` that the text is: an optional minus and 1 to 19 digits.
-fn number_between(text: &str, least: i64, most: i64) -> Option<i64>
-    ensures number { result ≡ number_in least most text.now }
-    ensures low { IfSome result (λ n. least ≤ℤ n) }
-    ensures high { IfSome result (λ n. n ≤ℤ most) }
-{
-    if !is_numeral(without_minus(text.as_bytes())) {
-        return None;
-    }
-    match text.parse::<i64>() {
-        Ok(number) => within(number, least, most),
-        Err(_) => None,
-    }
-}
-
-#[tactic(auto, unfolding(crate::specs::Words::hdu_in))]
-fn hdu(text: &str) -> Option<u16>
-    ensures { result ≡ hdu_in text.now }
-{
-    match number_between(text, 0, 65535) {
-        Some(number) => Some(number as u16),
+    match words.first() {
+        Some(word) => Command::named(word),
         None => None,
     }
 }
 
-#[tactic(auto, unfolding(crate::specs::Words::connect_in))]
-fn connect(text: &str) -> Option<Connect>
-    ensures { result ≡ connect_in text.now }
+// The first of so many pairs, counted from 1, that names this option.
+fn naming(words: &[&str], setting: Setting, pairs: u32) -> Option<u32>
+    requires { 2 * pairs + 1 ≤ length words.now }
+    ensures { result ≡ naming_of (texts words.now) setting pairs }
 {
-    match number_between(text, 4, 8) {
-        Some(4) => Some(Connect::Four),
-        Some(8) => Some(Connect::Eight),
-        _ => None,
+    let name = setting.name();
+    for before in 0..pairs {
+        if words[2 * before as usize + 1] == name {
+            return Some(before + 1);
+        }
     }
+    None
 }
 
-#[tactic(auto, unfolding(crate::specs::Words::strips_in))]
-fn strips(text: &str) -> Option<u32>
-    ensures { result ≡ strips_in text.now }
+// The value of this option among so many pairs.
+fn value<'a>(words: &[&'a str], setting: Setting, pairs: u32) -> Option<&'a str>
+    requires { 2 * pairs + 1 ≤ length words.now }
+    ensures { option_map (λ text. text.now) result ≡ value_given (texts words.now) pairs setting }
 {
-    match number_between(text, 1, 65535) {
-        Some(number) => Some(number as u32),
+    match naming(words, setting, pairs) {
+        Some(pair) => Some(words[2 * pair as usize]),
         None => None,
     }
 }
 
-#[tactic(auto, unfolding(crate::specs::Words::workers_in))]
-fn workers(text: &str) -> Option<u32>
-    ensures { result ≡ workers_in text.now }
-{
-    match number_between(text, 1, 64) {
-        Some(number) => Some(number as u32),
-        None => None,
-    }
-}
-
-// Reads the name and the value of one option more. The name is word 2 * pair + 2.
-fn read_pair(command: Command, words: &[&str], pair: u32, given: Given) -> Result<Given, Usage>
-    requires given { IsGiven command (texts words.now) pair given }
-    requires few { pair ≤ 4 }
+// Judges the name and the value of one option more. The name is word 2 * pair + 2.
+fn judge_pair(command: Command, words: &[&str], pair: u32) -> Result<(), Usage>
+    requires read { AreRead command (texts words.now) pair }
     requires more { 2 * pair + 1 < length words.now }
     ensures { MatchResult result
-        (λ given. IsGiven command (texts words.now) (pair + 1) given)
+        (λ _. AreRead command (texts words.now) (pair + 1))
         (λ usage. IsFirstFault command (texts words.now) usage.word) }
 {
     let word = 2 * pair + 2;
-    let Some(setting) = Setting::named(command, words[word as usize - 1]) else {
+    let Some(setting) = command.option(words[word as usize - 1]) else {
         return Err(Usage { word });
     };
-    if given.has(setting) {
+    if naming(words, setting, pair).is_some() {
         return Err(Usage { word });
     }
     let Some(text) = words.get(word as usize) else {
         return Err(Usage { word: word + 1 });
     };
-    match given.with(setting, text) {
-        Some(given) => Ok(given),
-        None => Err(Usage { word: word + 1 }),
+    if setting.accepts(text) {
+        Ok(())
+    } else {
+        Err(Usage { word: word + 1 })
+    }
+}
+
+#[tactic(auto, unfolding(crate::specs::Words::criterion_given))]
+fn criterion_for(words: &[&str], pairs: u32) -> Criterion
+    requires { 2 * pairs + 1 ≤ length words.now }
+    ensures { result ≡ criterion_given (texts words.now) pairs }
+{
+    Criterion {
+        min_area: value(words, Setting::MinArea, pairs)
+            .and_then(area)
+            .unwrap_or(0),
+        max_area: value(words, Setting::MaxArea, pairs)
+            .and_then(area)
+            .unwrap_or(16777216),
+        min_flux: value(words, Setting::MinFlux, pairs)
+            .and_then(flux)
+            .unwrap_or(0),
+        min_fill: value(words, Setting::MinFill, pairs)
+            .and_then(thousandths)
+            .unwrap_or(0),
+    }
+}
+
+#[tactic(auto, unfolding(crate::specs::Words::job_given))]
+fn job_for(command: Command, words: &[&str], pairs: u32) -> Option<Job>
+    requires { 2 * pairs + 1 ≤ length words.now }
+    ensures { result ≡ job_given command (texts words.now) pairs }
+{
+    match command {
+        Command::Tree => Some(Job::Tree),
+        Command::Filter => {
+            match value(words, Setting::Rule, pairs).and_then(rule) {
+                Some(rule) => Some(Job::Filter {
+                    rule,
+                    criterion: criterion_for(words, pairs),
+                }),
+                None => None,
+            }
+        }
+    }
+}
+
+#[tactic(auto, unfolding(crate::specs::Words::order_for))]
+fn order_of_job(words: &[&str], pairs: u32, job: Job) -> Order
+    requires { 2 * pairs + 1 ≤ length words.now }
+    ensures { result ≡ order_for (texts words.now) pairs job }
+{
+    Order {
+        job,
+        hdu: value(words, Setting::Hdu, pairs).and_then(hdu).unwrap_or(0),
+        connect: value(words, Setting::Connect, pairs)
+            .and_then(connect)
+            .unwrap_or(Connect::Four),
+        strips: value(words, Setting::Strips, pairs)
+            .and_then(strips)
+            .unwrap_or(1),
+        workers: value(words, Setting::Workers, pairs)
+            .and_then(workers)
+            .unwrap_or(1),
+        mesh: value(words, Setting::Mesh, pairs)
+            .and_then(mesh)
+            .unwrap_or(0),
     }
 }
 
@@ -273,19 +167,22 @@ fn read_pair(command: Command, words: &[&str], pair: u32, given: Given) -> Resul
 /// any order and each at most once. It takes no memory.
 pub fn read_words(words: &[&str]) -> Result<Order, Usage>
     ensures order { result ≡ order_of (texts words.now) }
-    ensures crew { IfOk result HasCrew }
+    ensures limits { IfOk result HasLimits }
 {
-    let Some(command) = Command::of(words) else {
+    let Some(command) = command(words) else {
         return Err(Usage { word: 1 });
     };
-    let mut given = Given::nothing();
-    let mut pair = 0;
-    while 2 * pair as usize + 1 < words.len() {
-        given = match read_pair(command, words, pair, given) {
-            Ok(given) => given,
-            Err(usage) => return Err(usage),
-        };
-        pair += 1;
+    let mut pairs = 0;
+    while 2 * pairs as usize + 1 < words.len() {
+        if let Err(usage) = judge_pair(command, words, pairs) {
+            return Err(usage);
+        }
+        pairs += 1;
     }
-    Ok(given.order(command))
+    match job_for(command, words, pairs) {
+        Some(job) => Ok(order_of_job(words, pairs, job)),
+        None => Err(Usage {
+            word: 2 * pairs + 2,
+        }),
+    }
 }

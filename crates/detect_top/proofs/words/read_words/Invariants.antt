@@ -1,11 +1,11 @@
 -- So many pairs of a name and a value are read, and none of them is at fault.
-use Rattle.std.proofs.Common.{◌≤◌, ◌-◌, ◌*◌, ◌+◌, length}
+use Rattle.std.proofs.Common.{◌-◌, ◌*◌, ◌+◌, length}
 use Rattle.detect_top.specs.Words.{texts}
-use Rattle.detect_top.specs.Given.{IsGiven}
+use Rattle.detect_top.specs.Given.{AreRead}
 use Rattle.detect_top.proofs.words.read_words.Given as goal
 
-abbrev pub invariant-loop-pair : goal.invariant-loop-pair
-invariant-loop-pair l = record { given : IsGiven l.command (texts l.words) l.pair l.given; few : l.pair ≤ 4 }
+abbrev pub invariant-loop-pairs : goal.invariant-loop-pairs
+invariant-loop-pairs l = AreRead l.command (texts l.words) l.pairs
 
-abbrev pub decreases-loop-pair : goal.decreases-loop-pair
-decreases-loop-pair l = length l.words - (2 * l.pair + 1)
+abbrev pub decreases-loop-pairs : goal.decreases-loop-pairs
+decreases-loop-pairs l = length l.words - (2 * l.pairs + 1)

@@ -1,7 +1,7 @@
 use Rattle.std.proofs.Common.{◌∙◌, ap, sym}
 use Rattle.detect_top.specs.Numbers.{without_minus, is_numeral}
 use Rattle.detect_top.proofs.Numerals.{no_number, number_read, number_unread}
-use Rattle.detect_top.proofs.words.number_between.Goals as goal
+use Rattle.detect_top.proofs.options.number_between.Goals as goal
 
 pub returns-then-not-is_numeral-clause-number : goal.returns-then-not-is_numeral-clause-number
 returns-then-not-is_numeral-clause-number c =

@@ -1,0 +1,87 @@
+-- The numbers of an order are within their limits.
+use Rattle.std.proofs.Common.{◌≡◌, ℕ, ◌≤◌, Bool, true, false, ◌&&◌, List, refl, subst, arith, if◌then◌else◌}
+use Rattle.std.specs.Prelude.{ℤ, pos, int_le, ◌≤ℤ◌, Option, Some, None, unwrap_or, unsigned_abs, option_and_then}
+use Rattle.std.specs.Option.{option_map}
+use Rattle.std.proofs.lemmas.Int.{ints}
+use Rattle.comp_tree.proofs.Levels.{int_le-true}
+use Rattle.detect_top.specs.declared.options.Setting.TheVariants.{Strips, Workers, Mesh, Rule, MinFill}
+use Rattle.detect_top.specs.declared.options.Command.{Command}
+use Rattle.detect_top.specs.declared.options.Command.TheVariants.{Tree, Filter}
+use Rattle.detect_top.specs.declared.words.Job.{Job}
+use Rattle.detect_top.specs.declared.words.Job.TheVariants as the_job
+use Rattle.detect_top.specs.Numbers.{within, whole_number}
+use Rattle.detect_top.specs.Options.{count_between, strips_in, workers_in, mesh_in, rule_in, thousandths_in}
+use Rattle.detect_top.specs.Words.{criterion_given, job_given, order_for, value_given, given, HasJobLimits, HasLimits}
+
+record IsBetween (least most n : ℕ) : Type 0 where
+  low : least ≤ n
+  high : n ≤ most
+
+and_both : (a b : Bool) → (a && b) ≡ true → (a ≡ true) × (b ≡ true)
+and_both true b h = (refl, h)
+and_both false b h = absurd (cc)
+
+abs_between : (least most : ℕ) (z : ℤ) → pos least ≤ℤ z → z ≤ℤ pos most → IsBetween least most (unsigned_abs z)
+abs_between least most (pos n) low high = record { low = omega (arith, ints, low); high = omega (arith, ints, high) }
+abs_between least most z low high = absurd (omega (arith, ints, low))
+
+number_between : (least most default : ℕ) (z : ℤ) (b : Bool) → IsBetween least most default → (int_le (pos least) z && int_le z (pos most)) ≡ b
+    → IsBetween least most (unwrap_or (option_map unsigned_abs (if b then Some z else None)) default)
+number_between least most default z false otherwise h = otherwise
+number_between least most default z true otherwise h =
+    let both = and_both (int_le (pos least) z) (int_le z (pos most)) h in
+    abs_between least most z (int_le-true _ _ both.0) (int_le-true _ _ both.1)
+
+within_between : (least most default : ℕ) (o : Option ℤ) → IsBetween least most default → IsBetween least most (unwrap_or (option_map unsigned_abs (within (pos least) (pos most) o)) default)
+within_between least most default None otherwise = otherwise
+within_between least most default (Some z) otherwise = number_between least most default z (int_le (pos least) z && int_le z (pos most)) otherwise refl
+
+-- an option whose value is from least to most, as its default is
+given_between : (least most default : ℕ) (o : Option (List ℕ)) → IsBetween least most default
+    → IsBetween least most (unwrap_or (option_and_then (count_between (pos least) (pos most)) o) default)
+given_between least most default None otherwise = otherwise
+given_between least most default (Some text) otherwise = within_between least most default (whole_number text) otherwise
+
+strips_between : (o : Option (List ℕ)) → IsBetween 1 65535 (unwrap_or (option_and_then strips_in o) 1)
+unfolding strips_in
+strips_between o = given_between 1 65535 1 o (record { low = omega arith; high = omega arith })
+
+workers_between : (o : Option (List ℕ)) → IsBetween 1 64 (unwrap_or (option_and_then workers_in o) 1)
+unfolding workers_in
+workers_between o = given_between 1 64 1 o (record { low = omega arith; high = omega arith })
+
+mesh_between : (o : Option (List ℕ)) → IsBetween 0 65535 (unwrap_or (option_and_then mesh_in o) 0)
+unfolding mesh_in
+mesh_between o = given_between 0 65535 0 o (record { low = omega arith; high = omega arith })
+
+thousandths_between : (o : Option (List ℕ)) → IsBetween 0 1000 (unwrap_or (option_and_then thousandths_in o) 0)
+unfolding thousandths_in
+thousandths_between o = given_between 0 1000 0 o (record { low = omega arith; high = omega arith })
+
+criterion_limits : (words : List (List ℕ)) (n : ℕ) → (criterion_given words n).min_fill ≤ 1000
+unfolding criterion_given
+criterion_limits words n = let fill = thousandths_between (value_given words n MinFill) in fill.high
+
+some_filter : {T : Type 0} (o : Option T) (f : T → Job) (job : Job) → option_map f o ≡ Some job → ((x : T) → HasJobLimits (f x)) → HasJobLimits job
+some_filter (Some x) f job is limits = let same : f x ≡ job = cc in subst HasJobLimits same (limits x)
+some_filter None f job is limits = absurd (cc)
+
+job_limits : (command : Command) (words : List (List ℕ)) (n : ℕ) (job : Job) → job_given command words n ≡ Some job → HasJobLimits job
+unfolding job_given
+job_limits Tree words n job is = let same : the_job.Tree ≡ job = cc in subst HasJobLimits same tt
+job_limits Filter words n job is = some_filter (given rule_in words n Rule) _ job is (λ rule. criterion_limits words n)
+
+pub given_limits : (command : Command) (words : List (List ℕ)) (n : ℕ) (job : Job) → job_given command words n ≡ Some job → HasLimits (order_for words n job)
+unfolding order_for
+given_limits command words n job is =
+    let strips = strips_between (value_given words n Strips) in
+    let workers = workers_between (value_given words n Workers) in
+    let mesh = mesh_between (value_given words n Mesh) in
+    record {
+      some_strip = strips.low;
+      most_strips = strips.high;
+      some_worker = workers.low;
+      most_workers = workers.high;
+      most_mesh = mesh.high;
+      job = job_limits command words n job is;
+    }

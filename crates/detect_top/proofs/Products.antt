@@ -1,0 +1,24 @@
+-- What is made of an image is what its order writes.
+use Rattle.std.proofs.Common.{◌≡◌, ◌∙◌, ap, List, Result, Ok, Err, IfOk}
+use Rattle.std.specs.Prelude.{ℤ}
+use Rattle.std.specs.declared.option.Option.{Option}
+use Rattle.comp_tree.specs.declared.shape.Connect.{Connect}
+use Rattle.comp_tree.specs.Raster.{Raster}
+use Rattle.comp_tree.specs.ComponentTree.{ComponentTree}
+use Rattle.comp_tree.specs.Components.{tree_of}
+use Rattle.pixel_plane.specs.Stored.{HasStorableValues}
+use Rattle.mesh_background.specs.Residuals.{residual_of, HasValuesInHalfRange}
+use Rattle.detect_top.specs.declared.words.Order.{Order}
+use Rattle.detect_top.specs.declared.product.Product.{Product}
+use Rattle.detect_top.specs.Products.{output_of_job, output_of, bytes_of}
+
+-- what can be stored is half of the range of pixels
+pub half_range : (values : List (Option ℤ)) → HasStorableValues values → HasValuesInHalfRange values
+half_range values h = record { each = λ p v is. record { low = (h.each p v is).low; high = (h.each p v is).high } }
+
+pub made_of_image : {E : Type 0} (order : Order) (image plane : Raster) (tree : ComponentTree) (made : Result Product E) → plane ≡ residual_of image order.mesh → tree ≡ tree_of plane order.connect
+    → IfOk made (λ product. (connect : Connect) → tree ≡ tree_of plane connect → bytes_of product ≡ output_of_job order.job connect plane)
+    → IfOk made (λ product. bytes_of product ≡ output_of order image)
+unfolding output_of
+made_of_image order image plane tree (Ok product) residual is bytes = bytes order.connect is ∙ ap (output_of_job order.job order.connect) residual
+made_of_image order image plane tree (Err e) residual is bytes = tt

@@ -1,0 +1,127 @@
+-- The commands, their options, and what the values of these are.
+use Rattle.std.specs.Prelude.{ℕ, Bool, true, false, List, [], ◌∷◌, find, ℤ, pos, unsigned_abs, Option, Some, None, is_some, codes, if◌then◌else◌}
+use Rattle.std.specs.Str.{bytes_eq}
+use Rattle.std.specs.Option.{option_map}
+use Rattle.std.specs.Ordering.{int_eq}
+use Rattle.comp_tree.specs.declared.shape.Connect.{Connect}
+use Rattle.comp_tree.specs.declared.shape.Connect.TheVariants as connectivity
+use Rattle.filter_rules.specs.declared.rule.Rule.{Rule}
+use Rattle.filter_rules.specs.declared.rule.Rule.TheVariants as rule
+use Rattle.detect_top.specs.declared.options.Command.{Command}
+use Rattle.detect_top.specs.declared.options.Command.TheVariants.{Tree, Filter}
+use Rattle.detect_top.specs.declared.options.Setting.{Setting}
+use Rattle.detect_top.specs.declared.options.Setting.TheVariants.{Hdu, Connect as Connectivity, Strips, Workers, Mesh, Rule as FilterRule, MinArea, MaxArea, MinFlux, MinFill}
+use Rattle.detect_top.specs.Numbers.{number_between}
+
+-- ---- names
+
+abbrev pub command_named : List ℕ → Option Command
+command_named text = if bytes_eq text (codes "tree") then Some Tree else (if bytes_eq text (codes "filter") then Some Filter else None)
+
+-- all options
+abbrev pub settings : List Setting
+settings = Hdu ∷ Connectivity ∷ Strips ∷ Workers ∷ Mesh ∷ FilterRule ∷ MinArea ∷ MaxArea ∷ MinFlux ∷ MinFill ∷ []
+
+abbrev pub name_of : Setting → List ℕ
+name_of Hdu = codes "--hdu"
+name_of Connectivity = codes "--connect"
+name_of Strips = codes "--strips"
+name_of Workers = codes "--workers"
+name_of Mesh = codes "--mesh"
+name_of FilterRule = codes "--rule"
+name_of MinArea = codes "--min-area"
+name_of MaxArea = codes "--max-area"
+name_of MinFlux = codes "--min-flux"
+name_of MinFill = codes "--min-fill"
+
+unfoldable pub setting_named : List ℕ → Option Setting
+setting_named text = find (λ setting. bytes_eq text (name_of setting)) settings
+
+-- the command is one of these
+abbrev pub is_filter : Command → Bool
+is_filter Tree = false
+is_filter Filter = true
+
+-- the command has this option
+abbrev pub takes : Command → Setting → Bool
+takes command Hdu = true
+takes command Connectivity = true
+takes command Strips = true
+takes command Workers = true
+takes command Mesh = true
+takes command FilterRule = is_filter command
+takes command MinArea = is_filter command
+takes command MaxArea = is_filter command
+takes command MinFlux = is_filter command
+takes command MinFill = is_filter command
+
+abbrev pub if_taken : Command → Option Setting → Option Setting
+if_taken command None = None
+if_taken command (Some setting) = if takes command setting then Some setting else None
+
+-- the option of the command with this name
+unfoldable pub option_named : Command → List ℕ → Option Setting
+option_named command text = if_taken command (setting_named text)
+
+-- ---- values
+
+-- a whole number from least to most, neither of them negative
+abbrev pub count_between : ℤ → ℤ → List ℕ → Option ℕ
+count_between least most text = option_map unsigned_abs (number_between least most text)
+
+-- the number of an HDU
+unfoldable pub hdu_in : List ℕ → Option ℕ
+hdu_in text = count_between (pos 0) (pos 65535) text
+
+abbrev pub connect_of : Option ℤ → Option Connect
+connect_of None = None
+connect_of (Some n) = if int_eq n (pos 4) then Some connectivity.Four else (if int_eq n (pos 8) then Some connectivity.Eight else None)
+
+-- 4 or 8
+unfoldable pub connect_in : List ℕ → Option Connect
+connect_in text = connect_of (number_between (pos 4) (pos 8) text)
+
+-- how many strips
+unfoldable pub strips_in : List ℕ → Option ℕ
+strips_in text = count_between (pos 1) (pos 65535) text
+
+-- how many workers
+unfoldable pub workers_in : List ℕ → Option ℕ
+workers_in text = count_between (pos 1) (pos 64) text
+
+-- the side of a mesh cell in pixels, or 0 for no background
+unfoldable pub mesh_in : List ℕ → Option ℕ
+mesh_in text = count_between (pos 0) (pos 65535) text
+
+-- a filter rule
+unfoldable pub rule_in : List ℕ → Option Rule
+rule_in text =
+    if bytes_eq text (codes "min") then Some rule.Min
+    else (if bytes_eq text (codes "max") then Some rule.Max
+    else (if bytes_eq text (codes "direct") then Some rule.Direct
+    else (if bytes_eq text (codes "subtractive") then Some rule.Subtractive else None)))
+
+-- a number of pixels
+unfoldable pub area_in : List ℕ → Option ℕ
+area_in text = count_between (pos 0) (pos 16777216) text
+
+-- a flux, at most 2 ^ 59
+unfoldable pub flux_in : List ℕ → Option ℤ
+flux_in text = number_between (pos 0) (pos 576460752303423488) text
+
+-- a part of a whole, in thousandths
+unfoldable pub thousandths_in : List ℕ → Option ℕ
+thousandths_in text = count_between (pos 0) (pos 1000) text
+
+-- the word is a value of this option
+abbrev pub is_value : Setting → List ℕ → Bool
+is_value Hdu text = is_some (hdu_in text)
+is_value Connectivity text = is_some (connect_in text)
+is_value Strips text = is_some (strips_in text)
+is_value Workers text = is_some (workers_in text)
+is_value Mesh text = is_some (mesh_in text)
+is_value FilterRule text = is_some (rule_in text)
+is_value MinArea text = is_some (area_in text)
+is_value MaxArea text = is_some (area_in text)
+is_value MinFlux text = is_some (flux_in text)
+is_value MinFill text = is_some (thousandths_in text)

@@ -1,0 +1,271 @@
+// The commands and their options.
+ghost use Rattle.std.specs.Prelude.{◌≡◌, ◌≤ℤ◌, ◌<◌, ℕ, Some, IfSome, is_some};
+ghost use Rattle.std.specs.List.{list_all};
+ghost use Rattle.std.specs.Char.{is_ascii_digit};
+ghost use Rattle.detect_top.specs.Options.{command_named, setting_named, option_named, takes as takes_option, name_of, is_value, hdu_in, connect_in, strips_in, workers_in, mesh_in, rule_in, area_in, flux_in, thousandths_in};
+ghost use Rattle.detect_top.specs.Numbers.{without_minus as digits_of, is_numeral, within, number_between as number_in};
+
+use comp_tree::Connect;
+use filter_rules::Rule;
+
+/// The first word.
+#[derive(Clone, Copy, Debug, PartialEq, Eq)]
+pub(crate) enum Command {
+    Tree,
+    Filter,
+}
+
+impl Command {
+    pub(crate) fn named(text: &str) -> Option<Command>
+        ensures { result ≡ command_named text.now }
+    {
+        match text {
+            "tree" => Some(Command::Tree),
+            "filter" => Some(Command::Filter),
+            _ => None,
+        }
+    }
+
+    fn takes(self, setting: Setting) -> bool
+        ensures { result ≡ takes_option self setting }
+    {
+        match setting {
+            Setting::Hdu | Setting::Connect | Setting::Strips | Setting::Workers | Setting::Mesh =>
+                true,
+            Setting::Rule
+            | Setting::MinArea
+            | Setting::MaxArea
+            | Setting::MinFlux
+            | Setting::MinFill => self == Command::Filter,
+        }
+    }
+
+    /// The option of this command with this name.
+    #[tactic(auto, unfolding(crate::specs::Options::option_named))]
+    pub(crate) fn option(self, name: &str) -> Option<Setting>
+        ensures { result ≡ option_named self name.now }
+    {
+        match Setting::named(name) {
+            Some(setting) if self.takes(setting) => Some(setting),
+            _ => None,
+        }
+    }
+}
+
+/// An option.
+#[derive(Clone, Copy, Debug, PartialEq, Eq)]
+pub(crate) enum Setting {
+    Hdu,
+    Connect,
+    Strips,
+    Workers,
+    Mesh,
+    Rule,
+    MinArea,
+    MaxArea,
+    MinFlux,
+    MinFill,
+}
+
+impl Setting {
+    #[tactic(auto, unfolding(crate::specs::Options::setting_named))]
+    fn named(text: &str) -> Option<Setting>
+        ensures { result ≡ setting_named text.now }
+    {
+        match text {
+            "--hdu" => Some(Setting::Hdu),
+            "--connect" => Some(Setting::Connect),
+            "--strips" => Some(Setting::Strips),
+            "--workers" => Some(Setting::Workers),
+            "--mesh" => Some(Setting::Mesh),
+            "--rule" => Some(Setting::Rule),
+            "--min-area" => Some(Setting::MinArea),
+            "--max-area" => Some(Setting::MaxArea),
+            "--min-flux" => Some(Setting::MinFlux),
+            "--min-fill" => Some(Setting::MinFill),
+            _ => None,
+        }
+    }
+
+    pub(crate) fn name(self) -> &'static str
+        ensures { result.now ≡ name_of self }
+    {
+        match self {
+            Setting::Hdu => "--hdu",
+            Setting::Connect => "--connect",
+            Setting::Strips => "--strips",
+            Setting::Workers => "--workers",
+            Setting::Mesh => "--mesh",
+            Setting::Rule => "--rule",
+            Setting::MinArea => "--min-area",
+            Setting::MaxArea => "--max-area",
+            Setting::MinFlux => "--min-flux",
+            Setting::MinFill => "--min-fill",
+        }
+    }
+
+    /// The text is a value of this option.
+    pub(crate) fn accepts(self, text: &str) -> bool
+        ensures { result ≡ is_value self text.now }
+    {
+        match self {
+            Setting::Hdu => hdu(text).is_some(),
+            Setting::Connect => connect(text).is_some(),
+            Setting::Strips => strips(text).is_some(),
+            Setting::Workers => workers(text).is_some(),
+            Setting::Mesh => mesh(text).is_some(),
+            Setting::Rule => rule(text).is_some(),
+            Setting::MinArea | Setting::MaxArea => area(text).is_some(),
+            Setting::MinFlux => flux(text).is_some(),
+            Setting::MinFill => thousandths(text).is_some(),
+        }
+    }
+}
+
+fn without_minus(text: &[u8]) -> &[u8]
+    ensures { result.now ≡ digits_of text.now }
+{
+    match text {
+        [b'-', digits @ ..] => digits,
+        _ => text,
+    }
+}
+
+fn are_digits(bytes: &[u8]) -> bool
+    ensures { result ≡ list_all is_ascii_digit bytes.now }
+{
+    bytes.iter().all(|byte| byte.is_ascii_digit())
+}
+
+fn is_numeral(digits: &[u8]) -> bool
+    ensures { result ≡ is_numeral digits.now }
+{
+    !digits.is_empty() && digits.len() <= 19 && are_digits(digits)
+}
+
+fn within(number: i64, least: i64, most: i64) -> Option<i64>
+    ensures found { result ≡ within least most (Some number) }
+    ensures low { IfSome result (λ n. least ≤ℤ n) }
+    ensures high { IfSome result (λ n. n ≤ℤ most) }
+{
+    if least <= number && number <= most {
+        Some(number)
+    } else {
+        None
+    }
+}
+
+// The whole number from `least` to `most` that the text is: an optional minus and 1 to 19 digits.
+fn number_between(text: &str, least: i64, most: i64) -> Option<i64>
+    ensures number { result ≡ number_in least most text.now }
+    ensures low { IfSome result (λ n. least ≤ℤ n) }
+    ensures high { IfSome result (λ n. n ≤ℤ most) }
+{
+    if !is_numeral(without_minus(text.as_bytes())) {
+        return None;
+    }
+    match text.parse::<i64>() {
+        Ok(number) => within(number, least, most),
+        Err(_) => None,
+    }
+}
+
+/// The number of an HDU, from 0.
+#[tactic(auto, unfolding(crate::specs::Options::hdu_in))]
+pub(crate) fn hdu(text: &str) -> Option<u16>
+    ensures { result ≡ hdu_in text.now }
+{
+    match number_between(text, 0, 65535) {
+        Some(number) => Some(number as u16),
+        None => None,
+    }
+}
+
+/// Which pixels are neighbours.
+#[tactic(auto, unfolding(crate::specs::Options::connect_in))]
+pub(crate) fn connect(text: &str) -> Option<Connect>
+    ensures { result ≡ connect_in text.now }
+{
+    match number_between(text, 4, 8) {
+        Some(4) => Some(Connect::Four),
+        Some(8) => Some(Connect::Eight),
+        _ => None,
+    }
+}
+
+/// How many strips.
+#[tactic(auto, unfolding(crate::specs::Options::strips_in))]
+pub(crate) fn strips(text: &str) -> Option<u32>
+    ensures { result ≡ strips_in text.now }
+{
+    match number_between(text, 1, 65535) {
+        Some(number) => Some(number as u32),
+        None => None,
+    }
+}
+
+/// How many workers.
+#[tactic(auto, unfolding(crate::specs::Options::workers_in))]
+pub(crate) fn workers(text: &str) -> Option<u32>
+    ensures { result ≡ workers_in text.now }
+{
+    match number_between(text, 1, 64) {
+        Some(number) => Some(number as u32),
+        None => None,
+    }
+}
+
+/// The side of a mesh cell in pixels, or 0 for no background.
+#[tactic(auto, unfolding(crate::specs::Options::mesh_in))]
+pub(crate) fn mesh(text: &str) -> Option<u32>
+    ensures { result ≡ mesh_in text.now }
+{
+    match number_between(text, 0, 65535) {
+        Some(number) => Some(number as u32),
+        None => None,
+    }
+}
+
+/// A filter rule by its name.
+#[tactic(auto, unfolding(crate::specs::Options::rule_in))]
+pub(crate) fn rule(text: &str) -> Option<Rule>
+    ensures { result ≡ rule_in text.now }
+{
+    match text {
+        "min" => Some(Rule::Min),
+        "max" => Some(Rule::Max),
+        "direct" => Some(Rule::Direct),
+        "subtractive" => Some(Rule::Subtractive),
+        _ => None,
+    }
+}
+
+/// So many pixels: at most as many as an image has.
+#[tactic(auto, unfolding(crate::specs::Options::area_in))]
+pub(crate) fn area(text: &str) -> Option<u32>
+    ensures { result ≡ area_in text.now }
+{
+    match number_between(text, 0, 16777216) {
+        Some(number) => Some(number as u32),
+        None => None,
+    }
+}
+
+/// A flux, at most 2 ^ 59.
+#[tactic(auto, unfolding(crate::specs::Options::flux_in))]
+pub(crate) fn flux(text: &str) -> Option<i64>
+    ensures { result ≡ flux_in text.now }
+{
+    number_between(text, 0, 576460752303423488)
+}
+
+/// A part of a whole, in thousandths.
+#[tactic(auto, unfolding(crate::specs::Options::thousandths_in))]
+pub(crate) fn thousandths(text: &str) -> Option<u32>
+    ensures { result ≡ thousandths_in text.now }
+{
+    match number_between(text, 0, 1000) {
+        Some(number) => Some(number as u32),
+        None => None,
+    }
+}

@@ -1,0 +1,136 @@
+//! What a job makes of an image, whole in memory before the first byte of output.
+ghost use Rattle.std.specs.Prelude.{◌≡◌, ◌≤◌, length, IfOk, OnOk, IsTrue};
+ghost use Rattle.dev_io.specs.Causes.{HasCause};
+ghost use Rattle.dev_io.specs.Streams.{PutAppends};
+ghost use Rattle.comp_tree.specs.declared.shape.Connect.{Connect};
+ghost use Rattle.comp_tree.specs.Components.{tree_of};
+ghost use Rattle.node_sums.specs.Sums.{IsTreeOfPlane};
+ghost use Rattle.pixel_plane.specs.Stored.{HasStorableValues};
+ghost use Rattle.filter_rules.specs.Filtered.{filtered as filtered_of};
+ghost use Rattle.detect_top.specs.Words.{HasLimits, HasJobLimits};
+ghost use Rattle.detect_top.specs.Lines.{tree_lines, node_list};
+ghost use Rattle.detect_top.specs.Products.{output_of_job, output_of, bytes_of, IsWritable};
+
+use crate::areas::areas;
+use crate::component::{component_tree, residual_plane};
+use crate::lines::put_tree;
+use crate::{Job, Order};
+use comp_tree::{Plane, Tree};
+use dev_io::{OutOfMemory, Sink};
+use filter_rules::{Criterion, Rule, filter};
+use fits_write::{WriteFault, put_plane};
+use node_sums::sums;
+use std::alloc::Global;
+use std::thread::Threads;
+use strip_crew::Gate;
+
+/// What is to be written.
+#[derive(Drop)]
+pub(crate) enum Product {
+    /// The node list.
+    Nodes(Nodes),
+    /// A filtered plane.
+    Image(Plane),
+}
+
+/// A tree, and the area of each of its nodes.
+#[derive(Drop)]
+pub(crate) struct Nodes {
+    pub(crate) tree: Tree,
+    pub(crate) areas: Vec<u32>,
+}
+
+fn node_areas(alloc: Global, plane: &Plane, tree: Tree) -> Result<Nodes, OutOfMemory>
+    requires { IsTreeOfPlane plane.now tree }
+    ensures one_each { IfOk result (λ nodes. length nodes.areas.items ≡ length nodes.tree.rows) }
+    ensures lines { IfOk result (λ nodes. (connect : Connect) → tree ≡ tree_of plane.now connect
+        → tree_lines nodes.tree.rows nodes.areas.items ≡ node_list plane.now connect) }
+{
+    let areas = areas(alloc, plane, &tree)?;
+    Ok(Nodes { tree, areas })
+}
+
+fn filtered(
+    alloc: Global,
+    plane: &Plane,
+    tree: &Tree,
+    rule: Rule,
+    criterion: &Criterion,
+) -> Result<Plane, OutOfMemory>
+    requires of_plane { IsTreeOfPlane plane.now tree.now }
+    requires fill { criterion.now.min_fill ≤ 1000 }
+    ensures { IfOk result (λ left. (connect : Connect) → tree.now ≡ tree_of plane.now connect → left ≡ filtered_of plane.now connect rule criterion.now) }
+{
+    let sums = sums(alloc, plane, tree)?;
+    filter(alloc, plane, tree, &sums, rule, criterion)
+}
+
+// What a job makes of a plane and its tree.
+fn make_of(alloc: Global, job: Job, plane: &Plane, tree: Tree) -> Result<Product, OutOfMemory>
+    requires of_plane { IsTreeOfPlane plane.now tree }
+    requires limits { HasJobLimits job }
+    ensures writable { IfOk result (λ product. IsWritable product) }
+    ensures bytes { IfOk result (λ product. (connect : Connect) → tree ≡ tree_of plane.now connect → bytes_of product ≡ output_of_job job connect plane.now) }
+{
+    match job {
+        Job::Tree => match node_areas(alloc, plane, tree) {
+            Ok(nodes) => Ok(Product::Nodes(nodes)),
+            Err(error) => Err(error),
+        },
+        Job::Filter { rule, criterion } => match filtered(alloc, plane, &tree, rule, &criterion) {
+            Ok(plane) => Ok(Product::Image(plane)),
+            Err(error) => Err(error),
+        },
+    }
+}
+
+/// What an order makes of an image. All memory for it is taken here.
+pub(crate) fn make<R: Threads + Sync, G: Gate>(
+    rt: &R,
+    alloc: Global,
+    image: Plane,
+    order: Order,
+    gate: &G,
+) -> Result<Product, OutOfMemory>
+    requires limits { HasLimits order }
+    requires storable { HasStorableValues image.values }
+    ensures writable { IfOk result (λ product. IsWritable product) }
+    ensures bytes { IfOk result (λ product. bytes_of product ≡ output_of order image) }
+{
+    let plane = match residual_plane(rt, alloc, image, order.mesh) {
+        Ok(plane) => plane,
+        Err(error) => return Err(error),
+    };
+    let tree = match component_tree(rt, alloc, &plane, order, gate) {
+        Ok(tree) => tree,
+        Err(error) => return Err(error),
+    };
+    make_of(alloc, order.job, &plane, tree)
+}
+
+fn put_product<O: Sink>(output: &mut O, product: &Product) -> Result<(), WriteFault>
+    requires { IsWritable product.now }
+    ensures bytes { PutAppends (O.written output.old) (O.written output.new) result (bytes_of product.now) }
+    ensures cause { HasCause (O.faults output.old) (O.faults output.new) result }
+{
+    match product {
+        Product::Nodes(nodes) => put_tree(output, &nodes.tree, &nodes.areas),
+        Product::Image(plane) => put_plane(output, plane),
+    }
+}
+
+/// Writes it, and hands all of it on.
+pub(crate) fn write<O: Sink>(output: &mut O, product: &Product) -> Result<(), WriteFault>
+    requires { IsWritable product.now }
+    ensures bytes { PutAppends (O.written output.old) (O.written output.new) result (bytes_of product.now) }
+    ensures settled { OnOk result (IsTrue (O.settled output.new)) }
+    ensures cause { HasCause (O.faults output.old) (O.faults output.new) result }
+{
+    if let Err(fault) = put_product(output, product) {
+        return Err(fault);
+    }
+    match output.done() {
+        Ok(()) => Ok(()),
+        Err(_) => Err(WriteFault),
+    }
+}
