@@ -1,16 +1,16 @@
 -- The steps of the passes that count strong children, and hand splits upwards.
-use Rattle.std.proofs.Common.{◌≡◌, ℕ, ◌+◌, ◌-◌, ◌*◌, ◌^◌, ◌<◌, ◌≤◌, zero, suc, Bool, true, false, ◌&&◌, List, length, map, refl, sym, ◌∙◌, ap, subst, arith, ◌⊎◌, inl, inr, get_or, set}
-use Rattle.std.specs.Prelude.{slice_get, slice_index, slice_index_or, Some, replicate}
-use Rattle.std.proofs.lemmas.Bool.{true≢false, cases_lt, cases_eq}
-use Rattle.std.proofs.lemmas.List.{length-set, length-replicate, get_or-set_same, get_or-set_other}
-use Rattle.std.proofs.lemmas.Option.{slice_get_within, get_or_from_slice_get, same_Some}
+use Rattle.std.proofs.Common.{◌≡◌, ℕ, ◌+◌, ◌*◌, ◌^◌, ◌<◌, ◌≤◌, Bool, true, false, List, length, refl, sym, ◌∙◌, ap, subst, arith, ◌⊎◌, inl, inr, get_or, set}
+use Rattle.std.specs.Prelude.{slice_get, slice_index_or, Some}
+use Rattle.std.proofs.lemmas.Bool.{cases_lt, cases_eq}
+use Rattle.std.proofs.lemmas.List.{length-set, get_or-set_same, get_or-set_other}
+use Rattle.std.proofs.lemmas.Option.{slice_get_within}
 use Rattle.comp_tree.specs.declared.tree.NodeRow.{NodeRow}
 use Rattle.comp_tree.specs.ComponentTree.{ComponentTree, IsWellFormed, parent_in, no_node}
 use Rattle.comp_tree.specs.Laws.{IsAncestor, parent, above}
 use Rattle.node_sums.proofs.Reading.{get-written, row-parent}
 use Rattle.source_pick.specs.declared.splitting.StrongChildren.{StrongChildren}
 use Rattle.source_pick.specs.declared.splitting.StrongChildren.TheVariants.{Zero, One, Several}
-use Rattle.source_pick.specs.Passes.{IsInner, HasTwo, HasOne, HasNone, Has, AreCounted, one_more, IsOnWay, IsAboveSplit, ArePassed, AreAboveSplits}
+use Rattle.source_pick.specs.Passes.{IsInner, Has, AreCounted, one_more, IsOnWay, IsAboveSplit, ArePassed, AreAboveSplits}
 use Rattle.source_pick.proofs.Within.{way_trans}
 
 -- ---- counting
@@ -38,24 +38,6 @@ more rows entries strong k m Zero i h = record { first = k; below = omega arith;
     go n (inr x) l j = omega arith
 more rows entries strong k m One i h = record { first = h.first; second = k; apart = h.below; below = omega arith; one = h.one; other = i }
 more rows entries strong k m Several i h = record { first = h.first; second = h.second; apart = h.apart; below = omega (arith, h.below); one = h.one; other = h.other }
-
-pub counted_none : (rows : List NodeRow) (entries : List ℕ) (strong : List Bool) (children : List StrongChildren) → children ≡ replicate (length rows) Zero
-    → AreCounted rows entries strong 0 children
-counted_none rows entries strong children e = record {
-  one_each = ap length e ∙ length-replicate (length rows) Zero;
-  each = λ m c g. zeros (length rows) m c (ap (λ (xs : List StrongChildren). slice_get xs m) (sym e) ∙ g);
-}
-  where
-    zeros : (n m : ℕ) (c : StrongChildren) → slice_get (replicate n Zero) m ≡ Some c → Has rows entries strong 0 m c
-    zeros n m c g = go n m c g
-      where
-        at_zero : (m : ℕ) (c : StrongChildren) → Zero ≡ c → Has rows entries strong 0 m c
-        at_zero m c f = subst (λ (x : StrongChildren). Has rows entries strong 0 m x) f (record { none = λ j l i. absurd (omega arith) })
-
-        go : (n i : ℕ) (c : StrongChildren) → slice_get (replicate n Zero) i ≡ Some c → Has rows entries strong 0 m c
-        go zero i c f = absurd (cc)
-        go (suc n) zero c f = at_zero m c (same_Some Zero c f)
-        go (suc n) (suc i) c f = go n i c f
 
 pub counted_without : (rows : List NodeRow) (entries : List ℕ) (strong : List Bool) (k : ℕ) (children : List StrongChildren) → AreCounted rows entries strong k children
     → ((m : ℕ) → m < length rows → IsInner rows entries strong m k → ⊥) → AreCounted rows entries strong (k + 1) children

@@ -1,14 +1,13 @@
 -- Entries are disjoint, and a node lies in the entry of its parent.
-use Rattle.std.proofs.Common.{◌≡◌, ℕ, ◌+◌, ◌<◌, ◌≤◌, Bool, true, false, ◌&&◌, ◌||◌, List, length, refl, sym, ◌∙◌, ap, subst, arith, ◌⊎◌, inl, inr}
-use Rattle.std.specs.Prelude.{ℤ, ◌≤ℤ◌, ◌<ℤ◌, int_le, int_lt, ◌==◌, Option, Some, None}
-use Rattle.std.specs.List.{find}
+use Rattle.std.proofs.Common.{◌≡◌, ℕ, ◌+◌, ◌<◌, ◌≤◌, Bool, true, false, ◌&&◌, ◌||◌, length, refl, sym, ◌∙◌, ap, subst, arith, ◌⊎◌, inl, inr}
+use Rattle.std.specs.Prelude.{◌≤ℤ◌, ◌<ℤ◌, int_le, int_lt, ◌==◌, Option, Some, None}
 use Rattle.std.proofs.lemmas.Int.{ints}
 use Rattle.std.proofs.lemmas.Bool.{true≢false, eqb-true, and_parts, and_from, or_cases}
 use Rattle.comp_tree.specs.declared.shape.Connect.{Connect}
 use Rattle.comp_tree.specs.Raster.{Raster, IsPlane}
-use Rattle.comp_tree.specs.ComponentTree.{parent_in, no_node}
+use Rattle.comp_tree.specs.ComponentTree.{no_node}
 use Rattle.comp_tree.specs.Components.{nodes, is_in_node, tree_of}
-use Rattle.comp_tree.specs.Laws.{IsAncestor, top_of, parent_of_node, AreDisjoint}
+use Rattle.comp_tree.specs.Laws.{IsAncestor, top_of, parent_of_node}
 use Rattle.comp_tree.proofs.Members.{IsAmong, among-range, among_from_range, find_some, find_none}
 use Rattle.comp_tree.proofs.Levels.{int_le-true, int_lt-true}
 use Rattle.comp_tree.proofs.Ancestors.{length-rows, below_no_node}

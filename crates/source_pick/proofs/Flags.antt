@@ -1,10 +1,10 @@
 -- Which nodes the arrays show as sources, and the list that is made of them.
-use Rattle.std.proofs.Common.{◌≡◌, ℕ, ◌+◌, ◌*◌, ◌<◌, ◌≤◌, zero, suc, Bool, true, false, ◌&&◌, ◌||◌, not, List, [], ◌∷◌, ◌++◌, length, map, refl, sym, ◌∙◌, ap, subst, arith, ◌⊎◌, inl, inr, get_or, set, Result, Ok, Err, Vec, Global}
-use Rattle.std.specs.Prelude.{unwrap_or, IfOk, Option, Some, None, replicate, slice_get, slice_index, slice_index_or}
+use Rattle.std.proofs.Common.{◌≡◌, ℕ, ◌+◌, ◌*◌, ◌<◌, ◌≤◌, zero, suc, Bool, true, false, ◌&&◌, ◌||◌, not, List, [], ◌∷◌, ◌++◌, length, map, refl, sym, ◌∙◌, ap, subst, arith, ◌⊎◌, inl, inr, set, Result, Ok, Err, Vec, Global}
+use Rattle.std.specs.Prelude.{unwrap_or, IfOk, Option, Some, replicate, slice_get, slice_index, slice_index_or}
 use Rattle.std.specs.List.{range_with_len, flat_map}
-use Rattle.std.proofs.lemmas.Bool.{true≢false, and_from, and_left, and_right, not_from_true, false_from_ne_true, cases_lt, cases_order}
-use Rattle.std.proofs.lemmas.List.{append-nil, length-set, length-replicate, length-map}
-use Rattle.std.proofs.lemmas.Option.{slice_get-get_or, slice_get_within, same_Some}
+use Rattle.std.proofs.lemmas.Bool.{true≢false, and_right, not_from_true, false_from_ne_true, cases_lt, cases_order}
+use Rattle.std.proofs.lemmas.List.{append-nil, length-set, length-replicate}
+use Rattle.std.proofs.lemmas.Option.{slice_get-get_or, same_Some}
 use Rattle.comp_tree.specs.declared.shape.Shape.{Shape}
 use Rattle.comp_tree.specs.declared.shape.Connect.{Connect}
 use Rattle.comp_tree.specs.declared.tree.NodeRow.{NodeRow}
@@ -19,14 +19,14 @@ use Rattle.node_sums.proofs.Reading.{get-written}
 use Rattle.source_pick.specs.declared.choice.Choice.{Choice}
 use Rattle.source_pick.specs.declared.splitting.StrongChildren.{StrongChildren}
 use Rattle.source_pick.specs.declared.splitting.StrongChildren.TheVariants.{Zero, One, Several}
-use Rattle.source_pick.specs.Sources.{is_entry, entry_of, is_strong, is_split, has_strong_sibling, contains_split, is_source, sources_at, sources}
+use Rattle.source_pick.specs.Sources.{is_entry, entry_of, is_split, has_strong_sibling, contains_split, is_source, sources_at, sources}
 use Rattle.source_pick.specs.Segmentation.{AreDisjointNodes}
-use Rattle.source_pick.specs.Passes.{IsOf, entry_number, AreEntries, AreStrong, IsInner, HasTwo, HasOne, HasNone, Has, AreCounted, are_several, IsOnWay, IsAboveSplit, AreAboveSplits, AreSources, IsFirstOf, IsNoFirst, StandAtFirst, ArePicked}
-use Rattle.source_pick.proofs.Entries.{node_from_row, IsEntryOf, entry_of-parts, entry_of-self, entry_of-found, entry_of_child}
-use Rattle.source_pick.proofs.Splits.{same_bool, AreTwins, other_way, IsSplitNode, split_parts, split_from, split_entry, HasSibling, sibling_parts, sibling_from, ContainsSplit, contains_parts, contains_from}
+use Rattle.source_pick.specs.Passes.{IsOf, entry_number, AreEntries, AreStrong, IsInner, HasTwo, Has, AreCounted, are_several, IsOnWay, IsAboveSplit, AreAboveSplits, AreSources, IsFirstOf, IsNoFirst, StandAtFirst, ArePicked}
+use Rattle.source_pick.proofs.Entries.{IsEntryOf, entry_of-parts, entry_of-self, entry_of-found, entry_of_child}
+use Rattle.source_pick.proofs.Splits.{same_bool, AreTwins, other_way, IsSplitNode, split_parts, split_from, split_entry, sibling_parts, sibling_from, ContainsSplit, contains_parts, contains_from}
 use Rattle.source_pick.proofs.Sourcing.{source_from}
-use Rattle.source_pick.proofs.Listing.{IsSourceAt, sources_at-one, sources_at-none, flat-push, first_below, source_node, sources_apart}
-use Rattle.source_pick.proofs.Readings.{of_trees, numbers-length, tree-shape, rows-length, node_inside, filled}
+use Rattle.source_pick.proofs.Listing.{sources_at-one, sources_at-none, flat-push, first_below, source_node, sources_apart}
+use Rattle.source_pick.proofs.Readings.{numbers-length, tree-shape, rows-length, node_inside, filled}
 use Rattle.source_pick.proofs.Strong.{entry_from_number}
 
 -- ---- what the arrays say

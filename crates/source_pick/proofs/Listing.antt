@@ -1,18 +1,17 @@
 -- The list of the sources, by their least pixels.
-use Rattle.std.proofs.Common.{◌≡◌, ℕ, ◌+◌, ◌-◌, ◌*◌, ◌^◌, ◌<◌, ◌≤◌, zero, suc, Bool, true, false, cond, ◌&&◌, List, [], ◌∷◌, ◌++◌, length, min, refl, sym, ◌∙◌, ap, subst, arith, ◌⊎◌, inl, inr, get_or, length-append, append_assoc}
-use Rattle.std.specs.Prelude.{IsTrue, ◌==◌, ◌↔◌, filter, Option, Some, None, slice_get, Contains}
+use Rattle.std.proofs.Common.{◌≡◌, ℕ, ◌+◌, ◌-◌, ◌*◌, ◌^◌, ◌<◌, ◌≤◌, zero, suc, Bool, true, false, cond, ◌&&◌, List, [], ◌∷◌, ◌++◌, length, min, refl, sym, ◌∙◌, ap, subst, arith, ◌⊎◌, inl, inr}
+use Rattle.std.specs.Prelude.{IsTrue, ◌==◌, filter, Some, slice_get, Contains}
 use Rattle.std.specs.List.{range_with_len, flat_map}
-use Rattle.std.proofs.lemmas.Bool.{true≢false, eqb-true, eq-eqb, and_parts, and_from, false_from_ne_true, cases_lt, cases_order, cases_eq}
+use Rattle.std.proofs.lemmas.Bool.{eqb-true, eq-eqb, and_parts, and_from, false_from_ne_true, cases_lt, cases_eq}
 use Rattle.std.proofs.lemmas.List.{append-nil}
 use Rattle.std.proofs.lemmas.List.Concat.{flat_map-append}
-use Rattle.std.proofs.lemmas.Option.{slice_get_within, slice_get-get_or, get_or_from_slice_get, same_Some}
+use Rattle.std.proofs.lemmas.Option.{slice_get-get_or, same_Some}
 use Rattle.comp_tree.specs.declared.shape.Connect.{Connect}
 use Rattle.comp_tree.specs.Raster.{Raster, IsPlane, pixels}
-use Rattle.comp_tree.specs.Components.{nodes, is_in_node, tree_of}
+use Rattle.comp_tree.specs.Components.{nodes, is_in_node}
 use Rattle.comp_tree.specs.Laws.{top_of, AreDisjoint}
-use Rattle.comp_tree.proofs.Members.{IsAmong, among-filter, among_from_filter, among-range, among_from_range}
+use Rattle.comp_tree.proofs.Members.{IsAmong, among-filter, among_from_filter}
 use Rattle.comp_tree.proofs.Reaching.{among_from_defined, below_from_defined}
-use Rattle.comp_tree.proofs.Finding.{length-pixels}
 use Rattle.node_sums.specs.Sums.{least, sums_over, sums_of, pixels_of}
 use Rattle.node_sums.proofs.Counting.{in_node-defined}
 use Rattle.node_sums.proofs.Passes.{range-push}
@@ -20,7 +19,7 @@ use Rattle.source_pick.specs.declared.choice.Choice.{Choice}
 use Rattle.source_pick.specs.Sources.{node_numbers, is_source, sources_at, sources}
 use Rattle.source_pick.specs.Laws.{SourcesAreListed, SourcesAreInOrder}
 use Rattle.source_pick.proofs.Within.{top_inside}
-use Rattle.source_pick.proofs.Splits.{among_nodes, node_from_among}
+use Rattle.source_pick.proofs.Splits.{node_from_among}
 use Rattle.source_pick.proofs.Sourcing.{sources_that_share, sources_are_disjoint}
 
 -- ---- the least pixel of a node

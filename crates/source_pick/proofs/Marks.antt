@@ -1,18 +1,17 @@
 -- Numbers of nodes in a list, as the map gives them to pixels.
-use Rattle.std.proofs.Common.{◌≡◌, ℕ, ◌+◌, ◌-◌, ◌*◌, ◌^◌, ◌<◌, ◌≤◌, zero, suc, Bool, true, false, cond, List, [], ◌∷◌, length, map, refl, sym, ◌∙◌, ap, subst, arith, ◌⊎◌, inl, inr, get_or, set, ◌↔◌}
-use Rattle.std.specs.Prelude.{Option, Some, None, unwrap_or, replicate, slice_get, slice_index, slice_index_or, ◌==◌}
+use Rattle.std.proofs.Common.{◌≡◌, ℕ, ◌+◌, ◌*◌, ◌^◌, ◌<◌, ◌≤◌, zero, suc, Bool, true, false, cond, List, [], ◌∷◌, length, refl, sym, ◌∙◌, ap, subst, arith, ◌⊎◌, inl, inr, set, ◌↔◌}
+use Rattle.std.specs.Prelude.{Option, Some, unwrap_or, replicate, slice_get, slice_index, ◌==◌}
 use Rattle.std.specs.List.{range_with_len, position_from, list_any, IsDistinct, AllByRecursion}
-use Rattle.std.proofs.lemmas.Bool.{true≢false, eqb-true, ne_eqb, or_cases, false_from_ne_true, cases_lt, cases_eq, cases_order}
-use Rattle.std.proofs.lemmas.List.{length-set, length-map, length-replicate, get_or-set_same, get_or-set_other}
+use Rattle.std.proofs.lemmas.Bool.{true≢false, eqb-true, ne_eqb, or_cases, false_from_ne_true, cases_lt, cases_eq}
+use Rattle.std.proofs.lemmas.List.{length-set, length-map, get_or-set_same, get_or-set_other}
 use Rattle.std.proofs.lemmas.List.FromFn.{fill_by_all, length-range_with_len, get_or-map-range_with_len}
 use Rattle.std.proofs.lemmas.Map.Steps.{length-le_from_distinct_below}
-use Rattle.std.proofs.lemmas.Option.{slice_get-get_or, slice_get_within, get_or_from_slice_get, same_Some}
+use Rattle.std.proofs.lemmas.Option.{slice_get_within, same_Some}
 use Rattle.comp_tree.specs.declared.shape.Connect.{Connect}
-use Rattle.comp_tree.specs.declared.tree.NodeRow.{NodeRow}
 use Rattle.comp_tree.specs.Raster.{Raster, IsPlane, pixels, is_defined}
-use Rattle.comp_tree.specs.ComponentTree.{ComponentTree, IsWellFormed, parent_in, no_node}
+use Rattle.comp_tree.specs.ComponentTree.{ComponentTree, parent_in, no_node}
 use Rattle.comp_tree.specs.Components.{nodes, node_of, is_in_node, tree_of}
-use Rattle.comp_tree.specs.Laws.{IsAncestor, top_of, parent_of_node}
+use Rattle.comp_tree.specs.Laws.{top_of, parent_of_node}
 use Rattle.comp_tree.proofs.Components.{top-defined, top-representative}
 use Rattle.comp_tree.proofs.Ancestors.{below_no_node, pixels_belong_to_their_ancestors}
 use Rattle.comp_tree.proofs.Finding.{length-nodes-le}
@@ -24,7 +23,7 @@ use Rattle.source_pick.specs.Passes.{IsOnWay, AreMarked, AreNumbered}
 use Rattle.source_pick.proofs.Within.{top_inside, within_from_way, way_from_shared, HasParent, way_up, way_of_child}
 use Rattle.source_pick.proofs.Entries.{node_from_row, row_from_node}
 use Rattle.source_pick.proofs.Splits.{same_bool}
-use Rattle.source_pick.proofs.Readings.{numbers-length, tree-shape, rows-length, node_inside, filled}
+use Rattle.source_pick.proofs.Readings.{numbers-length, rows-length, node_inside, filled}
 
 -- ---- the place of the first number that passes
 
@@ -245,21 +244,12 @@ module _ (r : Raster) (connect : Connect) (tree : ComponentTree) (marked : List 
 
 -- ---- marking
 
-pub marked_none : (rows : List NodeRow) (marked numbers : List ℕ) → numbers ≡ replicate (length rows) 0 → AreMarked rows marked 0 numbers
-marked_none rows marked numbers e = record {
-  one_each = ap length e ∙ length-replicate (length rows) 0;
-  sound = λ n h. inl (ap (λ (xs : List ℕ). slice_index xs n) e ∙ zeros (length rows) n);
-  complete = λ i n h. absurd (omega arith);
-}
-  where
-    zeros : (k n : ℕ) → slice_index (replicate k 0) n ≡ 0
-    zeros zero n = refl
-    zeros (suc k) zero = refl
-    zeros (suc k) (suc n) = zeros k n
+pub marked_none : (size : ℕ) (marked numbers : List ℕ) → length numbers ≡ size → ((n : ℕ) → slice_index numbers n ≡ 0) → AreMarked size marked 0 numbers
+marked_none size marked numbers l e = record { one_each = l; sound = λ n h. inl (e n); complete = λ i n h. absurd (omega arith) }
 
-pub marked_more : (rows : List NodeRow) (marked numbers : List ℕ) (i n v : ℕ) → AreMarked rows marked i numbers → slice_get marked i ≡ Some n → n < length rows → v ≡ i + 1
-    → AreMarked rows marked (i + 1) (set numbers n v)
-marked_more rows marked numbers i n v h g inside e = record {
+pub marked_more : (size : ℕ) (marked numbers : List ℕ) (i n v : ℕ) → AreMarked size marked i numbers → slice_get marked i ≡ Some n → n < size → v ≡ i + 1
+    → AreMarked size marked (i + 1) (set numbers n v)
+marked_more size marked numbers i n v h g inside e = record {
   one_each = length-set numbers n v ∙ h.one_each;
   sound = λ m x. sound m (cases_eq m n) (h.sound m x);
   complete = λ j m x f z. complete j m (cases_eq m n) (cases_lt j i) x f z;
@@ -282,8 +272,8 @@ marked_more rows marked numbers i n v h g inside e = record {
     complete j m (inr s) (inl t) x f z = h.complete j m t f (sym (get_or-set_other numbers n m v 0 s) ∙ z)
     complete j m (inr s) (inr t) x f z = let b : j ≡ i = omega arith in s (same_Some m n (sym f ∙ ap (slice_get marked) b ∙ g))
 
-pub marked_up_to : (rows : List NodeRow) (marked numbers : List ℕ) (j k : ℕ) → AreMarked rows marked k numbers → j ≡ k → AreMarked rows marked j numbers
-marked_up_to rows marked numbers j k h e = subst (λ (n : ℕ). AreMarked rows marked n numbers) (sym e) h
+pub marked_up_to : (size : ℕ) (marked numbers : List ℕ) (j k : ℕ) → AreMarked size marked k numbers → j ≡ k → AreMarked size marked j numbers
+marked_up_to size marked numbers j k h e = subst (λ (n : ℕ). AreMarked size marked n numbers) (sym e) h
 
 -- ---- passing down
 
@@ -291,10 +281,10 @@ pub numbered_none : (tree : ComponentTree) (marked numbers : List ℕ) → lengt
 numbered_none tree marked numbers l = record { one_each = l; each = λ r connect plane e n h. absurd (omega arith) }
 
 -- a node that isn't marked isn't in the list
-unmarked : (tree : ComponentTree) (marked first : List ℕ) (n : ℕ) → AreMarked tree.rows marked (length marked) first → slice_index first n ≡ 0 → (j : ℕ) → slice_get marked j ≡ Some n → ⊥
+unmarked : (tree : ComponentTree) (marked first : List ℕ) (n : ℕ) → AreMarked (length tree.rows) marked (length marked) first → slice_index first n ≡ 0 → (j : ℕ) → slice_get marked j ≡ Some n → ⊥
 unmarked tree marked first n m z j g = m.complete j n (slice_get_within marked j n g) g z
 
-pub numbered_child : (tree : ComponentTree) (marked first numbers : List ℕ) (n p x : ℕ) → AreDisjointNodes tree marked → AreMarked tree.rows marked (length marked) first
+pub numbered_child : (tree : ComponentTree) (marked first numbers : List ℕ) (n p x : ℕ) → AreDisjointNodes tree marked → AreMarked (length tree.rows) marked (length marked) first
     → AreNumbered tree marked n numbers → n < length tree.rows → slice_index first n ≡ 0 → parent_in tree.rows n ≡ p → p < n → x ≡ slice_index numbers p
     → AreNumbered tree marked (n + 1) (set numbers n x)
 numbered_child tree marked first numbers n p x d m h inside zeros is_parent l e = record {
@@ -314,7 +304,7 @@ one_further tree marked numbers n h here = record { one_each = h.one_each; each 
     go r connect plane same k (inr x) l =
         let e : n ≡ k = omega arith in subst (λ (y : ℕ). slice_index numbers y ≡ number_at r connect marked (top_of r connect y)) e (here r connect plane same)
 
-pub numbered_marked : (tree : ComponentTree) (marked first numbers : List ℕ) (n : ℕ) → AreDisjointNodes tree marked → AreMarked tree.rows marked (length marked) first
+pub numbered_marked : (tree : ComponentTree) (marked first numbers : List ℕ) (n : ℕ) → AreDisjointNodes tree marked → AreMarked (length tree.rows) marked (length marked) first
     → AreNumbered tree marked n numbers → n < length tree.rows → slice_index numbers n ≡ slice_index first n → (slice_index numbers n ≡ 0 → ⊥) → AreNumbered tree marked (n + 1) numbers
 numbered_marked tree marked first numbers n d m h inside still some = one_further tree marked numbers n h (λ r connect plane same. go r connect plane same (m.sound n inside))
   where
@@ -324,7 +314,7 @@ numbered_marked tree marked first numbers n d m h inside still some = one_furthe
     go r connect plane same (inl z) = absurd (some (still ∙ z))
     go r connect plane same (inr (i, l, g, z)) = still ∙ z ∙ sym (number_of_marked r connect tree marked plane same d i n inside g)
 
-pub numbered_root : (tree : ComponentTree) (marked first numbers : List ℕ) (n p : ℕ) → AreDisjointNodes tree marked → AreMarked tree.rows marked (length marked) first
+pub numbered_root : (tree : ComponentTree) (marked first numbers : List ℕ) (n p : ℕ) → AreDisjointNodes tree marked → AreMarked (length tree.rows) marked (length marked) first
     → AreNumbered tree marked n numbers → n < length tree.rows → slice_index numbers n ≡ slice_index first n → slice_index numbers n ≡ 0 → parent_in tree.rows n ≡ p → p ≡ no_node
     → AreNumbered tree marked (n + 1) numbers
 numbered_root tree marked first numbers n p d m h inside still z is_parent none =
@@ -366,11 +356,6 @@ unfolding segmentation_of pixels
 pixels_all r connect tree marked numbers same l h =
     fill_by_all (number_at r connect marked) numbers (length r.values) 0 (l ∙ numbers-length r connect tree same)
     (λ p x. h p (let e : length tree.node_of ≡ length r.values = numbers-length r connect tree same in omega arith))
-
-pub map_length : (r : Raster) (connect : Connect) (tree : ComponentTree) (marked numbers : List ℕ) → tree ≡ tree_of r connect → numbers ≡ segmentation_of r connect marked → length numbers ≡ length tree.node_of
-unfolding segmentation_of pixels
-map_length r connect tree marked numbers same e =
-    ap length e ∙ length-map (range_with_len 0 (length r.values)) (number_at r connect marked) ∙ length-range_with_len 0 (length r.values) ∙ sym (numbers-length r connect tree same)
 
 pub map_bound : (tree : ComponentTree) (marked numbers : List ℕ) → (d : AreDisjointNodes tree marked) → numbers ≡ segmentation_of d.plane d.connect marked → (p : ℕ) → slice_index numbers p ≤ 2 ^ 24
 unfolding segmentation_of pixels

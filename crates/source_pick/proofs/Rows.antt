@@ -1,34 +1,29 @@
 -- A catalogue row from the sums of a node.
-use Rattle.std.proofs.Common.{◌≡◌, ℕ, ◌+◌, ◌-◌, ◌*◌, ◌/◌, ◌%◌, ◌^◌, ◌<◌, ◌≤◌, true, List, [], ◌∷◌, length, refl, sym, ◌∙◌, ap, subst, arith, inl, inr, lit<}
-use Rattle.std.specs.Prelude.{ℤ, pos, neg_ℤ, ◌+ℤ◌, ◌-ℤ◌, ◌*ℤ◌, ◌≤ℤ◌, sum_by, filter}
-use Rattle.std.proofs.lemmas.Int.{ints, to_z-of_z, to_z_pos}
+use Rattle.std.proofs.Common.{◌≡◌, ℕ, ◌+◌, ◌*◌, ◌/◌, ◌%◌, ◌^◌, ◌<◌, ◌≤◌, true, List, [], ◌∷◌, length, refl, sym, ◌∙◌, ap, subst, arith, lit<}
+use Rattle.std.specs.Prelude.{ℤ, pos, ◌-ℤ◌, ◌*ℤ◌, ◌≤ℤ◌}
+use Rattle.std.proofs.lemmas.Int.{ints, to_z-of_z}
 use Rattle.std.proofs.lemmas.Nat.{mod_below}
-use Rattle.std.proofs.Math.IntN.{pos-*ℤ-pos}
-use Rattle.std.proofs.Math.Nat.{div-lt_iff_lt-mul, mul_comm}
 use mir.Syntax.{w64, w128}
-use mir.Val.{SFits, of_z, to_z, hbits}
-use Rattle.comp_tree.specs.declared.shape.Shape.{Shape}
+use mir.Val.{SFits, of_z, to_z}
 use Rattle.comp_tree.specs.declared.shape.Connect.{Connect}
 use Rattle.comp_tree.specs.Raster.{Raster, IsPlane, HasValuesInRange, pixels, level}
-use Rattle.comp_tree.specs.ComponentTree.{ComponentTree}
 use Rattle.comp_tree.specs.Components.{nodes, is_in_node, tree_of}
 use Rattle.comp_tree.specs.Laws.{top_of}
 use Rattle.comp_tree.proofs.Members.{IsAmong, among-filter, among_from_filter}
 use Rattle.comp_tree.proofs.Reaching.{among_from_defined, below_from_defined}
 use Rattle.node_sums.specs.declared.entry.Sums.{Sums}
-use Rattle.node_sums.specs.Sums.{total, least, greatest, x_of, y_of, pixels_of, sums_over, sums_of, sums_in, AreTheTrees}
+use Rattle.node_sums.specs.Sums.{total, least, greatest, x_of, y_of, pixels_of, sums_over, sums_of}
 use Rattle.node_sums.specs.Flux.{base_of, flux_of}
 use Rattle.node_sums.specs.Merging.{IsUpTo, HasSizes}
 use Rattle.node_sums.proofs.Counting.{in_node-defined}
 use Rattle.node_sums.proofs.Fluxes.{level_at_least, never_negative, BaseCase, at_root, at_child, base-case}
 use Rattle.node_sums.proofs.FluxOfSums.{base_up_to}
 use Rattle.node_sums.proofs.Reading.{fits}
-use Rattle.node_sums.proofs.Sizes.{sizes, filtered, level_up_to, total-up_to, up_to_more, up_to-minus, up_to-plus, x_small, y_small}
+use Rattle.node_sums.proofs.Sizes.{sizes, filtered, level_up_to, total-up_to, up_to_more, up_to-minus, x_small, y_small}
 use Rattle.source_pick.specs.declared.catalogue.CatRow.{CatRow}
 use Rattle.source_pick.specs.Sources.{level_of_node}
-use Rattle.source_pick.specs.Catalogue.{centre_of, spread_of, row_of, catalogue_row, FitsColumn, FitsColumns, IsCentred}
+use Rattle.source_pick.specs.Catalogue.{centre_of, row_of, catalogue_row, FitsColumn, FitsColumns, IsCentred}
 use Rattle.source_pick.specs.Numbers.{IsMoment, IsMean, IsMeasured}
-use Rattle.source_pick.specs.Passes.{IsOf}
 use Rattle.source_pick.proofs.Within.{top_inside}
 use Rattle.source_pick.proofs.Listing.{first_below}
 use Rattle.source_pick.proofs.Means.{IsCentre, centred, centre-small, moment_low, moment_high, sum_low, sum_high, least_low, greatest_high, greatest_small}

@@ -1,18 +1,17 @@
 -- Sources are disjoint, and each entry holds one.
 use Rattle.std.proofs.Common.{◌≡◌, ℕ, ◌<◌, ◌≤◌, zero, suc, Bool, true, false, ◌&&◌, ◌||◌, not, length, refl, sym, ◌∙◌, ap, subst, arith, ◌⊎◌, inl, inr}
-use Rattle.std.specs.Prelude.{IsTrue, Some}
+use Rattle.std.specs.Prelude.{IsTrue}
 use Rattle.std.proofs.lemmas.Bool.{true≢false, and_parts, and_from, not-true, not_from_false, false_from_ne_true, or_cases, or_left, or_right, cases_lt}
 use Rattle.comp_tree.specs.declared.shape.Connect.{Connect}
 use Rattle.comp_tree.specs.Raster.{Raster, IsPlane}
-use Rattle.comp_tree.specs.ComponentTree.{parent_in, no_node}
 use Rattle.comp_tree.specs.Components.{nodes, is_in_node, tree_of}
-use Rattle.comp_tree.specs.Laws.{IsAncestor, parent, parent_of_node, IsNode, LiesWithin, AreDisjoint}
+use Rattle.comp_tree.specs.Laws.{IsAncestor, parent, parent_of_node, IsNode, LiesWithin}
 use Rattle.source_pick.specs.declared.choice.Choice.{Choice}
-use Rattle.source_pick.specs.Sources.{lies_in, is_entry, entry_of, is_split, has_strong_sibling, contains_split, is_source}
+use Rattle.source_pick.specs.Sources.{lies_in, is_entry, is_split, has_strong_sibling, contains_split, is_source}
 use Rattle.source_pick.specs.Passes.{IsOnWay}
 use Rattle.source_pick.specs.Laws.{SourcesAreDisjoint, EachEntryHoldsASource}
 use Rattle.source_pick.proofs.Within.{within_from_way, within_from_lies_in, lies_in_from_within, way_from_shared, way_from_within, way_trans, way_smaller, HasParent, way_up}
-use Rattle.source_pick.proofs.Entries.{node_from_row, row_from_node, IsEntryOf, entry_of-parts, entry_same}
+use Rattle.source_pick.proofs.Entries.{row_from_node, IsEntryOf, entry_of-parts, entry_same}
 use Rattle.source_pick.proofs.Splits.{AreTwins, IsSplitNode, split_parts, HasEntry, strong_entry, HasSibling, sibling_parts, sibling_from_twins, ContainsSplit, contains_parts, contains_from}
 
 -- the parts of the definition

@@ -1,22 +1,22 @@
 -- Strong nodes, splits and what contains them, from node to parent.
-use Rattle.std.proofs.Common.{◌≡◌, ℕ, ◌+◌, ◌<◌, ◌≤◌, Bool, true, false, ◌&&◌, ◌||◌, not, List, length, refl, sym, ◌∙◌, ap, subst, arith, ◌⊎◌, inl, inr}
+use Rattle.std.proofs.Common.{◌≡◌, ℕ, ◌+◌, ◌<◌, ◌≤◌, Bool, true, false, ◌&&◌, not, length, refl, sym, ◌∙◌, ap, subst, arith, ◌⊎◌, inl, inr}
 use Rattle.std.specs.Prelude.{◌==◌, Option, Some, None}
 use Rattle.std.specs.List.{list_any}
 use Rattle.std.specs.Option.{option_map_or}
-use Rattle.std.proofs.lemmas.Bool.{true≢false, eqb-true, eq-eqb, ne_eqb, and_parts, and_from, and_left, and_right, not-true, not_from_false, false_from_ne_true, true_from_ne_false, or_cases, or_left, or_right, cases_order, cases_eq}
+use Rattle.std.proofs.lemmas.Bool.{true≢false, eqb-true, eq-eqb, ne_eqb, and_parts, and_from, not-true, not_from_false, cases_eq}
 use Rattle.comp_tree.specs.declared.shape.Connect.{Connect}
 use Rattle.comp_tree.specs.Raster.{Raster, IsPlane}
-use Rattle.comp_tree.specs.ComponentTree.{parent_in, no_node}
+use Rattle.comp_tree.specs.ComponentTree.{no_node}
 use Rattle.comp_tree.specs.Components.{nodes, tree_of}
-use Rattle.comp_tree.specs.Laws.{IsAncestor, parent, parent_of_node}
+use Rattle.comp_tree.specs.Laws.{IsAncestor, parent_of_node}
 use Rattle.comp_tree.proofs.Members.{IsAmong, among-range, among_from_range, any_from_among, IsWitness, witness_from_any}
 use Rattle.comp_tree.proofs.Ancestors.{below_no_node}
 use Rattle.node_sums.proofs.Counting.{goes_down}
 use Rattle.source_pick.specs.declared.choice.Choice.{Choice}
-use Rattle.source_pick.specs.Sources.{node_numbers, lies_in, is_large, is_entry, entry_of, has_contrast, is_strong, share_entry, are_strong_children, is_split, has_strong_sibling, contains_split}
+use Rattle.source_pick.specs.Sources.{node_numbers, lies_in, is_large, entry_of, has_contrast, is_strong, share_entry, are_strong_children, is_split, has_strong_sibling, contains_split}
 use Rattle.source_pick.specs.Passes.{IsOnWay}
-use Rattle.source_pick.proofs.Within.{within_from_way, within_from_lies_in, lies_in_from_within, way_from_within, HasParent, way_up, way_smaller}
-use Rattle.source_pick.proofs.Entries.{node_from_row, row_from_node, IsEntryOf, entry_of-parts, entry_of-found, entry_of_child}
+use Rattle.source_pick.proofs.Within.{within_from_way, within_from_lies_in, lies_in_from_within, way_from_within, HasParent, way_up}
+use Rattle.source_pick.proofs.Entries.{row_from_node, IsEntryOf, entry_of-parts, entry_of-found, entry_of_child}
 
 -- ---- tests over all nodes
 

@@ -1,18 +1,18 @@
 -- The steps of the passes that find the entries of nodes, and the strong nodes.
-use Rattle.std.proofs.Common.{◌≡◌, ℕ, ◌+◌, ◌*◌, ◌^◌, ◌<◌, ◌≤◌, Bool, true, false, ◌&&◌, ◌||◌, List, length, refl, sym, ◌∙◌, ap, subst, arith, ◌⊎◌, inl, inr, get_or, set, lit<}
-use Rattle.std.specs.Prelude.{ℤ, pos, negsuc, ◌*ℤ◌, ◌≤ℤ◌, int_le, int_lt, nat_le, ◌==◌, Option, Some, None, unwrap_or, slice_index, slice_index_or, unsigned_abs}
-use Rattle.std.proofs.lemmas.Bool.{true≢false, eq-eqb, ne_eqb, lt-leb, le-leb, and_left, and_right, and_from, false_from_ne_true}
-use Rattle.std.proofs.lemmas.Int.{ints, to_z-of_z, to_z_pos, fits_signed_mul}
+use Rattle.std.proofs.Common.{◌≡◌, ℕ, ◌+◌, ◌^◌, ◌<◌, ◌≤◌, Bool, true, false, ◌&&◌, List, length, refl, sym, ◌∙◌, ap, arith, set, lit<}
+use Rattle.std.specs.Prelude.{ℤ, pos, negsuc, ◌*ℤ◌, int_le, int_lt, nat_le, Option, Some, None, unwrap_or, unsigned_abs}
+use Rattle.std.proofs.lemmas.Bool.{true≢false, eq-eqb, ne_eqb, lt-leb, le-leb, and_left, and_right}
+use Rattle.std.proofs.lemmas.Int.{to_z-of_z, to_z_pos, fits_signed_mul}
 use Rattle.std.proofs.lemmas.List.{length-set}
 use mir.Syntax.{w64, w128}
-use mir.Val.{SFits, of_z, to_z, hbits}
+use mir.Val.{SFits, of_z, to_z}
 use lib.Signed.{le_z, lt_z}
 use Rattle.comp_tree.specs.declared.shape.Connect.{Connect}
 use Rattle.comp_tree.specs.Raster.{Raster, IsPlane}
 use Rattle.comp_tree.specs.ComponentTree.{ComponentTree, no_node}
-use Rattle.comp_tree.specs.Components.{nodes, tree_of}
+use Rattle.comp_tree.specs.Components.{nodes}
 use Rattle.comp_tree.specs.Laws.{parent_of_node}
-use Rattle.comp_tree.proofs.Levels.{int_le-true, int_le-false, int_le-from, int_lt-true, int_lt-from_not_le}
+use Rattle.comp_tree.proofs.Levels.{int_le-false, int_lt-true, int_lt-from_not_le}
 use Rattle.comp_tree.proofs.Ancestors.{below_no_node}
 use Rattle.node_sums.specs.declared.entry.Sums.{Sums}
 use Rattle.node_sums.specs.Sums.{sums_of}
@@ -20,9 +20,9 @@ use Rattle.node_sums.specs.Flux.{flux_of}
 use Rattle.source_pick.specs.declared.choice.Choice.{Choice}
 use Rattle.source_pick.specs.Sources.{level_of_node, is_large, is_lowest, is_entry, entry_of, has_contrast, is_strong}
 use Rattle.source_pick.specs.Passes.{IsOf, entry_number, AreEntries, AreStrong}
-use Rattle.source_pick.proofs.Entries.{IsEntryOf, entry_of-parts, entry_of-self, entry_of-root, entry_of-child}
+use Rattle.source_pick.proofs.Entries.{entry_of-parts, entry_of-self, entry_of-root, entry_of-child}
 use Rattle.source_pick.proofs.Splits.{strong-in, strong-none}
-use Rattle.source_pick.proofs.Readings.{node_inside, rows-length, sums-read, at_most-read, filled}
+use Rattle.source_pick.proofs.Readings.{filled}
 
 -- ---- size
 

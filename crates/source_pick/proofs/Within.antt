@@ -1,6 +1,6 @@
 -- Which components lie within which, by the ways upwards.
-use Rattle.std.proofs.Common.{◌≡◌, ℕ, ◌<◌, ◌≤◌, Bool, true, List, [], ◌∷◌, length, refl, sym, ◌∙◌, ap, subst, arith, ◌⊎◌, inl, inr}
-use Rattle.std.specs.Prelude.{IsTrue, ℤ, ◌≤ℤ◌, filter}
+use Rattle.std.proofs.Common.{◌≡◌, ℕ, ◌<◌, Bool, true, List, [], ◌∷◌, length, refl, sym, ◌∙◌, ap, subst, arith, ◌⊎◌, inl, inr}
+use Rattle.std.specs.Prelude.{ℤ, ◌≤ℤ◌, filter}
 use Rattle.std.specs.List.{list_all}
 use Rattle.std.proofs.lemmas.Bool.{true≢false, and_parts, and_from, cases_order}
 use Rattle.comp_tree.specs.declared.shape.Connect.{Connect}
@@ -8,7 +8,7 @@ use Rattle.comp_tree.specs.declared.tree.NodeRow.{NodeRow}
 use Rattle.comp_tree.specs.Raster.{Raster, IsPlane, pixels, level}
 use Rattle.comp_tree.specs.ComponentTree.{parent_in}
 use Rattle.comp_tree.specs.Components.{nodes, is_in_node, tree_of}
-use Rattle.comp_tree.specs.Laws.{IsAncestor, parent, above, top_of, LiesWithin, AreDisjoint}
+use Rattle.comp_tree.specs.Laws.{IsAncestor, parent, above, top_of, LiesWithin}
 use Rattle.comp_tree.proofs.Members.{IsAmong, among-filter, among_from_filter}
 use Rattle.comp_tree.proofs.Reaching.{among_from_defined}
 use Rattle.comp_tree.proofs.Components.{top-here}

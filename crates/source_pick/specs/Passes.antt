@@ -141,9 +141,9 @@ pub record ArePicked (choice : Choice) (tree : ComponentTree) (sums : List Sums)
 -- ---- the map
 
 -- the first count nodes of the list have their places from 1 at their numbers, and all other nodes have 0
-pub record AreMarked (rows : List NodeRow) (marked : List ℕ) (count : ℕ) (numbers : List ℕ) : Type 0 where
-  pub one_each : length numbers ≡ length rows
-  pub sound : (n : ℕ) → n < length rows → (slice_index numbers n ≡ 0) ⊎ ((i : ℕ) × (i < count) × (slice_get marked i ≡ Some n) × (slice_index numbers n ≡ i + 1))
+pub record AreMarked (size : ℕ) (marked : List ℕ) (count : ℕ) (numbers : List ℕ) : Type 0 where
+  pub one_each : length numbers ≡ size
+  pub sound : (n : ℕ) → n < size → (slice_index numbers n ≡ 0) ⊎ ((i : ℕ) × (i < count) × (slice_get marked i ≡ Some n) × (slice_index numbers n ≡ i + 1))
   pub complete : (i n : ℕ) → i < count → slice_get marked i ≡ Some n → slice_index numbers n ≡ 0 → ⊥
 
 -- the first count nodes have the number of the node of the list that is on their way upwards

@@ -1,6 +1,6 @@
 //! The nodes that lie in entries, and the strong ones among them.
 
-ghost use Rattle.std.specs.Prelude.{◌≡◌, ◌&&◌, ◌<◌, ◌≤◌, ◌^◌, IfOk, length};
+ghost use Rattle.std.specs.Prelude.{◌≡◌, ◌<◌, ◌≤◌, ◌^◌, IfOk, length};
 ghost use Rattle.comp_tree.specs.declared.shape.Connect.{Connect};
 ghost use Rattle.comp_tree.specs.Raster.{Raster};
 ghost use Rattle.comp_tree.specs.Components.{tree_of};
@@ -19,13 +19,9 @@ pub(crate) fn node_count(tree: &Tree) -> u32
     ensures all { result ≡ length tree.now.rows }
     ensures few { result ≤ 2 ^ 24 }
 {
-    let pixels = tree.shape().pixels();
-    let count = tree.rows().len();
-    if count <= pixels as usize {
-        count as u32
-    } else {
-        pixels
-    }
+    // A tree tells with its shape that its numbers are in range.
+    let _shape = tree.shape();
+    tree.rows().len() as u32
 }
 
 /// For each node the entry in which it lies, or `NONE`.
@@ -70,6 +66,7 @@ fn entry_of_node(tree: &Tree, sums: &[Sums], choice: &Choice, entries: &[u32], n
     if passes_as_entry(tree, sums, choice, n) {
         return n;
     }
+    // A tree tells with its shape that its numbers are in range.
     let _shape = tree.shape();
     let parent = tree.rows()[n as usize].parent;
     if parent == NONE {
@@ -97,6 +94,7 @@ fn lies_lowest(tree: &Tree, choice: &Choice, n: u32) -> bool
     requires { n < length tree.now.rows }
     ensures { (r : Raster) (connect : Connect) → tree.now ≡ tree_of r connect → result ≡ is_lowest r connect choice.now n }
 {
+    // A tree tells with its shape that its numbers are in range.
     let _shape = tree.shape();
     let rows = tree.rows();
     let parent = rows[n as usize].parent;

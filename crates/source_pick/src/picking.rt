@@ -136,6 +136,7 @@ fn passes_as_source(
     if !strong[n as usize] {
         return false;
     }
+    // A tree tells with its shape that its numbers are in range.
     let _shape = tree.shape();
     let parent = tree.rows()[n as usize].parent;
     if parent == NONE {

@@ -1,4 +1,4 @@
-ghost use Rattle.std.specs.Prelude.{◌≡◌, ◌≤◌, ◌^◌, ℕ, IfOk, length, replicate, slice_index};
+ghost use Rattle.std.specs.Prelude.{◌≡◌, ◌≤◌, ◌<◌, ◌^◌, ℕ, List, IfOk, length, replicate, Some, slice_get, slice_index};
 ghost use Rattle.comp_tree.specs.declared.shape.Connect.{Connect};
 ghost use Rattle.comp_tree.specs.Raster.{Raster};
 ghost use Rattle.comp_tree.specs.Components.{tree_of};
@@ -18,11 +18,16 @@ pub fn segment(alloc: Global, tree: &Tree, sources: &[u32]) -> Result<Vec<u32>, 
     ensures few { IfOk result (λ numbers. (p : ℕ) → slice_index numbers.items p ≤ 2 ^ 24) }
 {
     let numbers = numbers_of_nodes(alloc, tree, sources)?;
-    match vec![in alloc; 0u32; tree.node_of().len()] {
-        Ok(mut map) => {
-            number_pixels(tree, sources, &numbers, &mut map);
-            Ok(map)
-        }
+    let mut map = zeros(alloc, tree.node_of().len())?;
+    number_pixels(tree, &numbers, &mut map);
+    Ok(map)
+}
+
+fn zeros(alloc: Global, count: usize) -> Result<Vec<u32>, OutOfMemory>
+    ensures { IfOk result (λ numbers. numbers.items ≡ replicate count 0) }
+{
+    match vec![in alloc; 0u32; count] {
+        Ok(numbers) => Ok(numbers),
         Err(_) => Err(OutOfMemory),
     }
 }
@@ -32,20 +37,17 @@ fn numbers_of_nodes(alloc: Global, tree: &Tree, sources: &[u32]) -> Result<Vec<u
     requires { AreDisjointNodes tree.now sources.now }
     ensures { IfOk result (λ numbers. AreNumbered tree.now sources.now (length tree.now.rows) numbers.items) }
 {
-    match vec![in alloc; 0u32; tree.rows().len()] {
-        Ok(mut numbers) => {
-            mark_sources(tree, sources, &mut numbers);
-            pass_down(tree, sources, &mut numbers);
-            Ok(numbers)
-        }
-        Err(_) => Err(OutOfMemory),
-    }
+    let mut numbers = zeros(alloc, tree.rows().len())?;
+    mark_sources(sources, &mut numbers);
+    pass_down(tree, &mut numbers);
+    Ok(numbers)
 }
 
-fn mark_sources(tree: &Tree, sources: &[u32], numbers: &mut [u32])
-    requires sources { AreDisjointNodes tree.now sources.now }
-    requires none { numbers.old ≡ replicate (length tree.now.rows) 0 }
-    ensures { AreMarked tree.now.rows sources.now (length sources.now) numbers.new }
+fn mark_sources(sources: &[u32], numbers: &mut [u32])
+    requires inside { (i n : ℕ) → slice_get sources.now i ≡ Some n → n < length numbers.old }
+    requires few { length sources.now ≤ 2 ^ 24 }
+    requires none { (n : ℕ) → slice_index numbers.old n ≡ 0 }
+    ensures { AreMarked (length numbers.old) sources.now (length sources.now) numbers.new }
 {
     for (i, n) in sources.iter().enumerate() {
         numbers[*n as usize] = i as u32 + 1;
@@ -53,11 +55,12 @@ fn mark_sources(tree: &Tree, sources: &[u32], numbers: &mut [u32])
 }
 
 // One pass from the roots: a node that is no source has the number of its parent.
-fn pass_down(tree: &Tree, sources: &[u32], numbers: &mut [u32])
-    requires sources { AreDisjointNodes tree.now sources.now }
-    requires marked { AreMarked tree.now.rows sources.now (length sources.now) numbers.old }
-    ensures { AreNumbered tree.now sources.now (length tree.now.rows) numbers.new }
+fn pass_down(tree: &Tree, numbers: &mut [u32])
+    requires { length numbers.old ≡ length tree.now.rows }
+    ensures { (marked : List ℕ) → AreDisjointNodes tree.now marked → AreMarked (length tree.now.rows) marked (length marked) numbers.old
+        → AreNumbered tree.now marked (length tree.now.rows) numbers.new }
 {
+    // A tree tells with its shape that its numbers are in range.
     let _shape = tree.shape();
     let rows = tree.rows();
     for n in 0..rows.len() {
@@ -70,12 +73,13 @@ fn pass_down(tree: &Tree, sources: &[u32], numbers: &mut [u32])
 }
 
 // A pixel has the number of its smallest node.
-fn number_pixels(tree: &Tree, sources: &[u32], numbers: &[u32], map: &mut [u32])
-    requires sources { AreDisjointNodes tree.now sources.now }
-    requires numbers { AreNumbered tree.now sources.now (length tree.now.rows) numbers.now }
-    requires one_each { map.old ≡ replicate (length tree.now.node_of) 0 }
-    ensures { (plane : Raster) (connect : Connect) → tree.now ≡ tree_of plane connect → map.new ≡ segmentation_of plane connect sources.now }
+fn number_pixels(tree: &Tree, numbers: &[u32], map: &mut [u32])
+    requires numbers { length numbers.now ≡ length tree.now.rows }
+    requires blank { map.old ≡ replicate (length tree.now.node_of) 0 }
+    ensures { (marked : List ℕ) (plane : Raster) (connect : Connect) → AreDisjointNodes tree.now marked → AreNumbered tree.now marked (length tree.now.rows) numbers.now
+        → tree.now ≡ tree_of plane connect → map.new ≡ segmentation_of plane connect marked }
 {
+    // A tree tells with its shape that its numbers are in range.
     let _shape = tree.shape();
     let node_of = tree.node_of();
     for p in 0..node_of.len() {

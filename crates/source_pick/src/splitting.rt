@@ -1,10 +1,9 @@
 //! Splits: nodes with two or more strong children in one entry.
 
-ghost use Rattle.std.specs.Prelude.{◌≡◌, ◌<◌, ◌≤◌, ℕ, IfOk, IfSome, IfNone, length, map};
-ghost use Rattle.comp_tree.specs.ComponentTree.{IsWellFormed, ComponentTree};
-ghost use Rattle.source_pick.specs.Passes.{IsInner, AreCounted, AreAboveSplits, ArePassed, one_more, are_several};
+ghost use Rattle.std.specs.Prelude.{◌≡◌, ◌<◌, ℕ, IfOk, IfSome, IfNone, length, map};
+ghost use Rattle.source_pick.specs.Passes.{IsInner, AreCounted, AreAboveSplits, one_more, are_several};
 
-use comp_tree::{NONE, NodeRow, Tree};
+use comp_tree::{NONE, Tree};
 use dev_io::OutOfMemory;
 use std::alloc::{AllocError, Global};
 
@@ -84,6 +83,7 @@ fn inner_parent(tree: &Tree, entries: &[u32], strong: &[bool], n: usize) -> Opti
     if !strong[n] {
         return None;
     }
+    // A tree tells with its shape that its numbers are in range.
     let _shape = tree.shape();
     let parent = tree.rows()[n].parent;
     if parent == NONE {
@@ -125,6 +125,7 @@ fn pass_up(tree: &Tree, flags: &mut [bool])
     requires { length flags.old ≡ length tree.now.rows }
     ensures { AreAboveSplits tree.now.rows flags.old flags.new }
 {
+    // A tree tells with its shape that its numbers are in range.
     let _shape = tree.shape();
     let rows = tree.rows();
     for n in (0..rows.len()).rev() {

@@ -1,11 +1,10 @@
-use Rattle.std.proofs.Common.{◌≡◌, ◌∙◌, ℤ, sym, ap, subst, rules, to_z, of_z}
+use Rattle.std.proofs.Common.{◌∙◌, sym, ap, subst, rules}
 use Rattle.std.proofs.lemmas.Int.{to_z-of_z}
 use mir.Syntax.{w64}
 use mir.Val.{SFits}
 use Rattle.comp_tree.specs.declared.shape.Shape.{Shape}
 use Rattle.comp_tree.specs.ComponentTree.{ComponentTree}
 use Rattle.node_sums.specs.Flux.{base_of}
-use Rattle.source_pick.specs.declared.catalogue.CatRow.{CatRow}
 use Rattle.source_pick.specs.Catalogue.{FitsColumns, IsCentred}
 use Rattle.source_pick.proofs.Readings.{of_trees, node_inside, sums_inside, sums-read, level-read, tree-shape}
 use Rattle.source_pick.proofs.Rows.{row_columns, row_centred, measured, measured-same, row-same, row-is}

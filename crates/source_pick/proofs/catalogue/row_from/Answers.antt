@@ -1,4 +1,4 @@
-use Rattle.std.proofs.Common.{to_z, of_z, pos, rules, refl, arith, ◌+◌, ◌-ℤ◌, ◌*ℤ◌, ◌/◌, ◌%◌, ◌∙◌}
+use Rattle.std.proofs.Common.{rules, arith, ◌+◌, ◌/◌, ◌%◌, ◌∙◌}
 use Rattle.std.proofs.lemmas.Int.{to_z-of_z, to_z_pos}
 use Rattle.std.proofs.lemmas.Nat.{mod_below}
 use mir.Syntax.{w64, w128}

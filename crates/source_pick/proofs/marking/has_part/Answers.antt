@@ -1,4 +1,4 @@
-use Rattle.std.proofs.Common.{arith, rules, ◌^◌, ◌<◌, subst, sym}
+use Rattle.std.proofs.Common.{rules, ◌^◌, ◌<◌, subst, sym}
 use Rattle.std.specs.Prelude.{ℤ}
 use mir.Syntax.{w64, w128}
 use mir.Val.{SFits}

@@ -1,4 +1,4 @@
-use Rattle.std.proofs.Common.{arith, refl}
+use Rattle.std.proofs.Common.{arith}
 use Rattle.source_pick.proofs.Readings.{of_trees, node_inside, rows-length}
 use Rattle.source_pick.proofs.Entries.{entry_of-parts}
 use Rattle.source_pick.proofs.Strong.{entry_from_number, none_from_number, weak_outside, weak_small, strong_if}

@@ -1,17 +1,20 @@
-use Rattle.std.proofs.Common.{◌≡◌, ◌∙◌, ◌+◌, ◌<◌, ◌≤◌, ℕ, List, sym, ap, subst, refl, arith, length}
+use Rattle.std.proofs.Common.{◌≡◌, ◌∙◌, ◌+◌, ◌<◌, ℕ, List, sym, ap, subst, refl, arith, length}
 use Rattle.std.specs.Prelude.{slice_index}
 use Rattle.source_pick.specs.Passes.{AreNumbered}
 use Rattle.source_pick.proofs.Readings.{parent_smaller}
 use Rattle.source_pick.proofs.Counts.{row_parent}
-use Rattle.source_pick.proofs.Marks.{numbered_child, numbered_marked, numbered_root, untouched, untouched_yet}
+use Rattle.source_pick.proofs.Marks.{numbered_none, numbered_child, numbered_marked, numbered_root, numbered_up_to, untouched, untouched_yet}
 use Rattle.source_pick.proofs.segmenting.pass_down.Goals.{then-numbers-n-eq0+then-parent, else-numbers-n-eq0, else-numbers-n-eq0-via-then-numbers-n-eq0+else-parent, else-numbers-n-eq0-via-else-numbers-n-eq0}
 use Rattle.source_pick.proofs.segmenting.pass_down.Goals as goal
+
+pub loop-n-init : goal.loop-n-init
+loop-n-init c = record { done = λ marked d m. numbered_none c.args.tree.now marked c.args.numbers.now c.requires; rest = λ m l. refl }
 
 pub bounds-numbers-parent : goal.bounds-numbers-parent
 bounds-numbers-parent c =
     let smaller = parent_smaller c.args.tree.now c.rows-rows.result.now c.loop-n.n _ c.shape-shape.ensures.well_formed c.rows-rows.ensures
     (omega (arith, c.loop-n-test.true, ap length c.rows-rows.ensures)) c.if-parent.true in
-    omega (arith, smaller, c.loop-n-test.true, ap length c.rows-rows.ensures, c.loop-n.invariant.done.one_each)
+    omega (arith, smaller, c.loop-n-test.true, ap length c.rows-rows.ensures, c.loop-n.auto.numbers, c.requires)
 
 pub loop-n-preserved : goal.loop-n-preserved
 loop-n-preserved c =
@@ -19,22 +22,26 @@ loop-n-preserved c =
     let still : slice_index c.loop-n.numbers c.loop-n.n ≡ slice_index c.args.numbers.now c.loop-n.n = c.loop-n.invariant.rest c.loop-n.n (omega arith) in
     elim c.if-numbers-n-eq0.branch [
       | then-numbers-n-eq0+then-parent w ↦ record {
-        done = subst (λ (xs : List ℕ). AreNumbered c.args.tree.now c.args.sources.now (c.loop-n.n + 1) xs) (sym w.numbers-is)
-            (numbered_child c.args.tree.now c.args.sources.now c.args.numbers.now c.loop-n.numbers c.loop-n.n _ _ c.requires.sources c.requires.marked c.loop-n.invariant.done inside
+        done = λ marked d known. subst (λ (xs : List ℕ). AreNumbered c.args.tree.now marked (c.loop-n.n + 1) xs) (sym w.numbers-is)
+            (numbered_child c.args.tree.now marked c.args.numbers.now c.loop-n.numbers c.loop-n.n _ _ d known (c.loop-n.invariant.done marked d known) inside
             (sym still ∙ w.if-numbers-n-eq0.true) (row_parent c.args.tree.now c.rows-rows.result.now c.loop-n.n _ c.rows-rows.ensures inside)
             (parent_smaller c.args.tree.now c.rows-rows.result.now c.loop-n.n _ c.shape-shape.ensures.well_formed c.rows-rows.ensures inside w.if-parent.true) refl);
         rest = λ m l. ap (λ (xs : List ℕ). slice_index xs m) w.numbers-is ∙ untouched c.args.numbers.now c.loop-n.numbers c.loop-n.n _ c.loop-n.invariant.rest m l;
       }
       | else-numbers-n-eq0 w ↦ record {
-        done = subst (λ (xs : List ℕ). AreNumbered c.args.tree.now c.args.sources.now (c.loop-n.n + 1) xs) (sym w.numbers-is)
+        done = λ marked d known. subst (λ (xs : List ℕ). AreNumbered c.args.tree.now marked (c.loop-n.n + 1) xs) (sym w.numbers-is)
             (elim w.else-numbers-n-eq0.branch [
               | else-numbers-n-eq0-via-then-numbers-n-eq0+else-parent v ↦
-                  numbered_root c.args.tree.now c.args.sources.now c.args.numbers.now c.loop-n.numbers c.loop-n.n _ c.requires.sources c.requires.marked c.loop-n.invariant.done inside
+                  numbered_root c.args.tree.now marked c.args.numbers.now c.loop-n.numbers c.loop-n.n _ d known (c.loop-n.invariant.done marked d known) inside
                   still v.if-numbers-n-eq0.true (row_parent c.args.tree.now c.rows-rows.result.now c.loop-n.n _ c.rows-rows.ensures inside) v.if-parent.false
               | else-numbers-n-eq0-via-else-numbers-n-eq0 v ↦
-                  numbered_marked c.args.tree.now c.args.sources.now c.args.numbers.now c.loop-n.numbers c.loop-n.n c.requires.sources c.requires.marked c.loop-n.invariant.done inside
+                  numbered_marked c.args.tree.now marked c.args.numbers.now c.loop-n.numbers c.loop-n.n d known (c.loop-n.invariant.done marked d known) inside
                   still v.if-numbers-n-eq0.false
             ]);
         rest = λ m l. ap (λ (xs : List ℕ). slice_index xs m) w.numbers-is ∙ untouched_yet c.args.numbers.now c.loop-n.numbers c.loop-n.n c.loop-n.invariant.rest m l;
       }
     ]
+
+pub returns : goal.returns
+returns c = λ marked d known.
+    numbered_up_to c.args.tree.now marked c.loop-n.numbers _ c.loop-n.n (c.loop-n.invariant.done marked d known) (omega (arith, c.loop-n-test.false, ap length c.rows-rows.ensures))

@@ -1,5 +1,4 @@
-use Rattle.std.proofs.Common.{arith, ap, length, subst, ◌<◌, ◌+◌, sym, ◌∙◌, List}
-use Rattle.std.specs.Prelude.{Option, Some, IfSome, IfNone}
+use Rattle.std.proofs.Common.{arith, ap, length, subst, ◌+◌, sym, List}
 use Rattle.std.proofs.lemmas.Option.{slice_get-get_or}
 use Rattle.source_pick.specs.declared.splitting.StrongChildren.{StrongChildren}
 use Rattle.source_pick.specs.Passes.{AreCounted}
