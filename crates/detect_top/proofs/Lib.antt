@@ -8,3 +8,5 @@ pub mod Products
 pub mod EachArea
 pub mod Given
 pub mod Limits
+pub mod Cells
+pub mod Detections

@@ -4,14 +4,14 @@ use Rattle.std.specs.Prelude.{ℤ, pos, int_le, ◌≤ℤ◌, Option, Some, None
 use Rattle.std.specs.Option.{option_map}
 use Rattle.std.proofs.lemmas.Int.{ints}
 use Rattle.comp_tree.proofs.Levels.{int_le-true}
-use Rattle.detect_top.specs.declared.options.Setting.TheVariants.{Strips, Workers, Mesh, Rule, MinFill}
+use Rattle.detect_top.specs.declared.options.Setting.TheVariants.{Strips, Workers, Mesh, Rule, MinFill, Threshold, Contrast}
 use Rattle.detect_top.specs.declared.options.Command.{Command}
-use Rattle.detect_top.specs.declared.options.Command.TheVariants.{Tree, Filter}
+use Rattle.detect_top.specs.declared.options.Command.TheVariants.{Tree, Filter, Detect}
 use Rattle.detect_top.specs.declared.words.Job.{Job}
 use Rattle.detect_top.specs.declared.words.Job.TheVariants as the_job
 use Rattle.detect_top.specs.Numbers.{within, whole_number}
-use Rattle.detect_top.specs.Options.{count_between, strips_in, workers_in, mesh_in, rule_in, thousandths_in}
-use Rattle.detect_top.specs.Words.{criterion_given, job_given, order_for, value_given, given, HasJobLimits, HasLimits}
+use Rattle.detect_top.specs.Options.{count_between, strips_in, workers_in, mesh_in, rule_in, thousandths_in, threshold_in}
+use Rattle.detect_top.specs.Words.{criterion_given, choice_given, job_given, order_for, value_given, given, HasJobLimits, HasLimits}
 
 record IsBetween (least most n : ℕ) : Type 0 where
   low : least ≤ n
@@ -54,22 +54,27 @@ mesh_between : (o : Option (List ℕ)) → IsBetween 0 65535 (unwrap_or (option_
 unfolding mesh_in
 mesh_between o = given_between 0 65535 0 o (record { low = omega arith; high = omega arith })
 
-thousandths_between : (o : Option (List ℕ)) → IsBetween 0 1000 (unwrap_or (option_and_then thousandths_in o) 0)
+thousandths_between : (default : ℕ) (o : Option (List ℕ)) → default ≤ 1000 → IsBetween 0 1000 (unwrap_or (option_and_then thousandths_in o) default)
 unfolding thousandths_in
-thousandths_between o = given_between 0 1000 0 o (record { low = omega arith; high = omega arith })
+thousandths_between default o few = given_between 0 1000 default o (record { low = omega arith; high = few })
 
 criterion_limits : (words : List (List ℕ)) (n : ℕ) → (criterion_given words n).min_fill ≤ 1000
 unfolding criterion_given
-criterion_limits words n = let fill = thousandths_between (value_given words n MinFill) in fill.high
+criterion_limits words n = let fill = thousandths_between 0 (value_given words n MinFill) (omega arith) in fill.high
 
-some_filter : {T : Type 0} (o : Option T) (f : T → Job) (job : Job) → option_map f o ≡ Some job → ((x : T) → HasJobLimits (f x)) → HasJobLimits job
-some_filter (Some x) f job is limits = let same : f x ≡ job = cc in subst HasJobLimits same (limits x)
-some_filter None f job is limits = absurd (cc)
+choice_limits : (words : List (List ℕ)) (n : ℕ) (threshold : ℤ) → (choice_given words n threshold).contrast ≤ 1000
+unfolding choice_given
+choice_limits words n threshold = let contrast = thousandths_between 5 (value_given words n Contrast) (omega arith) in contrast.high
+
+some_job : {T : Type 0} (o : Option T) (f : T → Job) (job : Job) → option_map f o ≡ Some job → ((x : T) → HasJobLimits (f x)) → HasJobLimits job
+some_job (Some x) f job is limits = let same : f x ≡ job = cc in subst HasJobLimits same (limits x)
+some_job None f job is limits = absurd (cc)
 
 job_limits : (command : Command) (words : List (List ℕ)) (n : ℕ) (job : Job) → job_given command words n ≡ Some job → HasJobLimits job
 unfolding job_given
 job_limits Tree words n job is = let same : the_job.Tree ≡ job = cc in subst HasJobLimits same tt
-job_limits Filter words n job is = some_filter (given rule_in words n Rule) _ job is (λ rule. criterion_limits words n)
+job_limits Filter words n job is = some_job (given rule_in words n Rule) _ job is (λ rule. criterion_limits words n)
+job_limits Detect words n job is = some_job (given threshold_in words n Threshold) _ job is (λ threshold. choice_limits words n threshold)
 
 pub given_limits : (command : Command) (words : List (List ℕ)) (n : ℕ) (job : Job) → job_given command words n ≡ Some job → HasLimits (order_for words n job)
 unfolding order_for

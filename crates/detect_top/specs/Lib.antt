@@ -5,6 +5,7 @@ pub mod Given
 pub mod Faults
 pub mod Areas
 pub mod Lines
+pub mod Catalogues
 pub mod Products
 pub mod Streams
 pub mod Answers

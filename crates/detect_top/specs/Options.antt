@@ -1,5 +1,5 @@
 -- The commands, their options, and what the values of these are.
-use Rattle.std.specs.Prelude.{ℕ, Bool, true, false, List, [], ◌∷◌, find, ℤ, pos, unsigned_abs, Option, Some, None, is_some, codes, if◌then◌else◌}
+use Rattle.std.specs.Prelude.{ℕ, Bool, true, false, List, [], ◌∷◌, find, ◌||◌, ℤ, pos, neg_ℤ, unsigned_abs, Option, Some, None, is_some, codes, if◌then◌else◌}
 use Rattle.std.specs.Str.{bytes_eq}
 use Rattle.std.specs.Option.{option_map}
 use Rattle.std.specs.Ordering.{int_eq}
@@ -8,19 +8,20 @@ use Rattle.comp_tree.specs.declared.shape.Connect.TheVariants as connectivity
 use Rattle.filter_rules.specs.declared.rule.Rule.{Rule}
 use Rattle.filter_rules.specs.declared.rule.Rule.TheVariants as rule
 use Rattle.detect_top.specs.declared.options.Command.{Command}
-use Rattle.detect_top.specs.declared.options.Command.TheVariants.{Tree, Filter}
+use Rattle.detect_top.specs.declared.options.Command.TheVariants.{Tree, Filter, Detect}
 use Rattle.detect_top.specs.declared.options.Setting.{Setting}
-use Rattle.detect_top.specs.declared.options.Setting.TheVariants.{Hdu, Connect as Connectivity, Strips, Workers, Mesh, Rule as FilterRule, MinArea, MaxArea, MinFlux, MinFill}
+use Rattle.detect_top.specs.declared.options.Setting.TheVariants.{Hdu, Connect as Connectivity, Strips, Workers, Mesh, Rule as FilterRule, MinArea, MaxArea, MinFlux, MinFill, Threshold, Contrast}
 use Rattle.detect_top.specs.Numbers.{number_between}
 
 -- ---- names
 
 abbrev pub command_named : List ℕ → Option Command
-command_named text = if bytes_eq text (codes "tree") then Some Tree else (if bytes_eq text (codes "filter") then Some Filter else None)
+command_named text = if bytes_eq text (codes "tree") then Some Tree else (if bytes_eq text (codes "filter") then Some Filter
+    else (if bytes_eq text (codes "detect") then Some Detect else None))
 
 -- all options
 abbrev pub settings : List Setting
-settings = Hdu ∷ Connectivity ∷ Strips ∷ Workers ∷ Mesh ∷ FilterRule ∷ MinArea ∷ MaxArea ∷ MinFlux ∷ MinFill ∷ []
+settings = Hdu ∷ Connectivity ∷ Strips ∷ Workers ∷ Mesh ∷ FilterRule ∷ MinArea ∷ MaxArea ∷ MinFlux ∷ MinFill ∷ Threshold ∷ Contrast ∷ []
 
 abbrev pub name_of : Setting → List ℕ
 name_of Hdu = codes "--hdu"
@@ -33,6 +34,8 @@ name_of MinArea = codes "--min-area"
 name_of MaxArea = codes "--max-area"
 name_of MinFlux = codes "--min-flux"
 name_of MinFill = codes "--min-fill"
+name_of Threshold = codes "--threshold"
+name_of Contrast = codes "--contrast"
 
 unfoldable pub setting_named : List ℕ → Option Setting
 setting_named text = find (λ setting. bytes_eq text (name_of setting)) settings
@@ -41,6 +44,12 @@ setting_named text = find (λ setting. bytes_eq text (name_of setting)) settings
 abbrev pub is_filter : Command → Bool
 is_filter Tree = false
 is_filter Filter = true
+is_filter Detect = false
+
+abbrev pub is_detect : Command → Bool
+is_detect Tree = false
+is_detect Filter = false
+is_detect Detect = true
 
 -- the command has this option
 abbrev pub takes : Command → Setting → Bool
@@ -50,10 +59,12 @@ takes command Strips = true
 takes command Workers = true
 takes command Mesh = true
 takes command FilterRule = is_filter command
-takes command MinArea = is_filter command
+takes command MinArea = is_filter command || is_detect command
 takes command MaxArea = is_filter command
-takes command MinFlux = is_filter command
+takes command MinFlux = is_filter command || is_detect command
 takes command MinFill = is_filter command
+takes command Threshold = is_detect command
+takes command Contrast = is_detect command
 
 abbrev pub if_taken : Command → Option Setting → Option Setting
 if_taken command None = None
@@ -113,6 +124,10 @@ flux_in text = number_between (pos 0) (pos 576460752303423488) text
 unfoldable pub thousandths_in : List ℕ → Option ℕ
 thousandths_in text = count_between (pos 0) (pos 1000) text
 
+-- a level, within 2 ^ 34 on either side of 0
+unfoldable pub threshold_in : List ℕ → Option ℤ
+threshold_in text = number_between (neg_ℤ (pos 17179869184)) (pos 17179869184) text
+
 -- the word is a value of this option
 abbrev pub is_value : Setting → List ℕ → Bool
 is_value Hdu text = is_some (hdu_in text)
@@ -125,3 +140,5 @@ is_value MinArea text = is_some (area_in text)
 is_value MaxArea text = is_some (area_in text)
 is_value MinFlux text = is_some (flux_in text)
 is_value MinFill text = is_some (thousandths_in text)
+is_value Threshold text = is_some (threshold_in text)
+is_value Contrast text = is_some (thousandths_in text)

@@ -1,21 +1,22 @@
 -- What the words of the command mean. Words are counted from 1: the first is the command, the even ones behind it name options, and each odd
 -- one is the value of the option that is named before it.
-use Rattle.std.specs.Prelude.{ℕ, ◌<◌, ◌≤◌, ◌+◌, ◌-◌, ◌*◌, ◌/◌, ◌%◌, Bool, true, false, ◌==◌, ◌||◌, not, nat_lt, List, [], ◌∷◌, length, map, find, get_or, pos, Option, Some, None, is_some, unwrap_or, option_and_then, Result, Ok, Err, if◌then◌else◌}
+use Rattle.std.specs.Prelude.{ℕ, ◌<◌, ◌≤◌, ◌+◌, ◌-◌, ◌*◌, ◌/◌, ◌%◌, Bool, true, false, ◌==◌, ◌||◌, not, nat_lt, List, [], ◌∷◌, length, map, find, get_or, ℤ, pos, Option, Some, None, is_some, unwrap_or, option_and_then, Result, Ok, Err, if◌then◌else◌}
 use denote.Ref.{Bor}
 use Rattle.std.specs.Str.{bytes_eq}
 use Rattle.std.specs.List.{range_with_len}
 use Rattle.std.specs.Option.{option_map}
 use Rattle.comp_tree.specs.declared.shape.Connect.TheVariants.{Four}
 use Rattle.filter_rules.specs.declared.rule.Criterion.{Criterion}
+use Rattle.source_pick.specs.declared.choice.Choice.{Choice}
 use Rattle.detect_top.specs.declared.options.Command.{Command}
 use Rattle.detect_top.specs.declared.options.Command.TheVariants as command
 use Rattle.detect_top.specs.declared.options.Setting.{Setting}
-use Rattle.detect_top.specs.declared.options.Setting.TheVariants.{Hdu, Connect, Strips, Workers, Mesh, Rule, MinArea, MaxArea, MinFlux, MinFill}
+use Rattle.detect_top.specs.declared.options.Setting.TheVariants.{Hdu, Connect, Strips, Workers, Mesh, Rule, MinArea, MaxArea, MinFlux, MinFill, Threshold, Contrast}
 use Rattle.detect_top.specs.declared.words.Order.{Order}
 use Rattle.detect_top.specs.declared.words.Job.{Job}
 use Rattle.detect_top.specs.declared.words.Job.TheVariants as job
 use Rattle.detect_top.specs.declared.words.Usage.{Usage}
-use Rattle.detect_top.specs.Options.{command_named, name_of, option_named, is_value, hdu_in, connect_in, strips_in, workers_in, mesh_in, rule_in, area_in, flux_in, thousandths_in}
+use Rattle.detect_top.specs.Options.{command_named, name_of, option_named, is_value, hdu_in, connect_in, strips_in, workers_in, mesh_in, rule_in, area_in, flux_in, thousandths_in, threshold_in}
 
 -- ---- the places
 
@@ -75,10 +76,19 @@ criterion_given words n = record {
   min_fill = unwrap_or (given thousandths_in words n MinFill) 0;
 }
 
+unfoldable pub choice_given : List (List ℕ) → ℕ → ℤ → Choice
+choice_given words n threshold = record {
+  threshold = threshold;
+  min_area = unwrap_or (given area_in words n MinArea) 1;
+  min_flux = unwrap_or (given flux_in words n MinFlux) (pos 0);
+  contrast = unwrap_or (given thousandths_in words n Contrast) 5;
+}
+
 -- what is to be done, unless something is missing for it
 unfoldable pub job_given : Command → List (List ℕ) → ℕ → Option Job
 job_given command.Tree words n = Some job.Tree
 job_given command.Filter words n = option_map (λ rule. job.Filter rule (criterion_given words n)) (given rule_in words n Rule)
+job_given command.Detect words n = option_map (λ threshold. job.Detect (choice_given words n threshold)) (given threshold_in words n Threshold)
 
 unfoldable pub order_for : List (List ℕ) → ℕ → Job → Order
 order_for words n job = record {
@@ -123,6 +133,7 @@ texts words = map (λ word. word.now) words
 abbrev pub HasJobLimits : Job → Type 0
 HasJobLimits job.Tree = Unit {0}
 HasJobLimits (job.Filter rule criterion) = criterion.min_fill ≤ 1000
+HasJobLimits (job.Detect choice) = choice.contrast ≤ 1000
 
 -- the numbers of an order are within their limits
 pub record HasLimits (order : Order) : Type 0 where

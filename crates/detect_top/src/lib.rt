@@ -3,6 +3,7 @@
 
 mod areas;
 mod component;
+mod detection;
 mod fault;
 mod image;
 mod lines;
@@ -18,6 +19,8 @@ pub use lines::put_tree;
 pub use top::run;
 pub use words::{Job, Order, Usage, read_words};
 
+#[cfg(test)]
+mod detection_tests;
 #[cfg(test)]
 mod filter_tests;
 #[cfg(test)]

@@ -2,7 +2,7 @@
 ghost use Rattle.std.specs.Prelude.{◌≡◌, ◌≤ℤ◌, ◌<◌, ℕ, Some, IfSome, is_some};
 ghost use Rattle.std.specs.List.{list_all};
 ghost use Rattle.std.specs.Char.{is_ascii_digit};
-ghost use Rattle.detect_top.specs.Options.{command_named, setting_named, option_named, takes as takes_option, name_of, is_value, hdu_in, connect_in, strips_in, workers_in, mesh_in, rule_in, area_in, flux_in, thousandths_in};
+ghost use Rattle.detect_top.specs.Options.{command_named, setting_named, option_named, takes as takes_option, name_of, is_value, hdu_in, connect_in, strips_in, workers_in, mesh_in, rule_in, area_in, flux_in, thousandths_in, threshold_in};
 ghost use Rattle.detect_top.specs.Numbers.{without_minus as digits_of, is_numeral, within, number_between as number_in};
 
 use comp_tree::Connect;
@@ -13,6 +13,7 @@ use filter_rules::Rule;
 pub(crate) enum Command {
     Tree,
     Filter,
+    Detect,
 }
 
 impl Command {
@@ -22,6 +23,7 @@ impl Command {
         match text {
             "tree" => Some(Command::Tree),
             "filter" => Some(Command::Filter),
+            "detect" => Some(Command::Detect),
             _ => None,
         }
     }
@@ -32,11 +34,11 @@ impl Command {
         match setting {
             Setting::Hdu | Setting::Connect | Setting::Strips | Setting::Workers | Setting::Mesh =>
                 true,
-            Setting::Rule
-            | Setting::MinArea
-            | Setting::MaxArea
-            | Setting::MinFlux
-            | Setting::MinFill => self == Command::Filter,
+            Setting::Rule | Setting::MaxArea | Setting::MinFill => self == Command::Filter,
+            Setting::MinArea | Setting::MinFlux => {
+                self == Command::Filter || self == Command::Detect
+            }
+            Setting::Threshold | Setting::Contrast => self == Command::Detect,
         }
     }
 
@@ -65,6 +67,8 @@ pub(crate) enum Setting {
     MaxArea,
     MinFlux,
     MinFill,
+    Threshold,
+    Contrast,
 }
 
 impl Setting {
@@ -83,6 +87,8 @@ impl Setting {
             "--max-area" => Some(Setting::MaxArea),
             "--min-flux" => Some(Setting::MinFlux),
             "--min-fill" => Some(Setting::MinFill),
+            "--threshold" => Some(Setting::Threshold),
+            "--contrast" => Some(Setting::Contrast),
             _ => None,
         }
     }
@@ -101,6 +107,8 @@ impl Setting {
             Setting::MaxArea => "--max-area",
             Setting::MinFlux => "--min-flux",
             Setting::MinFill => "--min-fill",
+            Setting::Threshold => "--threshold",
+            Setting::Contrast => "--contrast",
         }
     }
 
@@ -117,7 +125,8 @@ impl Setting {
             Setting::Rule => rule(text).is_some(),
             Setting::MinArea | Setting::MaxArea => area(text).is_some(),
             Setting::MinFlux => flux(text).is_some(),
-            Setting::MinFill => thousandths(text).is_some(),
+            Setting::MinFill | Setting::Contrast => thousandths(text).is_some(),
+            Setting::Threshold => threshold(text).is_some(),
         }
     }
 }
@@ -268,4 +277,12 @@ pub(crate) fn thousandths(text: &str) -> Option<u32>
         Some(number) => Some(number as u32),
         None => None,
     }
+}
+
+/// A level, within 2 ^ 34 on either side of 0.
+#[tactic(auto, unfolding(crate::specs::Options::threshold_in))]
+pub(crate) fn threshold(text: &str) -> Option<i64>
+    ensures { result ≡ threshold_in text.now }
+{
+    number_between(text, -17179869184, 17179869184)
 }

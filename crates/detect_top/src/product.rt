@@ -13,6 +13,7 @@ ghost use Rattle.detect_top.specs.Products.{output_of_job, output_of, bytes_of, 
 
 use crate::areas::areas;
 use crate::component::{component_tree, residual_plane};
+use crate::detection::{Detection, detect, put_detection};
 use crate::lines::put_tree;
 use crate::{Job, Order};
 use comp_tree::{Plane, Tree};
@@ -31,6 +32,8 @@ pub(crate) enum Product {
     Nodes(Nodes),
     /// A filtered plane.
     Image(Plane),
+    /// A map and a catalogue.
+    Sources(Detection),
 }
 
 /// A tree, and the area of each of its nodes.
@@ -81,6 +84,10 @@ fn make_of(alloc: Global, job: Job, plane: &Plane, tree: Tree) -> Result<Product
             Ok(plane) => Ok(Product::Image(plane)),
             Err(error) => Err(error),
         },
+        Job::Detect { choice } => match detect(alloc, plane, &tree, &choice) {
+            Ok(found) => Ok(Product::Sources(found)),
+            Err(error) => Err(error),
+        },
     }
 }
 
@@ -116,6 +123,7 @@ fn put_product<O: Sink>(output: &mut O, product: &Product) -> Result<(), WriteFa
     match product {
         Product::Nodes(nodes) => put_tree(output, &nodes.tree, &nodes.areas),
         Product::Image(plane) => put_plane(output, plane),
+        Product::Sources(found) => put_detection(output, found),
     }
 }
 

@@ -1,14 +1,15 @@
 // The words of the command.
 ghost use Rattle.std.specs.Prelude.{◌≡◌, ◌≤◌, ◌<◌, ◌+◌, ◌*◌, ℕ, IfOk, IfSome, MatchResult, length, is_some};
 ghost use Rattle.std.specs.Option.{option_map};
-ghost use Rattle.detect_top.specs.Words.{order_of, texts, HasLimits, command_of, naming as naming_of, value_given, criterion_given, job_given, order_for, order_given};
+ghost use Rattle.detect_top.specs.Words.{order_of, texts, HasLimits, command_of, naming as naming_of, value_given, criterion_given, choice_given, job_given, order_for, order_given};
 ghost use Rattle.detect_top.specs.Given.{AreRead, IsFirstFault};
 
 use crate::options::{
-    Command, Setting, area, connect, flux, hdu, mesh, rule, strips, thousandths, workers,
+    Command, Setting, area, connect, flux, hdu, mesh, rule, strips, thousandths, threshold, workers,
 };
 use comp_tree::Connect;
 use filter_rules::{Criterion, Rule};
+use source_pick::Choice;
 
 /// What a run is to do.
 #[derive(Clone, Copy, Debug, PartialEq, Eq)]
@@ -33,6 +34,8 @@ pub enum Job {
     Tree,
     /// The plane that a filter of its component tree leaves.
     Filter { rule: Rule, criterion: Criterion },
+    /// The map and the catalogue of its sources.
+    Detect { choice: Choice },
 }
 
 /// The words give no order: this one, counted from 1, is the first at fault.
@@ -121,6 +124,25 @@ fn criterion_for(words: &[&str], pairs: u32) -> Criterion
     }
 }
 
+#[tactic(auto, unfolding(crate::specs::Words::choice_given))]
+fn choice_for(words: &[&str], pairs: u32, threshold: i64) -> Choice
+    requires { 2 * pairs + 1 ≤ length words.now }
+    ensures { result ≡ choice_given (texts words.now) pairs threshold }
+{
+    Choice {
+        threshold,
+        min_area: value(words, Setting::MinArea, pairs)
+            .and_then(area)
+            .unwrap_or(1),
+        min_flux: value(words, Setting::MinFlux, pairs)
+            .and_then(flux)
+            .unwrap_or(0),
+        contrast: value(words, Setting::Contrast, pairs)
+            .and_then(thousandths)
+            .unwrap_or(5),
+    }
+}
+
 #[tactic(auto, unfolding(crate::specs::Words::job_given))]
 fn job_for(command: Command, words: &[&str], pairs: u32) -> Option<Job>
     requires { 2 * pairs + 1 ≤ length words.now }
@@ -133,6 +155,14 @@ fn job_for(command: Command, words: &[&str], pairs: u32) -> Option<Job>
                 Some(rule) => Some(Job::Filter {
                     rule,
                     criterion: criterion_for(words, pairs),
+                }),
+                None => None,
+            }
+        }
+        Command::Detect => {
+            match value(words, Setting::Threshold, pairs).and_then(threshold) {
+                Some(threshold) => Some(Job::Detect {
+                    choice: choice_for(words, pairs, threshold),
                 }),
                 None => None,
             }

@@ -1,0 +1,134 @@
+//! The sources of a plane: their segmentation map and their catalogue.
+ghost use Rattle.std.specs.Prelude.{◌≡◌, ◌≤◌, ◌++◌, IfOk, OnOk};
+ghost use Rattle.std.specs.List.{flat_map};
+ghost use Rattle.dev_io.specs.Causes.{HasCause};
+ghost use Rattle.dev_io.specs.Streams.{PutAppends};
+ghost use Rattle.comp_tree.specs.declared.shape.Connect.{Connect};
+ghost use Rattle.comp_tree.specs.Raster.{Raster};
+ghost use Rattle.comp_tree.specs.Components.{tree_of};
+ghost use Rattle.node_sums.specs.Sums.{sums_in, IsTreeOfPlane, AreTheTrees};
+ghost use Rattle.fits_write.specs.Columns.{IsTable};
+ghost use Rattle.source_pick.specs.Segmentation.{AreDisjointNodes};
+ghost use Rattle.source_pick.specs.Catalogue.{catalogue_of, cells_of};
+ghost use Rattle.detect_top.specs.Catalogues.{column as column_of, columns as columns_of_catalogue, hdus, detection, IsDetection};
+
+use comp_tree::{Plane, Shape, Tree};
+use dev_io::{OutOfMemory, Sink};
+use fits_write::{Cell, Column, WriteFault, put_empty_primary, put_map, put_table};
+use node_sums::{Sums, sums};
+use source_pick::{CatRow, Choice, cells, pick, row, segment};
+use std::alloc::Global;
+
+/// The map, with a number for each pixel, and the cells of the catalogue, row by row.
+#[derive(Drop)]
+pub(crate) struct Detection {
+    pub(crate) shape: Shape,
+    pub(crate) map: Vec<u32>,
+    pub(crate) cells: Vec<i64>,
+}
+
+fn column(name: &[u8; 8], cell: Cell) -> Column
+    ensures { result ≡ column_of name.now cell }
+{
+    Column { name: *name, cell }
+}
+
+#[tactic(auto, unfolding(crate::specs::Catalogues::columns))]
+fn columns() -> [Column; 17]
+    ensures { result ≡ columns_of_catalogue }
+{
+    [
+        column(b"NUMBER  ", Cell::J),
+        column(b"LEVEL   ", Cell::K),
+        column(b"BASE    ", Cell::K),
+        column(b"AREA    ", Cell::J),
+        column(b"FLUX    ", Cell::K),
+        column(b"PEAK    ", Cell::K),
+        column(b"XMIN    ", Cell::J),
+        column(b"XMAX    ", Cell::J),
+        column(b"YMIN    ", Cell::J),
+        column(b"YMAX    ", Cell::J),
+        column(b"XFIRST  ", Cell::J),
+        column(b"YFIRST  ", Cell::J),
+        column(b"XCEN    ", Cell::J),
+        column(b"YCEN    ", Cell::J),
+        column(b"XVAR    ", Cell::K),
+        column(b"YVAR    ", Cell::K),
+        column(b"XYCOV   ", Cell::K),
+    ]
+}
+
+// Puts the cells of a row behind those before it.
+fn add_row(table: &mut Vec<i64>, row: &CatRow) -> Result<(), OutOfMemory>
+    ensures { OnOk result (table.new.items ≡ table.old.items ++ cells_of row.now) }
+{
+    match table.extend_from_slice(&cells(row)) {
+        Ok(()) => Ok(()),
+        Err(_) => Err(OutOfMemory),
+    }
+}
+
+// The cells of the catalogue of these nodes, which are numbered from 1.
+fn table_cells(
+    alloc: Global,
+    tree: &Tree,
+    sums: &[Sums],
+    picked: &[u32],
+) -> Result<Vec<i64>, OutOfMemory>
+    requires sums { AreTheTrees tree.now sums.now }
+    requires disjoint { AreDisjointNodes tree.now picked.now }
+    ensures exact { IfOk result (λ table. (plane : Raster) (connect : Connect) → tree.now ≡ tree_of plane connect → sums.now ≡ sums_in plane connect
+        → table.items ≡ flat_map cells_of (catalogue_of plane connect picked.now)) }
+    ensures table { IfOk result (λ table. IsTable columns_of_catalogue table.items) }
+{
+    let mut table = match Vec::with_capacity(alloc, 17 * picked.len()) {
+        Ok(table) => table,
+        Err(_) => return Err(OutOfMemory),
+    };
+    for (place, node) in picked.iter().enumerate() {
+        let row = row(tree, sums, place as u32 + 1, *node);
+        if let Err(error) = add_row(&mut table, &row) {
+            return Err(error);
+        }
+    }
+    Ok(table)
+}
+
+/// The sources of a plane, with its tree.
+pub(crate) fn detect(
+    alloc: Global,
+    plane: &Plane,
+    tree: &Tree,
+    choice: &Choice,
+) -> Result<Detection, OutOfMemory>
+    requires of_plane { IsTreeOfPlane plane.now tree.now }
+    requires contrast { choice.now.contrast ≤ 1000 }
+    ensures writable { IfOk result (λ found. IsDetection found.shape found.map.items found.cells.items) }
+    ensures bytes { IfOk result (λ found. (connect : Connect) → tree.now ≡ tree_of plane.now connect
+        → hdus found.shape found.map.items found.cells.items ≡ detection plane.now connect choice.now) }
+{
+    let sums = sums(alloc, plane, tree)?;
+    let picked = pick(alloc, tree, &sums, choice)?;
+    let map = segment(alloc, tree, &picked)?;
+    let cells = table_cells(alloc, tree, &sums, &picked)?;
+    Ok(Detection {
+        shape: plane.shape(),
+        map,
+        cells,
+    })
+}
+
+/// Writes the primary HDU, the map and the catalogue.
+pub(crate) fn put_detection<O: Sink>(output: &mut O, found: &Detection) -> Result<(), WriteFault>
+    requires { IsDetection found.now.shape found.now.map.items found.now.cells.items }
+    ensures bytes { PutAppends (O.written output.old) (O.written output.new) result (hdus found.now.shape found.now.map.items found.now.cells.items) }
+    ensures cause { HasCause (O.faults output.old) (O.faults output.new) result }
+{
+    if let Err(fault) = put_empty_primary(output) {
+        return Err(fault);
+    }
+    if let Err(fault) = put_map(output, found.shape, &found.map) {
+        return Err(fault);
+    }
+    put_table(output, &columns(), &found.cells)
+}
