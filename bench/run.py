@@ -1,13 +1,16 @@
-"""Times `maxdetect tree` on star fields beside a plain union-find in C++, in one run, and compares what both write.
+"""Times `maxdetect tree`, `filter` and `detect` on star fields beside other programs, in one run.
 
-usage: python3 bench/run.py MAXDETECT [SIDE ..]      (MAXDETECT is the built program; sides are 1024, 2048 and 4096 if left out)
+usage: python3 bench/run.py MAXDETECT [SIDE ..]      (MAXDETECT is the built program; sides are 512 to 4096 if left out)
 
-It makes its images with examples/star_field.py, and wants g++ for the yardstick. Times are wall clock, with reading and writing; memory is
-the peak of the process.
+It makes its images with examples/star_field.py. The yardstick for `tree` is a plain union-find in C++ (it wants g++), whose output must be
+the same bytes. Where they are installed it also times scikit-image's max-tree and Source Extractor (Debian: python3-skimage with
+python3-astropy, and source-extractor) on the same files; these do other work, so their outputs are not compared. Times are wall clock, with
+reading and writing; memory is the peak of the process.
 """
 import hashlib
 import os
 import pathlib
+import shutil
 import subprocess
 import sys
 import tempfile
@@ -16,6 +19,19 @@ import time
 TOP = pathlib.Path(__file__).resolve().parent.parent
 STRIPS = 16
 WORKERS = (1, 2, 4)
+MAX_TREE = """
+import sys
+from astropy.io import fits
+from skimage.morphology import max_tree
+image = fits.getdata(sys.argv[1]).astype("f4").astype("i4")
+parents, order = max_tree(image, connectivity=2)
+print(len(order))
+"""
+JOBS = {
+    "tree": ["tree"],
+    "filter": ["filter", "--rule", "direct", "--min-area", "20"],
+    "detect": ["detect", "--threshold", "60", "--min-area", "5", "--mesh", "64"],
+}
 
 
 def timed(command, image):
@@ -32,39 +48,60 @@ def timed(command, image):
     return seconds, usage.ru_maxrss / 1024, digest
 
 
-def build_yardstick(folder):
+def yardstick(folder):
+    """The union-find, if there is a compiler for it."""
+    if not shutil.which("g++"):
+        return
     program = folder / "reference"
-    subprocess.run(["g++", "-O2", "-o", program, TOP / "bench" / "reference.cpp"], check=True)
-    return [program, "8"]
+    if not program.exists():
+        subprocess.run(["g++", "-O2", "-o", program, TOP / "bench" / "reference.cpp"], check=True)
+    yield "tree", "union-find in C++", [program, "8"]
 
 
-def commands(maxdetect, folder):
-    yield "union-find in C++", build_yardstick(folder)
-    tree = [maxdetect, "tree", "--connect", "8"]
-    yield "maxdetect, one strip", tree
-    for workers in WORKERS:
-        crew = "1 worker" if workers == 1 else f"{workers} workers"
-        yield f"maxdetect, {STRIPS} strips, {crew}", tree + ["--strips", str(STRIPS), "--workers", str(workers)]
+def maxdetect_runs(maxdetect):
+    """A job in one strip, and in strips with several numbers of workers."""
+    for job, words in JOBS.items():
+        command = [maxdetect, *words, "--connect", "8"]
+        yield job, "maxdetect, one strip", command
+        for workers in WORKERS:
+            crew = "1 worker" if workers == 1 else f"{workers} workers"
+            yield job, f"maxdetect, {STRIPS} strips, {crew}", [*command, "--strips", str(STRIPS), "--workers", str(workers)]
+
+
+def others(folder, image):
+    """Other programs of the field, where they are installed."""
+    python = "/usr/bin/python3"
+    if os.path.exists(python) and subprocess.run([python, "-c", "import skimage, astropy"], capture_output=True).returncode == 0:
+        yield "max-tree alone", "scikit-image", [python, "-c", MAX_TREE, image]
+    extractor = shutil.which("source-extractor") or shutil.which("sex")
+    if extractor:
+        columns = folder / "columns"
+        columns.write_text("NUMBER\nX_IMAGE\nY_IMAGE\nFLUX_ISO\n")
+        settings = folder / "settings"
+        settings.write_text("")
+        options = ["-PARAMETERS_NAME", columns, "-FILTER", "N", "-CATALOG_NAME", folder / "catalogue", "-DETECT_MINAREA", "5"]
+        options += ["-CHECKIMAGE_TYPE", "SEGMENTATION", "-CHECKIMAGE_NAME", folder / "segments.fits", "-VERBOSE_TYPE", "QUIET"]
+        yield "detection", "Source Extractor", [extractor, image, "-c", settings, *options]
 
 
 def main():
-    maxdetect, sides = pathlib.Path(sys.argv[1]).resolve(), [int(side) for side in sys.argv[2:]] or [1024, 2048, 4096]
-    print("| Image | Program | Seconds | Peak MB |")
-    print("|---|---|---|---|")
+    maxdetect, sides = pathlib.Path(sys.argv[1]).resolve(), [int(side) for side in sys.argv[2:]] or [512, 1024, 2048, 4096]
+    print("| Image | Work | Program | Seconds | Peak MB |")
+    print("|---|---|---|---|---|")
     with tempfile.TemporaryDirectory() as name:
         folder = pathlib.Path(name)
         for side in sides:
             image = folder / "image.fits"
             with open(image, "wb") as file:
                 subprocess.run([sys.executable, TOP / "examples" / "star_field.py", str(side), str(side)], stdout=file, check=True)
-            digests = set()
-            for label, command in commands(maxdetect, folder):
+            digests = {}
+            for job, label, command in [*yardstick(folder), *maxdetect_runs(maxdetect), *others(folder, image)]:
                 seconds, peak, digest = timed(command, image)
-                digests.add(digest)
-                print(f"| {side} x {side} | {label} | {seconds:.2f} | {peak:.0f} |", flush=True)
-            if len(digests) != 1:
-                sys.exit(f"the outputs differ at {side} x {side}")
-    print("All outputs are the same bytes.")
+                digests.setdefault(job, set()).add(digest)
+                print(f"| {side} x {side} | {job} | {label} | {seconds:.2f} | {peak:.0f} |", flush=True)
+            if any(len(digests[job]) != 1 for job in JOBS):
+                sys.exit(f"the outputs of one job differ at {side} x {side}")
+    print("All outputs of one job on one image are the same bytes.")
 
 
 main()

@@ -1,4 +1,4 @@
-"""Reads what `maxdetect filter` writes with other FITS readers, and compares each pixel.
+"""Reads what `maxdetect filter` and `maxdetect detect` write with other FITS readers, and compares each pixel and cell.
 
 usage: /usr/bin/python3 scripts/interop.py MAXDETECT      (MAXDETECT is the built program)
 
@@ -108,6 +108,29 @@ def star_filter(program, folder, stars):
         fail("filter differs from an opening by area")
 
 
+def detection(program, folder, stars):
+    words = ["detect", "--threshold", "60", "--min-area", "5", "--mesh", "64", "--connect", "8"]
+    with fits.open(verified(folder, "sources.fits", run(program, words, stars))) as hdus:
+        hdus.verify("exception")
+        if [hdu.name for hdu in hdus] != ["PRIMARY", "SEGMENT", "SOURCES"]:
+            fail("detect writes other HDUs")
+        segments, sources = hdus["SEGMENT"].data, hdus["SOURCES"].data
+        if segments.shape != (SIDE, SIDE) or len(sources) == 0 or segments.max() != len(sources):
+            fail("the map and the catalogue have other sizes")
+        rows, columns = numpy.nonzero(segments)
+        numbers = segments[rows, columns]
+        for place, source in enumerate(sources, start=1):
+            here = numbers == place
+            x, y = columns[here] + 1, rows[here] + 1
+            seen = (place, here.sum(), x.min(), x.max(), y.min(), y.max())
+            told = tuple(int(source[name]) for name in ("NUMBER", "AREA", "XMIN", "XMAX", "YMIN", "YMAX"))
+            if tuple(map(int, seen)) != told:
+                fail(f"source {place} has {told} in the catalogue, and {seen} in the map")
+            if not (1000 * told[2] <= source["XCEN"] <= 1000 * told[3] and 1000 * told[4] <= source["YCEN"] <= 1000 * told[5]):
+                fail(f"the centre of source {place} lies outside it")
+        return len(sources)
+
+
 def main():
     program = pathlib.Path(sys.argv[1]).resolve()
     stars = subprocess.run([sys.executable, TOP / "examples" / "star_field.py", str(SIDE), str(SIDE)], capture_output=True, check=True).stdout
@@ -117,7 +140,8 @@ def main():
         folder = pathlib.Path(name)
         small_filters(program, folder)
         star_filter(program, folder, stars)
-    print("interop: all outputs are read without a warning")
+        count = detection(program, folder, stars)
+    print(f"interop: all outputs are read without a warning; {count} sources agree with the map")
 
 
 main()

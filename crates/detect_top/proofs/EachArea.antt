@@ -11,7 +11,7 @@ use Rattle.node_sums.specs.Sums.{sums_in, sums_of}
 use Rattle.node_sums.specs.declared.entry.Sums.{Sums}
 use Rattle.detect_top.specs.Areas.{areas, areas_in}
 
-length-sums : (r : Raster) (connect : Connect) → length (sums_in r connect) ≡ length (tree_of r connect).rows
+pub length-sums : (r : Raster) (connect : Connect) → length (sums_in r connect) ≡ length (tree_of r connect).rows
 unfolding sums_in
 length-sums r connect = length-map _ (sums_of r connect) ∙ length-range_with_len 0 _ ∙ sym (length-rows r connect)
 

@@ -1,5 +1,5 @@
 -- How a run may end.
-use Rattle.std.proofs.Common.{◌≡◌, ◌∙◌, ℕ, List, [], refl, sym, ap, subst, Some, None, inl, inr, Bool, Result, Ok, Err}
+use Rattle.std.proofs.Common.{arith, ◌≡◌, ◌∙◌, ℕ, List, [], refl, sym, ap, subst, Some, None, inl, inr, Bool, Result, Ok, Err}
 use Rattle.dev_io.specs.Causes.{Rose}
 use Rattle.std.specs.declared.option.Option.{Option}
 use Rattle.std.specs.Io.KnownBytes.{Appends}
@@ -19,9 +19,10 @@ use Rattle.detect_top.specs.Streams.{ImageRead, ImageStopped, MemoryWanted, stop
 use Rattle.detect_top.specs.declared.image.Stop.{Stop}
 use Rattle.detect_top.specs.declared.image.Stop.TheVariants as at_image
 use Rattle.detect_top.specs.Lines.{tree_lines, node_list}
-use Rattle.detect_top.specs.Answers.{answer_by, answer_to, end_at, status_of}
+use Rattle.detect_top.specs.Products.{output_of, image_made}
+use Rattle.detect_top.specs.Answers.{Answer, answer_by, answer_to, answer_over, end_at, status_of}
 use Rattle.detect_top.specs.Headline.{MayLackMemory, IsComplete}
-use Rattle.detect_top.specs.Runs.{Tells, Took, TookAtMost, WantsMemory, EndBytes, EndCause, ProductRead, Answers, Cuts}
+use Rattle.detect_top.specs.Runs.{Tells, TellsFor, Took, TookAtMost, WantsMemory, WantsMemoryFor, EndBytes, EndCause, ProductRead, Answers, Cuts}
 
 -- where memory was wanted it may be
 verdict_may : (order : Order) (found : Verdict) (bytes : List ℕ) (left : Option (List ℕ)) → MemoryWanted found bytes left → MayLackMemory (answer_to order found).end
@@ -33,7 +34,11 @@ verdict_may order (truncated head taken) bytes left wants = tt
 wants_may : (order : Result Order AtFault) (old new : Option (List ℕ)) (bytes : List ℕ) → Tells order old bytes → WantsMemory order bytes old new
     → MayLackMemory (answer_by order bytes).end
 wants_may (Err usage) old new bytes tells wants = wants
-wants_may (Ok order) old new bytes tells wants = verdict_may order (verdict bytes order.hdu) bytes new (wants bytes tells)
+wants_may (Ok order) old new bytes tells wants = go (image_made order.job) tells wants
+  where
+    go : (o : Option Raster) → TellsFor o old bytes → WantsMemoryFor order bytes old new o → MayLackMemory (answer_over order bytes o).end
+    go (Some made) t w = tt
+    go None t w = verdict_may order (verdict bytes order.hdu) bytes new (w bytes t)
 
 -- where no count rose, the end is the answer's, or memory was wanted where it may be
 pub completes : (order : Result Order AtFault) (left left' written written' : Option (List ℕ)) (ended' settled' : Bool) (f f' sf sf' : ℕ) (bytes : List ℕ) (end : End)
@@ -49,6 +54,32 @@ completes order left left' written written' ended' settled' f f' sf sf' bytes No
 
 same_bytes : (a b : List ℕ) (left : Option (List ℕ)) → left ≡ Some a → left ≡ Some b → a ≡ b
 same_bytes a b left p q = cc
+
+-- ---- an answer that is known
+
+answers_by : (order : Result Order AtFault) (bytes : List ℕ) (left left' written written' : Option (List ℕ)) (end : End) (known : Answer) → answer_by order bytes ≡ known
+    → known.end ≡ end → Appends written written' known.output → Took left left' known.taken → Answers order bytes left left' written written' end
+answers_by order bytes left left' written written' end known is ends writes takes = record {
+  end_is = ap (λ (a : Answer). a.end) is ∙ ends;
+  written_is = subst (λ (a : Answer). Appends written written' a.output) (sym is) writes;
+  taken_is = subst (λ (a : Answer). Took left left' a.taken) (sym is) takes;
+}
+
+cuts_by : (order : Result Order AtFault) (bytes : List ℕ) (left left' written written' : Option (List ℕ)) (known : Answer) → answer_by order bytes ≡ known
+    → known.end ≡ Done → AppendsPrefix written written' known.output → Took left left' known.taken → Cuts order bytes left left' written written'
+cuts_by order bytes left left' written written' known is ends front takes = record {
+  done = ap (λ (a : Answer). a.end) is ∙ ends;
+  front = subst (λ (a : Answer). AppendsPrefix written written' a.output) (sym is) front;
+  taken_is = subst (λ (a : Answer). Took left left' a.taken) (sym is) takes;
+}
+
+-- ---- an order that reads the input
+
+pub told_read : (order : Order) (left : Option (List ℕ)) (bytes : List ℕ) → image_made order.job ≡ None → Tells (Ok order) left bytes → left ≡ Some bytes
+told_read order left bytes reads tells = subst (λ (o : Option Raster). TellsFor o left bytes) reads tells
+
+answer_read : (order : Order) (bytes : List ℕ) → image_made order.job ≡ None → answer_by (Ok order) bytes ≡ answer_to order (verdict bytes order.hdu)
+answer_read order bytes reads = ap (answer_over order bytes) reads
 
 -- ---- an input without an image
 
@@ -75,26 +106,27 @@ answer_takes order (unfound fault taken) = refl
 answer_takes order (unreadable fault head) = refl
 answer_takes order (truncated head taken) = refl
 
-pub refusal_answered : (order : Order) (bytes : List ℕ) (left left' written written' : Option (List ℕ)) (fault : Fault) → left ≡ Some bytes
+pub refusal_answered : (order : Order) (bytes : List ℕ) (left left' written written' : Option (List ℕ)) (fault : Fault) → image_made order.job ≡ None → left ≡ Some bytes
     → ImageStopped (verdict bytes order.hdu) bytes left' (at_image.Refused fault) → Appends written written' []
     → Answers (Ok order) bytes left left' written written' (Refused fault)
-refusal_answered order bytes left left' written written' fault told stopped none =
-    record {
-      end_is = end_is order (verdict bytes order.hdu) ∙ ap end_of stopped.0;
-      written_is = subst (Appends written written') (sym (stop_writes order (verdict bytes order.hdu) (at_image.Refused fault) stopped.0)) none;
-      taken_is = λ x e. subst (λ l. Takes l left' (answer_to order (verdict bytes order.hdu)).taken) (same_bytes bytes x left told e)
-          (subst (Takes bytes left') (sym (answer_takes order (verdict bytes order.hdu))) stopped.1);
-    }
+refusal_answered order bytes left left' written written' fault reads told stopped none =
+    answers_by (Ok order) bytes left left' written written' (Refused fault) (answer_to order (verdict bytes order.hdu)) (answer_read order bytes reads)
+    (end_is order (verdict bytes order.hdu) ∙ ap end_of stopped.0)
+    (subst (Appends written written') (sym (stop_writes order (verdict bytes order.hdu) (at_image.Refused fault) stopped.0)) none)
+    (λ x e. subst (λ l. Takes l left' (answer_to order (verdict bytes order.hdu)).taken) (same_bytes bytes x left told e)
+    (subst (Takes bytes left') (sym (answer_takes order (verdict bytes order.hdu))) stopped.1))
 
-pub fault_answered : (order : Order) (bytes : List ℕ) (left left' : Option (List ℕ)) → left ≡ Some bytes
-    → ImageStopped (verdict bytes order.hdu) bytes left' at_image.ReadFault → TookAtMost left left' (answer_to order (verdict bytes order.hdu)).taken
-fault_answered order bytes left left' told stopped =
-    λ x e. subst (λ l. TakesAtMost l left' (answer_to order (verdict bytes order.hdu)).taken) (same_bytes bytes x left told e)
-    (subst (TakesAtMost bytes left') (sym (answer_takes order (verdict bytes order.hdu))) stopped)
+pub fault_answered : (order : Order) (bytes : List ℕ) (left left' : Option (List ℕ)) → image_made order.job ≡ None → left ≡ Some bytes
+    → ImageStopped (verdict bytes order.hdu) bytes left' at_image.ReadFault → TookAtMost left left' (answer_by (Ok order) bytes).taken
+fault_answered order bytes left left' reads told stopped =
+    subst (λ (a : Answer). TookAtMost left left' a.taken) (sym (answer_read order bytes reads))
+    (λ x e. subst (λ l. TakesAtMost l left' (answer_to order (verdict bytes order.hdu)).taken) (same_bytes bytes x left told e)
+    (subst (TakesAtMost bytes left') (sym (answer_takes order (verdict bytes order.hdu))) stopped))
 
-pub memory_answered : (order : Order) (bytes : List ℕ) (left left' : Option (List ℕ)) → left ≡ Some bytes
+pub memory_answered : (order : Order) (bytes : List ℕ) (left left' : Option (List ℕ)) → image_made order.job ≡ None → left ≡ Some bytes
     → ImageStopped (verdict bytes order.hdu) bytes left' at_image.NoMemory → WantsMemory (Ok order) bytes left left'
-memory_answered order bytes left left' told stopped = λ x e. subst (λ l. MemoryWanted (verdict bytes order.hdu) l left') (same_bytes bytes x left told e) stopped
+memory_answered order bytes left left' reads told stopped =
+    subst (WantsMemoryFor order bytes left left') (sym reads) (λ x e. subst (λ l. MemoryWanted (verdict bytes order.hdu) l left') (same_bytes bytes x left told e) stopped)
 
 -- ---- an image, and what is made of it
 
@@ -116,18 +148,36 @@ product_took order bytes left left' output told read =
     λ x e. subst (λ l. Takes l left' (answer_to order (verdict bytes order.hdu)).taken) (same_bytes bytes x left told e)
     (subst (Takes bytes left') (sym (ap (λ v. (answer_to order v).taken) read.is_image)) read.takes)
 
-pub product_answered : (order : Order) (bytes : List ℕ) (left left' written written' : Option (List ℕ)) (output : List ℕ) → left ≡ Some bytes
+pub product_answered : (order : Order) (bytes : List ℕ) (left left' written written' : Option (List ℕ)) (output : List ℕ) → image_made order.job ≡ None → left ≡ Some bytes
     → ProductRead order bytes left' output → Appends written written' output → Answers (Ok order) bytes left left' written written' Done
-product_answered order bytes left left' written written' output told read all = record {
-  end_is = ap (λ v. (answer_to order v).end) read.is_image;
-  written_is = subst (Appends written written') (output_is order bytes left' output read) all;
-  taken_is = product_took order bytes left left' output told read;
-}
+product_answered order bytes left left' written written' output reads told read all =
+    answers_by (Ok order) bytes left left' written written' Done (answer_to order (verdict bytes order.hdu)) (answer_read order bytes reads) (ap (λ v. (answer_to order v).end) read.is_image)
+    (subst (Appends written written') (output_is order bytes left' output read) all) (product_took order bytes left left' output told read)
 
-pub product_cut : (order : Order) (bytes : List ℕ) (left left' written written' : Option (List ℕ)) (output : List ℕ) → left ≡ Some bytes
+pub product_cut : (order : Order) (bytes : List ℕ) (left left' written written' : Option (List ℕ)) (output : List ℕ) → image_made order.job ≡ None → left ≡ Some bytes
     → ProductRead order bytes left' output → AppendsPrefix written written' output → Cuts (Ok order) bytes left left' written written'
-product_cut order bytes left left' written written' output told read front = record {
-  done = ap (λ v. (answer_to order v).end) read.is_image;
-  front = subst (AppendsPrefix written written') (output_is order bytes left' output read) front;
-  taken_is = product_took order bytes left left' output told read;
-}
+product_cut order bytes left left' written written' output reads told read front =
+    cuts_by (Ok order) bytes left left' written written' (answer_to order (verdict bytes order.hdu)) (answer_read order bytes reads) (ap (λ v. (answer_to order v).end) read.is_image)
+    (subst (AppendsPrefix written written') (output_is order bytes left' output read) front) (product_took order bytes left left' output told read)
+
+-- ---- an image that the job makes
+
+answer_made : (order : Order) (bytes : List ℕ) (made : Raster) → image_made order.job ≡ Some made
+    → answer_by (Ok order) bytes ≡ (let a : Answer = record { end = Done; output = output_of order made; taken = 0 } in a)
+answer_made order bytes made is = ap (answer_over order bytes) is
+
+took_none : (left : Option (List ℕ)) → Took left left 0
+took_none left = λ x e. record { within = omega arith; rest = e }
+
+pub made_answered : (order : Order) (bytes : List ℕ) (left written written' : Option (List ℕ)) (made : Raster) (output : List ℕ) → image_made order.job ≡ Some made → output ≡ output_of order made
+    → Appends written written' output → Answers (Ok order) bytes left left written written' Done
+made_answered order bytes left written written' made output is same all =
+    answers_by (Ok order) bytes left left written written' Done _ (answer_made order bytes made is) refl (subst (Appends written written') same all) (took_none left)
+
+pub made_cut : (order : Order) (bytes : List ℕ) (left written written' : Option (List ℕ)) (made : Raster) (output : List ℕ) → image_made order.job ≡ Some made → output ≡ output_of order made
+    → AppendsPrefix written written' output → Cuts (Ok order) bytes left left written written'
+made_cut order bytes left written written' made output is same front =
+    cuts_by (Ok order) bytes left left written written' _ (answer_made order bytes made is) refl (subst (AppendsPrefix written written') same front) (took_none left)
+
+pub made_unmade : (order : Order) (bytes : List ℕ) (left : Option (List ℕ)) (made : Raster) → image_made order.job ≡ Some made → WantsMemory (Ok order) bytes left left
+made_unmade order bytes left made is = subst (WantsMemoryFor order bytes left left) (sym is) (took_none left)

@@ -9,7 +9,7 @@ use Rattle.std.proofs.lemmas.Slice.Eq.{bytes_eq-Decides}
 use Rattle.comp_tree.proofs.Members.{find_some}
 use Rattle.detect_top.specs.declared.options.Command.{Command}
 use Rattle.detect_top.specs.declared.options.Setting.{Setting}
-use Rattle.detect_top.specs.declared.options.Setting.TheVariants.{Hdu, Connect, Strips, Workers, Mesh, Rule, MinArea, MaxArea, MinFlux, MinFill, Threshold, Contrast}
+use Rattle.detect_top.specs.declared.options.Setting.TheVariants.{Hdu, Connect, Strips, Workers, Mesh, Rule, MinArea, MaxArea, MinFlux, MinFill, Threshold, Contrast, Seed, Width, Height}
 use Rattle.detect_top.specs.Options.{settings, name_of, option_named, setting_named, if_taken, takes}
 use Rattle.detect_top.specs.Words.{word, names, naming, is_bad_option, is_bad_name}
 use Rattle.detect_top.specs.Given.{AreRead}
@@ -51,6 +51,9 @@ one_called MinFlux = omega arith
 one_called MinFill = omega arith
 one_called Threshold = omega arith
 one_called Contrast = omega arith
+one_called Seed = omega arith
+one_called Width = omega arith
+one_called Height = omega arith
 
 -- ---- one pair more
 

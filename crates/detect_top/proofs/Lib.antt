@@ -10,3 +10,6 @@ pub mod Given
 pub mod Limits
 pub mod Cells
 pub mod Detections
+pub mod Trials
+pub mod Summaries
+pub mod Shapes

@@ -4,14 +4,14 @@ use Rattle.std.specs.Prelude.{ℤ, pos, int_le, ◌≤ℤ◌, Option, Some, None
 use Rattle.std.specs.Option.{option_map}
 use Rattle.std.proofs.lemmas.Int.{ints}
 use Rattle.comp_tree.proofs.Levels.{int_le-true}
-use Rattle.detect_top.specs.declared.options.Setting.TheVariants.{Strips, Workers, Mesh, Rule, MinFill, Threshold, Contrast}
+use Rattle.detect_top.specs.declared.options.Setting.TheVariants.{Strips, Workers, Mesh, Rule, MinFill, Threshold, Contrast, Seed}
 use Rattle.detect_top.specs.declared.options.Command.{Command}
-use Rattle.detect_top.specs.declared.options.Command.TheVariants.{Tree, Filter, Detect}
+use Rattle.detect_top.specs.declared.options.Command.TheVariants.{Tree, Filter, Detect, Trial}
 use Rattle.detect_top.specs.declared.words.Job.{Job}
 use Rattle.detect_top.specs.declared.words.Job.TheVariants as the_job
 use Rattle.detect_top.specs.Numbers.{within, whole_number}
-use Rattle.detect_top.specs.Options.{count_between, strips_in, workers_in, mesh_in, rule_in, thousandths_in, threshold_in}
-use Rattle.detect_top.specs.Words.{criterion_given, choice_given, job_given, order_for, value_given, given, HasJobLimits, HasLimits}
+use Rattle.detect_top.specs.Options.{count_between, strips_in, workers_in, mesh_in, rule_in, thousandths_in, threshold_in, seed_in}
+use Rattle.detect_top.specs.Words.{criterion_given, choice_given, job_given, order_for, value_given, given, HasJobLimits, HasLimits, shape_given}
 
 record IsBetween (least most n : ℕ) : Type 0 where
   low : least ≤ n
@@ -70,11 +70,16 @@ some_job : {T : Type 0} (o : Option T) (f : T → Job) (job : Job) → option_ma
 some_job (Some x) f job is limits = let same : f x ≡ job = cc in subst HasJobLimits same (limits x)
 some_job None f job is limits = absurd (cc)
 
+some_trial : {T S : Type 0} (o : Option T) (s : Option S) (f : T → S → Job) (job : Job) → option_and_then (λ x. option_map (f x) s) o ≡ Some job → ((x : T) (y : S) → HasJobLimits (f x y)) → HasJobLimits job
+some_trial (Some x) s f job is limits = some_job s (f x) job is (limits x)
+some_trial None s f job is limits = absurd (cc)
+
 job_limits : (command : Command) (words : List (List ℕ)) (n : ℕ) (job : Job) → job_given command words n ≡ Some job → HasJobLimits job
 unfolding job_given
 job_limits Tree words n job is = let same : the_job.Tree ≡ job = cc in subst HasJobLimits same tt
 job_limits Filter words n job is = some_job (given rule_in words n Rule) _ job is (λ rule. criterion_limits words n)
 job_limits Detect words n job is = some_job (given threshold_in words n Threshold) _ job is (λ threshold. choice_limits words n threshold)
+job_limits Trial words n job is = some_trial (given seed_in words n Seed) (shape_given words n) the_job.Trial job is (λ seed shape. tt)
 
 pub given_limits : (command : Command) (words : List (List ℕ)) (n : ℕ) (job : Job) → job_given command words n ≡ Some job → HasLimits (order_for words n job)
 unfolding order_for

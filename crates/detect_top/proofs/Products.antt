@@ -1,7 +1,8 @@
 -- What is made of an image is what its order writes.
-use Rattle.std.proofs.Common.{◌≡◌, ◌∙◌, ap, List, Result, Ok, Err, IfOk}
-use Rattle.std.specs.Prelude.{ℤ}
+use Rattle.std.proofs.Common.{◌≡◌, ◌∙◌, ap, sym, ℕ, List, Result, Ok, Err, IfOk}
+use Rattle.std.specs.Prelude.{ℤ, Some, None}
 use Rattle.std.specs.declared.option.Option.{Option}
+use Rattle.comp_tree.specs.declared.shape.Shape.{Shape}
 use Rattle.comp_tree.specs.declared.shape.Connect.{Connect}
 use Rattle.comp_tree.specs.Raster.{Raster}
 use Rattle.comp_tree.specs.ComponentTree.{ComponentTree}
@@ -10,7 +11,11 @@ use Rattle.pixel_plane.specs.Stored.{HasStorableValues}
 use Rattle.mesh_background.specs.Residuals.{residual_of, HasValuesInHalfRange}
 use Rattle.detect_top.specs.declared.words.Order.{Order}
 use Rattle.detect_top.specs.declared.product.Product.{Product}
-use Rattle.detect_top.specs.Products.{output_of_job, output_of, bytes_of}
+use Rattle.detect_top.specs.declared.words.Job.{Job}
+use Rattle.detect_top.specs.declared.words.Job.TheVariants.{Tree, Filter, Detect, Trial}
+use Rattle.detect_top.specs.Products.{output_of_job, output_of, bytes_of, image_made, SuitsJob}
+use Rattle.detect_top.specs.Trials.{trial_image}
+use Rattle.detect_top.proofs.Trials.{trial_residual_is_small}
 
 -- what can be stored is half of the range of pixels
 pub half_range : (values : List (Option ℤ)) → HasStorableValues values → HasValuesInHalfRange values
@@ -22,3 +27,20 @@ pub made_of_image : {E : Type 0} (order : Order) (image plane : Raster) (tree : 
 unfolding output_of
 made_of_image order image plane tree (Ok product) residual is bytes = bytes order.connect is ∙ ap (output_of_job order.job order.connect) residual
 made_of_image order image plane tree (Err e) residual is bytes = tt
+
+no_image : (made : Raster) → (let o : Option Raster = None in o) ≡ Some made → ⊥
+no_image made h = cc
+
+-- a job that reads the input takes any plane
+pub suits_read : (job : Job) (plane : Raster) → image_made job ≡ None → SuitsJob job plane
+suits_read Tree plane is = tt
+suits_read (Filter rule criterion) plane is = tt
+suits_read (Detect choice) plane is = tt
+suits_read (Trial seed shape) plane is = absurd (no_image (trial_image seed shape) (sym is))
+
+-- and a trial takes its image less the background
+pub suits_made : (job : Job) (seed : ℕ) (shape : Shape) (mesh : ℕ) → image_made job ≡ Some (trial_image seed shape) → SuitsJob job (residual_of (trial_image seed shape) mesh)
+suits_made Tree seed shape mesh is = absurd (no_image (trial_image seed shape) is)
+suits_made (Filter rule criterion) seed shape mesh is = absurd (no_image (trial_image seed shape) is)
+suits_made (Detect choice) seed shape mesh is = absurd (no_image (trial_image seed shape) is)
+suits_made (Trial own sides) seed shape mesh is = trial_residual_is_small seed shape mesh

@@ -1,6 +1,7 @@
 -- What is answered to these words and these bytes.
 use Rattle.std.specs.Prelude.{ℕ, List, [], ◌∷◌, Result, Ok, Err, Option, Some, None, codes, decimal}
 use Rattle.std.specs.List.{concat}
+use Rattle.comp_tree.specs.Raster.{Raster}
 use Rattle.pixel_plane.specs.Verdicts.{Verdict, image, unfound, unreadable, truncated, verdict}
 use Rattle.detect_top.specs.declared.words.Order.{Order}
 use Rattle.detect_top.specs.declared.words.Usage.{Usage as AtFault}
@@ -13,7 +14,7 @@ use Rattle.detect_top.specs.declared.fault.CardPlace.{CardPlace}
 use Rattle.detect_top.specs.declared.image.Stop.{Stop}
 use Rattle.detect_top.specs.declared.image.Stop.TheVariants as at_image
 use Rattle.detect_top.specs.Faults.{number_of, name_of, place_of, stop_at_hdu, fault_of_image}
-use Rattle.detect_top.specs.Products.{output_of}
+use Rattle.detect_top.specs.Products.{output_of, image_made}
 
 abbrev pub usage_line : ℕ → List ℕ
 usage_line word = concat (codes "usage: word " ∷ decimal word ∷ codes "\n" ∷ [])
@@ -66,9 +67,14 @@ answer_to order (unfound fault taken) = record { end = end_at (stop_at_hdu fault
 answer_to order (unreadable fault head) = record { end = Refused (fault_of_image fault); output = []; taken = head }
 answer_to order (truncated head taken) = record { end = Refused TruncatedData; output = []; taken = taken }
 
+-- an image that the job makes itself needs no bytes
+abbrev pub answer_over : Order → List ℕ → Option Raster → Answer
+answer_over order bytes (Some made) = record { end = Done; output = output_of order made; taken = 0 }
+answer_over order bytes None = answer_to order (verdict bytes order.hdu)
+
 abbrev pub answer_by : Result Order AtFault → List ℕ → Answer
 answer_by (Err usage) bytes = record { end = Usage usage; output = []; taken = 0 }
-answer_by (Ok order) bytes = answer_to order (verdict bytes order.hdu)
+answer_by (Ok order) bytes = answer_over order bytes (image_made order.job)
 
 abbrev pub answer : List (List ℕ) → List ℕ → Answer
 answer words bytes = answer_by (order_of words) bytes

@@ -1,5 +1,5 @@
 -- The headline: what a run answers, by its status.
-use Rattle.std.specs.Prelude.{◌≡◌, ℕ, ◌≤◌, ◌⊎◌, Bool, List, IsOk, IsTrue}
+use Rattle.std.specs.Prelude.{◌≡◌, ℕ, ◌≤◌, ◌⊎◌, Bool, List, IsTrue}
 use Rattle.std.specs.declared.option.Option.{Option}
 use Rattle.std.specs.Io.KnownBytes.{Keeps}
 use Rattle.dev_io.specs.Causes.{Rose}
@@ -9,7 +9,7 @@ use Rattle.detect_top.specs.declared.top.End.TheVariants.{Done, Usage, Refused, 
 use Rattle.detect_top.specs.Words.{order_of}
 use Rattle.detect_top.specs.Faults.{IsCut, IsBehindHeader}
 use Rattle.detect_top.specs.Answers.{Answer, status_of, note_of}
-use Rattle.detect_top.specs.Runs.{Tells, WantsMemory, Noted}
+use Rattle.detect_top.specs.Runs.{Tells, ReadsInput, WantsMemory, Noted}
 
 -- P holds of the bytes that the source tells. Where the words give no order that reads them, it need not tell them.
 abbrev pub ForBytes : List (List ℕ) → Option (List ℕ) → (List ℕ → Type 0) → Type 0
@@ -27,7 +27,7 @@ pub record CutsAnswer (answer : Answer) (old new : Option (List ℕ)) : Type 0 w
 -- the count rose, the words give an order that reads, and nothing was written
 pub record ReadFails (words : List (List ℕ)) (faults faults' : ℕ) (written written' : Option (List ℕ)) : Type 0 where
   pub rose : Rose faults faults'
-  pub reads : IsOk (order_of words)
+  pub reads : ReadsInput (order_of words)
   pub nothing : Keeps written written'
 
 -- memory may be wanted for these, and so many bytes were taken then

@@ -6,6 +6,7 @@ pub mod Faults
 pub mod Areas
 pub mod Lines
 pub mod Catalogues
+pub mod Trials
 pub mod Products
 pub mod Streams
 pub mod Answers

@@ -1,5 +1,5 @@
 -- The commands, their options, and what the values of these are.
-use Rattle.std.specs.Prelude.{ℕ, Bool, true, false, List, [], ◌∷◌, find, ◌||◌, ℤ, pos, neg_ℤ, unsigned_abs, Option, Some, None, is_some, codes, if◌then◌else◌}
+use Rattle.std.specs.Prelude.{ℕ, Bool, true, false, List, [], ◌∷◌, find, ◌||◌, ℤ, pos, neg_ℤ, unsigned_abs, Option, Some, None, is_some, codes, if◌then◌else◌, not}
 use Rattle.std.specs.Str.{bytes_eq}
 use Rattle.std.specs.Option.{option_map}
 use Rattle.std.specs.Ordering.{int_eq}
@@ -8,20 +8,24 @@ use Rattle.comp_tree.specs.declared.shape.Connect.TheVariants as connectivity
 use Rattle.filter_rules.specs.declared.rule.Rule.{Rule}
 use Rattle.filter_rules.specs.declared.rule.Rule.TheVariants as rule
 use Rattle.detect_top.specs.declared.options.Command.{Command}
-use Rattle.detect_top.specs.declared.options.Command.TheVariants.{Tree, Filter, Detect}
+use Rattle.detect_top.specs.declared.options.Command.TheVariants.{Tree, Filter, Detect, Trial}
 use Rattle.detect_top.specs.declared.options.Setting.{Setting}
-use Rattle.detect_top.specs.declared.options.Setting.TheVariants.{Hdu, Connect as Connectivity, Strips, Workers, Mesh, Rule as FilterRule, MinArea, MaxArea, MinFlux, MinFill, Threshold, Contrast}
+use Rattle.detect_top.specs.declared.options.Setting.TheVariants.{Hdu, Connect as Connectivity, Strips, Workers, Mesh, Rule as FilterRule, MinArea, MaxArea, MinFlux, MinFill, Threshold, Contrast, Seed, Width, Height}
 use Rattle.detect_top.specs.Numbers.{number_between}
 
 -- ---- names
 
 abbrev pub command_named : List ℕ → Option Command
-command_named text = if bytes_eq text (codes "tree") then Some Tree else (if bytes_eq text (codes "filter") then Some Filter
-    else (if bytes_eq text (codes "detect") then Some Detect else None))
+command_named text =
+    if bytes_eq text (codes "tree") then Some Tree
+    else (if bytes_eq text (codes "filter") then Some Filter
+    else (if bytes_eq text (codes "detect") then Some Detect
+    else (if bytes_eq text (codes "trial") then Some Trial else None)))
 
 -- all options
 abbrev pub settings : List Setting
-settings = Hdu ∷ Connectivity ∷ Strips ∷ Workers ∷ Mesh ∷ FilterRule ∷ MinArea ∷ MaxArea ∷ MinFlux ∷ MinFill ∷ Threshold ∷ Contrast ∷ []
+settings =
+    Hdu ∷ Connectivity ∷ Strips ∷ Workers ∷ Mesh ∷ FilterRule ∷ MinArea ∷ MaxArea ∷ MinFlux ∷ MinFill ∷ Threshold ∷ Contrast ∷ Seed ∷ Width ∷ Height ∷ []
 
 abbrev pub name_of : Setting → List ℕ
 name_of Hdu = codes "--hdu"
@@ -36,6 +40,9 @@ name_of MinFlux = codes "--min-flux"
 name_of MinFill = codes "--min-fill"
 name_of Threshold = codes "--threshold"
 name_of Contrast = codes "--contrast"
+name_of Seed = codes "--seed"
+name_of Width = codes "--width"
+name_of Height = codes "--height"
 
 unfoldable pub setting_named : List ℕ → Option Setting
 setting_named text = find (λ setting. bytes_eq text (name_of setting)) settings
@@ -45,15 +52,23 @@ abbrev pub is_filter : Command → Bool
 is_filter Tree = false
 is_filter Filter = true
 is_filter Detect = false
+is_filter Trial = false
 
 abbrev pub is_detect : Command → Bool
 is_detect Tree = false
 is_detect Filter = false
 is_detect Detect = true
+is_detect Trial = false
+
+abbrev pub is_trial : Command → Bool
+is_trial Tree = false
+is_trial Filter = false
+is_trial Detect = false
+is_trial Trial = true
 
 -- the command has this option
 abbrev pub takes : Command → Setting → Bool
-takes command Hdu = true
+takes command Hdu = not (is_trial command)
 takes command Connectivity = true
 takes command Strips = true
 takes command Workers = true
@@ -65,6 +80,9 @@ takes command MinFlux = is_filter command || is_detect command
 takes command MinFill = is_filter command
 takes command Threshold = is_detect command
 takes command Contrast = is_detect command
+takes command Seed = is_trial command
+takes command Width = is_trial command
+takes command Height = is_trial command
 
 abbrev pub if_taken : Command → Option Setting → Option Setting
 if_taken command None = None
@@ -128,6 +146,14 @@ thousandths_in text = count_between (pos 0) (pos 1000) text
 unfoldable pub threshold_in : List ℕ → Option ℤ
 threshold_in text = number_between (neg_ℤ (pos 17179869184)) (pos 17179869184) text
 
+-- a seed, which fits 32 bits
+unfoldable pub seed_in : List ℕ → Option ℕ
+seed_in text = count_between (pos 0) (pos 4294967295) text
+
+-- a side of an image in pixels
+unfoldable pub side_in : List ℕ → Option ℕ
+side_in text = count_between (pos 1) (pos 65535) text
+
 -- the word is a value of this option
 abbrev pub is_value : Setting → List ℕ → Bool
 is_value Hdu text = is_some (hdu_in text)
@@ -142,3 +168,6 @@ is_value MinFlux text = is_some (flux_in text)
 is_value MinFill text = is_some (thousandths_in text)
 is_value Threshold text = is_some (threshold_in text)
 is_value Contrast text = is_some (thousandths_in text)
+is_value Seed text = is_some (seed_in text)
+is_value Width text = is_some (side_in text)
+is_value Height text = is_some (side_in text)

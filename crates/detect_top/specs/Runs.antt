@@ -1,5 +1,5 @@
 -- What a run does to its source and its sinks.
-use Rattle.std.specs.Prelude.{◌≡◌, ℕ, ◌<◌, ◌≤◌, ◌⊎◌, Bool, List, length, Result, Ok, Err, Some, IsOk, IsTrue}
+use Rattle.std.specs.Prelude.{◌≡◌, ℕ, ◌<◌, ◌≤◌, ◌⊎◌, Bool, List, length, Result, Ok, Err, Some, None, IsOk, IsTrue}
 use Rattle.std.specs.declared.option.Option.{Option}
 use Rattle.std.specs.Option.{ForSome}
 use Rattle.std.specs.Io.KnownBytes.{Appends, Keeps}
@@ -11,7 +11,7 @@ use Rattle.detect_top.specs.declared.words.Order.{Order}
 use Rattle.detect_top.specs.declared.words.Usage.{Usage as AtFault}
 use Rattle.detect_top.specs.declared.top.End.{End}
 use Rattle.detect_top.specs.declared.top.End.TheVariants.{Done, Usage, Refused, ReadFault, WriteFault, NoMemory}
-use Rattle.detect_top.specs.Products.{output_of}
+use Rattle.detect_top.specs.Products.{output_of, image_made}
 use Rattle.detect_top.specs.Faults.{IsCut}
 use Rattle.detect_top.specs.Answers.{answer_by}
 use Rattle.detect_top.specs.Streams.{MemoryWanted}
@@ -25,9 +25,13 @@ pub record ProductRead (order : Order) (bytes : List ℕ) (left : Option (List �
   pub output_is : output ≡ output_of order plane
   pub takes : Takes bytes left end
 
--- where the words give an order these are the bytes that it reads, and without one they are any bytes
+abbrev pub TellsFor : Option Raster → Option (List ℕ) → List ℕ → Type 0
+TellsFor (Some made) left bytes = Unit {0}
+TellsFor None left bytes = left ≡ Some bytes
+
+-- where the words give an order that reads the input these are its bytes, and else they are any bytes
 abbrev pub Tells : Result Order AtFault → Option (List ℕ) → List ℕ → Type 0
-Tells (Ok order) left bytes = left ≡ Some bytes
+Tells (Ok order) left bytes = TellsFor (image_made order.job) left bytes
 Tells (Err usage) left bytes = Unit {0}
 
 -- the first n bytes were taken, where they are told
@@ -44,14 +48,27 @@ pub record Untouched {S : Type 0} (left : S → Option (List ℕ)) (ended : S �
   pub same_end : ended new ≡ ended old
   pub same_faults : faults new ≡ faults old
 
+abbrev pub LeavesInputFor : Option Raster → Type 0
+LeavesInputFor (Some made) = Unit {0}
+LeavesInputFor None = ⊥
+
 -- words for which the input is left alone
 abbrev pub LeavesInput : Result Order AtFault → Type 0
-LeavesInput (Ok order) = ⊥
+LeavesInput (Ok order) = LeavesInputFor (image_made order.job)
 LeavesInput (Err usage) = Unit {0}
+
+-- words whose order reads the input
+abbrev pub ReadsInput : Result Order AtFault → Type 0
+ReadsInput (Ok order) = image_made order.job ≡ None
+ReadsInput (Err usage) = ⊥
+
+abbrev pub WantsMemoryFor : Order → List ℕ → Option (List ℕ) → Option (List ℕ) → Option Raster → Type 0
+WantsMemoryFor order bytes old new (Some made) = Took old new 0
+WantsMemoryFor order bytes old new None = ForSome old (λ told. MemoryWanted (verdict bytes order.hdu) told new)
 
 -- where memory may be wanted, and what was taken then
 abbrev pub WantsMemory : Result Order AtFault → List ℕ → Option (List ℕ) → Option (List ℕ) → Type 0
-WantsMemory (Ok order) bytes old new = ForSome old (λ told. MemoryWanted (verdict bytes order.hdu) told new)
+WantsMemory (Ok order) bytes old new = WantsMemoryFor order bytes old new (image_made order.job)
 WantsMemory (Err usage) bytes old new = ⊥
 
 -- what an end of its own says of the bytes: it is the answer's, the output was written, and the bytes were taken
@@ -81,7 +98,8 @@ EndCause order ended' faults faults' written written' settled' sink_faults sink_
 EndCause order ended' faults faults' written written' settled' sink_faults sink_faults' (Usage usage) = (order ≡ Err usage) × Keeps written written'
 EndCause order ended' faults faults' written written' settled' sink_faults sink_faults' (Refused fault) =
     IsOk order × (IsCut fault → IsTrue ended') × Keeps written written'
-EndCause order ended' faults faults' written written' settled' sink_faults sink_faults' ReadFault = IsOk order × Rose faults faults' × Keeps written written'
+EndCause order ended' faults faults' written written' settled' sink_faults sink_faults' ReadFault =
+    IsOk order × Rose faults faults' × Keeps written written' × ReadsInput order
 EndCause order ended' faults faults' written written' settled' sink_faults sink_faults' WriteFault = IsOk order × Rose sink_faults sink_faults'
 EndCause order ended' faults faults' written written' settled' sink_faults sink_faults' NoMemory = IsOk order × Keeps written written'
 

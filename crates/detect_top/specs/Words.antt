@@ -5,18 +5,20 @@ use denote.Ref.{Bor}
 use Rattle.std.specs.Str.{bytes_eq}
 use Rattle.std.specs.List.{range_with_len}
 use Rattle.std.specs.Option.{option_map}
+use Rattle.comp_tree.specs.declared.shape.Shape.{Shape}
 use Rattle.comp_tree.specs.declared.shape.Connect.TheVariants.{Four}
+use Rattle.comp_tree.specs.Shapes.{shape_of}
 use Rattle.filter_rules.specs.declared.rule.Criterion.{Criterion}
 use Rattle.source_pick.specs.declared.choice.Choice.{Choice}
 use Rattle.detect_top.specs.declared.options.Command.{Command}
 use Rattle.detect_top.specs.declared.options.Command.TheVariants as command
 use Rattle.detect_top.specs.declared.options.Setting.{Setting}
-use Rattle.detect_top.specs.declared.options.Setting.TheVariants.{Hdu, Connect, Strips, Workers, Mesh, Rule, MinArea, MaxArea, MinFlux, MinFill, Threshold, Contrast}
+use Rattle.detect_top.specs.declared.options.Setting.TheVariants.{Hdu, Connect, Strips, Workers, Mesh, Rule, MinArea, MaxArea, MinFlux, MinFill, Threshold, Contrast, Seed, Width, Height}
 use Rattle.detect_top.specs.declared.words.Order.{Order}
 use Rattle.detect_top.specs.declared.words.Job.{Job}
 use Rattle.detect_top.specs.declared.words.Job.TheVariants as job
 use Rattle.detect_top.specs.declared.words.Usage.{Usage}
-use Rattle.detect_top.specs.Options.{command_named, name_of, option_named, is_value, hdu_in, connect_in, strips_in, workers_in, mesh_in, rule_in, area_in, flux_in, thousandths_in, threshold_in}
+use Rattle.detect_top.specs.Options.{command_named, name_of, option_named, is_value, hdu_in, connect_in, strips_in, workers_in, mesh_in, rule_in, area_in, flux_in, thousandths_in, threshold_in, seed_in, side_in}
 
 -- ---- the places
 
@@ -84,11 +86,16 @@ choice_given words n threshold = record {
   contrast = unwrap_or (given thousandths_in words n Contrast) 5;
 }
 
+-- the shape of a trial's image, if both sides are given and there aren't too many pixels
+unfoldable pub shape_given : List (List ℕ) → ℕ → Option Shape
+shape_given words n = option_and_then (λ width. option_and_then (shape_of width) (given side_in words n Height)) (given side_in words n Width)
+
 -- what is to be done, unless something is missing for it
 unfoldable pub job_given : Command → List (List ℕ) → ℕ → Option Job
 job_given command.Tree words n = Some job.Tree
 job_given command.Filter words n = option_map (λ rule. job.Filter rule (criterion_given words n)) (given rule_in words n Rule)
 job_given command.Detect words n = option_map (λ threshold. job.Detect (choice_given words n threshold)) (given threshold_in words n Threshold)
+job_given command.Trial words n = option_and_then (λ seed. option_map (job.Trial seed) (shape_given words n)) (given seed_in words n Seed)
 
 unfoldable pub order_for : List (List ℕ) → ℕ → Job → Order
 order_for words n job = record {
@@ -134,6 +141,7 @@ abbrev pub HasJobLimits : Job → Type 0
 HasJobLimits job.Tree = Unit {0}
 HasJobLimits (job.Filter rule criterion) = criterion.min_fill ≤ 1000
 HasJobLimits (job.Detect choice) = choice.contrast ≤ 1000
+HasJobLimits (job.Trial seed shape) = Unit {0}
 
 -- the numbers of an order are within their limits
 pub record HasLimits (order : Order) : Type 0 where

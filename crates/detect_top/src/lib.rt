@@ -11,12 +11,14 @@ mod notes;
 mod options;
 mod product;
 mod top;
+mod trial;
 mod words;
 
 pub use fault::Fault;
 pub use fits_write::WriteFault;
 pub use lines::put_tree;
 pub use top::run;
+pub use trial::{Summary, put_trial};
 pub use words::{Job, Order, Usage, read_words};
 
 #[cfg(test)]
@@ -29,3 +31,5 @@ mod header_tests;
 mod strips_tests;
 #[cfg(test)]
 mod tests;
+#[cfg(test)]
+mod trial_tests;

@@ -2,7 +2,7 @@
 ghost use Rattle.std.specs.Prelude.{◌≡◌, ◌≤ℤ◌, ◌<◌, ℕ, Some, IfSome, is_some};
 ghost use Rattle.std.specs.List.{list_all};
 ghost use Rattle.std.specs.Char.{is_ascii_digit};
-ghost use Rattle.detect_top.specs.Options.{command_named, setting_named, option_named, takes as takes_option, name_of, is_value, hdu_in, connect_in, strips_in, workers_in, mesh_in, rule_in, area_in, flux_in, thousandths_in, threshold_in};
+ghost use Rattle.detect_top.specs.Options.{command_named, setting_named, option_named, takes as takes_option, name_of, is_value, hdu_in, connect_in, strips_in, workers_in, mesh_in, rule_in, area_in, flux_in, thousandths_in, threshold_in, seed_in, side_in};
 ghost use Rattle.detect_top.specs.Numbers.{without_minus as digits_of, is_numeral, within, number_between as number_in};
 
 use comp_tree::Connect;
@@ -14,6 +14,7 @@ pub(crate) enum Command {
     Tree,
     Filter,
     Detect,
+    Trial,
 }
 
 impl Command {
@@ -24,6 +25,7 @@ impl Command {
             "tree" => Some(Command::Tree),
             "filter" => Some(Command::Filter),
             "detect" => Some(Command::Detect),
+            "trial" => Some(Command::Trial),
             _ => None,
         }
     }
@@ -32,13 +34,14 @@ impl Command {
         ensures { result ≡ takes_option self setting }
     {
         match setting {
-            Setting::Hdu | Setting::Connect | Setting::Strips | Setting::Workers | Setting::Mesh =>
-                true,
+            Setting::Hdu => self != Command::Trial,
+            Setting::Connect | Setting::Strips | Setting::Workers | Setting::Mesh => true,
             Setting::Rule | Setting::MaxArea | Setting::MinFill => self == Command::Filter,
             Setting::MinArea | Setting::MinFlux => {
                 self == Command::Filter || self == Command::Detect
             }
             Setting::Threshold | Setting::Contrast => self == Command::Detect,
+            Setting::Seed | Setting::Width | Setting::Height => self == Command::Trial,
         }
     }
 
@@ -69,6 +72,9 @@ pub(crate) enum Setting {
     MinFill,
     Threshold,
     Contrast,
+    Seed,
+    Width,
+    Height,
 }
 
 impl Setting {
@@ -89,6 +95,9 @@ impl Setting {
             "--min-fill" => Some(Setting::MinFill),
             "--threshold" => Some(Setting::Threshold),
             "--contrast" => Some(Setting::Contrast),
+            "--seed" => Some(Setting::Seed),
+            "--width" => Some(Setting::Width),
+            "--height" => Some(Setting::Height),
             _ => None,
         }
     }
@@ -109,6 +118,9 @@ impl Setting {
             Setting::MinFill => "--min-fill",
             Setting::Threshold => "--threshold",
             Setting::Contrast => "--contrast",
+            Setting::Seed => "--seed",
+            Setting::Width => "--width",
+            Setting::Height => "--height",
         }
     }
 
@@ -127,6 +139,8 @@ impl Setting {
             Setting::MinFlux => flux(text).is_some(),
             Setting::MinFill | Setting::Contrast => thousandths(text).is_some(),
             Setting::Threshold => threshold(text).is_some(),
+            Setting::Seed => seed(text).is_some(),
+            Setting::Width | Setting::Height => side(text).is_some(),
         }
     }
 }
@@ -285,4 +299,26 @@ pub(crate) fn threshold(text: &str) -> Option<i64>
     ensures { result ≡ threshold_in text.now }
 {
     number_between(text, -17179869184, 17179869184)
+}
+
+/// The number that a trial's image is made from.
+#[tactic(auto, unfolding(crate::specs::Options::seed_in))]
+pub(crate) fn seed(text: &str) -> Option<u32>
+    ensures { result ≡ seed_in text.now }
+{
+    match number_between(text, 0, 4294967295) {
+        Some(number) => Some(number as u32),
+        None => None,
+    }
+}
+
+/// A side of an image in pixels.
+#[tactic(auto, unfolding(crate::specs::Options::side_in))]
+pub(crate) fn side(text: &str) -> Option<u32>
+    ensures { result ≡ side_in text.now }
+{
+    match number_between(text, 1, 65535) {
+        Some(number) => Some(number as u32),
+        None => None,
+    }
 }

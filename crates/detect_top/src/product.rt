@@ -1,22 +1,25 @@
 //! What a job makes of an image, whole in memory before the first byte of output.
-ghost use Rattle.std.specs.Prelude.{◌≡◌, ◌≤◌, length, IfOk, OnOk, IsTrue};
+ghost use Rattle.std.specs.Prelude.{◌≡◌, ◌≤◌, Some, length, IfOk, OnOk, IsTrue};
 ghost use Rattle.dev_io.specs.Causes.{HasCause};
 ghost use Rattle.dev_io.specs.Streams.{PutAppends};
 ghost use Rattle.comp_tree.specs.declared.shape.Connect.{Connect};
 ghost use Rattle.comp_tree.specs.Components.{tree_of};
+ghost use Rattle.mesh_background.specs.Residuals.{residual_of};
 ghost use Rattle.node_sums.specs.Sums.{IsTreeOfPlane};
 ghost use Rattle.pixel_plane.specs.Stored.{HasStorableValues};
 ghost use Rattle.filter_rules.specs.Filtered.{filtered as filtered_of};
 ghost use Rattle.detect_top.specs.Words.{HasLimits, HasJobLimits};
 ghost use Rattle.detect_top.specs.Lines.{tree_lines, node_list};
-ghost use Rattle.detect_top.specs.Products.{output_of_job, output_of, bytes_of, IsWritable};
+ghost use Rattle.detect_top.specs.Products.{output_of_job, output_of, image_made, bytes_of, SuitsJob, IsWritable};
+ghost use Rattle.detect_top.specs.Trials.{trial_image as image_of};
 
 use crate::areas::areas;
 use crate::component::{component_tree, residual_plane};
 use crate::detection::{Detection, detect, put_detection};
 use crate::lines::put_tree;
+use crate::trial::{Summary, put_trial, summarize, trial_image};
 use crate::{Job, Order};
-use comp_tree::{Plane, Tree};
+use comp_tree::{Plane, Shape, Tree};
 use dev_io::{OutOfMemory, Sink};
 use filter_rules::{Criterion, Rule, filter};
 use fits_write::{WriteFault, put_plane};
@@ -34,6 +37,8 @@ pub(crate) enum Product {
     Image(Plane),
     /// A map and a catalogue.
     Sources(Detection),
+    /// What is told of a trial.
+    Told(Summary),
 }
 
 /// A tree, and the area of each of its nodes.
@@ -72,6 +77,7 @@ fn filtered(
 fn make_of(alloc: Global, job: Job, plane: &Plane, tree: Tree) -> Result<Product, OutOfMemory>
     requires of_plane { IsTreeOfPlane plane.now tree }
     requires limits { HasJobLimits job }
+    requires suits { SuitsJob job plane.now }
     ensures writable { IfOk result (λ product. IsWritable product) }
     ensures bytes { IfOk result (λ product. (connect : Connect) → tree ≡ tree_of plane.now connect → bytes_of product ≡ output_of_job job connect plane.now) }
 {
@@ -88,6 +94,10 @@ fn make_of(alloc: Global, job: Job, plane: &Plane, tree: Tree) -> Result<Product
             Ok(found) => Ok(Product::Sources(found)),
             Err(error) => Err(error),
         },
+        Job::Trial { .. } => match summarize(alloc, plane, &tree) {
+            Ok(summary) => Ok(Product::Told(summary)),
+            Err(error) => Err(error),
+        },
     }
 }
 
@@ -101,6 +111,7 @@ pub(crate) fn make<R: Threads + Sync, G: Gate>(
 ) -> Result<Product, OutOfMemory>
     requires limits { HasLimits order }
     requires storable { HasStorableValues image.values }
+    requires suits { SuitsJob order.job (residual_of image order.mesh) }
     ensures writable { IfOk result (λ product. IsWritable product) }
     ensures bytes { IfOk result (λ product. bytes_of product ≡ output_of order image) }
 {
@@ -115,6 +126,26 @@ pub(crate) fn make<R: Threads + Sync, G: Gate>(
     make_of(alloc, order.job, &plane, tree)
 }
 
+/// What a trial of this seed and this shape makes.
+pub(crate) fn make_trial<R: Threads + Sync, G: Gate>(
+    rt: &R,
+    alloc: Global,
+    order: Order,
+    seed: u32,
+    shape: Shape,
+    gate: &G,
+) -> Result<Product, OutOfMemory>
+    requires limits { HasLimits order }
+    requires trial { image_made order.job ≡ Some (image_of seed shape) }
+    ensures writable { IfOk result (λ product. IsWritable product) }
+    ensures bytes { IfOk result (λ product. bytes_of product ≡ output_of order (image_of seed shape)) }
+{
+    match trial_image(alloc, seed, shape) {
+        Ok(image) => make(rt, alloc, image, order, gate),
+        Err(error) => Err(error),
+    }
+}
+
 fn put_product<O: Sink>(output: &mut O, product: &Product) -> Result<(), WriteFault>
     requires { IsWritable product.now }
     ensures bytes { PutAppends (O.written output.old) (O.written output.new) result (bytes_of product.now) }
@@ -124,6 +155,7 @@ fn put_product<O: Sink>(output: &mut O, product: &Product) -> Result<(), WriteFa
         Product::Nodes(nodes) => put_tree(output, &nodes.tree, &nodes.areas),
         Product::Image(plane) => put_plane(output, plane),
         Product::Sources(found) => put_detection(output, found),
+        Product::Told(summary) => put_trial(output, summary),
     }
 }
 

@@ -1,12 +1,13 @@
 // The run as a whole.
-ghost use Rattle.std.specs.Prelude.{◌≡◌, ◌<◌, ◌≤◌, ◌↔◌, ℕ, List, length, Ok, IfOk, IfErr, MatchResult, IsErrOf, OnOk, IsErr, IsTrue};
+ghost use Rattle.std.specs.Prelude.{◌≡◌, ◌<◌, ◌≤◌, ◌↔◌, ℕ, List, Bool, Option, length, Ok, Some, None, IfOk, IfErr, MatchResult, IsErrOf, OnOk, IsErr, IsTrue};
 ghost use Rattle.std.specs.Option.{ForSome};
 ghost use Rattle.std.specs.Io.KnownBytes.{Appends, Keeps};
 ghost use Rattle.dev_io.specs.Causes.{Rose};
 ghost use Rattle.pixel_plane.specs.Verdicts.{verdict};
 ghost use Rattle.detect_top.specs.Words.{texts, order_of, HasLimits};
 ghost use Rattle.detect_top.specs.Faults.{IsCutStop};
-ghost use Rattle.detect_top.specs.Products.{bytes_of, IsWritable};
+ghost use Rattle.detect_top.specs.Products.{bytes_of, image_made, IsWritable};
+ghost use Rattle.detect_top.specs.Trials.{trial_image as image_of};
 ghost use Rattle.detect_top.specs.Streams.{ImageStopped};
 ghost use Rattle.detect_top.specs.Answers.{answer, note_of, status_of};
 ghost use Rattle.detect_top.specs.Runs.{Noted, Took, TookAtMost, ProductRead, Untouched, Tells, EndBytes, EndCause, LeavesInput};
@@ -14,9 +15,10 @@ ghost use Rattle.detect_top.specs.Headline.{ForBytes, IsComplete, IsStatus, Cuts
 
 use crate::image::{Stop, read_image};
 use crate::notes::tell;
-use crate::product::{Product, make, write};
+use crate::product::{Product, make, make_trial, write};
 use crate::words::read_words;
-use crate::{Fault, Order, Usage};
+use crate::{Fault, Job, Order, Usage};
+use comp_tree::Shape;
 use dev_io::{Sink, Source};
 use std::alloc::Global;
 use std::thread::Threads;
@@ -57,6 +59,7 @@ fn read_and_make<R: Threads + Sync, S: Source, G: Gate>(
     gate: &G,
 ) -> Result<Product, Stop>
     requires limits { HasLimits order }
+    requires reads { image_made order.job ≡ None }
     ensures told { ForSome (S.left input.old) (λ bytes. MatchResult result
         (λ product. ProductRead order bytes (S.left input.new) (bytes_of product))
         (λ stop. ImageStopped (verdict bytes order.hdu) bytes (S.left input.new) stop)) }
@@ -75,7 +78,7 @@ fn read_and_make<R: Threads + Sync, S: Source, G: Gate>(
     }
 }
 
-// Does the work of an order.
+// Does the work of an order that reads the input.
 fn carry_out<R: Threads + Sync, S: Source, O: Sink, G: Gate>(
     rt: &R,
     alloc: Global,
@@ -85,6 +88,7 @@ fn carry_out<R: Threads + Sync, S: Source, O: Sink, G: Gate>(
     gate: &G,
 ) -> End
     requires limits { HasLimits order }
+    requires reads { image_made order.job ≡ None }
     ensures bytes { (bytes : List ℕ) → Tells (Ok order) (S.left input.old) bytes →
         EndBytes (Ok order) bytes (S.left input.old) (S.left input.new) (O.written output.old) (O.written output.new) result }
     ensures cause { EndCause (Ok order) (S.ended input.new) (S.faults input.old) (S.faults input.new)
@@ -102,6 +106,34 @@ fn carry_out<R: Threads + Sync, S: Source, O: Sink, G: Gate>(
         Ok(()) => End::Done,
         Err(_) => End::WriteFault,
     }
+}
+
+// Does the work of a trial, whatever the input is.
+fn try_out<R: Threads + Sync, O: Sink, G: Gate>(
+    rt: &R,
+    alloc: Global,
+    order: Order,
+    seed: u32,
+    shape: Shape,
+    output: &mut O,
+    gate: &G,
+) -> End
+    requires limits { HasLimits order }
+    requires trial { image_made order.job ≡ Some (image_of seed shape) }
+    ensures bytes { (bytes : List ℕ) (left : Option (List ℕ)) →
+        EndBytes (Ok order) bytes left left (O.written output.old) (O.written output.new) result }
+    ensures cause { (ended : Bool) (faults : ℕ) → EndCause (Ok order) ended faults faults
+        (O.written output.old) (O.written output.new) (O.settled output.new) (O.faults output.old) (O.faults output.new) result }
+    ensures write_later { O.faults output.old ≤ O.faults output.new }
+{
+    let product = match make_trial(rt, alloc, order, seed, shape, gate) {
+        Ok(product) => product,
+        Err(_) => return End::NoMemory,
+    };
+    if let Err(_) = write(output, &product) {
+        return End::WriteFault;
+    }
+    End::Done
 }
 
 fn work<R: Threads + Sync, S: Source, O: Sink, G: Gate>(
@@ -125,7 +157,10 @@ fn work<R: Threads + Sync, S: Source, O: Sink, G: Gate>(
         Ok(order) => order,
         Err(usage) => return End::Usage(usage),
     };
-    carry_out(rt, alloc, order, input, output, gate)
+    match order.job {
+        Job::Trial { seed, shape } => try_out(rt, alloc, order, seed, shape, output, gate),
+        _ => carry_out(rt, alloc, order, input, output, gate),
+    }
 }
 
 /// Does what the words say, over this input. The status is 0 where all was written, 1 where the words give no order, 2
@@ -178,7 +213,7 @@ pub fn run<R: Threads + Sync, S: Source, O: Sink, N: Sink, G: Gate>(
         Noted (N.written notes.old) (N.written notes.new) (N.settled notes.new) (N.faults notes.old) (N.faults notes.new)
         (note_of (answer (texts words.now) bytes).end)) }
 
-    // Without an order the input is left alone.
+    // Without an order and for a trial the input is left alone.
     ensures untouched { LeavesInput (order_of (texts words.now)) → Untouched S.left S.ended S.faults input.old input.new }
 
     // Where no count rose the status is the answer's, or memory is wanted where it may be.

@@ -1,13 +1,14 @@
 // The words of the command.
 ghost use Rattle.std.specs.Prelude.{◌≡◌, ◌≤◌, ◌<◌, ◌+◌, ◌*◌, ℕ, IfOk, IfSome, MatchResult, length, is_some};
 ghost use Rattle.std.specs.Option.{option_map};
-ghost use Rattle.detect_top.specs.Words.{order_of, texts, HasLimits, command_of, naming as naming_of, value_given, criterion_given, choice_given, job_given, order_for, order_given};
+ghost use Rattle.detect_top.specs.Words.{order_of, texts, HasLimits, command_of, naming as naming_of, value_given, criterion_given, choice_given, job_given, order_for, order_given, shape_given};
 ghost use Rattle.detect_top.specs.Given.{AreRead, IsFirstFault};
 
 use crate::options::{
-    Command, Setting, area, connect, flux, hdu, mesh, rule, strips, thousandths, threshold, workers,
+    Command, Setting, area, connect, flux, hdu, mesh, rule, seed, side, strips, thousandths,
+    threshold, workers,
 };
-use comp_tree::Connect;
+use comp_tree::{Connect, Shape};
 use filter_rules::{Criterion, Rule};
 use source_pick::Choice;
 
@@ -36,6 +37,8 @@ pub enum Job {
     Filter { rule: Rule, criterion: Criterion },
     /// The map and the catalogue of its sources.
     Detect { choice: Choice },
+    /// The line that tells of the image of this shape that is made from this seed.
+    Trial { seed: u32, shape: Shape },
 }
 
 /// The words give no order: this one, counted from 1, is the first at fault.
@@ -143,6 +146,19 @@ fn choice_for(words: &[&str], pairs: u32, threshold: i64) -> Choice
     }
 }
 
+fn shape_for(words: &[&str], pairs: u32) -> Option<Shape>
+    requires { 2 * pairs + 1 ≤ length words.now }
+    ensures { result ≡ shape_given (texts words.now) pairs }
+{
+    let Some(width) = value(words, Setting::Width, pairs).and_then(side) else {
+        return None;
+    };
+    let Some(height) = value(words, Setting::Height, pairs).and_then(side) else {
+        return None;
+    };
+    Shape::of(width, height)
+}
+
 #[tactic(auto, unfolding(crate::specs::Words::job_given))]
 fn job_for(command: Command, words: &[&str], pairs: u32) -> Option<Job>
     requires { 2 * pairs + 1 ≤ length words.now }
@@ -164,6 +180,15 @@ fn job_for(command: Command, words: &[&str], pairs: u32) -> Option<Job>
                 Some(threshold) => Some(Job::Detect {
                     choice: choice_for(words, pairs, threshold),
                 }),
+                None => None,
+            }
+        }
+        Command::Trial => {
+            let Some(seed) = value(words, Setting::Seed, pairs).and_then(seed) else {
+                return None;
+            };
+            match shape_for(words, pairs) {
+                Some(shape) => Some(Job::Trial { seed, shape }),
                 None => None,
             }
         }

@@ -1,0 +1,220 @@
+-- The trial's image: its states, its values, and how large what is made of it is.
+use Rattle.std.proofs.Common.{◌≡◌, ℕ, ◌+◌, ◌*◌, ◌/◌, ◌^◌, ◌<◌, ◌≤◌, zero, suc, Bool, true, false, cond, List, [], ◌∷◌, length, map, refl, sym, ap, subst, ◌∙◌, arith}
+use Rattle.std.specs.Prelude.{◌==◌, ℤ, pos, ◌-ℤ◌, ◌≤ℤ◌, filter, slice_get, Option, Some, None, unwrap_or, is_some, All}
+use Rattle.std.specs.Option.{option_map}
+use Rattle.std.proofs.lemmas.Bool.{true≢false}
+use Rattle.std.proofs.lemmas.Int.{ints}
+use Rattle.std.proofs.lemmas.Nat.{mod_below}
+use Rattle.std.proofs.lemmas.List.{length-map}
+use Rattle.std.proofs.lemmas.List.Elements.{All-map, All-weaker, All-contains, filter_passes}
+use Rattle.std.proofs.lemmas.List.Sums.{length-filter, count_by-le-length}
+use Rattle.std.proofs.lemmas.Option.{slice_get_within}
+use Rattle.comp_tree.specs.declared.shape.Shape.{Shape}
+use Rattle.comp_tree.specs.declared.shape.Connect.{Connect}
+use Rattle.comp_tree.specs.Raster.{Raster, IsPlane, pixels, value_at, is_defined, level}
+use Rattle.comp_tree.specs.ComponentTree.{ComponentTree}
+use Rattle.comp_tree.specs.Components.{nodes, is_in_node, tree_of}
+use Rattle.comp_tree.specs.Laws.{top_of}
+use Rattle.comp_tree.proofs.Ancestors.{length-rows}
+use Rattle.comp_tree.proofs.Finding.{length-pixels}
+use Rattle.comp_tree.proofs.OneTree.{IsImage, get_from_map, get-pixels}
+use Rattle.pixel_plane.specs.Stored.{HasStorableValues}
+use Rattle.mesh_background.specs.Medians.{IsLowerMedian, lower_median}
+use Rattle.mesh_background.specs.Mesh.{cell_of, cell_pixels, defined_values, image_value, mesh_value}
+use Rattle.mesh_background.specs.Residuals.{background, residual_at, residual_of}
+use Rattle.mesh_background.proofs.Medians.{the_one}
+use Rattle.node_sums.specs.declared.entry.Sums.{Sums}
+use Rattle.node_sums.specs.Sums.{pixels_of, AreOfPlane}
+use Rattle.node_sums.specs.Flux.{base_of, flux_of}
+use Rattle.node_sums.specs.Merging.{IsUpTo}
+use Rattle.node_sums.proofs.Sizes.{up_to-minus, total-up_to}
+use Rattle.node_sums.proofs.Fluxes.{BaseCase, at_root, at_child, base-case}
+use Rattle.node_sums.proofs.FluxOfSums.{flux-is}
+use Rattle.detect_top.specs.Trials.{next_state, states_behind, value_of_state, trial_image, IsSmall, HasSmallValues, HasSmallFluxes, flux_bound}
+use Rattle.detect_top.proofs.EachArea.{length-sums}
+
+-- ---- its states
+
+-- the state k steps behind a state
+abbrev pub state_at : ℕ → ℕ → ℕ
+state_at state zero = state
+state_at state (suc k) = state_at (next_state state) k
+
+pub state-next : (state k : ℕ) → state_at state (suc k) ≡ next_state (state_at state k)
+state-next state zero = refl
+state-next state (suc k) = state-next (next_state state) k
+
+length-states : (state n : ℕ) → length (states_behind state n) ≡ n
+unfolding states_behind
+length-states state zero = refl
+length-states state (suc n) = ap suc (length-states (next_state state) n)
+
+value-of_state : (state n k : ℕ) → k < n → value_at (map value_of_state (states_behind state n)) k ≡ value_of_state (state_at state (suc k))
+unfolding states_behind
+value-of_state state zero k lt = absurd (omega arith)
+value-of_state state (suc n) zero lt = refl
+value-of_state state (suc n) (suc k) lt = value-of_state (next_state state) n k (omega arith)
+
+-- ---- its values
+
+pub trial_is_plane : (seed : ℕ) (shape : Shape) → IsPlane (trial_image seed shape)
+unfolding trial_image
+trial_is_plane seed shape = length-map (states_behind seed (shape.width * shape.height)) value_of_state ∙ length-states seed (shape.width * shape.height)
+
+pub trial_length : (seed : ℕ) (shape : Shape) → length (trial_image seed shape).values ≡ shape.width * shape.height
+unfolding trial_image
+trial_length seed shape = length-map (states_behind seed (shape.width * shape.height)) value_of_state ∙ length-states seed (shape.width * shape.height)
+
+pub trial_shape : (seed : ℕ) (shape : Shape) → (trial_image seed shape).shape ≡ shape
+unfolding trial_image
+trial_shape seed shape = refl
+
+pub trial_value : (seed : ℕ) (shape : Shape) (k : ℕ) → k < shape.width * shape.height → value_at (trial_image seed shape).values k ≡ value_of_state (state_at seed (suc k))
+unfolding trial_image
+trial_value seed shape k lt = value-of_state seed (shape.width * shape.height) k lt
+
+next_below : (state : ℕ) → next_state state < 2 ^ 32
+next_below state = mod_below (1664525 * state + 1013904223) (2 ^ 32) (omega arith)
+
+-- a whole number from 0 to 255
+record IsByte (value : ℤ) : Type 0 where
+  low : pos 0 ≤ℤ value
+  high : value ≤ℤ pos 255
+
+byte-of_state : (state : ℕ) → state < 2 ^ 32 → IsByte (pos (state / 2 ^ 24))
+byte-of_state state h = let l : state / 2 ^ 24 ≤ 255 = omega arith in record { low = omega (arith, ints); high = omega (arith, ints) }
+
+EachIsByte : List (Option ℤ) → Type 0
+EachIsByte values = (p : ℕ) (v : ℤ) → slice_get values p ≡ Some (Some v) → IsByte v
+
+bytes-of_states : (state n p : ℕ) (v : ℤ) → slice_get (map value_of_state (states_behind state n)) p ≡ Some (Some v) → IsByte v
+unfolding states_behind
+bytes-of_states state zero p v e = absurd (cc)
+bytes-of_states state (suc n) zero v e = let f : pos (next_state state / 2 ^ 24) ≡ v = cc in subst IsByte f (byte-of_state (next_state state) (next_below state))
+bytes-of_states state (suc n) (suc p) v e = bytes-of_states (next_state state) n p v e
+
+trial_bytes : (seed : ℕ) (shape : Shape) (p : ℕ) (v : ℤ) → slice_get (trial_image seed shape).values p ≡ Some (Some v) → IsByte v
+unfolding trial_image
+trial_bytes seed shape p v e = bytes-of_states seed (shape.width * shape.height) p v e
+
+pub trial_is_storable : (seed : ℕ) (shape : Shape) → HasStorableValues (trial_image seed shape).values
+trial_is_storable seed shape = record {
+  each = λ p v e. let b : IsByte v = trial_bytes seed shape p v e in record { low = omega (arith, ints, b.low); high = omega (arith, ints, b.high) };
+}
+
+-- ---- its residual
+
+get_from_read : (xs : List (Option ℤ)) (p : ℕ) (v : ℤ) → value_at xs p ≡ Some v → slice_get xs p ≡ Some (Some v)
+get_from_read [] p v e = absurd (cc)
+get_from_read (x ∷ xs) zero v e = ap Some e
+get_from_read (x ∷ xs) (suc p) v e = get_from_read xs p v e
+
+-- a plane whose values are from 0 to 255
+record HasBytes (r : Raster) : Type 0 where
+  each : (p : ℕ) (v : ℤ) → slice_get r.values p ≡ Some (Some v) → IsByte v
+
+byte-zero : IsByte (pos 0)
+byte-zero = record { low = omega (arith, ints); high = omega (arith, ints) }
+
+byte-level : (r : Raster) (p : ℕ) → HasBytes r → is_defined r p ≡ true → IsByte (level r p)
+unfolding level
+byte-level r p h d = go (value_at r.values p) refl d
+  where
+    go : (o : Option ℤ) → value_at r.values p ≡ o → is_some o ≡ true → IsByte (unwrap_or o (pos 0))
+    go None e d = absurd (true≢false (sym d))
+    go (Some v) e d = h.each p v (get_from_read r.values p v e)
+
+byte-defined : (r : Raster) (ps : List ℕ) → HasBytes r → All IsByte (defined_values r ps)
+unfolding defined_values
+byte-defined r ps h =
+    All-map IsByte (level r) (filter (is_defined r) ps)
+    (All-weaker (λ p. is_defined r p ≡ true) (λ p. IsByte (level r p)) (λ p d. byte-level r p h d) (filter (is_defined r) ps) (filter_passes (is_defined r) ps))
+
+-- a median is a member
+byte-median : (xs : List ℤ) (d : ℤ) → All IsByte xs → IsByte d → IsByte (unwrap_or (lower_median xs) d)
+byte-median xs d all other = go (lower_median xs) refl
+  where
+    go : (o : Option ℤ) → lower_median xs ≡ o → IsByte (unwrap_or o d)
+    go None e = other
+    go (Some v) e = let is : IsLowerMedian xs v = (the_one xs v).0 e in All-contains IsByte xs v all is.member
+
+byte-image : (r : Raster) → HasBytes r → IsByte (image_value r)
+unfolding image_value
+byte-image r h = byte-median (defined_values r (pixels r)) (pos 0) (byte-defined r (pixels r) h) byte-zero
+
+byte-mesh : (r : Raster) (mesh k : ℕ) → HasBytes r → IsByte (mesh_value r mesh k)
+unfolding mesh_value
+byte-mesh r mesh k h = byte-median (defined_values r (cell_pixels r mesh k)) (image_value r) (byte-defined r (cell_pixels r mesh k) h) (byte-image r h)
+
+byte-background : (r : Raster) (mesh p : ℕ) → HasBytes r → IsByte (background r mesh p)
+unfolding background
+byte-background r mesh p h = go (mesh == 0)
+  where
+    go : (b : Bool) → IsByte (cond b (pos 0) (mesh_value r mesh (cell_of mesh r.shape.width p)))
+    go true = byte-zero
+    go false = byte-mesh r mesh (cell_of mesh r.shape.width p) h
+
+difference_small : (v b : ℤ) → IsByte v → IsByte b → IsSmall (v -ℤ b)
+difference_small v b h k = record { low = omega (arith, ints, h.low, k.high); high = omega (arith, ints, h.high, k.low) }
+
+small-at : (r : Raster) (mesh p : ℕ) (v : ℤ) → HasBytes r → residual_at r mesh p ≡ Some v → IsSmall v
+unfolding residual_at
+small-at r mesh p v h e = go (value_at r.values p) refl e
+  where
+    no_element : None ≡ Some v → ⊥
+    no_element e = cc
+
+    go : (o : Option ℤ) → value_at r.values p ≡ o → option_map (λ w. w -ℤ background r mesh p) o ≡ Some v → IsSmall v
+    go None u f = absurd (no_element f)
+    go (Some w) u f =
+        let same : w -ℤ background r mesh p ≡ v = cc in
+        subst IsSmall same (difference_small w (background r mesh p) (h.each p w (get_from_read r.values p w u)) (byte-background r mesh p h))
+
+small-residual : (r : Raster) (mesh p : ℕ) (v : ℤ) → HasBytes r → slice_get (residual_of r mesh).values p ≡ Some (Some v) → IsSmall v
+unfolding residual_of
+small-residual r mesh p v h e =
+    let image : IsImage (residual_at r mesh) (pixels r) p (Some v) = get_from_map (residual_at r mesh) (pixels r) p (Some v) e in
+    let place : image.it ≡ p = get-pixels r p image.it image.at in
+    small-at r mesh p v h (subst (λ q. residual_at r mesh q ≡ Some v) place image.gives)
+
+pub trial_residual_is_small : (seed : ℕ) (shape : Shape) (mesh : ℕ) → HasSmallValues (residual_of (trial_image seed shape) mesh).values
+trial_residual_is_small seed shape mesh = record { each = λ p v e. small-residual (trial_image seed shape) mesh p v (record { each = trial_bytes seed shape }) e }
+
+-- ---- the fluxes over a plane of small values
+
+small-level : (r : Raster) (p : ℕ) → HasSmallValues r.values → IsUpTo 255 (level r p)
+unfolding level
+small-level r p h = go (value_at r.values p) refl
+  where
+    go : (o : Option ℤ) → value_at r.values p ≡ o → IsUpTo 255 (unwrap_or o (pos 0))
+    go None e = record { low = omega (arith, ints); high = omega (arith, ints) }
+    go (Some v) e = let k : IsSmall v = h.each p v (get_from_read r.values p v e) in record { low = k.low; high = k.high }
+
+small-base : (r : Raster) (connect : Connect) (n : ℕ) → IsPlane r → HasSmallValues r.values → n < length (nodes r connect) → IsUpTo 255 (base_of (tree_of r connect) n)
+small-base r connect n plane small hn = go (base-case r connect n plane hn)
+  where
+    go : BaseCase r connect n → IsUpTo 255 (base_of (tree_of r connect) n)
+    go (at_root e b) = subst (IsUpTo 255) (sym b) (small-level r (top_of r connect n) small)
+    go (at_child a e ha b l) = subst (IsUpTo 255) (sym b) (small-level r (top_of r connect a) small)
+
+few-pixels_of : (r : Raster) (connect : Connect) (n : ℕ) → IsPlane r → length (pixels_of r connect n) ≤ 2 ^ 24
+unfolding pixels_of
+few-pixels_of r connect n plane =
+    omega (arith, length-filter (is_in_node r connect n) (pixels r), count_by-le-length (is_in_node r connect n) (pixels r), length-pixels r, plane, r.shape.within_limits.few_pixels)
+
+up_to-area : (area : ℕ) (z : ℤ) → area ≤ 2 ^ 24 → IsUpTo (510 * area) z → z ≤ℤ pos flux_bound
+up_to-area area z few h = omega (arith, ints, h.high)
+
+small-flux : (r : Raster) (connect : Connect) (n : ℕ) → IsPlane r → HasSmallValues r.values → n < length (nodes r connect) → flux_of r connect n ≤ℤ pos flux_bound
+unfolding flux_of
+small-flux r connect n plane small hn =
+    up_to-area (length (pixels_of r connect n)) _ (few-pixels_of r connect n plane)
+    (total-up_to (λ p. level r p -ℤ base_of (tree_of r connect) n) 510 (pixels_of r connect n)
+    (λ p m. up_to-minus 255 255 (level r p) (base_of (tree_of r connect) n) (small-level r p small) (small-base r connect n plane small hn)))
+
+pub small_fluxes : (r : Raster) (tree : ComponentTree) (sums : List Sums) → IsPlane r → HasSmallValues r.values → AreOfPlane r tree sums → HasSmallFluxes tree sums
+small_fluxes r tree sums plane small of = record {
+  each = λ n entry g.
+      let inside : n < length (nodes r of.connect) = omega (arith, slice_get_within sums n entry g, ap length of.sums_are, length-sums r of.connect, length-rows r of.connect) in
+      subst (λ (z : ℤ). z ≤ℤ pos flux_bound) (sym (flux-is r of.connect tree sums n entry of.tree_is of.sums_are g)) (small-flux r of.connect n plane small inside);
+}

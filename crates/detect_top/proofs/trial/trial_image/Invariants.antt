@@ -1,0 +1,12 @@
+use Rattle.std.proofs.Common.{◌≡◌}
+use Rattle.comp_tree.specs.Raster.{value_at}
+use Rattle.mesh_background.specs.Residuals.{IsWritten}
+use Rattle.detect_top.specs.Trials.{trial_image}
+use Rattle.detect_top.proofs.Trials.{state_at}
+use Rattle.detect_top.proofs.trial.trial_image.Given as goal
+
+abbrev pub invariant-loop-p : goal.invariant-loop-p
+invariant-loop-p l = record {
+  written : IsWritten (trial_image l.seed l.fn.shape) (value_at (trial_image l.seed l.fn.shape).values) l.p l.plane;
+  state_is : l.state ≡ state_at l.seed l.p;
+}

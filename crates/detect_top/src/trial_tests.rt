@@ -1,0 +1,118 @@
+use super::*;
+use crate::trial::trial_image;
+use comp_tree::Shape;
+use dev_io::{MemSink, PlainSource};
+use std::test::Fail;
+use strip_crew::OpenGate;
+
+#[test]
+fn the_image_of_seed_7(rt: HostRuntime) -> Result<(), Fail> {
+    let values: [i64; 6] = [61, 233, 156, 237, 12, 219];
+    let shape = Shape::of(3, 2).expect(&rt, "a shape");
+    let image = trial_image(rt.alloc(), 7, shape).expect(&rt, "memory");
+    assert!(rt; image.shape() == shape);
+    for (p, value) in values.iter().enumerate() {
+        assert!(rt; p < image.shape().pixels() as usize);
+        assert_eq!(rt; image.get(p as u32), Some(*value));
+    }
+    Ok(())
+}
+
+#[test]
+fn a_line_tells_of_a_trial(rt: HostRuntime) -> Result<(), Fail> {
+    let alloc = rt.alloc();
+    let mut sink = MemSink::new(vec![in alloc; 0; 199]?, &[], 0);
+    let summary = Summary {
+        pixels: 16777216,
+        nodes: 20,
+        roots: 3,
+        areas: 281474976710656,
+        fluxes: 0,
+        sources: 4294967295,
+        mapped: 7,
+    };
+    assert_eq!(rt; put_trial(&mut sink, &summary), Ok(()));
+    assert_eq!(rt;
+        sink.bytes(),
+        b"pixels 16777216 nodes 20 roots 3 areas 281474976710656 fluxes 0 sources 4294967295 mapped 7\n".as_slice()
+    );
+    Ok(())
+}
+
+#[test]
+fn a_trial_leaves_the_input(rt: HostRuntime) -> Result<(), Fail> {
+    let alloc = rt.alloc();
+    let bytes = b"no image".as_slice();
+    let cases: [(&[&str], &[u8]); 4] = [
+        (
+            &["trial", "--seed", "0", "--width", "1", "--height", "1"],
+            b"pixels 1 nodes 1 roots 1 areas 1 fluxes 0 sources 0 mapped 0\n",
+        ),
+        (
+            &["trial", "--seed", "7", "--width", "3", "--height", "2"],
+            b"pixels 6 nodes 6 roots 1 areas 17 fluxes 2433 sources 3 mapped 3\n",
+        ),
+        (
+            &[
+                "trial",
+                "--seed",
+                "7",
+                "--width",
+                "3",
+                "--height",
+                "2",
+                "--connect",
+                "8",
+            ],
+            b"pixels 6 nodes 6 roots 1 areas 21 fluxes 2550 sources 1 mapped 4\n",
+        ),
+        (
+            &[
+                "trial", "--height", "2", "--width", "3", "--seed", "7", "--mesh", "1",
+            ],
+            b"pixels 6 nodes 1 roots 1 areas 6 fluxes 0 sources 0 mapped 0\n",
+        ),
+    ];
+    for (words, line) in cases {
+        let mut input = PlainSource::new(bytes);
+        let mut output = MemSink::new(vec![in alloc; 0; 99]?, &[], 0);
+        let mut notes = MemSink::new(vec![in alloc; 0; 99]?, &[], 0);
+        assert_eq!(rt;
+            run(
+                &rt,
+                alloc,
+                words,
+                &mut input,
+                &mut output,
+                &mut notes,
+                &OpenGate
+            ),
+            0
+        );
+        assert_eq!(rt; output.bytes(), line);
+        assert_eq!(rt; notes.bytes().len(), 0);
+        assert_eq!(rt; input.rest(), bytes);
+    }
+    Ok(())
+}
+
+#[test]
+fn each_wrong_word_of_a_trial_is_named(rt: HostRuntime) -> Result<(), Fail> {
+    let cases: [(&[&str], u32); 6] = [
+        (&["trial", "--width", "1", "--height", "1"], 6),
+        (
+            &[
+                "trial", "--seed", "1", "--width", "65535", "--height", "65535",
+            ],
+            8,
+        ),
+        (&["trial", "--seed", "1", "--width", "1"], 6),
+        (&["trial", "--hdu", "0"], 2),
+        (&["trial", "--seed", "4294967296"], 3),
+        (&["tree", "--width", "1"], 2),
+    ];
+    for (words, word) in cases {
+        assert_eq!(rt; read_words(words), Err(Usage { word }));
+    }
+    Ok(())
+}
