@@ -241,9 +241,7 @@ fn a_header_has_at_most_36000_cards(rt: HostRuntime) -> Result<(), Fail> {
 }
 
 // A frame as a camera writes it: 2048 x 2048 pixels of 16 bits, all with the stored number 0, and a header of two blocks.
-#[test]
-fn an_ordinary_frame_has_one_node(rt: HostRuntime) -> Result<(), Fail> {
-    let alloc = rt.alloc();
+fn frame(alloc: Global) -> Result<Vec<u8>, Fail> {
     let mut bytes = file(
         alloc,
         b"SIMPLE  = T|BITPIX  = 16|NAXIS   = 2|NAXIS1  = 2048|NAXIS2  = 2048|BSCALE  = 1|BZERO   = 32768|DATE-OBS= '2026-01-01'|",
@@ -257,6 +255,13 @@ fn an_ordinary_frame_has_one_node(rt: HostRuntime) -> Result<(), Fail> {
     for _ in 0..2048 {
         bytes.extend_from_slice(&[0; 4096])?;
     }
+    Ok(bytes)
+}
+
+#[test]
+fn an_ordinary_frame_has_one_node(rt: HostRuntime) -> Result<(), Fail> {
+    let alloc = rt.alloc();
+    let bytes = frame(alloc)?;
     assert_eq!(rt; bytes.len(), 8_394_368);
     // the side of the mesh cells, and the one line
     let cases: [(&str, &[u8]); 2] = [
@@ -293,5 +298,29 @@ fn an_ordinary_frame_has_one_node(rt: HostRuntime) -> Result<(), Fail> {
         assert_eq!(rt; output.bytes(), line);
         assert_eq!(rt; input.rest().len(), 0);
     }
+    Ok(())
+}
+
+#[test]
+fn an_ordinary_frame_has_no_source(rt: HostRuntime) -> Result<(), Fail> {
+    let alloc = rt.alloc();
+    let bytes = frame(alloc)?;
+    let words = ["detect", "--threshold", "10", "--mesh", "64"];
+    let mut input = PlainSource::new(&bytes);
+    let mut output = MemSink::new(vec![in alloc; 0; 16_800_000]?, &[], 0);
+    let mut notes = MemSink::new(vec![in alloc; 0; 99]?, &[], 0);
+    assert_eq!(rt;
+        run(
+            &rt,
+            alloc,
+            &words,
+            &mut input,
+            &mut output,
+            &mut notes,
+            &OpenGate
+        ),
+        0
+    );
+    assert_eq!(rt; output.bytes().len(), 16_790_400);
     Ok(())
 }

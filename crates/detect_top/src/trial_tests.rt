@@ -116,3 +116,44 @@ fn each_wrong_word_of_a_trial_is_named(rt: HostRuntime) -> Result<(), Fail> {
     }
     Ok(())
 }
+
+// The line was found by another program. It doesn't depend on how many strips and workers there are.
+#[test]
+fn a_large_trial_has_one_line(rt: HostRuntime) -> Result<(), Fail> {
+    let alloc = rt.alloc();
+    let line =
+        b"pixels 1048576 nodes 570419 roots 1 areas 97549448 fluxes 9810776997 sources 177391 mapped 344478\n".as_slice();
+    for strips in ["1", "8", "64"] {
+        for workers in ["1", "4", "64"] {
+            let words = [
+                "trial",
+                "--seed",
+                "7",
+                "--width",
+                "1024",
+                "--height",
+                "1024",
+                "--strips",
+                strips,
+                "--workers",
+                workers,
+            ];
+            let mut output = MemSink::new(vec![in alloc; 0; 99]?, &[], 0);
+            let mut notes = MemSink::new(vec![in alloc; 0; 99]?, &[], 0);
+            assert_eq!(rt;
+                run(
+                    &rt,
+                    alloc,
+                    &words,
+                    &mut PlainSource::new(&[]),
+                    &mut output,
+                    &mut notes,
+                    &OpenGate
+                ),
+                0
+            );
+            assert_eq!(rt; output.bytes(), line);
+        }
+    }
+    Ok(())
+}
