@@ -68,10 +68,10 @@ def maxdetect_runs(maxdetect):
             yield job, f"maxdetect, {STRIPS} strips, {crew}", [*command, "--strips", str(STRIPS), "--workers", str(workers)]
 
 
-def others(folder, image):
-    """Other programs of the field, where they are installed."""
+def others(folder, image, side):
+    """Other programs of the field, where they are installed. scikit-image's tree takes minutes at 4096 x 4096, and is left out there."""
     python = "/usr/bin/python3"
-    if os.path.exists(python) and subprocess.run([python, "-c", "import skimage, astropy"], capture_output=True).returncode == 0:
+    if side <= 2048 and os.path.exists(python) and subprocess.run([python, "-c", "import skimage, astropy"], capture_output=True).returncode == 0:
         yield "max-tree alone", "scikit-image", [python, "-c", MAX_TREE, image]
     extractor = shutil.which("source-extractor") or shutil.which("sex")
     if extractor:
@@ -95,7 +95,7 @@ def main():
             with open(image, "wb") as file:
                 subprocess.run([sys.executable, TOP / "examples" / "star_field.py", str(side), str(side)], stdout=file, check=True)
             digests = {}
-            for job, label, command in [*yardstick(folder), *maxdetect_runs(maxdetect), *others(folder, image)]:
+            for job, label, command in [*yardstick(folder), *maxdetect_runs(maxdetect), *others(folder, image, side)]:
                 seconds, peak, digest = timed(command, image)
                 digests.setdefault(job, set()).add(digest)
                 print(f"| {side} x {side} | {job} | {label} | {seconds:.2f} | {peak:.0f} |", flush=True)
