@@ -13,3 +13,4 @@ pub mod Detections
 pub mod Trials
 pub mod Summaries
 pub mod Shapes
+pub mod NearPixels

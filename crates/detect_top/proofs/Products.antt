@@ -21,12 +21,13 @@ use Rattle.detect_top.proofs.Trials.{trial_residual_is_small}
 pub half_range : (values : List (Option ℤ)) → HasStorableValues values → HasValuesInHalfRange values
 half_range values h = record { each = λ p v is. record { low = (h.each p v is).low; high = (h.each p v is).high } }
 
-pub made_of_image : {E : Type 0} (order : Order) (image plane : Raster) (tree : ComponentTree) (made : Result Product E) → plane ≡ residual_of image order.mesh → tree ≡ tree_of plane order.connect
-    → IfOk made (λ product. (connect : Connect) → tree ≡ tree_of plane connect → bytes_of product ≡ output_of_job order.job connect plane)
+pub made_of_image : {E : Type 0} (order : Order) (image plane left : Raster) (tree : ComponentTree) (made : Result Product E) → plane ≡ residual_of image order.mesh
+    → output_of_job order.job order.connect left ≡ output_of_job order.job order.connect plane → tree ≡ tree_of left order.connect
+    → IfOk made (λ product. (connect : Connect) → tree ≡ tree_of left connect → bytes_of product ≡ output_of_job order.job connect left)
     → IfOk made (λ product. bytes_of product ≡ output_of order image)
 unfolding output_of
-made_of_image order image plane tree (Ok product) residual is bytes = bytes order.connect is ∙ ap (output_of_job order.job order.connect) residual
-made_of_image order image plane tree (Err e) residual is bytes = tt
+made_of_image order image plane left tree (Ok product) residual same is bytes = bytes order.connect is ∙ same ∙ ap (output_of_job order.job order.connect) residual
+made_of_image order image plane left tree (Err e) residual same is bytes = tt
 
 no_image : (made : Raster) → (let o : Option Raster = None in o) ≡ Some made → ⊥
 no_image made h = cc

@@ -9,6 +9,7 @@ ghost use Rattle.node_sums.specs.Sums.{IsTreeOfPlane};
 ghost use Rattle.pixel_plane.specs.Stored.{HasStorableValues};
 ghost use Rattle.filter_rules.specs.Filtered.{filtered as filtered_of};
 ghost use Rattle.detect_top.specs.Words.{HasLimits, HasJobLimits};
+ghost use Rattle.detect_top.specs.Catalogues.{detection};
 ghost use Rattle.detect_top.specs.Lines.{tree_lines, node_list};
 ghost use Rattle.detect_top.specs.Products.{output_of_job, output_of, image_made, bytes_of, SuitsJob, IsWritable};
 ghost use Rattle.detect_top.specs.Trials.{trial_image as image_of};
@@ -19,11 +20,12 @@ use crate::detection::{Detection, detect, put_detection};
 use crate::lines::put_tree;
 use crate::trial::{Summary, put_trial, summarize, trial_image};
 use crate::{Job, Order};
-use comp_tree::{Plane, Shape, Tree};
+use comp_tree::{Connect, Plane, Shape, Tree};
 use dev_io::{OutOfMemory, Sink};
 use filter_rules::{Criterion, Rule, filter};
 use fits_write::{WriteFault, put_plane};
 use node_sums::sums;
+use source_pick::{Choice, clear_far};
 use std::alloc::Global;
 use std::thread::Threads;
 use strip_crew::Gate;
@@ -101,6 +103,38 @@ fn make_of(alloc: Global, job: Job, plane: &Plane, tree: Tree) -> Result<Product
     }
 }
 
+// The plane on which a job works. For the sources of a plane only its pixels near those of at least the threshold matter, so the others are left out
+// before its tree is made.
+fn working_plane(
+    alloc: Global,
+    plane: Plane,
+    job: Job,
+    connect: Connect,
+) -> Result<Plane, OutOfMemory>
+    requires suits { SuitsJob job plane }
+    ensures suits { IfOk result (λ left. SuitsJob job left) }
+    ensures same { IfOk result (λ left. output_of_job job connect left ≡ output_of_job job connect plane) }
+{
+    match job {
+        Job::Detect { choice } => without_far(alloc, plane, connect, choice),
+        Job::Tree | Job::Filter { .. } | Job::Trial { .. } => Ok(plane),
+    }
+}
+
+fn without_far(
+    alloc: Global,
+    mut plane: Plane,
+    connect: Connect,
+    choice: Choice,
+) -> Result<Plane, OutOfMemory>
+    ensures { IfOk result (λ left. detection left connect choice ≡ detection plane connect choice) }
+{
+    match clear_far(alloc, &mut plane, connect, choice.threshold) {
+        Ok(()) => Ok(plane),
+        Err(error) => Err(error),
+    }
+}
+
 /// What an order makes of an image. All memory for it is taken here.
 pub(crate) fn make<R: Threads + Sync, G: Gate>(
     rt: &R,
@@ -116,6 +150,10 @@ pub(crate) fn make<R: Threads + Sync, G: Gate>(
     ensures bytes { IfOk result (λ product. bytes_of product ≡ output_of order image) }
 {
     let plane = match residual_plane(rt, alloc, image, order.mesh) {
+        Ok(plane) => plane,
+        Err(error) => return Err(error),
+    };
+    let plane = match working_plane(alloc, plane, order.job, order.connect) {
         Ok(plane) => plane,
         Err(error) => return Err(error),
     };

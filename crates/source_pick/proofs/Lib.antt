@@ -10,3 +10,10 @@ pub mod Flags
 pub mod Marks
 pub mod Means
 pub mod Rows
+pub mod Alike
+pub mod Bordering
+pub mod AlikeSums
+pub mod AlikeSources
+pub mod Local
+pub mod Keeping
+pub mod Nearing

@@ -4,3 +4,4 @@ pub mod Catalogue
 pub mod Laws
 pub mod Passes
 pub mod Numbers
+pub mod Locality

@@ -1,9 +1,10 @@
 -- What the passes over the nodes keep.
-use Rattle.std.specs.Prelude.{◌≡◌, ℕ, ◌<◌, ◌+◌, ◌≤◌, Bool, true, false, List, length, ◌⊎◌, slice_get, slice_index, slice_index_or, Some, unwrap_or}
+use Rattle.std.specs.Prelude.{◌≡◌, ℕ, ◌<◌, ◌+◌, ◌≤◌, Bool, true, false, List, length, ◌⊎◌, slice_get, slice_index, slice_index_or, Some, None, unwrap_or, ℤ, map, cond}
 use Rattle.std.specs.List.{range_with_len, flat_map}
 use Rattle.comp_tree.specs.declared.shape.Connect.{Connect}
 use Rattle.comp_tree.specs.declared.tree.NodeRow.{NodeRow}
-use Rattle.comp_tree.specs.Raster.{Raster, IsPlane}
+use Rattle.comp_tree.specs.Raster.{Raster, IsPlane, pixels, value_at, is_at_least}
+use Rattle.comp_tree.specs.Grid.{are_neighbours}
 use Rattle.comp_tree.specs.ComponentTree.{ComponentTree, parent_in, no_node}
 use Rattle.comp_tree.specs.Components.{tree_of}
 use Rattle.comp_tree.specs.Laws.{IsAncestor, top_of}
@@ -14,6 +15,7 @@ use Rattle.source_pick.specs.declared.splitting.StrongChildren.{StrongChildren}
 use Rattle.source_pick.specs.declared.splitting.StrongChildren.TheVariants.{Zero, One, Several}
 use Rattle.source_pick.specs.Sources.{entry_of, is_strong, is_source, sources_at}
 use Rattle.source_pick.specs.Segmentation.{number_at}
+use Rattle.source_pick.specs.Locality.{is_near_high}
 
 -- the tree and the sums are those of the plane r
 pub record IsOf (r : Raster) (connect : Connect) (tree : ComponentTree) (sums : List Sums) : Type 0 where
@@ -151,3 +153,35 @@ pub record AreNumbered (tree : ComponentTree) (marked : List ℕ) (count : ℕ) 
   pub one_each : length numbers ≡ length tree.rows
   pub each : (r : Raster) (connect : Connect) → IsPlane r → tree ≡ tree_of r connect → (n : ℕ) → n < count
       → slice_index numbers n ≡ number_at r connect marked (top_of r connect n)
+
+-- ---- the pixels that matter
+
+-- the marks are the old ones, and those at the first count places of a list
+pub record AreSetAt (old : List Bool) (near : List ℕ) (count : ℕ) (marks : List Bool) : Type 0 where
+  pub one_each : length marks ≡ length old
+  pub sound : (q : ℕ) → slice_index_or marks q false ≡ true
+      → (slice_index_or old q false ≡ true) ⊎ ((i : ℕ) × (i < count) × (slice_get near i ≡ Some q))
+  pub kept : (q : ℕ) → slice_index_or old q false ≡ true → slice_index_or marks q false ≡ true
+  pub listed : (i q : ℕ) → i < count → slice_get near i ≡ Some q → slice_index_or marks q false ≡ true
+
+-- the first count pixels of at least h are marked, and their neighbours, and nothing else
+pub record AreMarkedNear (r : Raster) (connect : Connect) (h : ℤ) (count : ℕ) (marks : List Bool) : Type 0 where
+  pub one_each : length marks ≡ length r.values
+  pub sound : (q : ℕ) → slice_index_or marks q false ≡ true → is_near_high r connect h q ≡ true
+  pub own : (p : ℕ) → p < count → is_at_least r h p ≡ true → slice_index_or marks p false ≡ true
+  pub beside : (p q : ℕ) → p < count → is_at_least r h p ≡ true → are_neighbours connect r.shape.width p q ≡ true → q < length r.values
+      → slice_index_or marks q false ≡ true
+
+-- a plane without the pixels that are not marked
+unfoldable pub without_unmarked : Raster → List Bool → Raster
+without_unmarked r marks = record {
+  shape = r.shape;
+  values = map (λ p. cond (slice_index_or marks p false) (value_at r.values p) None) (pixels r);
+}
+
+-- the first count pixels are so
+pub record IsClearedUpTo (r : Raster) (marks : List Bool) (count : ℕ) (plane : Raster) : Type 0 where
+  pub same_shape : plane.shape ≡ r.shape
+  pub one_each : length plane.values ≡ length r.values
+  pub done : (p : ℕ) → p < count → value_at plane.values p ≡ cond (slice_index_or marks p false) (value_at r.values p) None
+  pub rest : (p : ℕ) → count ≤ p → value_at plane.values p ≡ value_at r.values p

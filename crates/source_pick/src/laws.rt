@@ -8,6 +8,7 @@ ghost use Rattle.source_pick.specs.Laws.{
   SourcesAreListed,
   SourcesAreInOrder,
 };
+ghost use Rattle.source_pick.specs.Locality.{SourcesAreLocal, KeptIsAPlane, KeptHasTheSameSources};
 
 /// The test whether a node lies within another passes exactly where its component does.
 pub fn lies_in_is_inclusion()
@@ -29,4 +30,16 @@ pub fn sources_are_disjoint()
 pub fn sources_are_listed()
     ensures listed { SourcesAreListed }
     ensures in_order { SourcesAreInOrder }
+{}
+
+/// Two planes that have the same values at and beside the pixels of at least the threshold have the same sources: the same least pixels in the same
+/// order, the same map and the same catalogue.
+pub fn sources_are_local()
+    ensures { SourcesAreLocal }
+{}
+
+/// So has the plane in which only the pixels of at least the threshold and their neighbours are kept.
+pub fn kept_has_the_same_sources()
+    ensures plane { KeptIsAPlane }
+    ensures same { KeptHasTheSameSources }
 {}

@@ -3,6 +3,7 @@
 
 mod catalogue;
 mod choice;
+mod clearing;
 pub mod laws;
 mod marking;
 mod picking;
@@ -13,5 +14,6 @@ mod tests;
 
 pub use catalogue::{CatRow, cells, row};
 pub use choice::Choice;
+pub use clearing::clear_far;
 pub use picking::pick;
 pub use segmenting::segment;

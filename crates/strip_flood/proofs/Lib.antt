@@ -7,5 +7,6 @@ pub mod Retiring
 pub mod Seeing
 pub mod Flooded
 pub mod Working
+pub mod Numbering
 pub mod Sorting
 pub mod Adapting

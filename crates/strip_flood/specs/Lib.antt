@@ -1,4 +1,5 @@
 pub mod Flood
 pub mod Jobs
+pub mod Levels
 pub mod Queue
 pub mod Strips

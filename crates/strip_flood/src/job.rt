@@ -6,7 +6,7 @@ ghost use Rattle.strip_flood.specs.Jobs.{IsFit, IsStanding, IsStandingWhereFlood
 ghost use Rattle.strip_flood.specs.Strips.{IsAll};
 
 use crate::flood::Flood;
-use crate::levels::{levels_of, ranks_of};
+use crate::levels::rank_pixels;
 use crate::strip::Strip;
 use comp_tree::{Connect, Plane, Shape};
 use dev_io::{OutOfMemory, Steps};
@@ -58,15 +58,18 @@ impl StripJob {
         let shape = plane.shape();
         let first = first_row * shape.width;
         let end = end_row * shape.width;
-        let levels = levels_of(alloc, plane, first, end)?;
-        let ranks = ranks_of(alloc, plane, &levels, first, end)?;
-        let flood = Flood::new(alloc, ranks.len() as u32, levels.len() as u32)?;
+        let ranking = rank_pixels(alloc, plane, first, end)?;
+        let flood = Flood::new(
+            alloc,
+            ranking.ranks.len() as u32,
+            ranking.levels.len() as u32,
+        )?;
         let strip = Strip {
             connect,
             width: shape.width,
             first,
-            ranks,
-            levels,
+            ranks: ranking.ranks,
+            levels: ranking.levels,
         };
         Ok(StripJob {
             shape,

@@ -161,8 +161,9 @@ fn small_images(rt: HostRuntime) -> Result<(), Fail> {
             connect: Connect::Eight,
             first_row: 0,
             end_row: 3,
-            values: &[7, -1, 7, -1, 3, -1, 7, -1, 7],
-            lasts: &[(8, 7, 8), (8, 3, 4), (0, 1, 4)],
+            // far apart, so that they are sorted
+            values: &[90, -1, 90, -1, 3, -1, 90, -1, 90],
+            lasts: &[(8, 90, 8), (8, 3, 4), (0, 1, 4)],
         },
         Case {
             width: 3,

@@ -5,4 +5,4 @@ pub residual_plane-requires-clause-in_range : goal.residual_plane-requires-claus
 residual_plane-requires-clause-in_range g c κs within = half_range c.args.image.values c.requires.storable
 
 pub returns-clause-bytes : goal.returns-clause-bytes
-returns-clause-bytes g c = made_of_image c.args.order c.args.image c.in-Ok.plane _ c.make_of.result c.in-Ok.ensures c.in-Ok-component_tree.ensures c.make_of.ensures.bytes
+returns-clause-bytes g c = made_of_image c.args.order c.args.image c.in-Ok.plane c.in-Ok-working_plane.plane _ c.make_of.result c.in-Ok.ensures c.in-Ok-working_plane.ensures.same c.in-Ok-component_tree.ensures c.make_of.ensures.bytes

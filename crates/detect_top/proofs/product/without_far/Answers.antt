@@ -1,0 +1,13 @@
+use Rattle.std.proofs.Common.{◌∙◌, ap, sym, w64, SFits, rules}
+use Rattle.std.proofs.lemmas.Int.{to_z-of_z}
+use Rattle.comp_tree.specs.Raster.{Raster}
+use Rattle.source_pick.proofs.Keeping.{shape-kept}
+use Rattle.detect_top.proofs.NearPixels.{detection_same}
+use Rattle.detect_top.proofs.product.without_far.Goals as goal
+
+pub returns-in-Ok : goal.returns-in-Ok
+returns-in-Ok c =
+    let fits : SFits w64 c.args.choice.threshold = search rules in
+    sym (detection_same c.args.plane c.clear_far.new.plane c.args.connect c.args.choice
+    (sym (ap (λ (r : Raster). r.shape) c.in-Ok.ensures.kept ∙ shape-kept c.args.plane c.args.connect _))
+    (c.in-Ok.ensures.same c.args.choice (sym (to_z-of_z w64 c.args.choice.threshold fits))))
