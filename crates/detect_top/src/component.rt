@@ -7,27 +7,26 @@ ghost use Rattle.detect_top.specs.Words.{HasLimits};
 use crate::Order;
 use comp_tree::{Plane, Tree};
 use dev_io::OutOfMemory;
-use mesh_background::residual;
+use mesh_background::subtract_background;
 use std::alloc::Global;
 use std::thread::Threads;
 use strip_crew::{Gate, even_cut, flood_all};
 use tree_canon::canon;
 
-/// The plane less its background over a mesh; without a mesh it is the plane itself, which isn't copied.
+/// The plane less its background over a mesh, in the place of the plane. Without a mesh it is the plane itself.
 pub(crate) fn residual_plane<R: Threads + Sync>(
     rt: &R,
     alloc: Global,
-    plane: Plane,
+    mut plane: Plane,
     mesh: u32,
 ) -> Result<Plane, OutOfMemory>
     requires mesh { mesh ≤ 65535 }
     requires in_range { HasValuesInHalfRange plane.values }
     ensures { IfOk result (λ residual. residual ≡ residual_of plane mesh) }
 {
-    if mesh == 0 {
-        Ok(plane)
-    } else {
-        residual(rt, alloc, &plane, mesh)
+    match subtract_background(rt, alloc, &mut plane, mesh) {
+        Ok(()) => Ok(plane),
+        Err(error) => Err(error),
     }
 }
 

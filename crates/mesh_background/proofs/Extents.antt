@@ -67,7 +67,7 @@ cell-read mesh width height columns x y some c xl yl =
 
 -- ---- the pixels of a cell
 
-columns-some : (mesh width : ℕ) → 0 < mesh → 0 < width → 0 < cells_along mesh width
+pub columns-some : (mesh width : ℕ) → 0 < mesh → 0 < width → 0 < cells_along mesh width
 columns-some mesh width some wide = let k : 0 / mesh < cells_along mesh width = along-above mesh width 0 some wide in omega arith
 
 -- the bounds of a cell, as the code computes them

@@ -5,3 +5,4 @@ pub mod Gathering
 pub mod Mapping
 pub mod Residuals
 pub mod HalfRanges
+pub mod Lessening

@@ -169,13 +169,13 @@ residual-all r new mesh n h le = written-all r new (residual_at r mesh) n h le
 
 -- ---- the background of one pixel, as it is read
 
-cell-number : (mesh width x y : ℕ) → x < width → cell_of mesh width (y * width + x) ≡ y / mesh * cells_along mesh width + x / mesh
+pub cell-number : (mesh width x y : ℕ) → x < width → cell_of mesh width (y * width + x) ≡ y / mesh * cells_along mesh width + x / mesh
 unfolding cell_of
 cell-number mesh width x y lt =
     ap (λ (q : ℕ). q / mesh * cells_along mesh width + (y * width + x) % width / mesh) (div-mul-add y width x lt)
     ∙ ap (λ (q : ℕ). y / mesh * cells_along mesh width + q / mesh) (mod-mul-add y width x lt)
 
-background-some : (r : Raster) (mesh p : ℕ) → 0 < mesh → background r mesh p ≡ mesh_value r mesh (cell_of mesh r.shape.width p)
+pub background-some : (r : Raster) (mesh p : ℕ) → 0 < mesh → background r mesh p ≡ mesh_value r mesh (cell_of mesh r.shape.width p)
 unfolding background
 background-some r mesh p some = ap (λ (b : Bool). cond b (pos 0) (mesh_value r mesh (cell_of mesh r.shape.width p))) (ne_eqb mesh 0 (λ e. absurd (omega arith)))
 
@@ -202,7 +202,7 @@ residual-some_at r mesh p v b e f = ap (λ (z : ℤ). Some (v -ℤ z)) f ∙ ap 
 
 -- ---- the subtraction, as the code computes it
 
-half-fits : (v : ℤ) → IsInHalfRange v → SFits w64 v
+pub half-fits : (v : ℤ) → IsInHalfRange v → SFits w64 v
 half-fits v h = fits_signed_from_abs w64 v (go v h)
   where
     go : (z : ℤ) → IsInHalfRange z → unsigned_abs z < 2 ^ 63

@@ -1,5 +1,5 @@
 -- What is left of a plane when the background is taken away.
-use Rattle.std.specs.Prelude.{◌≡◌, ℕ, ◌^◌, ◌<◌, ◌==◌, cond, ℤ, pos, neg_ℤ, ◌-ℤ◌, ◌≤ℤ◌, List, length, map, slice_get, Option, Some}
+use Rattle.std.specs.Prelude.{◌≡◌, ℕ, ◌^◌, ◌<◌, ◌≤◌, ◌==◌, cond, ℤ, pos, neg_ℤ, ◌-ℤ◌, ◌≤ℤ◌, List, length, map, slice_get, slice_index_or, Option, Some}
 use Rattle.std.specs.Option.{option_map}
 use Rattle.comp_tree.specs.Raster.{Raster, pixels, value_at}
 use Rattle.mesh_background.specs.Mesh.{cell_of, mesh_value}
@@ -30,3 +30,19 @@ pub record IsWritten (r : Raster) (f : ℕ → Option ℤ) (n : ℕ) (new : Rast
   pub shape_is : new.shape ≡ r.shape
   pub one_each : length new.values ≡ length r.values
   pub written : (p : ℕ) → p < n → value_at new.values p ≡ f p
+
+-- each value from pixel first on is within half of the range
+pub record IsInHalfRangeFrom (first : ℕ) (values : List (Option ℤ)) : Type 0 where
+  pub each : (p : ℕ) (v : ℤ) → first ≤ p → value_at values p ≡ Some v → IsInHalfRange v
+
+-- the number that a list has for the cell of pixel p
+abbrev pub number_of_cell : ℕ → ℕ → List ℤ → ℕ → ℤ
+number_of_cell mesh width numbers p = slice_index_or numbers (cell_of mesh width p) (pos 0)
+
+-- a plane like r, but that the values of the pixels from first up to end are less by what `by` says
+pub record IsLessened (r : Raster) (by : ℕ → ℤ) (first end : ℕ) (new : Raster) : Type 0 where
+  pub shape_is : new.shape ≡ r.shape
+  pub one_each : length new.values ≡ length r.values
+  pub before : (p : ℕ) → p < first → value_at new.values p ≡ value_at r.values p
+  pub inside : (p : ℕ) → first ≤ p → p < end → value_at new.values p ≡ option_map (λ v. v -ℤ by p) (value_at r.values p)
+  pub behind : (p : ℕ) → end ≤ p → value_at new.values p ≡ value_at r.values p

@@ -8,7 +8,7 @@ mod median;
 mod subtraction;
 
 pub use cells::mesh_values;
-pub use subtraction::residual;
+pub use subtraction::{residual, subtract_background};
 
 #[cfg(test)]
 mod tests;

@@ -1,10 +1,9 @@
 //! The residual of a plane.
 
-ghost use Rattle.std.specs.Prelude.{◌≡◌, ◌+◌, ◌*◌, ◌<◌, ◌≤◌, IfOk, IfSome};
-ghost use Rattle.comp_tree.specs.Limits.{IsWithinRange};
-ghost use Rattle.comp_tree.specs.Raster.{Raster, IsPlane};
-ghost use Rattle.mesh_background.specs.Mesh.{values_of_mesh};
-ghost use Rattle.mesh_background.specs.Residuals.{residual_at, residual_of, HasValuesInHalfRange, IsWritten};
+ghost use Rattle.std.specs.Prelude.{◌≡◌, ◌+◌, ◌*◌, ◌<◌, ◌≤◌, length, All, IfOk, IfSome, OnOk, OnErr};
+ghost use Rattle.comp_tree.specs.Raster.{IsPlane, value_at};
+ghost use Rattle.mesh_background.specs.Mesh.{cells_of, values_of_mesh};
+ghost use Rattle.mesh_background.specs.Residuals.{residual_of, number_of_cell, HasValuesInHalfRange, IsInHalfRange, IsInHalfRangeFrom, IsLessened};
 
 use crate::cells::mesh_values;
 use crate::grid::Grid;
@@ -16,7 +15,8 @@ use std::thread::Threads;
 /// The residual of a plane under a mesh: each defined pixel less the number of its cell. Undefined pixels stay undefined.
 /// With mesh 0 the background is 0 everywhere, so the residual equals the plane.
 ///
-/// The one error is that memory was refused.
+/// The one error is that memory was refused. Where the plane itself isn't needed any more, `subtract_background` makes no
+/// second one.
 pub fn residual<R: Threads + Sync>(
     rt: &R,
     alloc: Global,
@@ -27,17 +27,42 @@ pub fn residual<R: Threads + Sync>(
     requires in_range { HasValuesInHalfRange plane.now.values }
     ensures { IfOk result (λ residual. residual ≡ residual_of plane.now mesh) }
 {
-    if mesh == 0 {
-        return copied(alloc, plane);
+    let mut copy = copied(alloc, plane)?;
+    match subtract_background(rt, alloc, &mut copy, mesh) {
+        Ok(()) => Ok(copy),
+        Err(error) => Err(error),
     }
-    let values = mesh_values(rt, alloc, plane, mesh)?;
-    let grid = Grid::of(plane.shape(), mesh);
-    subtracted(alloc, plane, &grid, &values)
 }
 
-// The same plane once more, which is the residual without a mesh.
+/// Makes of a plane its residual, in place.
+///
+/// The one error is that memory was refused, for the numbers of the cells; the plane is as it was then.
+pub fn subtract_background<R: Threads + Sync>(
+    rt: &R,
+    alloc: Global,
+    plane: &mut Plane,
+    mesh: u32,
+) -> Result<(), OutOfMemory>
+    requires few { mesh ≤ 65535 }
+    requires in_range { HasValuesInHalfRange plane.old.values }
+    ensures subtracted { OnOk result (plane.new ≡ residual_of plane.old mesh) }
+    ensures kept { OnErr result (plane.new ≡ plane.old) }
+{
+    if mesh == 0 {
+        return Ok(());
+    }
+    let numbers = match mesh_values(rt, alloc, plane, mesh) {
+        Ok(numbers) => numbers,
+        Err(error) => return Err(error),
+    };
+    let grid = Grid::of(plane.shape(), mesh);
+    lessen_rows(plane, &grid, &numbers);
+    Ok(())
+}
+
+// The same plane once more.
 fn copied(alloc: Global, plane: &Plane) -> Result<Plane, OutOfMemory>
-    ensures { IfOk result (λ copy. copy ≡ residual_of plane.now 0) }
+    ensures { IfOk result (λ copy. copy ≡ plane.now) }
 {
     let shape = plane.shape();
     let mut copy = Plane::blank(alloc, shape)?;
@@ -47,53 +72,62 @@ fn copied(alloc: Global, plane: &Plane) -> Result<Plane, OutOfMemory>
     Ok(copy)
 }
 
-// The plane less the numbers of the cells.
-fn subtracted(
-    alloc: Global,
-    plane: &Plane,
-    grid: &Grid,
-    values: &[i64],
-) -> Result<Plane, OutOfMemory>
-    requires shape { grid.now.shape ≡ plane.now.shape }
-    requires values { values.now ≡ values_of_mesh plane.now grid.now.mesh }
-    requires in_range { HasValuesInHalfRange plane.now.values }
-    ensures { IfOk result (λ residual. residual ≡ residual_of plane.now grid.now.mesh) }
+// Takes the numbers of the cells away from the values of their pixels.
+fn lessen_rows(plane: &mut Plane, grid: &Grid, numbers: &[i64])
+    requires shape { grid.now.shape ≡ plane.old.shape }
+    requires numbers { numbers.now ≡ values_of_mesh plane.old grid.now.mesh }
+    requires in_range { HasValuesInHalfRange plane.old.values }
+    ensures { plane.new ≡ residual_of plane.old grid.now.mesh }
 {
-    let mut residual = Plane::blank(alloc, plane.shape())?;
-    for y in 0..grid.shape.height {
-        subtract_row(plane, grid, values, y, &mut residual);
-    }
-    Ok(residual)
-}
-
-// Gives the pixels of a row their residuals. Those before it have theirs.
-fn subtract_row(plane: &Plane, grid: &Grid, values: &[i64], y: u32, residual: &mut Plane)
-    requires shape { grid.now.shape ≡ plane.now.shape }
-    requires one_each { IsPlane plane.now }
-    requires row { y < plane.now.shape.height }
-    requires values { values.now ≡ values_of_mesh plane.now grid.now.mesh }
-    requires in_range { HasValuesInHalfRange plane.now.values }
-    requires before { IsWritten plane.now (residual_at plane.now grid.now.mesh) (y * plane.now.shape.width) residual.old }
-    ensures { IsWritten plane.now (residual_at plane.now grid.now.mesh) ((y + 1) * plane.now.shape.width) residual.new }
-{
-    let width = grid.shape.width;
-    for x in 0..width {
-        residual.set(y * width + x, residual_of_pixel(plane, grid, values, x, y));
+    let height = plane.shape().height;
+    for y in 0..height {
+        lessen_row(plane, grid, numbers, y);
     }
 }
 
-// The residual of the pixel in column `x` of row `y`.
+// The same for one row. The row's pixels in one cell stand side by side, so a number is looked up once for all of them.
+fn lessen_row(plane: &mut Plane, grid: &Grid, numbers: &[i64], y: u32)
+    requires shape { grid.now.shape ≡ plane.old.shape }
+    requires one_each { IsPlane plane.old }
+    requires row { y < plane.old.shape.height }
+    requires numbers { length numbers.now ≡ cells_of grid.now.mesh plane.old.shape }
+    requires numbers_in_range { All IsInHalfRange numbers.now }
+    requires in_range { IsInHalfRangeFrom (y * plane.old.shape.width) plane.old.values }
+    ensures { IsLessened plane.old (number_of_cell grid.now.mesh plane.old.shape.width numbers.now)
+        (y * plane.old.shape.width) ((y + 1) * plane.old.shape.width) plane.new }
+{
+    let first = y * grid.shape.width;
+    let cells = y / grid.mesh * grid.columns;
+    for column in 0..grid.columns {
+        let left = column * grid.mesh;
+        let right = (left + grid.mesh).min(grid.shape.width);
+        let number = numbers[(cells + column) as usize];
+        lessen_run(plane, first + left, first + right, number);
+    }
+}
+
+// Takes a number away from the values of the pixels from `first` up to `end`.
+fn lessen_run(plane: &mut Plane, first: u32, end: u32, number: i64)
+    requires order { first ≤ end }
+    requires within { end ≤ length plane.old.values }
+    requires number { IsInHalfRange number }
+    requires in_range { IsInHalfRangeFrom first plane.old.values }
+    ensures { IsLessened plane.old (λ _. number) first end plane.new }
+{
+    for p in first..end {
+        lessen(plane, p, number);
+    }
+}
+
+// Takes a number away from the value of a pixel, if it is defined.
 #[inline]
-fn residual_of_pixel(plane: &Plane, grid: &Grid, values: &[i64], x: u32, y: u32) -> Option<i64>
-    requires shape { grid.now.shape ≡ plane.now.shape }
-    requires one_each { IsPlane plane.now }
-    requires column { x < plane.now.shape.width }
-    requires row { y < plane.now.shape.height }
-    requires values { values.now ≡ values_of_mesh plane.now grid.now.mesh }
-    requires in_range { HasValuesInHalfRange plane.now.values }
-    ensures exact { result ≡ residual_at plane.now grid.now.mesh (y * plane.now.shape.width + x) }
-    ensures in_range { IfSome result (λ v. IsWithinRange v) }
+fn lessen(plane: &mut Plane, p: u32, number: i64)
+    requires pixel { p < length plane.old.values }
+    requires number { IsInHalfRange number }
+    requires in_range { IfSome (value_at plane.old.values p) (λ v. IsInHalfRange v) }
+    ensures { IsLessened plane.old (λ _. number) p (p + 1) plane.new }
 {
-    let value = plane.get(y * grid.shape.width + x)?;
-    Some(value - values[grid.cell_at(x, y) as usize])
+    if let Some(value) = plane.get(p) {
+        plane.set(p, Some(value - number));
+    }
 }

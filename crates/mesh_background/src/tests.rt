@@ -4,7 +4,7 @@ ghost use Rattle.std.specs.Prelude.{IfOk};
 ghost use Rattle.comp_tree.specs.Raster.{Raster};
 ghost use Rattle.mesh_background.specs.Residuals.{HasValuesInHalfRange};
 
-use crate::{mesh_values, residual};
+use crate::{mesh_values, residual, subtract_background};
 use comp_tree::{Plane, Shape};
 use std::alloc::Global;
 use std::process::Abort;
@@ -28,6 +28,16 @@ fn plane_of(alloc: Global, width: u32, height: u32, values: &[i64]) -> Result<Pl
     Ok(plane)
 }
 
+// Compares a plane with a table.
+fn try_values(rt: &impl Abort, plane: &Plane, wanted: &[i64]) {
+    assert_eq!(rt; plane.shape().pixels() as usize, wanted.len());
+    for (p, value) in wanted.iter().enumerate() {
+        if p < plane.shape().pixels() as usize {
+            assert_eq!(rt; plane.get(p as u32).unwrap_or(U), *value, "pixel {p}");
+        }
+    }
+}
+
 // Compares the residual of a plane with a table.
 fn try_residual<R: Threads + Sync + Abort>(
     rt: &R,
@@ -40,12 +50,7 @@ fn try_residual<R: Threads + Sync + Abort>(
 {
     assert!(rt; mesh <= 9);
     let left = residual(rt, alloc, plane, mesh)?;
-    assert_eq!(rt; left.shape().pixels() as usize, wanted.len());
-    for (p, value) in wanted.iter().enumerate() {
-        if p < left.shape().pixels() as usize {
-            assert_eq!(rt; left.get(p as u32).unwrap_or(U), *value, "pixel {p}");
-        }
-    }
+    try_values(rt, &left, wanted);
     Ok(())
 }
 
@@ -86,4 +91,12 @@ fn residual_under_a_mesh_and_without(rt: HostRuntime) -> Result<(), Fail> {
     try_residual(&rt, rt.alloc(), &plane, 2, &left)?;
     let same = [1, 4, U, U, 9, 2, 3, U, U, 7];
     try_residual(&rt, rt.alloc(), &plane, 0, &same)
+}
+
+#[test]
+fn background_is_subtracted_in_place(rt: HostRuntime) -> Result<(), Fail> {
+    let mut plane = plane_of(rt.alloc(), 5, 2, &[1, 4, U, U, 9, 2, 3, U, U, 7])?;
+    subtract_background(&rt, rt.alloc(), &mut plane, 2)?;
+    try_values(&rt, &plane, &[-1, 2, U, U, 2, 0, 1, U, U, 0]);
+    Ok(())
 }
