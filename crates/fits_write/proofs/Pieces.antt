@@ -1,16 +1,19 @@
 -- Pieces that are written one behind the other, and the filling of the last block.
 use Rattle.std.proofs.Common.{◌≡◌, ◌∙◌, ℕ, ◌+◌, ◌-◌, ◌%◌, ◌<◌, ◌≤◌, List, [], ◌∷◌, ◌++◌, get_or, length, map, replicate, take, take_all, drop, ap, refl, sym, subst, append-nil, append_assoc, take-append-drop, length-append, arith, Result}
-use Rattle.std.specs.List.{concat}
+use Rattle.std.specs.List.{concat, flat_map}
 use Rattle.std.proofs.Math.Nat.{mod-add-mod, mod-eq_of_lt}
-use Rattle.std.proofs.lemmas.List.{take_more, length-map, get_or-map, take-replicate, length-replicate}
+use Rattle.std.proofs.lemmas.List.{map-append, take_more, length-map, get_or-map, take-replicate, length-replicate}
+use Rattle.std.proofs.Math.Seq.{take-add}
 use Rattle.std.proofs.lemmas.List.Folds.{concat-append}
+use Rattle.std.proofs.lemmas.List.Concat.{flat_map-cons}
 use Rattle.std.specs.declared.option.Option.{Option}
 use Rattle.std.specs.Io.KnownBytes.{Appends}
 use Rattle.dev_io.specs.Streams.{AppendsPrefix, PutAppends}
 use Rattle.dev_io.specs.Laws.{AppendsPrefix-more, PutAppends-after}
 use Rattle.dev_io.specs.Blocks.{Moves, Moves-after, Moves-cut}
 use Rattle.fits_write.specs.Blocks.{Waits, filled, room_after}
-use Rattle.fits_write.specs.Hdus.{header}
+use Rattle.byteorder.specs.Endian.{big_bytes}
+use Rattle.fits_write.specs.Hdus.{header, map_bytes}
 
 concat-more : (xss : List (List ℕ)) (i : ℕ) → i < length xss → concat (take (i + 1) xss) ≡ concat (take i xss) ++ get_or xss i []
 concat-more xss i h =
@@ -151,3 +154,41 @@ pub header_and_data : {T E : Type 0} (a b c : Option (List ℕ)) (r : Result T E
     → Appends a b (header cards) → PutAppends b c r data_blocks → PutAppends a c r (header expected ++ data_blocks)
 header_and_data a b c r cards expected data_blocks same p q =
     PutAppends-after a b c r (header expected) data_blocks (subst (λ l. Appends a b (header l)) same p) q
+
+-- ---- numbers that are made bytes some at a time
+
+map_bytes-append : (xs ys : List ℕ) → map_bytes (xs ++ ys) ≡ map_bytes xs ++ map_bytes ys
+unfolding map_bytes
+map_bytes-append xs ys = ap concat (map-append (big_bytes 4) xs ys) ∙ concat-append (map (big_bytes 4) xs) (map (big_bytes 4) ys)
+
+map_bytes-next : (xs : List ℕ) (n m : ℕ) → map_bytes (take n xs) ++ map_bytes (take m (drop n xs)) ≡ map_bytes (take (n + m) xs)
+map_bytes-next xs n m = sym (map_bytes-append (take n xs) (take m (drop n xs))) ∙ ap map_bytes (sym (take-add n m xs))
+
+-- the bytes of a part behind those of the numbers before it
+pub part_waits : (a b c : Option (List ℕ)) (xs v w : List ℕ) (n m k : ℕ) → k ≡ n + m → Waits a b (map_bytes (take n xs)) v → Waits b c (v ++ map_bytes (take (k - n) (drop n xs))) w
+    → Waits a c (map_bytes (take k xs)) w
+part_waits a b c xs v w n m k e before here =
+    let same : map_bytes (take n xs) ++ map_bytes (take (k - n) (drop n xs)) ≡ map_bytes (take k xs) =
+    map_bytes-next xs n (k - n) ∙ ap (λ (i : ℕ). map_bytes (take i xs)) (let back : n + (k - n) ≡ k = omega arith in back) in
+    subst (λ l. Waits a c l w) same (Waits-after a b c (map_bytes (take n xs)) (map_bytes (take (k - n) (drop n xs))) v w before here)
+
+-- a front of the bytes of a part behind those before it is a front of all
+pub part_cut : (a b c : Option (List ℕ)) (xs v : List ℕ) (n m k : ℕ) → k ≡ n + m → Waits a b (map_bytes (take n xs)) v
+    → AppendsPrefix b c (v ++ map_bytes (take (k - n) (drop n xs))) → AppendsPrefix a c (map_bytes xs)
+part_cut a b c xs v n m k e before here =
+    let same : (map_bytes (take n xs) ++ map_bytes (take (k - n) (drop n xs))) ++ map_bytes (drop k xs) ≡ map_bytes xs =
+    ap (λ l. l ++ map_bytes (drop k xs)) (map_bytes-next xs n (k - n) ∙ ap (λ (i : ℕ). map_bytes (take i xs)) (let back : n + (k - n) ≡ k = omega arith in back))
+    ∙ sym (map_bytes-append (take k xs) (drop k xs)) ∙ ap map_bytes (take-append-drop k xs) in
+    subst (AppendsPrefix a c) same (Waits-cut a b c (map_bytes (take n xs)) (map_bytes (take (k - n) (drop n xs))) (map_bytes (drop k xs)) v before here)
+
+pub all_wait : (a b : Option (List ℕ)) (xs v : List ℕ) (n : ℕ) → length xs ≤ n → Waits a b (map_bytes (take n xs)) v → Waits a b (map_bytes xs) v
+all_wait a b xs v n le h = subst (λ l. Waits a b (map_bytes l) v) (take_all n xs le) h
+
+-- the bytes of numbers as they are written
+flat_map_is : (f : ℕ → List ℕ) (xs : List ℕ) → flat_map f xs ≡ concat (map f xs)
+flat_map_is f [] = refl
+flat_map_is f (x ∷ xs) = flat_map-cons f x xs ∙ ap (λ l. f x ++ l) (flat_map_is f xs)
+
+pub bytes_are : (numbers : List ℕ) (bytes waiting : List ℕ) → bytes ≡ flat_map (big_bytes 4) numbers → waiting ++ bytes ≡ waiting ++ map_bytes numbers
+unfolding map_bytes
+bytes_are numbers bytes waiting e = ap (λ l. waiting ++ l) (e ∙ flat_map_is (big_bytes 4) numbers)

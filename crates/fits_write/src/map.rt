@@ -1,10 +1,9 @@
 //! A map of numbers as an image extension.
-ghost use Rattle.std.specs.Prelude.{◌≡◌, ◌*◌, ◌^◌, ◌≤◌, length};
+ghost use Rattle.std.specs.Prelude.{◌≡◌, ◌*◌, ◌^◌, ◌≤◌, ◌++◌, length, OnOk, OnErr};
 ghost use Rattle.std.specs.List.{All};
 ghost use Rattle.dev_io.specs.Causes.{HasCause};
-ghost use Rattle.dev_io.specs.Streams.{PutAppends};
-ghost use Rattle.byteorder.specs.Endian.{big_bytes};
-ghost use Rattle.fits_write.specs.Blocks.{filled};
+ghost use Rattle.dev_io.specs.Streams.{AppendsPrefix, PutAppends};
+ghost use Rattle.fits_write.specs.Blocks.{Waits, filled};
 ghost use Rattle.fits_write.specs.Hdus.{map_cards, map_bytes, map_hdu};
 
 use crate::WriteFault;
@@ -14,6 +13,9 @@ use byteorder::{BigEndian, ByteOrder};
 use comp_tree::Shape;
 use dev_io::{Failed, Sink};
 use fits_card::{Card, end_card, int_card, text_card};
+
+// How many numbers are made bytes at once: as many as a block holds.
+const PART: usize = 720;
 
 /// Writes an image extension with BITPIX 32 and the name `SEGMENT` that gives each pixel its number, row by row.
 pub fn put_map<O: Sink>(sink: &mut O, shape: Shape, numbers: &[u32]) -> Result<(), WriteFault>
@@ -47,20 +49,29 @@ fn put_numbers<O: Sink>(sink: &mut O, numbers: &[u32]) -> Result<(), Failed>
     ensures cause { HasCause (O.faults sink.old) (O.faults sink.new) result }
 {
     let mut blocks = Blocks::new();
-    for number in numbers {
-        if let Err(failed) = blocks.add(sink, &number_bytes(*number)) {
+    let mut first = 0;
+    while first < numbers.len() {
+        let count = (numbers.len() - first).min(PART);
+        let part = &numbers[first..first + count];
+        if let Err(failed) = add_numbers(sink, &mut blocks, part) {
             return Err(failed);
         }
+        first += count;
     }
     blocks.fill(sink, 0)
 }
 
-fn number_bytes(number: u32) -> [u8; 4]
-    ensures { result ≡ big_bytes 4 number }
+// Lets the bytes of these numbers wait.
+fn add_numbers<O: Sink>(sink: &mut O, blocks: &mut Blocks, numbers: &[u32]) -> Result<(), Failed>
+    requires { length numbers.now ≤ 720 }
+    ensures ok { OnOk result (Waits (O.written sink.old) (O.written sink.new) (blocks.old ++ map_bytes numbers.now) blocks.new) }
+    ensures err { OnErr result (AppendsPrefix (O.written sink.old) (O.written sink.new) (blocks.old ++ map_bytes numbers.now)) }
+    ensures cause { HasCause (O.faults sink.old) (O.faults sink.new) result }
 {
-    let mut bytes = [0; 4];
-    BigEndian::write_u32(&mut bytes, number);
-    bytes
+    let mut room = [0; 4 * PART];
+    let bytes = &mut room[..4 * numbers.len()];
+    BigEndian::write_u32_into(numbers, bytes);
+    blocks.add(sink, bytes)
 }
 
 #[tactic(auto, unfolding(crate::specs::Hdus::map_cards))]
