@@ -1,15 +1,21 @@
-"""Times `maxdetect tree`, `filter` and `detect` on star fields beside other programs, in one run.
+"""Times `maxdetect tree`, `filter` and `detect` beside other programs, in one run, and prints a table in Markdown.
 
-usage: python3 bench/run.py MAXDETECT [SIDE ..]      (MAXDETECT is the built program; sides are 512 to 4096 if left out)
+usage: python3 bench/run.py MAXDETECT [--runs N] [--before EARLIER] [SIDE ..]
 
-It makes its images with examples/star_field.py. The yardstick for `tree` is a plain union-find in C++ (it wants g++), whose output must be
-the same bytes. Where they are installed it also times scikit-image's max-tree and Source Extractor (Debian: python3-skimage with
-python3-astropy, and source-extractor) on the same files; these do other work, so their outputs are not compared. Times are wall clock, with
-reading and writing; memory is the peak of the process.
+MAXDETECT is the built program. The sides are 1024, 2048 and 4096 if left out; each job is run N times (3 if left out), and the least time counts.
+EARLIER is the built program of an earlier state, which is then timed on the same files and must write the same bytes.
+
+The images are star fields of 16 bits (examples/star_field.py), and one of white noise of 32 bits with sigma 1,000 (2048 x 2048). The yardstick
+for `tree` is a plain union-find in C++ (it wants g++), whose output must be the same bytes. Where they are installed it also times scikit-image's
+max-tree and Source Extractor (Debian: python3-skimage with python3-astropy, and source-extractor) on the same files; these do other work, so their
+outputs are not compared. Times are wall clock, with reading and writing; memory is the peak of the process. Run it with nothing else running.
 """
+import argparse
+import array
 import hashlib
 import os
 import pathlib
+import random
 import shutil
 import subprocess
 import sys
@@ -32,6 +38,10 @@ JOBS = {
     "filter": ["filter", "--rule", "direct", "--min-area", "20"],
     "detect": ["detect", "--threshold", "60", "--min-area", "5", "--mesh", "64"],
 }
+# Every pixel is above this threshold, so nothing can be left out.
+ALL_ABOVE = {"detect, all above": ["detect", "--threshold", "-1000000", "--min-area", "5", "--mesh", "64"]}
+# The yardstick of each job.
+YARDSTICKS = {"tree": "union-find in C++", "detect": "Source Extractor"}
 
 
 def timed(command, image):
@@ -44,8 +54,36 @@ def timed(command, image):
         if status != 0:
             sys.exit(f"{command} ended with {status}")
         output.seek(0)
-        digest = hashlib.sha256(output.read()).hexdigest()
-    return seconds, usage.ru_maxrss / 1024, digest
+        digest = hashlib.sha256()
+        while piece := output.read(1 << 20):
+            digest.update(piece)
+    return seconds, usage.ru_maxrss / 1024, digest.hexdigest()
+
+
+def least(command, image, runs):
+    """The least time of some runs, the greatest peak, and the digest, which must be the same each time."""
+    results = [timed(command, image) for _ in range(runs)]
+    if len({digest for _, _, digest in results}) != 1:
+        sys.exit(f"{command} wrote other bytes in another run")
+    return min(seconds for seconds, _, _ in results), max(peak for _, peak, _ in results), results[0][2]
+
+
+def star_field(path, side):
+    """A star field of 16 bits."""
+    with open(path, "wb") as file:
+        subprocess.run([sys.executable, TOP / "examples" / "star_field.py", str(side), str(side)], stdout=file, check=True)
+
+
+def wide_noise(path, side):
+    """White noise of 32 bits with sigma 1,000: nearly a thousand levels to each sigma, far fewer than pixels."""
+    rng = random.Random(1)
+    cards = [("SIMPLE", "T"), ("BITPIX", 32), ("NAXIS", 2), ("NAXIS1", side), ("NAXIS2", side)]
+    header = "".join(f"{keyword:<8}= {value:>20}".ljust(80) for keyword, value in cards) + "END".ljust(80)
+    numbers = array.array("i", (round(rng.gauss(0, 1000)) for _ in range(side * side)))
+    if sys.byteorder == "little":
+        numbers.byteswap()
+    data = numbers.tobytes()
+    path.write_bytes(header.ljust(2880).encode("ascii") + data + b"\0" * (-len(data) % 2880))
 
 
 def yardstick(folder):
@@ -55,23 +93,23 @@ def yardstick(folder):
     program = folder / "reference"
     if not program.exists():
         subprocess.run(["g++", "-O2", "-o", program, TOP / "bench" / "reference.cpp"], check=True)
-    yield "tree", "union-find in C++", [program, "8"]
+    yield "tree", YARDSTICKS["tree"], [program, "8"]
 
 
-def maxdetect_runs(maxdetect):
-    """A job in one strip, and in strips with several numbers of workers."""
-    for job, words in JOBS.items():
-        command = [maxdetect, *words, "--connect", "8"]
-        yield job, "maxdetect, one strip", command
-        for workers in WORKERS:
+def maxdetect_runs(program, name, jobs, crews):
+    """Each job in one strip, and in strips with several numbers of workers."""
+    for job, words in jobs.items():
+        command = [program, *words, "--connect", "8"]
+        yield job, f"{name}, one strip", command
+        for workers in crews:
             crew = "1 worker" if workers == 1 else f"{workers} workers"
-            yield job, f"maxdetect, {STRIPS} strips, {crew}", [*command, "--strips", str(STRIPS), "--workers", str(workers)]
+            yield job, f"{name}, {STRIPS} strips, {crew}", [*command, "--strips", str(STRIPS), "--workers", str(workers)]
 
 
 def others(folder, image, side):
     """Other programs of the field, where they are installed. scikit-image's tree takes minutes at 4096 x 4096, and is left out there."""
     python = "/usr/bin/python3"
-    if side <= 2048 and os.path.exists(python) and subprocess.run([python, "-c", "import skimage, astropy"], capture_output=True).returncode == 0:
+    if side <= 1024 and os.path.exists(python) and subprocess.run([python, "-c", "import skimage, astropy"], capture_output=True).returncode == 0:
         yield "max-tree alone", "scikit-image", [python, "-c", MAX_TREE, image]
     extractor = shutil.which("source-extractor") or shutil.which("sex")
     if extractor:
@@ -81,26 +119,51 @@ def others(folder, image, side):
         settings.write_text("")
         options = ["-PARAMETERS_NAME", columns, "-FILTER", "N", "-CATALOG_NAME", folder / "catalogue", "-DETECT_MINAREA", "5"]
         options += ["-CHECKIMAGE_TYPE", "SEGMENTATION", "-CHECKIMAGE_NAME", folder / "segments.fits", "-VERBOSE_TYPE", "QUIET"]
-        yield "detection", "Source Extractor", [extractor, image, "-c", settings, *options]
+        yield "detect", YARDSTICKS["detect"], [extractor, image, "-c", settings, *options]
+
+
+def print_rows(title, runs, image, count):
+    """A row for each program, with its share of its job's yardstick, which comes first. The outputs of one job are compared."""
+    digests, yardsticks = {}, {}
+    for job, label, command in runs:
+        seconds, peak, digest = least(command, image, count)
+        if label in YARDSTICKS.values():
+            yardsticks[job] = seconds
+        if label != YARDSTICKS["detect"]:
+            digests.setdefault(job, set()).add(digest)
+        share = f"{seconds / yardsticks[job]:.2f}" if job in yardsticks else ""
+        print(f"| {title} | {job} | {label} | {seconds:.2f} | {share} | {peak:.0f} |", flush=True)
+    if any(len(same) != 1 for same in digests.values()):
+        sys.exit(f"the outputs of one job differ on {title}")
 
 
 def main():
-    maxdetect, sides = pathlib.Path(sys.argv[1]).resolve(), [int(side) for side in sys.argv[2:]] or [512, 1024, 2048, 4096]
-    print("| Image | Work | Program | Seconds | Peak MB |")
-    print("|---|---|---|---|---|")
+    parser = argparse.ArgumentParser(description=__doc__.splitlines()[0])
+    parser.add_argument("maxdetect", type=pathlib.Path)
+    parser.add_argument("--runs", type=int, default=3)
+    parser.add_argument("--before", type=pathlib.Path)
+    parser.add_argument("sides", type=int, nargs="*", default=[1024, 2048, 4096])
+    options = parser.parse_args()
+    programs = [("maxdetect", options.maxdetect.resolve())]
+    if options.before:
+        programs.append(("before", options.before.resolve()))
+    print("| Image | Job | Program | Seconds | Share of the yardstick | Peak MB |")
+    print("|---|---|---|---|---|---|")
     with tempfile.TemporaryDirectory() as name:
         folder = pathlib.Path(name)
-        for side in sides:
-            image = folder / "image.fits"
-            with open(image, "wb") as file:
-                subprocess.run([sys.executable, TOP / "examples" / "star_field.py", str(side), str(side)], stdout=file, check=True)
-            digests = {}
-            for job, label, command in [*yardstick(folder), *maxdetect_runs(maxdetect), *others(folder, image, side)]:
-                seconds, peak, digest = timed(command, image)
-                digests.setdefault(job, set()).add(digest)
-                print(f"| {side} x {side} | {job} | {label} | {seconds:.2f} | {peak:.0f} |", flush=True)
-            if any(len(digests[job]) != 1 for job in JOBS):
-                sys.exit(f"the outputs of one job differ at {side} x {side}")
+        image = folder / "image.fits"
+        for side in options.sides:
+            star_field(image, side)
+            runs = [*yardstick(folder), *others(folder, image, side)]
+            for label, program in programs:
+                runs += maxdetect_runs(program, label, JOBS, WORKERS)
+                runs += maxdetect_runs(program, label, ALL_ABOVE, ())
+            print_rows(f"{side} x {side}", runs, image, options.runs)
+        wide_noise(image, 2048)
+        runs = [*yardstick(folder)]
+        for label, program in programs:
+            runs += maxdetect_runs(program, label, {"tree": JOBS["tree"]}, (4,))
+        print_rows("noise of 32 bits, 2048 x 2048", runs, image, options.runs)
     print("All outputs of one job on one image are the same bytes.")
 
 
