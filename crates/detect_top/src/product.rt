@@ -105,31 +105,35 @@ fn make_of(alloc: Global, job: Job, plane: &Plane, tree: Tree) -> Result<Product
 
 // The plane on which a job works. For the sources of a plane only its pixels near those of at least the threshold matter, so the others are left out
 // before its tree is made.
-fn working_plane(
+fn working_plane<R: Threads + Sync>(
+    rt: &R,
     alloc: Global,
     plane: Plane,
-    job: Job,
-    connect: Connect,
+    order: Order,
 ) -> Result<Plane, OutOfMemory>
-    requires suits { SuitsJob job plane }
-    ensures suits { IfOk result (λ left. SuitsJob job left) }
-    ensures same { IfOk result (λ left. output_of_job job connect left ≡ output_of_job job connect plane) }
+    requires suits { SuitsJob order.job plane }
+    ensures suits { IfOk result (λ left. SuitsJob order.job left) }
+    ensures same { IfOk result (λ left. output_of_job order.job order.connect left ≡ output_of_job order.job order.connect plane) }
 {
-    match job {
-        Job::Detect { choice } => without_far(alloc, plane, connect, choice),
+    match order.job {
+        Job::Detect { choice } => {
+            without_far(rt, alloc, plane, order.connect, choice, order.workers)
+        }
         Job::Tree | Job::Filter { .. } | Job::Trial { .. } => Ok(plane),
     }
 }
 
-fn without_far(
+fn without_far<R: Threads + Sync>(
+    rt: &R,
     alloc: Global,
     mut plane: Plane,
     connect: Connect,
     choice: Choice,
+    workers: u32,
 ) -> Result<Plane, OutOfMemory>
     ensures { IfOk result (λ left. detection left connect choice ≡ detection plane connect choice) }
 {
-    match clear_far(alloc, &mut plane, connect, choice.threshold) {
+    match clear_far(rt, alloc, &mut plane, connect, choice.threshold, workers) {
         Ok(()) => Ok(plane),
         Err(error) => Err(error),
     }
@@ -153,7 +157,7 @@ pub(crate) fn make<R: Threads + Sync, G: Gate>(
         Ok(plane) => plane,
         Err(error) => return Err(error),
     };
-    let plane = match working_plane(alloc, plane, order.job, order.connect) {
+    let plane = match working_plane(rt, alloc, plane, order) {
         Ok(plane) => plane,
         Err(error) => return Err(error),
     };

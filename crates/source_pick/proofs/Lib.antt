@@ -16,4 +16,5 @@ pub mod AlikeSums
 pub mod AlikeSources
 pub mod Local
 pub mod Keeping
+pub mod Around
 pub mod Nearing

@@ -1,189 +1,232 @@
 -- Marks on the pixels near those of at least the threshold, and the plane without the others.
-use Rattle.std.proofs.Common.{◌≡◌, ℕ, ◌+◌, ◌<◌, ◌≤◌, zero, suc, Bool, true, false, cond, List, [], ◌∷◌, length, map, replicate, refl, sym, ◌∙◌, ap, subst, arith, ◌⊎◌, inl, inr, set}
-use Rattle.std.specs.Prelude.{ℤ, Option, Some, None, filter, slice_get, slice_set, slice_index_or}
+use Rattle.std.proofs.Common.{◌≡◌, ℕ, ◌+◌, ◌-◌, ◌*◌, ◌/◌, ◌<◌, ◌≤◌, Bool, true, false, cond, List, [], ◌∷◌, length, map, replicate, refl, sym, ◌∙◌, ap, subst, arith, ◌⊎◌, inl, inr, set}
+use Rattle.std.specs.Prelude.{IsTrue, ℤ, Option, Some, None, filter, slice_set, slice_index_or, is_some}
 use Rattle.std.specs.List.{range_with_len, list_any}
 use Rattle.std.proofs.lemmas.Bool.{true≢false, or_cases, cases_eq, cases_lt}
-use Rattle.std.proofs.lemmas.List.{length-map, length-set, get_or-set_same, get_or-set_other, ext_get_or}
+use Rattle.std.proofs.lemmas.List.{length-map, length-set, get_or-set_same, get_or-set_other, get_or-replicate, get_or_past, length-replicate, ext_get_or}
 use Rattle.std.proofs.lemmas.List.FromFn.{get_or-map-range_with_len, length-range_with_len}
-use Rattle.std.proofs.lemmas.Option.{same_Some}
 use Rattle.comp_tree.specs.declared.shape.Connect.{Connect}
 use Rattle.comp_tree.specs.declared.shape.Shape.{Shape}
-use Rattle.comp_tree.specs.Raster.{Raster, pixels, value_at, is_at_least}
-use Rattle.comp_tree.specs.Grid.{are_neighbours}
+use Rattle.comp_tree.specs.Raster.{Raster, IsPlane, pixels, value_at, is_defined, is_at_least}
+use Rattle.comp_tree.specs.Grid.{distance, are_neighbours}
 use Rattle.comp_tree.proofs.Adjacent.{are_neighbours_comm}
-use Rattle.comp_tree.proofs.Members.{IsAmong, among-filter, among_from_filter, among-range, among_from_range, IsWitness, witness_from_any}
+use Rattle.comp_tree.proofs.Members.{IsAmong, among_from_filter, among_from_range, IsWitness, witness_from_any}
 use Rattle.comp_tree.proofs.Reaching.{defined_from_at_least, below_from_defined}
 use Rattle.source_pick.specs.Locality.{is_beside_high, is_near_high, kept}
-use Rattle.source_pick.specs.Passes.{AreSetAt, AreMarkedNear, without_unmarked, IsClearedUpTo}
+use Rattle.source_pick.specs.Passes.{HasNoneBelow, IsAround, reach, AreSetBetween, AreSetAround, AreMarkedNear, without_unmarked, IsClearedUpTo}
 use Rattle.source_pick.proofs.Splits.{same_bool}
 use Rattle.source_pick.proofs.Keeping.{near_from_own, near_from_neighbour}
+use Rattle.source_pick.proofs.Around.{first_row, last_row, IsPartOfRow, part_around, around_part, around_after, around_before}
 
--- ---- marks at the places of a list
+-- ---- marks of a run of pixels
 
-pub set_at_none : (old : List Bool) (near : List ℕ) → AreSetAt old near 0 old
-set_at_none old near = record {
+pub between_none : (start first end low : ℕ) (old : List Bool) → (low ≡ first) ⊎ (low ≡ start) → AreSetBetween start first end low old old
+between_none start first end low old e = record {
   one_each = refl;
-  sound = λ q k. inl k;
-  kept = λ q k. k;
-  listed = λ i q l g. absurd (omega arith);
+  sound = λ k m. inl m;
+  kept = λ k m. m;
+  complete = λ k l a b. elim e [
+    | inl f ↦ absurd (omega arith)
+    | inr f ↦ absurd (omega arith)
+  ];
 }
 
--- a mark that is set changes no other
-mark_at : (marks : List Bool) (p : ℕ) → p < length marks → slice_index_or (set marks p true) p false ≡ true
-mark_at marks p l = get_or-set_same marks p true false l
-
-mark_kept : (marks : List Bool) (p q : ℕ) → p < length marks → slice_index_or marks q false ≡ true → slice_index_or (set marks p true) q false ≡ true
-mark_kept marks p q l k = go (cases_eq q p)
-  where
-    go : (q ≡ p) ⊎ (q ≡ p → ⊥) → slice_index_or (set marks p true) q false ≡ true
-    go (inl e) = ap (λ (x : ℕ). slice_index_or (set marks p true) x false) e ∙ mark_at marks p l
-    go (inr d) = get_or-set_other marks p q true false d ∙ k
-
-mark_from : (marks : List Bool) (p q : ℕ) → slice_index_or (set marks p true) q false ≡ true → (slice_index_or marks q false ≡ true) ⊎ (q ≡ p)
-mark_from marks p q k = go (cases_eq q p)
-  where
-    go : (q ≡ p) ⊎ (q ≡ p → ⊥) → (slice_index_or marks q false ≡ true) ⊎ (q ≡ p)
-    go (inl e) = inr e
-    go (inr d) = inl (sym (get_or-set_other marks p q true false d) ∙ k)
-
-pub set_at_more : (old marks : List Bool) (near : List ℕ) (i q : ℕ) → AreSetAt old near i marks → slice_get near i ≡ Some q → q < length old → AreSetAt old near (i + 1) (set marks q true)
-set_at_more old marks near i q h g inside = record {
-  one_each = length-set marks q true ∙ h.one_each;
-  sound = λ x k. sound x (mark_from marks q x k);
-  kept = λ x k. mark_kept marks q x here (h.kept x k);
-  listed = λ j x l f. listed j x (cases_lt j i) l f;
+pub between_more : (start first end p : ℕ) (old new : List Bool) → AreSetBetween start first end p old new → first ≤ p → p < end → start ≤ p → p - start < length old
+    → AreSetBetween start first end (p + 1) old (set new (p - start) true)
+between_more start first end p old new s low high from inside = record {
+  one_each = length-set new (p - start) true ∙ s.one_each;
+  sound = λ k m. sound k m (cases_eq k (p - start));
+  kept = λ k m. after k (cases_eq k (p - start)) (s.kept k m);
+  complete = λ k l a b. complete k l a b (cases_eq k (p - start));
 }
   where
-    here : q < length marks
-    here = omega (arith, h.one_each, inside)
+    here : p - start < length new
+    here = omega (arith, s.one_each, inside)
 
-    sound : (x : ℕ) → (slice_index_or marks x false ≡ true) ⊎ (x ≡ q) → (slice_index_or old x false ≡ true) ⊎ ((j : ℕ) × (j < i + 1) × (slice_get near j ≡ Some x))
-    sound x (inr e) = inr (i, omega arith, g ∙ ap Some (sym e))
-    sound x (inl k) = go (h.sound x k)
+    at : (k : ℕ) → k ≡ p - start → slice_index_or (set new (p - start) true) k false ≡ true
+    at k e = ap (λ (x : ℕ). slice_index_or (set new (p - start) true) x false) e ∙ get_or-set_same new (p - start) true false here
+
+    after : (k : ℕ) → (k ≡ p - start) ⊎ (k ≡ p - start → ⊥) → slice_index_or new k false ≡ true → slice_index_or (set new (p - start) true) k false ≡ true
+    after k (inl e) m = at k e
+    after k (inr d) m = get_or-set_other new (p - start) k true false d ∙ m
+
+    sound : (k : ℕ) → slice_index_or (set new (p - start) true) k false ≡ true → (k ≡ p - start) ⊎ (k ≡ p - start → ⊥)
+        → (slice_index_or old k false ≡ true) ⊎ ((first ≤ start + k) × (start + k < end))
+    sound k m (inl e) = inr (omega arith, omega arith)
+    sound k m (inr d) = s.sound k (sym (get_or-set_other new (p - start) k true false d) ∙ m)
+
+    complete : (k : ℕ) → k < length old → first ≤ start + k → start + k < p + 1 → (k ≡ p - start) ⊎ (k ≡ p - start → ⊥) → slice_index_or (set new (p - start) true) k false ≡ true
+    complete k l a b (inl e) = at k e
+    complete k l a b (inr d) = after k (inr d) (s.complete k l a (before (cases_eq (start + k) p)))
       where
-        go : (slice_index_or old x false ≡ true) ⊎ ((j : ℕ) × (j < i) × (slice_get near j ≡ Some x))
-            → (slice_index_or old x false ≡ true) ⊎ ((j : ℕ) × (j < i + 1) × (slice_get near j ≡ Some x))
-        go (inl m) = inl m
-        go (inr (j, l, f)) = inr (j, omega arith, f)
+        before : (start + k ≡ p) ⊎ (start + k ≡ p → ⊥) → start + k < p
+        before (inl e) = absurd (d (omega arith))
+        before (inr f) = go (cases_lt (start + k) p)
+          where
+            go : (start + k < p) ⊎ (p ≤ start + k) → start + k < p
+            go (inl c) = c
+            go (inr c) = absurd (f (omega arith))
 
-    listed : (j x : ℕ) → (j < i) ⊎ (i ≤ j) → j < i + 1 → slice_get near j ≡ Some x → slice_index_or (set marks q true) x false ≡ true
-    listed j x (inl l) m f = mark_kept marks q x here (h.listed j x l f)
-    listed j x (inr l) m f =
-        let e : j ≡ i = omega arith in
-        let s : x ≡ q = same_Some x q (sym f ∙ ap (slice_get near) e ∙ g) in
-        ap (λ (y : ℕ). slice_index_or (set marks q true) y false) s ∙ mark_at marks q here
+pub between_all : (start first end p : ℕ) (old new : List Bool) → AreSetBetween start first end p old new → (end ≤ p) ⊎ (start + length old ≤ p) → AreSetBetween start first end end old new
+between_all start first end p old new s all = record {
+  one_each = s.one_each;
+  sound = s.sound;
+  kept = s.kept;
+  complete = λ k l a b. elim all [
+    | inl e ↦ s.complete k l a (omega arith)
+    | inr e ↦ s.complete k l a (omega arith)
+  ];
+}
 
-pub set_at_end : (old marks : List Bool) (near : List ℕ) (j k : ℕ) → AreSetAt old near k marks → j ≡ k → AreSetAt old near j marks
-set_at_end old marks near j k h e = subst (λ (n : ℕ). AreSetAt old near n marks) (sym e) h
+-- ---- marks around a pixel
+
+pub around_none : (connect : Connect) (width x y start first : ℕ) (old : List Bool) → x < width → first ≡ y - 1 → AreSetAround connect width (y * width + x) start (first * width) old old
+around_none connect width x y start first old inside e = record {
+  one_each = refl;
+  sound = λ k m. inl m;
+  kept = λ k m. m;
+  complete = λ k l b a. absurd (around_after connect width x y first (start + k) inside e b a);
+}
+
+pub around_more : (connect : Connect) (width x y start v first end : ℕ) (old before after : List Bool) → x < width → y ≤ v + 1 → v ≤ y + 1
+    → IsPartOfRow width x (reach connect (distance y v)) v first end → AreSetAround connect width (y * width + x) start (v * width) old before
+    → AreSetBetween start first end end before after → AreSetAround connect width (y * width + x) start ((v + 1) * width) old after
+around_more connect width x y start v first end old before after inside low high part s b = record {
+  one_each = b.one_each ∙ s.one_each;
+  sound = λ k m. sound k (b.sound k m);
+  kept = λ k m. b.kept k (s.kept k m);
+  complete = λ k l u a. complete k l u a (cases_lt (start + k) (v * width));
+}
+  where
+    sound : (k : ℕ) → (slice_index_or before k false ≡ true) ⊎ ((first ≤ start + k) × (start + k < end))
+        → (slice_index_or old k false ≡ true) ⊎ IsAround connect width (y * width + x) (start + k)
+    sound k (inl m) = s.sound k m
+    sound k (inr (c, d)) = inr (part_around connect width x y v first end (start + k) inside low high part c d)
+
+    complete : (k : ℕ) → k < length old → start + k < (v + 1) * width → IsAround connect width (y * width + x) (start + k) → (start + k < v * width) ⊎ (v * width ≤ start + k)
+        → slice_index_or after k false ≡ true
+    complete k l u a (inl c) = b.kept k (s.complete k l c a)
+    complete k l u a (inr c) =
+        let between : (first ≤ start + k) × (start + k < end) = around_part connect width x y v first end (start + k) inside part c u a in
+        b.complete k (omega (arith, l, s.one_each)) between.0 between.1
+
+pub around_all : (connect : Connect) (width height x y start row : ℕ) (old new : List Bool) → x < width → (y + 2 ≤ row) ⊎ (height ≤ row)
+    → AreSetAround connect width (y * width + x) start (row * width) old new → AreSetAround connect width (y * width + x) start (width * height) old new
+around_all connect width height x y start row old new inside end s = record {
+  one_each = s.one_each;
+  sound = s.sound;
+  kept = s.kept;
+  complete = λ k l u a. s.complete k l (around_before connect width height x y row (start + k) inside end (omega arith) a) a;
+}
 
 -- ---- marks near the pixels of at least h
 
-false_everywhere : (count q : ℕ) → slice_index_or (replicate count false) q false ≡ true → ⊥
-false_everywhere zero q k = true≢false (sym k)
-false_everywhere (suc count) zero k = true≢false (sym k)
-false_everywhere (suc count) (suc q) k = false_everywhere count q k
-
-pub marked_near_none : (r : Raster) (connect : Connect) (h : ℤ) (count : ℕ) (marks : List Bool) → marks ≡ replicate count false → count ≡ length r.values → AreMarkedNear r connect h 0 marks
-marked_near_none r connect h count marks e l = record {
-  one_each = ap length e ∙ length-replicate count ∙ l;
-  sound = λ q k. absurd (false_everywhere count q (sym (ap (λ (xs : List Bool). slice_index_or xs q false) e) ∙ k));
-  own = λ p m k. absurd (omega arith);
-  beside = λ p q m k n u. absurd (omega arith);
+pub near_none : (r : Raster) (connect : Connect) (h : ℤ) (start first : ℕ) (marks : List Bool) → ((k : ℕ) → slice_index_or marks k false ≡ false) → AreMarkedNear r connect h start first first marks
+near_none r connect h start first marks blank = record {
+  sound = λ k m. absurd (true≢false (sym m ∙ blank k));
+  complete = λ p k a b hi l n. absurd (omega arith);
 }
-  where
-    length-replicate : (count : ℕ) → length (replicate count false) ≡ count
-    length-replicate zero = refl
-    length-replicate (suc count) = ap suc (length-replicate count)
 
-pub marked_near_skip : (r : Raster) (connect : Connect) (h : ℤ) (p : ℕ) (marks : List Bool) → AreMarkedNear r connect h p marks → is_at_least r h p ≡ false → AreMarkedNear r connect h (p + 1) marks
-marked_near_skip r connect h p marks m low = record {
-  one_each = m.one_each;
+step_back : (p count : ℕ) → p < count + 1 → (p ≡ count → ⊥) → p < count
+step_back p count l d = go (cases_lt p count)
+  where
+    go : (p < count) ⊎ (count ≤ p) → p < count
+    go (inl k) = k
+    go (inr k) = absurd (d (omega arith))
+
+-- a count may be written otherwise
+pub near_end : (r : Raster) (connect : Connect) (h : ℤ) (start first count other : ℕ) (marks : List Bool) → AreMarkedNear r connect h start first count marks → other ≡ count
+    → AreMarkedNear r connect h start first other marks
+near_end r connect h start first count other marks m e = subst (λ (n : ℕ). AreMarkedNear r connect h start first n marks) (sym e) m
+
+pub near_skip : (r : Raster) (connect : Connect) (h : ℤ) (start first count : ℕ) (marks : List Bool) → is_at_least r h count ≡ false
+    → AreMarkedNear r connect h start first count marks → AreMarkedNear r connect h start first (count + 1) marks
+near_skip r connect h start first count marks low m = record {
   sound = m.sound;
-  own = λ x l k. m.own x (below x k (cases_lt x p) l) k;
-  beside = λ x q l k n u. m.beside x q (below x k (cases_lt x p) l) k n u;
+  complete = λ p k a b hi l n. m.complete p k a (step_back p count b (λ e. absurd (true≢false (sym hi ∙ ap (is_at_least r h) e ∙ low)))) hi l n;
+}
+
+pub near_more : (r : Raster) (connect : Connect) (h : ℤ) (start first count limit : ℕ) (before after : List Bool) → is_at_least r h count ≡ true → start + length before ≤ limit
+    → AreMarkedNear r connect h start first count before → AreSetAround connect r.shape.width count start limit before after
+    → AreMarkedNear r connect h start first (count + 1) after
+near_more r connect h start first count limit before after high inside m s = record {
+  sound = λ k t. sound k (s.sound k t);
+  complete = λ p k a b hi l n. complete p k a b hi (omega (arith, l, s.one_each)) n (cases_eq p count);
 }
   where
-    below : (x : ℕ) → is_at_least r h x ≡ true → (x < p) ⊎ (p ≤ x) → x < p + 1 → x < p
-    below x k (inl l) u = l
-    below x k (inr l) u = let e : x ≡ p = omega arith in absurd (true≢false (sym k ∙ ap (is_at_least r h) e ∙ low))
+    sound : (k : ℕ) → (slice_index_or before k false ≡ true) ⊎ IsAround connect r.shape.width count (start + k) → is_near_high r connect h (start + k) ≡ true
+    sound k (inl t) = m.sound k t
+    sound k (inr (inl e)) = near_from_own r connect h (start + k) (ap (is_at_least r h) e ∙ high)
+    sound k (inr (inr n)) = near_from_neighbour r connect h (start + k) count high n
 
-place_of : (xs : List ℕ) (x : ℕ) → IsAmong x xs → (i : ℕ) × (i < length xs) × (slice_get xs i ≡ Some x)
-place_of [] x h = absurd h
-place_of (y ∷ xs) x (inl e) = (0, omega arith, ap Some e)
-place_of (y ∷ xs) x (inr h) = go (place_of xs x h)
+    complete : (p k : ℕ) → first ≤ p → p < count + 1 → IsTrue (is_at_least r h p) → k < length before → IsAround connect r.shape.width p (start + k) → (p ≡ count) ⊎ (p ≡ count → ⊥)
+        → slice_index_or after k false ≡ true
+    complete p k a b hi l n (inl e) = s.complete k l (omega arith) (subst (λ (x : ℕ). IsAround connect r.shape.width x (start + k)) e n)
+    complete p k a b hi l n (inr d) = s.kept k (m.complete p k a (step_back p count b d) hi l n)
+
+-- a pixel near one of at least h is around it
+record HasHighAround (r : Raster) (connect : Connect) (h : ℤ) (q : ℕ) : Type 0 where
+  pub it : ℕ
+  pub high : IsTrue (is_at_least r h it)
+  pub around : IsAround connect r.shape.width it q
+
+high_around : (r : Raster) (connect : Connect) (h : ℤ) (q : ℕ) → is_near_high r connect h q ≡ true → HasHighAround r connect h q
+unfolding is_near_high is_beside_high
+high_around r connect h q k = go (or_cases (is_at_least r h q) (list_any (is_at_least r h) (filter (are_neighbours connect r.shape.width q) (pixels r))) k)
   where
-    go : (i : ℕ) × (i < length xs) × (slice_get xs i ≡ Some x) → (i : ℕ) × (i < length (y ∷ xs)) × (slice_get (y ∷ xs) i ≡ Some x)
-    go (i, l, g) = (suc i, omega arith, g)
+    go : (is_at_least r h q ≡ true) ⊎ (list_any (is_at_least r h) (filter (are_neighbours connect r.shape.width q) (pixels r)) ≡ true) → HasHighAround r connect h q
+    go (inl x) = record { it = q; high = x; around = inl refl }
+    go (inr x) =
+        let w : IsWitness (is_at_least r h) (filter (are_neighbours connect r.shape.width q) (pixels r)) = witness_from_any (is_at_least r h) (filter (are_neighbours connect r.shape.width q) (pixels r)) x in
+        record {
+          it = w.it;
+          high = w.passes;
+          around = inr (are_neighbours_comm connect r.shape.width w.it q ∙ (among_from_filter (are_neighbours connect r.shape.width q) w.it (pixels r) w.among).1);
+        }
 
-among_place : (xs : List ℕ) (i x : ℕ) → slice_get xs i ≡ Some x → IsAmong x xs
-among_place [] i x g = absurd (cc)
-among_place (y ∷ xs) zero x g = inl (same_Some y x g)
-among_place (y ∷ xs) (suc i) x g = inr (among_place xs i x g)
+-- the rows of a band and those beside it are enough for its marks
+pub near_band : (r : Raster) (connect : Connect) (h : ℤ) (start first row size : ℕ) (marks : List Bool) → IsPlane r → 0 < r.shape.width → first ≡ start / r.shape.width - 1
+    → ((start + size - 1) / r.shape.width + 2 ≤ row) ⊎ (r.shape.height ≤ row) → length marks ≡ size → AreMarkedNear r connect h start (first * r.shape.width) (row * r.shape.width) marks
+    → (k : ℕ) → k < size → slice_index_or marks k false ≡ is_near_high r connect h (start + k)
+near_band r connect h start first row size marks plane some begin end l m k inside =
+    same_bool (slice_index_or marks k false) (is_near_high r connect h (start + k)) (m.sound k) (λ n. back (high_around r connect h (start + k) n))
+  where
+    back : HasHighAround r connect h (start + k) → slice_index_or marks k false ≡ true
+    back w =
+        let pixel : w.it < length r.values = below_from_defined r w.it (defined_from_at_least r h w.it w.high) in
+        let low : first * r.shape.width ≤ w.it = first_row connect r.shape.width start first w.it (start + k) some begin (omega arith) w.around in
+        let high : w.it < row * r.shape.width = last_row connect r.shape.width r.shape.height (start + size - 1) row w.it (start + k) some end (omega arith) (omega (arith, plane)) w.around in
+        m.complete w.it k low high w.high (omega arith) w.around
 
-pub marked_near_more : (r : Raster) (connect : Connect) (h : ℤ) (p : ℕ) (marks new : List Bool) (near : List ℕ) → AreMarkedNear r connect h p marks → p < length r.values
-    → is_at_least r h p ≡ true → near ≡ filter (are_neighbours connect r.shape.width p) (pixels r) → AreSetAt (set marks p true) near (length near) new → AreMarkedNear r connect h (p + 1) new
+-- what is said of each mark is said of the list
+pub near_list : (r : Raster) (connect : Connect) (h : ℤ) (marks : List Bool) → length marks ≡ length r.values
+    → ((k : ℕ) → k < length r.values → slice_index_or marks k false ≡ is_near_high r connect h k) → marks ≡ map (is_near_high r connect h) (pixels r)
 unfolding pixels
-marked_near_more r connect h p marks new near m inside high near_is s = record {
-  one_each = s.one_each ∙ length-set marks p true ∙ m.one_each;
-  sound = λ q k. sound q (s.sound q k);
-  own = λ x l k. own x (cases_lt x p) l k;
-  beside = λ x q l k n u. beside x q (cases_lt x p) l k n u;
-}
-  where
-    here : p < length marks
-    here = omega (arith, m.one_each, inside)
-
-    sound : (q : ℕ) → (slice_index_or (set marks p true) q false ≡ true) ⊎ ((i : ℕ) × (i < length near) × (slice_get near i ≡ Some q)) → is_near_high r connect h q ≡ true
-    sound q (inl k) = go (mark_from marks p q k)
-      where
-        go : (slice_index_or marks q false ≡ true) ⊎ (q ≡ p) → is_near_high r connect h q ≡ true
-        go (inl x) = m.sound q x
-        go (inr e) = near_from_own r connect h q (ap (is_at_least r h) e ∙ high)
-    sound q (inr (i, l, g)) =
-        near_from_neighbour r connect h q p high
-        (among_from_filter (are_neighbours connect r.shape.width p) q (range_with_len 0 (length r.values)) (subst (λ (xs : List ℕ). IsAmong q xs) near_is (among_place near i q g))).1
-
-    own : (x : ℕ) → (x < p) ⊎ (p ≤ x) → x < p + 1 → is_at_least r h x ≡ true → slice_index_or new x false ≡ true
-    own x (inl l) u k = s.kept x (mark_kept marks p x here (m.own x l k))
-    own x (inr l) u k = let e : x ≡ p = omega arith in s.kept x (ap (λ (y : ℕ). slice_index_or (set marks p true) y false) e ∙ mark_at marks p here)
-
-    beside : (x q : ℕ) → (x < p) ⊎ (p ≤ x) → x < p + 1 → is_at_least r h x ≡ true → are_neighbours connect r.shape.width x q ≡ true → q < length r.values → slice_index_or new q false ≡ true
-    beside x q (inl l) u k n b = s.kept q (mark_kept marks p q here (m.beside x q l k n b))
-    beside x q (inr l) u k n b = go (place_of near q listed)
-      where
-        e : x ≡ p
-        e = omega (arith, l, u)
-
-        listed : IsAmong q near
-        listed = subst (λ (xs : List ℕ). IsAmong q xs) (sym near_is)
-            (among-filter (are_neighbours connect r.shape.width p) q (range_with_len 0 (length r.values)) (among-range 0 (length r.values) q (omega arith) (omega (arith, b)))
-            (sym (ap (λ (y : ℕ). are_neighbours connect r.shape.width y q) e) ∙ n))
-
-        go : (i : ℕ) × (i < length near) × (slice_get near i ≡ Some q) → slice_index_or new q false ≡ true
-        go (i, v, g) = s.listed i q v g
-
-pub marked_near_end : (r : Raster) (connect : Connect) (h : ℤ) (count : ℕ) (marks : List Bool) → AreMarkedNear r connect h count marks → length r.values ≤ count
-    → marks ≡ map (is_near_high r connect h) (pixels r)
-unfolding pixels is_near_high is_beside_high
-marked_near_end r connect h count marks m all =
+near_list r connect h marks l each =
     ext_get_or false marks (map (is_near_high r connect h) (range_with_len 0 (length r.values)))
-    (m.one_each ∙ sym (length-map (range_with_len 0 (length r.values)) (is_near_high r connect h) ∙ length-range_with_len 0 (length r.values)))
-    (λ q l. let b : q < length r.values = omega (arith, m.one_each) in
-    same_bool (slice_index_or marks q false) (is_near_high r connect h q) (m.sound q) (back q b)
-    ∙ sym (get_or-map-range_with_len (is_near_high r connect h) 0 (length r.values) q q false b (omega arith)))
-  where
-    high_below : (p : ℕ) → is_at_least r h p ≡ true → p < count
-    high_below p k = let l : p < length r.values = below_from_defined r p (defined_from_at_least r h p k) in omega arith
+    (l ∙ sym (length-map (range_with_len 0 (length r.values)) (is_near_high r connect h) ∙ length-range_with_len 0 (length r.values)))
+    (λ q k. let b : q < length r.values = omega arith in
+    each q b ∙ sym (get_or-map-range_with_len (is_near_high r connect h) 0 (length r.values) q q false b (omega arith)))
 
-    back : (q : ℕ) → q < length r.values → is_near_high r connect h q ≡ true → slice_index_or marks q false ≡ true
-    back q b k = go (or_cases (is_at_least r h q) (list_any (is_at_least r h) (filter (are_neighbours connect r.shape.width q) (pixels r))) k)
-      where
-        go : (is_at_least r h q ≡ true) ⊎ (list_any (is_at_least r h) (filter (are_neighbours connect r.shape.width q) (pixels r)) ≡ true) → slice_index_or marks q false ≡ true
-        go (inl x) = m.own q (high_below q x) x
-        go (inr x) =
-            let w : IsWitness (is_at_least r h) (filter (are_neighbours connect r.shape.width q) (pixels r)) = witness_from_any (is_at_least r h) (filter (are_neighbours connect r.shape.width q) (pixels r)) x in
-            m.beside w.it q (high_below w.it w.passes) w.passes
-            (are_neighbours_comm connect r.shape.width w.it q ∙ (among_from_filter (are_neighbours connect r.shape.width q) w.it (pixels r) w.among).1) b
+-- a mark of a band is that of its pixel
+pub marked_there : (r : Raster) (connect : Connect) (h other : ℤ) (band marks : List Bool) (start k q : ℕ) → slice_index_or band k false ≡ slice_index_or marks q false
+    → slice_index_or band k false ≡ is_near_high r connect h (start + k) → start + k ≡ q → h ≡ other → slice_index_or marks q false ≡ is_near_high r connect other q
+marked_there r connect h other band marks start k q same near e u = sym same ∙ near ∙ ap (is_near_high r connect h) e ∙ ap (λ (z : ℤ). is_near_high r connect z q) u
+
+pub blank_marks : (count : ℕ) (marks : List Bool) → marks ≡ replicate count false → (k : ℕ) → slice_index_or marks k false ≡ false
+blank_marks count marks e k = ap (λ (xs : List Bool). slice_index_or xs k false) e ∙ go (cases_lt k count)
+  where
+    go : (k < count) ⊎ (count ≤ k) → slice_index_or (replicate count false) k false ≡ false
+    go (inl l) = get_or-replicate count k false false l
+    go (inr l) = get_or_past (replicate count false) k false (omega (arith, length-replicate count false))
+
+pub blank_part : (count : ℕ) (marks part : List Bool) (start : ℕ) → marks ≡ replicate count false → ((k : ℕ) → k < length part → slice_index_or part k false ≡ slice_index_or marks (start + k) false)
+    → (k : ℕ) → slice_index_or part k false ≡ false
+blank_part count marks part start e each k = go (cases_lt k (length part))
+  where
+    go : (k < length part) ⊎ (length part ≤ k) → slice_index_or part k false ≡ false
+    go (inl l) = each k l ∙ blank_marks count marks e (start + k)
+    go (inr l) = get_or_past part k false l
 
 -- ---- the plane without the others
 
@@ -260,3 +303,39 @@ without-kept r connect h marks e = ap (λ (vs : List (Option ℤ)). let x : Rast
 pub length_of_marks : (r : Raster) (connect : Connect) (h : ℤ) (marks : List Bool) → marks ≡ map (is_near_high r connect h) (pixels r) → length marks ≡ length r.values
 unfolding pixels
 length_of_marks r connect h marks e = ap length e ∙ length-map (range_with_len 0 (length r.values)) (is_near_high r connect h) ∙ length-range_with_len 0 (length r.values)
+
+-- ---- a plane in which nothing is far
+
+pub none_below_more : (r : Raster) (h : ℤ) (p : ℕ) → HasNoneBelow r h p → (is_defined r p ≡ false) ⊎ (is_at_least r h p ≡ true) → HasNoneBelow r h (p + 1)
+none_below_more r h p n one q l d = go (cases_eq q p)
+  where
+    go : (q ≡ p) ⊎ (q ≡ p → ⊥) → IsTrue (is_at_least r h q)
+    go (inr f) = n q (step_back q p l f) d
+    go (inl e) = elim one [
+      | inl u ↦ absurd (true≢false (sym d ∙ ap (is_defined r) e ∙ u))
+      | inr k ↦ ap (is_at_least r h) e ∙ k
+    ]
+
+pub none_below_all : (r : Raster) (h : ℤ) (count : ℕ) → HasNoneBelow r h count → length r.values ≤ count → HasNoneBelow r h (length r.values)
+none_below_all r h count n all p l d = n p (omega arith) d
+
+-- is kept as it is
+pub kept_whole : (r : Raster) (connect : Connect) (h : ℤ) → HasNoneBelow r h (length r.values) → r ≡ kept r connect h
+unfolding kept pixels
+kept_whole r connect h none = ap (λ (vs : List (Option ℤ)). let x : Raster = record { shape = r.shape; values = vs } in x) same
+  where
+    stays : (q : ℕ) → q < length r.values → (v : Option ℤ) → value_at r.values q ≡ v → value_at r.values q ≡ cond (is_near_high r connect h q) (value_at r.values q) None
+    stays q l None e = e ∙ go (is_near_high r connect h q)
+      where
+        go : (b : Bool) → None ≡ cond b (value_at r.values q) None
+        go true = sym e
+        go false = refl
+    stays q l (Some v) e =
+        let near : is_near_high r connect h q ≡ true = near_from_own r connect h q (none q l (ap is_some e)) in
+        sym (ap (λ (b : Bool). cond b (value_at r.values q) None) near)
+
+    same : r.values ≡ map (λ p. cond (is_near_high r connect h p) (value_at r.values p) None) (range_with_len 0 (length r.values))
+    same = ext_get_or None r.values (map (λ p. cond (is_near_high r connect h p) (value_at r.values p) None) (range_with_len 0 (length r.values)))
+        (sym (length-map (range_with_len 0 (length r.values)) (λ p. cond (is_near_high r connect h p) (value_at r.values p) None) ∙ length-range_with_len 0 (length r.values)))
+        (λ q l. stays q l (value_at r.values q) refl
+        ∙ sym (get_or-map-range_with_len (λ p. cond (is_near_high r connect h p) (value_at r.values p) None) 0 (length r.values) q q None l (omega arith)))

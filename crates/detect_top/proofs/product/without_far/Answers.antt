@@ -6,7 +6,7 @@ use Rattle.detect_top.proofs.NearPixels.{detection_same}
 use Rattle.detect_top.proofs.product.without_far.Goals as goal
 
 pub returns-in-Ok : goal.returns-in-Ok
-returns-in-Ok c =
+returns-in-Ok g c =
     let fits : SFits w64 c.args.choice.threshold = search rules in
     sym (detection_same c.args.plane c.clear_far.new.plane c.args.connect c.args.choice
     (sym (ap (λ (r : Raster). r.shape) c.in-Ok.ensures.kept ∙ shape-kept c.args.plane c.args.connect _))
