@@ -167,9 +167,11 @@ numbers-are : (r : Raster) (connect : Connect) → (tree_of r connect).node_of �
 unfolding tree_of
 numbers-are r connect = refl
 
+pub number-within : (r : Raster) (connect : Connect) (q : ℕ) → q < length r.values → slice_index (tree_of r connect).node_of q ≡ node_of r connect q
+number-within r connect q h = ap (λ (xs : List ℕ). slice_index xs q) (numbers-are r connect) ∙ read-node_of r connect q h
+
 pub number-is : (r : Raster) (connect : Connect) (q : ℕ) → is_defined r q ≡ true → slice_index (tree_of r connect).node_of q ≡ node_of r connect q
-number-is r connect q d =
-    ap (λ (xs : List ℕ). slice_index xs q) (numbers-are r connect) ∙ read-node_of r connect q (below_from_defined r q d)
+number-is r connect q d = number-within r connect q (below_from_defined r q d)
 
 -- at first a node's entry has the pixels whose smallest node it is
 pub counted-start : (r : Raster) (connect : Connect) (k m q : ℕ) → IsPlane r → k ≡ length (nodes r connect) → m < k

@@ -3,6 +3,7 @@ pub mod Sizes
 pub mod Counting
 pub mod Reading
 pub mod Passes
+pub mod AreaSteps
 pub mod Totals
 pub mod Fluxes
 pub mod FluxOfSums

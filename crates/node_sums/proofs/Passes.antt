@@ -33,13 +33,13 @@ pub range-push : (a n j : ℕ) → j ≡ a + n → range_with_len a (suc n) ≡ 
 range-push a zero j e = ap (λ (x : ℕ). x ∷ []) (omega arith)
 range-push a (suc n) j e = ap (λ (xs : List ℕ). a ∷ xs) (range-push (a + 1) n j (omega arith))
 
-filter_yes : (test : ℕ → Bool) (ps : List ℕ) (p : ℕ) → test p ≡ true → filter test (ps ++ p ∷ []) ≡ filter test ps ++ p ∷ []
+pub filter_yes : (test : ℕ → Bool) (ps : List ℕ) (p : ℕ) → test p ≡ true → filter test (ps ++ p ∷ []) ≡ filter test ps ++ p ∷ []
 filter_yes test ps p h = filter-append test ps (p ∷ []) ∙ ap (λ (b : Bool). filter test ps ++ cond b (p ∷ []) []) h
 
-filter_no : (test : ℕ → Bool) (ps : List ℕ) (p : ℕ) → test p ≡ false → filter test (ps ++ p ∷ []) ≡ filter test ps
+pub filter_no : (test : ℕ → Bool) (ps : List ℕ) (p : ℕ) → test p ≡ false → filter test (ps ++ p ∷ []) ≡ filter test ps
 filter_no test ps p h = filter-append test ps (p ∷ []) ∙ ap (λ (b : Bool). filter test ps ++ cond b (p ∷ []) []) h ∙ append-nil (filter test ps)
 
-filter_same : (f g : ℕ → Bool) (ps : List ℕ) → ((q : ℕ) → f q ≡ g q) → filter f ps ≡ filter g ps
+pub filter_same : (f g : ℕ → Bool) (ps : List ℕ) → ((q : ℕ) → f q ≡ g q) → filter f ps ≡ filter g ps
 filter_same f g ps at = ap (λ (test : ℕ → Bool). filter test ps) (λ i q. at q i)
 
 -- ---- the pass over the pixels
@@ -121,10 +121,10 @@ sums_from_counted r connect tree sums h e =
 -- ---- a node is added to its parent
 
 -- the numbers of the nodes that are there
-rows_are : (r : Raster) (connect : Connect) (tree : ComponentTree) → tree ≡ tree_of r connect → length tree.rows ≡ length (nodes r connect)
+pub rows_are : (r : Raster) (connect : Connect) (tree : ComponentTree) → tree ≡ tree_of r connect → length tree.rows ≡ length (nodes r connect)
 rows_are r connect tree e = ap (λ (t : ComponentTree). length t.rows) e ∙ length-rows r connect
 
-parent_is : (r : Raster) (connect : Connect) (tree : ComponentTree) (k : ℕ) → tree ≡ tree_of r connect → parent_in tree.rows k ≡ parent_in (tree_of r connect).rows k
+pub parent_is : (r : Raster) (connect : Connect) (tree : ComponentTree) (k : ℕ) → tree ≡ tree_of r connect → parent_in tree.rows k ≡ parent_in (tree_of r connect).rows k
 parent_is r connect tree k e = ap (λ (t : ComponentTree). parent_in t.rows k) e
 
 parent_sum : (r : Raster) (connect : Connect) (tree : ComponentTree) (sums : List Sums) (k a : ℕ) (s t : Sums) → IsPlane r → AreCounted r tree (suc k) sums → tree ≡ tree_of r connect

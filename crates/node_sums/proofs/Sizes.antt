@@ -108,7 +108,7 @@ sizes r ps plane k = record {
   ry = total-up_to (λ p. level r p *ℤ pos (y_of r p)) moment_bound ps (λ p m. moment_up_to (level r p) (y_of r p) (k.small p m) (y_small r p plane (k.below p m)));
 }
 
-length-filter-le : (test : ℕ → Bool) (xs : List ℕ) → length (filter test xs) ≤ length xs
+pub length-filter-le : (test : ℕ → Bool) (xs : List ℕ) → length (filter test xs) ≤ length xs
 length-filter-le test xs = rw (length-filter test xs) (count_by-le-length test xs)
 
 -- the first count pixels, where their values are in the range

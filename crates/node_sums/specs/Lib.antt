@@ -2,3 +2,4 @@ pub mod Sums
 pub mod Flux
 pub mod Laws
 pub mod Merging
+pub mod Areas

@@ -2,11 +2,13 @@
 #![tactic(auto)]
 
 mod adding;
+mod area;
 mod entry;
 pub mod laws;
 mod measures;
 
 pub use adding::sums;
+pub use area::areas;
 pub use entry::Sums;
 pub use measures::{base, flux};
 

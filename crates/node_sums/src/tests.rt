@@ -13,6 +13,7 @@ struct Case<'a> {
     values: &'a [i64],
     // the level, the base and the flux of each node
     nodes: &'a [(i64, i64, i64)],
+    areas: &'a [u32],
     // a node and its sums
     node: usize,
     sums: Sums,
@@ -39,6 +40,7 @@ fn sums_and_fluxes_of_small_planes(rt: HostRuntime) {
             connect: Connect::Four,
             values: &[1, 6, 2, 5, 1],
             nodes: &[(1, 1, 10), (2, 1, 10), (5, 2, 3), (6, 2, 4)],
+            areas: &[5, 3, 1, 1],
             node: 1,
             sums: Sums {
                 area: 3,
@@ -64,6 +66,7 @@ fn sums_and_fluxes_of_small_planes(rt: HostRuntime) {
             connect: Connect::Eight,
             values: &[3, -1, 99, 4],
             nodes: &[(-1, -1, 9), (3, -1, 9), (4, 3, 1)],
+            areas: &[3, 2, 1],
             node: 0,
             sums: Sums {
                 area: 3,
@@ -94,6 +97,7 @@ fn sums_and_fluxes_of_small_planes(rt: HostRuntime) {
         }
         let tree = plain_tree(rt.alloc(), &plane, case.connect).expect(&rt, "memory");
         let found = sums(rt.alloc(), &plane, &tree).expect(&rt, "memory");
+        let areas = areas(rt.alloc(), &plane, &tree).expect(&rt, "memory");
         let count = tree.rows().len();
         assert_eq!(rt; count, case.nodes.len(), "case {number}");
         assert!(rt; count < 9);
@@ -103,5 +107,6 @@ fn sums_and_fluxes_of_small_planes(rt: HostRuntime) {
         }
         assert!(rt; case.node < found.len());
         assert!(rt; found[case.node] == case.sums, "sums of case {number}");
+        assert!(rt; areas.as_slice() == case.areas, "areas of case {number}");
     }
 }
