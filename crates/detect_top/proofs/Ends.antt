@@ -9,7 +9,7 @@ use Rattle.comp_tree.specs.Raster.{Raster}
 use Rattle.comp_tree.specs.ComponentTree.{ComponentTree}
 use Rattle.comp_tree.specs.Components.{tree_of}
 use Rattle.detect_top.specs.declared.words.Order.{Order}
-use Rattle.detect_top.specs.Areas.{areas}
+use Rattle.node_sums.specs.Areas.{areas_in}
 use Rattle.detect_top.specs.declared.words.Usage.{Usage as AtFault}
 use Rattle.detect_top.specs.declared.fault.Fault.{Fault}
 use Rattle.detect_top.specs.declared.top.End.{End}
@@ -130,7 +130,7 @@ memory_answered order bytes left left' reads told stopped =
 
 -- ---- an image, and what is made of it
 
-pub list_is : (r : Raster) (connect : Connect) (t : ComponentTree) (counts : List ℕ) → t ≡ tree_of r connect → counts ≡ areas r connect → tree_lines t.rows counts ≡ node_list r connect
+pub list_is : (r : Raster) (connect : Connect) (t : ComponentTree) (counts : List ℕ) → t ≡ tree_of r connect → counts ≡ areas_in r connect → tree_lines t.rows counts ≡ node_list r connect
 unfolding node_list
 list_is r connect t counts p q = ap (λ (u : ComponentTree). tree_lines u.rows counts) p ∙ ap (tree_lines (tree_of r connect).rows) q
 

@@ -14,3 +14,4 @@ pub mod Trials
 pub mod Summaries
 pub mod Shapes
 pub mod NearPixels
+pub mod AnswerStatus

@@ -3,7 +3,6 @@ pub mod Options
 pub mod Words
 pub mod Given
 pub mod Faults
-pub mod Areas
 pub mod Lines
 pub mod Catalogues
 pub mod Trials
@@ -12,3 +11,4 @@ pub mod Streams
 pub mod Answers
 pub mod Runs
 pub mod Headline
+pub mod Laws

@@ -9,7 +9,7 @@ use Rattle.comp_tree.specs.Limits.{no_node}
 use Rattle.comp_tree.specs.Raster.{Raster}
 use Rattle.comp_tree.specs.Components.{tree_of}
 use Rattle.detect_top.specs.Words.{texts}
-use Rattle.detect_top.specs.Areas.{areas}
+use Rattle.node_sums.specs.Areas.{areas_in}
 
 -- pieces of text, one behind the other
 abbrev pub joined : List (Bor (List ℕ)) → List ℕ
@@ -41,4 +41,4 @@ tree_lines rows areas = concat (lines_of rows areas)
 
 -- the lines of the component tree of a plane
 unfoldable pub node_list : Raster → Connect → List ℕ
-node_list r connect = tree_lines (tree_of r connect).rows (areas r connect)
+node_list r connect = tree_lines (tree_of r connect).rows (areas_in r connect)

@@ -1,11 +1,11 @@
 //! The command: its words, the image that it reads, and what it writes.
 #![tactic(auto)]
 
-mod areas;
 mod component;
 mod detection;
 mod fault;
 mod image;
+pub mod laws;
 mod lines;
 mod notes;
 mod options;

@@ -14,7 +14,6 @@ ghost use Rattle.detect_top.specs.Lines.{tree_lines, node_list};
 ghost use Rattle.detect_top.specs.Products.{output_of_job, output_of, image_made, bytes_of, SuitsJob, IsWritable};
 ghost use Rattle.detect_top.specs.Trials.{trial_image as image_of};
 
-use crate::areas::areas;
 use crate::component::{component_tree, residual_plane};
 use crate::detection::{Detection, detect, put_detection};
 use crate::lines::put_tree;
@@ -24,7 +23,7 @@ use comp_tree::{Connect, Plane, Shape, Tree};
 use dev_io::{OutOfMemory, Sink};
 use filter_rules::{Criterion, Rule, filter};
 use fits_write::{WriteFault, put_plane};
-use node_sums::sums;
+use node_sums::{areas, sums};
 use source_pick::{Choice, clear_far};
 use std::alloc::Global;
 use std::thread::Threads;
