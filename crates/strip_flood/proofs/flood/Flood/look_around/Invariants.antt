@@ -1,13 +1,16 @@
-use Rattle.strip_flood.specs.Flood.{IsStep, IsAtFront, work}
-use Rattle.strip_flood.specs.Strips.{ground_of, state_of, IsBetweenTurns}
+use Rattle.std.proofs.Common.{ℕ, ◌+◌, ◌-◌, ◌<◌, ◌≤◌, set}
+use Rattle.strip_flood.specs.Flood.{IsStep, IsAtFront, ends}
+use Rattle.strip_flood.specs.Strips.{ground_of, looking, IsLooking}
 use Rattle.strip_flood.proofs.flood.Flood.look_around.Given as goal
 
-abbrev pub invariant-loop-at : goal.invariant-loop-at
-invariant-loop-at g l = record {
-  between : IsBetweenTurns l.strip l.self;
-  step : IsStep (ground_of l.strip) l.initial.self.cursors.items l.self.cursors.items l.initial.queued l.queued l.initial.looked l.looked;
-  front : IsAtFront (ground_of l.strip) (state_of l.self) l.at.rank l.at.pixel;
+abbrev pub invariant-loop-cursor : goal.invariant-loop-cursor
+invariant-loop-cursor g l = record {
+  around : IsLooking l.strip l.self l.at.pixel l.cursor;
+  front : IsAtFront (ground_of l.strip) (looking l.strip l.self l.at.pixel l.cursor) l.at.rank l.at.pixel;
+  step : IsStep (ground_of l.strip) l.initial.self.cursors.items (looking l.strip l.self l.at.pixel l.cursor).cursors l.initial.queued l.queued l.initial.looked l.looked;
+  first : 0 < l.cursor;
+  last : l.cursor ≤ ends l.strip.connect + 1;
 }
 
-abbrev pub decreases-loop-at : goal.decreases-loop-at
-decreases-loop-at g l = work l.self.cursors.items
+abbrev pub decreases-loop-cursor : goal.decreases-loop-cursor
+decreases-loop-cursor g l = ends l.strip.connect + 1 - l.cursor
