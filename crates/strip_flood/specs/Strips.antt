@@ -6,7 +6,7 @@ use Rattle.comp_tree.specs.Grid.{IsInner}
 use Rattle.strip_flood.specs.declared.strip.Strip.{Strip}
 use Rattle.strip_flood.specs.declared.flood.Flood.{Flood}
 use Rattle.strip_flood.specs.Queue.{IsEmpty}
-use Rattle.strip_flood.specs.Flood.{Ground, State, as_ground, state, ends, cursor_of, work, inner_count, IsRanked, IsTurning, IsAtFront, IsStep}
+use Rattle.strip_flood.specs.Flood.{Ground, State, as_ground, state, ends, cursor_of, work, inner_count, HasOffsets, IsRanked, IsTurning, IsAtFront, IsStep}
 
 -- the values of pixels by their ranks
 abbrev pub ranked_values : List ℤ → List ℕ → List (Option ℤ)
@@ -32,6 +32,7 @@ pub record IsStrip (s : Strip) : Type 0 where
   pub ranked : IsRanked (ground_of s)
   pub narrow : s.width ≤ 65535
   pub few : s.first + length s.ranks.items ≤ 16777216
+  pub offsets : HasOffsets s.connect s.width s.offsets
 
 -- what holds between two turns of the flooding
 pub record IsBetweenTurns (s : Strip) (f : Flood) : Type 0 where

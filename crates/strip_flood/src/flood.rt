@@ -9,7 +9,7 @@
 ghost use Rattle.std.specs.Prelude.{◌≡◌, ◌≢◌, ℕ, ◌+◌, ◌-◌, ◌%◌, ◌<◌, ◌≤◌, length, IfOk, IfSome, MatchOption, slice_set, slice_index, [], true, false};
 ghost use Rattle.comp_tree.specs.Forest.{no_node, IsForest};
 ghost use Rattle.strip_flood.specs.Queue.{IsEmpty};
-ghost use Rattle.strip_flood.specs.Flood.{list_at, ends, rank_of, IsOf, IsNeighbour, IsFair, IsBusyBut, work, seen_count, looks};
+ghost use Rattle.strip_flood.specs.Flood.{list_at, ends, rank_of, IsOf, IsNeighbour, IsInterior, IsFair, IsBusyBut, work, seen_count, looks};
 ghost use Rattle.strip_flood.specs.Strips.{ground_of, state_of, values_of, cursor_at, IsStrip, IsBetweenTurns, IsCurrent, IsTurned, IsLooking, IsCurrentWhile, IsLook, IsStepOf, IsFresh, StandsForStrip, defined_in, adjacencies_in};
 
 use crate::lists::{add, front, highest, take};
@@ -129,9 +129,42 @@ impl Flood {
         self.see(strip, at, cursor, n, queued, looked)
     }
 
-    /// Looks in all directions that are left, up to the first that leads to a higher pixel. It tells where the flooding goes on,
-    /// if that is not the current pixel.
-    fn look_around<A: Ledger, B: Ledger>(
+    /// Looks in all directions that are left, up to the first that leads to a higher pixel, from a pixel with all nine around it in
+    /// the strip. It tells where the flooding goes on, if that is not the current pixel.
+    fn look_inside<A: Ledger, B: Ledger>(
+        &mut self,
+        strip: &Strip,
+        at: Current,
+        queued: &mut Steps<A>,
+        looked: &mut Steps<B>,
+    ) -> Option<Current>
+        requires strip { IsStrip strip.now }
+        requires between { IsBetweenTurns strip.now self.old }
+        requires front { IsCurrent strip.now self.old at.rank at.pixel }
+        requires interior { IsInterior strip.now.width strip.now.first (length strip.now.ranks.items) at.pixel }
+        ensures between { IsBetweenTurns strip.now self.new }
+        ensures step { IsStepOf strip.now self.old self.new queued.old queued.new looked.old looked.new }
+        ensures work { IfSome result (λ c. work self.new.cursors.items < work self.old.cursors.items) }
+        ensures next { MatchOption result (IsTurned strip.now self.new at.rank at.pixel)
+            (λ c. IsCurrent strip.now self.new c.rank c.pixel) }
+    {
+        let last = directions(strip.connect);
+        let here = (at.pixel - strip.first) as usize;
+        let mut cursor = self.cursors[here];
+        while cursor <= last {
+            let n = strip.inner_neighbour(at.pixel, u32::from(cursor - 1));
+            if let Some(higher) = self.see(strip, at, cursor, n, queued, looked) {
+                self.cursors[here] = cursor + 1;
+                return Some(higher);
+            }
+            cursor += 1;
+        }
+        self.cursors[here] = cursor;
+        None
+    }
+
+    /// Does the same from any pixel.
+    fn look_at_edge<A: Ledger, B: Ledger>(
         &mut self,
         strip: &Strip,
         at: Current,
@@ -160,6 +193,31 @@ impl Flood {
         }
         self.cursors[place] = cursor;
         None
+    }
+
+    /// Looks in all directions that are left, up to the first that leads to a higher pixel. It tells where the flooding goes on,
+    /// if that is not the current pixel.
+    #[inline]
+    fn look_around<A: Ledger, B: Ledger>(
+        &mut self,
+        strip: &Strip,
+        at: Current,
+        queued: &mut Steps<A>,
+        looked: &mut Steps<B>,
+    ) -> Option<Current>
+        requires strip { IsStrip strip.now }
+        requires between { IsBetweenTurns strip.now self.old }
+        requires front { IsCurrent strip.now self.old at.rank at.pixel }
+        ensures between { IsBetweenTurns strip.now self.new }
+        ensures step { IsStepOf strip.now self.old self.new queued.old queued.new looked.old looked.new }
+        ensures work { IfSome result (λ c. work self.new.cursors.items < work self.old.cursors.items) }
+        ensures next { MatchOption result (IsTurned strip.now self.new at.rank at.pixel)
+            (λ c. IsCurrent strip.now self.new c.rank c.pixel) }
+    {
+        if strip.is_interior(at.pixel) {
+            return self.look_inside(strip, at, queued, looked);
+        }
+        self.look_at_edge(strip, at, queued, looked)
     }
 
     /// Takes out the current pixel, which has no direction left. It is linked to the kept pixel of its rank, or kept in its place.

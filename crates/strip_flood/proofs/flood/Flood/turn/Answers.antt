@@ -18,4 +18,4 @@ returns-clause-work g c =
     let less : work (set c.look_around.new.self.cursors.items (c.args.at.pixel - c.args.strip.now.first) 10) < work c.look_around.new.self.cursors.items
     = step_less (ground_of c.args.strip.now) c.look_around.new.self.cursors.items c.look_around.ensures.between.turning.fair.cursors_length c.args.at.pixel 10 at.top.queued.inside at.top.queued.high (omega arith) in
     let before : work c.look_around.new.self.cursors.items ≤ work c.args.self.now.cursors.items = c.look_around.ensures.step.work in
-    subst (λ n. work n < work c.args.self.now.cursors.items) (sym c.finish.ensures.cursors) (omega arith)
+    subst (λ n. work n < work c.args.self.now.cursors.items) (sym {b = set c.look_around.new.self.cursors.items (c.args.at.pixel - c.args.strip.now.first) 10} c.finish.ensures.cursors) (omega arith)

@@ -1,7 +1,7 @@
 use Rattle.std.proofs.Common.{ℕ, ◌+◌, ◌-◌, ◌<◌, ◌≤◌, set}
 use Rattle.strip_flood.specs.Flood.{IsStep, IsAtFront, ends}
 use Rattle.strip_flood.specs.Strips.{ground_of, looking, IsLooking}
-use Rattle.strip_flood.proofs.flood.Flood.look_around.Given as goal
+use Rattle.strip_flood.proofs.flood.Flood.look_at_edge.Given as goal
 
 abbrev pub invariant-loop-cursor : goal.invariant-loop-cursor
 invariant-loop-cursor g l = record {

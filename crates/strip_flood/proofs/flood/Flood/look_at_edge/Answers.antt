@@ -4,7 +4,7 @@ use Rattle.strip_flood.specs.Strips.{ground_of, state_of, looking}
 use Rattle.strip_flood.proofs.Flow.{ends_small, cursor_new, cursor_read}
 use Rattle.strip_flood.proofs.Looking.{same_cursors}
 use Rattle.strip_flood.proofs.Counting.{step_same, step_trans}
-use Rattle.strip_flood.proofs.flood.Flood.look_around.Goals as goal
+use Rattle.strip_flood.proofs.flood.Flood.look_at_edge.Goals as goal
 
 pub loop-cursor-init : goal.loop-cursor-init
 loop-cursor-init g c =
