@@ -5,6 +5,7 @@ pub mod Stepping
 pub mod Counting
 pub mod Retiring
 pub mod Seeing
+pub mod Looking
 pub mod Flooded
 pub mod Working
 pub mod Numbering

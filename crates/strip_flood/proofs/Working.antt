@@ -21,7 +21,7 @@ use Rattle.comp_tree.proofs.Agreeing.{stands_inner_agree, forest_agree}
 use Rattle.strip_flood.specs.declared.strip.Strip.{Strip}
 use Rattle.strip_flood.specs.declared.flood.Flood.{Flood}
 use Rattle.strip_flood.specs.Queue.{IsEmpty}
-use Rattle.strip_flood.specs.Flood.{Ground, State, as_ground, state, list_at, direction, IsOf, rank_of, cursor_of, IsQueued, IsKept, IsOpen, IsLooked, IsRanked, IsKeptAt, IsFair, IsTurning, seen_count, is_looked, looks, inner_count}
+use Rattle.strip_flood.specs.Flood.{Ground, State, as_ground, state, list_at, direction, IsOf, rank_of, cursor_of, IsQueued, IsKept, IsOpen, IsLooked, IsRanked, IsKeptAt, IsFair, IsTurning, HasOffsets, seen_count, is_looked, looks, inner_count}
 use Rattle.strip_flood.specs.Jobs.{JobView, IsFit, IsStanding, IsStandingWhereFlooded, first_of, view_of, IsRising, IsJob, AreRanks}
 use Rattle.strip_flood.specs.Strips.{ranked_values, plane_values, values_of, ground_of, state_of, IsStrip, IsBetweenTurns, IsAll, IsFresh}
 use Rattle.strip_flood.proofs.Stepping.{not_none}
@@ -193,15 +193,16 @@ strip_small width height first_row end_row count limits l h e = by (end_row - fi
       let limit : width * height ≤ 16777216 = limits.few_pixels in omega arith
 
 -- the strip of a job that is prepared
-pub strip_known : (connect : Connect) (width height first_row end_row : ℕ) (ranks : Vec ℕ Global) (levels : Vec ℤ Global) → IsWithinLimits width height → first_row < end_row → end_row ≤ height
-    → length ranks.items ≡ (end_row - first_row) * width → IsRising levels.items
-    → IsStrip (record { connect = connect; width = width; first = first_row * width; ranks = ranks; levels = levels })
-strip_known connect width height first_row end_row ranks levels limits rows inside count rising =
+pub strip_known : (connect : Connect) (width height first_row end_row : ℕ) (ranks : Vec ℕ Global) (levels : Vec ℤ Global) (offsets : List ℕ) → IsWithinLimits width height → first_row < end_row → end_row ≤ height
+    → length ranks.items ≡ (end_row - first_row) * width → IsRising levels.items → HasOffsets connect width offsets
+    → IsStrip (record { connect = connect; width = width; first = first_row * width; ranks = ranks; levels = levels; offsets = offsets })
+strip_known connect width height first_row end_row ranks levels offsets limits rows inside count rising far =
     let small : first_row * width + length ranks.items ≤ 16777216 = strip_small width height first_row end_row (length ranks.items) limits rows inside count in
     record {
       ranked = job_ranked (plane_values (first_row * width) levels.items ranks.items) width connect (first_row * width) ranks.items levels.items limits.some_columns (omega arith) rising (λ i l. plane_at (first_row * width) levels.items ranks.items i);
       narrow = limits.few_columns;
       few = small;
+      offsets = far;
     }
 
 pub fit_after : (width height first_row end_row : ℕ) (strip : Strip) (flood after : Flood) (b d : Bool) (p : Raster)

@@ -145,6 +145,18 @@ pub record IsNeighbour (connect : Connect) (width first count p k n : ℕ) : Typ
 pub record HasNone (connect : Connect) (width first count p k : ℕ) : Type 0 where
   pub no_node : (y : ℕ) → IsWithin first count y → IsTrue (are_neighbours connect width p y) → direction connect width p y ≡ k → ⊥
 
+-- how far the pixel in each direction lies behind the first of the nine around and at a pixel
+pub record HasOffsets (connect : Connect) (width : ℕ) (offsets : List ℕ) : Type 0 where
+  pub count : length offsets ≡ 8
+  pub offset : (k : ℕ) → k < ends connect → slice_index offsets k ≡ cell connect k / 3 * width + cell connect k % 3
+
+-- all nine pixels around and at p are of the count pixels from first on
+pub record IsInterior (width first count p : ℕ) : Type 0 where
+  pub up : first + width < p
+  pub down : p + width + 1 < first + count
+  pub left : 0 < p % width
+  pub right : p % width + 1 < width
+
 -- all that the cursors have to go
 abbrev pub work : List ℕ → ℕ
 work cursors = sum_below (λ i. 10 - slice_index cursors i) (length cursors)

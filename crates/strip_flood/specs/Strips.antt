@@ -1,12 +1,12 @@
 -- A strip and its flooding as the code keeps them.
-use Rattle.std.specs.Prelude.{◌≡◌, ℕ, ◌+◌, ◌<◌, ◌≤◌, ◌++◌, List, length, map, replicate, slice_index, slice_get, Option, None, ℤ}
+use Rattle.std.specs.Prelude.{◌≡◌, ℕ, ◌+◌, ◌-◌, ◌<◌, ◌≤◌, ◌++◌, List, length, map, replicate, slice_index, slice_get, slice_set, Option, None, ℤ}
 use Rattle.comp_tree.specs.Counts.{count_defined}
 use Rattle.comp_tree.specs.Forest.{no_node, StandsFor}
 use Rattle.comp_tree.specs.Grid.{IsInner}
 use Rattle.strip_flood.specs.declared.strip.Strip.{Strip}
 use Rattle.strip_flood.specs.declared.flood.Flood.{Flood}
 use Rattle.strip_flood.specs.Queue.{IsEmpty}
-use Rattle.strip_flood.specs.Flood.{Ground, State, as_ground, state, cursor_of, inner_count, IsRanked, IsTurning, IsAtFront, IsStep}
+use Rattle.strip_flood.specs.Flood.{Ground, State, as_ground, state, ends, cursor_of, work, inner_count, HasOffsets, IsRanked, IsTurning, IsAtFront, IsStep}
 
 -- the values of pixels by their ranks
 abbrev pub ranked_values : List ℤ → List ℕ → List (Option ℤ)
@@ -32,6 +32,7 @@ pub record IsStrip (s : Strip) : Type 0 where
   pub ranked : IsRanked (ground_of s)
   pub narrow : s.width ≤ 65535
   pub few : s.first + length s.ranks.items ≤ 16777216
+  pub offsets : HasOffsets s.connect s.width s.offsets
 
 -- what holds between two turns of the flooding
 pub record IsBetweenTurns (s : Strip) (f : Flood) : Type 0 where
@@ -49,6 +50,31 @@ IsCurrent s f rank pixel = IsAtFront (ground_of s) (state_of f) rank pixel
 -- what some steps did with the cursors and the two counters
 abbrev pub IsStepOf : Strip → Flood → Flood → ℕ → ℕ → ℕ → ℕ → Type 0
 IsStepOf s old new queued_old queued_new looked_old looked_new = IsStep (ground_of s) old.cursors.items new.cursors.items queued_old queued_new looked_old looked_new
+
+-- the current pixel has no direction left
+pub record IsTurned (s : Strip) (f : Flood) (rank pixel : ℕ) : Type 0 where
+  pub current : IsCurrent s f rank pixel
+  pub turned : cursor_at s f pixel ≡ ends s.connect + 1
+
+-- the state with this cursor of p, which looks around and writes its cursor back when the flooding leaves it
+abbrev pub looking : Strip → Flood → ℕ → ℕ → State
+looking s f p cursor = state f.queue.lists (slice_set f.cursors.items (p - s.first) cursor) f.earliest.items f.links.items
+
+-- p looks around, and its cursor is this one
+pub record IsLooking (s : Strip) (f : Flood) (p cursor : ℕ) : Type 0 where
+  pub items : f.queue.items ≡ length s.ranks.items
+  pub queued : 0 < cursor_at s f p
+  pub turning : IsTurning (ground_of s) (looking s f p cursor)
+
+-- while p looks around, this pixel is the front of this rank, and no open pixel is higher
+abbrev pub IsCurrentWhile : Strip → Flood → ℕ → ℕ → ℕ → ℕ → Type 0
+IsCurrentWhile s f p cursor rank pixel = IsAtFront (ground_of s) (looking s f p cursor) rank pixel
+
+-- what one look of p, whose cursor was this one, did with the cursors and the two counters
+pub record IsLook (s : Strip) (old new : Flood) (p cursor queued_old queued_new looked_old looked_new : ℕ) : Type 0 where
+  pub after : IsLooking s new p (cursor + 1)
+  pub step : IsStep (ground_of s) (looking s old p cursor).cursors (looking s new p (cursor + 1)).cursors queued_old queued_new looked_old looked_new
+  pub less : work (looking s new p (cursor + 1)).cursors < work (looking s old p cursor).cursors
 
 -- the links stand for the strip's adjacencies
 abbrev pub StandsForStrip : Strip → List ℕ → Type 0

@@ -4,13 +4,13 @@
 // neighbour that was not seen is queued, and where it is higher, the flooding goes on from it. A pixel that looked in all
 // directions is finished: it leaves the queue and is linked. Of the finished pixels of a rank that has queued ones, the
 // earliest is kept, and the others are linked to it. When the rank runs empty, its kept pixel is linked to the front of the next
-// rank.
+// rank. Only then is the queue asked for its highest rank: else the pixel to go on from is known.
 
-ghost use Rattle.std.specs.Prelude.{◌≡◌, ◌≢◌, ℕ, ◌+◌, ◌-◌, ◌%◌, ◌<◌, ◌≤◌, length, IfOk, slice_set, slice_index, [], true, false};
+ghost use Rattle.std.specs.Prelude.{◌≡◌, ◌≢◌, ℕ, ◌+◌, ◌-◌, ◌%◌, ◌<◌, ◌≤◌, length, IfOk, IfSome, MatchOption, slice_set, slice_index, [], true, false};
 ghost use Rattle.comp_tree.specs.Forest.{no_node, IsForest};
 ghost use Rattle.strip_flood.specs.Queue.{IsEmpty};
-ghost use Rattle.strip_flood.specs.Flood.{list_at, ends, rank_of, IsOf, IsNeighbour, IsFair, IsBusyBut, IsAround, IsSeen, IsQueued, work, seen_count, looks};
-ghost use Rattle.strip_flood.specs.Strips.{ground_of, state_of, values_of, cursor_at, IsStrip, IsBetweenTurns, IsCurrent, IsStepOf, IsFresh, StandsForStrip, defined_in, adjacencies_in};
+ghost use Rattle.strip_flood.specs.Flood.{list_at, ends, rank_of, IsOf, IsNeighbour, IsInterior, IsFair, IsBusyBut, work, seen_count, looks};
+ghost use Rattle.strip_flood.specs.Strips.{ground_of, state_of, values_of, cursor_at, IsStrip, IsBetweenTurns, IsCurrent, IsTurned, IsLooking, IsCurrentWhile, IsLook, IsStepOf, IsFresh, StandsForStrip, defined_in, adjacencies_in};
 
 use crate::lists::{add, front, highest, take};
 use crate::strip::{Strip, directions};
@@ -35,12 +35,11 @@ pub struct Flood {
     pub(crate) links: Vec<u32>,
 }
 
-/// The pixel that looks at its neighbours, the front of the highest rank.
+/// The pixel that the flooding is at, the front of the highest rank.
 #[derive(Clone, Copy)]
 struct Current {
     rank: u32,
     pixel: u32,
-    column: u32,
 }
 
 impl Flood {
@@ -62,131 +61,170 @@ impl Flood {
         })
     }
 
-    /// Sees to it that the neighbour `n` was seen, where it is defined. It tells whether the current pixel stays the front.
+    /// Looks at the neighbour `n`, to which the cursor leads, and queues it where it is defined and was not seen. It tells where
+    /// the flooding goes on, if that is not the current pixel.
+    #[inline]
     fn see<A: Ledger, B: Ledger>(
         &mut self,
         strip: &Strip,
         at: Current,
-        k: u32,
+        cursor: u8,
         n: u32,
         queued: &mut Steps<A>,
         looked: &mut Steps<B>,
-    ) -> bool
+    ) -> Option<Current>
         requires strip { IsStrip strip.now }
-        requires between { IsBetweenTurns strip.now self.old }
-        requires front { IsCurrent strip.now self.old at.rank at.pixel }
+        requires looking { IsLooking strip.now self.old at.pixel cursor }
+        requires front { IsCurrentWhile strip.now self.old at.pixel cursor at.rank at.pixel }
+        requires first { 0 < cursor }
+        requires last { cursor ≤ ends strip.now.connect }
         requires next { IsNeighbour strip.now.connect strip.now.width strip.now.first
-            (length strip.now.ranks.items) at.pixel k n }
-        ensures between { IsBetweenTurns strip.now self.new }
-        ensures queued { IsQueued (ground_of strip.now) self.new.cursors.items at.pixel }
-        ensures same { cursor_at strip.now self.new at.pixel ≡ cursor_at strip.now self.old at.pixel }
-        ensures seen { IsSeen (ground_of strip.now) self.new.cursors.items at.pixel k }
-        ensures step { IsStepOf strip.now self.old self.new queued.old queued.new looked.old looked.old }
-        ensures around { IsAround (ground_of strip.now) at.pixel k looked.old looked.new }
-        ensures stays { result ≡ true → IsCurrent strip.now self.new at.rank at.pixel }
+            (length strip.now.ranks.items) at.pixel (cursor - 1) n }
+        ensures look { IsLook strip.now self.old self.new at.pixel cursor queued.old queued.new looked.old looked.new }
+        ensures next { MatchOption result (IsCurrentWhile strip.now self.new at.pixel (cursor + 1) at.rank at.pixel)
+            (λ c. IsCurrentWhile strip.now self.new at.pixel (cursor + 1) c.rank c.pixel) }
     {
         let there = (n - strip.first) as usize;
         // most neighbours were seen, and of those no rank is read
         if self.cursors[there] > 0 {
             looked.tick();
-            return true;
+            return None;
         }
         let Some(rank) = strip.rank(n) else {
-            return true;
+            return None;
         };
         looked.tick();
         add(&mut self.queue, rank, n - strip.first, queued);
         self.cursors[there] = 1;
-        rank <= at.rank
+        if rank <= at.rank {
+            return None;
+        }
+        Some(Current { rank, pixel: n })
     }
 
-    /// Looks in direction `k`. It tells whether the current pixel stays the front.
-    fn look_out<A: Ledger, B: Ledger>(
-        &mut self,
-        strip: &Strip,
-        at: Current,
-        k: u32,
-        queued: &mut Steps<A>,
-        looked: &mut Steps<B>,
-    ) -> bool
-        requires strip { IsStrip strip.now }
-        requires between { IsBetweenTurns strip.now self.old }
-        requires front { IsCurrent strip.now self.old at.rank at.pixel }
-        requires column { at.column ≡ at.pixel % strip.now.width }
-        requires direction { k < ends strip.now.connect }
-        ensures between { IsBetweenTurns strip.now self.new }
-        ensures queued { IsQueued (ground_of strip.now) self.new.cursors.items at.pixel }
-        ensures same { cursor_at strip.now self.new at.pixel ≡ cursor_at strip.now self.old at.pixel }
-        ensures seen { IsSeen (ground_of strip.now) self.new.cursors.items at.pixel k }
-        ensures step { IsStepOf strip.now self.old self.new queued.old queued.new looked.old looked.old }
-        ensures around { IsAround (ground_of strip.now) at.pixel k looked.old looked.new }
-        ensures stays { result ≡ true → IsCurrent strip.now self.new at.rank at.pixel }
-    {
-        let Some(n) = strip.neighbour(at.pixel, at.column, k) else {
-            return true;
-        };
-        self.see(strip, at, k, n, queued, looked)
-    }
-
-    /// Looks in the current pixel's next direction. It tells whether that pixel stays the front.
+    /// Looks where the cursor leads, if there is a pixel. It tells where the flooding goes on, if that is not the current pixel.
+    #[inline]
     fn look<A: Ledger, B: Ledger>(
         &mut self,
         strip: &Strip,
         at: Current,
+        column: u32,
+        cursor: u8,
         queued: &mut Steps<A>,
         looked: &mut Steps<B>,
-    ) -> bool
+    ) -> Option<Current>
+        requires strip { IsStrip strip.now }
+        requires looking { IsLooking strip.now self.old at.pixel cursor }
+        requires front { IsCurrentWhile strip.now self.old at.pixel cursor at.rank at.pixel }
+        requires column { column ≡ at.pixel % strip.now.width }
+        requires first { 0 < cursor }
+        requires last { cursor ≤ ends strip.now.connect }
+        ensures look { IsLook strip.now self.old self.new at.pixel cursor queued.old queued.new looked.old looked.new }
+        ensures next { MatchOption result (IsCurrentWhile strip.now self.new at.pixel (cursor + 1) at.rank at.pixel)
+            (λ c. IsCurrentWhile strip.now self.new at.pixel (cursor + 1) c.rank c.pixel) }
+    {
+        let Some(n) = strip.neighbour(at.pixel, column, u32::from(cursor - 1)) else {
+            return None;
+        };
+        self.see(strip, at, cursor, n, queued, looked)
+    }
+
+    /// Looks in all directions that are left, up to the first that leads to a higher pixel, from a pixel with all nine around it in
+    /// the strip. It tells where the flooding goes on, if that is not the current pixel.
+    fn look_inside<A: Ledger, B: Ledger>(
+        &mut self,
+        strip: &Strip,
+        at: Current,
+        queued: &mut Steps<A>,
+        looked: &mut Steps<B>,
+    ) -> Option<Current>
         requires strip { IsStrip strip.now }
         requires between { IsBetweenTurns strip.now self.old }
         requires front { IsCurrent strip.now self.old at.rank at.pixel }
-        requires column { at.column ≡ at.pixel % strip.now.width }
-        requires more { cursor_at strip.now self.old at.pixel ≤ ends strip.now.connect }
+        requires interior { IsInterior strip.now.width strip.now.first (length strip.now.ranks.items) at.pixel }
         ensures between { IsBetweenTurns strip.now self.new }
         ensures step { IsStepOf strip.now self.old self.new queued.old queued.new looked.old looked.new }
-        ensures work { work self.new.cursors.items < work self.old.cursors.items }
-        ensures stays { result ≡ true → IsCurrent strip.now self.new at.rank at.pixel }
+        ensures work { IfSome result (λ c. work self.new.cursors.items < work self.old.cursors.items) }
+        ensures next { MatchOption result (IsTurned strip.now self.new at.rank at.pixel)
+            (λ c. IsCurrent strip.now self.new c.rank c.pixel) }
     {
-        let place = (at.pixel - strip.first) as usize;
-        let cursor = self.cursors[place];
-        let stays = self.look_out(strip, at, u32::from(cursor - 1), queued, looked);
-        self.cursors[place] = cursor + 1;
-        stays
+        let last = directions(strip.connect);
+        let here = (at.pixel - strip.first) as usize;
+        let mut cursor = self.cursors[here];
+        while cursor <= last {
+            let n = strip.inner_neighbour(at.pixel, u32::from(cursor - 1));
+            if let Some(higher) = self.see(strip, at, cursor, n, queued, looked) {
+                self.cursors[here] = cursor + 1;
+                return Some(higher);
+            }
+            cursor += 1;
+        }
+        self.cursors[here] = cursor;
+        None
     }
 
-    /// Looks in all directions that are left, up to the first that leads to a higher pixel. It tells whether there was none.
+    /// Does the same from any pixel.
+    fn look_at_edge<A: Ledger, B: Ledger>(
+        &mut self,
+        strip: &Strip,
+        at: Current,
+        queued: &mut Steps<A>,
+        looked: &mut Steps<B>,
+    ) -> Option<Current>
+        requires strip { IsStrip strip.now }
+        requires between { IsBetweenTurns strip.now self.old }
+        requires front { IsCurrent strip.now self.old at.rank at.pixel }
+        ensures between { IsBetweenTurns strip.now self.new }
+        ensures step { IsStepOf strip.now self.old self.new queued.old queued.new looked.old looked.new }
+        ensures work { IfSome result (λ c. work self.new.cursors.items < work self.old.cursors.items) }
+        ensures next { MatchOption result (IsTurned strip.now self.new at.rank at.pixel)
+            (λ c. IsCurrent strip.now self.new c.rank c.pixel) }
+    {
+        let column = at.pixel % strip.width;
+        let last = directions(strip.connect);
+        let place = (at.pixel - strip.first) as usize;
+        let mut cursor = self.cursors[place];
+        while cursor <= last {
+            if let Some(higher) = self.look(strip, at, column, cursor, queued, looked) {
+                self.cursors[place] = cursor + 1;
+                return Some(higher);
+            }
+            cursor += 1;
+        }
+        self.cursors[place] = cursor;
+        None
+    }
+
+    /// Looks in all directions that are left, up to the first that leads to a higher pixel. It tells where the flooding goes on,
+    /// if that is not the current pixel.
+    #[inline]
     fn look_around<A: Ledger, B: Ledger>(
         &mut self,
         strip: &Strip,
         at: Current,
         queued: &mut Steps<A>,
         looked: &mut Steps<B>,
-    ) -> bool
+    ) -> Option<Current>
         requires strip { IsStrip strip.now }
         requires between { IsBetweenTurns strip.now self.old }
         requires front { IsCurrent strip.now self.old at.rank at.pixel }
-        requires column { at.column ≡ at.pixel % strip.now.width }
         ensures between { IsBetweenTurns strip.now self.new }
         ensures step { IsStepOf strip.now self.old self.new queued.old queued.new looked.old looked.new }
-        ensures work { result ≡ false → work self.new.cursors.items < work self.old.cursors.items }
-        ensures front { result ≡ true → IsCurrent strip.now self.new at.rank at.pixel }
-        ensures turned { result ≡ true → cursor_at strip.now self.new at.pixel ≡ ends strip.now.connect + 1 }
+        ensures work { IfSome result (λ c. work self.new.cursors.items < work self.old.cursors.items) }
+        ensures next { MatchOption result (IsTurned strip.now self.new at.rank at.pixel)
+            (λ c. IsCurrent strip.now self.new c.rank c.pixel) }
     {
-        let last = directions(strip.connect);
-        let place = (at.pixel - strip.first) as usize;
-        while self.cursors[place] <= last {
-            if !self.look(strip, at, queued, looked) {
-                return false;
-            }
+        if strip.is_interior(at.pixel) {
+            return self.look_inside(strip, at, queued, looked);
         }
-        true
+        self.look_at_edge(strip, at, queued, looked)
     }
 
     /// Takes out the current pixel, which has no direction left. It is linked to the kept pixel of its rank, or kept in its place.
     fn retire(&mut self, strip: &Strip, at: Current)
         requires strip { IsStrip strip.now }
         requires between { IsBetweenTurns strip.now self.old }
-        requires front { IsCurrent strip.now self.old at.rank at.pixel }
-        requires turned { cursor_at strip.now self.old at.pixel ≡ ends strip.now.connect + 1 }
+        requires turned { IsTurned strip.now self.old at.rank at.pixel }
         ensures items { self.new.queue.items ≡ self.old.queue.items }
         ensures fair { IsFair (ground_of strip.now) (state_of self.new) }
         ensures busy { IsBusyBut (ground_of strip.now) (state_of self.new) at.rank }
@@ -210,8 +248,9 @@ impl Flood {
         self.earliest[at.rank as usize] = at.pixel;
     }
 
-    /// Closes a rank that ran empty: its kept pixel is linked to the front of the highest rank, if there is one.
-    fn close(&mut self, strip: &Strip, rank: u32)
+    /// Closes a rank that ran empty: its kept pixel is linked to the front of the highest rank, where the flooding goes on, if there
+    /// is one.
+    fn close(&mut self, strip: &Strip, rank: u32) -> Option<Current>
         requires strip { IsStrip strip.now }
         requires items { self.old.queue.items ≡ length strip.now.ranks.items }
         requires fair { IsFair (ground_of strip.now) (state_of self.old) }
@@ -222,82 +261,83 @@ impl Flood {
         requires above { (t : ℕ) → rank < t → list_at self.old.queue.lists t ≡ [] }
         ensures between { IsBetweenTurns strip.now self.new }
         ensures cursors { self.new.cursors ≡ self.old.cursors }
+        ensures next { MatchOption result (IsEmpty self.new.queue.lists) (λ c. IsCurrent strip.now self.new c.rank c.pixel) }
     {
         let kept = self.earliest[rank as usize];
         let Some(next) = highest(&self.queue) else {
             self.earliest[rank as usize] = NONE;
-            return;
+            return None;
         };
         let Some(item) = front(&self.queue, next) else {
             unreachable!()
         };
-        self.links[(kept - strip.first) as usize] = strip.first + item;
+        let pixel = strip.first + item;
+        self.links[(kept - strip.first) as usize] = pixel;
         self.earliest[rank as usize] = NONE;
+        Some(Current { rank: next, pixel })
     }
 
-    /// Takes out the current pixel, which has no direction left, and closes its rank where it was the last.
-    fn finish(&mut self, strip: &Strip, at: Current)
+    /// Takes out the current pixel, which has no direction left, and closes its rank where it was the last. It tells where the
+    /// flooding goes on, if a pixel is queued.
+    fn finish(&mut self, strip: &Strip, at: Current) -> Option<Current>
         requires strip { IsStrip strip.now }
         requires between { IsBetweenTurns strip.now self.old }
-        requires front { IsCurrent strip.now self.old at.rank at.pixel }
-        requires turned { cursor_at strip.now self.old at.pixel ≡ ends strip.now.connect + 1 }
+        requires turned { IsTurned strip.now self.old at.rank at.pixel }
         ensures between { IsBetweenTurns strip.now self.new }
         ensures cursors { self.new.cursors.items ≡ slice_set self.old.cursors.items (at.pixel - strip.now.first) 10 }
+        ensures next { MatchOption result (IsEmpty self.new.queue.lists) (λ c. IsCurrent strip.now self.new c.rank c.pixel) }
     {
         self.retire(strip, at);
-        if let Some(_) = front(&self.queue, at.rank) {
-            return;
+        if let Some(item) = front(&self.queue, at.rank) {
+            return Some(Current {
+                rank: at.rank,
+                pixel: strip.first + item,
+            });
         }
-        self.close(strip, at.rank);
+        self.close(strip, at.rank)
     }
 
-    /// One turn of the flooding. It tells whether a pixel was queued.
+    /// One turn of the flooding, from the current pixel. It tells where the flooding goes on, if a pixel is queued.
     fn turn<A: Ledger, B: Ledger>(
         &mut self,
         strip: &Strip,
+        at: Current,
         queued: &mut Steps<A>,
         looked: &mut Steps<B>,
-    ) -> bool
+    ) -> Option<Current>
         requires strip { IsStrip strip.now }
         requires between { IsBetweenTurns strip.now self.old }
+        requires front { IsCurrent strip.now self.old at.rank at.pixel }
         ensures between { IsBetweenTurns strip.now self.new }
         ensures step { IsStepOf strip.now self.old self.new queued.old queued.new looked.old looked.new }
-        ensures work { result ≡ true → work self.new.cursors.items < work self.old.cursors.items }
-        ensures ended { result ≡ false → IsEmpty self.new.queue.lists }
+        ensures work { work self.new.cursors.items < work self.old.cursors.items }
+        ensures next { MatchOption result (IsEmpty self.new.queue.lists) (λ c. IsCurrent strip.now self.new c.rank c.pixel) }
     {
-        let Some(rank) = highest(&self.queue) else {
-            return false;
-        };
-        let Some(item) = front(&self.queue, rank) else {
-            unreachable!()
-        };
-        let pixel = strip.first + item;
-        let at = Current {
-            rank,
-            pixel,
-            column: pixel % strip.width,
-        };
-        if !self.look_around(strip, at, queued, looked) {
-            return true;
+        if let Some(higher) = self.look_around(strip, at, queued, looked) {
+            return Some(higher);
         }
-        self.finish(strip, at);
-        true
+        self.finish(strip, at)
     }
 
-    /// Goes on until no pixel is queued.
+    /// Goes on from the current pixel until no pixel is queued.
     fn drain<A: Ledger, B: Ledger>(
         &mut self,
         strip: &Strip,
+        start: Current,
         queued: &mut Steps<A>,
         looked: &mut Steps<B>,
     )
         requires strip { IsStrip strip.now }
         requires between { IsBetweenTurns strip.now self.old }
+        requires front { IsCurrent strip.now self.old start.rank start.pixel }
         ensures between { IsBetweenTurns strip.now self.new }
         ensures step { IsStepOf strip.now self.old self.new queued.old queued.new looked.old looked.new }
         ensures ended { IsEmpty self.new.queue.lists }
     {
-        while self.turn(strip, queued, looked) {}
+        let mut next = Some(start);
+        while let Some(at) = next {
+            next = self.turn(strip, at, queued, looked);
+        }
     }
 
     /// Floods the component of the pixel `p`, if it is defined and was not seen.
@@ -327,7 +367,7 @@ impl Flood {
         }
         add(&mut self.queue, rank, p - strip.first, queued);
         self.cursors[place] = 1;
-        self.drain(strip, queued, looked);
+        self.drain(strip, Current { rank, pixel: p }, queued, looked);
     }
 
     /// Floods the strip: the links then stand for its adjacencies.

@@ -7,7 +7,7 @@ ghost use Rattle.strip_flood.specs.Strips.{IsAll};
 
 use crate::flood::Flood;
 use crate::levels::rank_pixels;
-use crate::strip::Strip;
+use crate::strip::{Strip, offsets};
 use comp_tree::{Connect, Plane, Shape};
 use dev_io::{OutOfMemory, Steps};
 use std::alloc::Global;
@@ -70,6 +70,7 @@ impl StripJob {
             first,
             ranks: ranking.ranks,
             levels: ranking.levels,
+            offsets: offsets(connect, shape.width),
         };
         Ok(StripJob {
             shape,

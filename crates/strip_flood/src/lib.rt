@@ -1,6 +1,8 @@
 //! Floods one strip of a plane by a queue with one list for each value, as Salembier, Oliveras and Garrido (1998) describe.
 #![tactic(auto)]
 
+mod by_order;
+mod by_table;
 mod flood;
 mod job;
 mod levels;

@@ -1,7 +1,7 @@
 // A strip of a plane as its flooding reads it.
 
-ghost use Rattle.std.specs.Prelude.{◌≡◌, ◌*◌, ◌+◌, ◌%◌, ◌<◌, ◌≤◌, length, MatchOption};
-ghost use Rattle.strip_flood.specs.Flood.{ends, cell, rank_of, IsOf, IsNeighbour, HasNone};
+ghost use Rattle.std.specs.Prelude.{◌≡◌, ◌*◌, ◌+◌, ◌%◌, ◌<◌, ◌≤◌, length, true, MatchOption};
+ghost use Rattle.strip_flood.specs.Flood.{ends, cell, rank_of, IsOf, IsNeighbour, HasNone, HasOffsets, IsInterior};
 ghost use Rattle.strip_flood.specs.Strips.{ground_of, IsStrip};
 
 use comp_tree::Connect;
@@ -17,6 +17,8 @@ pub struct Strip {
     pub(crate) ranks: Vec<u32>,
     /// The value of each rank.
     pub(crate) levels: Vec<i64>,
+    /// How far the pixel in each direction lies behind the first of the nine around and at a pixel.
+    pub(crate) offsets: [u32; 8],
 }
 
 /// The number of directions in which a pixel may have a neighbour.
@@ -39,6 +41,18 @@ fn cell_at(connect: Connect, k: u32) -> u32
     match connect {
         Connect::Four => 2 * k + 1,
         Connect::Eight => { if k < 4 { k } else { k + 1 } }
+    }
+}
+
+/// How far the pixel in each direction lies behind the first of the nine around and at a pixel.
+pub(crate) fn offsets(connect: Connect, width: u32) -> [u32; 8]
+    requires { width ≤ 65535 }
+    ensures { HasOffsets connect width result }
+{
+    let below = 2 * width;
+    match connect {
+        Connect::Four => [1, width, width + 2, below + 1, 0, 0, 0, 0],
+        Connect::Eight => [0, 1, 2, width, width + 2, below, below + 1, below + 2],
     }
 }
 
@@ -88,5 +102,30 @@ impl Strip {
             return None;
         }
         Some(sum - self.width - 1)
+    }
+    /// Whether all nine pixels around and at this one lie in the strip.
+    #[inline]
+    pub(crate) fn is_interior(&self, p: u32) -> bool
+        requires strip { IsStrip self.now }
+        requires inside { IsOf (ground_of self.now) p }
+        ensures { result ≡ true → IsInterior self.now.width self.now.first (length self.now.ranks.items) p }
+    {
+        let place = p - self.first;
+        if place <= self.width || place + self.width + 1 >= self.count() {
+            return false;
+        }
+        let column = p % self.width;
+        column > 0 && column + 1 < self.width
+    }
+
+    /// The pixel in direction `k` from one that has all nine around it in the strip.
+    #[inline]
+    pub(crate) fn inner_neighbour(&self, p: u32, k: u32) -> u32
+        requires strip { IsStrip self.now }
+        requires interior { IsInterior self.now.width self.now.first (length self.now.ranks.items) p }
+        requires direction { k < ends self.now.connect }
+        ensures { IsNeighbour self.now.connect self.now.width self.now.first (length self.now.ranks.items) p k result }
+    {
+        p - self.width - 1 + self.offsets[k as usize]
     }
 }

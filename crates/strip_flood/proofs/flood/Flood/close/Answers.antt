@@ -4,6 +4,7 @@ use Rattle.strip_flood.specs.Flood.{state, IsQueued, IsTurning}
 use Rattle.strip_flood.specs.Strips.{ground_of, state_of}
 use Rattle.strip_flood.proofs.Flow.{item_read}
 use Rattle.strip_flood.proofs.Retiring.{close_end, close_hang, front_queued}
+use Rattle.strip_flood.proofs.Looking.{front_current}
 use Rattle.strip_flood.proofs.flood.Flood.close.Goals as goal
 
 pub returns-in_default-clause-between : goal.returns-in_default-clause-between
@@ -12,8 +13,8 @@ returns-in_default-clause-between c = record {
   turning = close_end (ground_of c.args.strip.now) (state_of c.args.self.now) c.requires.strip.ranked c.requires.fair c.args.rank c.requires.busy c.requires.low c.requires.kept c.requires.empty c.in_default.ensures;
 }
 
-pub overflow_add-strip : goal.overflow_add-strip
-overflow_add-strip c =
+pub overflow_add-pixel : goal.overflow_add-pixel
+overflow_add-pixel c =
     let q : IsQueued (ground_of c.args.strip.now) c.args.self.now.cursors.items (c.args.strip.now.first + c.in-Some-front.item) = front_queued (ground_of c.args.strip.now) (state_of c.args.self.now) c.requires.fair c.in-Some.next c.in-Some-front.item c.in-Some-front.ensures in
     let l : c.args.strip.now.first + c.in-Some-front.item < c.args.strip.now.first + length c.args.strip.now.ranks.items = q.inside.high in
     let few : c.args.strip.now.first + length c.args.strip.now.ranks.items ≤ 16777216 = c.requires.strip.few in omega arith
@@ -26,3 +27,8 @@ returns-clause-between c =
       turning = subst (λ e. IsTurning (ground_of c.args.strip.now) (state c.args.self.now.queue.lists c.args.self.now.cursors.items (set c.args.self.now.earliest.items c.args.rank no_node) (set c.args.self.now.links.items (e - c.args.strip.now.first) (c.args.strip.now.first + c.in-Some-front.item)))) read
           (close_hang (ground_of c.args.strip.now) (state_of c.args.self.now) c.requires.strip.ranked c.requires.fair c.args.rank c.requires.busy c.requires.low c.requires.kept c.requires.empty c.in-Some.next c.in-Some-front.item c.in-Some.ensures c.in-Some-front.ensures c.requires.above);
     }
+
+pub returns-clause-next : goal.returns-clause-next
+returns-clause-next c =
+    let at = front_current (ground_of c.args.strip.now) (state_of c.args.self.now) c.requires.fair c.in-Some.next c.in-Some-front.item c.in-Some.ensures.above c.in-Some-front.ensures in
+    record { top = record { queued = at.top.queued; above = at.top.above }; rank = at.rank; front = at.front }

@@ -3,6 +3,7 @@ use Rattle.strip_flood.specs.Flood.{cursor_of}
 use Rattle.strip_flood.specs.Strips.{ground_of, state_of}
 use Rattle.strip_flood.proofs.Flow.{cursor_new, cursor_read}
 use Rattle.strip_flood.proofs.Seeing.{start_pushed}
+use Rattle.strip_flood.proofs.Looking.{start_front}
 use Rattle.strip_flood.proofs.Counting.{step_push, step_trans}
 use Rattle.strip_flood.proofs.flood.Flood.flood_from.Goals as goal
 
@@ -23,3 +24,6 @@ returns-clause-step g c =
 pub returns-clause-seen : goal.returns-clause-seen
 returns-clause-seen g c = λ low. c.drain.ensures.step.seen c.args.p c.requires.inside
     (subst (λ n. 0 < n) (sym (cursor_new (ground_of c.args.strip.now) c.args.self.now.cursors.items c.requires.between.turning.fair.cursors_length c.args.p 1 c.requires.inside)) (omega arith))
+
+pub drain-requires-clause-front : goal.drain-requires-clause-front
+drain-requires-clause-front g c = start_front (ground_of c.args.strip.now) (state_of c.args.self.now) c.requires.between.turning.fair c.args.p c.in-Some.rank c.requires.inside c.in-Some.ensures c.requires.empty.empty c.add.new.queue.lists c.add.ensures.lists

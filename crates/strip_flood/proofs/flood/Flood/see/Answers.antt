@@ -1,44 +1,79 @@
-use Rattle.std.proofs.Common.{◌≡◌, ℕ, ◌-◌, ◌<◌, arith, ◌∙◌}
-use Rattle.strip_flood.specs.Flood.{cursor_of}
-use Rattle.strip_flood.specs.Strips.{ground_of, state_of}
+use Rattle.std.proofs.Common.{◌≡◌, ℕ, ◌+◌, ◌-◌, ◌<◌, set, inr, inl, refl, arith, ◌∙◌}
+use Rattle.strip_flood.specs.Flood.{state, cursor_of}
+use Rattle.strip_flood.specs.Strips.{ground_of, looking}
 use Rattle.strip_flood.proofs.Flow.{cursor_read}
-use Rattle.strip_flood.proofs.Seeing.{see_pushed, see_around, seen_undefined, unseen_nowhere, pushed_front, below, nat_le_true}
-use Rattle.strip_flood.proofs.Counting.{step_push}
+use Rattle.strip_flood.proofs.Seeing.{see_around, seen_already, seen_undefined, unseen_nowhere, nat_le_true}
+use Rattle.strip_flood.proofs.Looking.{IsAfter, stale_long, seen_stale, unseen_stale, look_still, still_front, look_pushed, low_front, high_front, queued_after}
 use Rattle.strip_flood.proofs.flood.Flood.see.Goals as goal
 
-pub returns-then-index-gt0-clause-around : goal.returns-then-index-gt0-clause-around
-returns-then-index-gt0-clause-around g c =
-    let read : cursor_of (ground_of c.args.strip.now) c.args.self.now.cursors.items c.args.n ≡ c.index.result.now = cursor_read (ground_of c.args.strip.now) c.args.self.now.cursors.items c.requires.between.turning.fair.cursors_length c.args.n c.index.result.now c.requires.next.inside c.index.ensures in
-    let low : 0 < cursor_of (ground_of c.args.strip.now) c.args.self.now.cursors.items c.args.n = omega (arith, c.if-index-gt0.true) in
-    see_around (ground_of c.args.strip.now) (state_of c.args.self.now) c.requires.strip.ranked c.requires.between.turning c.args.at.pixel c.requires.front.top c.args.k c.args.n _ _ c.requires.next (c.requires.between.turning.fair.seen c.args.n c.requires.next.inside low) c.tick.ensures
+pub returns-then-index-gt0-clause-look : goal.returns-then-index-gt0-clause-look
+returns-then-index-gt0-clause-look g c =
+    let read : cursor_of (ground_of c.args.strip.now) c.args.self.now.cursors.items c.args.n ≡ c.index.result.now = cursor_read (ground_of c.args.strip.now) c.args.self.now.cursors.items (stale_long (ground_of c.args.strip.now) c.requires.strip.ranked c.args.self.now.queue.lists c.args.self.now.cursors.items c.args.self.now.earliest.items c.args.self.now.links.items c.args.at.rank c.args.at.pixel c.args.cursor c.requires.first c.requires.last c.requires.looking.turning c.requires.front) c.args.n c.index.result.now c.requires.next.inside c.index.ensures in
+    let low : 0 < cursor_of (ground_of c.args.strip.now) (looking c.args.strip.now c.args.self.now c.args.at.pixel c.args.cursor).cursors c.args.n = seen_stale (ground_of c.args.strip.now) c.requires.strip.ranked c.args.self.now.queue.lists c.args.self.now.cursors.items c.args.self.now.earliest.items c.args.self.now.links.items c.args.at.rank c.args.at.pixel c.args.cursor c.requires.first c.requires.last c.requires.looking.turning c.requires.front c.args.n c.requires.next.inside (omega (arith, c.if-index-gt0.true)) in
+    let after = look_still (ground_of c.args.strip.now) c.requires.strip.ranked c.args.self.now.queue.lists c.args.self.now.cursors.items c.args.self.now.earliest.items c.args.self.now.links.items c.args.at.rank c.args.at.pixel c.args.cursor c.requires.first c.requires.last c.requires.looking.turning c.requires.front c.args.queued.now c.args.looked.now c.tick.new.self
+    (seen_already (ground_of c.args.strip.now) (looking c.args.strip.now c.args.self.now c.args.at.pixel c.args.cursor) c.requires.strip.ranked c.requires.looking.turning c.args.at.pixel c.requires.front.top (c.args.cursor - 1) c.args.n c.requires.next low)
+    (see_around (ground_of c.args.strip.now) (looking c.args.strip.now c.args.self.now c.args.at.pixel c.args.cursor) c.requires.strip.ranked c.requires.looking.turning c.args.at.pixel c.requires.front.top (c.args.cursor - 1) c.args.n c.args.looked.now c.tick.new.self c.requires.next
+    (c.requires.looking.turning.fair.seen c.args.n c.requires.next.inside low) c.tick.ensures) in
+    record {
+      after = record { items = c.requires.looking.items; queued = c.requires.looking.queued; turning = after.turning };
+      step = after.step;
+      less = after.less;
+    }
 
-pub returns-in_default-clause-seen : goal.returns-in_default-clause-seen
-returns-in_default-clause-seen g c = seen_undefined (ground_of c.args.strip.now) (state_of c.args.self.now) c.requires.strip.ranked c.requires.between.turning c.args.at.pixel c.requires.front.top c.args.k c.args.n c.requires.next c.in_default.ensures
+pub returns-then-index-gt0-clause-next : goal.returns-then-index-gt0-clause-next
+returns-then-index-gt0-clause-next g c = still_front (ground_of c.args.strip.now) c.requires.strip.ranked c.args.self.now.queue.lists c.args.self.now.cursors.items c.args.self.now.earliest.items c.args.self.now.links.items c.args.at.rank c.args.at.pixel c.args.cursor c.requires.first c.requires.last c.requires.looking.turning c.requires.front
+
+pub returns-in_default-clause-look : goal.returns-in_default-clause-look
+returns-in_default-clause-look g c =
+    let after = look_still (ground_of c.args.strip.now) c.requires.strip.ranked c.args.self.now.queue.lists c.args.self.now.cursors.items c.args.self.now.earliest.items c.args.self.now.links.items c.args.at.rank c.args.at.pixel c.args.cursor c.requires.first c.requires.last c.requires.looking.turning c.requires.front c.args.queued.now c.args.looked.now c.args.looked.now
+    (seen_undefined (ground_of c.args.strip.now) (looking c.args.strip.now c.args.self.now c.args.at.pixel c.args.cursor) c.requires.strip.ranked c.requires.looking.turning c.args.at.pixel c.requires.front.top (c.args.cursor - 1) c.args.n c.requires.next c.in_default.ensures)
+    (record { is = inl refl }) in
+    record {
+      after = record { items = c.requires.looking.items; queued = c.requires.looking.queued; turning = after.turning };
+      step = after.step;
+      less = after.less;
+    }
+
+pub returns-in_default-clause-next : goal.returns-in_default-clause-next
+returns-in_default-clause-next g c = still_front (ground_of c.args.strip.now) c.requires.strip.ranked c.args.self.now.queue.lists c.args.self.now.cursors.items c.args.self.now.earliest.items c.args.self.now.links.items c.args.at.rank c.args.at.pixel c.args.cursor c.requires.first c.requires.last c.requires.looking.turning c.requires.front
 
 pub add-requires-clause-absent : goal.add-requires-clause-absent
 add-requires-clause-absent g c =
-    let read : cursor_of (ground_of c.args.strip.now) c.args.self.now.cursors.items c.args.n ≡ c.index.result.now = cursor_read (ground_of c.args.strip.now) c.args.self.now.cursors.items c.requires.between.turning.fair.cursors_length c.args.n c.index.result.now c.requires.next.inside c.index.ensures in
-    unseen_nowhere (ground_of c.args.strip.now) (state_of c.args.self.now) c.requires.strip.ranked c.requires.between.turning c.args.n c.requires.next.inside (omega (arith, c.if-index-gt0.false))
+    let read : cursor_of (ground_of c.args.strip.now) c.args.self.now.cursors.items c.args.n ≡ c.index.result.now = cursor_read (ground_of c.args.strip.now) c.args.self.now.cursors.items (stale_long (ground_of c.args.strip.now) c.requires.strip.ranked c.args.self.now.queue.lists c.args.self.now.cursors.items c.args.self.now.earliest.items c.args.self.now.links.items c.args.at.rank c.args.at.pixel c.args.cursor c.requires.first c.requires.last c.requires.looking.turning c.requires.front) c.args.n c.index.result.now c.requires.next.inside c.index.ensures in
+    let unseen : cursor_of (ground_of c.args.strip.now) c.args.self.now.cursors.items c.args.n ≡ 0 = omega (arith, c.if-index-gt0.false) in
+    unseen_nowhere (ground_of c.args.strip.now) (looking c.args.strip.now c.args.self.now c.args.at.pixel c.args.cursor) c.requires.strip.ranked c.requires.looking.turning c.args.n c.requires.next.inside
+    (unseen_stale (ground_of c.args.strip.now) c.requires.strip.ranked c.args.self.now.queue.lists c.args.self.now.cursors.items c.args.self.now.earliest.items c.args.self.now.links.items c.args.at.rank c.args.at.pixel c.args.cursor c.requires.first c.requires.last c.requires.looking.turning c.requires.front c.args.n c.requires.next.inside c.requires.looking.queued unseen)
 
-pub returns-clause-between : goal.returns-clause-between
-returns-clause-between g c =
-    let read : cursor_of (ground_of c.args.strip.now) c.args.self.now.cursors.items c.args.n ≡ c.index.result.now = cursor_read (ground_of c.args.strip.now) c.args.self.now.cursors.items c.requires.between.turning.fair.cursors_length c.args.n c.index.result.now c.requires.next.inside c.index.ensures in
+pub returns-then-rank-at-clause-look : goal.returns-then-rank-at-clause-look
+returns-then-rank-at-clause-look g c =
+    let read : cursor_of (ground_of c.args.strip.now) c.args.self.now.cursors.items c.args.n ≡ c.index.result.now = cursor_read (ground_of c.args.strip.now) c.args.self.now.cursors.items (stale_long (ground_of c.args.strip.now) c.requires.strip.ranked c.args.self.now.queue.lists c.args.self.now.cursors.items c.args.self.now.earliest.items c.args.self.now.links.items c.args.at.rank c.args.at.pixel c.args.cursor c.requires.first c.requires.last c.requires.looking.turning c.requires.front) c.args.n c.index.result.now c.requires.next.inside c.index.ensures in
+    let unseen : cursor_of (ground_of c.args.strip.now) c.args.self.now.cursors.items c.args.n ≡ 0 = omega (arith, c.if-index-gt0.false) in
+    let after = look_pushed (ground_of c.args.strip.now) c.requires.strip.ranked c.args.self.now.queue.lists c.args.self.now.cursors.items c.args.self.now.earliest.items c.args.self.now.links.items c.args.at.rank c.args.at.pixel c.args.cursor c.requires.first c.requires.last c.requires.looking.turning c.requires.front c.args.n c.in-Some.rank c.requires.next c.requires.looking.queued unseen c.in-Some.ensures c.add.new.queue.lists c.add.ensures.lists c.args.queued.now c.add.new.queued c.args.looked.now c.tick-2.new.self c.add.ensures.ticked c.tick-2.ensures in
     record {
-      items = c.add.ensures.items ∙ c.requires.between.items;
-      turning = see_pushed (ground_of c.args.strip.now) (state_of c.args.self.now) c.requires.strip.ranked c.requires.between.turning c.args.at.pixel c.requires.front.top c.args.n c.in-Some.rank c.requires.next.inside c.requires.next.near c.in-Some.ensures (omega (arith, c.if-index-gt0.false)) c.add.new.queue.lists c.add.ensures.lists;
+      after = record { items = c.add.ensures.items ∙ c.requires.looking.items; queued = queued_after (ground_of c.args.strip.now) c.requires.strip.ranked c.args.self.now.queue.lists c.args.self.now.cursors.items c.args.self.now.earliest.items c.args.self.now.links.items c.args.at.rank c.args.at.pixel c.args.cursor c.requires.first c.requires.last c.requires.looking.turning c.requires.front c.args.n c.in-Some.rank c.requires.next c.requires.looking.queued unseen c.in-Some.ensures c.add.new.queue.lists c.add.ensures.lists; turning = after.turning };
+      step = after.step;
+      less = after.less;
     }
 
-pub returns-clause-step : goal.returns-clause-step
-returns-clause-step g c =
-    let read : cursor_of (ground_of c.args.strip.now) c.args.self.now.cursors.items c.args.n ≡ c.index.result.now = cursor_read (ground_of c.args.strip.now) c.args.self.now.cursors.items c.requires.between.turning.fair.cursors_length c.args.n c.index.result.now c.requires.next.inside c.index.ensures in
-    step_push (ground_of c.args.strip.now) c.args.self.now.cursors.items c.requires.between.turning.fair.cursors_length c.args.n 1 c.requires.next.inside c.args.queued.now c.add.new.queued c.args.looked.now
-    (omega (arith, c.if-index-gt0.false)) (omega arith) c.add.ensures.ticked
+pub returns-then-rank-at-clause-next : goal.returns-then-rank-at-clause-next
+returns-then-rank-at-clause-next g c =
+    let read : cursor_of (ground_of c.args.strip.now) c.args.self.now.cursors.items c.args.n ≡ c.index.result.now = cursor_read (ground_of c.args.strip.now) c.args.self.now.cursors.items (stale_long (ground_of c.args.strip.now) c.requires.strip.ranked c.args.self.now.queue.lists c.args.self.now.cursors.items c.args.self.now.earliest.items c.args.self.now.links.items c.args.at.rank c.args.at.pixel c.args.cursor c.requires.first c.requires.last c.requires.looking.turning c.requires.front) c.args.n c.index.result.now c.requires.next.inside c.index.ensures in
+    let unseen : cursor_of (ground_of c.args.strip.now) c.args.self.now.cursors.items c.args.n ≡ 0 = omega (arith, c.if-index-gt0.false) in
+    low_front (ground_of c.args.strip.now) c.requires.strip.ranked c.args.self.now.queue.lists c.args.self.now.cursors.items c.args.self.now.earliest.items c.args.self.now.links.items c.args.at.rank c.args.at.pixel c.args.cursor c.requires.first c.requires.last c.requires.looking.turning c.requires.front c.args.n c.in-Some.rank c.requires.next c.requires.looking.queued unseen c.in-Some.ensures c.add.new.queue.lists c.add.ensures.lists c.if-rank-at.true
 
-pub returns-clause-around : goal.returns-clause-around
-returns-clause-around g c = see_around (ground_of c.args.strip.now) (state_of c.args.self.now) c.requires.strip.ranked c.requires.between.turning c.args.at.pixel c.requires.front.top c.args.k c.args.n _ _ c.requires.next (below (ground_of c.args.strip.now) c.args.n c.in-Some.rank c.in-Some.ensures) c.tick-2.ensures
+pub returns-clause-look : goal.returns-clause-look
+returns-clause-look g c =
+    let read : cursor_of (ground_of c.args.strip.now) c.args.self.now.cursors.items c.args.n ≡ c.index.result.now = cursor_read (ground_of c.args.strip.now) c.args.self.now.cursors.items (stale_long (ground_of c.args.strip.now) c.requires.strip.ranked c.args.self.now.queue.lists c.args.self.now.cursors.items c.args.self.now.earliest.items c.args.self.now.links.items c.args.at.rank c.args.at.pixel c.args.cursor c.requires.first c.requires.last c.requires.looking.turning c.requires.front) c.args.n c.index.result.now c.requires.next.inside c.index.ensures in
+    let unseen : cursor_of (ground_of c.args.strip.now) c.args.self.now.cursors.items c.args.n ≡ 0 = omega (arith, c.if-index-gt0.false) in
+    let after = look_pushed (ground_of c.args.strip.now) c.requires.strip.ranked c.args.self.now.queue.lists c.args.self.now.cursors.items c.args.self.now.earliest.items c.args.self.now.links.items c.args.at.rank c.args.at.pixel c.args.cursor c.requires.first c.requires.last c.requires.looking.turning c.requires.front c.args.n c.in-Some.rank c.requires.next c.requires.looking.queued unseen c.in-Some.ensures c.add.new.queue.lists c.add.ensures.lists c.args.queued.now c.add.new.queued c.args.looked.now c.tick-2.new.self c.add.ensures.ticked c.tick-2.ensures in
+    record {
+      after = record { items = c.add.ensures.items ∙ c.requires.looking.items; queued = queued_after (ground_of c.args.strip.now) c.requires.strip.ranked c.args.self.now.queue.lists c.args.self.now.cursors.items c.args.self.now.earliest.items c.args.self.now.links.items c.args.at.rank c.args.at.pixel c.args.cursor c.requires.first c.requires.last c.requires.looking.turning c.requires.front c.args.n c.in-Some.rank c.requires.next c.requires.looking.queued unseen c.in-Some.ensures c.add.new.queue.lists c.add.ensures.lists; turning = after.turning };
+      step = after.step;
+      less = after.less;
+    }
 
-pub returns-clause-stays : goal.returns-clause-stays
-returns-clause-stays g c =
-    let read : cursor_of (ground_of c.args.strip.now) c.args.self.now.cursors.items c.args.n ≡ c.index.result.now = cursor_read (ground_of c.args.strip.now) c.args.self.now.cursors.items c.requires.between.turning.fair.cursors_length c.args.n c.index.result.now c.requires.next.inside c.index.ensures in
-    λ t. pushed_front (ground_of c.args.strip.now) (state_of c.args.self.now) c.requires.between.turning.fair c.args.at.rank c.args.at.pixel c.args.n c.in-Some.rank c.requires.front c.requires.next.inside (omega (arith, c.if-index-gt0.false)) c.in-Some.ensures.0 (nat_le_true c.in-Some.rank c.args.at.rank t)
-    c.add.new.queue.lists c.add.ensures.lists
+pub returns-clause-next : goal.returns-clause-next
+returns-clause-next g c =
+    let read : cursor_of (ground_of c.args.strip.now) c.args.self.now.cursors.items c.args.n ≡ c.index.result.now = cursor_read (ground_of c.args.strip.now) c.args.self.now.cursors.items (stale_long (ground_of c.args.strip.now) c.requires.strip.ranked c.args.self.now.queue.lists c.args.self.now.cursors.items c.args.self.now.earliest.items c.args.self.now.links.items c.args.at.rank c.args.at.pixel c.args.cursor c.requires.first c.requires.last c.requires.looking.turning c.requires.front) c.args.n c.index.result.now c.requires.next.inside c.index.ensures in
+    let unseen : cursor_of (ground_of c.args.strip.now) c.args.self.now.cursors.items c.args.n ≡ 0 = omega (arith, c.if-index-gt0.false) in
+    high_front (ground_of c.args.strip.now) c.requires.strip.ranked c.args.self.now.queue.lists c.args.self.now.cursors.items c.args.self.now.earliest.items c.args.self.now.links.items c.args.at.rank c.args.at.pixel c.args.cursor c.requires.first c.requires.last c.requires.looking.turning c.requires.front c.args.n c.in-Some.rank c.requires.next c.requires.looking.queued unseen c.in-Some.ensures c.add.new.queue.lists c.add.ensures.lists c.if-rank-at.false

@@ -14,7 +14,7 @@ invariant_of-result c =
     let fresh : IsFresh (length c.in_ok-ranking.ranking.ranks.items) (length c.in_ok-ranking.ranking.levels.items) c.in_ok-flood.flood
     = subst₂ (λ n m. IsFresh n m c.in_ok-flood.flood) (c.len.ensures ∙ c.in_ok-ranking.ranking.ranks.ok.0) (c.len-2.ensures ∙ c.in_ok-ranking.ranking.levels.ok.0) c.in_ok-flood.ensures.fresh in
     record {
-      known = strip_known c.args.connect c.shape-shape.result.width c.shape-shape.result.height c.args.first_row c.args.end_row c.in_ok-ranking.ranking.ranks c.in_ok-ranking.ranking.levels c.shape-shape.result.within_limits c.requires.rows inside count c.in_ok-ranking.ensures.rising;
+      known = strip_known c.args.connect c.shape-shape.result.width c.shape-shape.result.height c.args.first_row c.args.end_row c.in_ok-ranking.ranking.ranks c.in_ok-ranking.ranking.levels c.offsets.result c.shape-shape.result.within_limits c.requires.rows inside count c.in_ok-ranking.ensures.rising c.offsets.ensures;
       sides = refl;
       start = refl;
       links_length = fresh.links_length;

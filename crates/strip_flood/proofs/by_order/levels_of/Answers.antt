@@ -4,7 +4,7 @@ use Rattle.std.specs.Ordering.{int_eq}
 use Rattle.std.proofs.lemmas.List.Filters.{dedup_is}
 use Rattle.strip_flood.specs.Jobs.{IsRising, HasValues}
 use Rattle.strip_flood.proofs.Sorting.{dedup_rising, dedup_has}
-use Rattle.strip_flood.proofs.levels.levels_of.Goals as goal
+use Rattle.strip_flood.proofs.by_order.levels_of.Goals as goal
 
 pub returns-clause-rising : goal.returns-clause-rising
 returns-clause-rising c = let is : c.dedup.new.self.items ≡ dedup int_eq c.sort_unstable.new.self.items = dedup_is _ _ _ c.dedup.ensures.filtered in
