@@ -1,14 +1,13 @@
 -- Which pixels are canonical, by the links as the code reads them, and the list of these pixels.
-use Rattle.std.proofs.Common.{◌≡◌, ◌≢◌, ℕ, zero, suc, ◌+◌, ◌-◌, ◌<◌, Bool, true, false, cond, ◌&&◌, ◌||◌, not, List, [], ◌∷◌, ◌++◌, length, map, get_or, refl, sym, ap, ◌∙◌, inl, inr, ◌⊎◌, arith}
+use Rattle.std.proofs.Common.{◌≡◌, ◌≢◌, ℕ, zero, suc, ◌+◌, ◌-◌, ◌<◌, Bool, true, false, cond, ◌&&◌, ◌||◌, not, List, [], ◌∷◌, ◌++◌, length, get_or, refl, sym, ap, ◌∙◌, inl, inr, ◌⊎◌, arith}
 use Rattle.std.specs.Prelude.{IsTrue, IsFalse, ◌==◌, filter}
 use Rattle.std.specs.List.{range_with_len}
 use Rattle.std.proofs.lemmas.Bool.{true≢false, eq-eqb}
-use Rattle.std.proofs.lemmas.List.{get_or_default, map-append, append-nil}
-use Rattle.comp_tree.specs.declared.tree.NodeRow.{NodeRow}
+use Rattle.std.proofs.lemmas.List.{get_or_default, append-nil}
 use Rattle.comp_tree.specs.Raster.{Raster, value_at, is_defined, is_at_least, level, pixels}
 use Rattle.comp_tree.specs.Forest.{no_node, IsWithin, IsEarlier, link_of, IsForest}
 use Rattle.comp_tree.proofs.Order.{before_defined}
-use Rattle.tree_canon.specs.Canonical.{is_canonical, loose_row}
+use Rattle.tree_canon.specs.Canonical.{is_canonical}
 
 -- a link, as the code reads it
 pub read_link : (links : List ℕ) (p : ℕ) → p < length links → get_or links p 0 ≡ link_of 0 links p
@@ -74,25 +73,24 @@ filter-one t a (suc n) = on (t a) (filter-one t (a + 1) n) where
   on true ih = ap (λ xs. a ∷ xs) (ih ∙ ap (λ k. filter t (range_with_len (a + 1) n) ++ filter t (k ∷ [])) next)
   on false ih = ih ∙ ap (λ k. filter t (range_with_len (a + 1) n) ++ filter t (k ∷ [])) next
 
--- the rows of the canonical pixels below n
-abbrev pub listed : Raster → List ℕ → ℕ → List NodeRow
-listed r links n = map (loose_row r) (filter (is_canonical r links) (range_with_len 0 n))
+-- the canonical pixels below n
+abbrev pub listed : Raster → List ℕ → ℕ → List ℕ
+listed r links n = filter (is_canonical r links) (range_with_len 0 n)
 
-listed_one : (r : Raster) (links : List ℕ) (n : ℕ) → listed r links (n + 1) ≡ listed r links n ++ map (loose_row r) (filter (is_canonical r links) (n ∷ []))
+listed_one : (r : Raster) (links : List ℕ) (n : ℕ) → listed r links (n + 1) ≡ listed r links n ++ filter (is_canonical r links) (n ∷ [])
 listed_one r links n =
     ap (λ k. listed r links k) (let e : n + 1 ≡ suc n = omega arith in e)
-    ∙ ap (map (loose_row r)) (filter-one (is_canonical r links) 0 n ∙ ap (λ k. filter (is_canonical r links) (range_with_len 0 n) ++ filter (is_canonical r links) (k ∷ [])) (let e : 0 + n ≡ n = omega arith in e))
-    ∙ map-append (loose_row r) (filter (is_canonical r links) (range_with_len 0 n)) (filter (is_canonical r links) (n ∷ []))
+    ∙ filter-one (is_canonical r links) 0 n ∙ ap (λ k. filter (is_canonical r links) (range_with_len 0 n) ++ filter (is_canonical r links) (k ∷ [])) (let e : 0 + n ≡ n = omega arith in e)
 
-pub listed-yes : (r : Raster) (links : List ℕ) (n : ℕ) (xs : List NodeRow) → xs ≡ listed r links n → is_canonical r links n ≡ true → xs ++ loose_row r n ∷ [] ≡ listed r links (n + 1)
+pub listed-yes : (r : Raster) (links : List ℕ) (n : ℕ) (xs : List ℕ) → xs ≡ listed r links n → is_canonical r links n ≡ true → xs ++ n ∷ [] ≡ listed r links (n + 1)
 listed-yes r links n xs e is =
-    ap (λ ys. ys ++ loose_row r n ∷ []) e
-    ∙ sym (listed_one r links n ∙ ap (λ (b : Bool). listed r links n ++ map (loose_row r) (cond b (n ∷ []) [])) is)
+    ap (λ ys. ys ++ n ∷ []) e
+    ∙ sym (listed_one r links n ∙ ap (λ (b : Bool). listed r links n ++ cond b (n ∷ []) []) is)
 
-pub listed-no : (r : Raster) (links : List ℕ) (n : ℕ) (xs : List NodeRow) → xs ≡ listed r links n → is_canonical r links n ≡ false → xs ≡ listed r links (n + 1)
+pub listed-no : (r : Raster) (links : List ℕ) (n : ℕ) (xs : List ℕ) → xs ≡ listed r links n → is_canonical r links n ≡ false → xs ≡ listed r links (n + 1)
 listed-no r links n xs e not_so =
-    e ∙ sym (listed_one r links n ∙ ap (λ (b : Bool). listed r links n ++ map (loose_row r) (cond b (n ∷ []) [])) not_so ∙ append-nil (listed r links n))
+    e ∙ sym (listed_one r links n ∙ ap (λ (b : Bool). listed r links n ++ cond b (n ∷ []) []) not_so ∙ append-nil (listed r links n))
 
-pub listed-all : (r : Raster) (links : List ℕ) (n : ℕ) (xs : List NodeRow) → n ≡ length r.values → xs ≡ listed r links n → xs ≡ map (loose_row r) (filter (is_canonical r links) (pixels r))
+pub listed-all : (r : Raster) (links : List ℕ) (n : ℕ) (xs : List ℕ) → n ≡ length r.values → xs ≡ listed r links n → xs ≡ filter (is_canonical r links) (pixels r)
 unfolding pixels
 listed-all r links n xs all e = e ∙ ap (listed r links) all

@@ -2,5 +2,8 @@ mod Finding
 pub mod Fitting
 mod Numbering
 mod Parents
+mod Placing
+mod Rising
 mod Sorting
+mod Tallies
 mod Trees

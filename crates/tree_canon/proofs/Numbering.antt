@@ -141,16 +141,19 @@ among r links p h =
 pub place_of : (r : Raster) (links : List ℕ) (p : ℕ) → IsTrue (is_canonical r links p) → (n : ℕ) × (slice_get (canonical_pixels r links) n ≡ Some p)
 place_of r links p h = placed p (canonical_pixels r links) (among r links p h)
 
+length-filter_le : (t : ℕ → Bool) (ps : List ℕ) → length (filter t ps) ≤ length ps
+length-filter_le t [] = omega arith
+length-filter_le t (p ∷ ps) = on (t p) (length-filter_le t ps)
+  where
+    on : (b : Bool) → length (filter t ps) ≤ length ps → length (cond b (p ∷ filter t ps) (filter t ps)) ≤ suc (length ps)
+    on true h = omega arith
+    on false h = omega arith
+
+pub found_few : (r : Raster) (links ps : List ℕ) → length links ≡ length r.values → ps ≡ filter (is_canonical r links) (pixels r) → length ps ≤ length links
+found_few r links ps whole is = omega (arith, ap length is, length-filter_le (is_canonical r links) (pixels r), length-pixels r)
+
 module _ (r : Raster) (links : List ℕ) (whole : length links ≡ length r.values) (forest : IsForest r.values 0 links) (few : length links ≤ 2 ^ 24)
     (rows : List NodeRow) (is : rows ≡ map (loose_row r) (canonical_pixels r links)) where
-  length-filter_le : (t : ℕ → Bool) (ps : List ℕ) → length (filter t ps) ≤ length ps
-  length-filter_le t [] = omega arith
-  length-filter_le t (p ∷ ps) = on (t p) (length-filter_le t ps)
-    where
-      on : (b : Bool) → length (filter t ps) ≤ length ps → length (cond b (p ∷ filter t ps) (filter t ps)) ≤ suc (length ps)
-      on true h = omega arith
-      on false h = omega arith
-
   canonical_few : length (canonical_pixels r links) ≤ length links
   unfolding canonical_pixels
   canonical_few =

@@ -1,3 +1,4 @@
 pub mod Canonical
 pub mod Fitting
 pub mod Numbers
+pub mod Places

@@ -6,6 +6,8 @@
 //! parent of its node is the node of its link.
 #![tactic(auto)]
 
+mod counting;
+mod nodes;
 mod numbers;
 mod rows;
 
@@ -18,13 +20,14 @@ ghost use Rattle.tree_canon.specs.Canonical.{StandsForAll};
 
 use comp_tree::{Forest, Plane, Tree};
 use dev_io::OutOfMemory;
-use numbers::number_pixels;
-use rows::{canonical_rows, set_parents};
+use nodes::number_nodes;
+use rows::set_parents;
 use std::alloc::Global;
 
 /// The component tree of a plane, from a forest that stands for all its adjacencies under connectivity 4 or 8. The call isn't
-/// told which of the two, so the links decide the tree. Beside a sort of the nodes it takes one pass over the pixels to find
-/// the nodes, one to number the pixels, and two over the nodes.
+/// told which of the two, so the links decide the tree. It takes one pass over the pixels to find the nodes, one to number the
+/// pixels, and a few over the nodes. Where the nodes' levels span at most twice their number, a table puts the nodes in order, in
+/// linear time; elsewhere they are sorted.
 pub fn canon(alloc: Global, plane: &Plane, forest: &Forest) -> Result<Tree, OutOfMemory>
     requires one_each { length forest.now ≡ length plane.now.values }
     requires forest { IsForest plane.now.values 0 forest.now }
@@ -33,10 +36,9 @@ pub fn canon(alloc: Global, plane: &Plane, forest: &Forest) -> Result<Tree, OutO
 {
     let shape = plane.shape();
     let links = forest.parents();
-    let mut rows = canonical_rows(alloc, plane, links)?;
-    let node_of = number_pixels(alloc, plane, links, &rows)?;
-    set_parents(links, &node_of, &mut rows);
-    Ok(Tree::of(shape, rows, node_of))
+    let mut made = number_nodes(alloc, plane, links)?;
+    set_parents(links, &made.numbers, &mut made.rows);
+    Ok(Tree::of(shape, made.rows, made.numbers))
 }
 
 #[cfg(test)]

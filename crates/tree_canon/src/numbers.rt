@@ -48,8 +48,8 @@ fn number_rows(rows: &[NodeRow], numbers: &mut [u32])
     }
 }
 
-// Gives each pixel without a number that of its link. A link within a level leads to a smaller pixel, so one pass is enough.
-fn number_others(links: &[u32], numbers: &mut [u32])
+/// Gives each pixel without a number that of its link. A link within a level leads to a smaller pixel, so one pass is enough.
+pub(crate) fn number_others(links: &[u32], numbers: &mut [u32])
     requires one_each { length numbers.old ≡ length links.now }
     requires few { length links.now ≤ 2 ^ 24 }
     requires back { LeadBack links.now numbers.old }

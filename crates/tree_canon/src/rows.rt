@@ -2,57 +2,34 @@
 //! level roots of Wilkinson et al. 2008).
 
 ghost use Rattle.std.specs.Prelude.{◌≡◌, ◌<◌, length, map, filter, All, IfOk};
-ghost use Rattle.comp_tree.specs.Raster.{pixels};
+ghost use Rattle.comp_tree.specs.Raster.{pixels as all_pixels};
+ghost use Rattle.comp_tree.specs.Components.{in_order};
 ghost use Rattle.comp_tree.specs.Forest.{IsForest};
-ghost use Rattle.tree_canon.specs.Canonical.{is_canonical as is_canonical_in, canonical_pixels, loose_row, with_parent};
+ghost use Rattle.tree_canon.specs.Canonical.{is_canonical as is_canonical_in, loose_row, with_parent};
+ghost use Rattle.tree_canon.specs.Places.{ArePixelsFrom};
 
 use crate::numbers::number_at;
 use comp_tree::{NONE, NodeRow, Plane};
 use dev_io::OutOfMemory;
 use std::alloc::Global;
 
-/// The rows of all nodes in their order, without the parents.
-pub(crate) fn canonical_rows(
+/// The canonical pixels, in the order of pixel numbers.
+pub(crate) fn find_canonical(
     alloc: Global,
     plane: &Plane,
     links: &[u32],
-) -> Result<Vec<NodeRow>, OutOfMemory>
+) -> Result<Vec<u32>, OutOfMemory>
     requires one_each { length links.now ≡ length plane.now.values }
     requires forest { IsForest plane.now.values 0 links.now }
-    ensures { IfOk result (λ rows. rows.items ≡ map (loose_row plane.now) (canonical_pixels plane.now links.now)) }
+    ensures { IfOk result (λ found. found.items ≡ filter (is_canonical_in plane.now links.now) (all_pixels plane.now)) }
 {
-    let mut rows = find_canonical(alloc, plane, links)?;
-    rows.sort_unstable_by_key(|row| (row.level, row.rep));
-    Ok(rows)
-}
-
-// The same rows in the order of pixel numbers.
-fn find_canonical(alloc: Global, plane: &Plane, links: &[u32]) -> Result<Vec<NodeRow>, OutOfMemory>
-    requires one_each { length links.now ≡ length plane.now.values }
-    requires forest { IsForest plane.now.values 0 links.now }
-    ensures { IfOk result (λ rows. rows.items ≡ map (loose_row plane.now) (filter (is_canonical_in plane.now links.now) (pixels plane.now))) }
-{
-    let mut rows = Vec::new(alloc);
+    let mut found = Vec::new(alloc);
     for p in 0..plane.shape().pixels() {
         if is_canonical(plane, links, p) {
-            let row = loose(plane, p);
-            rows.push(row)?;
+            found.push(p)?;
         }
     }
-    Ok(rows)
-}
-
-// The row of a canonical pixel, as yet without its parent.
-#[inline]
-fn loose(plane: &Plane, p: u32) -> NodeRow
-    requires { p < length plane.now.values }
-    ensures { result ≡ loose_row plane.now p }
-{
-    NodeRow {
-        level: plane.level(p),
-        rep: p,
-        parent: NONE,
-    }
+    Ok(found)
 }
 
 // Whether a pixel is canonical. In a forest only a defined pixel has a link.
@@ -68,6 +45,45 @@ fn is_canonical(plane: &Plane, links: &[u32], p: u32) -> bool
         return plane.is_defined(p);
     }
     !plane.is_at_least(plane.level(p), link)
+}
+
+/// The row of a canonical pixel, as yet without its parent.
+#[inline]
+pub(crate) fn loose(plane: &Plane, p: u32) -> NodeRow
+    requires { p < length plane.now.values }
+    ensures { result ≡ loose_row plane.now p }
+{
+    NodeRow {
+        level: plane.level(p),
+        rep: p,
+        parent: NONE,
+    }
+}
+
+// The rows of some pixels, in their order.
+fn rows_of(alloc: Global, plane: &Plane, pixels: &[u32]) -> Result<Vec<NodeRow>, OutOfMemory>
+    requires { ArePixelsFrom plane.now 0 pixels.now }
+    ensures { IfOk result (λ rows. rows.items ≡ map (loose_row plane.now) pixels.now) }
+{
+    let mut rows = Vec::with_capacity(alloc, pixels.len())?;
+    for p in pixels {
+        rows.push(loose(plane, *p))?;
+    }
+    Ok(rows)
+}
+
+/// The rows of some pixels, sorted by level and pixel.
+pub(crate) fn sorted_rows(
+    alloc: Global,
+    plane: &Plane,
+    pixels: &[u32],
+) -> Result<Vec<NodeRow>, OutOfMemory>
+    requires { ArePixelsFrom plane.now 0 pixels.now }
+    ensures { IfOk result (λ rows. rows.items ≡ map (loose_row plane.now) (in_order plane.now pixels.now)) }
+{
+    let mut rows = rows_of(alloc, plane, pixels)?;
+    rows.sort_unstable_by_key(|row| (row.level, row.rep));
+    Ok(rows)
 }
 
 /// Gives each row its parent: the node of its pixel's link, and `NONE` where that is `NONE`.

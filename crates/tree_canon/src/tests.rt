@@ -132,6 +132,25 @@ fn trees_from_links(rt: HostRuntime) {
             rows: &[(5, 0, NONE), (5, 2, NONE)],
             node_of: &[0, NONE, 1],
         },
+        // levels that lie far apart
+        Case {
+            width: 3,
+            height: 2,
+            connect: Connect::Four,
+            values: &[90, 2, 90, 7, 2, 40],
+            links: &[3, NONE, 5, 1, 1, 1],
+            rows: &[(2, 1, NONE), (7, 3, 0), (40, 5, 0), (90, 0, 1), (90, 2, 2)],
+            node_of: &[3, 0, 4, 1, 0, 2],
+        },
+        Case {
+            width: 2,
+            height: 1,
+            connect: Connect::Eight,
+            values: &[-1, -1],
+            links: &[NONE, NONE],
+            rows: &[],
+            node_of: &[NONE, NONE],
+        },
     ];
     for (number, case) in cases.iter().enumerate() {
         let shape = Shape::of(case.width, case.height).expect(&rt, "a shape");

@@ -14,28 +14,28 @@ set_parents-requires c =
     let r = c.args.plane.now in let links = c.parents-links.result.now in let same = c.parents-links.ensures in
     let whole : length links ≡ length r.values = ap length same ∙ c.requires.one_each in
     let few : length links ≤ 2 ^ 24 = omega (arith, whole, c.shape-shape.ensures.pixels, c.shape-shape.result.within_limits.few_pixels) in
-    rows_within r links whole (subst (IsForest r.values 0) (sym same) c.requires.forest) few c.deref_mut.result.now (c.deref_mut.ensures.value ∙ c.in_ok-rows.ensures) links refl
+    rows_within r links whole (subst (IsForest r.values 0) (sym same) c.requires.forest) few c.deref_mut.result.now (c.deref_mut.ensures.value ∙ c.in_ok-made.ensures.rows) links refl
 
 pub of-requires : goal.of-requires
 of-requires c =
     let r = c.args.plane.now in let links = c.parents-links.result.now in let same = c.parents-links.ensures in
     let plane : IsPlane r = c.shape-shape.ensures.pixels ∙ ap (λ (s : Shape). s.width * s.height) c.shape-shape.ensures.same in
     let new = c.set_parents.new.rows in
-    let count = ap length c.set_parents.ensures ∙ length-map c.deref_mut.result.now (with_parent links c.deref-2.result.now) ∙ c.deref_mut.ensures.len in
+    let count = ap length c.set_parents.ensures ∙ length-map c.deref_mut.result.now (with_parent links c.deref.result.now) ∙ c.deref_mut.ensures.len in
     well_formed r links plane (ap length same ∙ c.requires.one_each) (subst (IsForest r.values 0) (sym same) c.requires.forest)
     (subst (λ ls. StandsForAll r Four ls ⊎ StandsForAll r Eight ls) (sym same) c.requires.stands)
-    c.in_ok-node_of.node_of.items c.in_ok-node_of.ensures c.shape-shape.result _ c.shape-shape.ensures.same
-    (with_items_is c.in_ok-rows.rows new count
-    ∙ rows_from r links c.in_ok-node_of.node_of.items c.deref-2.result.now c.in_ok-rows.rows.items c.deref_mut.result.now new c.in_ok-rows.ensures c.deref_mut.ensures.value c.deref-2.ensures.value c.set_parents.ensures)
+    c.in_ok-made.made.numbers.items c.in_ok-made.ensures.numbers c.shape-shape.result _ c.shape-shape.ensures.same
+    (with_items_is c.in_ok-made.made.rows new count
+    ∙ rows_from r links c.in_ok-made.made.numbers.items c.deref.result.now c.in_ok-made.made.rows.items c.deref_mut.result.now new c.in_ok-made.ensures.rows c.deref_mut.ensures.value c.deref.ensures.value c.set_parents.ensures)
 
 pub returns : goal.returns
 returns c = λ connect stands.
     let r = c.args.plane.now in let links = c.parents-links.result.now in let same = c.parents-links.ensures in
     let plane : IsPlane r = c.shape-shape.ensures.pixels ∙ ap (λ (s : Shape). s.width * s.height) c.shape-shape.ensures.same in
     let new = c.set_parents.new.rows in
-    let count = ap length c.set_parents.ensures ∙ length-map c.deref_mut.result.now (with_parent links c.deref-2.result.now) ∙ c.deref_mut.ensures.len in
+    let count = ap length c.set_parents.ensures ∙ length-map c.deref_mut.result.now (with_parent links c.deref.result.now) ∙ c.deref_mut.ensures.len in
     c.of.ensures
     ∙ tree_is r connect links plane (ap length same ∙ c.requires.one_each) (subst (IsForest r.values 0) (sym same) c.requires.forest) (subst (StandsForAll r connect) (sym same) stands)
-    c.in_ok-node_of.node_of.items c.in_ok-node_of.ensures c.shape-shape.result _ c.shape-shape.ensures.same
-    (with_items_is c.in_ok-rows.rows new count
-    ∙ rows_from r links c.in_ok-node_of.node_of.items c.deref-2.result.now c.in_ok-rows.rows.items c.deref_mut.result.now new c.in_ok-rows.ensures c.deref_mut.ensures.value c.deref-2.ensures.value c.set_parents.ensures)
+    c.in_ok-made.made.numbers.items c.in_ok-made.ensures.numbers c.shape-shape.result _ c.shape-shape.ensures.same
+    (with_items_is c.in_ok-made.made.rows new count
+    ∙ rows_from r links c.in_ok-made.made.numbers.items c.deref.result.now c.in_ok-made.made.rows.items c.deref_mut.result.now new c.in_ok-made.ensures.rows c.deref_mut.ensures.value c.deref.ensures.value c.set_parents.ensures)

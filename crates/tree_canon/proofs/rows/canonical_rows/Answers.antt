@@ -1,8 +1,0 @@
-use Rattle.std.proofs.Common.{rules}
-use Rattle.tree_canon.proofs.Sorting.{sorted_rows, sorted-canonical}
-use Rattle.tree_canon.proofs.rows.canonical_rows.Goals as goal
-
-pub returns : goal.returns
-returns c =
-    sorted-canonical c.args.plane.now c.args.links.now _ _ c.in_ok-rows.ensures c.sort_unstable_by_key.ensures.permutation
-    (sorted_rows _ c.sort_unstable_by_key.ensures.sorted (λ a r q k. search rules))
