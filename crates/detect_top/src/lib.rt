@@ -24,9 +24,13 @@ pub use words::{Job, Order, Usage, read_words};
 #[cfg(test)]
 mod detection_tests;
 #[cfg(test)]
+mod device_tests;
+#[cfg(test)]
 mod filter_tests;
 #[cfg(test)]
 mod header_tests;
+#[cfg(test)]
+mod in_memory;
 #[cfg(test)]
 mod strips_tests;
 #[cfg(test)]

@@ -1,0 +1,128 @@
+//! Runs in memory, and the files that they read. For tests alone.
+
+use crate::run;
+use dev_io::{MemSink, MemSource};
+use std::alloc::Global;
+use std::process::Abort;
+use std::test::Fail;
+use std::thread::Threads;
+use strip_crew::OpenGate;
+
+// The bytes of a block, and the bytes that a take moves at most.
+const BLOCK: usize = 2880;
+
+const PIECE: usize = 1000;
+
+/// Which takes of the input and which calls of the output and of the notes fail, by their numbers from 1, and how many bytes of its piece a call of
+/// the output that fails keeps.
+#[derive(Clone, Copy)]
+pub(crate) struct Failing<'a> {
+    pub(crate) takes: &'a [u32],
+    pub(crate) puts: &'a [u32],
+    pub(crate) kept: usize,
+    pub(crate) notes: &'a [u32],
+}
+
+/// No device fails.
+pub(crate) const NONE_FAILS: Failing<'static> = Failing {
+    takes: &[],
+    puts: &[],
+    kept: 0,
+    notes: &[],
+};
+
+/// What came of a run: its status, what it wrote, and how many bytes of the input it left.
+#[derive(Drop)]
+pub(crate) struct Outcome {
+    pub(crate) status: u8,
+    pub(crate) output: Vec<u8>,
+    pub(crate) notes: Vec<u8>,
+    pub(crate) left: usize,
+}
+
+/// A run, and all that it must show.
+#[derive(Clone, Copy)]
+pub(crate) struct Row<'a> {
+    pub(crate) words: &'a [&'a str],
+    pub(crate) header: &'a [u8],
+    pub(crate) data: &'a [u8],
+    pub(crate) status: u8,
+    pub(crate) output: &'a [u8],
+    pub(crate) notes: &'a [u8],
+    pub(crate) taken: usize,
+}
+
+// Fills the last piece of this size with spaces.
+fn fill(bytes: &mut Vec<u8>, size: usize) -> Result<(), Fail> {
+    for _ in 0..BLOCK {
+        if size == 0 || bytes.len() % size == 0 {
+            return Ok(());
+        }
+        bytes.push(b' ')?;
+    }
+    Ok(())
+}
+
+/// Appends the bytes of this text, in which a bar ends a card and a number sign a block, and the data behind them.
+pub(crate) fn append(bytes: &mut Vec<u8>, header: &[u8], data: &[u8]) -> Result<(), Fail> {
+    for byte in header {
+        match *byte {
+            b'|' => fill(bytes, 80)?,
+            b'#' => fill(bytes, BLOCK)?,
+            other => bytes.push(other)?,
+        }
+    }
+    bytes.extend_from_slice(data)?;
+    Ok(())
+}
+
+/// A file of this text and these data.
+pub(crate) fn file(alloc: Global, header: &[u8], data: &[u8]) -> Result<Vec<u8>, Fail> {
+    let mut bytes = Vec::new(alloc);
+    append(&mut bytes, header, data)?;
+    Ok(bytes)
+}
+
+/// Runs these words over these bytes, with room for so many bytes of output.
+pub(crate) fn run_in_memory<R: Threads + Sync>(
+    rt: &R,
+    alloc: Global,
+    words: &[&str],
+    bytes: &[u8],
+    room: usize,
+    failing: Failing,
+) -> Result<Outcome, Fail> {
+    let mut input = MemSource::new(bytes, PIECE, failing.takes);
+    let mut output = MemSink::new(vec![in alloc; 0; room]?, failing.puts, failing.kept);
+    let mut notes = MemSink::new(vec![in alloc; 0; 99]?, failing.notes, 0);
+    let status = run(
+        rt,
+        alloc,
+        words,
+        &mut input,
+        &mut output,
+        &mut notes,
+        &OpenGate,
+    );
+    Ok(Outcome {
+        status,
+        output: output.bytes().to_vec(alloc)?,
+        notes: notes.bytes().to_vec(alloc)?,
+        left: input.rest().len(),
+    })
+}
+
+/// Makes a row's run, and compares all that can be seen.
+pub(crate) fn compare<R: Threads + Sync + Abort>(
+    rt: &R,
+    alloc: Global,
+    row: Row,
+) -> Result<(), Fail> {
+    let bytes = file(alloc, row.header, row.data)?;
+    let outcome = run_in_memory(rt, alloc, row.words, &bytes, 200, NONE_FAILS)?;
+    assert_eq!(rt; outcome.status, row.status);
+    assert_eq!(rt; outcome.output.as_slice(), row.output);
+    assert_eq!(rt; outcome.notes.as_slice(), row.notes);
+    assert_eq!(rt; bytes.len() - outcome.left.min(bytes.len()), row.taken);
+    Ok(())
+}
