@@ -18,6 +18,7 @@ use fits_write::{Cell, Column, WriteFault, put_empty_primary, put_map, put_table
 use node_sums::{Sums, sums};
 use source_pick::{CatRow, Choice, cells, pick, row, segment};
 use std::alloc::Global;
+use std::thread::Threads;
 
 /// The map, with a number for each pixel, and the cells of the catalogue, row by row.
 #[derive(Drop)]
@@ -94,12 +95,14 @@ fn table_cells(
     Ok(table)
 }
 
-/// The sources of a plane, with its tree.
-pub(crate) fn detect(
+/// The sources of a plane, with its tree. So many workers fill the map.
+pub(crate) fn detect<R: Threads + Sync>(
+    rt: &R,
     alloc: Global,
     plane: &Plane,
     tree: &Tree,
     choice: &Choice,
+    workers: u32,
 ) -> Result<Detection, OutOfMemory>
     requires of_plane { IsTreeOfPlane plane.now tree.now }
     requires contrast { choice.now.contrast ≤ 1000 }
@@ -109,7 +112,7 @@ pub(crate) fn detect(
 {
     let sums = sums(alloc, plane, tree)?;
     let picked = pick(alloc, tree, &sums, choice)?;
-    let map = segment(alloc, tree, &picked)?;
+    let map = segment(rt, alloc, tree, &picked, workers)?;
     let cells = table_cells(alloc, tree, &sums, &picked)?;
     Ok(Detection {
         shape: plane.shape(),

@@ -75,7 +75,14 @@ fn filtered(
 }
 
 // What a job makes of a plane and its tree.
-fn make_of(alloc: Global, job: Job, plane: &Plane, tree: Tree) -> Result<Product, OutOfMemory>
+fn make_of<R: Threads + Sync>(
+    rt: &R,
+    alloc: Global,
+    job: Job,
+    workers: u32,
+    plane: &Plane,
+    tree: Tree,
+) -> Result<Product, OutOfMemory>
     requires of_plane { IsTreeOfPlane plane.now tree }
     requires limits { HasJobLimits job }
     requires suits { SuitsJob job plane.now }
@@ -91,11 +98,11 @@ fn make_of(alloc: Global, job: Job, plane: &Plane, tree: Tree) -> Result<Product
             Ok(plane) => Ok(Product::Image(plane)),
             Err(error) => Err(error),
         },
-        Job::Detect { choice } => match detect(alloc, plane, &tree, &choice) {
+        Job::Detect { choice } => match detect(rt, alloc, plane, &tree, &choice, workers) {
             Ok(found) => Ok(Product::Sources(found)),
             Err(error) => Err(error),
         },
-        Job::Trial { .. } => match summarize(alloc, plane, &tree) {
+        Job::Trial { .. } => match summarize(rt, alloc, plane, &tree, workers) {
             Ok(summary) => Ok(Product::Told(summary)),
             Err(error) => Err(error),
         },
@@ -164,7 +171,7 @@ pub(crate) fn make<R: Threads + Sync, G: Gate>(
         Ok(tree) => tree,
         Err(error) => return Err(error),
     };
-    make_of(alloc, order.job, &plane, tree)
+    make_of(rt, alloc, order.job, order.workers, &plane, tree)
 }
 
 /// What a trial of this seed and this shape makes.

@@ -26,6 +26,7 @@ use itoa::Buffer;
 use node_sums::{Sums, flux, sums};
 use source_pick::{Choice, pick, segment};
 use std::alloc::Global;
+use std::thread::Threads;
 
 /// What is told of a trial's image.
 #[derive(Clone, Copy, PartialEq, Eq, Debug)]
@@ -134,8 +135,14 @@ fn sum_fluxes(tree: &Tree, sums: &[Sums]) -> u64
     fluxes
 }
 
-/// What is told of a plane and its tree.
-pub(crate) fn summarize(alloc: Global, plane: &Plane, tree: &Tree) -> Result<Summary, OutOfMemory>
+/// What is told of a plane and its tree. So many workers fill the map.
+pub(crate) fn summarize<R: Threads + Sync>(
+    rt: &R,
+    alloc: Global,
+    plane: &Plane,
+    tree: &Tree,
+    workers: u32,
+) -> Result<Summary, OutOfMemory>
     requires of_plane { IsTreeOfPlane plane.now tree.now }
     requires small { HasSmallValues plane.now.values }
     ensures { IfOk result (λ summary. (connect : Connect) → tree.now ≡ tree_of plane.now connect → summary ≡ summary_of plane.now connect) }
@@ -143,7 +150,7 @@ pub(crate) fn summarize(alloc: Global, plane: &Plane, tree: &Tree) -> Result<Sum
     let shape = plane.shape();
     let sums = sums(alloc, plane, tree)?;
     let sources = pick(alloc, tree, &sums, &CHOICE)?;
-    let numbers = segment(alloc, tree, &sources)?;
+    let numbers = segment(rt, alloc, tree, &sources, workers)?;
     Ok(Summary {
         pixels: shape.pixels(),
         nodes: node_count(tree),

@@ -218,8 +218,8 @@ around_before connect width height x y row q inside end l a =
 -- ---- bands of rows
 
 -- a band has at least a pixel
-pub band_size : (width height parts rows : ℕ) → 0 < width → 0 < height → 0 < parts → rows ≡ height / parts + min 1 (height % parts) → 0 < rows * width
-band_size width height parts rows wide high some e =
+pub some_pixels : (width height parts rows : ℕ) → 0 < width → 0 < height → 0 < parts → rows ≡ height / parts + min 1 (height % parts) → 0 < rows * width
+some_pixels width height parts rows wide high some e =
     let least : 1 * width ≤ rows * width = mul-le-mul_right width one in
     let same : 1 * width ≡ width = omega arith in
     omega arith

@@ -3,7 +3,7 @@ use Rattle.std.proofs.Common.{◌≡◌, ℕ, ◌+◌, ◌*◌, ◌^◌, ◌<◌
 use Rattle.std.specs.Prelude.{Option, Some, unwrap_or, replicate, slice_get, slice_index, ◌==◌}
 use Rattle.std.specs.List.{range_with_len, position_from, list_any, IsDistinct, AllByRecursion}
 use Rattle.std.proofs.lemmas.Bool.{true≢false, eqb-true, ne_eqb, or_cases, false_from_ne_true, cases_lt, cases_eq}
-use Rattle.std.proofs.lemmas.List.{length-set, length-map, get_or-set_same, get_or-set_other}
+use Rattle.std.proofs.lemmas.List.{length-set, length-map, get_or-set_same, get_or-set_other, get_or_past}
 use Rattle.std.proofs.lemmas.List.FromFn.{fill_by_all, length-range_with_len, get_or-map-range_with_len}
 use Rattle.std.proofs.lemmas.Map.Steps.{length-le_from_distinct_below}
 use Rattle.std.proofs.lemmas.Option.{slice_get_within, same_Some}
@@ -349,6 +349,13 @@ zeros_replicate xs k e n = ap (λ (ys : List ℕ). slice_index ys n) e ∙ go k 
     go zero n = refl
     go (suc k) zero = refl
     go (suc k) (suc n) = go k n
+
+pub zeros_part : (xs part : List ℕ) (start : ℕ) → ((n : ℕ) → slice_index xs n ≡ 0) → ((k : ℕ) → k < length part → slice_index part k ≡ slice_index xs (start + k)) → (k : ℕ) → slice_index part k ≡ 0
+zeros_part xs part start none each k = go (cases_lt k (length part))
+  where
+    go : (k < length part) ⊎ (length part ≤ k) → slice_index part k ≡ 0
+    go (inl l) = each k l ∙ none (start + k)
+    go (inr l) = get_or_past part k 0 l
 
 pub pixels_all : (r : Raster) (connect : Connect) (tree : ComponentTree) (marked numbers : List ℕ) → tree ≡ tree_of r connect → length numbers ≡ length tree.node_of
     → ((p : ℕ) → p < length tree.node_of → slice_index numbers p ≡ number_at r connect marked p) → numbers ≡ segmentation_of r connect marked

@@ -15,7 +15,7 @@ use Rattle.source_pick.specs.declared.choice.Choice.{Choice}
 use Rattle.source_pick.specs.declared.splitting.StrongChildren.{StrongChildren}
 use Rattle.source_pick.specs.declared.splitting.StrongChildren.TheVariants.{Zero, One, Several}
 use Rattle.source_pick.specs.Sources.{entry_of, is_strong, is_source, sources_at}
-use Rattle.source_pick.specs.Segmentation.{number_at}
+use Rattle.source_pick.specs.Segmentation.{number_at, AreDisjointNodes}
 use Rattle.source_pick.specs.Locality.{is_near_high}
 
 -- the tree and the sums are those of the plane r
@@ -154,6 +154,11 @@ pub record AreNumbered (tree : ComponentTree) (marked : List ℕ) (count : ℕ) 
   pub one_each : length numbers ≡ length tree.rows
   pub each : (r : Raster) (connect : Connect) → IsPlane r → tree ≡ tree_of r connect → (n : ℕ) → n < count
       → slice_index numbers n ≡ number_at r connect marked (top_of r connect n)
+
+-- the map of the pixels from start on has the numbers of the first count of them, if `numbers` has those of the nodes
+pub record HavePixelNumbers (tree : ComponentTree) (numbers : List ℕ) (start count : ℕ) (map : List ℕ) : Type 0 where
+  pub each : (marked : List ℕ) (r : Raster) (connect : Connect) → AreDisjointNodes tree marked → AreNumbered tree marked (length tree.rows) numbers
+      → tree ≡ tree_of r connect → (k : ℕ) → k < count → slice_index map k ≡ number_at r connect marked (start + k)
 
 -- ---- the pixels that matter
 

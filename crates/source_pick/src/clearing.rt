@@ -13,6 +13,7 @@ ghost use Rattle.source_pick.specs.Passes.{
   without_unmarked,
 };
 
+use crate::bands::band_size;
 use comp_tree::{Connect, Plane, Shape};
 use dev_io::OutOfMemory;
 use std::alloc::Global;
@@ -38,9 +39,8 @@ pub fn clear_far<R: Threads + Sync>(
     if !has_below(plane, threshold) {
         return Ok(());
     }
-    let shape = plane.shape();
-    let rows = shape.height.div_ceil(parts.max(1));
-    let marks = near_marks(rt, alloc, plane, connect, threshold, rows * shape.width)?;
+    let size = band_size(plane.shape(), parts);
+    let marks = near_marks(rt, alloc, plane, connect, threshold, size)?;
     clear_unmarked(plane, &marks);
     Ok(())
 }

@@ -4,6 +4,8 @@ ghost use Rattle.node_sums.specs.Sums.{AreTheTrees};
 use super::*;
 use comp_tree::{Connect, Plane, Shape, Tree, plain_tree};
 use node_sums::{Sums, sums};
+use std::alloc::Global;
+use std::test::Fail;
 
 #[derive(Drop)]
 struct Case<'a> {
@@ -19,6 +21,18 @@ struct Case<'a> {
     rows: &'a [[i64; 17]],
 }
 
+// A plane of these values, of which 0 stands for an undefined pixel.
+fn plane_of(alloc: Global, width: u32, height: u32, values: &[i64]) -> Result<Plane, Fail> {
+    let shape = Shape::of(width, height).ok_or("a shape")?;
+    let mut plane = Plane::blank(alloc, shape)?;
+    for (p, value) in values.iter().enumerate() {
+        if *value > 0 && *value < 256 && p < plane.shape().pixels() as usize {
+            plane.set(p as u32, Some(*value));
+        }
+    }
+    Ok(plane)
+}
+
 // The numbers of a source's row.
 fn numbers_of(tree: &Tree, sums: &[Sums], number: u32, n: u32) -> [i64; 17]
     requires sums { AreTheTrees tree.now sums.now }
@@ -30,7 +44,7 @@ fn numbers_of(tree: &Tree, sums: &[Sums], number: u32, n: u32) -> [i64; 17]
 }
 
 #[test]
-fn sources_of_small_planes(rt: HostRuntime) {
+fn sources_of_small_planes(rt: HostRuntime) -> Result<(), Fail> {
     let cases = [
         // two parts with 400 and 300 thousandths of the whole flux
         Case {
@@ -102,15 +116,9 @@ fn sources_of_small_planes(rt: HostRuntime) {
         },
     ];
     for (number, case) in cases.iter().enumerate() {
-        let shape = Shape::of(case.width, case.height).expect(&rt, "a shape");
-        let mut plane = Plane::blank(rt.alloc(), shape).expect(&rt, "memory");
-        for (p, value) in case.values.iter().enumerate() {
-            if *value > 0 && *value < 256 && p < plane.shape().pixels() as usize {
-                plane.set(p as u32, Some(*value));
-            }
-        }
-        let tree = plain_tree(rt.alloc(), &plane, Connect::Four).expect(&rt, "memory");
-        let found = sums(rt.alloc(), &plane, &tree).expect(&rt, "memory");
+        let plane = plane_of(rt.alloc(), case.width, case.height, case.values)?;
+        let tree = plain_tree(rt.alloc(), &plane, Connect::Four)?;
+        let found = sums(rt.alloc(), &plane, &tree)?;
         assert!(rt; case.contrast <= 1000);
         let choice = Choice {
             threshold: case.threshold,
@@ -118,9 +126,9 @@ fn sources_of_small_planes(rt: HostRuntime) {
             min_flux: 0,
             contrast: case.contrast,
         };
-        let picked = pick(rt.alloc(), &tree, &found, &choice).expect(&rt, "memory");
+        let picked = pick(rt.alloc(), &tree, &found, &choice)?;
         assert_eq!(rt; picked.as_slice(), case.nodes, "sources of case {number}");
-        let map = segment(rt.alloc(), &tree, &picked).expect(&rt, "memory");
+        let map = segment(&rt, rt.alloc(), &tree, &picked, 2)?;
         assert_eq!(rt; map.as_slice(), case.map, "map of case {number}");
         let count = picked.len();
         assert_eq!(rt; count, case.rows.len(), "case {number}");
@@ -132,4 +140,69 @@ fn sources_of_small_planes(rt: HostRuntime) {
             assert_eq!(rt; row, case.rows[i], "row {i} of case {number}");
         }
     }
+    Ok(())
+}
+
+#[derive(Drop)]
+struct Sky<'a> {
+    connect: Connect,
+    threshold: i64,
+    parts: u32,
+    // of a plane of 5 by 4 pixels: 0 stands for an undefined one
+    left: &'a [i64],
+}
+
+#[rattlefmt::skip]
+const SKY: [i64; 20] = [1, 2, 3, 0, 5, 2, 0, 9, 4, 5, 3, 4, 5, 6, 5, 0, 2, 3, 4, 8];
+
+#[test]
+fn what_is_left_of_a_sky(rt: HostRuntime) -> Result<(), Fail> {
+    let skies = [
+        Sky {
+            connect: Connect::Four,
+            threshold: 8,
+            parts: 1,
+            left: &[0, 0, 3, 0, 0, 0, 0, 9, 4, 0, 0, 0, 5, 0, 5, 0, 0, 0, 4, 8],
+        },
+        // the diagonal neighbours too
+        Sky {
+            connect: Connect::Eight,
+            threshold: 8,
+            parts: 3,
+            left: &[0, 2, 3, 0, 0, 0, 0, 9, 4, 0, 0, 4, 5, 6, 5, 0, 0, 0, 4, 8],
+        },
+        // a value below all, with more parts than rows, and one above all
+        Sky {
+            connect: Connect::Four,
+            threshold: 1,
+            parts: 9,
+            left: &SKY,
+        },
+        Sky {
+            connect: Connect::Eight,
+            threshold: 10,
+            parts: 2,
+            left: &[0; 20],
+        },
+    ];
+    for (number, sky) in skies.iter().enumerate() {
+        let mut plane = plane_of(rt.alloc(), 5, 4, &SKY)?;
+        clear_far(
+            &rt,
+            rt.alloc(),
+            &mut plane,
+            sky.connect,
+            sky.threshold,
+            sky.parts,
+        )?;
+        for (p, value) in sky.left.iter().enumerate() {
+            assert!(rt; p < plane.shape().pixels() as usize);
+            assert_eq!(rt;
+                plane.get(p as u32).unwrap_or(0),
+                *value,
+                "pixel {p} of sky {number}"
+            );
+        }
+    }
+    Ok(())
 }

@@ -16,30 +16,30 @@ is_plane : (r : Raster) (shape : Shape) → shape ≡ r.shape → length r.value
 is_plane r shape same long = long ∙ ap (λ (s : Shape). s.width * s.height) same
 
 pub sum_areas-requires : goal.sum_areas-requires
-sum_areas-requires c =
+sum_areas-requires g c =
     let rows : length c.in_ok-sums.sums.items ≡ length c.args.tree.now.rows = trees_rows c.args.tree.now c.in_ok-sums.sums.items c.in_ok-sums.ensures.the_trees in
     omega (arith, rows, ap length c.deref-3.ensures.value, c.node_count.ensures.all, c.node_count.ensures.few)
 
 pub sum_fluxes-requires-clause-small : goal.sum_fluxes-requires-clause-small
-sum_fluxes-requires-clause-small c =
+sum_fluxes-requires-clause-small g c =
     let plane : IsPlane c.args.plane.now = is_plane c.args.plane.now c.shape-shape.result c.shape-shape.ensures.same c.shape-shape.ensures.pixels in
     subst (λ (xs : List Sums). HasSmallFluxes c.args.tree.now xs) (sym c.deref-4.ensures.value)
     (small_fluxes c.args.plane.now c.args.tree.now c.in_ok-sums.sums.items plane c.requires.small c.in_ok-sums.ensures.of_plane)
 
 pub overflow_cast-result : goal.overflow_cast-result
-overflow_cast-result c =
+overflow_cast-result g c =
     let d = c.in_ok-sources.ensures.disjoint in
     let few : length c.in_ok-sources.sources.items ≤ length c.args.tree.now.rows = few_marked c.args.tree.now c.in_ok-sources.sources.items d in
     let rows : length c.args.tree.now.rows ≤ 2 ^ 24 = few_rows c.args.tree.now c.in_ok-sources.sources.items d in
     record { fits = omega (arith, few, rows, c.len.ensures, c.deref-2.ensures.len, ap length c.deref-2.ensures.value) }
 
 pub count_mapped-requires : goal.count_mapped-requires
-count_mapped-requires c =
+count_mapped-requires g c =
     let plane : IsPlane c.args.plane.now = is_plane c.args.plane.now c.shape-shape.result c.shape-shape.ensures.same c.shape-shape.ensures.pixels in
     omega (arith, few-numbers c.args.plane.now c.args.tree.now plane c.requires.of_plane, c.in_ok-numbers.ensures.one_each, ap length c.deref-5.ensures.value)
 
 pub returns : goal.returns
-returns c = λ connect is.
+returns g c = λ connect is.
     let sums_are = c.in_ok-sums.ensures.exact connect is in
     let pixels : c.pixels.result ≡ length c.args.plane.now.values = c.pixels.ensures.product ∙ sym c.shape-shape.ensures.pixels in
     summary_is c.args.plane.now connect c.args.tree.now c.in_ok-sums.sums.items c.in_ok-sources.sources.items c.in_ok-numbers.numbers.items

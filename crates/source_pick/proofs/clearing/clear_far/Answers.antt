@@ -1,20 +1,12 @@
-use Rattle.std.proofs.Common.{◌≡◌, ◌*◌, ◌∙◌, ℤ, map, ap, subst, length, to_z, of_z, w64, arith}
+use Rattle.std.proofs.Common.{◌≡◌, ◌*◌, ◌∙◌, ℤ, map, ap, subst, length, to_z, of_z, w64}
 use Rattle.std.proofs.lemmas.Int.{to_z-of_z}
 use Rattle.comp_tree.specs.declared.shape.Shape.{Shape}
 use Rattle.comp_tree.specs.Raster.{pixels}
 use Rattle.source_pick.specs.Locality.{is_near_high, kept}
 use Rattle.source_pick.specs.Passes.{HasNoneBelow}
-use Rattle.source_pick.proofs.Around.{band_size}
 use Rattle.source_pick.proofs.Nearing.{length_of_marks, without-kept, kept_whole}
 use Rattle.source_pick.proofs.Keeping.{cleared_has_the_same_sources}
 use Rattle.source_pick.proofs.clearing.clear_far.Goals as goal
-
-pub near_marks-requires : goal.near_marks-requires
-near_marks-requires g c = (
-  c.type_bounds.sync-R,
-  band_size c.shape-shape.result.width c.shape-shape.result.height c.max.result c.div_ceil-rows.result c.shape-shape.result.within_limits.some_columns
-      c.shape-shape.result.within_limits.some_rows (omega (arith, c.max.ensures)) c.div_ceil-rows.ensures,
-)
 
 pub clear_unmarked-requires : goal.clear_unmarked-requires
 clear_unmarked-requires g c = length_of_marks c.args.plane.now c.args.connect (to_z w64 (of_z w64 c.args.threshold)) c.deref.result.now (c.deref.ensures.value ∙ c.in_ok-marks.ensures)
@@ -37,4 +29,4 @@ returns-clause-kept g c = is_kept g c
 pub returns-clause-same : goal.returns-clause-same
 returns-clause-same g c = λ choice e.
     cleared_has_the_same_sources c.args.plane.now c.clear_unmarked.new.plane c.args.connect choice c.args.threshold
-    (c.shape-shape.ensures.pixels ∙ ap (λ (s : Shape). s.width * s.height) c.shape-shape.ensures.same) e (is_kept g c)
+    (c.shape.ensures.pixels ∙ ap (λ (s : Shape). s.width * s.height) c.shape.ensures.same) e (is_kept g c)
