@@ -119,14 +119,21 @@ module _ (g : Ground) (s : State) (ok : IsRanked g) (turning : IsTurning g s) wh
     is_n : (k n y : ℕ) → IsNeighbour g.connect g.width g.first (length g.ranks) p k n → Adj g p y → direction g.connect g.width p y ≡ k → y ≡ n
     is_n k n y next i d = next.only y i.other (inner_near g.values g.width g.connect g.first (length g.ranks) p y i) d
 
-    pub seen_undefined : (k n : ℕ) → IsNeighbour g.connect g.width g.first (length g.ranks) p k n → g.size ≤ rank_of g n → IsSeen g s.cursors p k
-    seen_undefined k n next high = record {
-      seen = λ y i d. let e : y ≡ n = is_n k n y next i d in
-          let both : (is_some (value_at g.values p) && is_some (value_at g.values y) ≡ true) × (are_neighbours g.connect g.width p y ≡ true) = and_parts (is_some (value_at g.values p) && is_some (value_at g.values y)) (are_neighbours g.connect g.width p y) i.adjacent in
-          let there : IsDefined (value_at g.values y) = (and_parts (is_some (value_at g.values p)) (is_some (value_at g.values y)) both.0).1 in
-          let low : rank_of g y < g.size = ok.there y i.other there in
-          let low_n : rank_of g n < g.size = subst (λ x. rank_of g x < g.size) e low in absurd (omega arith);
-    }
+    -- n has no value, so p is not adjacent to it
+    pub none_undefined : (k n : ℕ) → IsNeighbour g.connect g.width g.first (length g.ranks) p k n → g.size ≤ rank_of g n → (y : ℕ) → Adj g p y → direction g.connect g.width p y ≡ k → ⊥
+    none_undefined k n next high y i d = let e : y ≡ n = is_n k n y next i d in
+        let both : (is_some (value_at g.values p) && is_some (value_at g.values y) ≡ true) × (are_neighbours g.connect g.width p y ≡ true) = and_parts (is_some (value_at g.values p) && is_some (value_at g.values y)) (are_neighbours g.connect g.width p y) i.adjacent in
+        let there : IsDefined (value_at g.values y) = (and_parts (is_some (value_at g.values p)) (is_some (value_at g.values y)) both.0).1 in
+        let low : rank_of g y < g.size = ok.there y i.other there in
+        let low_n : rank_of g n < g.size = subst (λ x. rank_of g x < g.size) e low in omega arith
+
+    -- p has no neighbour in this direction
+    pub none_there : (k : ℕ) → HasNone g.connect g.width g.first (length g.ranks) p k → (y : ℕ) → Adj g p y → direction g.connect g.width p y ≡ k → ⊥
+    none_there k no_one y i d = no_one.no_node y i.other (inner_near g.values g.width g.connect g.first (length g.ranks) p y i) d
+
+    -- where there is no adjacency, all were seen
+    pub seen_none : (k : ℕ) → ((y : ℕ) → Adj g p y → direction g.connect g.width p y ≡ k → ⊥) → IsSeen g s.cursors p k
+    seen_none k none = record { seen = λ y i d. absurd (none y i d) }
 
     pub seen_already : (k n : ℕ) → IsNeighbour g.connect g.width g.first (length g.ranks) p k n → 0 < cursor_of g s.cursors n → IsSeen g s.cursors p k
     seen_already k n next l = record { seen = λ y i d. subst (λ x. 0 < cursor_of g s.cursors x) (sym (is_n k n y next i d)) l }
@@ -136,9 +143,6 @@ module _ (g : Ground) (s : State) (ok : IsRanked g) (turning : IsTurning g s) wh
       seen = λ y i d. subst (λ x. 0 < cursor_of g (set s.cursors (n - g.first) 1) x) (sym (is_n k n y next i d))
           (subst (λ c. 0 < c) (sym (cursor_new g s.cursors turning.fair.cursors_length n 1 next.inside)) (omega arith));
     }
-
-    pub seen_none : (k : ℕ) → HasNone g.connect g.width g.first (length g.ranks) p k → IsSeen g s.cursors p k
-    seen_none k no_one = record { seen = λ y i d. absurd (no_one.no_node y i.other (inner_near g.values g.width g.connect g.first (length g.ranks) p y i) d) }
 
   -- the cursor goes on
   pub look_turning : (p k v : ℕ) → IsQueued g s.cursors p → cursor_of g s.cursors p ≡ k + 1 → v ≡ k + 2 → k < ends g.connect → IsSeen g s.cursors p k
