@@ -5,7 +5,8 @@ use Rattle.std.proofs.lemmas.Bool.{cases_eq, cases_lt, and_parts, and_from, fals
 use Rattle.std.proofs.lemmas.Bool.Decides.{nat_tests}
 use Rattle.comp_tree.specs.Counts.{count_below, sum_below}
 use Rattle.comp_tree.specs.Grid.{are_adjacent, IsInner}
-use Rattle.strip_flood.specs.Flood.{Ground, ends, direction, IsOf, cursor_of, work, seen_count, is_looked, looks, IsStep, IsAround}
+use Rattle.strip_flood.specs.Flood.{Ground, ends, direction, IsOf, cursor_of, work, seen_count, is_looked, looks, IsStep}
+use Rattle.strip_flood.proofs.Flow.{IsAround}
 use Rattle.strip_flood.proofs.Directions.{inner_near, inner_direction, direction_once}
 
 pub sum_up : (f k : ℕ → ℕ) (n : ℕ) → ((i : ℕ) → i < n → f i ≤ k i) → sum_below f n ≤ sum_below k n

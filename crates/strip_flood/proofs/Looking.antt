@@ -3,8 +3,8 @@ use Rattle.std.proofs.Common.{◌≡◌, ℕ, ◌+◌, ◌-◌, ◌<◌, ◌≤�
 use Rattle.std.proofs.lemmas.Bool.{cases_eq}
 use Rattle.std.proofs.lemmas.List.{set_comm, set-set, set-get_or}
 use Rattle.strip_flood.specs.Queue.{IsFront}
-use Rattle.strip_flood.specs.Flood.{Ground, State, state, list_at, ends, IsOf, rank_of, cursor_of, IsQueued, IsRanked, IsFair, IsTurning, IsAtFront, IsSeen, IsAround, IsNeighbour, IsStep, work}
-use Rattle.strip_flood.proofs.Flow.{ends_small, cursor_new, cursor_old, queued_new, queued_old}
+use Rattle.strip_flood.specs.Flood.{Ground, State, state, list_at, ends, IsOf, rank_of, cursor_of, IsQueued, IsRanked, IsFair, IsTurning, IsAtFront, IsNeighbour, IsStep, work}
+use Rattle.strip_flood.proofs.Flow.{IsSeen, IsAround, ends_small, cursor_new, cursor_old, queued_new, queued_old}
 use Rattle.strip_flood.proofs.Listing.{list_new, list_old}
 use Rattle.strip_flood.proofs.Seeing.{below, see_pushed, see_around, seen_now, look_turning, look_front, pushed_front}
 use Rattle.strip_flood.proofs.Retiring.{front_queued, front_rank, front_place}

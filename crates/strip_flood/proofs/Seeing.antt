@@ -1,16 +1,14 @@
 -- A look from the pixel that the flooding is at.
 use Rattle.std.proofs.Common.{◌≡◌, ℕ, ◌+◌, ◌-◌, ◌<◌, ◌≤◌, List, [], ◌∷◌, ◌++◌, length, set, slice_index, is_some, ◌&&◌, true, ℤ, ◌⊎◌, inl, inr, refl, sym, subst, ap, ◌∙◌, ⊎_elim, arith, length-append}
-use Rattle.std.specs.Prelude.{nat_le}
-use Rattle.std.proofs.lemmas.Bool.Decides.{nat_tests}
 use Rattle.std.proofs.lemmas.Bool.{cases_eq, cases_lt, and_from, and_parts}
 use Rattle.comp_tree.specs.Joined.{Joined}
 use Rattle.comp_tree.specs.Forest.{no_node, value_at, IsDefined, IsAtLeast}
 use Rattle.comp_tree.specs.Grid.{are_neighbours}
 use Rattle.strip_flood.specs.Queue.{IsNowhere, IsEmpty, IsFront}
-use Rattle.strip_flood.specs.Flood.{Ground, State, state, list_at, ends, direction, IsOf, rank_of, cursor_of, IsQueued, IsOpen, IsRanked, IsFair, IsTurning, IsTop, IsAtFront, IsSeen, IsNeighbour, HasNone, IsAround}
+use Rattle.strip_flood.specs.Flood.{Ground, State, state, list_at, ends, direction, IsOf, rank_of, cursor_of, IsQueued, IsOpen, IsRanked, IsFair, IsTurning, IsTop, IsAtFront, IsNeighbour, HasNone}
 use Rattle.comp_tree.proofs.Joining.{joined_trans, joined_pair}
 use Rattle.comp_tree.proofs.Order.{at_least_cases}
-use Rattle.strip_flood.proofs.Flow.{cursor_new, queued_new, queued_old}
+use Rattle.strip_flood.proofs.Flow.{IsSeen, IsAround, cursor_new, queued_new, queued_old}
 use Rattle.comp_tree.proofs.Adjacent.{adjacent_from}
 use Rattle.strip_flood.proofs.Directions.{inner_near}
 use Rattle.strip_flood.proofs.Listing.{list_new, list_old}
@@ -151,9 +149,6 @@ module _ (g : Ground) (s : State) (ok : IsRanked g) (turning : IsTurning g s) wh
     fair = look_fair g s ok turning.fair p v queued (omega arith) (omega arith) (λ y i d. seen.seen y i (omega arith));
     busy = turning.busy;
   }
-
-pub nat_le_true : (a b : ℕ) → nat_le a b ≡ true → a ≤ b
-nat_le_true a b e = grind (arith, nat_tests)
 
 -- a pixel that is no higher is queued behind p, which stays at the front
 push_front : (g : Ground) (s : State) → IsFair g s → (r p n t : ℕ) → IsAtFront g s r p → IsOf g n → cursor_of g s.cursors n ≡ 0 → rank_of g n ≡ t → t ≤ r

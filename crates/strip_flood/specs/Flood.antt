@@ -184,11 +184,6 @@ pub record IsStep (g : Ground) (old new : List ℕ) (queued_old queued_new looke
   pub queued : queued_new + seen_count old ≡ queued_old + seen_count new
   pub looked : looked_new + looks g old ≡ looked_old + looks g new
 
--- from p, one look in direction k at a neighbour with a value, or none where there is no such neighbour
-pub record IsAround (g : Ground) (p k old new : ℕ) : Type 0 where
-  pub is : ((new ≡ old) × ((n : ℕ) → IsInner g.values g.width g.connect g.first (length g.ranks) p n → direction g.connect g.width p n ≡ k → ⊥))
-      ⊎ ((new ≡ old + 1) × ((n : ℕ) × (IsInner g.values g.width g.connect g.first (length g.ranks) p n × (direction g.connect g.width p n ≡ k))))
-
 -- p is queued, and no open pixel is higher
 pub record IsTop (g : Ground) (s : State) (p : ℕ) : Type 0 where
   pub queued : IsQueued g s.cursors p
@@ -199,7 +194,3 @@ pub record IsAtFront (g : Ground) (s : State) (r p : ℕ) : Type 0 where
   pub top : IsTop g s p
   pub rank : rank_of g p ≡ r
   pub front : IsFront s.lists r (p - g.first)
-
--- what p has in direction k was seen
-pub record IsSeen (g : Ground) (cursors : List ℕ) (p k : ℕ) : Type 0 where
-  pub seen : (y : ℕ) → IsInner g.values g.width g.connect g.first (length g.ranks) p y → direction g.connect g.width p y ≡ k → 0 < cursor_of g cursors y
