@@ -170,6 +170,15 @@ found connect width first count p k q pos l w at = record {
 pub missing : (connect : Connect) (width first count p k : ℕ) → 0 < width → ((y : ℕ) → IsWithin first count y → IsAt width p (cell connect k) y → ⊥) → HasNone connect width first count p k
 missing connect width first count p k pos nothing = record { no_node = λ y w near d. nothing y w (subst (λ j. IsAt width p (cell connect j) y) d (near_at connect width p y pos near)) }
 
+-- a direction leads to one neighbour
+pub direction_once : (connect : Connect) (width p y n : ℕ) → 0 < width → are_neighbours connect width p y ≡ true → are_neighbours connect width p n ≡ true
+    → direction connect width p y ≡ direction connect width p n → y ≡ n
+direction_once connect width p y n pos near_y near_n same =
+    let a : IsAt width p (cell connect (direction connect width p n)) y = subst (λ j. IsAt width p (cell connect j) y) same (near_at connect width p y pos near_y) in
+    let b : IsAt width p (cell connect (direction connect width p n)) n = near_at connect width p n pos near_n in
+    let place_y : y + width + 1 ≡ p + cell connect (direction connect width p n) / 3 * width + cell connect (direction connect width p n) % 3 = a.place in
+    let place_n : n + width + 1 ≡ p + cell connect (direction connect width p n) / 3 * width + cell connect (direction connect width p n) % 3 = b.place in omega arith
+
 -- ---- pixels with all nine around them in the strip
 
 cell_nine : (connect : Connect) (k : ℕ) → k < ends connect → cell connect k < 9

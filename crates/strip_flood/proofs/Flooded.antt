@@ -1,23 +1,22 @@
 -- A strip in which nothing is queued and each pixel with a value was seen.
-use Rattle.std.proofs.Common.{◌≡◌, ℕ, ◌+◌, ◌-◌, ◌<◌, ◌≤◌, false, is_some, List, length, slice_index, Option, Some, None, ℤ, ◌⊎◌, inl, inr, refl, sym, subst, ◌∙◌, ⊎_elim, arith}
-use Rattle.std.specs.Prelude.{nat_lt}
-use Rattle.std.proofs.lemmas.Bool.{cases_lt, and_parts, true≢false}
+use Rattle.std.proofs.Common.{◌≡◌, ℕ, ◌+◌, ◌-◌, ◌<◌, ◌≤◌, Bool, true, false, is_some, length, slice_index, Option, Some, None, ℤ, ◌⊎◌, inl, inr, refl, sym, subst, ◌∙◌, ⊎_elim, arith}
+use Rattle.std.specs.Prelude.{nat_lt, ◌&&◌}
+use Rattle.std.proofs.lemmas.Bool.{cases_lt, and_from, and_parts, true≢false}
 use Rattle.comp_tree.specs.Joined.{IsPairOf}
 use Rattle.comp_tree.specs.Forest.{no_node, value_at, IsDefined, IsLink, JoinSame, StandsFor}
 use Rattle.comp_tree.specs.Counts.{count_below, count_defined}
-use Rattle.comp_tree.specs.Grid.{are_adjacent, IsInner}
+use Rattle.comp_tree.specs.Grid.{are_adjacent, are_neighbours, IsInner}
 use Rattle.strip_flood.specs.Queue.{IsEmpty}
 use Rattle.strip_flood.specs.Flood.{Ground, State, ends, direction, IsOf, rank_of, cursor_of, IsOpen, IsLooked, IsRanked, IsTurning, seen_count, is_looked, looks, inner_count}
 use Rattle.comp_tree.proofs.Flooding.{flooded}
 use Rattle.comp_tree.proofs.Order.{at_least_defined}
-use Rattle.comp_tree.proofs.Ranks.{count_below_up}
 use Rattle.comp_tree.proofs.Sames.{stands_from}
 use Rattle.strip_flood.proofs.Flow.{ends_small}
 use Rattle.strip_flood.proofs.Directions.{inner_direction}
 use Rattle.strip_flood.proofs.Stepping.{High, Adj}
 use Rattle.strip_flood.proofs.Retiring.{contains_some}
 use Rattle.strip_flood.proofs.Seeing.{open_list}
-use Rattle.strip_flood.proofs.Counting.{sum_up, count_same, lt_true, le_false}
+use Rattle.strip_flood.proofs.Counting.{sum_same, count_same, lt_true, le_false}
 
 some_by : (v : Option ℤ) → (IsDefined v → ⊥) → is_some v ≡ false
 some_by (Some v) f = absurd (f refl)
@@ -74,8 +73,26 @@ module _ (g : Ground) (s : State) (ok : IsRanked g) (turning : IsTurning g s) (e
   seen_all = subst (λ n. count_below (λ i. nat_lt 0 (slice_index s.cursors i)) n ≡ count_defined g.values g.first (length g.ranks)) (sym turning.fair.cursors_length)
       (count_same (λ i. nat_lt 0 (slice_index s.cursors i)) (λ k. is_some (value_at g.values (g.first + k))) (length g.ranks) seen_is_defined)
 
--- no more looks than ordered adjacencies
-pub looks_all : (g : Ground) (cursors : List ℕ) → looks g cursors ≤ inner_count g.values g.width g.connect g.first (length g.ranks)
-looks_all g cursors = sum_up (λ i. count_below (is_looked g cursors i) (length g.ranks)) (λ i. count_below (λ j. are_adjacent g.values g.width g.connect (g.first + i) (g.first + j)) (length g.ranks)) (length g.ranks)
-    (λ i l. count_below_up (is_looked g cursors i) (λ j. are_adjacent g.values g.width g.connect (g.first + i) (g.first + j)) (length g.ranks)
-    (λ j m t. (and_parts (are_adjacent g.values g.width g.connect (g.first + i) (g.first + j)) (nat_lt (direction g.connect g.width (g.first + i) (g.first + j) + 1) (slice_index cursors i)) t).0))
+  -- each adjacency was looked at from either end
+  pub looks_all : looks g s.cursors ≡ inner_count g.values g.width g.connect g.first (length g.ranks)
+  looks_all = sum_same (λ i. count_below (is_looked g s.cursors i) (length g.ranks)) (λ i. count_below (λ j. are_adjacent g.values g.width g.connect (g.first + i) (g.first + j)) (length g.ranks)) (length g.ranks)
+      (λ i l. count_same (is_looked g s.cursors i) (λ j. are_adjacent g.values g.width g.connect (g.first + i) (g.first + j)) (length g.ranks)
+      (λ j m. at i j l m (are_adjacent g.values g.width g.connect (g.first + i) (g.first + j)) refl)) where
+        turned : (i j : ℕ) → i < length g.ranks → j < length g.ranks → are_adjacent g.values g.width g.connect (g.first + i) (g.first + j) ≡ true
+            → direction g.connect g.width (g.first + i) (g.first + j) + 1 < slice_index s.cursors i
+        turned i j l m t =
+            let wi : IsOf g (g.first + i) = record { low = omega arith; high = omega arith } in
+            let wj : IsOf g (g.first + j) = record { low = omega arith; high = omega arith } in
+            let d : direction g.connect g.width (g.first + i) (g.first + j) < ends g.connect = inner_direction g.values g.width g.connect g.first (length g.ranks) (g.first + i) (g.first + j) ok.wide (record { adjacent = t; one = wi; other = wj }) in
+            let e : ends g.connect ≤ 8 = ends_small g.connect in
+            let both : (is_some (value_at g.values (g.first + i)) && is_some (value_at g.values (g.first + j)) ≡ true) × (are_neighbours g.connect g.width (g.first + i) (g.first + j) ≡ true)
+            = and_parts (is_some (value_at g.values (g.first + i)) && is_some (value_at g.values (g.first + j))) (are_neighbours g.connect g.width (g.first + i) (g.first + j)) t in
+            let some : IsDefined (value_at g.values (g.first + i)) = (and_parts (is_some (value_at g.values (g.first + i))) (is_some (value_at g.values (g.first + j))) both.0).0 in
+            let at : g.first + i - g.first ≡ i = omega arith in
+            let f : slice_index s.cursors i ≡ 10 = subst (λ k. slice_index s.cursors k ≡ 10) at (finished (g.first + i) wi (ok.there (g.first + i) wi some)) in omega arith
+
+        at : (i j : ℕ) → i < length g.ranks → j < length g.ranks → (t : Bool) → are_adjacent g.values g.width g.connect (g.first + i) (g.first + j) ≡ t
+            → is_looked g s.cursors i j ≡ are_adjacent g.values g.width g.connect (g.first + i) (g.first + j)
+        at i j l m true e = and_from (are_adjacent g.values g.width g.connect (g.first + i) (g.first + j)) (nat_lt (direction g.connect g.width (g.first + i) (g.first + j) + 1) (slice_index s.cursors i)) e
+            (lt_true (direction g.connect g.width (g.first + i) (g.first + j) + 1) (slice_index s.cursors i) (turned i j l m e)) ∙ sym e
+        at i j l m false e = subst (λ t. (t && nat_lt (direction g.connect g.width (g.first + i) (g.first + j) + 1) (slice_index s.cursors i)) ≡ t) (sym e) refl

@@ -10,6 +10,15 @@ use Rattle.comp_tree.specs.Grid.{IsInner}
 use Rattle.strip_flood.specs.Flood.{Ground, ends, direction, IsOf, cursor_of, IsQueued, IsLooked}
 use Rattle.comp_tree.proofs.Joining.{joined_sym, joined_within, joined_first, joined_second}
 
+-- from p, one look in direction k at a neighbour with a value, or none where there is no such neighbour
+pub record IsAround (g : Ground) (p k old new : ℕ) : Type 0 where
+  pub is : ((new ≡ old) × ((n : ℕ) → IsInner g.values g.width g.connect g.first (length g.ranks) p n → direction g.connect g.width p n ≡ k → ⊥))
+      ⊎ ((new ≡ old + 1) × ((n : ℕ) × (IsInner g.values g.width g.connect g.first (length g.ranks) p n × (direction g.connect g.width p n ≡ k))))
+
+-- what p has in direction k was seen
+pub record IsSeen (g : Ground) (cursors : List ℕ) (p k : ℕ) : Type 0 where
+  pub seen : (y : ℕ) → IsInner g.values g.width g.connect g.first (length g.ranks) p y → direction g.connect g.width p y ≡ k → 0 < cursor_of g cursors y
+
 -- what a read at a place gave
 pub item_read : (xs : List ℕ) (i v : ℕ) → i < length xs → v ≡ get_or xs i v → slice_index xs i ≡ v
 item_read xs i v l e = sym (get_or_default_zero xs i v l) ∙ sym e

@@ -1,13 +1,12 @@
 -- One look of a pixel, whose cursor is written back later.
-use Rattle.std.proofs.Common.{◌≡◌, ℕ, ◌+◌, ◌-◌, ◌<◌, ◌≤◌, List, [], ◌∷◌, ◌++◌, length, set, slice_index, get_or, refl, sym, subst, ap, ◌∙◌, ◌⊎◌, inl, inr, ⊎_elim, arith, length-set}
+use Rattle.std.proofs.Common.{◌≡◌, ℕ, ◌+◌, ◌-◌, ◌<◌, ◌≤◌, List, [], ◌∷◌, ◌++◌, length, set, sym, subst, ap, ◌∙◌, ⊎_elim, arith, length-set}
 use Rattle.std.proofs.lemmas.Bool.{cases_eq}
 use Rattle.std.proofs.lemmas.List.{set_comm, set-set, set-get_or}
 use Rattle.strip_flood.specs.Queue.{IsFront}
-use Rattle.strip_flood.specs.Flood.{Ground, State, state, list_at, ends, IsOf, rank_of, cursor_of, IsQueued, IsRanked, IsFair, IsTurning, IsAtFront, IsSeen, IsAround, IsNeighbour, IsStep, work}
-use Rattle.comp_tree.specs.Grid.{are_neighbours}
-use Rattle.strip_flood.proofs.Flow.{ends_small, cursor_new, cursor_old, queued_new, queued_old}
+use Rattle.strip_flood.specs.Flood.{Ground, State, state, list_at, ends, IsOf, rank_of, cursor_of, IsQueued, IsRanked, IsFair, IsTurning, IsAtFront, IsNeighbour, IsStep, work}
+use Rattle.strip_flood.proofs.Flow.{IsSeen, IsAround, ends_small, cursor_new, cursor_old, queued_new, queued_old}
 use Rattle.strip_flood.proofs.Listing.{list_new, list_old}
-use Rattle.strip_flood.proofs.Seeing.{below, see_pushed, see_around, seen_already, seen_now, look_turning, look_front, pushed_front}
+use Rattle.strip_flood.proofs.Seeing.{below, see_pushed, see_around, seen_now, look_turning, look_front, pushed_front}
 use Rattle.strip_flood.proofs.Retiring.{front_queued, front_rank, front_place}
 use Rattle.strip_flood.proofs.Counting.{step_push, step_look, step_less, step_trans}
 
@@ -22,7 +21,7 @@ goes_on : (g : Ground) (s : State) → IsRanked g → IsTurning g s → (p k v q
     → IsSeen g s.cursors p k → IsAround g p k l m → IsAfter g s (state s.lists (set s.cursors (p - g.first) v) s.earliest s.links) q q l m
 goes_on g s ok turning p k v q l m queued at e more seen around = record {
   turning = look_turning g s ok turning p k v queued at e more seen;
-  step = step_look g s.cursors turning.fair.cursors_length p v queued.inside q k l m at e around;
+  step = step_look g s.cursors turning.fair.cursors_length p v queued.inside q k l m ok.wide at e around;
   less = step_less g s.cursors turning.fair.cursors_length p v queued.inside (omega arith)
       (let t : cursor_of g s.cursors p ≤ ends g.connect + 1 = turning.fair.turning p queued.inside queued.high in let b : cursor_of g s.cursors p < 10 = queued.high in omega arith);
 }

@@ -31,13 +31,6 @@ front_queued g s fair r i front = (fair.listed.to r i (subst (λ l. Contains l i
 pub front_rank : (g : Ground) (s : State) → IsFair g s → (r i : ℕ) → IsFront s.lists r i → rank_of g (g.first + i) ≡ r
 front_rank g s fair r i front = (fair.listed.to r i (subst (λ l. Contains l i) (sym front.front) (0, omega arith, refl))).0
 
--- the front of the highest rank
-pub front_top : (g : Ground) (s : State) → IsFair g s → (r i : ℕ) → IsHighest s.lists r → IsFront s.lists r i → IsTop g s (g.first + i)
-front_top g s fair r i highest front = record {
-  queued = front_queued g s fair r i front;
-  above = λ t l. highest.above t (let e : rank_of g (g.first + i) ≡ r = front_rank g s fair r i front in omega arith);
-}
-
 -- its place is the item
 pub front_place : (lists : List (List ℕ)) (first r i : ℕ) → IsFront lists r i → IsFront lists r (first + i - first)
 front_place lists first r i front = subst (λ j. IsFront lists r j) (let e : i ≡ first + i - first = omega arith in e) front

@@ -1,16 +1,14 @@
 -- A look from the pixel that the flooding is at.
 use Rattle.std.proofs.Common.{◌≡◌, ℕ, ◌+◌, ◌-◌, ◌<◌, ◌≤◌, List, [], ◌∷◌, ◌++◌, length, set, slice_index, is_some, ◌&&◌, true, ℤ, ◌⊎◌, inl, inr, refl, sym, subst, ap, ◌∙◌, ⊎_elim, arith, length-append}
-use Rattle.std.specs.Prelude.{nat_le}
-use Rattle.std.proofs.lemmas.Bool.Decides.{nat_tests}
 use Rattle.std.proofs.lemmas.Bool.{cases_eq, cases_lt, and_from, and_parts}
 use Rattle.comp_tree.specs.Joined.{Joined}
 use Rattle.comp_tree.specs.Forest.{no_node, value_at, IsDefined, IsAtLeast}
 use Rattle.comp_tree.specs.Grid.{are_neighbours}
 use Rattle.strip_flood.specs.Queue.{IsNowhere, IsEmpty, IsFront}
-use Rattle.strip_flood.specs.Flood.{Ground, State, state, list_at, ends, direction, IsOf, rank_of, cursor_of, IsQueued, IsOpen, IsRanked, IsFair, IsTurning, IsTop, IsAtFront, IsSeen, IsNeighbour, HasNone, IsAround}
+use Rattle.strip_flood.specs.Flood.{Ground, State, state, list_at, ends, direction, IsOf, rank_of, cursor_of, IsQueued, IsOpen, IsRanked, IsFair, IsTurning, IsTop, IsAtFront, IsNeighbour, HasNone}
 use Rattle.comp_tree.proofs.Joining.{joined_trans, joined_pair}
 use Rattle.comp_tree.proofs.Order.{at_least_cases}
-use Rattle.strip_flood.proofs.Flow.{cursor_new, queued_new, queued_old}
+use Rattle.strip_flood.proofs.Flow.{IsSeen, IsAround, cursor_new, queued_new, queued_old}
 use Rattle.comp_tree.proofs.Adjacent.{adjacent_from}
 use Rattle.strip_flood.proofs.Directions.{inner_near}
 use Rattle.strip_flood.proofs.Listing.{list_new, list_old}
@@ -119,14 +117,21 @@ module _ (g : Ground) (s : State) (ok : IsRanked g) (turning : IsTurning g s) wh
     is_n : (k n y : ℕ) → IsNeighbour g.connect g.width g.first (length g.ranks) p k n → Adj g p y → direction g.connect g.width p y ≡ k → y ≡ n
     is_n k n y next i d = next.only y i.other (inner_near g.values g.width g.connect g.first (length g.ranks) p y i) d
 
-    pub seen_undefined : (k n : ℕ) → IsNeighbour g.connect g.width g.first (length g.ranks) p k n → g.size ≤ rank_of g n → IsSeen g s.cursors p k
-    seen_undefined k n next high = record {
-      seen = λ y i d. let e : y ≡ n = is_n k n y next i d in
-          let both : (is_some (value_at g.values p) && is_some (value_at g.values y) ≡ true) × (are_neighbours g.connect g.width p y ≡ true) = and_parts (is_some (value_at g.values p) && is_some (value_at g.values y)) (are_neighbours g.connect g.width p y) i.adjacent in
-          let there : IsDefined (value_at g.values y) = (and_parts (is_some (value_at g.values p)) (is_some (value_at g.values y)) both.0).1 in
-          let low : rank_of g y < g.size = ok.there y i.other there in
-          let low_n : rank_of g n < g.size = subst (λ x. rank_of g x < g.size) e low in absurd (omega arith);
-    }
+    -- n has no value, so p is not adjacent to it
+    pub none_undefined : (k n : ℕ) → IsNeighbour g.connect g.width g.first (length g.ranks) p k n → g.size ≤ rank_of g n → (y : ℕ) → Adj g p y → direction g.connect g.width p y ≡ k → ⊥
+    none_undefined k n next high y i d = let e : y ≡ n = is_n k n y next i d in
+        let both : (is_some (value_at g.values p) && is_some (value_at g.values y) ≡ true) × (are_neighbours g.connect g.width p y ≡ true) = and_parts (is_some (value_at g.values p) && is_some (value_at g.values y)) (are_neighbours g.connect g.width p y) i.adjacent in
+        let there : IsDefined (value_at g.values y) = (and_parts (is_some (value_at g.values p)) (is_some (value_at g.values y)) both.0).1 in
+        let low : rank_of g y < g.size = ok.there y i.other there in
+        let low_n : rank_of g n < g.size = subst (λ x. rank_of g x < g.size) e low in omega arith
+
+    -- p has no neighbour in this direction
+    pub none_there : (k : ℕ) → HasNone g.connect g.width g.first (length g.ranks) p k → (y : ℕ) → Adj g p y → direction g.connect g.width p y ≡ k → ⊥
+    none_there k no_one y i d = no_one.no_node y i.other (inner_near g.values g.width g.connect g.first (length g.ranks) p y i) d
+
+    -- where there is no adjacency, all were seen
+    pub seen_none : (k : ℕ) → ((y : ℕ) → Adj g p y → direction g.connect g.width p y ≡ k → ⊥) → IsSeen g s.cursors p k
+    seen_none k none = record { seen = λ y i d. absurd (none y i d) }
 
     pub seen_already : (k n : ℕ) → IsNeighbour g.connect g.width g.first (length g.ranks) p k n → 0 < cursor_of g s.cursors n → IsSeen g s.cursors p k
     seen_already k n next l = record { seen = λ y i d. subst (λ x. 0 < cursor_of g s.cursors x) (sym (is_n k n y next i d)) l }
@@ -137,9 +142,6 @@ module _ (g : Ground) (s : State) (ok : IsRanked g) (turning : IsTurning g s) wh
           (subst (λ c. 0 < c) (sym (cursor_new g s.cursors turning.fair.cursors_length n 1 next.inside)) (omega arith));
     }
 
-    pub seen_none : (k : ℕ) → HasNone g.connect g.width g.first (length g.ranks) p k → IsSeen g s.cursors p k
-    seen_none k no_one = record { seen = λ y i d. absurd (no_one.no_node y i.other (inner_near g.values g.width g.connect g.first (length g.ranks) p y i) d) }
-
   -- the cursor goes on
   pub look_turning : (p k v : ℕ) → IsQueued g s.cursors p → cursor_of g s.cursors p ≡ k + 1 → v ≡ k + 2 → k < ends g.connect → IsSeen g s.cursors p k
       → IsTurning g (state s.lists (set s.cursors (p - g.first) v) s.earliest s.links)
@@ -147,9 +149,6 @@ module _ (g : Ground) (s : State) (ok : IsRanked g) (turning : IsTurning g s) wh
     fair = look_fair g s ok turning.fair p v queued (omega arith) (omega arith) (λ y i d. seen.seen y i (omega arith));
     busy = turning.busy;
   }
-
-pub nat_le_true : (a b : ℕ) → nat_le a b ≡ true → a ≤ b
-nat_le_true a b e = grind (arith, nat_tests)
 
 -- a pixel that is no higher is queued behind p, which stays at the front
 push_front : (g : Ground) (s : State) → IsFair g s → (r p n t : ℕ) → IsAtFront g s r p → IsOf g n → cursor_of g s.cursors n ≡ 0 → rank_of g n ≡ t → t ≤ r

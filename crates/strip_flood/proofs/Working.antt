@@ -1,5 +1,5 @@
 -- A strip's job, before and after it is flooded.
-use Rattle.std.proofs.Common.{◌≡◌, ℕ, zero, suc, ◌+◌, ◌-◌, ◌*◌, ◌<◌, ◌≤◌, Bool, true, false, is_some, List, [], ◌∷◌, length, map, replicate, get_or, slice_index, Contains, Option, Some, None, ℤ, pos, ◌≤ℤ◌, ◌<ℤ◌, ◌⊎◌, inl, inr, refl, sym, subst, subst₂, ap, ◌∙◌, ⊎_elim, arith, mul-le-mul_right}
+use Rattle.std.proofs.Common.{◌≡◌, ℕ, zero, suc, ◌+◌, ◌-◌, ◌*◌, ◌<◌, ◌≤◌, Bool, true, false, is_some, List, [], ◌∷◌, length, replicate, get_or, slice_index, Option, Some, None, ℤ, pos, ◌≤ℤ◌, ◌<ℤ◌, inl, inr, refl, sym, subst, subst₂, ap, ◌∙◌, ⊎_elim, arith, mul-le-mul_right}
 use Rattle.std.specs.Prelude.{nat_lt, ◌&&◌}
 use Rattle.std.specs.List.{slice_get}
 use Rattle.std.proofs.lemmas.Int.{ints}
@@ -9,24 +9,22 @@ use Rattle.std.proofs.lemmas.Option.{slice_get_past, slice_get-get_or}
 use Rattle.std.specs.declared.alloc.Global.{Global}
 use Rattle.std.specs.declared.vec.Vec.{Vec}
 use Rattle.comp_tree.specs.declared.shape.Connect.{Connect}
-use Rattle.comp_tree.specs.Forest.{Agree, no_node, value_at, IsDefined, IsAtLeast, IsBefore, IsEarlier, IsWithin, IsHigh, link_of, IsLink, IsForest, StandsFor}
+use Rattle.comp_tree.specs.Forest.{Agree, no_node, value_at, IsDefined, IsAtLeast, IsBefore, IsWithin, link_of, IsForest, StandsFor}
 use Rattle.comp_tree.specs.Limits.{IsWithinLimits}
 use Rattle.comp_tree.specs.Raster.{Raster}
 use Rattle.comp_tree.specs.Counts.{count_below, sum_below, count_defined}
 use Rattle.comp_tree.specs.Grid.{are_adjacent, are_neighbours, IsInner}
-use Rattle.comp_tree.specs.Flooding.{IsSound, IsComplete}
 use Rattle.comp_tree.proofs.Order.{before_is}
 use Rattle.comp_tree.proofs.Levels.{int_le-true, int_le-from}
 use Rattle.comp_tree.proofs.Agreeing.{stands_inner_agree, forest_agree}
 use Rattle.strip_flood.specs.declared.strip.Strip.{Strip}
 use Rattle.strip_flood.specs.declared.flood.Flood.{Flood}
-use Rattle.strip_flood.specs.Queue.{IsEmpty}
-use Rattle.strip_flood.specs.Flood.{Ground, State, as_ground, state, list_at, direction, IsOf, rank_of, cursor_of, IsQueued, IsKept, IsOpen, IsLooked, IsRanked, IsKeptAt, IsFair, IsTurning, HasOffsets, seen_count, is_looked, looks, inner_count}
-use Rattle.strip_flood.specs.Jobs.{JobView, IsFit, IsStanding, IsStandingWhereFlooded, first_of, view_of, IsRising, IsJob, AreRanks}
+use Rattle.strip_flood.specs.Flood.{Ground, as_ground, list_at, direction, IsOf, rank_of, cursor_of, IsQueued, IsKept, IsOpen, IsRanked, IsFair, IsTurning, HasOffsets, seen_count, is_looked, looks, inner_count}
+use Rattle.strip_flood.specs.Jobs.{IsFit, IsStanding, view_of, IsRising, IsJob, AreRanks}
 use Rattle.strip_flood.specs.Strips.{ranked_values, plane_values, values_of, ground_of, state_of, IsStrip, IsBetweenTurns, IsAll, IsFresh}
 use Rattle.strip_flood.proofs.Stepping.{not_none}
 use Rattle.strip_flood.proofs.Retiring.{contains_some}
-use Rattle.strip_flood.proofs.Counting.{le_false, true_lt, count_same, sum_up}
+use Rattle.strip_flood.proofs.Counting.{le_false, true_lt, count_same, sum_same}
 
 module _ (levels : List ℤ) (rising : IsRising levels) where
   level : ℕ → ℤ
@@ -175,10 +173,9 @@ pub defined_agree : (v w : List (Option ℤ)) (first count : ℕ) → Agree v w 
 defined_agree v w first count a = count_same (λ k. is_some (value_at v (first + k))) (λ k. is_some (value_at w (first + k))) count
     (λ i l. ap is_some (a.same (first + i) (record { low = omega arith; high = omega arith })))
 
-pub inner_agree : (v w : List (Option ℤ)) (width : ℕ) (connect : Connect) (first count : ℕ) → Agree v w first count → inner_count v width connect first count ≤ inner_count w width connect first count
-inner_agree v w width connect first count a = sum_up (λ i. count_below (λ j. are_adjacent v width connect (first + i) (first + j)) count) (λ i. count_below (λ j. are_adjacent w width connect (first + i) (first + j)) count) count
-    (λ i l. let e : count_below (λ j. are_adjacent v width connect (first + i) (first + j)) count ≡ count_below (λ j. are_adjacent w width connect (first + i) (first + j)) count
-    = count_same (λ j. are_adjacent v width connect (first + i) (first + j)) (λ j. are_adjacent w width connect (first + i) (first + j)) count (λ j m. same i j l m) in omega arith) where
+pub inner_agree : (v w : List (Option ℤ)) (width : ℕ) (connect : Connect) (first count : ℕ) → Agree v w first count → inner_count v width connect first count ≡ inner_count w width connect first count
+inner_agree v w width connect first count a = sum_same (λ i. count_below (λ j. are_adjacent v width connect (first + i) (first + j)) count) (λ i. count_below (λ j. are_adjacent w width connect (first + i) (first + j)) count) count
+    (λ i l. count_same (λ j. are_adjacent v width connect (first + i) (first + j)) (λ j. are_adjacent w width connect (first + i) (first + j)) count (λ j m. same i j l m)) where
       same : (i j : ℕ) → i < count → j < count → are_adjacent v width connect (first + i) (first + j) ≡ are_adjacent w width connect (first + i) (first + j)
       same i j l m = let x : value_at v (first + i) ≡ value_at w (first + i) = a.same (first + i) (record { low = omega arith; high = omega arith }) in
           let y : value_at v (first + j) ≡ value_at w (first + j) = a.same (first + j) (record { low = omega arith; high = omega arith }) in
@@ -227,9 +224,9 @@ module _ (width height first_row end_row : ℕ) (strip : Strip) (sides : strip.w
       ∙ ap (λ f. count_defined p.values f (length strip.ranks.items)) start ∙ ap (λ n. count_defined p.values (first_row * width) n) (sym long)
 
   pub fit_inner : (p : Raster) → IsFit (view_of width height first_row end_row strip after b) p
-      → inner_count (values_of strip) strip.width strip.connect strip.first (length strip.ranks.items) ≤ inner_count p.values width strip.connect (first_row * width) (length after.links.items)
-  fit_inner p fit = subst (λ n. inner_count (values_of strip) strip.width strip.connect strip.first (length strip.ranks.items) ≤ inner_count p.values width strip.connect (first_row * width) n) (sym long)
-      (subst₂ (λ f w. inner_count (values_of strip) strip.width strip.connect strip.first (length strip.ranks.items) ≤ inner_count p.values w strip.connect f (length strip.ranks.items)) start sides
+      → inner_count (values_of strip) strip.width strip.connect strip.first (length strip.ranks.items) ≡ inner_count p.values width strip.connect (first_row * width) (length after.links.items)
+  fit_inner p fit = subst (λ n. inner_count (values_of strip) strip.width strip.connect strip.first (length strip.ranks.items) ≡ inner_count p.values width strip.connect (first_row * width) n) (sym long)
+      (subst₂ (λ f w. inner_count (values_of strip) strip.width strip.connect strip.first (length strip.ranks.items) ≡ inner_count p.values w strip.connect f (length strip.ranks.items)) start sides
       (inner_agree (values_of strip) p.values strip.width strip.connect strip.first (length strip.ranks.items) (fit_agree p fit)))
 
   module _ (forest : IsForest (values_of strip) strip.first after.links.items)

@@ -1,5 +1,5 @@
 -- The flooding of one strip: what does not change, the state, and what holds between two turns.
-use Rattle.std.specs.Prelude.{◌≡◌, ℕ, ◌+◌, ◌-◌, ◌*◌, ◌/◌, ◌%◌, ◌<◌, ◌≤◌, nat_lt, cond, Bool, ◌&&◌, IsTrue, List, [], length, slice_index, slice_index_or, Contains, Option, ℤ, ◌⊎◌}
+use Rattle.std.specs.Prelude.{◌≡◌, ℕ, ◌+◌, ◌-◌, ◌*◌, ◌/◌, ◌%◌, ◌<◌, ◌≤◌, nat_lt, cond, Bool, ◌&&◌, IsTrue, List, [], length, slice_index, Contains, Option, ℤ, ◌⊎◌}
 use Rattle.comp_tree.specs.declared.shape.Connect.{Connect}
 use Rattle.comp_tree.specs.declared.shape.Connect.TheVariants.{Four, Eight}
 use Rattle.comp_tree.specs.Forest.{no_node, value_at, IsDefined, IsAtLeast, IsEarlier, IsWithin, IsHigh, link_of, IsLink, IsForest}
@@ -182,11 +182,7 @@ pub record IsStep (g : Ground) (old new : List ℕ) (queued_old queued_new looke
   pub seen : (p : ℕ) → IsOf g p → 0 < cursor_of g old p → 0 < cursor_of g new p
   pub work : work new ≤ work old
   pub queued : queued_new + seen_count old ≡ queued_old + seen_count new
-  pub looked : looked_new + looks g old ≤ looked_old + looks g new
-
--- from p, one look in direction k at a neighbour with a value, or no_node
-pub record IsAround (g : Ground) (p k old new : ℕ) : Type 0 where
-  pub is : (new ≡ old) ⊎ ((new ≡ old + 1) × ((n : ℕ) × (IsInner g.values g.width g.connect g.first (length g.ranks) p n × (direction g.connect g.width p n ≡ k))))
+  pub looked : looked_new + looks g old ≡ looked_old + looks g new
 
 -- p is queued, and no open pixel is higher
 pub record IsTop (g : Ground) (s : State) (p : ℕ) : Type 0 where
@@ -198,7 +194,3 @@ pub record IsAtFront (g : Ground) (s : State) (r p : ℕ) : Type 0 where
   pub top : IsTop g s p
   pub rank : rank_of g p ≡ r
   pub front : IsFront s.lists r (p - g.first)
-
--- what p has in direction k was seen
-pub record IsSeen (g : Ground) (cursors : List ℕ) (p k : ℕ) : Type 0 where
-  pub seen : (y : ℕ) → IsInner g.values g.width g.connect g.first (length g.ranks) p y → direction g.connect g.width p y ≡ k → 0 < cursor_of g cursors y

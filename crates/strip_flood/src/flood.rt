@@ -386,7 +386,7 @@ impl Flood {
         ensures forest { IsForest (values_of strip.now) strip.now.first self.new.links.items }
         ensures stands { StandsForStrip strip.now self.new.links.items }
         ensures queued { queued.new ≡ queued.old + defined_in strip.now }
-        ensures looked { looked.new ≤ looked.old + adjacencies_in strip.now }
+        ensures looked { looked.new ≡ looked.old + adjacencies_in strip.now }
     {
         let end = strip.first + strip.count();
         for p in strip.first..end {

@@ -46,7 +46,7 @@ fn try_case<A: Ledger, B: Ledger>(
     let shape = Shape::of(case.width, case.height).ok_or("a shape")?;
     let mut plane = Plane::blank(alloc, shape)?;
     for (pixel, value) in case.values.iter().enumerate() {
-        if *value >= 0 && *value < 100 && pixel < plane.shape().pixels() as usize {
+        if *value >= 0 && *value < 1 << 34 && pixel < plane.shape().pixels() as usize {
             plane.set(pixel as u32, Some(*value));
         }
     }
@@ -161,9 +161,8 @@ fn small_images(rt: HostRuntime) -> Result<(), Fail> {
             connect: Connect::Eight,
             first_row: 0,
             end_row: 3,
-            // far apart, so that they are sorted
-            values: &[90, -1, 90, -1, 3, -1, 90, -1, 90],
-            lasts: &[(8, 90, 8), (8, 3, 4), (0, 1, 4)],
+            values: &[9, -1, 9, -1, 3, -1, 9, -1, 9],
+            lasts: &[(8, 9, 8), (8, 3, 4), (0, 1, 4)],
         },
         Case {
             width: 3,
@@ -182,6 +181,51 @@ fn small_images(rt: HostRuntime) -> Result<(), Fail> {
             end_row: 3,
             values: &[5, 0, 6, 5, 2, 6, 3, 3, 3],
             lasts: &[(3, 5, 0), (5, 3, 6), (2, 2, 4), (8, 1, 4), (4, 0, 1)],
+        },
+    ];
+    try_cases::<Brand, Brand>(&rt, rt.alloc(), Blank::new(1), Blank::new(1), &cases)
+}
+
+#[test]
+fn values_far_apart(rt: HostRuntime) -> Result<(), Fail> {
+    let cases = [
+        // the widest span of which a table is made, and the least of which none is
+        Case {
+            width: 2,
+            height: 2,
+            connect: Connect::Four,
+            first_row: 0,
+            end_row: 2,
+            values: &[0, 7, 3, 7],
+            lasts: &[(3, 7, 1), (3, 3, 2), (3, 0, 0), (2, 3, 2)],
+        },
+        Case {
+            width: 2,
+            height: 2,
+            connect: Connect::Four,
+            first_row: 0,
+            end_row: 2,
+            values: &[0, 8, 3, 8],
+            lasts: &[(3, 8, 1), (3, 3, 2), (3, 0, 0), (2, 3, 2)],
+        },
+        Case {
+            width: 3,
+            height: 3,
+            connect: Connect::Eight,
+            first_row: 1,
+            end_row: 3,
+            values: &[1, 2, 3, 9_000_000_000, -1, 40, 40, 9_000_000_000, 5],
+            lasts: &[(7, 41, 3), (7, 40, 5), (3, 6, 5), (5, 5, 8)],
+        },
+        // no value at all
+        Case {
+            width: 2,
+            height: 1,
+            connect: Connect::Four,
+            first_row: 0,
+            end_row: 1,
+            values: &[-1, -1],
+            lasts: &[(0, 0, 0), (1, 0, 1)],
         },
     ];
     try_cases::<Brand, Brand>(&rt, rt.alloc(), Blank::new(1), Blank::new(1), &cases)

@@ -1,4 +1,4 @@
-use Rattle.std.proofs.Common.{◌≡◌, ℕ, ◌-◌, ◌<◌, set, sym, subst, ◌∙◌, arith}
+use Rattle.std.proofs.Common.{◌≡◌, ◌-◌, ◌<◌, set, sym, subst, ◌∙◌, arith}
 use Rattle.strip_flood.specs.Flood.{cursor_of}
 use Rattle.strip_flood.specs.Strips.{ground_of, state_of}
 use Rattle.strip_flood.proofs.Flow.{cursor_new, cursor_read}

@@ -1,4 +1,4 @@
-use Rattle.std.proofs.Common.{ℕ, ◌+◌, ◌-◌, ◌<◌, ◌≤◌, set}
+use Rattle.std.proofs.Common.{◌+◌, ◌-◌, ◌<◌, ◌≤◌}
 use Rattle.strip_flood.specs.Flood.{IsStep, IsAtFront, ends}
 use Rattle.strip_flood.specs.Strips.{ground_of, looking, IsLooking}
 use Rattle.strip_flood.proofs.flood.Flood.look_at_edge.Given as goal

@@ -1,7 +1,7 @@
-use Rattle.std.proofs.Common.{◌≡◌, ℕ, ◌+◌, ◌-◌, ◌<◌, ◌≤◌, set, sym, subst, arith}
+use Rattle.std.proofs.Common.{◌≡◌, ◌+◌, ◌-◌, ◌<◌, ◌≤◌, set, sym, subst, arith}
 use Rattle.strip_flood.specs.Flood.{state, ends, cursor_of, IsStep, IsTurning, IsAtFront}
-use Rattle.strip_flood.specs.Strips.{ground_of, state_of, looking}
-use Rattle.strip_flood.proofs.Flow.{ends_small, cursor_new, cursor_read}
+use Rattle.strip_flood.specs.Strips.{ground_of, looking}
+use Rattle.strip_flood.proofs.Flow.{cursor_read}
 use Rattle.strip_flood.proofs.Looking.{same_cursors}
 use Rattle.strip_flood.proofs.Counting.{step_same, step_trans}
 use Rattle.strip_flood.proofs.flood.Flood.look_inside.Goals as goal

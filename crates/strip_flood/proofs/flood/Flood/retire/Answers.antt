@@ -1,5 +1,4 @@
 use Rattle.std.proofs.Common.{◌≡◌, ◌-◌, ◌<◌, ◌≤◌, [], set, slice_index, ◌∙◌, sym, subst, arith}
-use Rattle.comp_tree.specs.Forest.{no_node}
 use Rattle.strip_flood.specs.Flood.{state, list_at, IsFair}
 use Rattle.strip_flood.specs.Strips.{ground_of, state_of}
 use Rattle.strip_flood.proofs.Retiring.{popped_front, retire_keep, retire_under, retire_over, earliest_read}

@@ -1,4 +1,4 @@
-use Rattle.std.proofs.Common.{◌≡◌, ◌+◌, ◌<◌, ◌≤◌, length, sym, subst, ◌∙◌, arith, ⊎_elim}
+use Rattle.std.proofs.Common.{◌≡◌, ◌+◌, ◌<◌, length, sym, subst, arith, ⊎_elim}
 use Rattle.std.proofs.lemmas.Bool.{cases_eq}
 use Rattle.comp_tree.specs.Counts.{count_defined}
 use Rattle.strip_flood.specs.Flood.{cursor_of, rank_of, seen_count, looks, inner_count}
@@ -29,6 +29,7 @@ returns-clause-queued g c =
 
 pub returns-clause-looked : goal.returns-clause-looked
 returns-clause-looked g c =
-    let all : looks (ground_of c.args.strip.now) c.loop-p.self.cursors.items ≤ inner_count (values_of c.args.strip.now) c.args.strip.now.width c.args.strip.now.connect c.args.strip.now.first (length c.args.strip.now.ranks.items) = looks_all (ground_of c.args.strip.now) c.loop-p.self.cursors.items in
-    let step : c.loop-p.looked + looks (ground_of c.args.strip.now) c.args.self.now.cursors.items ≤ c.args.looked.now + looks (ground_of c.args.strip.now) c.loop-p.self.cursors.items = c.loop-p.invariant.step.looked in
+    let all : looks (ground_of c.args.strip.now) c.loop-p.self.cursors.items ≡ inner_count (values_of c.args.strip.now) c.args.strip.now.width c.args.strip.now.connect c.args.strip.now.first (length c.args.strip.now.ranks.items)
+    = looks_all (ground_of c.args.strip.now) (state_of c.loop-p.self) c.requires.strip.ranked c.loop-p.invariant.between.turning c.loop-p.invariant.empty (λ x w low. c.loop-p.invariant.seen x w (let h : x < c.args.strip.now.first + length c.args.strip.now.ranks.items = w.high in let n : c.count.result ≡ length c.args.strip.now.ranks.items = c.count.ensures.all in omega (arith, c.loop-p-test.false)) low) in
+    let step : c.loop-p.looked + looks (ground_of c.args.strip.now) c.args.self.now.cursors.items ≡ c.args.looked.now + looks (ground_of c.args.strip.now) c.loop-p.self.cursors.items = c.loop-p.invariant.step.looked in
     let fresh : looks (ground_of c.args.strip.now) c.args.self.now.cursors.items ≡ 0 = c.requires.unlooked in omega arith

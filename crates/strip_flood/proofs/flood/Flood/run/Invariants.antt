@@ -1,4 +1,4 @@
-use Rattle.std.proofs.Common.{◌≡◌, ℕ, ◌<◌, length}
+use Rattle.std.proofs.Common.{ℕ, ◌<◌, length}
 use Rattle.strip_flood.specs.Flood.{IsStep, IsOf, rank_of, cursor_of}
 use Rattle.strip_flood.specs.Queue.{IsEmpty}
 use Rattle.strip_flood.specs.Strips.{ground_of, IsBetweenTurns}

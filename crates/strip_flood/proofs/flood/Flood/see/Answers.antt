@@ -1,9 +1,9 @@
-use Rattle.std.proofs.Common.{◌≡◌, ℕ, ◌+◌, ◌-◌, ◌<◌, set, inr, inl, refl, arith, ◌∙◌}
-use Rattle.strip_flood.specs.Flood.{state, cursor_of}
+use Rattle.std.proofs.Common.{◌≡◌, ◌-◌, ◌<◌, inl, refl, arith, ◌∙◌}
+use Rattle.strip_flood.specs.Flood.{cursor_of}
 use Rattle.strip_flood.specs.Strips.{ground_of, looking}
 use Rattle.strip_flood.proofs.Flow.{cursor_read}
-use Rattle.strip_flood.proofs.Seeing.{see_around, seen_already, seen_undefined, unseen_nowhere, nat_le_true}
-use Rattle.strip_flood.proofs.Looking.{IsAfter, stale_long, seen_stale, unseen_stale, look_still, still_front, look_pushed, low_front, high_front, queued_after}
+use Rattle.strip_flood.proofs.Seeing.{see_around, seen_already, seen_none, none_undefined, unseen_nowhere}
+use Rattle.strip_flood.proofs.Looking.{stale_long, seen_stale, unseen_stale, look_still, still_front, look_pushed, low_front, high_front, queued_after}
 use Rattle.strip_flood.proofs.flood.Flood.see.Goals as goal
 
 pub returns-then-index-gt0-clause-look : goal.returns-then-index-gt0-clause-look
@@ -25,9 +25,10 @@ returns-then-index-gt0-clause-next g c = still_front (ground_of c.args.strip.now
 
 pub returns-in_default-clause-look : goal.returns-in_default-clause-look
 returns-in_default-clause-look g c =
+    let none = none_undefined (ground_of c.args.strip.now) (looking c.args.strip.now c.args.self.now c.args.at.pixel c.args.cursor) c.requires.strip.ranked c.requires.looking.turning c.args.at.pixel c.requires.front.top (c.args.cursor - 1) c.args.n c.requires.next c.in_default.ensures in
     let after = look_still (ground_of c.args.strip.now) c.requires.strip.ranked c.args.self.now.queue.lists c.args.self.now.cursors.items c.args.self.now.earliest.items c.args.self.now.links.items c.args.at.rank c.args.at.pixel c.args.cursor c.requires.first c.requires.last c.requires.looking.turning c.requires.front c.args.queued.now c.args.looked.now c.args.looked.now
-    (seen_undefined (ground_of c.args.strip.now) (looking c.args.strip.now c.args.self.now c.args.at.pixel c.args.cursor) c.requires.strip.ranked c.requires.looking.turning c.args.at.pixel c.requires.front.top (c.args.cursor - 1) c.args.n c.requires.next c.in_default.ensures)
-    (record { is = inl refl }) in
+    (seen_none (ground_of c.args.strip.now) (looking c.args.strip.now c.args.self.now c.args.at.pixel c.args.cursor) c.requires.strip.ranked c.requires.looking.turning c.args.at.pixel c.requires.front.top (c.args.cursor - 1) none)
+    (record { is = inl (refl, none) }) in
     record {
       after = record { items = c.requires.looking.items; queued = c.requires.looking.queued; turning = after.turning };
       step = after.step;

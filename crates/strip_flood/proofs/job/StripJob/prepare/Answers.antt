@@ -1,9 +1,8 @@
-use Rattle.std.proofs.Common.{◌≡◌, ℕ, ◌+◌, ◌-◌, ◌*◌, ◌≤◌, ◌<◌, length, false, true, sym, subst, subst₂, ap, ◌∙◌, refl, arith}
+use Rattle.std.proofs.Common.{◌≡◌, ◌-◌, ◌*◌, ◌≤◌, length, sym, subst₂, ap, ◌∙◌, refl, arith}
 use Rattle.std.proofs.lemmas.List.{length-map}
 use Rattle.comp_tree.specs.declared.shape.Shape.{Shape}
-use Rattle.comp_tree.specs.Forest.{no_node}
 use Rattle.strip_flood.specs.Strips.{IsFresh}
-use Rattle.strip_flood.proofs.Working.{rows_times, ranks_fit, strip_small, strip_known}
+use Rattle.strip_flood.proofs.Working.{rows_times, ranks_fit, strip_known}
 use Rattle.strip_flood.proofs.job.StripJob.prepare.Goals as goal
 
 pub invariant_of-result : goal.invariant_of-result

@@ -1,4 +1,4 @@
-use Rattle.std.proofs.Common.{◌≡◌, ℕ, ◌+◌, ◌-◌, ◌*◌, ◌/◌, ◌%◌, ◌<◌, ◌≤◌, length, sym, subst, arith}
+use Rattle.std.proofs.Common.{◌≡◌, ◌+◌, ◌-◌, ◌*◌, ◌/◌, ◌%◌, ◌<◌, ◌≤◌, length, sym, subst, arith}
 use Rattle.strip_flood.specs.Flood.{IsAt}
 use Rattle.strip_flood.proofs.Directions.{found, missing}
 use Rattle.strip_flood.proofs.strip.Strip.neighbour.Goals as goal
