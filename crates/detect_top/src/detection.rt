@@ -16,7 +16,7 @@ use comp_tree::{Plane, Shape, Tree};
 use dev_io::{OutOfMemory, Sink};
 use fits_write::{Cell, Column, WriteFault, put_empty_primary, put_map, put_table};
 use node_sums::{Sums, sums};
-use source_pick::{CatRow, Choice, cells, pick, row, segment};
+use source_pick::{CatRow, Choice, cells, pick, row, segment_in_parts};
 use std::alloc::Global;
 use std::thread::Threads;
 
@@ -112,7 +112,7 @@ pub(crate) fn detect<R: Threads + Sync>(
 {
     let sums = sums(alloc, plane, tree)?;
     let picked = pick(alloc, tree, &sums, choice)?;
-    let map = segment(rt, alloc, tree, &picked, workers)?;
+    let map = segment_in_parts(rt, alloc, tree, &picked, workers)?;
     let cells = table_cells(alloc, tree, &sums, &picked)?;
     Ok(Detection {
         shape: plane.shape(),

@@ -24,7 +24,7 @@ use dev_io::{Failed, OutOfMemory, Sink};
 use fits_write::WriteFault;
 use itoa::Buffer;
 use node_sums::{Sums, flux, sums};
-use source_pick::{Choice, pick, segment};
+use source_pick::{Choice, pick, segment_in_parts};
 use std::alloc::Global;
 use std::thread::Threads;
 
@@ -150,7 +150,7 @@ pub(crate) fn summarize<R: Threads + Sync>(
     let shape = plane.shape();
     let sums = sums(alloc, plane, tree)?;
     let sources = pick(alloc, tree, &sums, &CHOICE)?;
-    let numbers = segment(rt, alloc, tree, &sources, workers)?;
+    let numbers = segment_in_parts(rt, alloc, tree, &sources, workers)?;
     Ok(Summary {
         pixels: shape.pixels(),
         nodes: node_count(tree),

@@ -17,4 +17,4 @@ pub use catalogue::{CatRow, cells, row};
 pub use choice::Choice;
 pub use clearing::clear_far;
 pub use picking::pick;
-pub use segmenting::segment;
+pub use segmenting::{segment, segment_in_parts};

@@ -12,9 +12,22 @@ use std::alloc::Global;
 use std::thread;
 use std::thread::Threads;
 
-/// For each pixel the number of the source that holds it, from 1, else 0: a pass over the nodes and one over the pixels, which goes by `parts` bands,
-/// each in a thread of its own where one can be made; 0 counts as 1. The one error is that memory was refused.
-pub fn segment<R: Threads + Sync>(
+/// For each pixel the number of the source that holds it, from 1, else 0: a pass over the nodes and one over the pixels.
+/// The one error is that memory was refused.
+pub fn segment(alloc: Global, tree: &Tree, sources: &[u32]) -> Result<Vec<u32>, OutOfMemory>
+    requires { AreDisjointNodes tree.now sources.now }
+    ensures exact { IfOk result (λ numbers. (plane : Raster) (connect : Connect) → tree.now ≡ tree_of plane connect → numbers.items ≡ segmentation_of plane connect sources.now) }
+    ensures one_each { IfOk result (λ numbers. length numbers.items ≡ length tree.now.node_of) }
+    ensures few { IfOk result (λ numbers. (p : ℕ) → slice_index numbers.items p ≤ 2 ^ 24) }
+{
+    let numbers = numbers_of_nodes(alloc, tree, sources)?;
+    let mut map = zeros(alloc, tree.node_of().len())?;
+    number_all(tree, &numbers, &mut map);
+    Ok(map)
+}
+
+/// The same numbers, with the pixels shared out in `parts` bands of rows, each in a thread of its own where one can be made; 0 counts as 1.
+pub fn segment_in_parts<R: Threads + Sync>(
     rt: &R,
     alloc: Global,
     tree: &Tree,
@@ -79,6 +92,16 @@ fn pass_down(tree: &Tree, numbers: &mut [u32])
             numbers[n] = number;
         }
     }
+}
+
+// Fills the map.
+fn number_all(tree: &Tree, numbers: &[u32], map: &mut [u32])
+    requires numbers { length numbers.now ≡ length tree.now.rows }
+    requires blank { map.old ≡ replicate (length tree.now.node_of) 0 }
+    ensures { (marked : List ℕ) (plane : Raster) (connect : Connect) → AreDisjointNodes tree.now marked → AreNumbered tree.now marked (length tree.now.rows) numbers.now
+        → tree.now ≡ tree_of plane connect → map.new ≡ segmentation_of plane connect marked }
+{
+    number_pixels(tree, numbers, 0, map);
 }
 
 // Fills the map in bands of `size` pixels.

@@ -128,8 +128,10 @@ fn sources_of_small_planes(rt: HostRuntime) -> Result<(), Fail> {
         };
         let picked = pick(rt.alloc(), &tree, &found, &choice)?;
         assert_eq!(rt; picked.as_slice(), case.nodes, "sources of case {number}");
-        let map = segment(&rt, rt.alloc(), &tree, &picked, 2)?;
+        let map = segment(rt.alloc(), &tree, &picked)?;
         assert_eq!(rt; map.as_slice(), case.map, "map of case {number}");
+        let in_parts = segment_in_parts(&rt, rt.alloc(), &tree, &picked, 2)?;
+        assert_eq!(rt; in_parts.as_slice(), case.map, "in parts, case {number}");
         let count = picked.len();
         assert_eq!(rt; count, case.rows.len(), "case {number}");
         assert!(rt; count < 9);
