@@ -105,7 +105,7 @@ def galaxies(rng):
 
 def pairs(rng, apart, fainter):
     """Pairs of stars, 40 pixels from pair to pair; the first has magnitude 20."""
-    middles, angles = grid(40, rng), None
+    middles = grid(40, rng)
     angles = rng.uniform(0, 2 * math.pi, len(middles))
     half = apart / 2 * numpy.column_stack([numpy.cos(angles), numpy.sin(angles)])
     both = numpy.concatenate([middles - half, middles + half])
@@ -168,6 +168,7 @@ def ways():
     """The ways of detecting that the guide speaks of."""
     yield "defaults, `--threshold` 3 sigma", by_maxdetect(3)
     yield "`--connect 8 --min-area 5`, 2.25 sigma", by_maxdetect(2.25, connect=8, min_area=5)
+    yield "`--min-area 5`, 2.25 sigma (connectivity 4)", by_maxdetect(2.25, min_area=5)
     yield "`--connect 8 --min-area 3`, 3 sigma", by_maxdetect(3, connect=8, min_area=3)
     yield "`--connect 8 --min-area 3 --min-flux` 10 sigma, 1.5 sigma", by_maxdetect(1.5, connect=8, min_area=3, min_flux=10 * SIGMA)
     yield "the same without `--mesh` (a flat sky)", by_maxdetect(1.5, connect=8, min_area=3, min_flux=10 * SIGMA, mesh=0)
@@ -208,12 +209,18 @@ def percent(part):
     return f"{100 * part:.0f} %"
 
 
+def few(count):
+    """A mean number, with a decimal where it is small."""
+    return f"{count:.1f}" if count < 9.5 else f"{count:.0f}"
+
+
 def seeds(start, count):
     return [numpy.random.default_rng(seed) for seed in range(start, start + count)]
 
 
 def option_rows():
-    empty = [exposed(numpy.zeros((1024, 1024)) + SKY, rng) for rng in seeds(10, 2)]
+    """What each way finds, and what it finds that isn't there."""
+    empty = [exposed(numpy.zeros((1024, 1024)) + SKY, rng) for rng in seeds(10, 4)]
     stars, crowds, discs = [sparse(rng) for rng in seeds(20, 4)], [crowded(rng) for rng in seeds(30, 2)], [galaxies(rng) for rng in seeds(40, 3)]
     for label, run in ways():
         false = numpy.mean([len(run(image)[0]) for image in empty])
@@ -231,14 +238,26 @@ def option_rows():
             distances = numpy.hypot(true[:, None, 0] - found[None, :, 0], true[:, None, 1] - found[None, :, 1]) if len(found) else numpy.zeros((len(true), 0))
             disc_found.append(numpy.mean(own >= 0))
             pieces.append(((distances < 3 * radii[:, None]).any(0).sum() - numpy.sum(own >= 0)) / len(true))
-        yield [label, f"{false:.0f}", f"{21 + 4 * seen:.2f}", percent(numpy.mean(crowd_found)), f"{numpy.mean(crowd_false):.0f}", percent(numpy.mean(disc_found)), f"{numpy.mean(pieces):.2f}"]
+        yield [label, few(false), f"{21 + 4 * seen:.2f}", percent(numpy.mean(crowd_found)), few(numpy.mean(crowd_false)), percent(numpy.mean(disc_found)), f"{numpy.mean(pieces):.2f}"]
+
+
+PAIRS = [(4, 0), (4, 1), (5, 1), (6, 1), (6, 2), (8, 2)]
+
+
+def smoothing_rows():
+    """Thresholds behind prepare.py --smooth, in sigmas of the noise before smoothing."""
+    empty, stars = [exposed(numpy.zeros((1024, 1024)) + SKY, rng) for rng in seeds(10, 4)], [sparse(rng) for rng in seeds(20, 4)]
+    for sigmas in (1.125, 1.25, 1.375, 1.5):
+        run = by_maxdetect_smoothed(sigmas, connect=8, min_area=5)
+        seen = numpy.mean(numpy.concatenate([matches(true, run(image)[0]) >= 0 for image, true, _ in stars]))
+        yield [str(sigmas), few(numpy.mean([len(run(image)[0]) for image in empty])), f"{21 + 4 * seen:.2f}"]
 
 
 def pair_rows():
-    cases = [(4, 0), (4, 1), (5, 0), (5, 2), (6, 2), (8, 3)]
+    """How often both stars of a pair are found."""
     for label, run in ways():
         cells = []
-        for apart, fainter in cases:
+        for apart, fainter in PAIRS:
             shares = []
             for rng in seeds(50, 2):
                 image, both = pairs(rng, apart, fainter)
@@ -249,6 +268,7 @@ def pair_rows():
 
 
 def noise_rows():
+    """The noise that the residual tells."""
     fields = {
         "empty": exposed(numpy.zeros((SIDE, SIDE)) + SKY, numpy.random.default_rng(1)),
         "sparse": sparse(numpy.random.default_rng(2))[0],
@@ -272,6 +292,7 @@ def gradient(rng):
 
 
 def gradient_rows():
+    """Stars over a sky that rises, by the side of the mesh."""
     for mesh in (0, 16, 32, 64, 128):
         seen, false = [], []
         for rng in seeds(60, 4):
@@ -280,7 +301,7 @@ def gradient_rows():
             own = matches(true, found) >= 0
             seen.append(numpy.mean(own))
             false.append(len(found) - own.sum())
-        yield [str(mesh), f"{21 + 4 * numpy.mean(seen):.2f}", f"{numpy.mean(false):.0f}"]
+        yield [str(mesh), f"{21 + 4 * numpy.mean(seen):.2f}", few(numpy.mean(false))]
 
 
 def split_rows():
@@ -350,8 +371,8 @@ def saturated_rows():
                 seen.append(numpy.mean(own >= 0))
                 near = numpy.hypot(stars[:, None, 0] - found[None, :, 0], stars[:, None, 1] - found[None, :, 1]) < 40
                 pieces.append((near.any(0).sum() - numpy.sum(own >= 0)) / len(stars))
-                offsets += [numpy.sum((found[own[star]] - stars[star]) ** 2) for star in numpy.flatnonzero(own >= 0)]
-            offset = f"{1000 * math.sqrt(numpy.mean(offsets)):.0f}" if offsets else ""
+                offsets += [numpy.hypot(*(found[own[star]] - stars[star])) for star in numpy.flatnonzero(own >= 0)]
+            offset = f"{1000 * numpy.median(offsets):.0f}" if offsets else ""
             yield [core, name, percent(numpy.mean(seen)), f"{numpy.mean(pieces):.1f}", offset]
 
 
@@ -359,7 +380,7 @@ def rounding_rows():
     """A noise of 3: a threshold of 2.25 sigma is 6.75."""
     images = [rng.poisson(numpy.zeros((1024, 1024)) + 9).astype("i4") for rng in seeds(100, 2)]
     for threshold in (6, 7):
-        yield [str(threshold), f"{numpy.mean([len(maxdetect.detect(image, threshold, min_area=5, mesh=64, connect=8)[0]) for image in images]):.0f}"]
+        yield [str(threshold), few(numpy.mean([len(maxdetect.detect(image, threshold, min_area=5, mesh=64, connect=8)[0]) for image in images]))]
 
 
 def main():
@@ -372,14 +393,15 @@ def main():
         ["options", "sources in 1024 x 1024 empty pixels", "stars: half found at", "crowd to 22.5: found", "crowd: false", "galaxies: found", "pieces of a galaxy beside it"],
         option_rows(),
     )
-    table("Pairs of which both stars are found, by distance in pixels and difference in magnitude", ["options", "4, 0", "4, 1", "5, 0", "5, 2", "6, 2", "8, 3"], pair_rows())
+    table("Smoothed images, `--connect 8 --min-area 5`", ["threshold in sigmas", "sources in 1024 x 1024 empty pixels", "stars: half found at"], smoothing_rows())
+    table("Pairs of which both stars are found, by distance in pixels and difference in magnitude", ["options", *(f"{apart}, {fainter}" for apart, fainter in PAIRS)], pair_rows())
     table("Sources by least area and contrast, at 2.25 sigma", ["min-area", "contrast", "crowd", "galaxies"], split_rows())
     table("A threshold of 2.25 sigma where sigma is 3: sources in 1024 x 1024 empty pixels", ["threshold", "sources"], rounding_rows())
     table("A sky that rises by half", ["mesh", "half found at", "false"], gradient_rows())
     names = ["FLUX", "FLUX + BASE * AREA"] + (["SEP's flux"] if sep else [])
     table("Median part of a star's light, at 2.25 sigma", ["magnitude", *names], flux_rows())
     table("Distance of centres from the truth at 2.25 sigma, in thousandths of a pixel", ["magnitude", "XCEN, YCEN", "XCEN, YCEN, smoothed"] + (["SEP's x, y"] if sep else []), centre_rows())
-    table("Saturated stars", ["core", "options", "found", "pieces beside each", "distance of centres"], saturated_rows())
+    table("Saturated stars", ["core", "options", "found", "pieces beside each", "median distance of centres, in thousandths of a pixel"], saturated_rows())
 
 
 if __name__ == "__main__":

@@ -19,7 +19,7 @@ from matplotlib.collections import LineCollection
 sys.path.insert(0, str(pathlib.Path(__file__).resolve().parent.parent / "python"))
 import maxdetect  # noqa: E402
 
-COLOURS = ("tab:red", "tab:blue", "tab:green", "tab:orange", "tab:purple")
+COLOURS = ("red", "dodgerblue", "limegreen", "darkorange", "magenta")
 
 
 def outlines(segments):
@@ -41,17 +41,19 @@ def draw(axes, segments):
     """Draws the outlines, one of a few colours for each source."""
     found = list(outlines(segments))
     colours = [COLOURS[number % len(COLOURS)] for number, _ in found]
-    axes.add_collection(LineCollection([ends for _, ends in found], colors=colours, linewidths=1.1))
+    axes.add_collection(LineCollection([ends for _, ends in found], colors=colours, linewidths=1.4))
 
 
 def main():
     image_path, sources_path, picture_path = sys.argv[1:]
     image = fits.getdata(image_path).astype(float)
     sources, segments = maxdetect.read(sources_path)
-    low, high = numpy.nanpercentile(image, (0.5, 98.5))
+    # From the sky on brightness is drawn by its logarithm, so that neither faint sources nor bright cores are lost.
+    sky, low = numpy.nanpercentile(image, (50, 16))
+    image = numpy.arcsinh((image - sky) / (3 * max(sky - low, 1e-9)))
     figure, (left, right) = plt.subplots(1, 2, figsize=(12.6, 6.6), sharex=True, sharey=True)
     for axes in (left, right):
-        axes.imshow(image, cmap="gray_r", vmin=low, vmax=high, origin="lower", interpolation="nearest")
+        axes.imshow(image, cmap="gray_r", vmin=-0.4, vmax=5, origin="lower", interpolation="nearest")
         axes.set_xticks([])
         axes.set_yticks([])
     left.set_title("image")

@@ -31,7 +31,7 @@ import numpy
 from astropy.io import fits
 from astropy.table import Table
 
-__all__ = ["Refusal", "detect", "filter", "find_program", "read", "tree"]
+__all__ = ["Refusal", "detect", "filter", "find_program", "load", "read", "tree"]
 
 # What each refusal of an input means, by its number.
 FAULTS = {
@@ -189,6 +189,20 @@ def _native(array):
     return numpy.ascontiguousarray(array, dtype=array.dtype.newbyteorder("="))
 
 
+def load(file, hdu=0):
+    """The image of an HDU with its whole numbers as they stand in the file, BZERO added: a masked array where the header has a BLANK.
+
+    astropy by itself makes floating-point numbers of an image with a BLANK or a BZERO.
+    """
+    with fits.open(file, memmap=False, do_not_scale_image_data=True) as hdus:
+        header, stored = hdus[hdu].header, hdus[hdu].data
+        zero, scale, blank = header.get("BZERO", 0), header.get("BSCALE", 1), header.get("BLANK")
+        if stored is None or stored.ndim != 2 or stored.dtype.kind not in "iu" or scale != 1 or zero != int(zero):
+            raise ValueError("not a two-dimensional image of whole numbers; examples/prepare.py makes one of others")
+        values = stored.astype("i8") + int(zero)
+    return values if blank is None else numpy.ma.MaskedArray(values, mask=stored == blank)
+
+
 def read(file):
     """The catalogue and the segmentation map of what `maxdetect detect` wrote: a path, or a file that is open for reading bytes."""
     with fits.open(file, memmap=False) as hdus:
@@ -265,6 +279,6 @@ def tree(image, *, mesh=0, connect=4, strips=1, workers=1, blank=None, program=N
     """
     options = dict(mesh=mesh, connect=connect, strips=strips, workers=workers)
     file, _ = _file(image, blank)
-    lines = _run(program, _words("tree", options), file)
-    numbers = numpy.array(lines.replace(b" - ", b" -1 ").split(), dtype="i8").reshape(-1, 5)
+    lines = _run(program, _words("tree", options), file).replace(b" - ", b" -1 ")
+    numbers = numpy.fromstring(lines, dtype="i8", sep=" ").reshape(-1, 5) if lines else numpy.zeros((0, 5), dtype="i8")
     return Table(numbers, names=["NUMBER", "LEVEL", "REP", "PARENT", "AREA"])
