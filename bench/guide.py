@@ -354,7 +354,7 @@ def centre_rows():
 
 def saturated_rows():
     """Bright stars whose cores are cut at 60,000, or are BLANK."""
-    runs = {"`--connect 8 --min-area 5`, 2.25 sigma": by_maxdetect(2.25, connect=8, min_area=5)}
+    runs = {f"`--connect 8 --min-area {area}`, 2.25 sigma": by_maxdetect(2.25, connect=8, min_area=area) for area in (5, 15)}
     if sep:
         runs["SEP without a kernel, 2.25 sigma"] = by_sep(2.25, kernel=False)
         runs["SEP's defaults"] = by_sep(1.5)
