@@ -131,7 +131,8 @@ def by_maxdetect(sigmas, **options):
     def run(image, mask=None):
         settings = {"mesh": 64, **options}
         above = 0 if settings["mesh"] else SKY
-        table, _ = maxdetect.detect(numpy.ma.MaskedArray(image, mask=mask if mask is not None else False), math.ceil(above + sigmas * SIGMA), **settings)
+        masked = numpy.ma.MaskedArray(image, mask=numpy.ma.nomask if mask is None else mask)
+        table, _ = maxdetect.detect(masked, math.ceil(above + sigmas * SIGMA), **settings)
         return centres(table), isophotal(table) - above * numpy.asarray(table["AREA"]), table
 
     return run
@@ -181,16 +182,19 @@ def ways():
 # ---- figures
 
 
+def distances(true, found):
+    """How far each of some true places lies from each detection."""
+    return numpy.hypot(true[:, None, 0] - found[None, :, 0], true[:, None, 1] - found[None, :, 1])
+
+
 def matches(true, found, near=NEAR):
     """For each true place the number of the detection that is its own, or -1: closest pairs first, each detection once."""
     own = numpy.full(len(true), -1)
-    if not len(found):
-        return own
-    distances = numpy.hypot(true[:, None, 0] - found[None, :, 0], true[:, None, 1] - found[None, :, 1])
     taken = numpy.zeros(len(found), dtype=bool)
-    for place in numpy.argsort(distances, axis=None):
+    apart = distances(true, found)
+    for place in numpy.argsort(apart, axis=None):
         row, column = divmod(int(place), len(found))
-        if distances[row, column] > near:
+        if apart[row, column] > near:
             break
         if own[row] < 0 and not taken[column]:
             own[row], taken[column] = column, True
@@ -218,10 +222,16 @@ def seeds(start, count):
     return [numpy.random.default_rng(seed) for seed in range(start, start + count)]
 
 
+def empty_fields():
+    """Fields of noise alone."""
+    return [exposed(numpy.zeros((1024, 1024)) + SKY, rng) for rng in seeds(10, 4)]
+
+
 def option_rows():
     """What each way finds, and what it finds that isn't there."""
-    empty = [exposed(numpy.zeros((1024, 1024)) + SKY, rng) for rng in seeds(10, 4)]
-    stars, crowds, discs = [sparse(rng) for rng in seeds(20, 4)], [crowded(rng) for rng in seeds(30, 2)], [galaxies(rng) for rng in seeds(40, 3)]
+    empty = empty_fields()
+    stars = [sparse(rng) for rng in seeds(20, 4)]
+    crowds, discs = [crowded(rng) for rng in seeds(30, 2)], [galaxies(rng) for rng in seeds(40, 3)]
     for label, run in ways():
         false = numpy.mean([len(run(image)[0]) for image in empty])
         seen = numpy.mean(numpy.concatenate([matches(true, run(image)[0]) >= 0 for image, true, _ in stars]))
@@ -235,10 +245,10 @@ def option_rows():
         for image, true, _, radii in discs:
             found = run(image)[0]
             own = matches(true, found, 3.0)
-            distances = numpy.hypot(true[:, None, 0] - found[None, :, 0], true[:, None, 1] - found[None, :, 1]) if len(found) else numpy.zeros((len(true), 0))
             disc_found.append(numpy.mean(own >= 0))
-            pieces.append(((distances < 3 * radii[:, None]).any(0).sum() - numpy.sum(own >= 0)) / len(true))
-        yield [label, few(false), f"{21 + 4 * seen:.2f}", percent(numpy.mean(crowd_found)), few(numpy.mean(crowd_false)), percent(numpy.mean(disc_found)), f"{numpy.mean(pieces):.2f}"]
+            pieces.append((numpy.sum((distances(true, found) < 3 * radii[:, None]).any(0)) - numpy.sum(own >= 0)) / len(true))
+        in_crowd = [percent(numpy.mean(crowd_found)), few(numpy.mean(crowd_false))]
+        yield [label, few(false), f"{21 + 4 * seen:.2f}", *in_crowd, percent(numpy.mean(disc_found)), f"{numpy.mean(pieces):.2f}"]
 
 
 PAIRS = [(4, 0), (4, 1), (5, 1), (6, 1), (6, 2), (8, 2)]
@@ -246,7 +256,7 @@ PAIRS = [(4, 0), (4, 1), (5, 1), (6, 1), (6, 2), (8, 2)]
 
 def smoothing_rows():
     """Thresholds behind prepare.py --smooth, in sigmas of the noise before smoothing."""
-    empty, stars = [exposed(numpy.zeros((1024, 1024)) + SKY, rng) for rng in seeds(10, 4)], [sparse(rng) for rng in seeds(20, 4)]
+    empty, stars = empty_fields(), [sparse(rng) for rng in seeds(20, 4)]
     for sigmas in (1.125, 1.25, 1.375, 1.5):
         run = by_maxdetect_smoothed(sigmas, connect=8, min_area=5)
         seen = numpy.mean(numpy.concatenate([matches(true, run(image)[0]) >= 0 for image, true, _ in stars]))
@@ -369,8 +379,8 @@ def saturated_rows():
                 found = run(image, full if core == "BLANK" else None)[0]
                 own = matches(stars, found, 3.0)
                 seen.append(numpy.mean(own >= 0))
-                near = numpy.hypot(stars[:, None, 0] - found[None, :, 0], stars[:, None, 1] - found[None, :, 1]) < 40
-                pieces.append((near.any(0).sum() - numpy.sum(own >= 0)) / len(stars))
+                near = (distances(stars, found) < 40).any(0)
+                pieces.append((numpy.sum(near) - numpy.sum(own >= 0)) / len(stars))
                 offsets += [numpy.hypot(*(found[own[star]] - stars[star])) for star in numpy.flatnonzero(own >= 0)]
             offset = f"{1000 * numpy.median(offsets):.0f}" if offsets else ""
             yield [core, name, percent(numpy.mean(seen)), f"{numpy.mean(pieces):.1f}", offset]
@@ -380,28 +390,49 @@ def rounding_rows():
     """A noise of 3: a threshold of 2.25 sigma is 6.75."""
     images = [rng.poisson(numpy.zeros((1024, 1024)) + 9).astype("i4") for rng in seeds(100, 2)]
     for threshold in (6, 7):
-        yield [str(threshold), few(numpy.mean([len(maxdetect.detect(image, threshold, min_area=5, mesh=64, connect=8)[0]) for image in images]))]
+        counts = [len(maxdetect.detect(image, threshold, min_area=5, mesh=64, connect=8)[0]) for image in images]
+        yield [str(threshold), few(numpy.mean(counts))]
 
 
 def main():
     os.environ["MAXDETECT"] = os.fspath(pathlib.Path(sys.argv[1]).resolve())
     if not sep:
         print("SEP isn't installed (Debian: python3-sep); its rows are left out")
-    table("Noise: 1.4826 times the median of the residual's absolute values; true is 30, and 33.5 on the mean for the last", ["field", "mesh 32", "mesh 64", "mesh 128"], noise_rows())
+    empty, deep = "sources in 1024 x 1024 empty pixels", "stars: half found at"
+    table(
+        "Noise: 1.4826 times the median of the residual's absolute values; true is 30, and 33.5 on the mean for the last",
+        ["field", "mesh 32", "mesh 64", "mesh 128"],
+        noise_rows(),
+    )
     table(
         "Options",
-        ["options", "sources in 1024 x 1024 empty pixels", "stars: half found at", "crowd to 22.5: found", "crowd: false", "galaxies: found", "pieces of a galaxy beside it"],
+        ["options", empty, deep, "crowd to 22.5: found", "crowd: false", "galaxies: found", "pieces of a galaxy beside it"],
         option_rows(),
     )
-    table("Smoothed images, `--connect 8 --min-area 5`", ["threshold in sigmas", "sources in 1024 x 1024 empty pixels", "stars: half found at"], smoothing_rows())
-    table("Pairs of which both stars are found, by distance in pixels and difference in magnitude", ["options", *(f"{apart}, {fainter}" for apart, fainter in PAIRS)], pair_rows())
+    table("Smoothed images, `--connect 8 --min-area 5`", ["threshold in sigmas", empty, deep], smoothing_rows())
+    table(
+        "Pairs of which both stars are found, by distance in pixels and difference in magnitude",
+        ["options", *(f"{apart}, {fainter}" for apart, fainter in PAIRS)],
+        pair_rows(),
+    )
     table("Sources by least area and contrast, at 2.25 sigma", ["min-area", "contrast", "crowd", "galaxies"], split_rows())
-    table("A threshold of 2.25 sigma where sigma is 3: sources in 1024 x 1024 empty pixels", ["threshold", "sources"], rounding_rows())
-    table("A sky that rises by half", ["mesh", "half found at", "false"], gradient_rows())
-    names = ["FLUX", "FLUX + BASE * AREA"] + (["SEP's flux"] if sep else [])
-    table("Median part of a star's light, at 2.25 sigma", ["magnitude", *names], flux_rows())
-    table("Distance of centres from the truth at 2.25 sigma, in thousandths of a pixel", ["magnitude", "XCEN, YCEN", "XCEN, YCEN, smoothed"] + (["SEP's x, y"] if sep else []), centre_rows())
-    table("Saturated stars", ["core", "options", "found", "pieces beside each", "median distance of centres, in thousandths of a pixel"], saturated_rows())
+    table("A threshold of 2.25 sigma where sigma is 3", ["threshold", empty], rounding_rows())
+    table("A sky that rises by half", ["mesh", deep, "false"], gradient_rows())
+    table(
+        "Median part of a star's light, at 2.25 sigma",
+        ["magnitude", "FLUX", "FLUX + BASE * AREA", *(["SEP's flux"] if sep else [])],
+        flux_rows(),
+    )
+    table(
+        "Root mean square distance of centres from the truth at 2.25 sigma, in thousandths of a pixel",
+        ["magnitude", "XCEN, YCEN", "the same, smoothed", *(["SEP's x, y"] if sep else [])],
+        centre_rows(),
+    )
+    table(
+        "Saturated stars",
+        ["core", "options", "found", "pieces beside each", "median distance of centres, in thousandths of a pixel"],
+        saturated_rows(),
+    )
 
 
 if __name__ == "__main__":

@@ -179,7 +179,8 @@ def _file(image, blank):
     stored = numpy.where(undefined, low, values).astype("i8") - zero
     stored[undefined] = least
     height, width = values.shape
-    cards = [("SIMPLE", True), ("BITPIX", bits), ("NAXIS", 2), ("NAXIS1", width), ("NAXIS2", height), ("BSCALE", 1), ("BZERO", zero), ("BLANK", least)]
+    cards = [("SIMPLE", True), ("BITPIX", bits), ("NAXIS", 2), ("NAXIS1", width), ("NAXIS2", height)]
+    cards += [("BSCALE", 1), ("BZERO", zero), ("BLANK", least)]
     data = stored.astype("u1" if bits == 8 else f">i{bits // 8}").tobytes()
     return fits.Header(cards).tostring().encode("ascii") + data + bytes(-len(data) % 2880), undefined
 
@@ -237,7 +238,8 @@ def detect(image, threshold, *, min_area=1, min_flux=0, contrast=5, mesh=0, conn
     >>> print(source["AREA"], source["BASE"], source["FLUX"], source["XCEN"] / 1000, source["YCEN"] / 1000)
     9 10 120 3.0 3.0
     """
-    options = dict(threshold=threshold, min_area=min_area, min_flux=min_flux, contrast=contrast, mesh=mesh, connect=connect, strips=strips, workers=workers)
+    options = dict(threshold=threshold, min_area=min_area, min_flux=min_flux, contrast=contrast)
+    options.update(mesh=mesh, connect=connect, strips=strips, workers=workers)
     file, _ = _file(image, blank)
     return read(io.BytesIO(_run(program, _words("detect", options), file)))
 
@@ -256,9 +258,11 @@ def filter(image, rule, *, min_area=0, max_area=16777216, min_flux=0, min_fill=0
     >>> filter(numpy.array([[0, 1, 3, 2, 0]]), "direct", min_area=2).tolist()
     [[0, 1, 2, 2, 0]]
     """
-    options = dict(rule=rule, min_area=min_area, max_area=max_area, min_flux=min_flux, min_fill=min_fill, mesh=mesh, connect=connect, strips=strips, workers=workers)
+    options = dict(rule=rule, min_area=min_area, max_area=max_area, min_flux=min_flux, min_fill=min_fill)
+    options.update(mesh=mesh, connect=connect, strips=strips, workers=workers)
     file, undefined = _file(image, blank)
-    with fits.open(io.BytesIO(_run(program, _words("filter", options), file)), memmap=False, do_not_scale_image_data=True) as hdus:
+    output = _run(program, _words("filter", options), file)
+    with fits.open(io.BytesIO(output), memmap=False, do_not_scale_image_data=True) as hdus:
         values = _native(hdus[0].data)
     if blank is None and not isinstance(image, numpy.ma.MaskedArray):
         return values

@@ -57,6 +57,27 @@ def refused(call, *words, **options):
     return fail(f"{call.__name__} refuses nothing")
 
 
+def told(refusal):
+    """What the module's own exception says, if it is one."""
+    return (refusal.status, refusal.number, refusal.name) if isinstance(refusal, maxdetect.Refusal) else None
+
+
+def where(program):
+    """The module finds the program by its word, by the environment, and on the PATH."""
+    wanted(maxdetect.find_program("elsewhere") == "elsewhere", "program= doesn't name the program")
+    wanted(maxdetect.find_program() == program, "MAXDETECT doesn't name the program")
+    with tempfile.TemporaryDirectory() as name:
+        os.symlink(program, pathlib.Path(name) / "maxdetect")
+        kept = {key: os.environ[key] for key in ("MAXDETECT", "PATH")}
+        del os.environ["MAXDETECT"]
+        os.environ["PATH"] = name
+        found = maxdetect.find_program()
+        os.environ.update(kept)
+    wanted(pathlib.Path(found).parent == pathlib.Path(name), "the program isn't found on the PATH")
+    error = refused(maxdetect.tree, numpy.zeros((1, 1), dtype="u1"), program="/nowhere/maxdetect")
+    wanted(isinstance(error, FileNotFoundError), "a program that isn't there is run")
+
+
 def docstrings():
     failed, tried = doctest.testmod(maxdetect)
     wanted(failed == 0, "an example in python/maxdetect.py gives something else")
@@ -90,8 +111,10 @@ def star_field(program):
     for form, options in forms:
         shift = options.pop("shift", 0)
         table, segments = maxdetect.detect(form, 60, min_area=5, mesh=64, connect=8, program=program, **options)
-        wanted((segments == its_map).all() and segments.dtype == numpy.dtype("i4"), f"the map of an image of {form.dtype} differs from the program's")
-        wanted(table.colnames == by_itself.colnames and all((table[it] == by_itself[it]).all() for it in table.colnames), f"the catalogue of an image of {form.dtype} differs")
+        same = segments.dtype == numpy.dtype("i4") and (segments == its_map).all()
+        wanted(same, f"the map of an image of {form.dtype} differs from the program's")
+        same = table.colnames == by_itself.colnames and all((table[it] == by_itself[it]).all() for it in table.colnames)
+        wanted(same, f"the catalogue of an image of {form.dtype} differs from the program's")
         residual = maxdetect.filter(form, "direct", mesh=64, strips=4, workers=2, program=program, **options)
         wanted((residual.mask == blank).all(), "filter masks other pixels")
         wanted(len(maxdetect.tree(form, mesh=64, program=program, **options)) == output("tree", "--mesh", "64").count(b"\n"), "tree has other nodes")
@@ -105,9 +128,9 @@ def refusals(program):
     """What the module refuses, and what the program does."""
     small = numpy.arange(6).reshape(2, 3)
     refusal = refused(maxdetect.tree, numpy.zeros((0, 3), dtype="i4"), program=program)
-    wanted(isinstance(refusal, maxdetect.Refusal) and (refusal.status, refusal.number, refusal.name) == (2, 11, "NoImage"), f"an empty image gives {refusal!r}")
+    wanted(told(refusal) == (2, 11, "NoImage"), f"an empty image gives {refusal!r}")
     refusal = refused(maxdetect.detect, small, 2**40, program=program)
-    wanted(isinstance(refusal, maxdetect.Refusal) and (refusal.status, refusal.number, refusal.name) == (1, 3, "usage"), f"a threshold of 2^40 gives {refusal!r}")
+    wanted(told(refusal) == (1, 3, "usage"), f"a threshold of 2^40 gives {refusal!r}")
     wanted("threshold" in refusal.text, f"a threshold of 2^40 is refused as {refusal.text}")
     wanted(isinstance(refused(maxdetect.detect, small.astype("f4"), 1, program=program), TypeError), "floating-point numbers pass")
     wanted(isinstance(refused(maxdetect.detect, small, 1.5, program=program), TypeError), "a threshold that isn't whole passes")
@@ -176,6 +199,7 @@ def picture(folder):
 def main():
     program = os.fspath(pathlib.Path(sys.argv[1]).resolve())
     os.environ["MAXDETECT"] = program
+    where(program)
     tried = docstrings()
     count = star_field(program)
     refusals(program)
