@@ -1,6 +1,8 @@
 """Measures what docs/GUIDE.md says, on synthetic fields whose sources are known.
 
-usage: /usr/bin/python3 bench/guide.py MAXDETECT      (MAXDETECT is the built program; it takes a few minutes)
+usage: /usr/bin/python3 bench/guide.py MAXDETECT [--check]      (MAXDETECT is the built program; it takes a minute or two)
+
+With --check it then compares the guide's tables with what it printed, and ends with status 1 where they differ.
 
 It wants astropy and numpy (Debian: python3-astropy); beside them it measures SEP, the library form of Source Extractor, where it is installed
 (Debian: python3-sep). All fields come from fixed seeds. A field's sky is 900 electrons a pixel, so its noise is 30; stars have a Moffat profile
@@ -201,12 +203,27 @@ def matches(true, found, near=NEAR):
     return own
 
 
+PRINTED = []
+
+
 def table(title, heads, rows):
+    """Prints a table, and keeps its rows."""
     print(f"\n{title}\n")
     print("| " + " | ".join(heads) + " |")
     print("|" + "---|" * len(heads))
+    PRINTED.append(heads)
     for row in rows:
         print("| " + " | ".join(row) + " |", flush=True)
+        PRINTED.append(row)
+
+
+def differing_rows():
+    """Rows of the guide's tables whose figures weren't printed. The first cell, which says what a row is about, may be worded otherwise."""
+    printed = {tuple(row[1:]) for row in PRINTED}
+    for line in (TOP / "docs" / "GUIDE.md").read_text(encoding="utf-8").splitlines():
+        cells = [cell.strip() for cell in line.strip("|").split("|")]
+        if line.startswith("|") and set(line) - set("|-") and tuple(cells[1:]) not in printed:
+            yield line
 
 
 def percent(part):
@@ -433,6 +450,10 @@ def main():
         ["core", "options", "found", "pieces beside each", "median distance of centres, in thousandths of a pixel"],
         saturated_rows(),
     )
+    if "--check" in sys.argv[2:]:
+        differing = list(differing_rows()) if sep else ["the guide's tables can't be compared without SEP"]
+        print("\n" + "\n".join(differing or ["the guide's tables have these figures"]))
+        sys.exit(1 if differing else 0)
 
 
 if __name__ == "__main__":
