@@ -11,8 +11,8 @@ pub enum Fault {
     NotFits,
     /// The bytes end inside a header.
     TruncatedHeader,
-    /// This card of this HDU isn't the mandatory card of its place with a permitted value, or is a PCOUNT or GCOUNT that
-    /// isn't an integer from 0. Cards are numbered from 1 and HDUs from 0.
+    /// This card of this HDU is in the place of a mandatory one and isn't it, or has a value that it may not have; or it is a
+    /// PCOUNT or GCOUNT with another value than 0 or a positive integer. Cards count from 1, HDUs from 0.
     BadKeyword { hdu: u16, card: u32 },
     /// The first 36,000 cards of a header have no END.
     HeaderTooLong,

@@ -16,7 +16,7 @@ use fits_card::{Card, end_card, int_card, logical_card};
 // Stands for an undefined pixel: the BLANK of the header.
 const BLANK: i64 = i64::MIN;
 
-/// Writes a plane as a primary HDU with BITPIX 64. An undefined pixel is the BLANK of the header.
+/// Writes a plane as a primary HDU of 64-bit integers, in which BLANK stands for undefined pixels.
 pub fn put_plane<O: Sink>(sink: &mut O, plane: &Plane) -> Result<(), WriteFault>
     ensures bytes { PutAppends (O.written sink.old) (O.written sink.new) result (plane_hdu plane.now) }
     ensures cause { HasCause (O.faults sink.old) (O.faults sink.new) result }

@@ -81,7 +81,7 @@ contains_split r connect choice n = list_any (λ m. lies_in r connect m n && is_
 
 -- ---- sources
 
--- a source: an entry, or a strong node with a strong sibling in the same entry, that contains no split
+-- a source: a node without a split inside it, which is an entry or has a strong sibling
 unfoldable pub is_source : Raster → Connect → Choice → ℕ → Bool
 is_source r connect choice n =
     (is_entry r connect choice n || has_strong_sibling r connect choice n) && not (contains_split r connect choice n)

@@ -38,9 +38,9 @@ pub record RuleHolds (run : Run) (s : State JobView View) : Type 0 where
   pub deep : length s.homes ≡ strips run
   -- what was claimed and given back, counted by the words
   pub counts : Counts (strips run) run.workers (slice_index s.words 0) (slice_index s.words 1) (map claim_of s.views)
-  -- a strip from word 0 on is home and not flooded
+  -- nobody claimed these strips yet: each waits in its slot, unflooded
   pub waiting : (i : ℕ) → slice_index s.words 0 ≤ i → i < strips run → IsHome run s.homes i false
-  -- a strip below word 0 that is in no hand is home and flooded
+  -- these were claimed and came back: each lies in its slot, flooded
   pub done : (i : ℕ) → i < slice_index s.words 0 → i < strips run → total (holds_of i) (map claim_of s.views) ≡ 0 → IsHome run s.homes i true
   -- each seat that wasn't joined away knows this run
   pub same_run : (j : ℕ) (v : View) → get_elem? s.views j ≡ some v → v.claim.joined ≡ false → v.of ≡ run

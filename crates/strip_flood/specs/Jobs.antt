@@ -10,7 +10,7 @@ use Rattle.strip_flood.specs.declared.flood.Flood.{Flood}
 use Rattle.strip_flood.specs.Flood.{inner_count}
 use Rattle.strip_flood.specs.Strips.{ranked_values, IsStrip, IsFresh}
 
--- a job: the sides of its plane, the connectivity, its rows, the values of its strip's pixels, whether it is flooded, and its links
+-- a job: the sides of its plane, the connectivity, its rows and their values, its links, and whether these were found
 pub record JobView : Type 0 where
   pub width : ℕ
   pub height : ℕ
