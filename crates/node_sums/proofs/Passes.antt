@@ -1,5 +1,5 @@
 -- The steps of both passes: a pixel is added to its smallest node's entry, and a node's entry to that of its parent.
-use Rattle.std.proofs.Common.{◌≡◌, ℕ, ◌+◌, ◌-◌, ◌<◌, ◌≤◌, zero, suc, Bool, true, false, cond, List, [], ◌∷◌, ◌++◌, length, map, take, refl, sym, ◌∙◌, ap, subst, arith, ◌⊎◌, inl, inr, get_or, set, add-one, lit<}
+use Rattle.std.proofs.Common.{◌≡◌, ℕ, ◌+◌, ◌-◌, ◌*◌, ◌/◌, ◌%◌, ◌<◌, ◌≤◌, zero, suc, Bool, true, false, cond, List, [], ◌∷◌, ◌++◌, length, map, take, refl, sym, ◌∙◌, ap, subst, arith, ◌⊎◌, inl, inr, get_or, set, add-one, lit<}
 use Rattle.std.specs.Prelude.{IsTrue, is_some, ◌==◌, ℤ, Option, Some, None, filter, replicate, slice_get, slice_index, slice_index_or}
 use Rattle.std.specs.List.{range_with_len}
 use Rattle.std.proofs.lemmas.Bool.{eq-eqb, ne_eqb, cases_lt, and_from, and_left, and_right}
@@ -7,9 +7,10 @@ use Rattle.std.proofs.lemmas.List.{append-nil, length-set, length-map}
 use Rattle.std.proofs.lemmas.List.Elements.{filter-append}
 use Rattle.std.proofs.lemmas.Option.{slice_get-get_or, slice_get_within, get_or_from_slice_get}
 use Rattle.std.proofs.lemmas.Int.{ints, to_z-of_z}
+use Rattle.std.proofs.lemmas.Nat.{mod-mul-add, div-mul-add, mul-le}
+use Rattle.std.proofs.Math.Nat.{mul_comm, suc-mul}
 use mir.Syntax.{w64}
 use mir.Val.{to_z, of_z}
-use Rattle.comp_tree.specs.declared.shape.Shape.{Shape}
 use Rattle.comp_tree.specs.declared.shape.Connect.{Connect}
 use Rattle.comp_tree.specs.declared.tree.NodeRow.{NodeRow}
 use Rattle.comp_tree.specs.Limits.{IsWithinRange}
@@ -21,7 +22,7 @@ use Rattle.comp_tree.proofs.Finding.{length-pixels}
 use Rattle.comp_tree.proofs.Nodes
 use Rattle.node_sums.specs.declared.entry.Sums.{Sums}
 use Rattle.node_sums.specs.Sums.{sums_over, sums_of, sums_in, pixels_of, IsTreeOfPlane, AreOfPlane, AreTheTrees}
-use Rattle.node_sums.specs.Merging.{together, sums_of_pixel, IsUpTo, HasSizes, is_own, is_counted, AreCounted, AreOwn, value_bound}
+use Rattle.node_sums.specs.Merging.{together, sums_of_pixel, IsUpTo, HasSizes, is_own, is_counted, AreCounted, AreOwn, AreOwnTo, sums_at_place, value_bound}
 use Rattle.node_sums.proofs.Merging.{sums_at, sums_over-push, sums_over-union}
 use Rattle.node_sums.proofs.Sizes.{sizes, filtered, level_up_to}
 use Rattle.node_sums.proofs.Counting.{GoesDown, goes_down, counted-start, counted-end, counted-same, counted-parent, number-is, IsUnion}
@@ -188,21 +189,32 @@ pub record IsTurn (r : Raster) (node_of : List ℕ) (sums : List Sums) (p n : �
   pub entry_is : slice_get sums n ≡ Some entry
   pub pixel_is : pixel ≡ sums_of_pixel r.shape.width p v
 
-pub turn_from_code : (r : Raster) (node_of : List ℕ) (sums : List Sums) (p : ℕ) (v : ℤ) (got : Option ℤ) (shape : Shape) (d pixel : Sums)
-    → AreOwn r node_of (range_with_len 0 p) sums → ((q : ℕ) → q < p → IsUpTo value_bound (level r q)) → p < length r.values
-    → got ≡ value_at r.values p → got ≡ Some v → IsWithinRange v → shape ≡ r.shape → pixel ≡ sums_of_pixel shape.width p (to_z w64 (of_z w64 v))
+pub turn_from_code : (r : Raster) (node_of : List ℕ) (sums : List Sums) (first row column p : ℕ) (v : ℤ) (got : Option ℤ) (d pixel : Sums)
+    → AreOwnTo r node_of p sums → first ≡ row * r.shape.width → p ≡ first + column → column < r.shape.width → p < length r.values
+    → got ≡ value_at r.values p → got ≡ Some v → IsWithinRange v → pixel ≡ sums_at_place (column + 1) (row + 1) p (to_z w64 (of_z w64 v))
     → slice_index node_of p < length sums → IsTurn r node_of sums p (slice_index node_of p) v (get_or sums (slice_index node_of p) d) pixel
-turn_from_code r node_of sums p v got shape d pixel own small inside reads is in_range same made there = record {
-  own = own;
-  small = small;
+turn_from_code r node_of sums first row column p v got d pixel h begins at within inside reads is in_range made there = record {
+  own = h.own;
+  small = h.small;
   inside = inside;
   value = sym reads ∙ is;
   in_range = in_range;
   node = refl;
   entry_is = slice_get-get_or sums (slice_index node_of p) d there;
-  pixel_is = made ∙ ap (sums_of_pixel shape.width p) (to_z-of_z w64 v (fits w64 value_bound v (record { low = in_range.low; high = in_range.high }) (lit< tt)))
-      ∙ ap (λ (s : Shape). sums_of_pixel s.width p v) same;
+  pixel_is = made ∙ ap (sums_at_place (column + 1) (row + 1) p) (to_z-of_z w64 v (fits w64 value_bound v (record { low = in_range.low; high = in_range.high }) (lit< tt)))
+      ∙ ap (λ (x : ℕ). sums_at_place (x + 1) (row + 1) p v) (sym (ap (λ (n : ℕ). n % r.shape.width) place ∙ mod-mul-add row r.shape.width column within))
+      ∙ ap (λ (y : ℕ). sums_at_place (p % r.shape.width + 1) (y + 1) p v) (sym (ap (λ (n : ℕ). n / r.shape.width) place ∙ div-mul-add row r.shape.width column within));
 }
+  where
+    place : p ≡ row * r.shape.width + column
+    place = at ∙ ap (λ (n : ℕ). n + column) begins
+
+-- a pixel of a row is one of the plane's
+pub in_plane : (r : Raster) (row column : ℕ) → IsPlane r → row < r.shape.height → column < r.shape.width → row * r.shape.width + column < length r.values
+in_plane r row column plane below within =
+    let rows : suc row * r.shape.width ≤ r.shape.height * r.shape.width = mul-le (suc row) r.shape.width r.shape.height r.shape.width (omega arith) (omega arith) in
+    let next : suc row * r.shape.width ≡ row * r.shape.width + r.shape.width = suc-mul row r.shape.width in
+    omega (arith, plane, mul_comm r.shape.height r.shape.width)
 
 pub defined-of : (r : Raster) (p : ℕ) (v : ℤ) → value_at r.values p ≡ Some v → is_defined r p ≡ true
 defined-of r p v e = ap (λ (o : Option ℤ). is_some o) e
@@ -256,6 +268,19 @@ small_undefined r p h e q l = go (cases_lt q p)
     go (inl k) = h q k
     go (inr k) = let f : p ≡ q = omega arith in subst (λ (j : ℕ). IsUpTo value_bound (level r j)) f (level_undefined r p e)
 
+pub to_next : (r : Raster) (node_of : List ℕ) (sums : List Sums) (p n : ℕ) (v : ℤ) (entry pixel whole : Sums) → IsTurn r node_of sums p n v entry pixel → whole ≡ together entry pixel
+    → AreOwnTo r node_of (p + 1) (set sums n whole)
+to_next r node_of sums p n v entry pixel whole t k = record {
+  own = turn_own r node_of sums p n v entry pixel whole t k;
+  small = turn_small r node_of sums p n v entry pixel t;
+}
+
+pub to_next_undefined : (r : Raster) (node_of : List ℕ) (sums : List Sums) (p : ℕ) → AreOwnTo r node_of p sums → value_at r.values p ≡ None → AreOwnTo r node_of (p + 1) sums
+to_next_undefined r node_of sums p h e = record {
+  own = turn_undefined r node_of sums p h.own e;
+  small = small_undefined r p h.small e;
+}
+
 -- when all pixels were read, the values are in the range
 pub range_from_small : (r : Raster) (n : ℕ) → length r.values ≤ n → ((q : ℕ) → q < n → IsUpTo value_bound (level r q)) → HasValuesInRange r.values
 range_from_small r n l h p v e =
@@ -266,6 +291,10 @@ range_from_small r n l h p v e =
 pub own_all : (r : Raster) (node_of : List ℕ) (n : ℕ) (sums : List Sums) → n ≡ length r.values → AreOwn r node_of (range_with_len 0 n) sums → AreOwn r node_of (pixels r) sums
 unfolding pixels
 own_all r node_of n sums e h = subst (λ (k : ℕ). AreOwn r node_of (range_with_len 0 k) sums) e h
+
+-- after the last row
+pub all_rows : (row height width n : ℕ) → row ≤ height → height ≤ row → n ≡ width * height → row * width ≡ n
+all_rows row height width n most least e = ap (λ (y : ℕ). y * width) (let same : row ≡ height = omega arith in same) ∙ mul_comm height width ∙ sym e
 
 -- ---- a turn of the pass over the nodes
 

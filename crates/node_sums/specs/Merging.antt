@@ -1,35 +1,37 @@
 -- Sums over two sets of pixels that share none, made from the sums over each.
-use Rattle.std.specs.Prelude.{◌≡◌, ℕ, ◌+◌, ◌*◌, ◌/◌, ◌%◌, ◌^◌, ◌≤◌, min, max, Bool, true, ◌&&◌, not, nat_lt, zero, suc, ℤ, pos, neg_ℤ, ◌+ℤ◌, ◌*ℤ◌, ◌≤ℤ◌, List, length, filter, slice_get, Some, slice_index, ◌==◌}
+use Rattle.std.specs.Prelude.{◌≡◌, ℕ, ◌+◌, ◌*◌, ◌/◌, ◌%◌, ◌^◌, ◌≤◌, ◌<◌, min, max, Bool, true, ◌&&◌, not, nat_lt, zero, suc, ℤ, pos, neg_ℤ, ◌+ℤ◌, ◌*ℤ◌, ◌≤ℤ◌, List, length, filter, slice_get, Some, slice_index, ◌==◌}
 use Rattle.std.specs.Int.{int_max}
+use Rattle.std.specs.List.{range_with_len}
 use Rattle.comp_tree.specs.declared.shape.Connect.{Connect}
-use Rattle.comp_tree.specs.Raster.{Raster, is_defined, pixels}
+use Rattle.comp_tree.specs.Raster.{Raster, is_defined, level, pixels}
 use Rattle.comp_tree.specs.ComponentTree.{ComponentTree}
 use Rattle.comp_tree.specs.Components.{is_in_node, tree_of}
 use Rattle.node_sums.specs.declared.entry.Sums.{Sums}
 use Rattle.node_sums.specs.Sums.{sums_over}
 
--- the sums over pixel p of a plane of this width, which has this value
+-- the sums over pixel p, in column x and row y, both from 1, which has this value
+abbrev pub sums_at_place : ℕ → ℕ → ℕ → ℤ → Sums
+sums_at_place x y p value = record {
+  area = 1;
+  r = value;
+  x = x;
+  y = y;
+  xx = x * x;
+  xy = x * y;
+  yy = y * y;
+  rx = value *ℤ pos x;
+  ry = value *ℤ pos y;
+  xmin = x;
+  xmax = x;
+  ymin = y;
+  ymax = y;
+  first = p;
+  peak = value;
+}
+
+-- the sums over pixel p of a plane of this width
 abbrev pub sums_of_pixel : ℕ → ℕ → ℤ → Sums
-sums_of_pixel width p value =
-    let x = p % width + 1 in
-    let y = p / width + 1 in
-    record {
-      area = 1;
-      r = value;
-      x = x;
-      y = y;
-      xx = x * x;
-      xy = x * y;
-      yy = y * y;
-      rx = value *ℤ pos x;
-      ry = value *ℤ pos y;
-      xmin = x;
-      xmax = x;
-      ymin = y;
-      ymax = y;
-      first = p;
-      peak = value;
-    }
+sums_of_pixel width p value = sums_at_place (p % width + 1) (p / width + 1) p value
 
 -- the sums over two sets of pixels that share none, from those over each
 abbrev pub together : Sums → Sums → Sums
@@ -101,3 +103,8 @@ is_own r node_of m q = is_defined r q && (slice_index node_of q == m)
 -- each entry has the pixels of a list whose smallest node it is
 pub record AreOwn (r : Raster) (node_of ps : List ℕ) (sums : List Sums) : Type 0 where
   pub own : (m : ℕ) (s : Sums) → slice_get sums m ≡ Some s → s ≡ sums_over r (filter (is_own r node_of m) ps)
+
+-- each entry has those of the first n pixels whose smallest node it is, and the values of these pixels are small
+pub record AreOwnTo (r : Raster) (node_of : List ℕ) (n : ℕ) (sums : List Sums) : Type 0 where
+  pub own : AreOwn r node_of (range_with_len 0 n) sums
+  pub small : (q : ℕ) → q < n → IsUpTo value_bound (level r q)

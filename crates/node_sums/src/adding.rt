@@ -1,9 +1,9 @@
-ghost use Rattle.std.specs.Prelude.{◌≡◌, [], ℕ, ◌<◌, IsTrue, IfOk, length, slice_index, replicate};
+ghost use Rattle.std.specs.Prelude.{◌≡◌, [], ℕ, ◌+◌, ◌*◌, ◌<◌, IsTrue, IfOk, length, slice_index, replicate};
 ghost use Rattle.comp_tree.specs.declared.shape.Connect.{Connect};
 ghost use Rattle.comp_tree.specs.Raster.{Raster, IsPlane, HasValuesInRange, pixels, is_defined};
 ghost use Rattle.comp_tree.specs.Components.{tree_of};
 ghost use Rattle.node_sums.specs.Sums.{sums_over, sums_in, IsTreeOfPlane, AreOfPlane, AreTheTrees};
-ghost use Rattle.node_sums.specs.Merging.{AreCounted, AreOwn};
+ghost use Rattle.node_sums.specs.Merging.{AreCounted, AreOwn, AreOwnTo};
 
 use crate::entry::Sums;
 use comp_tree::{NONE, Plane, Tree};
@@ -44,10 +44,27 @@ fn add_pixels(plane: &Plane, node_of: &[u32], sums: &mut [Sums])
     ensures in_range { HasValuesInRange plane.now.values }
 {
     let shape = plane.shape();
-    for p in 0..shape.pixels() {
+    for row in 0..shape.height {
+        add_row(plane, node_of, shape.width, row, sums);
+    }
+}
+
+// Adds the defined pixels of one row, counted from 0. All rows before it were added.
+fn add_row(plane: &Plane, node_of: &[u32], width: u32, row: u32, sums: &mut [Sums])
+    requires nodes { (p : ℕ) → IsTrue (is_defined plane.now p) → slice_index node_of.now p < length sums.old }
+    requires one_each { length node_of.now ≡ length plane.now.values }
+    requires plane { IsPlane plane.now }
+    requires width { width ≡ plane.now.shape.width }
+    requires row { row < plane.now.shape.height }
+    requires before { AreOwnTo plane.now node_of.now (row * width) sums.old }
+    ensures { AreOwnTo plane.now node_of.now (row * width + width) sums.new }
+{
+    let first = row * width;
+    for column in 0..width {
+        let p = first + column;
         if let Some(value) = plane.get(p) {
             let n = node_of[p as usize] as usize;
-            let pixel = Sums::of_pixel(shape.width, p, value);
+            let pixel = Sums::of_pixel(column + 1, row + 1, p, value);
             sums[n] = sums[n].together(&pixel);
         }
     }

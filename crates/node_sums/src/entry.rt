@@ -1,8 +1,8 @@
-ghost use Rattle.std.specs.Prelude.{◌≡◌, [], ◌+◌, ◌/◌, ◌≤◌, ◌<◌};
+ghost use Rattle.std.specs.Prelude.{◌≡◌, [], ◌≤◌};
 ghost use Rattle.comp_tree.specs.Limits.{IsWithinRange};
 ghost use Rattle.comp_tree.specs.Raster.{Raster};
 ghost use Rattle.node_sums.specs.Sums.{sums_over};
-ghost use Rattle.node_sums.specs.Merging.{together, sums_of_pixel, HasSizes};
+ghost use Rattle.node_sums.specs.Merging.{together, sums_at_place, HasSizes};
 
 /// Sums over the pixels of a node's component, from which area, flux, centre and shape follow: attributes of a max-tree's
 /// node (Salembier, Oliveras and Garrido 1998). As in FITS, x and y count columns and rows from 1.
@@ -57,16 +57,13 @@ impl Sums {
         }
     }
 
-    // The sums over one pixel `p` of a plane of this width, which has this value.
-    pub(crate) fn of_pixel(width: u32, p: u32, value: i64) -> Sums
-        requires columns { 0 < width }
-        requires few_columns { width ≤ 65535 }
-        requires row { p / width + 1 ≤ 65535 }
+    // The sums over one pixel `p` in column `x` and row `y`, both from 1, which has this value.
+    pub(crate) fn of_pixel(x: u32, y: u32, p: u32, value: i64) -> Sums
+        requires column { x ≤ 65535 }
+        requires row { y ≤ 65535 }
         requires value { IsWithinRange value }
-        ensures { result ≡ sums_of_pixel width p value }
+        ensures { result ≡ sums_at_place x y p value }
     {
-        let x = p % width + 1;
-        let y = p / width + 1;
         Sums {
             area: 1,
             r: value,

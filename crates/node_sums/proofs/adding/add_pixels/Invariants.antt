@@ -1,12 +1,9 @@
-use Rattle.std.proofs.Common.{◌≡◌, ℕ, ◌<◌, length}
-use Rattle.std.specs.List.{range_with_len}
-use Rattle.comp_tree.specs.Raster.{level}
-use Rattle.node_sums.specs.Merging.{AreOwn, IsUpTo, value_bound}
+use Rattle.std.proofs.Common.{◌≡◌, ◌*◌, length}
+use Rattle.node_sums.specs.Merging.{AreOwnTo}
 use Rattle.node_sums.proofs.adding.add_pixels.Given as goal
 
-abbrev pub invariant-loop-p : goal.invariant-loop-p
-invariant-loop-p l = record {
-  own : AreOwn l.plane l.node_of (range_with_len 0 l.p) l.sums;
-  small : (q : ℕ) → q < l.p → IsUpTo value_bound (level l.plane q);
+abbrev pub invariant-loop-row : goal.invariant-loop-row
+invariant-loop-row l = record {
+  own : AreOwnTo l.plane l.node_of (l.row * l.shape.width) l.sums;
   same_length : length l.sums ≡ length l.fn.sums;
 }
