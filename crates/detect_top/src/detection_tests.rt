@@ -1,14 +1,14 @@
 // The command `detect`: its words, its map and its catalogue.
-use crate::{Job, Order, Usage, read_words, run};
+use crate::in_memory::{NONE_FAILS, file, run_in_memory};
+use crate::{Job, Order, Usage, read_words};
 use comp_tree::Connect;
-use dev_io::{MemSink, MemSource, PlainSource};
-use fits_card::{end_card, int_card, logical_card};
 use source_pick::Choice;
-use std::alloc::Global;
+use std::process::Abort;
 use std::test::Fail;
-use strip_crew::OpenGate;
 
-const HILLS: [u8; 5] = [1, 6, 2, 5, 1];
+// Five pixels, 1 6 2 5 1.
+const HILLS: &[u8] =
+    b"SIMPLE  = T|BITPIX  = 8|NAXIS   = 2|NAXIS1  = 5|NAXIS2  = 1|END|#\x01\x06\x02\x05\x01";
 
 // The row of the left hill: one column in each line.
 const LEFT_HILL: &[u8] = b"\0\0\0\x01\
@@ -29,20 +29,42 @@ const LEFT_HILL: &[u8] = b"\0\0\0\x01\
     \0\0\0\0\0\0\0\0\
     \0\0\0\0\0\0\0\0";
 
-// A file of one image, with a row of these pixels; 0 is undefined.
-fn image(alloc: Global, width: i64, pixels: &[u8]) -> Result<Vec<u8>, Fail> {
-    let mut bytes = Vec::new(alloc);
-    bytes.extend_from_slice(&logical_card(b"SIMPLE  ", true))?;
-    bytes.extend_from_slice(&int_card(b"BITPIX  ", 8))?;
-    bytes.extend_from_slice(&int_card(b"NAXIS   ", 2))?;
-    bytes.extend_from_slice(&int_card(b"NAXIS1  ", width))?;
-    bytes.extend_from_slice(&int_card(b"NAXIS2  ", 1))?;
-    bytes.extend_from_slice(&int_card(b"BLANK   ", 0))?;
-    bytes.extend_from_slice(&end_card())?;
-    bytes.extend_from_slice(&[b' '; 2320])?;
-    bytes.extend_from_slice(pixels)?;
-    Ok(bytes)
-}
+const RIGHT_HILL: &[u8] = b"\0\0\0\x02\
+    \0\0\0\0\0\0\0\x05\
+    \0\0\0\0\0\0\0\x02\
+    \0\0\0\x01\
+    \0\0\0\0\0\0\0\x03\
+    \0\0\0\0\0\0\0\x05\
+    \0\0\0\x04\
+    \0\0\0\x04\
+    \0\0\0\x01\
+    \0\0\0\x01\
+    \0\0\0\x04\
+    \0\0\0\x01\
+    \0\0\x0f\xa0\
+    \0\0\x03\xe8\
+    \0\0\0\0\0\0\0\0\
+    \0\0\0\0\0\0\0\0\
+    \0\0\0\0\0\0\0\0";
+
+// The row of both hills as one source.
+const BOTH_HILLS: &[u8] = b"\0\0\0\x01\
+    \0\0\0\0\0\0\0\x02\
+    \0\0\0\0\0\0\0\x01\
+    \0\0\0\x03\
+    \0\0\0\0\0\0\0\x0a\
+    \0\0\0\0\0\0\0\x06\
+    \0\0\0\x02\
+    \0\0\0\x04\
+    \0\0\0\x01\
+    \0\0\0\x01\
+    \0\0\0\x02\
+    \0\0\0\x01\
+    \0\0\x0b\x54\
+    \0\0\x03\xe8\
+    \0\0\0\0\0\0\x02\x9a\
+    \0\0\0\0\0\0\0\0\
+    \0\0\0\0\0\0\0\0";
 
 // So many of the bytes from this place on.
 fn piece(bytes: &[u8], place: usize, count: usize) -> &[u8] {
@@ -50,99 +72,51 @@ fn piece(bytes: &[u8], place: usize, count: usize) -> &[u8] {
     &behind[..count.min(behind.len())]
 }
 
+// Compares these bytes with a block that begins so and has zeros behind.
+fn compare_block(rt: &impl Abort, block: &[u8], beginning: &[u8]) {
+    assert_eq!(rt; block.len(), 2880);
+    assert!(rt; block.starts_with(beginning));
+    assert!(rt; block.iter().skip(beginning.len()).all(|byte| *byte == 0));
+}
+
+// Two sources where each half has its share of the flux, and else one.
 #[test]
 fn sources_have_their_map_and_their_rows(rt: HostRuntime) -> Result<(), Fail> {
     let alloc = rt.alloc();
-    let hills = image(alloc, 5, &HILLS)?;
-    let blanks = image(alloc, 2, &[0, 0])?;
-    // the threshold, the contrast, the image and how many bytes are written; a place among them, and what stands there
-    let cases: [(&str, &str, &[u8], usize, usize, &[u8]); 5] = [
-        (
-            "2",
-            "300",
-            &hills,
-            17280,
-            5760,
-            b"\0\0\0\0\0\0\0\x01\0\0\0\0\0\0\0\x02\0\0\0\0",
-        ),
-        ("2", "300", &hills, 17280, 14400, LEFT_HILL),
-        ("2", "301", &hills, 17280, 14464, b"\0\0\x0b\x54"),
-        ("2", "301", &hills, 17280, 14472, b"\0\0\0\0\0\0\x02\x9a"),
-        (
-            "1",
-            "5",
-            &blanks,
-            14400,
-            8960,
-            b"NAXIS2  =                    0",
-        ),
+    let bytes = file(alloc, HILLS, b"")?;
+    let two: &[u8] = b"\0\0\0\0\0\0\0\x01\0\0\0\0\0\0\0\x02";
+    let one: &[u8] = b"\0\0\0\0\0\0\0\x01\0\0\0\x01\0\0\0\x01";
+    // the contrast, the map and the rows
+    let cases: [(&str, &[u8], [&[u8]; 2]); 3] = [
+        ("300", two, [LEFT_HILL, RIGHT_HILL]),
+        ("301", one, [BOTH_HILLS, b""]),
+        ("1000", one, [BOTH_HILLS, b""]),
     ];
-    for (threshold, contrast, bytes, count, place, found) in cases {
-        let words = ["detect", "--threshold", threshold, "--contrast", contrast];
-        let mut input = PlainSource::new(bytes);
-        let mut output = MemSink::new(vec![in alloc; 0; 17280]?, &[], 0);
-        let mut notes = MemSink::new(vec![in alloc; 0; 99]?, &[], 0);
-        assert_eq!(rt;
-            run(
-                &rt,
-                alloc,
-                &words,
-                &mut input,
-                &mut output,
-                &mut notes,
-                &OpenGate
-            ),
-            0
-        );
-        assert_eq!(rt; output.bytes().len(), count);
-        assert_eq!(rt; piece(output.bytes(), place, found.len()), found);
+    for (contrast, map, [first, second]) in cases {
+        let words = ["detect", "--threshold", "2", "--contrast", contrast];
+        let found = run_in_memory(&rt, alloc, &words, &bytes, 17_280, NONE_FAILS)?;
+        assert_eq!(rt; found.status, 0);
+        assert_eq!(rt; found.output.len(), 17_280);
+        compare_block(&rt, piece(&found.output, 5760, 2880), map);
+        let mut rows = first.to_vec(alloc)?;
+        rows.extend_from_slice(second)?;
+        compare_block(&rt, piece(&found.output, 14_400, 2880), &rows);
     }
     Ok(())
 }
 
 #[test]
-fn a_device_that_fails_ends_a_detection(rt: HostRuntime) -> Result<(), Fail> {
+fn an_image_without_pixels_has_an_empty_catalogue(rt: HostRuntime) -> Result<(), Fail> {
     let alloc = rt.alloc();
-    let hills = image(alloc, 5, &HILLS)?;
-    let hills_above: &[&str] = &["detect", "--threshold", "2"];
-    let mut whole = MemSink::new(vec![in alloc; 0; 17280]?, &[], 0);
-    run(
-        &rt,
-        alloc,
-        hills_above,
-        &mut PlainSource::new(&hills),
-        &mut whole,
-        &mut MemSink::new(vec![in alloc; 0; 99]?, &[], 0),
-        &OpenGate,
-    );
-    // the words, the takes that fail and the calls of the output that fail; the status, how many bytes are written and the
-    // notes
-    let cases: [(&[&str], &[u32], &[u32], u8, usize, &[u8]); 4] = [
-        (&["detect"], &[], &[], 1, 0, b"usage: word 2\n"),
-        (hills_above, &[3], &[], 3, 0, b"read fault\n"),
-        (hills_above, &[], &[2], 4, 2890, b"write fault\n"),
-        (hills_above, &[], &[], 0, 17280, b""),
-    ];
-    for (words, take, put, status, written, note) in cases {
-        let mut input = MemSource::new(&hills, 1000, take);
-        let mut output = MemSink::new(vec![in alloc; 0; 17280]?, put, 10);
-        let mut notes = MemSink::new(vec![in alloc; 0; 99]?, &[], 0);
-        assert_eq!(rt;
-            run(
-                &rt,
-                alloc,
-                words,
-                &mut input,
-                &mut output,
-                &mut notes,
-                &OpenGate
-            ),
-            status
-        );
-        assert_eq!(rt; output.bytes().len(), written);
-        assert_eq!(rt; output.bytes(), piece(whole.bytes(), 0, written));
-        assert_eq!(rt; notes.bytes(), note);
-    }
+    let header = b"SIMPLE  = T|BITPIX  = 8|NAXIS   = 2|NAXIS1  = 2|NAXIS2  = 1|BLANK   = 7|END|#";
+    let bytes = file(alloc, header, &[7, 7])?;
+    let words = ["detect", "--threshold", "1"];
+    let found = run_in_memory(&rt, alloc, &words, &bytes, 17_280, NONE_FAILS)?;
+    assert_eq!(rt; found.status, 0);
+    assert_eq!(rt; found.output.len(), 14_400);
+    compare_block(&rt, piece(&found.output, 5760, 2880), b"");
+    let rows: &[u8] = b"NAXIS2  =                    0";
+    assert_eq!(rt; piece(&found.output, 8960, 30), rows);
     Ok(())
 }
 

@@ -107,6 +107,20 @@ fn each_put_that_fails_ends_a_detection(rt: HostRuntime) -> Result<(), Fail> {
     Ok(())
 }
 
+// The second call's piece is the map's header, of which ten bytes come through.
+#[test]
+fn a_front_of_the_output_stands(rt: HostRuntime) -> Result<(), Fail> {
+    let failing = Failing {
+        puts: &[2],
+        kept: 10,
+        ..NONE_FAILS
+    };
+    let found = outcome(&rt, rt.alloc(), DETECT, HILLS, failing)?;
+    assert_eq!(rt; found.status, 4);
+    assert_eq!(rt; found.output.len(), 2890);
+    Ok(())
+}
+
 #[test]
 fn each_put_that_fails_ends_a_filtering(rt: HostRuntime) -> Result<(), Fail> {
     for kept in [0, 1, 2880] {

@@ -1,9 +1,9 @@
 // Flooded and joined strips beside the plain way, and two workers at once.
 use crate::component::component_tree;
+use crate::in_memory::file;
 use crate::{Job, Order, run};
 use comp_tree::{Connect, Plane, Shape, plain_tree};
 use dev_io::{MemSink, PlainSource};
-use fits_card::{end_card, int_card, logical_card};
 use std::alloc::Global;
 use std::sync::atomic::AtomicBool;
 use std::sync::atomic::Ordering::SeqCst;
@@ -104,15 +104,8 @@ impl Gate for Handshake {
 #[test]
 fn a_run_floods_two_strips_at_once(rt: HostRuntime) -> Result<(), Fail> {
     let alloc = rt.alloc();
-    let mut bytes = Vec::new(alloc);
-    bytes.extend_from_slice(&logical_card(b"SIMPLE  ", true))?;
-    bytes.extend_from_slice(&int_card(b"BITPIX  ", 8))?;
-    bytes.extend_from_slice(&int_card(b"NAXIS   ", 2))?;
-    bytes.extend_from_slice(&int_card(b"NAXIS1  ", 2))?;
-    bytes.extend_from_slice(&int_card(b"NAXIS2  ", 2))?;
-    bytes.extend_from_slice(&end_card())?;
-    bytes.extend_from_slice(&[b' '; 2400])?;
-    bytes.extend_from_slice(&[9, 0, 0, 9])?;
+    let header = b"SIMPLE  = T|BITPIX  = 8|NAXIS   = 2|NAXIS1  = 2|NAXIS2  = 2|END|#";
+    let bytes = file(alloc, header, &[9, 0, 0, 9])?;
     let words = ["tree", "--strips", "2", "--workers", "2"];
     let mut input = PlainSource::new(&bytes);
     let mut output = MemSink::new(vec![in alloc; 0; 99]?, &[], 0);

@@ -1,9 +1,9 @@
 use super::*;
+use crate::in_memory::{NONE_FAILS, run_in_memory};
 use crate::trial::trial_image;
 use comp_tree::Shape;
-use dev_io::{MemSink, PlainSource};
+use dev_io::MemSink;
 use std::test::Fail;
-use strip_crew::OpenGate;
 
 #[test]
 fn the_image_of_seed_7(rt: HostRuntime) -> Result<(), Fail> {
@@ -43,7 +43,13 @@ fn a_line_tells_of_a_trial(rt: HostRuntime) -> Result<(), Fail> {
 fn a_trial_leaves_the_input(rt: HostRuntime) -> Result<(), Fail> {
     let alloc = rt.alloc();
     let bytes = b"no image".as_slice();
-    let cases: [(&[&str], &[u8]); 4] = [
+    let cases: [(&[&str], &[u8]); 5] = [
+        (
+            &[
+                "trial", "--seed", "7", "--width", "3", "--height", "2", "--strips", "2",
+            ],
+            b"pixels 6 nodes 6 roots 1 areas 17 fluxes 2433 sources 3 mapped 3\n",
+        ),
         (
             &["trial", "--seed", "0", "--width", "1", "--height", "1"],
             b"pixels 1 nodes 1 roots 1 areas 1 fluxes 0 sources 0 mapped 0\n",
@@ -74,24 +80,11 @@ fn a_trial_leaves_the_input(rt: HostRuntime) -> Result<(), Fail> {
         ),
     ];
     for (words, line) in cases {
-        let mut input = PlainSource::new(bytes);
-        let mut output = MemSink::new(vec![in alloc; 0; 99]?, &[], 0);
-        let mut notes = MemSink::new(vec![in alloc; 0; 99]?, &[], 0);
-        assert_eq!(rt;
-            run(
-                &rt,
-                alloc,
-                words,
-                &mut input,
-                &mut output,
-                &mut notes,
-                &OpenGate
-            ),
-            0
-        );
-        assert_eq!(rt; output.bytes(), line);
-        assert_eq!(rt; notes.bytes().len(), 0);
-        assert_eq!(rt; input.rest(), bytes);
+        let found = run_in_memory(&rt, alloc, words, bytes, 99, NONE_FAILS)?;
+        assert_eq!(rt; found.status, 0);
+        assert_eq!(rt; found.output.as_slice(), line);
+        assert_eq!(rt; found.notes.len(), 0);
+        assert_eq!(rt; found.left, bytes.len());
     }
     Ok(())
 }
@@ -138,22 +131,37 @@ fn a_large_trial_has_one_line(rt: HostRuntime) -> Result<(), Fail> {
                 "--workers",
                 workers,
             ];
-            let mut output = MemSink::new(vec![in alloc; 0; 99]?, &[], 0);
-            let mut notes = MemSink::new(vec![in alloc; 0; 99]?, &[], 0);
-            assert_eq!(rt;
-                run(
-                    &rt,
-                    alloc,
-                    &words,
-                    &mut PlainSource::new(&[]),
-                    &mut output,
-                    &mut notes,
-                    &OpenGate
-                ),
-                0
-            );
-            assert_eq!(rt; output.bytes(), line);
+            let found = run_in_memory(&rt, alloc, &words, &[], 99, NONE_FAILS)?;
+            assert_eq!(rt; found.status, 0);
+            assert_eq!(rt; found.output.as_slice(), line);
         }
+    }
+    Ok(())
+}
+
+// The line was found by another program. A strip for each row.
+#[test]
+fn a_high_trial_has_one_line(rt: HostRuntime) -> Result<(), Fail> {
+    let alloc = rt.alloc();
+    let line =
+        b"pixels 64000 nodes 35684 roots 1 areas 5858060 fluxes 590550191 sources 11115 mapped 21076\n".as_slice();
+    for (strips, workers) in [("1", "1"), ("1000", "8")] {
+        let words = [
+            "trial",
+            "--seed",
+            "7",
+            "--width",
+            "64",
+            "--height",
+            "1000",
+            "--strips",
+            strips,
+            "--workers",
+            workers,
+        ];
+        let found = run_in_memory(&rt, alloc, &words, &[], 99, NONE_FAILS)?;
+        assert_eq!(rt; found.status, 0);
+        assert_eq!(rt; found.output.as_slice(), line);
     }
     Ok(())
 }
