@@ -12,28 +12,11 @@ use Rattle.source_pick.specs.Passes.{IsAround, reach}
 
 -- ---- columns and rows
 
-pub row_below_row : (width u v row : ℕ) → u < width → v * width + u < row * width → v < row
-row_below_row width u v row inside l = go (cases_lt v row)
-  where
-    go : (v < row) ⊎ (row ≤ v) → v < row
-    go (inl k) = k
-    go (inr k) = let m : row * width ≤ v * width = mul-le-mul_right width k in absurd (omega arith)
-
 pub row_place : (width u v : ℕ) → u < width → ((v * width + u) / width ≡ v) × ((v * width + u) % width ≡ u)
 row_place width u v inside =
     let next : (v + 1) * width ≡ v * width + width = omega arith in
     let place : ((v * width + u) / width ≡ v) × ((v * width + u) % width ≡ v * width + u - v * width) = row-from width v (v * width + u) (omega arith) (omega arith) (omega arith) in
     (place.0, omega (arith, place.1))
-
--- a pixel by its row and column
-pub record IsAt (width q : ℕ) : Type 0 where
-  pub row : ℕ
-  pub column : ℕ
-  pub inside : column < width
-  pub is : row * width + column ≡ q
-
-pub place_at : (width q : ℕ) → 0 < width → IsAt width q
-place_at width q some = record { row = q / width; column = q % width; inside = mod_below q width some; is = div-add-mod' q width }
 
 -- ---- who is around whom
 

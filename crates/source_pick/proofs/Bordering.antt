@@ -85,24 +85,6 @@ candidate_from_border r connect p q b = record {
         (joined_pair b.member q (Nodes.reaches_end r connect (level r q) p b.member to_member)
         (Nodes.at_least-own r q (adjacent_ends r.values r.shape.width connect b.member q b.adjacent).1) (inl b.adjacent))
 
--- the level of a node's parent is the greatest value that borders its component
-pub record IsGreatestBorder (r : Raster) (connect : Connect) (p : ℕ) (v : ℤ) : Type 0 where
-  pub border : ℕ
-  pub is : IsBorder r connect p border
-  pub value : level r border ≡ v
-  pub greatest : (q : ℕ) → IsBorder r connect p q → int_le (level r q) v ≡ true
-
-pub parent_level_is_greatest_border : (r : Raster) (connect : Connect) (k n : ℕ) → IsParent r connect k n → IsGreatestBorder r connect (top_of r connect n) (level r (top_of r connect k))
-parent_level_is_greatest_border r connect k n p = record {
-  border = b.it;
-  is = b.is;
-  value = int_le_antisym (level r b.it) (level r (top_of r connect k)) (p.highest b.it (candidate_from_border r connect (top_of r connect n) b.it b.is)) b.enough;
-  greatest = λ q c. p.highest q (candidate_from_border r connect (top_of r connect n) q c);
-}
-  where
-    b : HasBorder r connect (top_of r connect n) (level r (top_of r connect k))
-    b = border_from_candidate r connect (top_of r connect n) (top_of r connect k) p.candidate
-
 -- ---- in two planes
 
 pub border_there : (r s : Raster) (connect : Connect) (h : ℤ) (p q : ℕ) → Alike r s connect h → IsTrue (is_at_least r h p) → IsBorder r connect p q → IsBorder s connect p q

@@ -135,9 +135,9 @@ step_back p count l d = go (cases_lt p count)
     go (inr k) = absurd (d (omega arith))
 
 -- a count may be written otherwise
-pub near_end : (r : Raster) (connect : Connect) (h : ℤ) (start first count other : ℕ) (marks : List Bool) → AreMarkedNear r connect h start first count marks → other ≡ count
+pub near_at_count : (r : Raster) (connect : Connect) (h : ℤ) (start first count other : ℕ) (marks : List Bool) → AreMarkedNear r connect h start first count marks → other ≡ count
     → AreMarkedNear r connect h start first other marks
-near_end r connect h start first count other marks m e = subst (λ (n : ℕ). AreMarkedNear r connect h start first n marks) (sym e) m
+near_at_count r connect h start first count other marks m e = subst (λ (n : ℕ). AreMarkedNear r connect h start first n marks) (sym e) m
 
 pub near_skip : (r : Raster) (connect : Connect) (h : ℤ) (start first count : ℕ) (marks : List Bool) → is_at_least r h count ≡ false
     → AreMarkedNear r connect h start first count marks → AreMarkedNear r connect h start first (count + 1) marks
