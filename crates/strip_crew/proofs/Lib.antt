@@ -10,3 +10,4 @@ pub mod Crews
 pub mod Copying
 pub mod EvenCuts
 pub mod Flooded
+pub mod Halving

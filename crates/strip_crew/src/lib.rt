@@ -10,6 +10,7 @@ mod claiming;
 mod crew;
 mod cut;
 mod gate;
+mod group;
 pub mod laws;
 mod prepare;
 mod rule;
@@ -19,6 +20,7 @@ pub use claiming::worker;
 pub use crew::flood_all;
 pub use cut::even_cut;
 pub use gate::{Gate, OpenGate};
+pub use group::join_group;
 pub use rule::{Claim, ClaimSeat, ClaimTable, Claims, Dismiss, Give, Key, Recruit};
 pub use view::View;
 
