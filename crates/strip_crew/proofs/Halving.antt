@@ -101,10 +101,10 @@ module _ (plane : Raster) (connect : Connect) (first_row : ℕ) (links rows : Li
     rises = λ i j h l. (let a = (front_at i (omega arith)).1 in let b = (front_at j l).1 in let n = (front_at j l).0 in let c = group.cut.rises i j h (omega arith) in omega arith);
     low = λ i l. (let a = (front_at i l).1 in let n = (front_at i l).0 in let c = group.cut.low i (omega arith) in omega arith);
     inside = λ i l. (
-      let a = (front_at i l).1 in let n = (front_at i l).0 in
-      let c : get_or rows i 0 < row = group.cut.rises i k n near in
-      let m : (get_or rows i 0 + 1) * width ≤ row * width = mul-le-mul_right width (let h : get_or rows i 0 + 1 ≤ row = omega arith in h) in
-      subst (λ (x : ℕ). (x + 1) * width ≤ first + length left) (sym a) (omega (arith, at, m)));
+        let a = (front_at i l).1 in let n = (front_at i l).0 in
+        let c : get_or rows i 0 < row = group.cut.rises i k n near in
+        let m : (get_or rows i 0 + 1) * width ≤ row * width = mul-le-mul_right width (let h : get_or rows i 0 + 1 ≤ row = omega arith in h) in
+        subst (λ (x : ℕ). (x + 1) * width ≤ first + length left) (sym a) (omega (arith, at, m)));
   }
 
   back_rows : AreRows width row (length right) back
@@ -112,9 +112,9 @@ module _ (plane : Raster) (connect : Connect) (first_row : ℕ) (links rows : Li
     rises = λ i j h l. (let a = (back_at i (omega arith)).1 in let b = (back_at j l).1 in let n = (back_at j l).0 in let c = group.cut.rises (k + 1 + i) (k + 1 + j) (omega arith) n in omega arith);
     low = λ i l. (let a = (back_at i l).1 in let n = (back_at i l).0 in let c = group.cut.rises k (k + 1 + i) (omega arith) n in omega arith);
     inside = λ i l. (
-      let a = (back_at i l).1 in let n = (back_at i l).0 in
-      let m : (get_or rows (k + 1 + i) 0 + 1) * width ≤ first + length links = group.cut.inside (k + 1 + i) n in
-      subst (λ (x : ℕ). (x + 1) * width ≤ row * width + length right) (sym a) (omega (arith, at, m, counts)));
+        let a = (back_at i l).1 in let n = (back_at i l).0 in
+        let m : (get_or rows (k + 1 + i) 0 + 1) * width ≤ first + length links = group.cut.inside (k + 1 + i) n in
+        subst (λ (x : ℕ). (x + 1) * width ≤ row * width + length right) (sym a) (omega (arith, at, m, counts)));
   }
 
   pub front_group : IsGroup plane first_row left front

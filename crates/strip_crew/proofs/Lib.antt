@@ -11,3 +11,4 @@ pub mod Copying
 pub mod EvenCuts
 pub mod Flooded
 pub mod Halving
+pub mod Apart

@@ -11,7 +11,7 @@ ghost use Rattle.strip_crew.specs.Counting.{fresh};
 ghost use Rattle.strip_crew.specs.Claims.{view, run_of, IsOver, IsRecruit, IsVeteran, HasPast, HasSettled, AreFlooded};
 
 use crate::claiming::worker;
-use crate::cut::join_strips;
+use crate::cut::join_cut;
 use crate::gate::Gate;
 use crate::prepare::prepare_all;
 use crate::rule::{ClaimSeat, ClaimTable, Dismiss, Key, Recruit};
@@ -199,6 +199,6 @@ pub fn flood_all<R: Threads + Sync, G: Gate>(
         unreachable!()
     };
     let mut links = copy_links(close_crew(table, last), links, plane, connect, cut);
-    join_strips(&mut links, plane, connect, cut);
+    join_cut(rt, &mut links, plane, connect, cut);
     Ok(Forest::of(links))
 }
