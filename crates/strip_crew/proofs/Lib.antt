@@ -12,3 +12,4 @@ pub mod EvenCuts
 pub mod Flooded
 pub mod Halving
 pub mod Apart
+pub mod Pixels

@@ -2,8 +2,8 @@
 //!
 //! The rows of a plane are cut into strips. Each worker claims a strip at a table of claims, floods it (Salembier,
 //! Oliveras and Garrido 1998), gives it back, and goes on until no strip is left. Then the trees of neighbouring
-//! strips are joined at their boundaries (Wilkinson et al. 2008). No worker waits for another, so which worker floods
-//! which strip depends on the schedule, but what the links stand for does not.
+//! strips are joined at their boundaries (Wilkinson et al. 2008), groups of strips at once. No worker waits for
+//! another, so which worker floods which strip depends on the schedule, but what the links stand for does not.
 #![tactic(auto)]
 
 mod claiming;
