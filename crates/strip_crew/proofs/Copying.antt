@@ -104,7 +104,7 @@ module _ (plan : Plan) (is_plan : IsPlan plan) where
       true_is_not e = Rattle.std.proofs.Common.true≢false (sym e)
 
   -- strip i begins at or below the first row of a later one
-  row_under : (s i : ℕ) → s < i → i < length cut → get_or cut (s + 1) 0 ≤ get_or cut i 0
+  pub row_under : (s i : ℕ) → s < i → i < length cut → get_or cut (s + 1) 0 ≤ get_or cut i 0
   row_under s i h l = let d : ℕ = i - (s + 1) in let e : s + 1 + d ≡ i = omega arith in let r = rises_to plan.plane.shape.height cut is_plan.cut (s + 1) d (omega arith) in
       let f : get_or cut (s + 1 + d) 0 ≡ get_or cut i 0 = ap (λ (x : ℕ). get_or cut x 0) e in omega arith
 

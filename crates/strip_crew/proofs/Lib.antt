@@ -10,3 +10,6 @@ pub mod Crews
 pub mod Copying
 pub mod EvenCuts
 pub mod Flooded
+pub mod Halving
+pub mod Apart
+pub mod Pixels

@@ -2,10 +2,9 @@
 use Rattle.std.specs.Prelude.{◌≡◌, ℕ, ◌*◌, ◌/◌, ◌<◌, List, Option, ℤ, length, IsTrue}
 use Rattle.comp_tree.specs.declared.shape.Connect.{Connect}
 use Rattle.comp_tree.specs.Raster.{IsPlane}
-use Rattle.comp_tree.specs.Joined.{Or}
-use Rattle.comp_tree.specs.Forest.{IsLink, IsForest, StandsFor, JoinSame}
+use Rattle.comp_tree.specs.Forest.{IsForest, StandsFor}
 use Rattle.comp_tree.specs.Grid.{are_adjacent}
-use Rattle.tree_join.specs.Cuts.{IsCut, IsCutBoundary, IsRowOf}
+use Rattle.tree_join.specs.Cuts.{IsCut, IsRowOf}
 use Rattle.strip_crew.specs.Run.{Plan, row_at}
 
 -- an adjacency of two pixels of one strip, which is one of those below k
@@ -26,9 +25,3 @@ pub record AreCopied (plan : Plan) (k : ℕ) (links : List ℕ) : Type 0 where
 pub record IsPlan (plan : Plan) : Type 0 where
   pub plane : IsPlane plan.plane
   pub cut : IsCut plan.plane.shape.height plan.cut
-
--- the links join what the old ones joined, and the boundaries between the strips
-abbrev pub AreJoined : Plan → List ℕ → List ℕ → Type 0
-AreJoined plan old links =
-    JoinSame plan.plane.values 0 (length old) (IsLink 0 links)
-    (Or (IsLink 0 old) (IsCutBoundary plan.plane.values plan.plane.shape.width plan.connect plan.cut (length plan.cut)))

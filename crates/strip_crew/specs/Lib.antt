@@ -3,3 +3,4 @@ pub mod Counting
 pub mod Core
 pub mod Claims
 pub mod Copied
+pub mod Boundaries

@@ -11,7 +11,7 @@ ghost use Rattle.strip_crew.specs.Counting.{fresh};
 ghost use Rattle.strip_crew.specs.Claims.{view, run_of, IsOver, IsRecruit, IsVeteran, HasPast, HasSettled, AreFlooded};
 
 use crate::claiming::worker;
-use crate::cut::join_strips;
+use crate::cut::join_cut;
 use crate::gate::Gate;
 use crate::prepare::prepare_all;
 use crate::rule::{ClaimSeat, ClaimTable, Dismiss, Key, Recruit};
@@ -159,7 +159,8 @@ fn copy_links(
 /// `cut` has the first row of each strip: it begins with 0 and rises, up to a row of the plane (`even_cut` gives such
 /// a one). There are from 1 to 64 workers, each in a thread of its own where one can be made; else they run one after
 /// another. All memory is taken before the first of them starts: the jobs of the strips (prepared in parallel), the
-/// table of claims, a place for each worker's seat, and the links.
+/// table of claims, a place for each worker's seat, and the links. Once all strips are flooded, `join_group` joins them
+/// with 6 forks, so up to 64 groups of strips at once, whatever the number of workers.
 pub fn flood_all<R: Threads + Sync, G: Gate>(
     rt: &R,
     alloc: Global,
@@ -199,6 +200,6 @@ pub fn flood_all<R: Threads + Sync, G: Gate>(
         unreachable!()
     };
     let mut links = copy_links(close_crew(table, last), links, plane, connect, cut);
-    join_strips(&mut links, plane, connect, cut);
+    join_cut(rt, &mut links, plane, connect, cut);
     Ok(Forest::of(links))
 }

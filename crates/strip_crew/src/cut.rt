@@ -1,17 +1,18 @@
 //! Cuts of a plane into strips, and the joining of strips at their boundaries.
 
 ghost use Rattle.std.specs.Prelude.{◌≡◌, ℕ, ◌<◌, ◌≤◌, min, IfOk, length};
-ghost use Rattle.comp_tree.specs.Forest.{IsForest};
+ghost use Rattle.comp_tree.specs.Forest.{IsForest, StandsFor};
+ghost use Rattle.comp_tree.specs.Grid.{IsAdjacency};
 ghost use Rattle.tree_join.specs.Cuts.{IsCut};
 ghost use Rattle.strip_crew.specs.Run.{plan_of, even_rows};
-ghost use Rattle.strip_crew.specs.Copied.{AreJoined};
+ghost use Rattle.strip_crew.specs.Copied.{AreCopied};
 
+use crate::gate::OpenGate;
+use crate::group::join_group;
 use comp_tree::{Connect, Plane};
-use dev_io::{OutOfMemory, Steps};
+use dev_io::OutOfMemory;
 use std::alloc::Global;
-use std::marker::Brand;
-use std::sync::ledger::{Blank, Ledger};
-use tree_join::join_row;
+use std::thread::Threads;
 
 /// Cuts rows into strips of nearly one height, and gives the first row of each: the row `i * height / k`, rounded
 /// down, for each i below k, where k is the number of strips, but no more than there are rows. Both are from 1 to
@@ -32,35 +33,24 @@ pub fn even_cut(alloc: Global, height: u32, strips: u32) -> Result<Vec<u32>, Out
     Ok(cut)
 }
 
-// Joins the links at the boundary above each strip but the first, and counts in a new counter.
-fn join_strips_by<L: Ledger>(
-    moves: Blank,
+// How often the strips are divided into halves that are joined at once: there are up to 64 such groups.
+const FORKS: u32 = 6;
+
+// Joins all strips of a cut, whose links lie one after the other.
+pub fn join_cut<R: Threads + Sync>(
+    rt: &R,
     links: &mut [u32],
     plane: &Plane,
     connect: Connect,
     cut: &[u32],
 )
-    requires moves { (moves.name ≡ L.name) × (moves.parts ≡ L.parts) × (0 < moves.parts) }
     requires cut { IsCut plane.now.shape.height cut.now }
-    requires count { length links.old ≡ length plane.now.values }
-    requires forest { IsForest plane.now.values 0 links.old }
+    requires copied { AreCopied (plan_of plane.now connect cut.now) (length cut.now) links.old }
+    ensures count { length links.new ≡ length plane.now.values }
     ensures forest { IsForest plane.now.values 0 links.new }
-    ensures joined { AreJoined (plan_of plane.now connect cut.now) links.old links.new }
+    ensures stands { StandsFor plane.now.values 0 links.new
+        (IsAdjacency plane.now.values plane.now.shape.width connect) }
 {
-    let mut moves = Steps::<L>::start(moves);
     let _shape = plane.shape();
-    for i in 1..cut.len() {
-        join_row(links, plane, connect, 0, cut[i], &mut moves);
-    }
-}
-
-// Joins the links at the boundary above each strip but the first.
-pub fn join_strips(links: &mut [u32], plane: &Plane, connect: Connect, cut: &[u32])
-    requires cut { IsCut plane.now.shape.height cut.now }
-    requires count { length links.old ≡ length plane.now.values }
-    requires forest { IsForest plane.now.values 0 links.old }
-    ensures forest { IsForest plane.now.values 0 links.new }
-    ensures joined { AreJoined (plan_of plane.now connect cut.now) links.old links.new }
-{
-    join_strips_by::<Brand>(Blank::new(1), links, plane, connect, cut);
+    join_group(rt, links, plane, connect, 0, &cut[1..], FORKS, &OpenGate);
 }

@@ -1,10 +1,13 @@
-//! A small plane, cut in several ways, and two workers at once.
+//! A small plane, cut in several ways, two workers at once, and two halves joined at once.
 
-use crate::{Gate, OpenGate, even_cut, flood_all};
-use comp_tree::{Connect, NONE, Plane, Shape};
+ghost use Rattle.std.specs.Prelude.{◌≡◌, ◌+◌, length, replicate};
+ghost use Rattle.std.specs.List.{range_with_len};
+
+use crate::{Gate, OpenGate, even_cut, flood_all, join_group};
+use comp_tree::{Connect, NONE, Plane, Shape, is_forest};
 use std::alloc::Global;
 use std::process::Abort;
-use std::sync::atomic::AtomicBool;
+use std::sync::atomic::{AtomicBool, AtomicU64};
 use std::sync::atomic::Ordering::SeqCst;
 use std::test::Fail;
 use std::thread::Threads;
@@ -79,13 +82,32 @@ fn every_cut_stands_for_one_tree(rt: HostRuntime) -> Result<(), Fail> {
     Ok(())
 }
 
-// Two strips that wait for each other, but not forever.
+// Two numbers that wait for each other at the gate, but not forever.
 #[derive(Drop)]
 struct Meeting {
+    one: u32,
+    other: u32,
     first: AtomicBool,
     second: AtomicBool,
     first_saw: AtomicBool,
     second_saw: AtomicBool,
+}
+
+impl Meeting {
+    fn of(one: u32, other: u32) -> Meeting {
+        Meeting {
+            one,
+            other,
+            first: AtomicBool::new(false),
+            second: AtomicBool::new(false),
+            first_saw: AtomicBool::new(false),
+            second_saw: AtomicBool::new(false),
+        }
+    }
+
+    fn met(&self) -> bool {
+        self.first_saw.load(SeqCst) && self.second_saw.load(SeqCst)
+    }
 }
 
 fn meet(mine: &AtomicBool, other: &AtomicBool, saw: &AtomicBool) {
@@ -99,10 +121,10 @@ fn meet(mine: &AtomicBool, other: &AtomicBool, saw: &AtomicBool) {
 }
 
 impl Gate for Meeting {
-    fn enter(&self, strip: u32) {
-        if strip == 0 {
+    fn enter(&self, number: u32) {
+        if number == self.one {
             meet(&self.first, &self.second, &self.first_saw);
-        } else {
+        } else if number == self.other {
             meet(&self.second, &self.first, &self.second_saw);
         }
     }
@@ -112,14 +134,84 @@ impl Gate for Meeting {
 fn two_workers_are_in_two_strips_at_once(rt: HostRuntime) -> Result<(), Fail> {
     let shape = Shape::of(2, 2).ok_or("a shape")?;
     let plane = Plane::blank(rt.alloc(), shape)?;
-    let gate = Meeting {
-        first: AtomicBool::new(false),
-        second: AtomicBool::new(false),
-        first_saw: AtomicBool::new(false),
-        second_saw: AtomicBool::new(false),
-    };
+    let gate = Meeting::of(0, 1);
     let cut = even_cut(rt.alloc(), plane.shape().height, 2)?;
     flood_all(&rt, rt.alloc(), &plane, Connect::Four, &cut, 2, &gate)?;
-    assert!(rt; gate.first_saw.load(SeqCst) && gate.second_saw.load(SeqCst));
+    assert!(rt; gate.met());
+    Ok(())
+}
+
+// A plane of one column, whose values rise from row to row.
+fn column(alloc: Global, rows: u32) -> Result<Plane, Fail> {
+    let shape = Shape::of(1, rows).ok_or("a shape")?;
+    let mut plane = Plane::blank(alloc, shape)?;
+    for pixel in 0..rows {
+        if pixel < plane.shape().pixels() {
+            plane.set(pixel, Some(pixel as i64));
+        }
+    }
+    Ok(plane)
+}
+
+// Joins strips of one pixel each, which have no links yet.
+fn join_pixels<R: Threads + Sync + Abort, J: Gate>(
+    rt: &R,
+    plane: &Plane,
+    rows: &[u32],
+    links: &mut [u32],
+    forks: u32,
+    joins: &J,
+)
+    requires rows { rows.now ≡ range_with_len 1 (length rows.now) }
+    requires links { links.old ≡ replicate (length rows.now + 1) 4294967295 }
+{
+    let shape = plane.shape();
+    assert!(rt; shape.width == 1);
+    assert!(rt; shape.height as usize == links.len());
+    assert!(rt; is_forest(plane, 0, links));
+    join_group(rt, links, plane, Connect::Four, 0, rows, forks, joins);
+}
+
+#[test]
+fn two_halves_are_joined_at_once(rt: HostRuntime) -> Result<(), Fail> {
+    let plane = column(rt.alloc(), 4)?;
+    let gate = Meeting::of(1, 3);
+    let mut links = [NONE; 4];
+    join_pixels(&rt, &plane, &[1, 2, 3], &mut links, 1, &gate);
+    assert_eq!(rt; links, [NONE, 0, 1, 2]);
+    assert!(rt; gate.met());
+    Ok(())
+}
+
+// Counts the rows that are at the gate at one time, and notes when there are more than two.
+#[derive(Drop)]
+struct Crowd {
+    inside: AtomicU64,
+    more_than_two: AtomicBool,
+}
+
+impl Gate for Crowd {
+    fn enter(&self, _row: u32) {
+        if self.inside.fetch_add(1, SeqCst) >= 2 {
+            self.more_than_two.store(true, SeqCst);
+        }
+        for _ in 0..TURNS / 100 {
+            self.inside.load(SeqCst);
+        }
+        self.inside.fetch_sub(1, SeqCst);
+    }
+}
+
+#[test]
+fn one_fork_makes_two_groups(rt: HostRuntime) -> Result<(), Fail> {
+    let plane = column(rt.alloc(), 8)?;
+    let gate = Crowd {
+        inside: AtomicU64::new(0),
+        more_than_two: AtomicBool::new(false),
+    };
+    let mut links = [NONE; 8];
+    join_pixels(&rt, &plane, &[1, 2, 3, 4, 5, 6, 7], &mut links, 1, &gate);
+    assert_eq!(rt; links, [NONE, 0, 1, 2, 3, 4, 5, 6]);
+    assert!(rt; !gate.more_than_two.load(SeqCst));
     Ok(())
 }

@@ -6,7 +6,7 @@ use Rattle.strip_crew.specs.Run.{Plan, Run, IsSized, plan_of, run_with}
 use Rattle.strip_crew.specs.Claims.{run_of, AreReady, AreFlooded}
 use Rattle.strip_crew.specs.Copied.{AreCopied}
 use Rattle.strip_crew.proofs.Keeping.{starts}
-use Rattle.strip_crew.proofs.Copying.{plan_is, copied_all, all_stand}
+use Rattle.strip_crew.proofs.Copying.{plan_is}
 use Rattle.strip_crew.proofs.Crews.{cut_fits, pasted}
 use Rattle.strip_crew.proofs.crew.flood_all.Goals as goal
 
@@ -34,15 +34,16 @@ close_crew-requires g c =
     let last = c.in-Some.ensures in
     record { last = (last.0, last.1, last.2, last.3, last.4 ∙ (c.recruit-places.ensures.count ∙ sym (ap (λ k. k.workers) c.in-Ok.ensures.ok.5))) }
 
+pub join_cut-requires-clause-copied : goal.join_cut-requires-clause-copied
+join_cut-requires-clause-copied g c κs within = subst (AreCopied (plan_of c.args.plane.now c.args.connect c.args.cut.now) (length c.args.cut.now)) (sym c.deref_mut-2.ensures.value) c.copy_links-links.ensures
+
 pub returns-clause-count : goal.returns-clause-count
 returns-clause-count g c =
-    let plane = c.args.plane.now in let cut = c.args.cut.now in let plan = plan_of plane c.args.connect cut in let is = plan_is plane c.args.connect cut c.shape-shape.result c.shape-shape.ensures.same c.shape-shape.ensures.pixels c.requires.cut in
-    let old = c.copy_links-links.result in let are = c.deref_mut-2.ensures.value in let new = c.join_strips.new.links in let same : length new ≡ length c.deref_mut-2.result.now = c.join_strips.auto.links in
-    ap (λ (l : List ℕ). length l) (c.of-2.ensures ∙ pasted old.items new old.len old.ok.0 (same ∙ ap (λ (l : List ℕ). length l) are)) ∙ (same ∙ (ap (λ (l : List ℕ). length l) are ∙ copied_all plan is old.items c.copy_links-links.ensures))
+    let plane = c.args.plane.now in let old = c.copy_links-links.result in let are = c.deref_mut-2.ensures.value in let new = c.join_cut.new.links in let same : length new ≡ length c.deref_mut-2.result.now = c.join_cut.auto.links in
+    ap (λ (l : List ℕ). length l) (c.of-2.ensures ∙ pasted old.items new old.len old.ok.0 (same ∙ ap (λ (l : List ℕ). length l) are)) ∙ c.join_cut.ensures.count
 
 pub returns-clause-stands : goal.returns-clause-stands
 returns-clause-stands g c =
-    let plane = c.args.plane.now in let cut = c.args.cut.now in let plan = plan_of plane c.args.connect cut in let is = plan_is plane c.args.connect cut c.shape-shape.result c.shape-shape.ensures.same c.shape-shape.ensures.pixels c.requires.cut in
-    let old = c.copy_links-links.result in let lent = c.deref_mut-2.result.now in let are = c.deref_mut-2.ensures.value in let new = c.join_strips.new.links in let same : length new ≡ length lent = c.join_strips.auto.links in
+    let plane = c.args.plane.now in let old = c.copy_links-links.result in let are = c.deref_mut-2.ensures.value in let new = c.join_cut.new.links in let same : length new ≡ length c.deref_mut-2.result.now = c.join_cut.auto.links in
     subst (λ (l : List ℕ). StandsFor plane.values 0 l (IsAdjacency plane.values plane.shape.width c.args.connect)) (sym (c.of-2.ensures ∙ pasted old.items new old.len old.ok.0 (same ∙ ap (λ (l : List ℕ). length l) are)))
-    (all_stand plan is lent new (subst (AreCopied plan (length cut)) (sym are) c.copy_links-links.ensures) c.join_strips.ensures.forest same c.join_strips.ensures.joined)
+    c.join_cut.ensures.stands
