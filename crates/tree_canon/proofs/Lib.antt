@@ -4,6 +4,7 @@ mod Numbering
 mod Parents
 mod Placing
 mod Rising
+mod SettingParents
 mod Sorting
 mod Tallies
 mod Trees

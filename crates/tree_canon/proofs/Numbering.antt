@@ -1,9 +1,9 @@
 -- How the pixels get their numbers: those of the rows first, then all others along the links.
 use Rattle.std.proofs.Common.{◌≡◌, ◌≢◌, ℕ, suc, ◌+◌, ◌-◌, ◌^◌, ◌<◌, ◌≤◌, Bool, true, false, cond, List, [], ◌∷◌, length, map, get_or, set, replicate, refl, sym, ap, subst, ◌∙◌, inl, inr, arith, Some, slice_get, length-set, get_or-set_same, get_or-set_other}
-use Rattle.std.specs.Prelude.{IsTrue, All, filter}
+use Rattle.std.specs.Prelude.{IsTrue, All, filter, slice_index}
 use Rattle.std.proofs.lemmas.Bool.{true≢false, cases_eq}
 use Rattle.std.proofs.lemmas.Bool.Decides.{leb_tells}
-use Rattle.std.proofs.lemmas.List.{get_or_past, length-map, length-replicate, get_or-replicate}
+use Rattle.std.proofs.lemmas.List.{get_or_past, get_or_default, get_or-map, length-map, length-replicate, get_or-replicate}
 use Rattle.std.proofs.lemmas.Option.{slice_get_within, same_Some, slice_get-get_or}
 use Rattle.comp_tree.specs.declared.tree.NodeRow.{NodeRow}
 use Rattle.comp_tree.specs.Raster.{Raster, value_at, level, pixels}
@@ -11,14 +11,17 @@ use Rattle.comp_tree.specs.Forest.{no_node, link_of, IsForest}
 use Rattle.comp_tree.proofs.Canonical.{value-level}
 use Rattle.comp_tree.proofs.Representatives.{before_level}
 use Rattle.comp_tree.proofs.Reaching.{below_from_defined, among_from_defined}
-use Rattle.comp_tree.proofs.Members.{IsAmong, among-filter}
+use Rattle.comp_tree.proofs.Members.{IsAmong, among-filter, among_from_filter}
 use Rattle.comp_tree.proofs.Finding.{length-in_order, length-pixels}
 use Rattle.comp_tree.proofs.Ordering.{ordered-same_place, among_at, among_in_order-from}
 use Rattle.comp_tree.proofs.OneTree.{IsImage, get_is, get-map, get_from_map}
 use Rattle.tree_canon.specs.Canonical.{is_canonical, canonical_pixels, loose_row, number_at, IsNumbering}
 use Rattle.tree_canon.specs.Numbers.{HaveOwnPixels, HasRowNumbers, LeadBack, HasLinkNumbers}
 use Rattle.tree_canon.proofs.Finding.{IsPixelLink, pixel_link, link_high}
-use Rattle.tree_canon.proofs.Sorting.{canonical-ordered, canonical-is, canonical-defined}
+use Rattle.tree_canon.specs.Places.{ArePixelsFrom, IsRowAt, AreNumberedBy}
+use Rattle.tree_canon.proofs.Parents.{blank}
+use Rattle.tree_canon.proofs.Rising.{defined_at}
+use Rattle.tree_canon.proofs.Sorting.{canonical-ordered, canonical-is, canonical-defined, canonical-found, canonical-pixels}
 
 -- ---- the pixels of the first k rows
 
@@ -225,3 +228,34 @@ module _ (r : Raster) (links : List ℕ) (whole : length links ≡ length r.valu
       others = λ p low. linked.followed p (numbered.others p (λ n row got (e : row.rep ≡ p).
           true≢false (sym (subst (λ x. IsTrue (is_canonical r links x)) e (row_of n row got).canonical) ∙ low)) ∙ bare_at p);
     }
+
+-- the rows of the canonical pixels have the numbers that a numbering gives these
+pub rows_by_pixels : (r : Raster) (links ps numbers : List ℕ) (rows : List NodeRow) → ps ≡ filter (is_canonical r links) (pixels r) → rows ≡ map (loose_row r) (canonical_pixels r links)
+    → IsNumbering r links numbers → AreNumberedBy rows ps numbers
+rows_by_pixels r links ps numbers rows found is numbering = record { rows_at = rows_at; all = all }
+  where
+    rows_at : (k : ℕ) → k < length ps → IsRowAt rows (number_at numbers (slice_index ps k)) (slice_index ps k)
+    rows_at k lt =
+        let member : IsAmong (slice_index ps k) (filter (is_canonical r links) (pixels r)) = subst (IsAmong (slice_index ps k)) found (among_at ps k lt) in
+        let n = place_of r links (slice_index ps k) (among_from_filter (is_canonical r links) (slice_index ps k) (pixels r) member).1 in
+        let place = get_is (canonical_pixels r links) n.0 (slice_index ps k) n.1 in
+        subst (λ j. IsRowAt rows j (slice_index ps k)) (sym (numbering.canonical n.0 (slice_index ps k) n.1))
+        (record {
+          inside = omega (arith, place.0, ap length is, length-map (canonical_pixels r links) (loose_row r));
+          pixel = ap (λ (xs : List NodeRow). (get_or xs n.0 blank).rep) is ∙ ap (λ (x : NodeRow). x.rep) (get_or-map (loose_row r) (canonical_pixels r links) n.0 0 blank place.0) ∙ place.1;
+        })
+
+    all : (n : ℕ) (row : NodeRow) → slice_get rows n ≡ Some row → (k : ℕ) × ((k < length ps) × (number_at numbers (slice_index ps k) ≡ n))
+    all n row got =
+        let image : IsImage (loose_row r) (canonical_pixels r links) n row = get_from_map (loose_row r) (canonical_pixels r links) n row (subst (λ (xs : List NodeRow). slice_get xs n ≡ Some row) is got) in
+        let here = get_is (canonical_pixels r links) n image.it image.at in
+        let member = canonical-found r links image.it (subst (λ x. IsAmong x (canonical_pixels r links)) here.1 (among_at (canonical_pixels r links) n here.0)) in
+        let k = placed image.it ps (subst (IsAmong image.it) (sym found) member) in
+        let there = get_is ps k.0 image.it k.1 in
+        (k.0, (there.0, ap (number_at numbers) there.1 ∙ numbering.canonical n image.it image.at))
+
+pub pixels_within : (r : Raster) (links ps : List ℕ) → length links ≡ length r.values → ps ≡ filter (is_canonical r links) (pixels r) → All (λ p. p < length links) ps
+pixels_within r links ps whole found k d lt =
+    let at : get_or ps k d ≡ get_or ps k 0 = get_or_default ps k d 0 lt in
+    let defined = defined_at r 0 ps (subst (ArePixelsFrom r 0) (sym found) (canonical-pixels r links)) k lt in
+    omega (arith, at, below_from_defined r (get_or ps k 0) defined, whole)

@@ -21,7 +21,7 @@ ghost use Rattle.tree_canon.specs.Canonical.{StandsForAll};
 use comp_tree::{Forest, Plane, Tree};
 use dev_io::OutOfMemory;
 use nodes::number_nodes;
-use rows::set_parents;
+use rows::{find_canonical, set_parents};
 use std::alloc::Global;
 
 /// The component tree of a plane, from a forest that stands for all its adjacencies under connectivity 4 or 8. The call isn't
@@ -36,8 +36,9 @@ pub fn canon(alloc: Global, plane: &Plane, forest: &Forest) -> Result<Tree, OutO
 {
     let shape = plane.shape();
     let links = forest.parents();
-    let mut made = number_nodes(alloc, plane, links)?;
-    set_parents(links, &made.numbers, &mut made.rows);
+    let pixels = find_canonical(alloc, plane, links)?;
+    let mut made = number_nodes(alloc, plane, links, &pixels)?;
+    set_parents(links, &made.numbers, &pixels, &mut made.rows);
     Ok(Tree::of(shape, made.rows, made.numbers))
 }
 

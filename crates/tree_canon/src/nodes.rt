@@ -7,7 +7,7 @@ ghost use Rattle.tree_canon.specs.Canonical.{is_canonical as is_canonical_in, ca
 
 use crate::counting::{Span, number_by_counting};
 use crate::numbers::number_pixels;
-use crate::rows::{find_canonical, sorted_rows};
+use crate::rows::sorted_rows;
 use comp_tree::{NodeRow, Plane};
 use dev_io::OutOfMemory;
 use std::alloc::Global;
@@ -38,23 +38,24 @@ fn number_by_order(
     Ok(Numbered { rows, numbers })
 }
 
-/// The rows without the parents and the numbers: by counting where the levels of the nodes lie close together, and else by
-/// sorting.
+/// The rows without the parents and the numbers, from the canonical pixels: by counting where their levels lie close together, and
+/// else by sorting.
 pub(crate) fn number_nodes(
     alloc: Global,
     plane: &Plane,
     links: &[u32],
+    pixels: &[u32],
 ) -> Result<Numbered, OutOfMemory>
     requires one_each { length links.now ≡ length plane.now.values }
     requires forest { IsForest plane.now.values 0 links.now }
     requires few { length links.now ≤ 2 ^ 24 }
+    requires canonical { pixels.now ≡ filter (is_canonical_in plane.now links.now) (all_pixels plane.now) }
     ensures rows { IfOk result (λ made. made.rows.items ≡ map (loose_row plane.now) (canonical_pixels plane.now links.now)) }
     ensures numbers { IfOk result (λ made. IsNumbering plane.now links.now made.numbers.items) }
 {
-    let pixels = find_canonical(alloc, plane, links)?;
-    let span = Span::of(plane, &pixels);
+    let span = Span::of(plane, pixels);
     if span.is_narrow(pixels.len()) {
-        return number_by_counting(alloc, plane, links, &pixels, span);
+        return number_by_counting(alloc, plane, links, pixels, span);
     }
-    number_by_order(alloc, plane, links, &pixels)
+    number_by_order(alloc, plane, links, pixels)
 }

@@ -6,7 +6,7 @@ ghost use Rattle.comp_tree.specs.Raster.{pixels as all_pixels};
 ghost use Rattle.comp_tree.specs.Components.{in_order};
 ghost use Rattle.comp_tree.specs.Forest.{IsForest};
 ghost use Rattle.tree_canon.specs.Canonical.{is_canonical as is_canonical_in, loose_row, with_parent};
-ghost use Rattle.tree_canon.specs.Places.{ArePixelsFrom};
+ghost use Rattle.tree_canon.specs.Places.{ArePixelsFrom, AreNumberedBy};
 
 use crate::numbers::number_at;
 use comp_tree::{NONE, NodeRow, Plane};
@@ -86,12 +86,16 @@ pub(crate) fn sorted_rows(
     Ok(rows)
 }
 
-/// Gives each row its parent: the node of its pixel's link, and `NONE` where that is `NONE`.
-pub(crate) fn set_parents(links: &[u32], numbers: &[u32], rows: &mut [NodeRow])
-    requires { All (λ row. row.rep < length links.now) rows.old }
+/// Gives each row its parent: the node of its pixel's link, and `NONE` where that is `NONE`. It goes by the pixels, in their order,
+/// since their links and numbers then lie close together in memory.
+pub(crate) fn set_parents(links: &[u32], numbers: &[u32], pixels: &[u32], rows: &mut [NodeRow])
+    requires within { All (λ p. p < length links.now) pixels.now }
+    requires one_each { length numbers.now ≡ length links.now }
+    requires rows { AreNumberedBy rows.old pixels.now numbers.now }
     ensures { rows.new ≡ map (with_parent links.now numbers.now) rows.old }
 {
-    for row in rows.iter_mut() {
-        row.parent = number_at(numbers, links[row.rep as usize]);
+    for p in pixels {
+        let parent = number_at(numbers, links[*p as usize]);
+        rows[numbers[*p as usize] as usize].parent = parent;
     }
 }

@@ -1,5 +1,5 @@
-use Rattle.tree_canon.proofs.Parents.{IsSetTo}
+use Rattle.tree_canon.proofs.SettingParents.{IsSetBy}
 use Rattle.tree_canon.proofs.rows.set_parents.Given as goal
 
-abbrev pub invariant-loop-row : goal.invariant-loop-row
-invariant-loop-row l = IsSetTo l.links l.numbers l.fn.rows l.rows l.row-index
+abbrev pub invariant-loop-p : goal.invariant-loop-p
+invariant-loop-p l = IsSetBy l.links l.numbers l.pixels l.fn.rows l.rows l.p-index
