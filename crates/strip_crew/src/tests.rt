@@ -7,8 +7,8 @@ use crate::{Gate, OpenGate, even_cut, flood_all, join_group};
 use comp_tree::{Connect, NONE, Plane, Shape, is_forest};
 use std::alloc::Global;
 use std::process::Abort;
-use std::sync::atomic::{AtomicBool, AtomicU64};
 use std::sync::atomic::Ordering::SeqCst;
+use std::sync::atomic::{AtomicBool, AtomicU64};
 use std::test::Fail;
 use std::thread::Threads;
 
