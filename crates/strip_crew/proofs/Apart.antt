@@ -1,11 +1,10 @@
 -- The strips of a cut before they are joined: no link leads from one to another.
-use Rattle.std.proofs.Common.{◌≡◌, ◌≢◌, ℕ, ◌+◌, ◌-◌, ◌*◌, ◌/◌, ◌<◌, ◌≤◌, ◌⊎◌, List, length, get_or, drop, Option, Some, None, ℤ, true≢false, refl, sym, ap, ◌∙◌, subst, inl, inr, ⊎_elim, arith, zero-mul}
+use Rattle.std.proofs.Common.{◌≡◌, ◌≢◌, ℕ, ◌+◌, ◌-◌, ◌*◌, ◌/◌, ◌<◌, ◌≤◌, List, length, get_or, drop, Option, Some, None, ℤ, true≢false, sym, ap, ◌∙◌, subst, inl, inr, ⊎_elim, arith, zero-mul}
 use Rattle.std.proofs.Math.Nat.{div-lt_iff_lt-mul}
 use Rattle.std.proofs.lemmas.Bool.{cases_eq, cases_lt}
 use Rattle.std.proofs.lemmas.Grind.{get_or_after_one}
 use Rattle.std.proofs.lemmas.Int.{ints}
 use Rattle.std.proofs.lemmas.List.{length-drop}
-use Rattle.comp_tree.specs.declared.shape.Connect.{Connect}
 use Rattle.comp_tree.specs.Raster.{IsAtLeast, IsBefore, value_at}
 use Rattle.comp_tree.specs.Joined.{IsPairOf, Joined, Or}
 use Rattle.comp_tree.specs.Forest.{no_node, link_of, IsWithin, IsHigh, IsLink, IsEarlier, IsForest, StandsFor, JoinSame}

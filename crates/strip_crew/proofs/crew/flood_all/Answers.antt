@@ -6,7 +6,6 @@ use Rattle.strip_crew.specs.Run.{Plan, Run, IsSized, plan_of, run_with}
 use Rattle.strip_crew.specs.Claims.{run_of, AreReady, AreFlooded}
 use Rattle.strip_crew.specs.Copied.{AreCopied}
 use Rattle.strip_crew.proofs.Keeping.{starts}
-use Rattle.strip_crew.proofs.Copying.{plan_is}
 use Rattle.strip_crew.proofs.Crews.{cut_fits, pasted}
 use Rattle.strip_crew.proofs.crew.flood_all.Goals as goal
 

@@ -1,4 +1,4 @@
-use Rattle.std.proofs.Common.{ℕ, ◌*◌, List, length, drop, sym, subst}
+use Rattle.std.proofs.Common.{ℕ, ◌*◌, List, length, sym, subst}
 use Rattle.std.proofs.lemmas.List.{take_rest}
 use Rattle.comp_tree.specs.Joined.{Or}
 use Rattle.comp_tree.specs.Forest.{IsLink, JoinSame}

@@ -1,4 +1,4 @@
-use Rattle.std.proofs.Common.{◌≡◌, ℕ, ◌+◌, ◌-◌, ◌*◌, ◌/◌, ◌<◌, ◌++◌, List, length, get_or, take, drop, ap, sym, ◌∙◌, subst, arith, rules}
+use Rattle.std.proofs.Common.{◌≡◌, ℕ, ◌+◌, ◌*◌, ◌/◌, ◌<◌, List, length, get_or, sym, subst, rules}
 use Rattle.std.proofs.lemmas.List.{take_rest}
 use Rattle.strip_crew.specs.Boundaries.{IsGroup, IsGroupJoined}
 use Rattle.strip_crew.proofs.Halving.{group_none, front_group, back_group, halves_forest, all_joined}
