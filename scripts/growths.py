@@ -1,0 +1,91 @@
+"""Refuses each growth of memory in turn, in small runs of the built program.
+
+usage: python3 scripts/growths.py MAXDETECT      (MAXDETECT is the built program)
+
+Each such run has status 5, has written nothing and says `out of memory`, or has status 0 and the whole output: a growth may be one that the run
+can do without. A run of three rows asks for memory more often in two strips than in one, and more often in three than in two, since each strip is
+prepared by itself. It wants gcc, and takes some seconds. Exit status 1 where a run does otherwise.
+"""
+import os
+import pathlib
+import shutil
+import subprocess
+import sys
+import tempfile
+
+TOP = pathlib.Path(__file__).resolve().parent.parent
+# More than any of these runs asks for.
+MANY = 1000
+
+
+def image(width, height, pixels):
+    """A primary image of unsigned bytes."""
+    cards = [("SIMPLE", "T"), ("BITPIX", 8), ("NAXIS", 2), ("NAXIS1", width), ("NAXIS2", height)]
+    header = "".join(f"{keyword:<8}= {value:>20}".ljust(80) for keyword, value in cards) + "END".ljust(80)
+    return header.ljust(2880).encode("ascii") + bytes(pixels)
+
+
+HILLS = image(5, 1, [1, 6, 2, 5, 1])
+SQUARE = image(3, 3, [5, 0, 6, 5, 2, 6, 3, 3, 3])
+RUNS = {
+    "tree in one strip": (["tree", "--strips", "1"], SQUARE),
+    "tree in two strips": (["tree", "--strips", "2"], SQUARE),
+    "tree in three strips": (["tree", "--strips", "3"], SQUARE),
+    "tree by three workers": (["tree", "--strips", "3", "--workers", "3"], SQUARE),
+    "filter": (["filter", "--rule", "direct", "--min-area", "2", "--max-area", "2"], HILLS),
+    "filter over a mesh": (["filter", "--rule", "min", "--mesh", "2"], HILLS),
+    "detect": (["detect", "--threshold", "2", "--contrast", "300"], HILLS),
+}
+
+
+class Refuser:
+    """Runs a program with one of its growths refused."""
+
+    def __init__(self, program, folder):
+        self.program, self.folder = program, folder
+        self.library = folder / "refuse_growth.so"
+        source = TOP / "scripts" / "refuse_growth.c"
+        subprocess.run(["gcc", "-O2", "-shared", "-fPIC", "-o", self.library, source, "-ldl"], check=True)
+
+    def run(self, words, data, number):
+        """The finished run, and how many growths it asked for."""
+        count = self.folder / "count"
+        count.write_bytes(bytes(8))
+        env = dict(os.environ, LD_PRELOAD=str(self.library), REFUSE=str(number), COUNT=str(count))
+        done = subprocess.run([self.program, *words], input=data, capture_output=True, env=env, timeout=60)
+        return done, int.from_bytes(count.read_bytes(), sys.byteorder)
+
+
+def trials(refuser, name, words, data):
+    """The number of growths of a run, and a line for each refusal that ends otherwise than it may."""
+    whole, count = refuser.run(words, data, 0)
+    wrong = []
+    if whole.returncode != 0 or not 0 < count < MANY:
+        return count, [f"{name}: with ample memory it ends with {whole.returncode} after {count} growths"]
+    for number in range(1, count + 1):
+        done, _ = refuser.run(words, data, number)
+        ended = (done.returncode, done.stdout, done.stderr)
+        if ended not in [(5, b"", b"out of memory\n"), (5, b"", b""), (0, whole.stdout, b"")]:
+            wrong.append(f"{name}: with growth {number} refused it ends with {done.returncode}, {len(done.stdout)} bytes written, {done.stderr!r}")
+    return count, wrong
+
+
+def main():
+    if not shutil.which("gcc"):
+        print("skipped: scripts/growths.py wants gcc")
+        return 0
+    program = pathlib.Path(sys.argv[1]).resolve()
+    counts, wrong = {}, []
+    with tempfile.TemporaryDirectory() as folder:
+        refuser = Refuser(program, pathlib.Path(folder))
+        for name, (words, data) in RUNS.items():
+            counts[name], found = trials(refuser, name, words, data)
+            wrong += found
+            print(f"{name}: {counts[name]} growths, {len(found)} end otherwise than they may")
+    if not counts["tree in one strip"] < counts["tree in two strips"] < counts["tree in three strips"]:
+        wrong.append("more strips don't ask for memory more often")
+    print("\n".join(wrong), end="\n" if wrong else "")
+    return 1 if wrong else 0
+
+
+sys.exit(main())
