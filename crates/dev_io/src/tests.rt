@@ -2,6 +2,7 @@
 ghost use Rattle.std.specs.Prelude.{◌≡◌, ◌<◌, ◌+◌};
 
 use crate::*;
+use std::fs::File;
 use std::marker::Brand;
 use std::sync::ledger::{Blank, Ledger};
 use std::test::Fail;
@@ -28,6 +29,35 @@ fn a_writer_is_given_each_piece(rt: HostRuntime) -> Result<(), Fail> {
     assert_eq!(rt; sink.put(b"de"), Ok(()));
     assert_eq!(rt; sink.done(), Ok(()));
     assert_eq!(rt; text.as_slice(), b"abcde".as_slice());
+    Ok(())
+}
+
+// A slice that is full takes nothing of a piece.
+#[test]
+fn a_writer_that_takes_nothing_fails(rt: HostRuntime) -> Result<(), Fail> {
+    let mut room = [0u8; 3];
+    let mut sink = WriteSink::new(&mut room[..]);
+    assert_eq!(rt; sink.put(b"ab"), Ok(()));
+    assert_eq!(rt; sink.put(b"cd"), Err(Failed));
+    Ok(())
+}
+
+// A file that ends at once, and a folder, which no read gives bytes of.
+#[test]
+fn files_end_and_fail(rt: HostRuntime) -> Result<(), Fail> {
+    let mut buf = [0u8; 4];
+    let mut empty = ReadSource::new(File::open(&rt, "/dev/null")?);
+    assert_eq!(rt; empty.take(&mut buf), Ok(0));
+    let mut folder = ReadSource::new(File::open(&rt, "/")?);
+    assert_eq!(rt; folder.take(&mut buf), Err(Failed));
+    Ok(())
+}
+
+// A device that is always full.
+#[test]
+fn a_full_file_fails(rt: HostRuntime) -> Result<(), Fail> {
+    let mut full = WriteSink::new(File::create(&rt, "/dev/full")?);
+    assert_eq!(rt; full.put(b"ab"), Err(Failed));
     Ok(())
 }
 
