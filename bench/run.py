@@ -5,8 +5,8 @@ usage: python3 bench/run.py MAXDETECT [--runs N] [--before EARLIER] [SIDE ..]
 MAXDETECT is the built program. The sides are 1024, 2048 and 4096 if left out; each job is run N times (3 if left out), and the least time counts.
 EARLIER is the built program of an earlier state, which is then timed on the same files and must write the same bytes.
 
-The images are star fields of 16 bits (examples/star_field.py), and one of white noise of 32 bits with sigma 1,000 (2048 x 2048). The yardstick
-for `tree` is a plain union-find in C++ (it wants g++), whose output must be the same bytes. Where they are installed it also times scikit-image's
+The images are star fields of 16 bits (examples/star_field.py), white noise of 32 bits with sigma 1,000 (2048 x 2048), and noise of nearly as many
+values as there are pixels, with one, four and sixteen strips: the images on which more strips take longer. The yardstick for `tree` is a plain union-find in C++ (it wants g++), whose output must be the same bytes. Where they are installed it also times scikit-image's
 max-tree and Source Extractor (Debian: python3-skimage with python3-astropy, and source-extractor) on the same files; these do other work, so their
 outputs are not compared. Times are wall clock, with reading and writing; memory is the peak of the process. Run it with nothing else running.
 """
@@ -23,8 +23,7 @@ import tempfile
 import time
 
 TOP = pathlib.Path(__file__).resolve().parent.parent
-STRIPS = 16
-WORKERS = (1, 2, 4)
+CREWS = [(16, 1), (16, 2), (16, 4)]
 MAX_TREE = """
 import sys
 from astropy.io import fits
@@ -40,6 +39,12 @@ JOBS = {
 }
 # Every pixel is above this threshold, so nothing can be left out.
 ALL_ABOVE = {"detect, all above": ["detect", "--threshold", "-1000000", "--min-area", "5", "--mesh", "64"]}
+# Noise of many values, each with the side of its image and what draws a pixel.
+MANY_VALUES = {
+    "60,000 values, evenly, 1024 x 1024": (1024, lambda rng: rng.randrange(60_000)),
+    "noise of sigma 10,000, 2048 x 2048": (2048, lambda rng: round(rng.gauss(0, 10_000))),
+    "noise of sigma 1,000,000, 1024 x 1024": (1024, lambda rng: round(rng.gauss(0, 1_000_000))),
+}
 # The yardstick of each job.
 YARDSTICKS = {"tree": "union-find in C++", "detect": "Source Extractor"}
 
@@ -74,12 +79,12 @@ def star_field(path, side):
         subprocess.run([sys.executable, TOP / "examples" / "star_field.py", str(side), str(side)], stdout=file, check=True)
 
 
-def wide_noise(path, side):
-    """White noise of 32 bits with sigma 1,000: nearly a thousand levels to each sigma, far fewer than pixels."""
+def noise(path, side, draw):
+    """Noise of 32 bits, each pixel drawn by itself."""
     rng = random.Random(1)
     cards = [("SIMPLE", "T"), ("BITPIX", 32), ("NAXIS", 2), ("NAXIS1", side), ("NAXIS2", side)]
     header = "".join(f"{keyword:<8}= {value:>20}".ljust(80) for keyword, value in cards) + "END".ljust(80)
-    numbers = array.array("i", (round(rng.gauss(0, 1000)) for _ in range(side * side)))
+    numbers = array.array("i", (draw(rng) for _ in range(side * side)))
     if sys.byteorder == "little":
         numbers.byteswap()
     data = numbers.tobytes()
@@ -97,13 +102,13 @@ def yardstick(folder):
 
 
 def maxdetect_runs(program, name, jobs, crews):
-    """Each job in one strip, and in strips with several numbers of workers."""
+    """Each job in one strip, and in some strips with some workers."""
     for job, words in jobs.items():
         command = [program, *words, "--connect", "8"]
         yield job, f"{name}, one strip", command
-        for workers in crews:
+        for strips, workers in crews:
             crew = "1 worker" if workers == 1 else f"{workers} workers"
-            yield job, f"{name}, {STRIPS} strips, {crew}", [*command, "--strips", str(STRIPS), "--workers", str(workers)]
+            yield job, f"{name}, {strips} strips, {crew}", [*command, "--strips", str(strips), "--workers", str(workers)]
 
 
 def others(folder, image, side):
@@ -156,14 +161,18 @@ def main():
             star_field(image, side)
             runs = [*yardstick(folder), *others(folder, image, side)]
             for label, program in programs:
-                runs += maxdetect_runs(program, label, JOBS, WORKERS)
-                runs += maxdetect_runs(program, label, ALL_ABOVE, ())
+                runs += maxdetect_runs(program, label, JOBS, CREWS)
+                runs += maxdetect_runs(program, label, ALL_ABOVE, [])
             print_rows(f"{side} x {side}", runs, image, options.runs)
-        wide_noise(image, 2048)
+        tree = {"tree": JOBS["tree"]}
+        noise(image, 2048, lambda rng: round(rng.gauss(0, 1000)))
         runs = [*yardstick(folder)]
         for label, program in programs:
-            runs += maxdetect_runs(program, label, {"tree": JOBS["tree"]}, (4,))
-        print_rows("noise of 32 bits, 2048 x 2048", runs, image, options.runs)
+            runs += maxdetect_runs(program, label, tree, [(16, 4)])
+        print_rows("noise of sigma 1,000, 2048 x 2048", runs, image, options.runs)
+        for title, (side, draw) in MANY_VALUES.items():
+            noise(image, side, draw)
+            print_rows(title, maxdetect_runs(programs[0][1], programs[0][0], tree, [(4, 4), (16, 4)]), image, 1)
     print("All outputs of one job on one image are the same bytes.")
 
 
