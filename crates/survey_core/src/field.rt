@@ -79,9 +79,11 @@ impl Field {
         }
     }
 
+    /// Its letters, in ASCII.
     pub fn bytes(&self) -> &[u8]
         ensures value { result.now ≡ self.now }
         ensures name { is_name result.now ≡ true }
+        ensures short { length result.now ≤ 16 }
     {
         &self.letters[..self.len]
     }

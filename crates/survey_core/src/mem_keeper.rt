@@ -103,7 +103,8 @@ pub struct MemKeeper<'a> {
 impl<'a> MemKeeper<'a> {
     ghost use Rattle.survey_core.specs.Counted.{kept_tables, keeper_calls, keeper_faults, keeper_fails};
 
-    /// A keeper with no field. Its calls whose numbers, from 1, stand in `fails` will fail.
+    /// A keeper with no field, which takes no memory yet. The calls of `replace`, `remove`, `names` and `rows` are numbered together, from 1: one
+    /// whose number stands in `fails` will fail.
     pub fn new(alloc: Global, fails: &'a [u32]) -> MemKeeper<'a>
         ensures empty { kept_tables result ≡ [] }
         ensures fails { keeper_fails result ≡ fails.now }

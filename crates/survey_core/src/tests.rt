@@ -1,4 +1,4 @@
-//! Tables in memory.
+//! Names of fields, and tables in memory.
 
 use crate::{Field, Keeper, MemKeeper, Refused};
 use std::test::Fail;
