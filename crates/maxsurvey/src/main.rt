@@ -1,0 +1,57 @@
+//! The program: hands its words and its streams to `run_survey`, over tables in memory, and exits with its status.
+#![tactic(auto)]
+
+use dev_io::{OutOfMemory, ReadSource, WriteSink};
+use std::env;
+use std::io::ErrorKind;
+use std::process::ExitCode;
+use std::rt::Env;
+use survey_core::{MemKeeper, run_survey};
+
+const NO_MEMORY: u8 = 5;
+
+// The words behind the program's name; `?` in place of arguments that the runtime refuses.
+fn words(rt: &(impl Env + AllocGlobal)) -> Result<Vec<String>, OutOfMemory> {
+    let alloc = rt.alloc();
+    match env::args(rt) {
+        Ok(args) => {
+            let mut words = Vec::new(alloc);
+            for word in args.skip(1) {
+                words.push(word)?;
+            }
+            Ok(words)
+        }
+        Err(error) if error.kind() == ErrorKind::OutOfMemory => Err(OutOfMemory),
+        Err(_) => {
+            let mut words = Vec::new(alloc);
+            words.push(String::from_str(alloc, "?")?)?;
+            Ok(words)
+        }
+    }
+}
+
+fn main(rt: HostRuntime) -> ExitCode {
+    let alloc = rt.alloc();
+    let Ok(words) = words(&rt) else {
+        return ExitCode::from(NO_MEMORY);
+    };
+    let mut texts = Vec::new(alloc);
+    for word in &words {
+        if texts.push(word.as_str()).is_err() {
+            return ExitCode::from(NO_MEMORY);
+        }
+    }
+    let mut input = ReadSource::new(rt.stdin());
+    let mut keeper = MemKeeper::new(alloc, &[]);
+    let mut output = WriteSink::new(rt.stdout());
+    let mut notes = WriteSink::new(rt.stderr());
+    let status = run_survey(
+        alloc,
+        &texts,
+        &mut input,
+        &mut keeper,
+        &mut output,
+        &mut notes,
+    );
+    ExitCode::from(status)
+}

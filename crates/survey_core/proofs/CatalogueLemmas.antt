@@ -1,0 +1,250 @@
+-- Rows that are read one after the other, and the table that they are.
+use Rattle.std.proofs.Common.{◌≡◌, ◌∙◌, ℕ, ◌+◌, ◌-◌, ◌*◌, ◌%◌, ◌<◌, ◌≤◌, Bool, true, false, cond, not, nat_lt, get_or, List, [], ◌++◌, length, take, drop, min, Some, None, refl, sym, ap, ap₂, subst, arith, length-drop, add-one, ℤ, pos}
+use Rattle.std.specs.Prelude.{Option, slice_get, Result, Ok, Err, MatchResult}
+use Rattle.std.proofs.lemmas.List.{take_all}
+use Rattle.std.proofs.lemmas.Option.{slice_get-get_or}
+use Rattle.std.specs.Ordering.{int_eq}
+use Rattle.std.proofs.lemmas.Bool.Decides.{Decides-int_eq}
+use Rattle.std.proofs.lemmas.Bool.Decides.{nat_tests}
+use Rattle.dev_io.specs.Streams.{Takes, TakesAtMost, Fills}
+use Rattle.dev_io.specs.Laws.{Takes-after, TakesAtMost-after}
+use Rattle.fits_hdu.specs.declared.answer.Hdu.{Hdu}
+use Rattle.fits_hdu.specs.declared.answer.HduFault.{HduFault}
+use Rattle.fits_hdu.specs.declared.answer.HduFault.TheVariants as hdu
+use Rattle.fits_hdu.specs.Headers.{Found, found, refused}
+use Rattle.fits_hdu.specs.Finding.{padded, find_of, taken_by}
+use Rattle.fits_hdu.specs.Streams.{Stopped}
+use Rattle.survey_core.specs.declared.fault.Stop.{Stop}
+use Rattle.survey_core.specs.declared.fault.Stop.TheVariants.{Refused, ReadFault, WriteFault, NoMemory, KeeperFault}
+use Rattle.survey_core.specs.declared.fault.Fault.TheVariants.{TruncatedTable, RowNumber, NotCatalogue, TooManyRows}
+use Rattle.survey_core.specs.Tables.{IsNumbered}
+use Rattle.survey_core.specs.Faults.{stop_at_hdu}
+use Rattle.survey_core.specs.Catalogues.{Reading, accepted, rejected, taken_of, cells_in, row_bytes, table_cells, is_misnumbered, first_misnumbered, numbered, table_of, beyond, is_catalogue, most_rows, reading_by, catalogue_of}
+use Rattle.survey_core.specs.Reads.{Short, IsRow, AreRows, IsAccepted, IsRejected, MayLackIn}
+
+-- ---- bytes that are gone
+
+pub at_most : (bytes : List ℕ) (left : Option (List ℕ)) (m n : ℕ) → TakesAtMost bytes left m → m ≤ n → TakesAtMost bytes left n
+at_most bytes left m n lost h = record { count = lost.count; few = omega (arith, lost.few); takes = lost.takes }
+
+pub taken_at_most : (bytes : List ℕ) (left : Option (List ℕ)) (m n : ℕ) → Takes bytes left m → m ≤ n → TakesAtMost bytes left n
+taken_at_most bytes left m n takes h = record { count = m; few = h; takes = takes }
+
+-- no more than there are
+pub lost_within : (bytes : List ℕ) (left : Option (List ℕ)) (m n : ℕ) → TakesAtMost bytes left m → min m (length bytes) ≤ n → TakesAtMost bytes left n
+lost_within bytes left m n lost h = record { count = lost.count; few = omega (arith, lost.few, lost.takes.within); takes = lost.takes }
+
+pads_to : (size : ℕ) → size + (2880 - size % 2880) % 2880 ≡ padded size
+pads_to size = omega arith
+
+-- ---- rows
+
+pub table_more : (bytes : List ℕ) (n : ℕ) → table_cells bytes (n + 1) ≡ table_cells bytes n ++ cells_in (row_bytes bytes n)
+unfolding table_cells
+table_more bytes n = rw add-one refl
+
+pub no_rows : (bytes : List ℕ) (left : Option (List ℕ)) (cells : List ℤ) → left ≡ Some bytes → cells ≡ [] → AreRows bytes 0 left cells
+unfolding table_cells
+no_rows bytes left cells is none = record { cells_are = none; takes = record { within = omega arith; rest = is } }
+
+pub rows_more : (bytes : List ℕ) (k : ℕ) (a b : Option (List ℕ)) (row : List ℕ) (cells cells' more : List ℤ) → AreRows bytes k a cells → IsRow (drop (96 * k) bytes) b row → more ≡ cells_in row → cells' ≡ cells ++ more
+    → AreRows bytes (k + 1) b cells'
+rows_more bytes k a b row cells cells' more rows here is all = record {
+  cells_are = all ∙ ap₂ ◌++◌ rows.cells_are (is ∙ ap cells_in here.row_is) ∙ sym (table_more bytes k);
+  takes = subst (Takes bytes b) (omega arith) (Takes-after bytes a b (96 * k) 96 rows.takes here.takes);
+}
+
+-- a row that was read
+pub row_read : (bytes : List ℕ) (left : Option (List ℕ)) (n : ℕ) (buf : List ℕ) → Fills bytes left n buf → n ≡ 96 → length buf ≡ 96 → IsRow bytes left buf
+row_read bytes left n buf fills is long = record {
+  row_is = sym (take_all 96 buf (omega arith)) ∙ ap (λ k. take k buf) (sym is) ∙ fills.front ∙ ap (λ k. take k bytes) is;
+  takes = subst (Takes bytes left) is fills.takes;
+}
+
+pub rows_short : (bytes : List ℕ) (k count : ℕ) (a b : Option (List ℕ)) (cells : List ℤ) (stop : Stop) → AreRows bytes k a cells → k < count → Short (drop (96 * k) bytes) 96 b stop → Short bytes (96 * count) b stop
+rows_short bytes k count a b cells (Refused fault) rows h short =
+    let long = length-drop (96 * k) bytes in
+    let all : 96 * k + length (drop (96 * k) bytes) ≡ length bytes = omega (arith, long, rows.takes.within) in
+    (short.0, omega (arith, short.1, all), subst (Takes bytes b) all (Takes-after bytes a b (96 * k) _ rows.takes short.2))
+rows_short bytes k count a b cells ReadFault rows h short = at_most bytes b (96 * k + 96) (96 * count) (TakesAtMost-after bytes a b (96 * k) 96 rows.takes short) (omega arith)
+rows_short bytes k count a b cells WriteFault rows h short = short
+rows_short bytes k count a b cells NoMemory rows h short = at_most bytes b (96 * k + 96) (96 * count) (TakesAtMost-after bytes a b (96 * k) 96 rows.takes short) (omega arith)
+rows_short bytes k count a b cells KeeperFault rows h short = short
+
+pub rows_wanted : (bytes : List ℕ) (k count : ℕ) (a b : Option (List ℕ)) (row : List ℕ) (cells : List ℤ) → AreRows bytes k a cells → k < count → IsRow (drop (96 * k) bytes) b row → TakesAtMost bytes b (96 * count)
+rows_wanted bytes k count a b row cells rows h here =
+    taken_at_most bytes b (96 * k + 96) (96 * count) (Takes-after bytes a b (96 * k) 96 rows.takes here.takes) (omega arith)
+
+-- ---- the table
+
+lt_false : (m n : ℕ) → n ≤ m → nat_lt m n ≡ false
+lt_false m n h = grind (arith, nat_tests)
+
+lt_true : (m n : ℕ) → m < n → nat_lt m n ≡ true
+lt_true m n h = grind (arith, nat_tests)
+
+table_short : (bytes : List ℕ) (rows : ℕ) → length bytes < 96 * rows → table_of bytes rows ≡ rejected (Refused TruncatedTable) (length bytes)
+unfolding table_of
+table_short bytes rows h = rw (lt_true (length bytes) (96 * rows) h) refl
+
+table_whole : (bytes : List ℕ) (rows : ℕ) → 96 * rows ≤ length bytes → table_of bytes rows ≡ numbered bytes (96 * rows) (table_cells bytes rows) (first_misnumbered (table_cells bytes rows))
+unfolding table_of
+table_whole bytes rows h = rw (lt_false (length bytes) (96 * rows) h) refl
+
+numbered_takes : (bytes : List ℕ) (size : ℕ) (cells : List ℤ) (first : Option ℕ) → size ≤ length bytes → size ≤ taken_of (numbered bytes size cells first)
+numbered_takes bytes size cells None h = omega (arith, pads_to size)
+numbered_takes bytes size cells (Some i) h = omega arith
+
+numbered_wants : (bytes : List ℕ) (size : ℕ) (cells : List ℤ) (first : Option ℕ) → MayLackIn (numbered bytes size cells first)
+numbered_wants bytes size cells None = tt
+numbered_wants bytes size cells (Some i) = tt
+
+-- at least so many bytes are taken, or all
+table_takes : (bytes : List ℕ) (rows : ℕ) → min (96 * rows) (length bytes) ≤ taken_of (table_of bytes rows)
+unfolding table_of
+table_takes bytes rows = by (nat_lt (length bytes) (96 * rows)) refl
+  where
+    by : (b : Bool) → nat_lt (length bytes) (96 * rows) ≡ b
+        → min (96 * rows) (length bytes) ≤ taken_of (cond b (rejected (Refused TruncatedTable) (length bytes)) (numbered bytes (96 * rows) (table_cells bytes rows) (first_misnumbered (table_cells bytes rows))))
+    by true h = omega arith
+    by false h = let whole : 96 * rows ≤ length bytes = grind (arith, nat_tests) in
+        let least = numbered_takes bytes (96 * rows) (table_cells bytes rows) (first_misnumbered (table_cells bytes rows)) whole in omega (arith, least)
+
+table_wants : (bytes : List ℕ) (rows : ℕ) → MayLackIn (table_of bytes rows)
+unfolding table_of
+table_wants bytes rows = by (nat_lt (length bytes) (96 * rows))
+  where
+    by : (b : Bool) → MayLackIn (cond b (rejected (Refused TruncatedTable) (length bytes)) (numbered bytes (96 * rows) (table_cells bytes rows) (first_misnumbered (table_cells bytes rows))))
+    by true = tt
+    by false = numbered_wants bytes (96 * rows) (table_cells bytes rows) (first_misnumbered (table_cells bytes rows))
+
+pub table_cut : (bytes : List ℕ) (rows : ℕ) (left : Option (List ℕ)) (stop : Stop) → Short bytes (96 * rows) left stop → IsRejected (table_of bytes rows) bytes left stop
+table_cut bytes rows left (Refused fault) short = (length bytes, table_short bytes rows short.1 ∙ ap (λ f. rejected (Refused f) (length bytes)) (sym short.0), short.2)
+table_cut bytes rows left ReadFault short = lost_within bytes left (96 * rows) _ short (table_takes bytes rows)
+table_cut bytes rows left WriteFault short = short
+table_cut bytes rows left NoMemory short = (table_wants bytes rows, lost_within bytes left (96 * rows) _ short (table_takes bytes rows))
+table_cut bytes rows left KeeperFault short = short
+
+pub table_misnumbered : (bytes : List ℕ) (rows i row : ℕ) (left : Option (List ℕ)) (cells : List ℤ) → AreRows bytes rows left cells → Some i ≡ first_misnumbered cells → row ≡ i + 1
+    → IsRejected (table_of bytes rows) bytes left (Refused (RowNumber row))
+table_misnumbered bytes rows i row left cells all first is = (
+  96 * rows,
+  table_whole bytes rows all.takes.within ∙ ap (numbered bytes (96 * rows) (table_cells bytes rows)) (ap first_misnumbered (sym all.cells_are) ∙ sym first)
+      ∙ ap (λ r. rejected (Refused (RowNumber r)) (96 * rows)) (sym is),
+  all.takes,
+)
+
+module _ (bytes : List ℕ) (rows : ℕ) (a : Option (List ℕ)) (cells : List ℤ) (all : AreRows bytes rows a cells) (first : None ≡ first_misnumbered cells) (pad : ℕ) (pad_is : pad ≡ (2880 - 96 * rows % 2880) % 2880) where
+  whole : table_of bytes rows ≡ accepted cells (min (padded (96 * rows)) (length bytes))
+  whole = table_whole bytes rows all.takes.within ∙ ap (numbered bytes (96 * rows) (table_cells bytes rows)) (ap first_misnumbered (sym all.cells_are) ∙ sym first)
+      ∙ ap (λ c. accepted c (min (padded (96 * rows)) (length bytes))) (sym all.cells_are)
+
+  place : 96 * rows + min pad (length (drop (96 * rows) bytes)) ≡ min (padded (96 * rows)) (length bytes)
+  place = omega (arith, pads_to (96 * rows), pad_is, length-drop (96 * rows) bytes, all.takes.within)
+
+  pub table_read : (b : Option (List ℕ)) → Takes (drop (96 * rows) bytes) b (min pad (length (drop (96 * rows) bytes))) → IsAccepted (table_of bytes rows) bytes b cells
+  table_read b pads = record {
+    taken = min (padded (96 * rows)) (length bytes);
+    reading_is = whole;
+    takes = subst (Takes bytes b) place (Takes-after bytes a b (96 * rows) _ all.takes pads);
+  }
+
+  pub table_lost : (b : Option (List ℕ)) → TakesAtMost (drop (96 * rows) bytes) b (min pad (length (drop (96 * rows) bytes))) → TakesAtMost bytes b (taken_of (table_of bytes rows))
+  table_lost b lost = rw whole (subst (TakesAtMost bytes b) place (TakesAtMost-after bytes a b (96 * rows) _ all.takes lost))
+
+-- rows none of which is misnumbered
+pub all_numbered : (cells : List ℤ) (rows : ℕ) → length cells ≡ 17 * rows → ((i : ℕ) → 17 * i + 17 ≤ length cells → is_misnumbered cells i ≡ false) → IsNumbered cells
+all_numbered cells rows whole none = record { whole = omega (arith, whole); numbers = numbers }
+  where
+    number : (i : ℕ) → (b : Bool) → int_eq (get_or cells (17 * i + 0) (pos 0)) (pos (i + 1)) ≡ b → not b ≡ false → get_or cells (17 * i + 0) (pos 0) ≡ pos (i + 1)
+    number i true e h = (Decides-int_eq _ _).0 e
+    number i false e h = absurd (cc)
+
+    numbers : (i : ℕ) → 17 * i < length cells → slice_get cells (17 * i) ≡ Some (pos (i + 1))
+    numbers i h =
+        let place : 17 * i + 0 ≡ 17 * i = omega arith in
+        slice_get-get_or cells (17 * i) (pos 0) h ∙ ap (λ k. Some (get_or cells k (pos 0))) (sym place) ∙ ap Some (number i _ refl (none i (omega (arith, whole, h))))
+
+-- ---- the catalogue
+
+beyond_takes : (head : ℕ) (reading : Reading) → head ≤ taken_of (beyond head reading)
+beyond_takes head (accepted cells taken) = omega arith
+beyond_takes head (rejected stop taken) = omega arith
+
+-- what is taken up to HDU 2 is no more than what is taken in all
+hdu_takes : (bytes : List ℕ) (expected : Found) → taken_by expected ≤ taken_of (reading_by bytes expected)
+unfolding reading_by
+hdu_takes bytes (refused fault taken) = omega arith
+hdu_takes bytes (found hdu head) = by (is_catalogue hdu) (nat_lt most_rows hdu.height)
+  where
+    by : (a b : Bool) → head ≤ taken_of (cond a (cond b (rejected (Refused TooManyRows) head) (beyond head (table_of (drop head bytes) hdu.height))) (rejected (Refused NotCatalogue) head))
+    by true true = omega arith
+    by true false = beyond_takes head (table_of (drop head bytes) hdu.height)
+    by false b = omega arith
+
+is_refused : (bytes : List ℕ) (fault : HduFault) (taken : ℕ) → find_of bytes 2 ≡ refused fault taken → catalogue_of bytes ≡ rejected (stop_at_hdu fault) taken
+unfolding catalogue_of reading_by
+is_refused bytes fault taken is = rw is refl
+
+gone_within : (bytes : List ℕ) (left : Option (List ℕ)) → TakesAtMost bytes left (taken_by (find_of bytes 2)) → TakesAtMost bytes left (taken_of (catalogue_of bytes))
+unfolding catalogue_of
+gone_within bytes left gone = at_most bytes left _ _ gone (hdu_takes bytes (find_of bytes 2))
+
+pub no_hdu : (bytes : List ℕ) (left : Option (List ℕ)) (fault : HduFault) (stop : Stop) → stop ≡ stop_at_hdu fault → Stopped (find_of bytes 2) bytes left fault → IsRejected (catalogue_of bytes) bytes left stop
+no_hdu bytes left fault stop is stopped = subst (IsRejected (catalogue_of bytes) bytes left) (sym is) (by fault stopped)
+  where
+    by : (fault : HduFault) → Stopped (find_of bytes 2) bytes left fault → IsRejected (catalogue_of bytes) bytes left (stop_at_hdu fault)
+    by hdu.NotFits s = (s.0, is_refused bytes hdu.NotFits s.0 s.1, s.2)
+    by hdu.TruncatedHeader s = (s.0, is_refused bytes hdu.TruncatedHeader s.0 s.1, s.2)
+    by (hdu.BadKeyword h k) s = (s.0, is_refused bytes (hdu.BadKeyword h k) s.0 s.1, s.2)
+    by hdu.HeaderTooLong s = (s.0, is_refused bytes hdu.HeaderTooLong s.0 s.1, s.2)
+    by hdu.Groups s = (s.0, is_refused bytes hdu.Groups s.0 s.1, s.2)
+    by hdu.DataTooLong s = (s.0, is_refused bytes hdu.DataTooLong s.0 s.1, s.2)
+    by hdu.NoSuchHdu s = (s.0, is_refused bytes hdu.NoSuchHdu s.0 s.1, s.2)
+    by hdu.TruncatedSkip s = (s.0, is_refused bytes hdu.TruncatedSkip s.0 s.1, s.2)
+    by hdu.ReadFault s = gone_within bytes left s
+
+pub no_table : (bytes : List ℕ) (head : ℕ) (hdu : Hdu) (left : Option (List ℕ)) → find_of bytes 2 ≡ found hdu head → Takes bytes left head → is_catalogue hdu ≡ false
+    → (x : ℕ) × (catalogue_of bytes ≡ rejected (Refused NotCatalogue) x) × Takes bytes left x
+unfolding catalogue_of reading_by
+no_table bytes head hdu left is takes none = (head, rw (is, none) refl, takes)
+
+pub too_many : (bytes : List ℕ) (head : ℕ) (hdu : Hdu) (left : Option (List ℕ)) → find_of bytes 2 ≡ found hdu head → Takes bytes left head → is_catalogue hdu ≡ true → most_rows < hdu.height
+    → (x : ℕ) × (catalogue_of bytes ≡ rejected (Refused TooManyRows) x) × Takes bytes left x
+unfolding catalogue_of reading_by
+too_many bytes head hdu left is takes some many = (head, rw (is, some, lt_true most_rows hdu.height many) refl, takes)
+
+table_there : (bytes : List ℕ) (head : ℕ) (hdu : Hdu) → find_of bytes 2 ≡ found hdu head → is_catalogue hdu ≡ true → hdu.height ≤ most_rows → catalogue_of bytes ≡ beyond head (table_of (drop head bytes) hdu.height)
+unfolding catalogue_of reading_by
+table_there bytes head hdu is some few = rw (is, some, lt_false most_rows hdu.height few) refl
+
+beyond_wants : (head : ℕ) (reading : Reading) → MayLackIn reading → MayLackIn (beyond head reading)
+beyond_wants head (accepted cells taken) h = h
+beyond_wants head (rejected stop taken) h = h
+
+beyond_lost : (bytes : List ℕ) (head : ℕ) (a b : Option (List ℕ)) (reading : Reading) → Takes bytes a head → TakesAtMost (drop head bytes) b (taken_of reading) → TakesAtMost bytes b (taken_of (beyond head reading))
+beyond_lost bytes head a b (accepted cells taken) takes lost = TakesAtMost-after bytes a b head taken takes lost
+beyond_lost bytes head a b (rejected stop taken) takes lost = TakesAtMost-after bytes a b head taken takes lost
+
+beyond_read : (bytes : List ℕ) (head : ℕ) (a b : Option (List ℕ)) (reading : Reading) (cells : List ℤ) → Takes bytes a head → IsAccepted reading (drop head bytes) b cells → IsAccepted (beyond head reading) bytes b cells
+beyond_read bytes head a b reading cells takes read = record {
+  taken = head + read.taken;
+  reading_is = ap (beyond head) read.reading_is;
+  takes = Takes-after bytes a b head read.taken takes read.takes;
+}
+
+beyond_cut : (bytes : List ℕ) (head : ℕ) (a b : Option (List ℕ)) (reading : Reading) (stop : Stop) → Takes bytes a head → IsRejected reading (drop head bytes) b stop → IsRejected (beyond head reading) bytes b stop
+beyond_cut bytes head a b reading (Refused fault) takes cut = (head + cut.0, ap (beyond head) cut.1, Takes-after bytes a b head cut.0 takes cut.2)
+beyond_cut bytes head a b reading ReadFault takes cut = beyond_lost bytes head a b reading takes cut
+beyond_cut bytes head a b reading WriteFault takes cut = cut
+beyond_cut bytes head a b reading NoMemory takes cut = (beyond_wants head reading cut.0, beyond_lost bytes head a b reading takes cut.1)
+beyond_cut bytes head a b reading KeeperFault takes cut = cut
+
+-- the table behind its header
+pub behind_header : {C : Type 0} (items : C → List ℤ) (bytes : List ℕ) (head : ℕ) (hdu : Hdu) (a b : Option (List ℕ)) (r : Result C Stop) → find_of bytes 2 ≡ found hdu head → Takes bytes a head → is_catalogue hdu ≡ true → hdu.height ≤ most_rows
+    → MatchResult r (λ cells. IsAccepted (table_of (drop head bytes) hdu.height) (drop head bytes) b (items cells)) (IsRejected (table_of (drop head bytes) hdu.height) (drop head bytes) b)
+    → MatchResult r (λ cells. IsAccepted (catalogue_of bytes) bytes b (items cells)) (IsRejected (catalogue_of bytes) bytes b)
+behind_header items bytes head hdu a b (Ok cells) is takes some few read =
+    rw (table_there bytes head hdu is some few) (beyond_read bytes head a b (table_of (drop head bytes) hdu.height) (items cells) takes read)
+behind_header items bytes head hdu a b (Err stop) is takes some few cut =
+    rw (table_there bytes head hdu is some few) (beyond_cut bytes head a b (table_of (drop head bytes) hdu.height) stop takes cut)

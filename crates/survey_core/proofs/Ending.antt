@@ -1,0 +1,68 @@
+-- How a session ends.
+use Rattle.std.proofs.Common.{◌≡◌, ℕ, ◌+◌, ◌-◌, ◌<◌, ◌≤◌, Bool, List, [], ◌∷◌, Some, refl, sym, ap, subst, arith, Result, Ok, Err}
+use Rattle.std.specs.Prelude.{Option, IsOk}
+use Rattle.std.proofs.KnownBytes.{Appends-nil}
+use Rattle.survey_core.specs.declared.words.Command.{Command}
+use Rattle.survey_core.specs.declared.words.Usage.{Usage as AtFault}
+use Rattle.survey_core.specs.declared.fault.Stop.TheVariants.{Refused, ReadFault, WriteFault, NoMemory, KeeperFault}
+use Rattle.survey_core.specs.declared.top.End.{End}
+use Rattle.survey_core.specs.declared.top.End.TheVariants.{Done, Usage, Stopped}
+use Rattle.survey_core.specs.Tables.{Table}
+use Rattle.survey_core.specs.Commands.{read, commands_of}
+use Rattle.survey_core.specs.Answers.{answer_by, answer, status_of, note_of, usage_line}
+use Rattle.survey_core.specs.Runs.{Answers, EndTells, EndCause}
+use Rattle.survey_core.specs.Headline.{IsCutWith}
+
+-- a word is at fault
+pub at_fault : (commands : Result (List Command) ℕ) (usage : AtFault) (bytes : List ℕ) (ts : List Table) (a : Option (List ℕ)) (k : Option (List Table)) (w : Option (List ℕ)) (settled : Bool) → commands ≡ Err (usage.word - 1) → 0 < usage.word
+    → a ≡ Some bytes → k ≡ Some ts → Answers (answer_by commands bytes ts) bytes a k w w settled (Usage usage)
+at_fault commands usage bytes ts a k w settled is some e t = rw is (record {
+  end_is = ap (λ n. Usage (record { word = n })) (omega (arith, some));
+  takes = record { within = omega arith; rest = e };
+  tables_are = t;
+  appended = Appends-nil w;
+  settled = λ h. absurd (cc);
+})
+
+pub read_too : (words : List (List ℕ)) (commands : List Command) → commands_of words ≡ Ok commands → read words ≡ Ok commands
+read_too [] commands e = absurd (cc)
+read_too (w ∷ words) commands e = e
+
+pub with_commands : (words : List (List ℕ)) (P : Result (List Command) ℕ → Type 0) → IsOk (commands_of words) → ((commands : List Command) → read words ≡ Ok commands → P (Ok commands)) → P (commands_of words)
+with_commands words P is_read h = by (commands_of words) refl is_read
+  where
+    by : (r : Result (List Command) ℕ) → commands_of words ≡ r → IsOk r → P (commands_of words)
+    by (Ok commands) e some = subst P (sym e) (h commands (read_too words commands e))
+    by (Err at) e some = absurd (cc)
+
+module _ (words : List (List ℕ)) (bytes : List ℕ) (ts : List Table) (b : Option (List ℕ)) (m : Option (List Table)) (w u : Option (List ℕ)) (settled : Bool) (status : ℕ) where
+  -- a status from 3 on comes where a command was cut short
+  pub cut_with : (end : End) → EndTells (commands_of words) bytes ts b m w u settled end → status ≡ status_of end → 3 ≤ status → IsCutWith words bytes ts b m w u status
+  cut_with Done tells is high = absurd (omega (arith, is, high))
+  cut_with (Usage usage) tells is high = absurd (omega (arith, is, high))
+  cut_with (Stopped (Refused fault)) tells is high = absurd (omega (arith, is, high))
+  cut_with (Stopped ReadFault) tells is high = record { stop = ReadFault; status_is = is; cut = tells }
+  cut_with (Stopped WriteFault) tells is high = record { stop = WriteFault; status_is = is; cut = tells }
+  cut_with (Stopped NoMemory) tells is high = record { stop = NoMemory; status_is = is; cut = tells }
+  cut_with (Stopped KeeperFault) tells is high = record { stop = KeeperFault; status_is = is; cut = tells }
+
+  -- a lesser one is the answer's
+  pub answers_end : (end : End) → EndTells (commands_of words) bytes ts b m w u settled end → status ≡ status_of end → status < 3 → (answer words bytes ts).end ≡ end
+  answers_end Done tells is low = tells.end_is
+  answers_end (Usage usage) tells is low = tells.end_is
+  answers_end (Stopped (Refused fault)) tells is low = tells.end_is
+  answers_end (Stopped ReadFault) tells is low = absurd (omega (arith, is, low))
+  answers_end (Stopped WriteFault) tells is low = absurd (omega (arith, is, low))
+  answers_end (Stopped NoMemory) tells is low = absurd (omega (arith, is, low))
+  answers_end (Stopped KeeperFault) tells is low = absurd (omega (arith, is, low))
+
+-- the line of a word at fault
+pub word_noted : (commands : Result (List Command) ℕ) (at : ℕ) (settled : Bool) (source source' sink sink' keeper keeper' : ℕ) (end : End) → commands ≡ Err at → EndCause commands settled source source' sink sink' keeper keeper' end
+    → note_of end ≡ usage_line (at + 1)
+word_noted commands at settled source source' sink sink' keeper keeper' end is cause =
+    by end (subst (λ (r : Result (List Command) ℕ). EndCause r settled source source' sink sink' keeper keeper' end) is cause)
+  where
+    by : (end : End) → EndCause (Err at) settled source source' sink sink' keeper keeper' end → note_of end ≡ usage_line (at + 1)
+    by Done cause = absurd cause
+    by (Usage usage) cause = ap usage_line cause
+    by (Stopped stop) cause = absurd cause

@@ -1,0 +1,16 @@
+pub mod TableLemmas
+pub mod PlaceLemmas
+pub mod LineLemmas
+pub mod Numerals
+pub mod Wording
+pub mod Searches
+pub mod CatalogueLemmas
+pub mod SumLemmas
+pub mod Keeping
+pub mod Printing
+pub mod RankLemmas
+pub mod Places
+pub mod Stepping
+pub mod Going
+pub mod Ending
+pub mod TableLaws

@@ -1,0 +1,12 @@
+-- The pieces so far stand in the sink or wait.
+use Rattle.std.proofs.Common.{◌≤◌, ◌++◌, take}
+use Rattle.std.specs.List.{concat}
+use Rattle.dev_io.specs.Blocks.{Moves}
+use Rattle.survey_core.specs.Commands.{texts}
+use Rattle.survey_core.proofs.lines.add_all.Given as goal
+
+abbrev pub invariant-loop-piece : goal.invariant-loop-piece
+invariant-loop-piece g l = record {
+  moved : Moves (g.O.Sink.written l.initial.sink) (g.O.Sink.written l.sink) (l.initial.block ++ concat (take l.piece-index (texts l.pieces))) l.block;
+  later : g.O.Sink.faults l.initial.sink ≤ g.O.Sink.faults l.sink;
+}

@@ -1,0 +1,19 @@
+use Rattle.std.proofs.Common.{sym, ap, subst, List, ℕ}
+use Rattle.survey_core.specs.Commands.{texts, commands_of}
+use Rattle.survey_core.specs.Answers.{note_of}
+use Rattle.survey_core.specs.Runs.{Noted}
+use Rattle.survey_core.proofs.Ending.{cut_with, answers_end, word_noted}
+use Rattle.survey_core.proofs.top.run_survey.Goals as goal
+
+pub returns-clause-cut : goal.returns-clause-cut
+returns-clause-cut g c = λ high bytes e ts t. cut_with (texts c.args.words.now) bytes ts _ _ _ _ _ c.status.result c.work-end.result (c.work-end.ensures.told bytes e ts t) c.status.ensures high
+
+pub returns-clause-notes : goal.returns-clause-notes
+returns-clause-notes g c = λ low bytes e ts t.
+    subst (λ (l : List ℕ). Noted (g.N.Sink.written c.args.notes.now) (g.N.Sink.written c.tell.new.notes) (g.N.Sink.settled c.tell.new.notes) (g.N.Sink.faults c.args.notes.now) (g.N.Sink.faults c.tell.new.notes) l)
+    (sym (ap note_of (answers_end (texts c.args.words.now) bytes ts _ _ _ _ _ c.status.result c.work-end.result (c.work-end.ensures.told bytes e ts t) c.status.ensures low))) c.tell.ensures
+
+pub returns-clause-word : goal.returns-clause-word
+returns-clause-word g c = λ at is.
+    subst (λ (l : List ℕ). Noted (g.N.Sink.written c.args.notes.now) (g.N.Sink.written c.tell.new.notes) (g.N.Sink.settled c.tell.new.notes) (g.N.Sink.faults c.args.notes.now) (g.N.Sink.faults c.tell.new.notes) l)
+    (word_noted (commands_of (texts c.args.words.now)) at _ _ _ _ _ _ _ c.work-end.result is c.work-end.ensures.cause) c.tell.ensures

@@ -1,0 +1,15 @@
+use Rattle.std.proofs.Common.{List, ℕ, Result}
+use Rattle.survey_core.specs.declared.words.Command.{Command}
+use Rattle.survey_core.specs.Commands.{texts, commands_of}
+use Rattle.survey_core.specs.Runs.{EndTells}
+use Rattle.survey_core.proofs.Ending.{at_fault, with_commands}
+use Rattle.survey_core.proofs.top.work.Goals as goal
+
+pub returns-in-Some-clause-told : goal.returns-in-Some-clause-told
+returns-in-Some-clause-told g c = λ bytes e ts t. at_fault (commands_of (texts c.args.words.now)) c.in-Some.usage bytes ts _ _ _ _ c.in-Some.ensures.0 c.in-Some.ensures.1 e t
+
+pub returns-in-None-clause-told : goal.returns-in-None-clause-told
+returns-in-None-clause-told g c = λ bytes e ts t.
+    with_commands (texts c.args.words.now)
+    (λ (r : Result (List Command) ℕ). EndTells r bytes ts (g.S.Source.left c.session.new.input) (g.K.Keeper.tables c.session.new.keeper) (g.O.Sink.written c.args.output.now) (g.O.Sink.written c.session.new.output) (g.O.Sink.settled c.session.new.output) c.session.result)
+    c.in-None.ensures (λ commands is. c.session.ensures.told commands is bytes e ts t)

@@ -1,0 +1,27 @@
+//! A survey of many fields of the sky: the last accepted catalogue of each.
+#![tactic(auto)]
+
+mod catalogue;
+mod fault;
+mod field;
+mod keeper;
+pub mod laws;
+mod lines;
+mod listing;
+mod mem_keeper;
+mod notes;
+mod numbers;
+mod ranking;
+mod top;
+mod words;
+
+pub use fault::Fault;
+pub use field::Field;
+pub use keeper::{Keeper, Refused};
+pub use mem_keeper::MemKeeper;
+pub use top::run_survey;
+
+#[cfg(test)]
+mod session_tests;
+#[cfg(test)]
+mod tests;

@@ -1,0 +1,40 @@
+// Lines of text on their way to a sink.
+ghost use Rattle.std.specs.Prelude.{◌≡◌, ◌≤◌, ◌++◌, length, OnOk, OnErr};
+ghost use Rattle.dev_io.specs.Causes.{HasCause};
+ghost use Rattle.dev_io.specs.Streams.{PutAppends, AppendsPrefix};
+ghost use Rattle.dev_io.specs.Blocks.{Moves};
+ghost use Rattle.survey_core.specs.Lines.{joined};
+
+use dev_io::{Block, Failed, Sink};
+
+/// Lets these pieces wait, one behind the other.
+pub(crate) fn add_all<O: Sink>(
+    sink: &mut O,
+    block: &mut Block,
+    pieces: &[&[u8]],
+) -> Result<(), Failed>
+    requires { length (joined pieces.now) ≤ 2880 }
+    ensures ok { OnOk result (Moves (O.written sink.old) (O.written sink.new) (block.old ++ joined pieces.now) block.new) }
+    ensures err { OnErr result (AppendsPrefix (O.written sink.old) (O.written sink.new) (block.old ++ joined pieces.now)) }
+    ensures cause { HasCause (O.faults sink.old) (O.faults sink.new) result }
+{
+    for piece in pieces {
+        if let Err(failed) = block.add(sink, piece) {
+            return Err(failed);
+        }
+    }
+    Ok(())
+}
+
+/// Writes a line of these pieces.
+pub(crate) fn put_line<O: Sink>(sink: &mut O, pieces: &[&[u8]]) -> Result<(), Failed>
+    requires { length (joined pieces.now) ≤ 2880 }
+    ensures bytes { PutAppends (O.written sink.old) (O.written sink.new) result (joined pieces.now) }
+    ensures cause { HasCause (O.faults sink.old) (O.faults sink.new) result }
+{
+    let mut block = Block::new();
+    if let Err(failed) = add_all(sink, &mut block, pieces) {
+        return Err(failed);
+    }
+    block.flush(sink)
+}

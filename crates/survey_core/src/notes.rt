@@ -1,0 +1,103 @@
+// The line on the notes.
+ghost use Rattle.std.specs.Prelude.{◌≡◌, ◌≤◌, length};
+ghost use Rattle.dev_io.specs.Causes.{HasCause};
+ghost use Rattle.dev_io.specs.Streams.{PutAppends};
+ghost use Rattle.survey_core.specs.Answers.{note_of, stop_line, usage_line, refusal_line};
+ghost use Rattle.survey_core.specs.Runs.{Noted};
+
+use crate::Fault;
+use crate::fault::Stop;
+use crate::lines::put_line;
+use crate::top::End;
+use crate::words::Usage;
+use dev_io::{Failed, Sink};
+use itoa::Buffer;
+
+fn put_usage<N: Sink>(notes: &mut N, usage: Usage) -> Result<(), Failed>
+    ensures bytes { PutAppends (N.written notes.old) (N.written notes.new) result (usage_line usage.word) }
+    ensures cause { HasCause (N.faults notes.old) (N.faults notes.new) result }
+{
+    let mut word = Buffer::new();
+    put_line(
+        notes,
+        &[b"usage: word ", word.format(usage.word).as_bytes(), b"\n"],
+    )
+}
+
+// The places that the fault names, of which there are at most two, stand behind its number and its name.
+fn put_refusal<N: Sink>(notes: &mut N, fault: Fault) -> Result<(), Failed>
+    ensures bytes { PutAppends (N.written notes.old) (N.written notes.new) result (refusal_line fault) }
+    ensures cause { HasCause (N.faults notes.old) (N.faults notes.new) result }
+{
+    let mut number = Buffer::new();
+    let mut first = Buffer::new();
+    let mut second = Buffer::new();
+    let number = number.format(fault.number()).as_bytes();
+    let name = fault.name().as_bytes();
+    match fault {
+        Fault::BadKeyword { hdu, card } => put_line(
+            notes,
+            &[
+                b"refused: ",
+                number,
+                b" ",
+                name,
+                b" hdu ",
+                first.format(hdu).as_bytes(),
+                b" card ",
+                second.format(card).as_bytes(),
+                b"\n",
+            ],
+        ),
+        Fault::RowNumber { row } => put_line(
+            notes,
+            &[
+                b"refused: ",
+                number,
+                b" ",
+                name,
+                b" row ",
+                first.format(row).as_bytes(),
+                b"\n",
+            ],
+        ),
+        _ => put_line(notes, &[b"refused: ", number, b" ", name, b"\n"]),
+    }
+}
+
+fn put_stop<N: Sink>(notes: &mut N, stop: Stop) -> Result<(), Failed>
+    ensures bytes { PutAppends (N.written notes.old) (N.written notes.new) result (stop_line stop) }
+    ensures cause { HasCause (N.faults notes.old) (N.faults notes.new) result }
+{
+    match stop {
+        Stop::Refused(fault) => put_refusal(notes, fault),
+        Stop::ReadFault => notes.put(b"read fault\n"),
+        Stop::WriteFault => notes.put(b"write fault\n"),
+        Stop::NoMemory => notes.put(b"out of memory\n"),
+        Stop::KeeperFault => notes.put(b"keeper fault\n"),
+    }
+}
+
+fn put_note<N: Sink>(notes: &mut N, end: End) -> Result<(), Failed>
+    ensures bytes { PutAppends (N.written notes.old) (N.written notes.new) result (note_of end) }
+    ensures cause { HasCause (N.faults notes.old) (N.faults notes.new) result }
+{
+    match end {
+        End::Done => Ok(()),
+        End::Usage(usage) => put_usage(notes, usage),
+        End::Stopped(stop) => put_stop(notes, stop),
+    }
+}
+
+/// Tells how the session ended. What the notes answer changes nothing.
+pub(crate) fn tell<N: Sink>(notes: &mut N, end: End)
+    ensures { Noted (N.written notes.old) (N.written notes.new) (N.settled notes.new) (N.faults notes.old) (N.faults notes.new) (note_of end) }
+{
+    if matches!(end, End::Done) {
+        return;
+    }
+    if let Err(_) = put_note(notes, end) {
+        return;
+    }
+    let _ = notes.done();
+}

@@ -1,0 +1,251 @@
+//! Sessions over catalogues of five pixels in a row.
+
+use crate::{Field, Keeper, MemKeeper, run_survey};
+use dev_io::{MemSink, MemSource};
+use std::alloc::Global;
+use std::test::Fail;
+
+const BLOCK: usize = 2880;
+
+const PRIMARY: [&[u8]; 5] = [
+    b"SIMPLE  =                    T",
+    b"BITPIX  =                    8",
+    b"NAXIS   =                    0",
+    b"EXTEND  =                    T",
+    b"END",
+];
+
+const MAP: [&[u8]; 9] = [
+    b"XTENSION= 'IMAGE   '",
+    b"BITPIX  =                   32",
+    b"NAXIS   =                    2",
+    b"NAXIS1  =                    5",
+    b"NAXIS2  =                    1",
+    b"PCOUNT  =                    0",
+    b"GCOUNT  =                    1",
+    b"EXTNAME = 'SEGMENT '",
+    b"END",
+];
+
+// NUMBER, FLUX and XCEN of a row.
+type Source = (i32, i64, i32);
+
+// A card of this text.
+fn card(text: &[u8]) -> [u8; 80] {
+    let mut card = [b' '; 80];
+    let count = text.len().min(80);
+    card[..count].copy_from_slice(&text[..count]);
+    card
+}
+
+// Fills the last block.
+fn fill_block(bytes: &mut Vec<u8>, byte: u8) -> Result<(), Fail> {
+    let rest = (BLOCK - bytes.len() % BLOCK) % BLOCK;
+    bytes.extend_from_slice(&[byte; BLOCK][..rest])?;
+    Ok(())
+}
+
+fn add_cards(bytes: &mut Vec<u8>, cards: &[&[u8]]) -> Result<(), Fail> {
+    for text in cards {
+        bytes.extend_from_slice(&card(text))?;
+    }
+    Ok(())
+}
+
+fn add_row(bytes: &mut Vec<u8>, source: Source) -> Result<(), Fail> {
+    let (number, flux, xcen) = source;
+    bytes.extend_from_slice(&number.to_be_bytes())?;
+    bytes.extend_from_slice(&[0; 20])?;
+    bytes.extend_from_slice(&flux.to_be_bytes())?;
+    bytes.extend_from_slice(&[0; 32])?;
+    bytes.extend_from_slice(&xcen.to_be_bytes())?;
+    bytes.extend_from_slice(&1000_i32.to_be_bytes())?;
+    bytes.extend_from_slice(&[0; 24])?;
+    Ok(())
+}
+
+// A catalogue whose rows are said to have this width, and whose number of them is written so.
+fn catalogue(
+    alloc: Global,
+    width: &[u8],
+    count: &[u8],
+    sources: &[Source],
+) -> Result<Vec<u8>, Fail> {
+    let table: [&[u8]; 8] = [
+        b"XTENSION= 'BINTABLE'",
+        b"BITPIX  =                    8",
+        b"NAXIS   =                    2",
+        width,
+        count,
+        b"PCOUNT  =                    0",
+        b"GCOUNT  =                    1",
+        b"TFIELDS =                   17",
+    ];
+    let mut bytes = Vec::new(alloc);
+    add_cards(&mut bytes, &PRIMARY)?;
+    fill_block(&mut bytes, b' ')?;
+    add_cards(&mut bytes, &MAP)?;
+    fill_block(&mut bytes, b' ')?;
+    bytes.extend_from_slice(&[0; BLOCK])?;
+    add_cards(&mut bytes, &table)?;
+    // so many cards name the columns
+    for _ in 0..35 {
+        bytes.extend_from_slice(&card(b"COMMENT"))?;
+    }
+    bytes.extend_from_slice(&card(b"END"))?;
+    fill_block(&mut bytes, b' ')?;
+    for source in sources {
+        add_row(&mut bytes, *source)?;
+    }
+    fill_block(&mut bytes, 0)?;
+    Ok(bytes)
+}
+
+fn front(bytes: &[u8], count: usize) -> &[u8] {
+    &bytes[..count.min(bytes.len())]
+}
+
+#[test]
+fn sessions_answer_as_they_should(rt: HostRuntime) -> Result<(), Fail> {
+    let alloc = rt.alloc();
+    let width = b"NAXIS1  =                   96";
+    let one = b"NAXIS2  =                    1";
+    let two = b"NAXIS2  =                    2";
+    let first = catalogue(alloc, width, two, &[(1, 4, 2000), (2, 3, 4000)])?;
+    let second = catalogue(alloc, width, one, &[(1, 10, 2900)])?;
+    let mut both = Vec::from_slice(alloc, &first)?;
+    both.extend_from_slice(&second)?;
+    let none = catalogue(alloc, width, b"NAXIS2  =                    0", &[])?;
+    let other = catalogue(
+        alloc,
+        b"NAXIS1  =                   88",
+        one,
+        &[(1, 10, 2900)],
+    )?;
+    let moved = catalogue(alloc, width, two, &[(1, 4, 2000), (1, 3, 4000)])?;
+    // the words, the input, the keeper's calls that fail; the status, how many bytes are taken, the output and the notes
+    let cases: [(&[&str], &[u8], &[u32], u8, usize, &[u8], &[u8]); 9] = [
+        (
+            &[
+                "add",
+                "A",
+                "add",
+                "B",
+                "list",
+                "brightest",
+                "2",
+                "drop",
+                "A",
+                "list",
+            ],
+            &both,
+            &[],
+            0,
+            34560,
+            b"A 2 7\nB 1 10\nB 1 10 2900 1000\nA 1 4 2000 1000\nB 1 10\n",
+            b"",
+        ),
+        (&["add", "Z", "list"], &none, &[], 0, 14400, b"Z 0 0\n", b""),
+        (
+            &["add", "A", "add", "B"],
+            &first,
+            &[],
+            2,
+            17280,
+            b"",
+            b"refused: 1 NotFits\n",
+        ),
+        (
+            &["list", "drop", "A"],
+            b"",
+            &[],
+            2,
+            0,
+            b"",
+            b"refused: 24 NoSuchField\n",
+        ),
+        (
+            &["add", "A"],
+            front(&first, 14500),
+            &[],
+            2,
+            14500,
+            b"",
+            b"refused: 22 TruncatedTable\n",
+        ),
+        (
+            &["brightest", "0"],
+            &first,
+            &[],
+            1,
+            0,
+            b"",
+            b"usage: word 2\n",
+        ),
+        (
+            &["add", "A"],
+            &other,
+            &[],
+            2,
+            14400,
+            b"",
+            b"refused: 20 NotCatalogue\n",
+        ),
+        (
+            &["add", "A"],
+            &moved,
+            &[],
+            2,
+            14592,
+            b"",
+            b"refused: 23 RowNumber row 2\n",
+        ),
+        (
+            &["add", "A", "list"],
+            &first,
+            &[1],
+            6,
+            17280,
+            b"",
+            b"keeper fault\n",
+        ),
+    ];
+    for (words, bytes, fails, status, taken, written, note) in cases {
+        let mut input = MemSource::new(bytes, 1000, &[]);
+        let mut keeper = MemKeeper::new(alloc, fails);
+        let mut output = MemSink::new(vec![in alloc; 0; 200]?, &[], 0);
+        let mut notes = MemSink::new(vec![in alloc; 0; 99]?, &[], 0);
+        assert_eq!(rt;
+            run_survey(
+                alloc,
+                words,
+                &mut input,
+                &mut keeper,
+                &mut output,
+                &mut notes
+            ),
+            status
+        );
+        assert_eq!(rt; bytes.len().saturating_sub(input.rest().len()), taken);
+        assert_eq!(rt; output.bytes(), written);
+        assert_eq!(rt; notes.bytes(), note);
+    }
+    Ok(())
+}
+
+#[test]
+fn an_add_replaces(rt: HostRuntime) -> Result<(), Fail> {
+    let alloc = rt.alloc();
+    let mut keeper = MemKeeper::new(alloc, &[]);
+    let name = "A";
+    let Some(field) = Field::of(name) else {
+        return Ok(());
+    };
+    let first: [i64; 17] = [1, 2, 3, 4, 5, 6, 7, 8, 9, 10, 11, 12, 13, 14, 15, 16, 17];
+    assert!(rt; keeper.replace(alloc, field.copy(), &first).is_ok());
+    assert!(rt; keeper.replace(alloc, field.copy(), &[]).is_ok());
+    assert!(rt; matches!(keeper.rows(alloc, field.copy()), Ok(Some(cells)) if cells.is_empty()));
+    assert!(rt; matches!(keeper.remove(alloc, field.copy()), Ok(true)));
+    assert!(rt; matches!(keeper.rows(alloc, field), Ok(None)));
+    Ok(())
+}
