@@ -3,6 +3,7 @@ pub mod Counting
 pub mod Core
 pub mod History
 pub mod Keeping
+pub mod Listed
 pub mod Working
 pub mod Jobs
 pub mod Groups

@@ -75,7 +75,7 @@ module _ {A : Type 0} where
     pub terms_le : (l : List A) (j k : ℕ) (v u : A) → k ≢ j → get_elem? l j ≡ some v → get_elem? l k ≡ some u → g v + g u ≤ total g l
     terms_le l j k v u ne e d = let t = still_there l j k u ne d in omega (arith, total_omit l j v e, term_le (omit l j) t.0 u t.1)
 
-    total_none : (l : List A) → ((i : ℕ) (u : A) → get_elem? l i ≡ some u → g u ≡ 0) → total g l ≡ 0
+    pub total_none : (l : List A) → ((i : ℕ) (u : A) → get_elem? l i ≡ some u → g u ≡ 0) → total g l ≡ 0
     total_none [] weightless = refl
     total_none (x ∷ xs) weightless = omega (arith, weightless 0 x refl, total_none xs (λ i u e. weightless (suc i) u e))
 

@@ -1,5 +1,5 @@
 -- The rule of the claims table, and what each of its steps tells.
-use Rattle.std.specs.Prelude.{◌≡◌, ◌≢◌, ℕ, ◌+◌, ◌<◌, ◌≤◌, Bool, true, false, List, [], ◌∷◌, ◌++◌, map, length, max, slice_index, None, IsSomeAnd, ◌*◌, min, Result, IfOk}
+use Rattle.std.specs.Prelude.{◌≡◌, ◌≢◌, ℕ, ◌+◌, ◌<◌, ◌≤◌, Bool, true, false, List, [], ◌∷◌, ◌++◌, map, length, max, slice_index, Some, None, IsSomeAnd, ◌*◌, min, Result, IfOk}
 use mathlib.Core.Option.{Option, some}
 use lib.ListN.{get_elem?}
 use Rattle.atomic_table.specs.Table.{State, Me, Step, rest}
@@ -137,6 +137,12 @@ abbrev pub SettleLaw : Type 0
 SettleLaw =
     (run : Run) (s : State JobView View) (j : ℕ) (v : View) → RuleHolds run s → get_elem? s.views j ≡ some v → v.claim.past ≡ run.workers → v.claim.hand ≡ None
     → Settled run s j v
+
+-- the law of the lists: at any time, each strip of a seat's list but the one in its hand is home and flooded
+abbrev pub ListedLaw : Type 0
+ListedLaw =
+    (run : Run) (s : State JobView View) (j : ℕ) (v : View) (place strip : ℕ) → RuleHolds run s → get_elem? s.views j ≡ some v
+    → get_elem? v.claim.claimed place ≡ some strip → v.claim.hand ≢ Some strip → IsHome run s.homes strip true
 
 -- the jobs of the strips from the first one up to and without limit, not flooded
 pub record AreReady (plan : Plan) (first limit : ℕ) (jobs : List JobView) : Type 0 where

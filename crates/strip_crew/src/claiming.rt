@@ -104,7 +104,7 @@ fn give(table: &ClaimTable, seat: &mut ClaimSeat, _strip: usize)
 /// Before it floods a strip it enters the gate with the strip's number. A claim and a give-back are one `fetch_add`
 /// each, and neither is ever tried again, so it waits for nobody. It takes no memory. The seat is a new one, which
 /// owes one claim past the end; the seat that comes back has made it, and its list is of strips that were each given
-/// back flooded.
+/// back flooded (`laws::each_listed_strip_is_flooded`).
 pub fn worker<G: Gate>(table: &ClaimTable, seat: ClaimSeat, plane: &Plane, gate: &G) -> ClaimSeat
     requires table { seat.table_id ≡ table.now.shared.table_id }
     requires words { table.now.shared.table_id.words ≡ 2 }

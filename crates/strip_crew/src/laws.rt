@@ -1,7 +1,7 @@
 //! Laws of the claims. Each is the contract of a function that does nothing, and speaks of the definitions alone.
 
 ghost use Rattle.strip_crew.specs.Core.{CoreLaw, CoreEnds};
-ghost use Rattle.strip_crew.specs.Claims.{SettleLaw};
+ghost use Rattle.strip_crew.specs.Claims.{ListedLaw, SettleLaw};
 
 /// In any schedule: after any list of events that the machine of claims allows from its start, its rule holds, each
 /// strip was claimed at most once and given back at most once, and no number past the last strip was claimed or given
@@ -14,6 +14,12 @@ pub fn each_schedule_keeps_the_rule()
 /// exactly one give-back of each strip.
 pub fn each_strip_is_flooded_once()
     ensures { CoreEnds }
+{}
+
+/// While the rule of the table holds, each strip that a seat lists is home and flooded, unless that seat has it in hand: so
+/// all strips that a worker lists when it ends.
+pub fn each_listed_strip_is_flooded()
+    ensures { ListedLaw }
 {}
 
 /// Where the rule of the table holds and one seat has made all claims past the end and has no strip in hand, the other

@@ -204,8 +204,12 @@ fn joined_strips_have_the_plain_tree(rt: HostRuntime) {
     }
 }
 
-// Shortens the way up from `p`, if the links are a forest and `p` is defined.
-fn shorten_from(parents: &mut [u32], plane: &Plane, p: u32) -> bool {
+fn shorten_by<M: Ledger>(looked: Blank, parents: &mut [u32], plane: &Plane, p: u32) -> bool
+    requires name { looked.name ≡ M.name }
+    requires parts { looked.parts ≡ M.parts }
+    requires some { 0 < looked.parts }
+{
+    let mut looked = Steps::<M>::start(looked);
     let shape = plane.shape();
     if parents.len() != shape.pixels() as usize || !is_forest(plane, 0, parents) {
         return false;
@@ -213,8 +217,13 @@ fn shorten_from(parents: &mut [u32], plane: &Plane, p: u32) -> bool {
     if p >= shape.pixels() || !plane.is_defined(p) {
         return false;
     }
-    shorten(parents, plane, 0, p);
+    shorten(parents, plane, 0, p, &mut looked);
     true
+}
+
+// Shortens the way up from `p`, if the links are a forest and `p` is defined.
+fn shorten_from(parents: &mut [u32], plane: &Plane, p: u32) -> bool {
+    shorten_by::<Brand>(Blank::new(1), parents, plane, p)
 }
 
 #[test]
