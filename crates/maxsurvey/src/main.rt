@@ -1,12 +1,14 @@
-//! The program: hands its words and its streams to `run_survey`, over tables in memory, and exits with its status.
+//! The program: hands its words and its streams to `run_survey`, over the tables of the file that the words name, or over tables in memory,
+//! and exits with its status.
 #![tactic(auto)]
 
 use dev_io::{OutOfMemory, ReadSource, WriteSink};
 use std::env;
 use std::io::ErrorKind;
 use std::process::ExitCode;
-use std::rt::Env;
-use survey_core::{MemKeeper, run_survey};
+use std::rt::{Env, HostRuntime};
+use survey_core::{Keeper, MemKeeper, path_of, run_survey};
+use survey_sqlite::FileKeeper;
 
 const NO_MEMORY: u8 = 5;
 
@@ -30,6 +32,21 @@ fn words(rt: &(impl Env + AllocGlobal)) -> Result<Vec<String>, OutOfMemory> {
     }
 }
 
+// Over these tables, with the program's streams.
+fn survey<K: Keeper>(rt: &HostRuntime, words: &[&str], keeper: &mut K) -> u8 {
+    let mut input = ReadSource::new(rt.stdin());
+    let mut output = WriteSink::new(rt.stdout());
+    let mut notes = WriteSink::new(rt.stderr());
+    run_survey(
+        rt.alloc(),
+        words,
+        &mut input,
+        keeper,
+        &mut output,
+        &mut notes,
+    )
+}
+
 fn main(rt: HostRuntime) -> ExitCode {
     let alloc = rt.alloc();
     let Ok(words) = words(&rt) else {
@@ -41,17 +58,14 @@ fn main(rt: HostRuntime) -> ExitCode {
             return ExitCode::from(NO_MEMORY);
         }
     }
-    let mut input = ReadSource::new(rt.stdin());
-    let mut keeper = MemKeeper::new(alloc, &[]);
-    let mut output = WriteSink::new(rt.stdout());
-    let mut notes = WriteSink::new(rt.stderr());
-    let status = run_survey(
-        alloc,
-        &texts,
-        &mut input,
-        &mut keeper,
-        &mut output,
-        &mut notes,
-    );
+    let status = match path_of(&texts) {
+        Some(path) => {
+            let mut keeper = FileKeeper::at(&rt, path);
+            let status = survey(&rt, &texts, &mut keeper);
+            keeper.close();
+            status
+        }
+        None => survey(&rt, &texts, &mut MemKeeper::new(alloc, &[])),
+    };
     ExitCode::from(status)
 }

@@ -2,7 +2,7 @@
 use Rattle.std.proofs.Common.{◌≡◌, ◌∙◌, ℕ, ◌+◌, ◌-◌, ◌*◌, ◌%◌, ◌<◌, ◌≤◌, Bool, true, false, cond, not, nat_lt, get_or, List, [], ◌++◌, length, take, drop, min, Some, None, refl, sym, ap, ap₂, subst, arith, length-drop, add-one, ℤ, pos}
 use Rattle.std.specs.Prelude.{Option, slice_get, Result, Ok, Err, MatchResult}
 use Rattle.std.proofs.lemmas.List.{take_all}
-use Rattle.std.proofs.lemmas.Option.{slice_get-get_or}
+use Rattle.std.proofs.lemmas.Option.{slice_get-get_or, get_or_from_slice_get}
 use Rattle.std.specs.Ordering.{int_eq}
 use Rattle.std.proofs.lemmas.Bool.Decides.{Decides-int_eq}
 use Rattle.std.proofs.lemmas.Bool.Decides.{nat_tests}
@@ -164,6 +164,15 @@ all_numbered cells rows whole none = record { whole = omega (arith, whole); numb
     numbers i h =
         let place : 17 * i + 0 ≡ 17 * i = omega arith in
         slice_get-get_or cells (17 * i) (pos 0) h ∙ ap (λ k. Some (get_or cells k (pos 0))) (sym place) ∙ ap Some (number i _ refl (none i (omega (arith, whole, h))))
+
+-- and numbered rows aren't misnumbered
+pub none_misnumbered : (cells : List ℤ) (i : ℕ) → IsNumbered cells → 17 * i < length cells → is_misnumbered cells i ≡ true → ⊥
+none_misnumbered cells i is h bad =
+    let place : 17 * i + 0 ≡ 17 * i = omega arith in
+    let number : get_or cells (17 * i + 0) (pos 0) ≡ pos (i + 1) = ap (λ k. get_or cells k (pos 0)) place ∙ get_or_from_slice_get cells (17 * i) (pos (i + 1)) (pos 0) (is.numbers i h) in
+    let same : int_eq (get_or cells (17 * i + 0) (pos 0)) (pos (i + 1)) ≡ true = (Decides-int_eq _ _).1 number in
+    let no_it : is_misnumbered cells i ≡ false = ap not same in
+    let both : true ≡ false = sym bad ∙ no_it in cc
 
 -- ---- the catalogue
 

@@ -1,15 +1,19 @@
 -- How a session ends.
-use Rattle.std.proofs.Common.{◌≡◌, ℕ, ◌+◌, ◌-◌, ◌<◌, ◌≤◌, Bool, List, [], ◌∷◌, Some, refl, sym, ap, subst, arith, Result, Ok, Err}
-use Rattle.std.specs.Prelude.{Option, IsOk}
+use Rattle.std.proofs.Common.{◌≡◌, ◌∙◌, ℕ, ◌+◌, ◌-◌, ◌<◌, ◌≤◌, ◌⊎◌, inl, inr, Bool, true, false, List, [], ◌∷◌, drop, Some, None, refl, sym, ap, subst, arith, Result, Ok, Err}
+use Rattle.std.specs.Prelude.{Option, IsTrue, IsErr, IsOk}
+use Rattle.std.specs.Io.KnownBytes.{Appends}
 use Rattle.std.proofs.KnownBytes.{Appends-nil}
+use Rattle.dev_io.specs.Causes.{Rose}
+use Rattle.dev_io.specs.Streams.{Takes}
 use Rattle.survey_core.specs.declared.words.Command.{Command}
 use Rattle.survey_core.specs.declared.words.Usage.{Usage as AtFault}
+use Rattle.survey_core.specs.declared.fault.Stop.{Stop}
 use Rattle.survey_core.specs.declared.fault.Stop.TheVariants.{Refused, ReadFault, WriteFault, NoMemory, KeeperFault}
 use Rattle.survey_core.specs.declared.top.End.{End}
 use Rattle.survey_core.specs.declared.top.End.TheVariants.{Done, Usage, Stopped}
 use Rattle.survey_core.specs.Tables.{Table}
-use Rattle.survey_core.specs.Commands.{read, commands_of}
-use Rattle.survey_core.specs.Answers.{answer_by, answer, status_of, note_of, usage_line}
+use Rattle.survey_core.specs.Commands.{read, some_commands, file_words, further, commands_of}
+use Rattle.survey_core.specs.Answers.{Answer, answer_by, answer, status_of, note_of, usage_line}
 use Rattle.survey_core.specs.Runs.{Answers, EndTells, EndCause}
 use Rattle.survey_core.specs.Headline.{IsCutWith}
 
@@ -24,15 +28,17 @@ at_fault commands usage bytes ts a k w settled is some e t = rw is (record {
   settled = λ h. absurd (cc);
 })
 
-pub read_too : (words : List (List ℕ)) (commands : List Command) → commands_of words ≡ Ok commands → read words ≡ Ok commands
+pub read_too : (words : List (List ℕ)) (commands : List Command) → some_commands words ≡ Ok commands → read words ≡ Ok commands
 read_too [] commands e = absurd (cc)
 read_too (w ∷ words) commands e = e
 
-pub with_commands : (words : List (List ℕ)) (P : Result (List Command) ℕ → Type 0) → IsOk (commands_of words) → ((commands : List Command) → read words ≡ Ok commands → P (Ok commands)) → P (commands_of words)
-with_commands words P is_read h = by (commands_of words) refl is_read
+-- where no word is at fault the words behind the file are these commands
+pub with_commands : (words : List (List ℕ)) (P : Result (List Command) ℕ → Type 0) → IsOk (commands_of words) → ((commands : List Command) → read (drop (file_words words) words) ≡ Ok commands → P (Ok commands)) → P (commands_of words)
+unfolding commands_of
+with_commands words P is_read h = by (some_commands (drop (file_words words) words)) refl is_read
   where
-    by : (r : Result (List Command) ℕ) → commands_of words ≡ r → IsOk r → P (commands_of words)
-    by (Ok commands) e some = subst P (sym e) (h commands (read_too words commands e))
+    by : (r : Result (List Command) ℕ) → some_commands (drop (file_words words) words) ≡ r → IsOk (further (file_words words) r) → P (further (file_words words) r)
+    by (Ok commands) e some = h commands (read_too (drop (file_words words) words) commands e)
     by (Err at) e some = absurd (cc)
 
 module _ (words : List (List ℕ)) (bytes : List ℕ) (ts : List Table) (b : Option (List ℕ)) (m : Option (List Table)) (w u : Option (List ℕ)) (settled : Bool) (status : ℕ) where

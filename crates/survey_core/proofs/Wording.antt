@@ -1,13 +1,15 @@
 -- The words of a session, command by command.
-use Rattle.std.proofs.Common.{◌≡◌, ◌∙◌, ℕ, zero, suc, ◌+◌, ◌-◌, ◌≤◌, ◌<◌, ◌==◌, cond, List, [], ◌∷◌, ◌++◌, length, drop, length-drop, Some, None, Result, Ok, Err, IfOk, refl, sym, ap, ap₂, get_or, arith, append_assoc}
-use Rattle.std.specs.Prelude.{Option, slice_get, IsOk}
-use Rattle.std.proofs.lemmas.List.{drop-drop, drop_all, get_or-map, length-map}
+use Rattle.std.proofs.Common.{◌≡◌, ◌∙◌, ◌⊎◌, inl, inr, ℕ, zero, suc, ◌+◌, ◌-◌, ◌≤◌, ◌<◌, ◌==◌, Bool, true, false, cond, List, [], ◌∷◌, ◌++◌, length, drop, length-drop, Some, None, Result, Ok, Err, IfOk, refl, sym, ap, ap₂, subst, get_or, arith, append_assoc, append-nil}
+use Rattle.std.specs.Prelude.{Option, slice_get, unwrap_or, IsOk, codes}
+use Rattle.std.proofs.lemmas.List.{drop-drop, drop_all, drop-map, get_or-map, length-map}
+use Rattle.std.proofs.lemmas.Bool.{cases_Bool}
+use Rattle.std.specs.Str.{bytes_eq}
 use Rattle.std.specs.Option.{option_to_list}
 use native.Mathlib.Numerals.{unary_clauses}
 use denote.Ref.{Bor}
 use Rattle.survey_core.specs.declared.words.Command.{Command}
 use Rattle.survey_core.specs.declared.words.Command.TheVariants.{Add, Drop, List as Listing, Brightest}
-use Rattle.survey_core.specs.Commands.{read, front, width, behind, command_of, commands_of, texts}
+use Rattle.survey_core.specs.Commands.{read, front, width, behind, with_rest, command_of, some_commands, path_of, file_words, further, commands_of, texts}
 
 -- these commands of so many words, and what the words behind them mean
 abbrev pub onward : List Command → ℕ → Result (List Command) ℕ → Result (List Command) ℕ
@@ -51,13 +53,13 @@ onward_next words before at c e so_far =
 
 -- the first word at fault
 pub fault_at : (words : List (List ℕ)) (before : List Command) (at k n : ℕ) → at < length words → front (drop at words) ≡ Err k → read words ≡ onward before at (read (drop at words))
-    → n ≡ at + k + 1 → (commands_of words ≡ Err (n - 1)) × (0 < n)
+    → n ≡ at + k + 1 → (some_commands words ≡ Err (n - 1)) × (0 < n)
 fault_at [] before at k n h e so_far is = absurd (omega arith)
 fault_at (w ∷ words) before at k n h e so_far is =
     (so_far ∙ ap (onward before at) (read_fault (drop at (w ∷ words)) k (omega (arith, length-drop at (w ∷ words))) e) ∙ ap Err (omega arith), omega arith)
 
 -- none is at fault
-pub all_read : (words : List (List ℕ)) (before : List Command) (at : ℕ) → 0 < length words → length words ≤ at → read words ≡ onward before at (read (drop at words)) → IsOk (commands_of words)
+pub all_read : (words : List (List ℕ)) (before : List Command) (at : ℕ) → 0 < length words → length words ≤ at → read words ≡ onward before at (read (drop at words)) → IsOk (some_commands words)
 unfolding read
 all_read [] before at some h so_far = absurd (omega arith)
 all_read (w ∷ words) before at some h so_far = rw (so_far ∙ ap (λ ws. onward before at (read ws)) (drop_all at (w ∷ words) h)) refl
@@ -101,3 +103,32 @@ no_front (w ∷ words) k rest e is = let bad = sym (read_fault (w ∷ words) k (
 pub behind_ok : (c : Command) (r : Result (List Command) ℕ) (rest : List Command) → behind c r ≡ Ok rest → (more : List Command) × (r ≡ Ok more) × (rest ≡ c ∷ more)
 behind_ok c (Ok more) rest e = (more, refl, cc)
 behind_ok c (Err k) rest e = absurd (cc)
+
+-- ---- the words that name a file
+
+pub texts_behind : (words : List (Bor (List ℕ))) (n : ℕ) → texts (drop n words) ≡ drop n (texts words)
+texts_behind words n = sym (drop-map (λ (word : Bor (List ℕ)). word.now) n words)
+
+pub file_within : (words : List (List ℕ)) → file_words words ≤ length words
+file_within [] = omega arith
+file_within (word ∷ rest) = elim (cases_Bool (bytes_eq word (codes "--file"))) [
+  | inl it ↦ rw it (omega arith)
+  | inr it ↦ rw it (omega arith)
+]
+
+-- a word at fault behind the file
+pub fault_behind : (words : List (List ℕ)) (n : ℕ) → some_commands (drop (file_words words) words) ≡ Err (n - 1) → 0 < n → (commands_of words ≡ Err (file_words words + n - 1)) × (0 < file_words words + n)
+unfolding commands_of
+fault_behind words n e some = (ap (further (file_words words)) e ∙ ap Err (omega (arith, some)), omega (arith, some))
+
+pub none_behind : (words : List (List ℕ)) → IsOk (some_commands (drop (file_words words) words)) → IsOk (commands_of words)
+unfolding commands_of
+none_behind words is = by (some_commands (drop (file_words words) words)) is
+  where
+    by : (r : Result (List Command) ℕ) → IsOk r → IsOk (further (file_words words) r)
+    by (Ok commands) some = refl
+    by (Err at) some = absurd (cc)
+
+-- what the words behind the file mean
+pub read_behind : (words rest : List (Bor (List ℕ))) (commands : List Command) → rest ≡ drop (file_words (texts words)) words → read (drop (file_words (texts words)) (texts words)) ≡ Ok commands → read (texts rest) ≡ Ok commands
+read_behind words rest commands e is = ap read (ap texts e ∙ texts_behind words (file_words (texts words))) ∙ is

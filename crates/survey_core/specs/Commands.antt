@@ -1,5 +1,5 @@
 -- What the words of a session mean: its commands, one behind the other.
-use Rattle.std.specs.Prelude.{ℕ, ◌+◌, List, [], ◌∷◌, ◌==◌, map, pos, unsigned_abs, Option, Some, None, Result, Ok, Err, codes, if◌then◌else◌}
+use Rattle.std.specs.Prelude.{ℕ, ◌+◌, min, Bool, true, false, List, [], ◌∷◌, ◌==◌, length, map, drop, ℤ, pos, unsigned_abs, Option, Some, None, Result, Ok, Err, codes, if◌then◌else◌}
 use denote.Ref.{Bor}
 use Rattle.std.specs.Str.{bytes_eq}
 use Rattle.std.specs.Option.{option_map}
@@ -69,9 +69,29 @@ read (word ∷ []) = with_rest (command_of word None) (Ok []) (Ok [])
 read (word ∷ next ∷ rest) = with_rest (command_of word (Some next)) (read (next ∷ rest)) (read rest)
 
 -- the same, where there must be one
-abbrev pub commands_of : List (List ℕ) → Result (List Command) ℕ
-commands_of [] = Err 0
-commands_of (word ∷ rest) = read (word ∷ rest)
+abbrev pub some_commands : List (List ℕ) → Result (List Command) ℕ
+some_commands [] = Err 0
+some_commands (word ∷ rest) = read (word ∷ rest)
+
+-- the path of a file, where `--file` is the first word
+abbrev pub path_of : List (List ℕ) → Option (List ℕ)
+path_of [] = None
+path_of (word ∷ []) = None
+path_of (word ∷ path ∷ rest) = if bytes_eq word (codes "--file") then Some path else None
+
+-- how many words name it: its path may be missing
+abbrev pub file_words : List (List ℕ) → ℕ
+file_words [] = 0
+file_words (word ∷ rest) = if bytes_eq word (codes "--file") then min 2 (1 + length rest) else 0
+
+-- a place among the words behind so many
+abbrev pub further : ℕ → Result (List Command) ℕ → Result (List Command) ℕ
+further before (Ok commands) = Ok commands
+further before (Err at) = Err (before + at)
+
+-- the commands of a session, behind the file that it may name
+unfoldable pub commands_of : List (List ℕ) → Result (List Command) ℕ
+commands_of words = further (file_words words) (some_commands (drop (file_words words) words))
 
 -- the command at the front
 abbrev pub front : List (List ℕ) → Result Command ℕ

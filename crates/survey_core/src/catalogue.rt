@@ -1,5 +1,5 @@
 // Reading one catalogue.
-ghost use Rattle.std.specs.Prelude.{◌≡◌, ◌==◌, ◌≤◌, ◌+◌, ◌*◌, ◌^◌, ◌<◌, ℕ, false, length, min, IfOk, IfErr, IfSome, IfNone, MatchResult};
+ghost use Rattle.std.specs.Prelude.{◌≡◌, ◌==◌, ◌≤◌, ◌+◌, ◌*◌, ◌^◌, ◌<◌, ◌↔◌, ℕ, true, false, length, min, IsTrue, IfOk, IfErr, IfSome, IfNone, MatchResult};
 ghost use Rattle.std.specs.Option.{ForSome};
 ghost use Rattle.dev_io.specs.Causes.{HasCause};
 ghost use Rattle.dev_io.specs.Streams.{Takes, TakesAtMost};
@@ -169,6 +169,7 @@ fn is_misnumbered(cells: &[i64], row: usize) -> bool
 fn misnumbered(cells: &[i64]) -> Option<usize>
     ensures first { result ≡ first_misnumbered cells.now }
     ensures within { IfSome result (λ place. 17 * place < length cells.now) }
+    ensures some { IfSome result (λ place. is_misnumbered cells.now place ≡ true) }
     ensures none { IfNone result ((i : ℕ) → 17 * i + 17 ≤ length cells.now → is_misnumbered cells.now i ≡ false) }
 {
     for place in 0..cells.len() / COLUMNS {
@@ -177,6 +178,19 @@ fn misnumbered(cells: &[i64]) -> Option<usize>
         }
     }
     None
+}
+
+/// Whether the cells are whole rows of 17, each of which has the number of its place: what a keeper takes and gives back.
+pub fn are_numbered(cells: &[i64]) -> bool
+    ensures { IsTrue result ↔ IsNumbered cells.now }
+{
+    if cells.len() % COLUMNS != 0 {
+        return false;
+    }
+    match misnumbered(cells) {
+        Some(_) => false,
+        None => true,
+    }
 }
 
 // Takes so many bytes, or as many as there are.

@@ -15,11 +15,13 @@ mod ranking;
 mod top;
 mod words;
 
+pub use catalogue::are_numbered;
 pub use fault::Fault;
 pub use field::Field;
 pub use keeper::{Keeper, Refused};
 pub use mem_keeper::MemKeeper;
 pub use top::run_survey;
+pub use words::path_of;
 
 #[cfg(test)]
 mod session_tests;

@@ -17,7 +17,7 @@ use crate::fault::{Fault, Stop};
 use crate::listing::list;
 use crate::notes::tell;
 use crate::ranking::brightest;
-use crate::words::{Command, Usage, command_at, word_at_fault};
+use crate::words::{Command, Usage, command_at, command_words, word_at_fault};
 use crate::{Field, Keeper};
 use dev_io::{Sink, Source};
 use std::alloc::Global;
@@ -164,12 +164,13 @@ fn work<S: Source, K: Keeper, O: Sink>(
 {
     match word_at_fault(words) {
         Some(usage) => End::Usage(usage),
-        None => session(alloc, words, input, keeper, output),
+        None => session(alloc, command_words(words), input, keeper, output),
     }
 }
 
 /// Goes through the commands that the words give: `add FIELD` reads the next catalogue of the input, `drop FIELD` takes a field out, `list`
-/// prints a line for each field, and `brightest K` the K rows with the greatest fluxes.
+/// prints a line for each field, and `brightest K` the K rows with the greatest fluxes. The words may begin with `--file` and a path, which
+/// are for the caller (`path_of`): here they are passed over.
 ///
 /// The status is 0 where all was done, 1 where a word is at fault, 2 at the first fault of a command, 3 at a read fault, 4 at a write fault,
 /// 5 where memory is wanted and 6 where the keeper fails. What the commands before a fault did stands. Output comes in pieces of at most

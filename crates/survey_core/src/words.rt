@@ -1,7 +1,8 @@
 // The words of a session.
-ghost use Rattle.std.specs.Prelude.{◌≡◌, ◌+◌, ◌-◌, ◌≤◌, ◌<◌, drop, length, slice_get, Err, IfOk, IfErr, IfSome, MatchOption, IsOk};
+ghost use Rattle.std.specs.Prelude.{◌≡◌, ◌+◌, ◌-◌, ◌≤◌, ◌<◌, drop, length, slice_get, codes, Err, IfOk, IfErr, IfSome, MatchOption, IsOk};
+ghost use Rattle.std.specs.Str.{bytes_eq};
 ghost use Rattle.std.specs.Option.{option_map, option_to_list};
-ghost use Rattle.survey_core.specs.Commands.{texts, width, field_in, count_in, number_in, command_of, front, commands_of};
+ghost use Rattle.survey_core.specs.Commands.{texts, width, field_in, count_in, number_in, command_of, front, some_commands, path_of, file_words, commands_of};
 ghost use Rattle.survey_core.specs.Steps.{HasCount};
 
 use crate::Field;
@@ -123,9 +124,44 @@ pub(crate) fn command_at(words: &[&str], at: usize) -> Result<Command, usize>
     command_of(words[at], word_at(words, at + 1))
 }
 
-/// The first word at fault.
-pub(crate) fn word_at_fault(words: &[&str]) -> Option<Usage>
-    ensures { MatchOption result (IsOk (commands_of (texts words.now))) (λ usage. commands_of (texts words.now) ≡ Err (usage.word - 1) × (0 < usage.word)) }
+fn is_file_word(word: &str) -> bool
+    ensures { result ≡ bytes_eq word.now (codes "--file") }
+{
+    word == "--file"
+}
+
+// How many words at the front name a file.
+fn file_words(words: &[&str]) -> usize
+    ensures count { result ≡ file_words (texts words.now) }
+    ensures within { result ≤ length words.now }
+{
+    if words.is_empty() || !is_file_word(words[0]) {
+        return 0;
+    }
+    words.len().min(2)
+}
+
+/// The file that the words of a session name: the path behind `--file`, where that is the first word. It may be empty.
+pub fn path_of<'w>(words: &[&'w str]) -> Option<&'w str>
+    ensures { option_map (λ word. word.now) result ≡ path_of (texts words.now) }
+{
+    if file_words(words) < 2 {
+        return None;
+    }
+    Some(words[1])
+}
+
+/// The words of the commands, behind those that name a file.
+pub(crate) fn command_words<'s, 'w>(words: &'s [&'w str]) -> &'s [&'w str]
+    ensures { result.now ≡ drop (file_words (texts words.now)) words.now }
+{
+    &words[file_words(words)..]
+}
+
+// The first of the commands' words that is at fault.
+fn fault_among(words: &[&str]) -> Option<Usage>
+    ensures fault { MatchOption result (IsOk (some_commands (texts words.now))) (λ usage. some_commands (texts words.now) ≡ Err (usage.word - 1) × (0 < usage.word)) }
+    ensures near { IfSome result (λ usage. usage.word ≤ length words.now + 1) }
 {
     if words.is_empty() {
         return Some(Usage { word: 1 });
@@ -142,4 +178,16 @@ pub(crate) fn word_at_fault(words: &[&str]) -> Option<Usage>
         }
     }
     None
+}
+
+/// The first word at fault.
+pub(crate) fn word_at_fault(words: &[&str]) -> Option<Usage>
+    ensures { MatchOption result (IsOk (commands_of (texts words.now))) (λ usage. commands_of (texts words.now) ≡ Err (usage.word - 1) × (0 < usage.word)) }
+{
+    match fault_among(command_words(words)) {
+        Some(usage) => Some(Usage {
+            word: file_words(words) + usage.word,
+        }),
+        None => None,
+    }
 }

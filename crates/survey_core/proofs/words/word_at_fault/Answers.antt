@@ -1,22 +1,18 @@
-use Rattle.std.proofs.Common.{◌∷◌, ◌++◌, [], arith, rules, sym}
-use Rattle.std.proofs.lemmas.List.{length-map}
-use Rattle.survey_core.specs.Commands.{texts}
-use Rattle.survey_core.proofs.Wording.{onward_next, fault_at, all_read, some_words}
+use Rattle.std.proofs.Common.{◌≡◌, ◌-◌, drop, Err, sym, ap, subst, ◌∙◌}
+use Rattle.std.specs.Prelude.{IsOk}
+use Rattle.survey_core.specs.Commands.{texts, file_words, some_commands}
+use Rattle.survey_core.proofs.Wording.{texts_behind, fault_behind, none_behind}
 use Rattle.survey_core.proofs.words.word_at_fault.Goals as goal
 
-pub loop-at-preserved : goal.loop-at-preserved
-loop-at-preserved c =
+pub returns-in-Some : goal.returns-in-Some
+returns-in-Some c =
     let words = texts c.args.words.now in
-    record {
-      within = omega (arith, c.width-at.ensures, c.in-Ok.ensures.inside);
-      before = c.loop-at.invariant.before ++ c.in-Ok.command ∷ [];
-      rest = rw c.width-at.ensures (onward_next words c.loop-at.invariant.before c.loop-at.at c.in-Ok.command (sym c.in-Ok.ensures.front) c.loop-at.invariant.rest);
-    }
+    let behind = ap texts c.command_words.ensures ∙ texts_behind c.args.words.now (file_words words) in
+    let here : some_commands (drop (file_words words) words) ≡ Err (c.in-Some.usage.word - 1) = ap some_commands (sym behind) ∙ c.in-Some.ensures.fault.0 in
+    rw c.file_words.ensures.count (fault_behind words c.in-Some.usage.word here c.in-Some.ensures.fault.1)
 
-pub returns-in-Err : goal.returns-in-Err
-returns-in-Err c =
-    fault_at (texts c.args.words.now) c.loop-at.invariant.before c.loop-at.at c.in-Err.behind _ (some_words c.args.words.now c.loop-at.at c.loop-at-test.true) (sym c.in-Err.ensures.front)
-    c.loop-at.invariant.rest (omega arith)
-
-pub returns : goal.returns
-returns c = all_read (texts c.args.words.now) c.loop-at.invariant.before c.loop-at.at (some_words c.args.words.now 0 (search rules)) (omega (arith, c.loop-at-test.false, length-map c.args.words.now (λ w. w.now))) c.loop-at.invariant.rest
+pub returns-in-None : goal.returns-in-None
+returns-in-None c =
+    let words = texts c.args.words.now in
+    let behind = ap texts c.command_words.ensures ∙ texts_behind c.args.words.now (file_words words) in
+    none_behind words (subst (λ ws. IsOk (some_commands ws)) behind c.in-None.ensures.fault)

@@ -3,7 +3,7 @@ use Rattle.std.proofs.Common.{◌≡◌, ◌-◌, ◌≤◌, length, drop, List}
 use Rattle.survey_core.specs.declared.words.Command.{Command}
 use Rattle.survey_core.specs.Commands.{texts, read}
 use Rattle.survey_core.proofs.Wording.{onward}
-use Rattle.survey_core.proofs.words.word_at_fault.Given as goal
+use Rattle.survey_core.proofs.words.fault_among.Given as goal
 
 abbrev pub invariant-loop-at : goal.invariant-loop-at
 invariant-loop-at l = record {

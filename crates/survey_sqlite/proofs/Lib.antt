@@ -1,0 +1,11 @@
+pub mod BlobLemmas
+pub mod Compiled
+pub mod RowLemmas
+pub mod TestLemmas
+pub mod StatementLemmas
+pub mod Deletion
+pub mod Finding
+pub mod Listing
+pub mod Steps
+pub mod Memory
+pub mod Kept

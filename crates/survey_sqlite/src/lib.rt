@@ -1,0 +1,21 @@
+//! The tables of a survey in a database.
+#![tactic(auto)]
+
+mod blob;
+mod file_keeper;
+mod in_memory;
+mod reading;
+mod sql_keeper;
+mod statements;
+
+pub use blob::{blob_of, cells_of};
+pub use file_keeper::FileKeeper;
+pub use sql_keeper::SqlKeeper;
+pub use statements::make_table;
+
+#[cfg(test)]
+mod sample;
+#[cfg(test)]
+mod session_tests;
+#[cfg(test)]
+mod tests;

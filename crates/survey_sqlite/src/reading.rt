@@ -1,0 +1,101 @@
+//! The rows that a query answers, read as fields and cells.
+ghost use Rattle.std.specs.Prelude.{◌≡◌, ℕ, List, IfOk, IfSome, IsTrue, map, Some};
+ghost use Rattle.survey_sqlite.specs.Blobs.{cells_in};
+ghost use Rattle.std.specs.Option.{option_map};
+ghost use Rattle.survey_core.specs.Tables.{Table, IsNumbered, cells_of};
+ghost use Rattle.survey_core.specs.Fields.{name_cmp};
+ghost use Rattle.survey_sqlite.specs.Steps.{IsCellsOf, AreRising, text_in};
+
+use crate::blob::cells_of;
+use sqlite::Row;
+use sqlite_value::value::ValueRef;
+use std::alloc::Global;
+use std::cmp::Ordering;
+use survey_core::Field;
+
+/// Why rows can't be read.
+#[derive(Clone, Copy, Debug, PartialEq, Eq)]
+pub(crate) enum Unread {
+    /// A row isn't of the form that is written.
+    Malformed,
+    OutOfMemory,
+}
+
+/// The cells of the one row, if there is one: its blob holds whole rows, each with the number of its place.
+pub(crate) fn read_cells(alloc: Global, rows: &[Row]) -> Result<Option<Vec<i64>>, Unread>
+    ensures cells { (tables : List Table) (field : List ℕ) → IsCellsOf tables field rows.now → IfOk result (λ cells. option_map (λ c. c.items) cells ≡ cells_of field tables) }
+    ensures numbered { IfOk result (λ cells. IfSome cells (λ cells. IsNumbered cells.items)) }
+{
+    if rows.is_empty() {
+        return Ok(None);
+    }
+    if rows.len() > 1 {
+        return Err(Unread::Malformed);
+    }
+    match rows[0].get_ref(0) {
+        Ok(ValueRef::Blob(blob)) => read_blob(alloc, blob),
+        _ => Err(Unread::Malformed),
+    }
+}
+
+fn read_blob(alloc: Global, blob: &[u8]) -> Result<Option<Vec<i64>>, Unread>
+    ensures cells { IfOk result (λ cells. option_map (λ c. c.items) cells ≡ Some (cells_in blob.now)) }
+    ensures numbered { IfOk result (λ cells. IfSome cells (λ cells. IsNumbered cells.items)) }
+{
+    match cells_of(alloc, blob) {
+        Ok(Some(cells)) => Ok(Some(cells)),
+        Ok(None) => Err(Unread::Malformed),
+        Err(_) => Err(Unread::OutOfMemory),
+    }
+}
+
+fn read_name(row: &Row) -> Result<Field, Unread>
+    ensures { IfOk result (λ field. field ≡ text_in row.now) }
+{
+    match row.get_ref(0) {
+        Ok(ValueRef::Text(text)) => match Field::of_bytes(text) {
+            Some(field) => Ok(field),
+            None => Err(Unread::Malformed),
+        },
+        _ => Err(Unread::Malformed),
+    }
+}
+
+fn comes_before(first: &Field, second: &Field) -> bool
+    ensures { IsTrue result → name_cmp first.now second.now ≡ Ordering.Less }
+{
+    matches!(first.bytes().cmp(second.bytes()), Ordering::Less)
+}
+
+// Each field comes before the next.
+fn are_rising(fields: &[Field]) -> bool
+    ensures { IsTrue result → AreRising fields.now }
+{
+    for at in 1..fields.len() {
+        if !comes_before(&fields[at - 1], &fields[at]) {
+            return false;
+        }
+    }
+    true
+}
+
+/// The fields, one of each row, which rise.
+pub(crate) fn read_names(alloc: Global, rows: &[Row]) -> Result<Vec<Field>, Unread>
+    ensures names { IfOk result (λ fields. fields.items ≡ map text_in rows.now) }
+    ensures rising { IfOk result (λ fields. AreRising fields.items) }
+{
+    let mut fields = Vec::new(alloc);
+    for row in rows {
+        let field = match read_name(row) {
+            Ok(field) => field,
+            Err(unread) => return Err(unread),
+        };
+        if fields.push(field).is_err() {
+            return Err(Unread::OutOfMemory);
+        }
+    }
+    if !are_rising(&fields) {
+        return Err(Unread::Malformed);
+    }
+    Ok(fields)
+}

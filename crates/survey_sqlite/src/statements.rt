@@ -1,0 +1,75 @@
+//! The statements on the table `source`, over any store.
+ghost use Rattle.std.specs.Prelude.{◌≡◌, true, List, OnOk, OnErr, IfOk, IfSome, is_some, []};
+ghost use Rattle.std.specs.Option.{option_map};
+ghost use Rattle.survey_core.specs.Tables.{IsNumbered, put, without, cells_of};
+ghost use Rattle.sqlite.specs.Held.{state};
+ghost use Rattle.sqlite.specs.State.{HasCleanDisk, Opens};
+ghost use Rattle.survey_sqlite.specs.Texts.{no_schema};
+ghost use Rattle.survey_sqlite.specs.Source.{IsAtRest};
+ghost use Rattle.survey_sqlite.specs.Blobs.{cells_in};
+ghost use Rattle.survey_sqlite.specs.Steps.{Turns, StaysOpen, AnswersCells, CountsFound, AnswersNames, tables_of};
+
+use sqlite::{Alter, Connection, Error, Row};
+use sqlite_value::value::ValueRef;
+use survey_core::Field;
+
+/// Makes the table `source`, unless it is there: a text and a blob in each row, by the text, and strict.
+pub fn make_table<S: Alter>(conn: &mut Connection<S>) -> Result<usize, Error>
+    ensures made { HasCleanDisk (state S.Store conn.new) → OnOk result (Opens (state S.Store conn.old) → (state S.Store conn.old).now.schema ≡ no_schema → IsAtRest (state S.Store conn.new) × (tables_of (state S.Store conn.new) ≡ [])) }
+{
+    conn.execute(
+        "CREATE TABLE IF NOT EXISTS source (field TEXT NOT NULL PRIMARY KEY, cells BLOB NOT NULL) STRICT",
+        &[],
+    )
+}
+
+/// Gives the field this blob.
+pub(crate) fn put_row<S: Alter>(
+    conn: &mut Connection<S>,
+    field: &Field,
+    blob: &[u8],
+) -> Result<usize, Error>
+    requires { IsNumbered (cells_in blob.now) }
+    ensures done { OnOk result (Turns (state S.Store conn.old) (state S.Store conn.new) (put field.now (cells_in blob.now))) }
+    ensures kept { OnErr result (Turns (state S.Store conn.old) (state S.Store conn.new) (λ tables. tables)) }
+    ensures still { StaysOpen (state S.Store conn.old) (state S.Store conn.new) }
+{
+    conn.execute(
+        "INSERT INTO source (field, cells) VALUES (?1, ?2) ON CONFLICT (field) DO UPDATE SET cells = ?2",
+        &[ValueRef::Text(field.bytes()), ValueRef::Blob(blob)],
+    )
+}
+
+/// Takes the field out, and answers how many rows that changed.
+pub(crate) fn remove_row<S: Alter>(conn: &mut Connection<S>, field: &Field) -> Result<usize, Error>
+    ensures done { OnOk result (Turns (state S.Store conn.old) (state S.Store conn.new) (without field.now)) }
+    ensures found { IfOk result (CountsFound (state S.Store conn.old) (state S.Store conn.new) field.now) }
+    ensures kept { OnErr result (Turns (state S.Store conn.old) (state S.Store conn.new) (λ tables. tables)) }
+    ensures still { StaysOpen (state S.Store conn.old) (state S.Store conn.new) }
+{
+    conn.execute(
+        "DELETE FROM source WHERE field = ?1",
+        &[ValueRef::Text(field.bytes())],
+    )
+}
+
+/// The rows that have the field's blob, of which there is at most one.
+pub(crate) fn find_blob<S: Alter>(conn: &mut Connection<S>, field: &Field) -> Result<Vec<Row>, Error>
+    ensures cells { IfOk result (λ rows. AnswersCells (state S.Store conn.old) (state S.Store conn.new) field.now rows.items) }
+    ensures kept { Turns (state S.Store conn.old) (state S.Store conn.new) (λ tables. tables) }
+    ensures still { StaysOpen (state S.Store conn.old) (state S.Store conn.new) }
+{
+    conn.query_all(
+        "SELECT cells FROM source WHERE field = ?1",
+        &[ValueRef::Text(field.bytes())],
+    )
+}
+
+/// The names of the fields, in order.
+pub(crate) fn list_names<S: Alter>(conn: &mut Connection<S>) -> Result<Vec<Row>, Error>
+    ensures names { IfOk result (λ rows. AnswersNames (state S.Store conn.old) (state S.Store conn.new) rows.items) }
+    ensures kept { Turns (state S.Store conn.old) (state S.Store conn.new) (λ tables. tables) }
+    ensures still { StaysOpen (state S.Store conn.old) (state S.Store conn.new) }
+{
+    conn.query_all("SELECT field FROM source ORDER BY field", &[])
+}
