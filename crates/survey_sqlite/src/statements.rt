@@ -54,7 +54,10 @@ pub(crate) fn remove_row<S: Alter>(conn: &mut Connection<S>, field: &Field) -> R
 }
 
 /// The rows that have the field's blob, of which there is at most one.
-pub(crate) fn find_blob<S: Alter>(conn: &mut Connection<S>, field: &Field) -> Result<Vec<Row>, Error>
+pub(crate) fn find_blob<S: Alter>(
+    conn: &mut Connection<S>,
+    field: &Field,
+) -> Result<Vec<Row>, Error>
     ensures cells { IfOk result (λ rows. AnswersCells (state S.Store conn.old) (state S.Store conn.new) field.now rows.items) }
     ensures kept { Turns (state S.Store conn.old) (state S.Store conn.new) (λ tables. tables) }
     ensures still { StaysOpen (state S.Store conn.old) (state S.Store conn.new) }
