@@ -1,5 +1,5 @@
 -- A strip that a seat lists is in no other seat's hand.
-use Rattle.std.proofs.Common.{◌≡◌, ℕ, ◌+◌, ◌<◌, ◌≢◌, List, [], ◌∷◌, map, get_or, sym, refl, ap, ◌∙◌, arith, Option, Some, None, min}
+use Rattle.std.proofs.Common.{◌≡◌, ℕ, ◌<◌, ◌≢◌, List, [], ◌∷◌, map, get_or, sym, refl, ap, ◌∙◌, arith, Option, Some, None, min}
 use mathlib.Core.Logic.{dite}
 use native.Mathlib.Decide.{ℕ_discrete}
 use mathlib.Core.Option.{some, some-injective}
