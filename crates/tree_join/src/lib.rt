@@ -5,18 +5,21 @@
 //! what is left to join. No walk is longer than the number of defined pixels.
 //!
 //! The moves hang pixels of one value under each other, one after the other, so ways through one value would grow along a
-//! boundary and from strip to strip. Before each move such a way is shortened. Wilkinson et al. (2008) compress it in the
-//! same place, down to the root of the level (their `levroot`); here it is halved, as in a union-find (Tarjan and van
-//! Leeuwen 1984). Each step of the shortening leaves a pixel out of the way of the later pixel, and each move leaves one
-//! behind, so for one adjacency both together are at most the pixels on the two ways: twice the defined pixels.
+//! boundary and from strip to strip. Before each move such a way is halved, as in a union-find (Tarjan and van Leeuwen
+//! 1984).
+//!
+//! In images of many values such a walk begins with thousands of pixels, most of which earlier walks of the same boundary
+//! met too. So a walk begins with a climb: up to the last pixel on the way of the later of the two that is not earlier than
+//! the other. Some pixels are marks, one of 1,024; from mark to mark a table tells where to skip to. What links join stays
+//! joined, at each level, so its skips stay true while links change.
 #![tactic(auto)]
 
-ghost use Rattle.std.specs.Prelude.{◌≡◌, ◌≢◌, ℕ, ◌+◌, ◌-◌, ◌*◌, ◌<◌, ◌≤◌, length, List, MatchOption, IfSome};
+ghost use Rattle.std.specs.Prelude.{◌≡◌, ◌≢◌, ℕ, ◌+◌, ◌-◌, ◌*◌, ◌<◌, ◌≤◌, ◌⊎◌, length, slice_index, List, MatchOption, IfSome};
 ghost use Rattle.comp_tree.specs.Joined.{Or, Only, Has};
-ghost use Rattle.comp_tree.specs.Counts.{count_defined};
-ghost use Rattle.comp_tree.specs.Forest.{StandsFor, IsEarlier, IsForest, IsPixel, IsLink, JoinSame, IsWithin};
+ghost use Rattle.comp_tree.specs.Counts.{count_defined, rank};
+ghost use Rattle.comp_tree.specs.Forest.{no_node, StandsFor, IsEarlier, IsForest, IsPixel, IsLink, JoinSame, IsWithin};
 ghost use Rattle.tree_join.specs.Moves.{IsEnded, IsMoved, IsSpan, span_size};
-ghost use Rattle.tree_join.specs.Ways.{IsPast, ArePaid};
+ghost use Rattle.tree_join.specs.Skips.{IsSkip, AreSkips, IsLeft, IsNoted};
 ghost use Rattle.tree_join.specs.Boundary.{IsBoundary, boundary_size, first_column, end_column};
 
 pub mod laws;
@@ -25,19 +28,14 @@ mod tests;
 
 use comp_tree::{Connect, NONE, Plane};
 use dev_io::Steps;
-use std::marker::Brand;
-use std::sync::ledger::{Blank, Ledger};
+use std::sync::ledger::Ledger;
+
+// How many skips are kept at a boundary.
+const PLACES: usize = 4096;
 
 // Where the link of `p` leads to a pixel that is linked within its own value, `p` is linked past it: straight to that
-// pixel's link, which is then told. The two pixels lie in the same threshold sets, so nothing comes apart. `looked` counts
-// each pixel that is looked at so, whether its link is changed or not.
-fn link_past<M: Ledger>(
-    parents: &mut [u32],
-    plane: &Plane,
-    first: u32,
-    p: u32,
-    looked: &mut Steps<M>,
-) -> Option<u32>
+// pixel's link, which is then told. The two pixels lie in the same threshold sets, so nothing comes apart.
+fn link_past(parents: &mut [u32], plane: &Plane, first: u32, p: u32) -> Option<u32>
     requires rows { first + length parents.old ≤ length plane.now.values }
     requires small { length plane.now.values ≤ 16777216 }
     requires forest { IsForest plane.now.values first parents.old }
@@ -48,12 +46,7 @@ fn link_past<M: Ledger>(
         (IsLink first parents.old) }
     ensures pixel { IfSome result (λ next. IsPixel plane.now.values first (length parents.old) next) }
     ensures earlier { IfSome result (λ next. IsEarlier plane.now.values next p) }
-    ensures past { MatchOption result
-        (parents.new ≡ parents.old)
-        (λ next. IsPast first parents.old parents.new p next) }
-    ensures looked { looked.new ≡ looked.old + 1 }
 {
-    looked.tick();
     let place = (p - first) as usize;
     let link = parents[place];
     if link == NONE {
@@ -68,9 +61,8 @@ fn link_past<M: Ledger>(
 }
 
 // Shortens the way up from `p`: each pixel met is linked past its link, up to the first whose link is the last pixel of
-// its value. So of a way through one value every second pixel is left out, and each look but the last is paid for by the
-// pixel that it leaves out.
-fn shorten<M: Ledger>(parents: &mut [u32], plane: &Plane, first: u32, p: u32, looked: &mut Steps<M>)
+// its value. So of a way through one value every second pixel is left out.
+fn shorten(parents: &mut [u32], plane: &Plane, first: u32, p: u32)
     requires rows { first + length parents.old ≤ length plane.now.values }
     requires small { length plane.now.values ≤ 16777216 }
     requires forest { IsForest plane.now.values first parents.old }
@@ -79,20 +71,15 @@ fn shorten<M: Ledger>(parents: &mut [u32], plane: &Plane, first: u32, p: u32, lo
     ensures same { JoinSame plane.now.values first (length parents.old)
         (IsLink first parents.new)
         (IsLink first parents.old) }
-    ensures paid { (q budget : ℕ)
-        → IsWithin first (length parents.old) q
-        → ArePaid first parents.old p q looked.old budget
-        → ArePaid first parents.new p q looked.new (budget + 1) }
 {
     let mut at = p;
-    while let Some(next) = link_past(parents, plane, first, at, looked) {
+    while let Some(next) = link_past(parents, plane, first, at) {
         at = next;
     }
 }
 
 // One move of a walk, where `b` is earlier than `a`. It gives the two pixels that are left to join, if any.
-// Where the link of `a` is not earlier than `b`, `a` stays where it is: `b` belongs further up on its way. The pixel that
-// the walk leaves pays for the last look before the move.
+// Where the link of `a` is not earlier than `b`, `a` stays where it is: `b` belongs further up on its way.
 fn move_later(parents: &mut [u32], plane: &Plane, first: u32, a: u32, b: u32) -> Option<(u32, u32)>
     requires rows { first + length parents.old ≤ length plane.now.values }
     requires small { length plane.now.values ≤ 16777216 }
@@ -104,11 +91,6 @@ fn move_later(parents: &mut [u32], plane: &Plane, first: u32, a: u32, b: u32) ->
     ensures moved { MatchOption result
         (IsEnded plane.now.values first parents.old parents.new a b)
         (λ rest. IsMoved plane.now.values first parents.old parents.new a b rest) }
-    ensures paid { (spent budget : ℕ)
-        → ArePaid first parents.old a b spent (budget + 1)
-        → MatchOption result
-        (spent ≤ budget)
-        (λ rest. ArePaid first parents.new rest.0 rest.1 spent budget) }
 {
     let place = (a - first) as usize;
     let link = parents[place];
@@ -125,14 +107,7 @@ fn move_later(parents: &mut [u32], plane: &Plane, first: u32, a: u32, b: u32) ->
 
 // One move of a walk from `a` and `b`, two different pixels, once the way of the later one is shortened. It gives the
 // two pixels that are left to join, if any.
-fn turn<M: Ledger>(
-    parents: &mut [u32],
-    plane: &Plane,
-    first: u32,
-    a: u32,
-    b: u32,
-    looked: &mut Steps<M>,
-) -> Option<(u32, u32)>
+fn turn(parents: &mut [u32], plane: &Plane, first: u32, a: u32, b: u32) -> Option<(u32, u32)>
     requires rows { first + length parents.old ≤ length plane.now.values }
     requires small { length plane.now.values ≤ 16777216 }
     requires forest { IsForest plane.now.values first parents.old }
@@ -143,49 +118,172 @@ fn turn<M: Ledger>(
     ensures moved { MatchOption result
         (IsEnded plane.now.values first parents.old parents.new a b)
         (λ rest. IsMoved plane.now.values first parents.old parents.new a b rest) }
-    ensures paid { (budget : ℕ)
-        → ArePaid first parents.old a b looked.old budget
-        → MatchOption result
-        (looked.new ≤ budget)
-        (λ rest. ArePaid first parents.new rest.0 rest.1 looked.new budget) }
 {
     if plane.is_earlier(a, b) {
-        shorten(parents, plane, first, b, looked);
+        shorten(parents, plane, first, b);
         move_later(parents, plane, first, b, a)
     } else {
-        shorten(parents, plane, first, a, looked);
+        shorten(parents, plane, first, a);
         move_later(parents, plane, first, a, b)
     }
 }
 
-// Joins the pair of `p` and `q`. Between two moves one pair is still to be joined: together with it the links always join
-// what they joined before and `p` with `q`. The ways up from the two pixels pay for the looks of all its shortenings.
-fn join_pair<L: Ledger, M: Ledger>(
+// A number that looks like a random one for each pixel.
+fn mix(p: u32) -> u32 {
+    p.wrapping_mul(2654435761)
+}
+
+// The place of a pixel in a table of this size.
+fn place_of(p: u32, size: usize) -> usize
+    requires { 0 < size }
+    ensures { result < size }
+{
+    (mix(p) >> 4) as usize % size
+}
+
+// Passes `at`. One pixel of 1,024 is a mark: then the skip to it from the mark before is put down. It gives the last mark.
+fn pass(from: &mut [u32], to: &mut [u32], mark: u32, at: u32) -> u32
+    requires some { 0 < length from.old }
+    requires same { length to.old ≡ length from.old }
+    ensures passed { IsLeft from.old to.old from.new to.new mark result ⊎ IsNoted from.old to.old from.new to.new mark at result }
+{
+    if mix(at) >> 22 != 0 {
+        return mark;
+    }
+    let place = place_of(mark, from.len());
+    from[place] = mark;
+    to[place] = at;
+    at
+}
+
+// The link of `at`, once its way is shortened, unless it is earlier than `b`.
+fn link_up(parents: &mut [u32], plane: &Plane, first: u32, at: u32, b: u32) -> Option<u32>
+    requires rows { first + length parents.old ≤ length plane.now.values }
+    requires small { length plane.now.values ≤ 16777216 }
+    requires forest { IsForest plane.now.values first parents.old }
+    requires at_in { IsPixel plane.now.values first (length parents.old) at }
+    requires b_in { IsPixel plane.now.values first (length parents.old) b }
+    ensures forest { IsForest plane.now.values first parents.new }
+    ensures same { JoinSame plane.now.values first (length parents.old)
+        (IsLink first parents.new)
+        (IsLink first parents.old) }
+    ensures joined { IfSome result (λ next. IsSkip plane.now.values first (length parents.old) (IsLink first parents.old) at next) }
+    ensures earlier { IfSome result (λ next. IsEarlier plane.now.values next at) }
+    ensures late { IfSome result (λ next. IsEarlier plane.now.values next b → ⊥) }
+{
+    shorten(parents, plane, first, at);
+    let link = parents[(at - first) as usize];
+    if link == NONE || plane.is_earlier(link, b) {
+        return None;
+    }
+    Some(link)
+}
+
+// The next pixel on the way of `at` that is not earlier than `b`: the one that the table tells, else its link.
+fn next_up(
     parents: &mut [u32],
     plane: &Plane,
     first: u32,
+    from: &[u32],
+    to: &[u32],
+    at: u32,
+    b: u32,
+) -> Option<u32>
+    requires rows { first + length parents.old ≤ length plane.now.values }
+    requires small { length plane.now.values ≤ 16777216 }
+    requires forest { IsForest plane.now.values first parents.old }
+    requires at_in { IsPixel plane.now.values first (length parents.old) at }
+    requires b_in { IsPixel plane.now.values first (length parents.old) b }
+    requires skips { AreSkips plane.now.values first (length parents.old) (IsLink first parents.old) from.now to.now }
+    ensures forest { IsForest plane.now.values first parents.new }
+    ensures same { JoinSame plane.now.values first (length parents.old)
+        (IsLink first parents.new)
+        (IsLink first parents.old) }
+    ensures joined { IfSome result (λ next. IsSkip plane.now.values first (length parents.old) (IsLink first parents.old) at next) }
+    ensures earlier { IfSome result (λ next. IsEarlier plane.now.values next at) }
+    ensures late { IfSome result (λ next. IsEarlier plane.now.values next b → ⊥) }
+{
+    let place = place_of(at, from.len());
+    if from[place] != at {
+        return link_up(parents, plane, first, at, b);
+    }
+    let there = to[place];
+    if !plane.is_earlier(there, at) || plane.is_earlier(there, b) {
+        return link_up(parents, plane, first, at, b);
+    }
+    Some(there)
+}
+
+// Walks up from `p`, and gives the last pixel met that is not earlier than `b`.
+fn climb<L: Ledger>(
+    parents: &mut [u32],
+    plane: &Plane,
+    first: u32,
+    from: &mut [u32],
+    to: &mut [u32],
+    p: u32,
+    b: u32,
+    moves: &mut Steps<L>,
+) -> u32
+    requires rows { first + length parents.old ≤ length plane.now.values }
+    requires small { length plane.now.values ≤ 16777216 }
+    requires forest { IsForest plane.now.values first parents.old }
+    requires p_in { IsPixel plane.now.values first (length parents.old) p }
+    requires b_in { IsPixel plane.now.values first (length parents.old) b }
+    requires late { IsEarlier plane.now.values p b → ⊥ }
+    requires skips { AreSkips plane.now.values first (length parents.old) (IsLink first parents.old) from.old to.old }
+    ensures forest { IsForest plane.now.values first parents.new }
+    ensures same { JoinSame plane.now.values first (length parents.old)
+        (IsLink first parents.new)
+        (IsLink first parents.old) }
+    ensures joined { IsSkip plane.now.values first (length parents.old) (IsLink first parents.old) p result }
+    ensures late { IsEarlier plane.now.values result b → ⊥ }
+    ensures skips { AreSkips plane.now.values first (length parents.old) (IsLink first parents.new) from.new to.new }
+    ensures later { moves.old ≤ moves.new }
+    ensures cost { moves.new + rank plane.now.values first (length parents.old) result
+        ≤ moves.old + rank plane.now.values first (length parents.old) p }
+{
+    let mut at = p;
+    let mut mark = p;
+    while let Some(next) = next_up(parents, plane, first, from, to, at, b) {
+        moves.tick();
+        mark = pass(from, to, mark, next);
+        at = next;
+    }
+    at
+}
+
+// `join_pair`, where `p` is not earlier than `q`. Between two moves one pair is still to be joined: together with it the
+// links always join what they joined before and `p` with `q`.
+fn join_later<L: Ledger>(
+    parents: &mut [u32],
+    plane: &Plane,
+    first: u32,
+    from: &mut [u32],
+    to: &mut [u32],
     p: u32,
     q: u32,
     moves: &mut Steps<L>,
-    looked: &mut Steps<M>,
 )
     requires rows { first + length parents.old ≤ length plane.now.values }
     requires small { length plane.now.values ≤ 16777216 }
     requires forest { IsForest plane.now.values first parents.old }
     requires p_in { IsPixel plane.now.values first (length parents.old) p }
     requires q_in { IsPixel plane.now.values first (length parents.old) q }
+    requires late { IsEarlier plane.now.values p q → ⊥ }
+    requires skips { AreSkips plane.now.values first (length parents.old) (IsLink first parents.old) from.old to.old }
     ensures forest { IsForest plane.now.values first parents.new }
     ensures joined { JoinSame plane.now.values first (length parents.old)
         (IsLink first parents.new)
         (Or (IsLink first parents.old) (Only p q)) }
+    ensures skips { AreSkips plane.now.values first (length parents.old) (IsLink first parents.new) from.new to.new }
     ensures cost { moves.new ≤ moves.old + count_defined plane.now.values first (length parents.old) }
-    ensures looks { looked.new ≤ looked.old + 2 * count_defined plane.now.values first (length parents.old) }
 {
-    let mut a = p;
+    let mut a = climb(parents, plane, first, from, to, p, q, moves);
     let mut b = q;
     while a != b {
         moves.tick();
-        match turn(parents, plane, first, a, b, looked) {
+        match turn(parents, plane, first, a, b) {
             None => return,
             Some((one, other)) => {
                 a = one;
@@ -195,16 +293,48 @@ fn join_pair<L: Ledger, M: Ledger>(
     }
 }
 
-// Joins `p` with each pixel from `low` up to `high`, where both are defined.
-fn join_span<L: Ledger, M: Ledger>(
+// Joins the pair of `p` and `q`.
+fn join_pair<L: Ledger>(
     parents: &mut [u32],
     plane: &Plane,
     first: u32,
+    from: &mut [u32],
+    to: &mut [u32],
+    p: u32,
+    q: u32,
+    moves: &mut Steps<L>,
+)
+    requires rows { first + length parents.old ≤ length plane.now.values }
+    requires small { length plane.now.values ≤ 16777216 }
+    requires forest { IsForest plane.now.values first parents.old }
+    requires p_in { IsPixel plane.now.values first (length parents.old) p }
+    requires q_in { IsPixel plane.now.values first (length parents.old) q }
+    requires skips { AreSkips plane.now.values first (length parents.old) (IsLink first parents.old) from.old to.old }
+    ensures forest { IsForest plane.now.values first parents.new }
+    ensures joined { JoinSame plane.now.values first (length parents.old)
+        (IsLink first parents.new)
+        (Or (IsLink first parents.old) (Only p q)) }
+    ensures skips { AreSkips plane.now.values first (length parents.old) (IsLink first parents.new) from.new to.new }
+    ensures cost { moves.new ≤ moves.old + count_defined plane.now.values first (length parents.old) }
+{
+    if plane.is_earlier(p, q) {
+        join_later(parents, plane, first, from, to, q, p, moves);
+    } else {
+        join_later(parents, plane, first, from, to, p, q, moves);
+    }
+}
+
+// Joins `p` with each pixel from `low` up to `high`, where both are defined.
+fn join_span<L: Ledger>(
+    parents: &mut [u32],
+    plane: &Plane,
+    first: u32,
+    from: &mut [u32],
+    to: &mut [u32],
     low: u32,
     high: u32,
     p: u32,
     moves: &mut Steps<L>,
-    looked: &mut Steps<M>,
 )
     requires rows { first + length parents.old ≤ length plane.now.values }
     requires small { length plane.now.values ≤ 16777216 }
@@ -213,21 +343,21 @@ fn join_span<L: Ledger, M: Ledger>(
     requires span { low ≤ high }
     requires high { high ≤ first + length parents.old }
     requires p_in { IsWithin first (length parents.old) p }
+    requires skips { AreSkips plane.now.values first (length parents.old) (IsLink first parents.old) from.old to.old }
     ensures forest { IsForest plane.now.values first parents.new }
     ensures joined { JoinSame plane.now.values first (length parents.old)
         (IsLink first parents.new)
         (Or (IsLink first parents.old) (IsSpan plane.now.values low high p)) }
+    ensures skips { AreSkips plane.now.values first (length parents.old) (IsLink first parents.new) from.new to.new }
     ensures cost { moves.new ≤ moves.old
         + span_size plane.now.values low high p * count_defined plane.now.values first (length parents.old) }
-    ensures looks { looked.new ≤ looked.old
-        + span_size plane.now.values low high p * (2 * count_defined plane.now.values first (length parents.old)) }
 {
     if plane.get(p).is_none() {
         return;
     }
     for u in low..high {
         if plane.get(u).is_some() {
-            join_pair(parents, plane, first, u, p, moves, looked);
+            join_pair(parents, plane, first, from, to, u, p, moves);
         }
     }
 }
@@ -246,15 +376,16 @@ fn columns(connect: Connect, width: u32, x: u32) -> (u32, u32)
 }
 
 // `join_row` in a plane of this width.
-fn join_rows<L: Ledger, M: Ledger>(
+fn join_rows<L: Ledger>(
     parents: &mut [u32],
     plane: &Plane,
     width: u32,
     connect: Connect,
     first_row: u32,
     row: u32,
+    from: &mut [u32],
+    to: &mut [u32],
     moves: &mut Steps<L>,
-    looked: &mut Steps<M>,
 )
     requires width { 0 < width }
     requires rows { first_row * width + length parents.old ≤ length plane.now.values }
@@ -262,6 +393,9 @@ fn join_rows<L: Ledger, M: Ledger>(
     requires below { first_row < row }
     requires inside { (row + 1) * width ≤ first_row * width + length parents.old }
     requires forest { IsForest plane.now.values (first_row * width) parents.old }
+    requires some { 0 < length from.old }
+    requires same { length to.old ≡ length from.old }
+    requires blank { (i : ℕ) → i < length from.old → slice_index from.old i ≡ no_node }
     ensures forest { IsForest plane.now.values (first_row * width) parents.new }
     ensures joined { JoinSame plane.now.values (first_row * width) (length parents.old)
         (IsLink (first_row * width) parents.new)
@@ -273,69 +407,24 @@ fn join_rows<L: Ledger, M: Ledger>(
     ensures cost { moves.new ≤ moves.old
         + boundary_size plane.now.values width connect row
         * count_defined plane.now.values (first_row * width) (length parents.old) }
-    ensures looks { looked.new ≤ looked.old
-        + boundary_size plane.now.values width connect row
-        * (2 * count_defined plane.now.values (first_row * width) (length parents.old)) }
 {
     let first = first_row * width;
     let start = row * width;
     let above = start - width;
     for x in 0..width {
-        let (from, to) = columns(connect, width, x);
+        let (low, high) = columns(connect, width, x);
         join_span(
             parents,
             plane,
             first,
-            above + from,
-            above + to,
+            from,
+            to,
+            above + low,
+            above + high,
             start + x,
             moves,
-            looked,
         );
     }
-}
-
-// `join_row`, which counts the pixels that it looks at to shorten their links in a new counter.
-fn join_row_by<L: Ledger, M: Ledger>(
-    looked: Blank,
-    parents: &mut [u32],
-    plane: &Plane,
-    connect: Connect,
-    first_row: u32,
-    row: u32,
-    moves: &mut Steps<L>,
-)
-    requires looked { (looked.name ≡ M.name) × (looked.parts ≡ M.parts) × (0 < looked.parts) }
-    requires rows { first_row * plane.now.shape.width + length parents.old ≤ length plane.now.values }
-    requires below { first_row < row }
-    requires inside { (row + 1) * plane.now.shape.width
-        ≤ first_row * plane.now.shape.width + length parents.old }
-    requires forest { IsForest plane.now.values (first_row * plane.now.shape.width) parents.old }
-    ensures forest { IsForest plane.now.values (first_row * plane.now.shape.width) parents.new }
-    ensures joined { JoinSame plane.now.values (first_row * plane.now.shape.width) (length parents.old)
-        (IsLink (first_row * plane.now.shape.width) parents.new)
-        (Or (IsLink (first_row * plane.now.shape.width) parents.old)
-        (IsBoundary plane.now.values plane.now.shape.width connect row)) }
-    ensures stands { (E : List (ℕ × ℕ))
-        → StandsFor plane.now.values (first_row * plane.now.shape.width) parents.old (Has E)
-        → StandsFor plane.now.values (first_row * plane.now.shape.width) parents.new
-        (Or (Has E) (IsBoundary plane.now.values plane.now.shape.width connect row)) }
-    ensures cost { moves.new ≤ moves.old
-        + boundary_size plane.now.values plane.now.shape.width connect row
-        * count_defined plane.now.values (first_row * plane.now.shape.width) (length parents.old) }
-{
-    let shape = plane.shape();
-    let mut looked = Steps::<M>::start(looked);
-    join_rows(
-        parents,
-        plane,
-        shape.width,
-        connect,
-        first_row,
-        row,
-        moves,
-        &mut looked,
-    );
 }
 
 /// Joins the links at the boundary between the rows `row - 1` and `row`: the adjacencies between the two, with
@@ -344,8 +433,7 @@ fn join_row_by<L: Ledger, M: Ledger>(
 /// `parents` holds the links of the pixels of some rows from the start of `first_row` on: pixel p stands at place
 /// `p - first_row * width`. What they joined before stays joined, whether these rows were just flooded or have been
 /// joined with others, so boundaries can be joined in any order. `moves` counts each move of each walk, and not the links
-/// that are shortened before it: of those at most twice the defined pixels are looked at for each adjacency. It takes no
-/// memory.
+/// that are shortened before it. It takes no memory from an allocator, and 32 KiB of stack.
 pub fn join_row<L: Ledger>(
     parents: &mut [u32],
     plane: &Plane,
@@ -372,13 +460,18 @@ pub fn join_row<L: Ledger>(
         + boundary_size plane.now.values plane.now.shape.width connect row
         * count_defined plane.now.values (first_row * plane.now.shape.width) (length parents.old) }
 {
-    join_row_by::<L, Brand>(
-        Blank::new(1),
+    let shape = plane.shape();
+    let mut from = [NONE; PLACES];
+    let mut to = [NONE; PLACES];
+    join_rows(
         parents,
         plane,
+        shape.width,
         connect,
         first_row,
         row,
+        &mut from,
+        &mut to,
         moves,
     );
 }

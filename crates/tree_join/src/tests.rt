@@ -189,6 +189,15 @@ fn joined_strips_have_the_plain_tree(rt: HostRuntime) {
             links: &[NONE, NONE, NONE, NONE, NONE, NONE],
             rows: &[1],
         },
+        // pixel 0 is a mark, and pixel 1 skips to it when it is joined with pixel 4
+        Case {
+            width: 3,
+            height: 2,
+            connect: Connect::Eight,
+            values: &[3, 5, 4, 1, 2, 1],
+            links: &[NONE, 2, 0, NONE, 5, 3],
+            rows: &[1],
+        },
     ];
     for (number, case) in cases.iter().enumerate() {
         let shape = Shape::of(case.width, case.height).expect(&rt, "a shape");
@@ -204,12 +213,8 @@ fn joined_strips_have_the_plain_tree(rt: HostRuntime) {
     }
 }
 
-fn shorten_by<M: Ledger>(looked: Blank, parents: &mut [u32], plane: &Plane, p: u32) -> bool
-    requires name { looked.name ≡ M.name }
-    requires parts { looked.parts ≡ M.parts }
-    requires some { 0 < looked.parts }
-{
-    let mut looked = Steps::<M>::start(looked);
+// Shortens the way up from `p`, if the links are a forest and `p` is defined.
+fn shorten_from(parents: &mut [u32], plane: &Plane, p: u32) -> bool {
     let shape = plane.shape();
     if parents.len() != shape.pixels() as usize || !is_forest(plane, 0, parents) {
         return false;
@@ -217,13 +222,8 @@ fn shorten_by<M: Ledger>(looked: Blank, parents: &mut [u32], plane: &Plane, p: u
     if p >= shape.pixels() || !plane.is_defined(p) {
         return false;
     }
-    shorten(parents, plane, 0, p, &mut looked);
+    shorten(parents, plane, 0, p);
     true
-}
-
-// Shortens the way up from `p`, if the links are a forest and `p` is defined.
-fn shorten_from(parents: &mut [u32], plane: &Plane, p: u32) -> bool {
-    shorten_by::<Brand>(Blank::new(1), parents, plane, p)
 }
 
 #[test]

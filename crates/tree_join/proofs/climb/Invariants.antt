@@ -1,0 +1,14 @@
+use Rattle.std.proofs.Common.{◌+◌, ◌≤◌, length}
+use Rattle.comp_tree.specs.Counts.{rank}
+use Rattle.tree_join.proofs.Climbing.{IsClimbing}
+use Rattle.tree_join.proofs.climb.Given as goal
+
+abbrev pub invariant-loop-next : goal.invariant-loop-next
+invariant-loop-next g l = record {
+  climbing : IsClimbing l.plane.values l.first l.initial.parents l.parents l.from l.to l.p l.b l.mark l.at;
+  later : l.initial.moves ≤ l.moves;
+  cost : l.moves + rank l.plane.values l.first (length l.initial.parents) l.at ≤ l.initial.moves + rank l.plane.values l.first (length l.initial.parents) l.p;
+}
+
+abbrev pub decreases-loop-next : goal.decreases-loop-next
+decreases-loop-next g l = rank l.plane.values l.first (length l.parents) l.at

@@ -1,0 +1,28 @@
+-- Skips over ways that were joined before, and the table that holds them.
+use Rattle.std.specs.Prelude.{◌≡◌, ℕ, ◌<◌, ◌⊎◌, List, length, Option, ℤ, slice_index, set}
+use Rattle.comp_tree.specs.Joined.{Joined}
+use Rattle.comp_tree.specs.Forest.{no_node, IsPixel, IsHigh}
+
+-- E joins x with the pixel y at each level up to the value of y
+pub record IsSkip (values : List (Option ℤ)) (first count : ℕ) (E : ℕ → ℕ → Type 0) (x y : ℕ) : Type 0 where
+  pub pixel : IsPixel values first count y
+  pub joins : (h : ℤ) → IsHigh values first count h y → Joined (IsHigh values first count h) E x y
+
+-- each place of a table is empty, or holds such a skip: from has its first pixel, and to its last one
+pub record AreSkips (values : List (Option ℤ)) (first count : ℕ) (E : ℕ → ℕ → Type 0) (from to : List ℕ) : Type 0 where
+  pub same_length : length to ≡ length from
+  pub some : 0 < length from
+  pub skips : (i : ℕ) → i < length from → (slice_index from i ≡ no_node) ⊎ IsSkip values first count E (slice_index from i) (slice_index to i)
+
+-- What passing a pixel does with the table and the last mark: nothing, or the skip from the mark is put down and at is the mark.
+pub record IsLeft (old_from old_to from to : List ℕ) (mark result : ℕ) : Type 0 where
+  pub from_same : from ≡ old_from
+  pub to_same : to ≡ old_to
+  pub mark_same : result ≡ mark
+
+pub record IsNoted (old_from old_to from to : List ℕ) (mark at result : ℕ) : Type 0 where
+  pub place : ℕ
+  pub inside : place < length old_from
+  pub from_set : from ≡ set old_from place mark
+  pub to_set : to ≡ set old_to place at
+  pub marked : result ≡ at
