@@ -6,7 +6,8 @@ MAXDETECT is the built program. The sides are 1024, 2048 and 4096 if left out; e
 EARLIER is the built program of an earlier state, which is then timed on the same files and must write the same bytes.
 
 The images are star fields of 16 bits (examples/star_field.py), white noise of 32 bits with sigma 1,000 (2048 x 2048), and noise of nearly as many
-values as there are pixels, with one, four and sixteen strips: the images on which more strips take longer. The yardstick for `tree` is a plain union-find in C++ (it wants g++), whose output must be the same bytes. Where they are installed it also times scikit-image's
+values as there are pixels, with one, four and sixteen strips, since that is where joining strips costs most. The yardstick for `tree` is a plain
+union-find in C++ (it wants g++), whose output must be the same bytes. Where they are installed it also times scikit-image's
 max-tree and Source Extractor (Debian: python3-skimage with python3-astropy, and source-extractor) on the same files; these do other work, so their
 outputs are not compared. Times are wall clock, with reading and writing; memory is the peak of the process. Run it with nothing else running.
 """
