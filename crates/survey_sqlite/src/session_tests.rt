@@ -22,6 +22,11 @@ fn second(alloc: Global) -> Result<Vec<u8>, Fail> {
     catalogue(alloc, WIDTH, ONE, &[(1, 10, 2900)])
 }
 
+// The first of these bytes, so many at the most.
+fn front(bytes: &[u8], count: usize) -> &[u8] {
+    &bytes[..count.min(bytes.len())]
+}
+
 #[test]
 fn sessions_answer_as_they_should(rt: HostRuntime) -> Result<(), Fail> {
     let alloc = rt.alloc();
@@ -71,7 +76,7 @@ fn sessions_answer_as_they_should(rt: HostRuntime) -> Result<(), Fail> {
         ),
         (
             &["add", "A"],
-            &first[..14500],
+            front(&first, 14500),
             2,
             14500,
             b"",
