@@ -118,7 +118,7 @@ fn sessions_answer_as_they_should(rt: HostRuntime) -> Result<(), Fail> {
             ),
             status
         );
-        assert_eq!(rt; bytes.len() - input.rest().len(), taken);
+        assert_eq!(rt; bytes.len().saturating_sub(input.rest().len()), taken);
         assert_eq!(rt; output.bytes(), written);
         assert_eq!(rt; notes.bytes(), note);
     }
