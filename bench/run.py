@@ -149,7 +149,7 @@ def main():
     parser.add_argument("--runs", type=int, default=3)
     parser.add_argument("--before", type=pathlib.Path)
     parser.add_argument("sides", type=int, nargs="*", default=[1024, 2048, 4096])
-    options = parser.parse_args()
+    options = parser.parse_intermixed_args()
     programs = [("maxdetect", options.maxdetect.resolve())]
     if options.before:
         programs.append(("before", options.before.resolve()))
