@@ -11,6 +11,7 @@ pub mod Adjacent
 pub mod Ordering
 pub mod Nodes
 pub mod Components
+pub mod Nesting
 pub mod Ancestors
 pub mod OneTree
 pub mod WellFormed

@@ -6,6 +6,7 @@ use Rattle.comp_tree.specs.declared.tree.NodeRow.{NodeRow}
 pub use Rattle.comp_tree.specs.ComponentTree.{parent_in}
 use Rattle.comp_tree.specs.Raster.{Raster, IsPlane, is_at_least, level, is_defined}
 use Rattle.comp_tree.specs.Components.{IsReached, no_node, reaches, nodes, node_of, is_candidate, is_in_node, tree_of, representative}
+use Rattle.comp_tree.specs.Nesting.{lies_within}
 use Rattle.comp_tree.specs.Grid.{IsAdjacency}
 use Rattle.comp_tree.specs.Forest.{IsHigh, IsForest, IsLast, StandsFor}
 
@@ -56,7 +57,11 @@ NodesAreDistinct = (r : Raster) (connect : Connect) (m n : ℕ) → IsNode r con
 abbrev pub LiesWithin : Raster → Connect → ℕ → ℕ → Type 0
 LiesWithin r connect n m = (q : ℕ) → IsIn r connect n q → IsIn r connect m q
 
--- and that of m has a pixel more
+-- the test whether it does passes exactly where it does
+abbrev pub LiesWithinIsInclusion : Type 0
+LiesWithinIsInclusion = (r : Raster) (connect : Connect) (n m : ℕ) → IsTrue (lies_within r connect n m) ↔ LiesWithin r connect n m
+
+-- the component of n lies within that of m, which has a pixel more
 abbrev pub LiesStrictlyWithin : Raster → Connect → ℕ → ℕ → Type 0
 LiesStrictlyWithin r connect n m =
     LiesWithin r connect n m × ((q : ℕ) × IsIn r connect m q × IsFalse (is_in_node r connect n q))

@@ -9,6 +9,7 @@ pub mod Counts
 pub mod ComponentTree
 pub mod Reaches
 pub mod Components
+pub mod Nesting
 pub mod Marks
 pub mod Laws
 pub mod TreeFacts

@@ -7,6 +7,7 @@ ghost use Rattle.comp_tree.specs.Laws.{
   EachNodeIsAComponent,
   NodesAreDistinct,
   NodesAreNestedOrDisjoint,
+  LiesWithinIsInclusion,
   AncestorsAreTheLargerNodes,
   ParentIsTheSmallestLargerNode,
   RootsHaveNoLargerNode,
@@ -39,6 +40,11 @@ pub fn nodes_are_components()
 /// Two components of nodes are nested or disjoint.
 pub fn nodes_are_nested_or_disjoint()
     ensures { NodesAreNestedOrDisjoint }
+{}
+
+/// The test whether a node lies within another passes exactly where its component does.
+pub fn lies_within_is_inclusion()
+    ensures { LiesWithinIsInclusion }
 {}
 
 /// The component of a node lies strictly within those of the nodes on its way upwards, and of no others.

@@ -14,7 +14,7 @@ use std::marker::Model;
 // reading pixels is most of what flooding does.
 const UNDEFINED: i64 = i64::MIN;
 
-/// An image of whole numbers from -2^34 to 2^34, in which a pixel may be undefined.
+/// An image of whole numbers from -2^37 to 2^37, in which a pixel may be undefined.
 ///
 /// Pixel `y * width + x` stands in column `x` of row `y`, both from 0.
 #[derive(Drop)]

@@ -18,9 +18,9 @@ pub struct NodeRow {
 
 /// A component tree (max-tree) as a table (Salembier, Oliveras and Garrido 1998).
 ///
-/// In the tree of a plane the nodes are numbered from 0 in the order of their levels, and at equal levels in the order of
-/// their representatives. So the number of a parent is smaller than those of its children, one pass downwards over the
-/// rows meets each node after its children, and two programs that find the tree write the same table.
+/// The table of a plane's tree begins with its lowest nodes: rows stand by level, and those of one level by the pixels that
+/// represent them. So a parent stands before its children, one pass downwards over the rows meets each node after its
+/// children, and two programs that find the tree write the same table.
 #[derive(Drop)]
 pub struct Tree {
     shape: Shape,
