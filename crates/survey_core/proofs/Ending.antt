@@ -1,19 +1,16 @@
 -- How a session ends.
-use Rattle.std.proofs.Common.{◌≡◌, ◌∙◌, ℕ, ◌+◌, ◌-◌, ◌<◌, ◌≤◌, ◌⊎◌, inl, inr, Bool, true, false, List, [], ◌∷◌, drop, Some, None, refl, sym, ap, subst, arith, Result, Ok, Err}
-use Rattle.std.specs.Prelude.{Option, IsTrue, IsErr, IsOk}
-use Rattle.std.specs.Io.KnownBytes.{Appends}
+use Rattle.std.proofs.Common.{◌≡◌, ℕ, ◌+◌, ◌-◌, ◌<◌, ◌≤◌, Bool, List, [], ◌∷◌, drop, Some, refl, ap, subst, arith, Result, Ok, Err}
+use Rattle.std.specs.Prelude.{Option, IsOk}
 use Rattle.std.proofs.KnownBytes.{Appends-nil}
-use Rattle.dev_io.specs.Causes.{Rose}
-use Rattle.dev_io.specs.Streams.{Takes}
 use Rattle.survey_core.specs.declared.words.Command.{Command}
 use Rattle.survey_core.specs.declared.words.Usage.{Usage as AtFault}
-use Rattle.survey_core.specs.declared.fault.Stop.{Stop}
 use Rattle.survey_core.specs.declared.fault.Stop.TheVariants.{Refused, ReadFault, WriteFault, NoMemory, KeeperFault}
 use Rattle.survey_core.specs.declared.top.End.{End}
 use Rattle.survey_core.specs.declared.top.End.TheVariants.{Done, Usage, Stopped}
 use Rattle.survey_core.specs.Tables.{Table}
 use Rattle.survey_core.specs.Commands.{read, some_commands, file_words, further, commands_of}
-use Rattle.survey_core.specs.Answers.{Answer, answer_by, answer, status_of, note_of, usage_line}
+use Rattle.command_line.specs.Notes.{usage_line}
+use Rattle.survey_core.specs.Answers.{answer_by, answer, status_of, note_of}
 use Rattle.survey_core.specs.Runs.{Answers, EndTells, EndCause}
 use Rattle.survey_core.specs.Headline.{IsCutWith}
 

@@ -1,7 +1,5 @@
 pub mod TableLemmas
 pub mod PlaceLemmas
-pub mod LineLemmas
-pub mod Numerals
 pub mod Wording
 pub mod Searches
 pub mod CatalogueLemmas

@@ -1,6 +1,6 @@
 -- The words of a session, command by command.
-use Rattle.std.proofs.Common.{◌≡◌, ◌∙◌, ◌⊎◌, inl, inr, ℕ, zero, suc, ◌+◌, ◌-◌, ◌≤◌, ◌<◌, ◌==◌, Bool, true, false, cond, List, [], ◌∷◌, ◌++◌, length, drop, length-drop, Some, None, Result, Ok, Err, IfOk, refl, sym, ap, ap₂, subst, get_or, arith, append_assoc, append-nil}
-use Rattle.std.specs.Prelude.{Option, slice_get, unwrap_or, IsOk, codes}
+use Rattle.std.proofs.Common.{◌≡◌, ◌∙◌, inl, inr, ℕ, zero, suc, ◌+◌, ◌-◌, ◌≤◌, ◌<◌, ◌==◌, cond, List, [], ◌∷◌, ◌++◌, length, drop, length-drop, Some, None, Result, Ok, Err, IfOk, refl, sym, ap, ap₂, get_or, arith, append_assoc}
+use Rattle.std.specs.Prelude.{Option, slice_get, IsOk, codes}
 use Rattle.std.proofs.lemmas.List.{drop-drop, drop_all, drop-map, get_or-map, length-map}
 use Rattle.std.proofs.lemmas.Bool.{cases_Bool}
 use Rattle.std.specs.Str.{bytes_eq}
@@ -9,7 +9,8 @@ use native.Mathlib.Numerals.{unary_clauses}
 use denote.Ref.{Bor}
 use Rattle.survey_core.specs.declared.words.Command.{Command}
 use Rattle.survey_core.specs.declared.words.Command.TheVariants.{Add, Drop, List as Listing, Brightest}
-use Rattle.survey_core.specs.Commands.{read, front, width, behind, with_rest, command_of, some_commands, path_of, file_words, further, commands_of, texts}
+use Rattle.command_line.specs.Lines.{texts}
+use Rattle.survey_core.specs.Commands.{read, front, width, behind, command_of, some_commands, file_words, further, commands_of}
 
 -- these commands of so many words, and what the words behind them mean
 abbrev pub onward : List Command → ℕ → Result (List Command) ℕ → Result (List Command) ℕ

@@ -1,6 +1,7 @@
 -- What is answered to these words, these bytes and these tables.
 use Rattle.std.specs.Prelude.{ℕ, ◌+◌, List, [], ◌∷◌, Result, Ok, Err, Option, Some, None, codes, decimal}
 use Rattle.std.specs.List.{concat}
+use Rattle.command_line.specs.Notes.{usage_line}
 use Rattle.survey_core.specs.declared.words.Command.{Command}
 use Rattle.survey_core.specs.declared.fault.Fault.{Fault}
 use Rattle.survey_core.specs.declared.fault.Fault.TheVariants.{BadKeyword, RowNumber}
@@ -14,9 +15,6 @@ use Rattle.survey_core.specs.Sessions.{Outcome, nothing, session}
 use Rattle.survey_core.specs.Commands.{commands_of}
 
 -- ---- the notes
-
-abbrev pub usage_line : ℕ → List ℕ
-usage_line word = concat (codes "usage: word " ∷ decimal word ∷ codes "\n" ∷ [])
 
 -- the number and the name of a fault, and the places that it names
 abbrev pub refusal_line : Fault → List ℕ

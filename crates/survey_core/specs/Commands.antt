@@ -1,16 +1,11 @@
 -- What the words of a session mean: its commands, one behind the other.
-use Rattle.std.specs.Prelude.{ℕ, ◌+◌, min, Bool, true, false, List, [], ◌∷◌, ◌==◌, length, map, drop, ℤ, pos, unsigned_abs, Option, Some, None, Result, Ok, Err, codes, if◌then◌else◌}
-use denote.Ref.{Bor}
+use Rattle.std.specs.Prelude.{ℕ, ◌+◌, min, List, [], ◌∷◌, ◌==◌, length, drop, pos, unsigned_abs, Option, Some, None, Result, Ok, Err, codes, if◌then◌else◌}
 use Rattle.std.specs.Str.{bytes_eq}
 use Rattle.std.specs.Option.{option_map}
 use Rattle.survey_core.specs.declared.words.Command.{Command}
 use Rattle.survey_core.specs.declared.words.Command.TheVariants.{Add, Drop, List as Listing, Brightest}
 use Rattle.survey_core.specs.Fields.{is_name}
-use Rattle.survey_core.specs.Numbers.{number_between}
-
--- the words, as bytes
-abbrev pub texts : List (Bor (List ℕ)) → List (List ℕ)
-texts words = map (λ word. word.now) words
+use Rattle.command_line.specs.Numbers.{number_between}
 
 -- how many words a command has
 abbrev pub width : Command → ℕ

@@ -2,13 +2,14 @@
 use Rattle.std.specs.Prelude.{◌≡◌, ℕ, ◌≤◌, ◌⊎◌, Bool, List, Ok}
 use Rattle.std.specs.declared.option.Option.{Option}
 use Rattle.std.specs.Option.{ForSome}
+use Rattle.command_line.specs.Notes.{Noted}
 use Rattle.survey_core.specs.declared.words.Command.{Command}
 use Rattle.survey_core.specs.declared.fault.Stop.{Stop}
 use Rattle.survey_core.specs.declared.top.End.{End}
 use Rattle.survey_core.specs.Tables.{Table}
 use Rattle.survey_core.specs.Commands.{commands_of}
 use Rattle.survey_core.specs.Answers.{Answer, answer, status_at, status_of, note_of}
-use Rattle.survey_core.specs.Runs.{IsCutFor, StopsIn, Noted}
+use Rattle.survey_core.specs.Runs.{IsCutFor, StopsIn}
 
 -- P holds of the answer to the bytes and the tables that are told
 abbrev pub ForAnswer : List (List ℕ) → Option (List ℕ) → Option (List Table) → (Answer → Type 0) → Type 0
@@ -42,13 +43,7 @@ pub record TellsEnd (status : ℕ) (old new : Option (List ℕ)) (settled' : Boo
 abbrev pub IsComplete : ℕ → Answer → Type 0
 IsComplete status answer = (status ≡ status_of answer.end) ⊎ (status ≡ 5)
 
--- nothing was asked of a source
-pub record SourceStays {S : Type 0} (left : S → Option (List ℕ)) (ended : S → Bool) (faults : S → ℕ) (old new : S) : Type 0 where
-  pub same_left : left new ≡ left old
-  pub same_end : ended new ≡ ended old
-  pub same_faults : faults new ≡ faults old
-
--- nor of a keeper
+-- nothing was asked of a keeper
 pub record KeeperStays {K : Type 0} (tables : K → Option (List Table)) (faults : K → ℕ) (old new : K) : Type 0 where
   pub same_tables : tables new ≡ tables old
   pub same_faults : faults new ≡ faults old

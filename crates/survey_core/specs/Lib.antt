@@ -9,11 +9,9 @@ pub mod Faults
 pub mod Catalogues
 pub mod Listings
 pub mod Ranking
-pub mod Numbers
 pub mod Commands
 pub mod Sessions
 pub mod Steps
-pub mod Lines
 pub mod Reads
 pub mod Answers
 pub mod Runs

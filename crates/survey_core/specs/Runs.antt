@@ -1,9 +1,8 @@
 -- What a session does to its source, its tables and its sinks.
-use Rattle.std.specs.Prelude.{◌≡◌, ℕ, ◌+◌, ◌<◌, ◌≤◌, ◌⊎◌, Bool, List, ◌∷◌, ◌++◌, length, drop, Result, Ok, Err, Option, Some, None, IsTrue}
+use Rattle.std.specs.Prelude.{◌≡◌, ℕ, ◌+◌, ◌≤◌, Bool, List, ◌∷◌, ◌++◌, drop, Result, Ok, Err, Option, Some, None, IsTrue}
 use Rattle.std.specs.List.{list_any}
 use Rattle.std.specs.Io.KnownBytes.{Appends}
-use Rattle.dev_io.specs.Causes.{Rose}
-use Rattle.dev_io.specs.Streams.{Takes, AppendsPrefix}
+use Rattle.dev_io.specs.Streams.{Takes}
 use Rattle.survey_core.specs.declared.words.Command.{Command}
 use Rattle.survey_core.specs.declared.fault.Stop.{Stop}
 use Rattle.survey_core.specs.declared.fault.Stop.TheVariants.{Refused, ReadFault, WriteFault, NoMemory, KeeperFault}
@@ -88,9 +87,3 @@ EndCause (Ok commands) settled' source source' sink sink' keeper keeper' (Stoppe
 EndCause (Err at) settled' source source' sink sink' keeper keeper' Done = ⊥
 EndCause (Err at) settled' source source' sink sink' keeper keeper' (Usage usage) = usage.word ≡ at + 1
 EndCause (Err at) settled' source source' sink sink' keeper keeper' (Stopped stop) = ⊥
-
--- a line on the notes: all of it and handed on, or a front of it where the count rose
-pub record Noted (old new : Option (List ℕ)) (settled' : Bool) (faults faults' : ℕ) (line : List ℕ) : Type 0 where
-  pub later : faults ≤ faults'
-  pub front : AppendsPrefix old new line
-  pub whole : Rose faults faults' ⊎ (Appends old new line × (0 < length line → IsTrue settled'))

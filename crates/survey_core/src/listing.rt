@@ -14,9 +14,9 @@ ghost use Rattle.survey_core.specs.Steps.{Step, Cause, SettledBy};
 
 use crate::catalogue::{COLUMNS, FLUX, cell};
 use crate::fault::Stop;
-use crate::lines::add_all;
 use crate::words::Command;
 use crate::{Field, Keeper};
+use command_line::lines::add_all;
 use dev_io::{Block, Failed, Sink};
 use itoa::Buffer;
 use std::alloc::Global;

@@ -2,27 +2,16 @@
 ghost use Rattle.std.specs.Prelude.{◌≡◌, ◌≤◌, length};
 ghost use Rattle.dev_io.specs.Causes.{HasCause};
 ghost use Rattle.dev_io.specs.Streams.{PutAppends};
-ghost use Rattle.survey_core.specs.Answers.{note_of, stop_line, usage_line, refusal_line};
-ghost use Rattle.survey_core.specs.Runs.{Noted};
+ghost use Rattle.survey_core.specs.Answers.{note_of, stop_line, refusal_line};
+ghost use Rattle.command_line.specs.Notes.{Noted};
 
 use crate::Fault;
 use crate::fault::Stop;
-use crate::lines::put_line;
 use crate::top::End;
-use crate::words::Usage;
+use command_line::lines::put_line;
+use command_line::notes::put_usage;
 use dev_io::{Failed, Sink};
 use itoa::Buffer;
-
-fn put_usage<N: Sink>(notes: &mut N, usage: Usage) -> Result<(), Failed>
-    ensures bytes { PutAppends (N.written notes.old) (N.written notes.new) result (usage_line usage.word) }
-    ensures cause { HasCause (N.faults notes.old) (N.faults notes.new) result }
-{
-    let mut word = Buffer::new();
-    put_line(
-        notes,
-        &[b"usage: word ", word.format(usage.word).as_bytes(), b"\n"],
-    )
-}
 
 // The places that the fault names, of which there are at most two, stand behind its number and its name.
 fn put_refusal<N: Sink>(notes: &mut N, fault: Fault) -> Result<(), Failed>
@@ -84,7 +73,7 @@ fn put_note<N: Sink>(notes: &mut N, end: End) -> Result<(), Failed>
 {
     match end {
         End::Done => Ok(()),
-        End::Usage(usage) => put_usage(notes, usage),
+        End::Usage(usage) => put_usage(notes, usage.word),
         End::Stopped(stop) => put_stop(notes, stop),
     }
 }

@@ -15,10 +15,10 @@ ghost use Rattle.survey_core.specs.Steps.{Step, Cause, SettledBy};
 
 use crate::catalogue::{COLUMNS, FLUX, NUMBER, XCEN, YCEN, cell};
 use crate::fault::Stop;
-use crate::lines::add_all;
 use crate::listing::{cells_of, names};
 use crate::words::Command;
 use crate::{Field, Keeper};
+use command_line::lines::add_all;
 use dev_io::{Block, Failed, OutOfMemory, Sink};
 use itoa::Buffer;
 use std::alloc::Global;

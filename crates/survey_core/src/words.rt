@@ -2,11 +2,12 @@
 ghost use Rattle.std.specs.Prelude.{◌≡◌, ◌+◌, ◌-◌, ◌≤◌, ◌<◌, drop, length, slice_get, codes, Err, IfOk, IfErr, IfSome, MatchOption, IsOk};
 ghost use Rattle.std.specs.Str.{bytes_eq};
 ghost use Rattle.std.specs.Option.{option_map, option_to_list};
-ghost use Rattle.survey_core.specs.Commands.{texts, width, field_in, count_in, number_in, command_of, front, some_commands, path_of, file_words, commands_of};
+ghost use Rattle.command_line.specs.Lines.{texts};
+ghost use Rattle.survey_core.specs.Commands.{width, field_in, count_in, number_in, command_of, front, some_commands, path_of, file_words, commands_of};
 ghost use Rattle.survey_core.specs.Steps.{HasCount};
 
 use crate::Field;
-use crate::numbers::number_between;
+use command_line::numbers::number_between;
 
 /// One thing that a session does.
 #[derive(Drop)]

@@ -1,7 +1,8 @@
 use Rattle.std.proofs.Common.{sym, ap, subst, List, ℕ}
-use Rattle.survey_core.specs.Commands.{texts, commands_of}
+use Rattle.command_line.specs.Lines.{texts}
+use Rattle.survey_core.specs.Commands.{commands_of}
 use Rattle.survey_core.specs.Answers.{note_of}
-use Rattle.survey_core.specs.Runs.{Noted}
+use Rattle.command_line.specs.Notes.{Noted}
 use Rattle.survey_core.proofs.Ending.{cut_with, answers_end, word_noted}
 use Rattle.survey_core.proofs.top.run_survey.Goals as goal
 

@@ -1,5 +1,5 @@
 use Rattle.std.proofs.Common.{sym, arith, true, None}
-use Rattle.survey_core.specs.Commands.{texts}
+use Rattle.command_line.specs.Lines.{texts}
 use Rattle.survey_core.proofs.Going.{begins, goes_on, stop_tells, stops_here, cause_since, finished, printed_all, some_width}
 use Rattle.survey_core.proofs.top.session.Goals as goal
 

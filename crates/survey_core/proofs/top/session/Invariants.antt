@@ -1,7 +1,8 @@
 -- The commands so far were done.
 use Rattle.std.proofs.Common.{◌≡◌, ◌≤◌, ◌-◌, List, length, Ok}
 use Rattle.survey_core.specs.declared.words.Command.{Command}
-use Rattle.survey_core.specs.Commands.{texts, read}
+use Rattle.command_line.specs.Lines.{texts}
+use Rattle.survey_core.specs.Commands.{read}
 use Rattle.survey_core.proofs.Going.{Going}
 use Rattle.survey_core.proofs.top.session.Given as goal
 

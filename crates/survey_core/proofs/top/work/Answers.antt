@@ -1,6 +1,7 @@
 use Rattle.std.proofs.Common.{List, ℕ, Result}
 use Rattle.survey_core.specs.declared.words.Command.{Command}
-use Rattle.survey_core.specs.Commands.{texts, commands_of}
+use Rattle.command_line.specs.Lines.{texts}
+use Rattle.survey_core.specs.Commands.{commands_of}
 use Rattle.survey_core.specs.Runs.{EndTells, EndCause}
 use Rattle.survey_core.proofs.Ending.{at_fault, with_commands}
 use Rattle.survey_core.proofs.Wording.{read_behind}

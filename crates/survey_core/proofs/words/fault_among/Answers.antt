@@ -1,7 +1,7 @@
-use Rattle.std.proofs.Common.{◌∷◌, ◌++◌, [], ◌+◌, arith, rules, ap, sym, ◌∙◌, length, drop, subst, ◌≡◌}
+use Rattle.std.proofs.Common.{◌∷◌, ◌++◌, [], arith, rules, sym}
 use Rattle.std.proofs.lemmas.List.{length-map}
-use Rattle.survey_core.specs.Commands.{texts, read}
-use Rattle.survey_core.proofs.Wording.{onward, onward_next, fault_at, all_read, some_words}
+use Rattle.command_line.specs.Lines.{texts}
+use Rattle.survey_core.proofs.Wording.{onward_next, fault_at, all_read, some_words}
 use Rattle.survey_core.proofs.words.fault_among.Goals as goal
 
 pub loop-at-preserved : goal.loop-at-preserved

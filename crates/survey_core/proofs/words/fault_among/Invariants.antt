@@ -1,7 +1,8 @@
 -- No word so far is at fault.
 use Rattle.std.proofs.Common.{◌≡◌, ◌-◌, ◌≤◌, length, drop, List}
 use Rattle.survey_core.specs.declared.words.Command.{Command}
-use Rattle.survey_core.specs.Commands.{texts, read}
+use Rattle.command_line.specs.Lines.{texts}
+use Rattle.survey_core.specs.Commands.{read}
 use Rattle.survey_core.proofs.Wording.{onward}
 use Rattle.survey_core.proofs.words.fault_among.Given as goal
 

@@ -1,6 +1,7 @@
 use Rattle.std.proofs.Common.{◌≡◌, ◌-◌, drop, Err, sym, ap, subst, ◌∙◌}
 use Rattle.std.specs.Prelude.{IsOk}
-use Rattle.survey_core.specs.Commands.{texts, file_words, some_commands}
+use Rattle.command_line.specs.Lines.{texts}
+use Rattle.survey_core.specs.Commands.{file_words, some_commands}
 use Rattle.survey_core.proofs.Wording.{texts_behind, fault_behind, none_behind}
 use Rattle.survey_core.proofs.words.word_at_fault.Goals as goal
 

@@ -1,7 +1,7 @@
 use Rattle.std.proofs.Common.{rules}
-use Rattle.survey_core.specs.Commands.{texts}
-use Rattle.survey_core.proofs.LineLemmas.{waiting, waiting_cut, piece_short, text_at, text_in}
-use Rattle.survey_core.proofs.lines.add_all.Goals as goal
+use Rattle.command_line.specs.Lines.{texts}
+use Rattle.command_line.proofs.LineLemmas.{waiting, waiting_cut, piece_short, text_at, text_in}
+use Rattle.command_line.proofs.lines.add_all.Goals as goal
 
 pub add-requires : goal.add-requires
 add-requires g c =

@@ -2,8 +2,8 @@
 use Rattle.std.proofs.Common.{◌≤◌, ◌++◌, take}
 use Rattle.std.specs.List.{concat}
 use Rattle.dev_io.specs.Blocks.{Moves}
-use Rattle.survey_core.specs.Commands.{texts}
-use Rattle.survey_core.proofs.lines.add_all.Given as goal
+use Rattle.command_line.specs.Lines.{texts}
+use Rattle.command_line.proofs.lines.add_all.Given as goal
 
 abbrev pub invariant-loop-piece : goal.invariant-loop-piece
 invariant-loop-piece g l = record {

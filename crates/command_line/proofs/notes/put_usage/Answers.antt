@@ -1,6 +1,6 @@
 use Rattle.std.proofs.Common.{◌∙◌, ◌++◌, ap, List, ℕ, codes}
-use Rattle.survey_core.proofs.LineLemmas.{put_again}
-use Rattle.survey_core.proofs.notes.put_usage.Goals as goal
+use Rattle.command_line.proofs.LineLemmas.{put_again}
+use Rattle.command_line.proofs.notes.put_usage.Goals as goal
 
 pub returns-clause-bytes : goal.returns-clause-bytes
 returns-clause-bytes g c =

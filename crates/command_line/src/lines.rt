@@ -1,14 +1,14 @@
-// Lines of text on their way to a sink.
+//! Lines of text on their way to a sink.
 ghost use Rattle.std.specs.Prelude.{◌≡◌, ◌≤◌, ◌++◌, length, OnOk, OnErr};
 ghost use Rattle.dev_io.specs.Causes.{HasCause};
 ghost use Rattle.dev_io.specs.Streams.{PutAppends, AppendsPrefix};
 ghost use Rattle.dev_io.specs.Blocks.{Moves};
-ghost use Rattle.survey_core.specs.Lines.{joined};
+ghost use Rattle.command_line.specs.Lines.{joined};
 
 use dev_io::{Block, Failed, Sink};
 
 /// Lets these pieces wait, one behind the other.
-pub(crate) fn add_all<O: Sink>(
+pub fn add_all<O: Sink>(
     sink: &mut O,
     block: &mut Block,
     pieces: &[&[u8]],
@@ -27,7 +27,7 @@ pub(crate) fn add_all<O: Sink>(
 }
 
 /// Writes a line of these pieces.
-pub(crate) fn put_line<O: Sink>(sink: &mut O, pieces: &[&[u8]]) -> Result<(), Failed>
+pub fn put_line<O: Sink>(sink: &mut O, pieces: &[&[u8]]) -> Result<(), Failed>
     requires { length (joined pieces.now) ≤ 2880 }
     ensures bytes { PutAppends (O.written sink.old) (O.written sink.new) result (joined pieces.now) }
     ensures cause { HasCause (O.faults sink.old) (O.faults sink.new) result }

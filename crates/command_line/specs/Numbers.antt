@@ -1,4 +1,4 @@
--- How a whole number stands in a word.
+-- Model: how a whole number stands in a word.
 use Rattle.std.specs.Prelude.{ℕ, Bool, ◌&&◌, ◌==◌, List, [], ◌∷◌, length, nat_lt, nat_le, ℤ, int_le, Option, Some, None, if◌then◌else◌}
 use Rattle.std.specs.List.{list_all}
 use Rattle.std.specs.Char.{is_ascii_digit}

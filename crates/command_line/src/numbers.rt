@@ -1,8 +1,8 @@
-// Whole numbers in words.
+//! Whole numbers in words.
 ghost use Rattle.std.specs.Prelude.{◌≡◌, ◌≤ℤ◌, Some, IfSome};
 ghost use Rattle.std.specs.List.{list_all};
 ghost use Rattle.std.specs.Char.{is_ascii_digit};
-ghost use Rattle.survey_core.specs.Numbers.{without_minus as digits_of, is_numeral, within, number_between as number_in};
+ghost use Rattle.command_line.specs.Numbers.{without_minus as digits_of, is_numeral, within, number_between as number_in};
 
 fn without_minus(text: &[u8]) -> &[u8]
     ensures { result.now ≡ digits_of text.now }
@@ -37,8 +37,8 @@ fn within(number: i64, least: i64, most: i64) -> Option<i64>
     }
 }
 
-/// The whole number from `least` to `most` that the text is: an optional minus and 1 to 19 digits.
-pub(crate) fn number_between(text: &str, least: i64, most: i64) -> Option<i64>
+/// The whole number from `least` to `most` that the word is: an optional minus and 1 to 19 decimal digits. It takes no memory.
+pub fn number_between(text: &str, least: i64, most: i64) -> Option<i64>
     ensures number { result ≡ number_in least most text.now }
     ensures low { IfSome result (λ n. least ≤ℤ n) }
     ensures high { IfSome result (λ n. n ≤ℤ most) }

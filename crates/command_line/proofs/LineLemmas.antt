@@ -8,7 +8,7 @@ use denote.Ref.{Bor}
 use Rattle.dev_io.specs.Streams.{AppendsPrefix, PutAppends}
 use Rattle.dev_io.specs.Laws.{AppendsPrefix-more}
 use Rattle.dev_io.specs.Blocks.{Moves, Moves-after, Moves-cut, Moves-flushed}
-use Rattle.survey_core.specs.Commands.{texts}
+use Rattle.command_line.specs.Lines.{texts}
 
 pub concat-more : (xss : List (List ℕ)) (i : ℕ) → i < length xss → concat (take (i + 1) xss) ≡ concat (take i xss) ++ get_or xss i []
 concat-more xss i h =

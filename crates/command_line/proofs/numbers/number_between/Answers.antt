@@ -1,7 +1,7 @@
 use Rattle.std.proofs.Common.{◌∙◌, ap, sym}
-use Rattle.survey_core.specs.Numbers.{without_minus, is_numeral}
-use Rattle.survey_core.proofs.Numerals.{no_number, number_read, number_unread}
-use Rattle.survey_core.proofs.numbers.number_between.Goals as goal
+use Rattle.command_line.specs.Numbers.{without_minus, is_numeral}
+use Rattle.command_line.proofs.Numerals.{no_number, number_read, number_unread}
+use Rattle.command_line.proofs.numbers.number_between.Goals as goal
 
 pub returns-then-not-is_numeral-clause-number : goal.returns-then-not-is_numeral-clause-number
 returns-then-not-is_numeral-clause-number c =
