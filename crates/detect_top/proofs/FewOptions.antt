@@ -9,7 +9,7 @@ use Rattle.std.proofs.lemmas.Slice.Eq.{bytes_eq-Decides}
 use Rattle.comp_tree.proofs.Members.{find_some}
 use Rattle.detect_top.specs.declared.options.Command.{Command}
 use Rattle.detect_top.specs.declared.options.Setting.{Setting}
-use Rattle.detect_top.specs.declared.options.Setting.TheVariants.{Hdu, Connect, Strips, Workers, Mesh, Rule, MinArea, MaxArea, MinFlux, MinFill, Threshold, Contrast, Seed, Width, Height}
+use Rattle.detect_top.specs.declared.options.Setting.TheVariants.{Hdu, Connect, Strips, Workers, Mesh, Flat, Rule, MinArea, MaxArea, MinFlux, MinFill, Threshold, Contrast, Seed, Width, Height}
 use Rattle.detect_top.specs.Options.{settings, name_of, option_named, setting_named, if_taken, takes}
 use Rattle.detect_top.specs.Words.{word, names, naming, is_bad_option, is_bad_name}
 use Rattle.detect_top.specs.Given.{AreRead}
@@ -44,6 +44,7 @@ one_called Connect = omega arith
 one_called Strips = omega arith
 one_called Workers = omega arith
 one_called Mesh = omega arith
+one_called Flat = omega arith
 one_called Rule = omega arith
 one_called MinArea = omega arith
 one_called MaxArea = omega arith

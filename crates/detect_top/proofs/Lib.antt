@@ -1,4 +1,3 @@
-pub mod Numerals
 pub mod Places
 pub mod FewOptions
 pub mod Images

@@ -9,7 +9,7 @@ use Rattle.detect_top.specs.declared.options.Command.{Command}
 use Rattle.detect_top.specs.declared.options.Command.TheVariants.{Tree, Filter, Detect, Trial}
 use Rattle.detect_top.specs.declared.words.Job.{Job}
 use Rattle.detect_top.specs.declared.words.Job.TheVariants as the_job
-use Rattle.detect_top.specs.Numbers.{within, whole_number}
+use Rattle.command_line.specs.Numbers.{within, whole_number}
 use Rattle.detect_top.specs.Options.{count_between, strips_in, workers_in, mesh_in, rule_in, thousandths_in, threshold_in, seed_in}
 use Rattle.detect_top.specs.Words.{criterion_given, choice_given, job_given, order_for, value_given, given, HasJobLimits, HasLimits, shape_given}
 

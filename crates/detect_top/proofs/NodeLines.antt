@@ -1,56 +1,11 @@
--- Pieces that are written one behind the other: those before a place, the one there, and those after it.
-use Rattle.std.proofs.Common.{◌≡◌, ◌∙◌, ℕ, ◌+◌, ◌<◌, ◌≤◌, List, [], ◌∷◌, ◌++◌, get_or, length, take, take_all, drop, ap, sym, subst, append-nil, append_assoc, zero-add, take-append-drop, length-append, arith, Result, OnOk, OnErr}
+-- The lines of a tree's nodes: those before a place, the one there, and those after it.
+use Rattle.std.proofs.Common.{◌≡◌, ◌∙◌, ℕ, ◌+◌, ◌<◌, ◌≤◌, List, ◌++◌, [], get_or, length, take, take_all, ap, sym, subst, zero-add, arith}
 use Rattle.std.specs.List.{concat}
-use Rattle.std.proofs.lemmas.List.{take_more, get_or-map, length-map}
-use Rattle.std.proofs.lemmas.List.Folds.{concat-append}
 use Rattle.std.proofs.lemmas.List.FromFn.{get_or-map-range_with_len, length-map-range_with_len}
 use Rattle.std.specs.declared.option.Option.{Option}
-use denote.Ref.{Bor}
-use Rattle.dev_io.specs.Streams.{AppendsPrefix, PutAppends}
-use Rattle.dev_io.specs.Laws.{AppendsPrefix-more}
-use Rattle.dev_io.specs.Blocks.{Moves, Moves-after, Moves-cut, Moves-flushed}
+use Rattle.dev_io.specs.Blocks.{Moves}
 use Rattle.comp_tree.specs.declared.tree.NodeRow.{NodeRow}
-use Rattle.detect_top.specs.Words.{texts}
 use Rattle.detect_top.specs.Lines.{line_at, lines_of, node_line, row_at}
-
-pub concat-more : (xss : List (List ℕ)) (i : ℕ) → i < length xss → concat (take (i + 1) xss) ≡ concat (take i xss) ++ get_or xss i []
-concat-more xss i h =
-    ap concat (take_more xss i [] h) ∙ concat-append (take i xss) (get_or xss i [] ∷ []) ∙ ap (λ l. concat (take i xss) ++ l) (append-nil (get_or xss i []))
-
-pub concat-split : (xss : List (List ℕ)) (i : ℕ) → i < length xss → concat xss ≡ concat (take i xss) ++ (get_or xss i [] ++ concat (drop (i + 1) xss))
-concat-split xss i h =
-    ap concat (sym (take-append-drop (i + 1) xss)) ∙ concat-append (take (i + 1) xss) (drop (i + 1) xss)
-    ∙ ap (λ l. l ++ concat (drop (i + 1) xss)) (concat-more xss i h) ∙ append_assoc (concat (take i xss)) (get_or xss i []) (concat (drop (i + 1) xss))
-
-pub piece_short : (xss : List (List ℕ)) (i most : ℕ) (x : List ℕ) → i < length xss → x ≡ get_or xss i [] → length (concat xss) ≤ most → length x ≤ most
-piece_short xss i most x h is few =
-    omega (arith, ap length is, ap length (concat-split xss i h), length-append (concat (take i xss)) (get_or xss i [] ++ concat (drop (i + 1) xss)), length-append (get_or xss i []) (concat (drop (i + 1) xss)))
-
-pub waiting : (a b c : Option (List ℕ)) (start : List ℕ) (xss : List (List ℕ)) (v w : List ℕ) (i : ℕ) (x : List ℕ) → i < length xss → x ≡ get_or xss i []
-    → Moves a b (start ++ concat (take i xss)) v → Moves b c (v ++ x) w → Moves a c (start ++ concat (take (i + 1) xss)) w
-waiting a b c start xss v w i x h is before here =
-    let more : (start ++ concat (take i xss)) ++ x ≡ start ++ concat (take (i + 1) xss) =
-    append_assoc start (concat (take i xss)) x ∙ ap (λ l. start ++ (concat (take i xss) ++ l)) is ∙ ap (λ l. start ++ l) (sym (concat-more xss i h)) in
-    subst (λ l. Moves a c l w) more (Moves-after a b c (start ++ concat (take i xss)) x v w before here)
-
-pub waiting_cut : (a b c : Option (List ℕ)) (start : List ℕ) (xss : List (List ℕ)) (v : List ℕ) (i : ℕ) (x : List ℕ) → i < length xss → x ≡ get_or xss i []
-    → Moves a b (start ++ concat (take i xss)) v → AppendsPrefix b c (v ++ x) → AppendsPrefix a c (start ++ concat xss)
-waiting_cut a b c start xss v i x h is before here =
-    let rest = concat (drop (i + 1) xss) in
-    let all : ((start ++ concat (take i xss)) ++ x) ++ rest ≡ start ++ concat xss =
-    append_assoc (start ++ concat (take i xss)) x rest ∙ append_assoc start (concat (take i xss)) (x ++ rest)
-    ∙ ap (λ l. start ++ (concat (take i xss) ++ (l ++ rest))) is ∙ ap (λ l. start ++ l) (sym (concat-split xss i h)) in
-    subst (AppendsPrefix a c) all (AppendsPrefix-more a c ((start ++ concat (take i xss)) ++ x) rest (Moves-cut a b c (start ++ concat (take i xss)) x v before here))
-
-pub line_flushed : {T E : Type 0} (a b c : Option (List ℕ)) (r : Result T E) (start xs v w : List ℕ) → start ≡ [] → Moves a b (start ++ xs) v
-    → OnOk r (Moves b c v w) → OnOk r (w ≡ []) → OnErr r (AppendsPrefix b c v) → PutAppends a c r xs
-line_flushed a b c r start xs v w empty moved ok done err = Moves-flushed a b c r xs v w (subst (λ l. Moves a b (l ++ xs) v) empty moved) ok done err
-
-pub front_empty : (a b : Option (List ℕ)) (start xs : List ℕ) → start ≡ [] → AppendsPrefix a b (start ++ xs) → AppendsPrefix a b xs
-front_empty a b start xs empty front = subst (λ l. AppendsPrefix a b (l ++ xs)) empty front
-
-pub text_at : (pieces : List (Bor (List ℕ))) (i : ℕ) (d : Bor (List ℕ)) → i < length pieces → (get_or pieces i d).now ≡ get_or (texts pieces) i []
-text_at pieces i d h = sym (get_or-map (λ (piece : Bor (List ℕ)). piece.now) pieces i d [] h)
 
 pub length-lines_of : (rows : List NodeRow) (areas : List ℕ) → length (lines_of rows areas) ≡ length rows
 unfolding lines_of
@@ -62,9 +17,6 @@ unfolding lines_of
 line_is rows areas i row area h is here =
     ap (λ r. node_line i r area) is ∙ ap (λ a. node_line i (row_at rows i) a) here ∙ sym (get_or-map-range_with_len (line_at rows areas) 0 (length rows) i i [] h (zero-add i))
 
-pub text_in : (pieces : List (Bor (List ℕ))) (i : ℕ) → i < length pieces → i < length (texts pieces)
-text_in pieces i h = omega (arith, length-map pieces (λ (piece : Bor (List ℕ)). piece.now))
-
 pub line_in : (rows : List NodeRow) (areas : List ℕ) (i : ℕ) → i < length rows → i < length (lines_of rows areas)
 line_in rows areas i h = omega (arith, length-lines_of rows areas)
 
@@ -73,6 +25,3 @@ pub all_lines : (a b : Option (List ℕ)) (start : List ℕ) (rows : List NodeRo
     → Moves a b (start ++ concat (take i (lines_of rows areas))) v → Moves a b (start ++ concat (lines_of rows areas)) v
 all_lines a b start rows areas v i h moved =
     subst (λ l. Moves a b (start ++ concat l) v) (take_all i (lines_of rows areas) (omega (arith, length-lines_of rows areas))) moved
-
-pub put_again : {T E : Type 0} (a b : Option (List ℕ)) (r : Result T E) (xs ys : List ℕ) → xs ≡ ys → PutAppends a b r xs → PutAppends a b r ys
-put_again a b r xs ys same put = subst (λ (l : List ℕ). PutAppends a b r l) same put

@@ -1,5 +1,5 @@
 -- What is made of an image is what its order writes.
-use Rattle.std.proofs.Common.{◌≡◌, ◌∙◌, ap, sym, ℕ, List, Result, Ok, Err, IfOk}
+use Rattle.std.proofs.Common.{◌≡◌, ◌∙◌, ap, sym, ℕ, Bool, List, Result, Ok, Err, IfOk}
 use Rattle.std.specs.Prelude.{ℤ, Some, None}
 use Rattle.std.specs.declared.option.Option.{Option}
 use Rattle.comp_tree.specs.declared.shape.Shape.{Shape}
@@ -7,8 +7,7 @@ use Rattle.comp_tree.specs.declared.shape.Connect.{Connect}
 use Rattle.comp_tree.specs.Raster.{Raster}
 use Rattle.comp_tree.specs.ComponentTree.{ComponentTree}
 use Rattle.comp_tree.specs.Components.{tree_of}
-use Rattle.pixel_plane.specs.Stored.{HasStorableValues}
-use Rattle.mesh_background.specs.Residuals.{residual_of, HasValuesInHalfRange}
+use Rattle.mesh_background.specs.Residuals.{residual_of}
 use Rattle.detect_top.specs.declared.words.Order.{Order}
 use Rattle.detect_top.specs.declared.product.Product.{Product}
 use Rattle.detect_top.specs.declared.words.Job.{Job}
@@ -17,11 +16,7 @@ use Rattle.detect_top.specs.Products.{output_of_job, output_of, bytes_of, image_
 use Rattle.detect_top.specs.Trials.{trial_image}
 use Rattle.detect_top.proofs.Trials.{trial_residual_is_small}
 
--- what can be stored is half of the range of pixels
-pub half_range : (values : List (Option ℤ)) → HasStorableValues values → HasValuesInHalfRange values
-half_range values h = record { each = λ p v is. record { low = (h.each p v is).low; high = (h.each p v is).high } }
-
-pub made_of_image : {E : Type 0} (order : Order) (image plane left : Raster) (tree : ComponentTree) (made : Result Product E) → plane ≡ residual_of image order.mesh
+pub made_of_image : {E : Type 0} (order : Order) (image plane left : Raster) (tree : ComponentTree) (made : Result Product E) → plane ≡ residual_of image order.mesh order.flat
     → output_of_job order.job order.connect left ≡ output_of_job order.job order.connect plane → tree ≡ tree_of left order.connect
     → IfOk made (λ product. (connect : Connect) → tree ≡ tree_of left connect → bytes_of product ≡ output_of_job order.job connect left)
     → IfOk made (λ product. bytes_of product ≡ output_of order image)
@@ -40,8 +35,8 @@ suits_read (Detect choice) plane is = tt
 suits_read (Trial seed shape) plane is = absurd (no_image (trial_image seed shape) (sym is))
 
 -- and a trial takes its image less the background
-pub suits_made : (job : Job) (seed : ℕ) (shape : Shape) (mesh : ℕ) → image_made job ≡ Some (trial_image seed shape) → SuitsJob job (residual_of (trial_image seed shape) mesh)
-suits_made Tree seed shape mesh is = absurd (no_image (trial_image seed shape) is)
-suits_made (Filter rule criterion) seed shape mesh is = absurd (no_image (trial_image seed shape) is)
-suits_made (Detect choice) seed shape mesh is = absurd (no_image (trial_image seed shape) is)
-suits_made (Trial own sides) seed shape mesh is = trial_residual_is_small seed shape mesh
+pub suits_made : (job : Job) (seed : ℕ) (shape : Shape) (mesh : ℕ) (flat : Bool) → image_made job ≡ Some (trial_image seed shape) → SuitsJob job (residual_of (trial_image seed shape) mesh flat)
+suits_made Tree seed shape mesh flat is = absurd (no_image (trial_image seed shape) is)
+suits_made (Filter rule criterion) seed shape mesh flat is = absurd (no_image (trial_image seed shape) is)
+suits_made (Detect choice) seed shape mesh flat is = absurd (no_image (trial_image seed shape) is)
+suits_made (Trial own sides) seed shape mesh flat is = trial_residual_is_small seed shape mesh flat

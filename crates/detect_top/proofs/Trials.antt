@@ -18,7 +18,7 @@ use Rattle.comp_tree.specs.Laws.{top_of}
 use Rattle.comp_tree.proofs.Ancestors.{length-rows}
 use Rattle.comp_tree.proofs.Finding.{length-pixels}
 use Rattle.comp_tree.proofs.OneTree.{IsImage, get_from_map, get-pixels}
-use Rattle.pixel_plane.specs.Stored.{HasStorableValues}
+use Rattle.comp_tree.specs.Raster.{HasValuesInHalfRange}
 use Rattle.mesh_background.specs.Medians.{IsLowerMedian, lower_median}
 use Rattle.mesh_background.specs.Mesh.{cell_of, cell_pixels, defined_values, image_value, mesh_value}
 use Rattle.mesh_background.specs.Residuals.{background, residual_at, residual_of}
@@ -97,7 +97,7 @@ trial_bytes : (seed : ℕ) (shape : Shape) (p : ℕ) (v : ℤ) → slice_get (tr
 unfolding trial_image
 trial_bytes seed shape p v e = bytes-of_states seed (shape.width * shape.height) p v e
 
-pub trial_is_storable : (seed : ℕ) (shape : Shape) → HasStorableValues (trial_image seed shape).values
+pub trial_is_storable : (seed : ℕ) (shape : Shape) → HasValuesInHalfRange (trial_image seed shape).values
 trial_is_storable seed shape = record {
   each = λ p v e. let b : IsByte v = trial_bytes seed shape p v e in record { low = omega (arith, ints, b.low); high = omega (arith, ints, b.high) };
 }

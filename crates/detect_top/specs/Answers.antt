@@ -1,32 +1,34 @@
 -- What is answered to these words and these bytes.
 use Rattle.std.specs.Prelude.{ℕ, List, [], ◌∷◌, Result, Ok, Err, Option, Some, None, codes, decimal}
 use Rattle.std.specs.List.{concat}
+use Rattle.std.specs.Fmt.{signed_decimal}
+use Rattle.command_line.specs.Notes.{usage_line}
 use Rattle.comp_tree.specs.Raster.{Raster}
-use Rattle.pixel_plane.specs.Verdicts.{Verdict, image, unfound, unreadable, truncated, verdict}
+use Rattle.pixel_plane.specs.Verdicts.{Verdict, image, unfound, unreadable, truncated, out_of_range, verdict}
 use Rattle.detect_top.specs.declared.words.Order.{Order}
 use Rattle.detect_top.specs.declared.words.Usage.{Usage as AtFault}
 use Rattle.detect_top.specs.declared.fault.Fault.{Fault}
 use Rattle.detect_top.specs.declared.top.End.{End}
 use Rattle.detect_top.specs.declared.top.End.TheVariants.{Done, Usage, Refused, ReadFault, WriteFault, NoMemory}
 use Rattle.detect_top.specs.Words.{order_of}
-use Rattle.detect_top.specs.declared.fault.Fault.TheVariants.{TruncatedData}
-use Rattle.detect_top.specs.declared.fault.CardPlace.{CardPlace}
+use Rattle.detect_top.specs.declared.fault.Fault.TheVariants.{TruncatedData, PixelRange}
+use Rattle.detect_top.specs.declared.fault.Place.{Place}
+use Rattle.detect_top.specs.declared.fault.Place.TheVariants.{Card, Pixel}
 use Rattle.detect_top.specs.declared.image.Stop.{Stop}
 use Rattle.detect_top.specs.declared.image.Stop.TheVariants as at_image
 use Rattle.detect_top.specs.Faults.{number_of, name_of, place_of, stop_at_hdu, fault_of_image}
 use Rattle.detect_top.specs.Products.{output_of, image_made}
 
-abbrev pub usage_line : ℕ → List ℕ
-usage_line word = concat (codes "usage: word " ∷ decimal word ∷ codes "\n" ∷ [])
+-- the number and the name of a fault, and the card or the pixel at fault
+abbrev pub line_at_place : List ℕ → List ℕ → Place → List ℕ
+line_at_place number name (Card hdu card) =
+    concat (codes "refused: " ∷ number ∷ codes " " ∷ name ∷ codes " hdu " ∷ decimal hdu ∷ codes " card " ∷ decimal card ∷ codes "\n" ∷ [])
+line_at_place number name (Pixel pixel stored) =
+    concat (codes "refused: " ∷ number ∷ codes " " ∷ name ∷ codes " pixel " ∷ decimal pixel ∷ codes " stored " ∷ signed_decimal stored ∷ codes "\n" ∷ [])
 
--- the number and the name of a fault, and where a card at fault stands
-abbrev pub line_at_card : List ℕ → List ℕ → CardPlace → List ℕ
-line_at_card number name place =
-    concat (codes "refused: " ∷ number ∷ codes " " ∷ name ∷ codes " hdu " ∷ decimal place.hdu ∷ codes " card " ∷ decimal place.card ∷ codes "\n" ∷ [])
-
-abbrev pub refusal_by : List ℕ → List ℕ → Option CardPlace → List ℕ
+abbrev pub refusal_by : List ℕ → List ℕ → Option Place → List ℕ
 refusal_by number name None = concat (codes "refused: " ∷ number ∷ codes " " ∷ name ∷ codes "\n" ∷ [])
-refusal_by number name (Some place) = line_at_card number name place
+refusal_by number name (Some place) = line_at_place number name place
 
 abbrev pub refusal_line : Fault → List ℕ
 refusal_line fault = refusal_by (decimal (number_of fault)) (name_of fault) (place_of fault)
@@ -66,6 +68,7 @@ answer_to order (image plane head end) = record { end = Done; output = output_of
 answer_to order (unfound fault taken) = record { end = end_at (stop_at_hdu fault); output = []; taken = taken }
 answer_to order (unreadable fault head) = record { end = Refused (fault_of_image fault); output = []; taken = head }
 answer_to order (truncated head taken) = record { end = Refused TruncatedData; output = []; taken = taken }
+answer_to order (out_of_range head end pixel stored) = record { end = Refused (PixelRange pixel stored); output = []; taken = end }
 
 -- an image that the job makes itself needs no bytes
 abbrev pub answer_over : Order → List ℕ → Option Raster → Answer

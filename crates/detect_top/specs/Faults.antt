@@ -7,8 +7,9 @@ use Rattle.pixel_plane.specs.declared.fault.ImageFault.TheVariants as at_image
 use Rattle.pixel_plane.specs.declared.fault.PlaneFault.{PlaneFault}
 use Rattle.pixel_plane.specs.declared.fault.PlaneFault.TheVariants as at_plane
 use Rattle.detect_top.specs.declared.fault.Fault.{Fault}
-use Rattle.detect_top.specs.declared.fault.Fault.TheVariants.{NotFits, TruncatedHeader, BadKeyword, HeaderTooLong, Groups, DataTooLong, NoSuchHdu, TruncatedSkip, NotImage, NoImage, ImageTooLarge, Bitpix, Bscale, Bzero, Blank, TruncatedData}
-use Rattle.detect_top.specs.declared.fault.CardPlace.{CardPlace}
+use Rattle.detect_top.specs.declared.fault.Fault.TheVariants.{NotFits, TruncatedHeader, BadKeyword, HeaderTooLong, Groups, DataTooLong, NoSuchHdu, TruncatedSkip, NotImage, NoImage, ImageTooLarge, Bitpix, Bscale, Bzero, Blank, TruncatedData, PixelRange}
+use Rattle.detect_top.specs.declared.fault.Place.{Place}
+use Rattle.detect_top.specs.declared.fault.Place.TheVariants.{Card, Pixel}
 use Rattle.detect_top.specs.declared.image.Stop.{Stop}
 use Rattle.detect_top.specs.declared.image.Stop.TheVariants.{Refused, ReadFault, NoMemory}
 
@@ -29,6 +30,7 @@ number_of Bscale = 14
 number_of Bzero = 15
 number_of Blank = 16
 number_of TruncatedData = 17
+number_of (PixelRange pixel stored) = 18
 
 abbrev pub name_of : Fault → List ℕ
 name_of NotFits = codes "NotFits"
@@ -47,10 +49,12 @@ name_of Bscale = codes "Bscale"
 name_of Bzero = codes "Bzero"
 name_of Blank = codes "Blank"
 name_of TruncatedData = codes "TruncatedData"
+name_of (PixelRange pixel stored) = codes "PixelRange"
 
--- where the card at fault stands, if it is a card's fault
-abbrev pub place_of : Fault → Option CardPlace
-place_of (BadKeyword hdu card) = Some (record { hdu = hdu; card = card })
+-- the card or the pixel at fault, if it is one's fault
+abbrev pub place_of : Fault → Option Place
+place_of (BadKeyword hdu card) = Some (Card hdu card)
+place_of (PixelRange pixel stored) = Some (Pixel pixel stored)
 place_of _ = None
 
 -- why the reading of an image stops: where its HDU isn't found
@@ -78,6 +82,7 @@ fault_of_image at_image.Blank = Blank
 -- and where its pixels aren't read
 abbrev pub stop_at_plane : PlaneFault → Stop
 stop_at_plane at_plane.TruncatedData = Refused TruncatedData
+stop_at_plane (at_plane.PixelRange pixel stored) = Refused (PixelRange pixel stored)
 stop_at_plane at_plane.ReadFault = ReadFault
 stop_at_plane at_plane.OutOfMemory = NoMemory
 
@@ -88,9 +93,11 @@ IsCut TruncatedSkip = Unit {0}
 IsCut TruncatedData = Unit {0}
 IsCut _ = ⊥
 
--- a fault before which memory may be wanted: that the bytes end within the image shows only behind its header
+-- a fault before which memory may be wanted: that the bytes end within the image, or that a pixel is out of range, shows only
+-- behind its header
 abbrev pub IsBehindHeader : Fault → Type 0
 IsBehindHeader TruncatedData = Unit {0}
+IsBehindHeader (PixelRange pixel stored) = Unit {0}
 IsBehindHeader _ = ⊥
 
 abbrev pub IsCutStop : Stop → Type 0

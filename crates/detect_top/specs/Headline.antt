@@ -4,12 +4,13 @@ use Rattle.std.specs.declared.option.Option.{Option}
 use Rattle.std.specs.Io.KnownBytes.{Keeps}
 use Rattle.dev_io.specs.Causes.{Rose}
 use Rattle.dev_io.specs.Streams.{AppendsPrefix}
+use Rattle.command_line.specs.Notes.{Noted}
 use Rattle.detect_top.specs.declared.top.End.{End}
 use Rattle.detect_top.specs.declared.top.End.TheVariants.{Done, Usage, Refused, ReadFault, WriteFault, NoMemory}
 use Rattle.detect_top.specs.Words.{order_of}
 use Rattle.detect_top.specs.Faults.{IsCut, IsBehindHeader}
 use Rattle.detect_top.specs.Answers.{Answer, status_of, note_of}
-use Rattle.detect_top.specs.Runs.{Tells, ReadsInput, WantsMemory, Noted}
+use Rattle.detect_top.specs.Runs.{Tells, ReadsInput, WantsMemory}
 
 -- P holds of the bytes that the source tells. Where the words give no order that reads them, it need not tell them.
 abbrev pub ForBytes : List (List ℕ) → Option (List ℕ) → (List ℕ → Type 0) → Type 0

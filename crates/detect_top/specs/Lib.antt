@@ -1,4 +1,3 @@
-pub mod Numbers
 pub mod Options
 pub mod Words
 pub mod Given

@@ -2,18 +2,12 @@
 use Rattle.std.specs.Prelude.{ℕ, ◌==◌, List, [], ◌∷◌, map, length, get_or, slice_index, codes, decimal, pos, if◌then◌else◌}
 use Rattle.std.specs.List.{concat, range_with_len}
 use Rattle.std.specs.Fmt.{signed_decimal}
-use denote.Ref.{Bor}
 use Rattle.comp_tree.specs.declared.shape.Connect.{Connect}
 use Rattle.comp_tree.specs.declared.tree.NodeRow.{NodeRow}
 use Rattle.comp_tree.specs.Limits.{no_node}
 use Rattle.comp_tree.specs.Raster.{Raster}
 use Rattle.comp_tree.specs.Components.{tree_of}
-use Rattle.detect_top.specs.Words.{texts}
 use Rattle.node_sums.specs.Areas.{areas_in}
-
--- pieces of text, one behind the other
-abbrev pub joined : List (Bor (List ℕ)) → List ℕ
-joined pieces = concat (texts pieces)
 
 -- the number of a node's parent, or `-` at a root
 abbrev pub parent_text : ℕ → List ℕ

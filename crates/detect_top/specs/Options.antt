@@ -1,5 +1,5 @@
 -- The commands, their options, and what the values of these are.
-use Rattle.std.specs.Prelude.{ℕ, Bool, true, false, List, [], ◌∷◌, find, ◌||◌, ℤ, pos, neg_ℤ, unsigned_abs, Option, Some, None, is_some, codes, if◌then◌else◌, not}
+use Rattle.std.specs.Prelude.{ℕ, ◌^◌, Bool, true, false, List, [], ◌∷◌, find, ◌||◌, ℤ, pos, neg_ℤ, unsigned_abs, Option, Some, None, is_some, codes, if◌then◌else◌, not}
 use Rattle.std.specs.Str.{bytes_eq}
 use Rattle.std.specs.Option.{option_map}
 use Rattle.std.specs.Ordering.{int_eq}
@@ -10,8 +10,9 @@ use Rattle.filter_rules.specs.declared.rule.Rule.TheVariants as rule
 use Rattle.detect_top.specs.declared.options.Command.{Command}
 use Rattle.detect_top.specs.declared.options.Command.TheVariants.{Tree, Filter, Detect, Trial}
 use Rattle.detect_top.specs.declared.options.Setting.{Setting}
-use Rattle.detect_top.specs.declared.options.Setting.TheVariants.{Hdu, Connect as Connectivity, Strips, Workers, Mesh, Rule as FilterRule, MinArea, MaxArea, MinFlux, MinFill, Threshold, Contrast, Seed, Width, Height}
-use Rattle.detect_top.specs.Numbers.{number_between}
+use Rattle.detect_top.specs.declared.options.Setting.TheVariants.{Hdu, Connect as Connectivity, Strips, Workers, Mesh, Flat}
+use Rattle.detect_top.specs.declared.options.Setting.TheVariants.{Rule as FilterRule, MinArea, MaxArea, MinFlux, MinFill, Threshold, Contrast, Seed, Width, Height}
+use Rattle.command_line.specs.Numbers.{number_between}
 
 -- ---- names
 
@@ -25,7 +26,8 @@ command_named text =
 -- all options
 abbrev pub settings : List Setting
 settings =
-    Hdu ∷ Connectivity ∷ Strips ∷ Workers ∷ Mesh ∷ FilterRule ∷ MinArea ∷ MaxArea ∷ MinFlux ∷ MinFill ∷ Threshold ∷ Contrast ∷ Seed ∷ Width ∷ Height ∷ []
+    Hdu ∷ Connectivity ∷ Strips ∷ Workers ∷ Mesh ∷ Flat ∷ FilterRule ∷ MinArea ∷ MaxArea ∷ MinFlux ∷ MinFill
+    ∷ Threshold ∷ Contrast ∷ Seed ∷ Width ∷ Height ∷ []
 
 abbrev pub name_of : Setting → List ℕ
 name_of Hdu = codes "--hdu"
@@ -33,6 +35,7 @@ name_of Connectivity = codes "--connect"
 name_of Strips = codes "--strips"
 name_of Workers = codes "--workers"
 name_of Mesh = codes "--mesh"
+name_of Flat = codes "--flat"
 name_of FilterRule = codes "--rule"
 name_of MinArea = codes "--min-area"
 name_of MaxArea = codes "--max-area"
@@ -73,6 +76,7 @@ takes command Connectivity = true
 takes command Strips = true
 takes command Workers = true
 takes command Mesh = true
+takes command Flat = true
 takes command FilterRule = is_filter command
 takes command MinArea = is_filter command || is_detect command
 takes command MaxArea = is_filter command
@@ -122,6 +126,14 @@ workers_in text = count_between (pos 1) (pos 64) text
 unfoldable pub mesh_in : List ℕ → Option ℕ
 mesh_in text = count_between (pos 0) (pos 65535) text
 
+abbrev pub flat_of : Option ℤ → Option Bool
+flat_of None = None
+flat_of (Some n) = Some (int_eq n (pos 1))
+
+-- 0, or 1 for one number a cell
+unfoldable pub flat_in : List ℕ → Option Bool
+flat_in text = flat_of (number_between (pos 0) (pos 1) text)
+
 -- a filter rule
 unfoldable pub rule_in : List ℕ → Option Rule
 rule_in text =
@@ -132,19 +144,19 @@ rule_in text =
 
 -- a number of pixels
 unfoldable pub area_in : List ℕ → Option ℕ
-area_in text = count_between (pos 0) (pos 16777216) text
+area_in text = count_between (pos 0) (pos (2 ^ 24)) text
 
--- a flux, at most 2 ^ 59
+-- a flux, at most 2 ^ 62
 unfoldable pub flux_in : List ℕ → Option ℤ
-flux_in text = number_between (pos 0) (pos 576460752303423488) text
+flux_in text = number_between (pos 0) (pos (2 ^ 62)) text
 
 -- a part of a whole, in thousandths
 unfoldable pub thousandths_in : List ℕ → Option ℕ
 thousandths_in text = count_between (pos 0) (pos 1000) text
 
--- a level, within 2 ^ 34 on either side of 0
+-- a level, within 2 ^ 37 on either side of 0
 unfoldable pub threshold_in : List ℕ → Option ℤ
-threshold_in text = number_between (neg_ℤ (pos 17179869184)) (pos 17179869184) text
+threshold_in text = number_between (neg_ℤ (pos (2 ^ 37))) (pos (2 ^ 37)) text
 
 -- a seed, which fits 32 bits
 unfoldable pub seed_in : List ℕ → Option ℕ
@@ -161,6 +173,7 @@ is_value Connectivity text = is_some (connect_in text)
 is_value Strips text = is_some (strips_in text)
 is_value Workers text = is_some (workers_in text)
 is_value Mesh text = is_some (mesh_in text)
+is_value Flat text = is_some (flat_in text)
 is_value FilterRule text = is_some (rule_in text)
 is_value MinArea text = is_some (area_in text)
 is_value MaxArea text = is_some (area_in text)

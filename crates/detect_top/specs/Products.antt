@@ -21,9 +21,9 @@ output_of_job (Filter rule criterion) connect plane = plane_hdu (filtered plane 
 output_of_job (Detect choice) connect plane = detection plane connect choice
 output_of_job (Trial seed shape) connect plane = trial_line (summary_of plane connect)
 
--- what an order writes of an image: its job works on the residual under the order's mesh
+-- what an order writes of an image: its job works on the residual under the order's mesh, flat or smooth
 unfoldable pub output_of : Order → Raster → List ℕ
-output_of order image = output_of_job order.job order.connect (residual_of image order.mesh)
+output_of order image = output_of_job order.job order.connect (residual_of image order.mesh order.flat)
 
 -- the image that a job makes itself; without one it reads the input's
 abbrev pub image_made : Job → Option Raster

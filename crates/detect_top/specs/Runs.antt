@@ -42,12 +42,6 @@ Took old new n = ForSome old (λ bytes. Takes bytes new n)
 abbrev pub TookAtMost : Option (List ℕ) → Option (List ℕ) → ℕ → Type 0
 TookAtMost old new n = ForSome old (λ bytes. TakesAtMost bytes new n)
 
--- nothing was asked of a source
-pub record Untouched {S : Type 0} (left : S → Option (List ℕ)) (ended : S → Bool) (faults : S → ℕ) (old new : S) : Type 0 where
-  pub same_left : left new ≡ left old
-  pub same_end : ended new ≡ ended old
-  pub same_faults : faults new ≡ faults old
-
 abbrev pub LeavesInputFor : Option Raster → Type 0
 LeavesInputFor (Some made) = Unit {0}
 LeavesInputFor None = ⊥
@@ -102,9 +96,3 @@ EndCause order ended' faults faults' written written' settled' sink_faults sink_
     IsOk order × Rose faults faults' × Keeps written written' × ReadsInput order
 EndCause order ended' faults faults' written written' settled' sink_faults sink_faults' WriteFault = IsOk order × Rose sink_faults sink_faults'
 EndCause order ended' faults faults' written written' settled' sink_faults sink_faults' NoMemory = IsOk order × Keeps written written'
-
--- a line on the notes: all of it and handed on, or a front of it where the count rose
-pub record Noted (old new : Option (List ℕ)) (settled' : Bool) (faults faults' : ℕ) (line : List ℕ) : Type 0 where
-  pub later : faults ≤ faults'
-  pub front : AppendsPrefix old new line
-  pub whole : Rose faults faults' ⊎ (Appends old new line × (0 < length line → IsTrue settled'))

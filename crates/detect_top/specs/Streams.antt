@@ -3,8 +3,8 @@ use Rattle.std.specs.Prelude.{◌≡◌, ℕ, ◌⊎◌, List, Some, None}
 use Rattle.std.specs.declared.option.Option.{Option}
 use Rattle.dev_io.specs.Streams.{Takes, TakesAtMost}
 use Rattle.comp_tree.specs.Raster.{Raster, IsPlane}
-use Rattle.pixel_plane.specs.Verdicts.{Verdict, image, unfound, unreadable, truncated, taken_by}
-use Rattle.detect_top.specs.declared.fault.Fault.TheVariants.{TruncatedData}
+use Rattle.pixel_plane.specs.Verdicts.{Verdict, image, unfound, unreadable, truncated, out_of_range, taken_for}
+use Rattle.detect_top.specs.declared.fault.Fault.TheVariants.{TruncatedData, PixelRange}
 use Rattle.detect_top.specs.declared.image.Stop.{Stop}
 use Rattle.detect_top.specs.declared.image.Stop.TheVariants.{Refused, ReadFault, NoMemory}
 use Rattle.detect_top.specs.Faults.{stop_at_hdu, fault_of_image}
@@ -17,12 +17,13 @@ pub record ImageRead (found : Verdict) (bytes : List ℕ) (left : Option (List �
   pub whole : IsPlane plane
   pub takes : Takes bytes left end
 
--- where memory may be wanted: behind the header of an image or of a cut one, or behind the image
+-- where memory may be wanted: behind the header of an image, also of one that is cut or has a pixel out of range, or behind the image
 abbrev pub MemoryWanted : Verdict → List ℕ → Option (List ℕ) → Type 0
 MemoryWanted (image plane head end) bytes left = Takes bytes left head ⊎ Takes bytes left end
 MemoryWanted (unfound fault taken) bytes left = ⊥
 MemoryWanted (unreadable fault head) bytes left = ⊥
 MemoryWanted (truncated head taken) bytes left = Takes bytes left head
+MemoryWanted (out_of_range head end pixel stored) bytes left = Takes bytes left head
 
 -- the stop by which the verdict shows, where it isn't an image
 abbrev pub stop_of : Verdict → Option Stop
@@ -30,9 +31,10 @@ stop_of (image plane head end) = None
 stop_of (unfound fault taken) = Some (stop_at_hdu fault)
 stop_of (unreadable fault head) = Some (Refused (fault_of_image fault))
 stop_of (truncated head taken) = Some (Refused TruncatedData)
+stop_of (out_of_range head end pixel stored) = Some (Refused (PixelRange pixel stored))
 
 -- what a stop says of the bytes: a refusal is the verdict's, and its bytes were taken
 abbrev pub ImageStopped : Verdict → List ℕ → Option (List ℕ) → Stop → Type 0
-ImageStopped found bytes left (Refused fault) = (stop_of found ≡ Some (Refused fault)) × Takes bytes left (taken_by found)
-ImageStopped found bytes left ReadFault = TakesAtMost bytes left (taken_by found)
+ImageStopped found bytes left (Refused fault) = (stop_of found ≡ Some (Refused fault)) × Takes bytes left (taken_for found)
+ImageStopped found bytes left ReadFault = TakesAtMost bytes left (taken_for found)
 ImageStopped found bytes left NoMemory = MemoryWanted found bytes left

@@ -1,7 +1,6 @@
 -- What the words of the command mean. Words are counted from 1: the first is the command, the even ones behind it name options, and each odd
 -- one is the value of the option that is named before it.
-use Rattle.std.specs.Prelude.{ℕ, ◌<◌, ◌≤◌, ◌+◌, ◌-◌, ◌*◌, ◌/◌, ◌%◌, Bool, true, false, ◌==◌, ◌||◌, not, nat_lt, List, [], ◌∷◌, length, map, find, get_or, ℤ, pos, Option, Some, None, is_some, unwrap_or, option_and_then, Result, Ok, Err, if◌then◌else◌}
-use denote.Ref.{Bor}
+use Rattle.std.specs.Prelude.{ℕ, ◌<◌, ◌≤◌, ◌+◌, ◌-◌, ◌*◌, ◌/◌, ◌%◌, ◌^◌, Bool, true, false, ◌==◌, ◌||◌, not, nat_lt, List, [], ◌∷◌, length, find, get_or, ℤ, pos, Option, Some, None, is_some, unwrap_or, option_and_then, Result, Ok, Err, if◌then◌else◌}
 use Rattle.std.specs.Str.{bytes_eq}
 use Rattle.std.specs.List.{range_with_len}
 use Rattle.std.specs.Option.{option_map}
@@ -13,12 +12,12 @@ use Rattle.source_pick.specs.declared.choice.Choice.{Choice}
 use Rattle.detect_top.specs.declared.options.Command.{Command}
 use Rattle.detect_top.specs.declared.options.Command.TheVariants as command
 use Rattle.detect_top.specs.declared.options.Setting.{Setting}
-use Rattle.detect_top.specs.declared.options.Setting.TheVariants.{Hdu, Connect, Strips, Workers, Mesh, Rule, MinArea, MaxArea, MinFlux, MinFill, Threshold, Contrast, Seed, Width, Height}
+use Rattle.detect_top.specs.declared.options.Setting.TheVariants.{Hdu, Connect, Strips, Workers, Mesh, Flat, Rule, MinArea, MaxArea, MinFlux, MinFill, Threshold, Contrast, Seed, Width, Height}
 use Rattle.detect_top.specs.declared.words.Order.{Order}
 use Rattle.detect_top.specs.declared.words.Job.{Job}
 use Rattle.detect_top.specs.declared.words.Job.TheVariants as job
 use Rattle.detect_top.specs.declared.words.Usage.{Usage}
-use Rattle.detect_top.specs.Options.{command_named, name_of, option_named, is_value, hdu_in, connect_in, strips_in, workers_in, mesh_in, rule_in, area_in, flux_in, thousandths_in, threshold_in, seed_in, side_in}
+use Rattle.detect_top.specs.Options.{command_named, name_of, option_named, is_value, hdu_in, connect_in, strips_in, workers_in, mesh_in, flat_in, rule_in, area_in, flux_in, thousandths_in, threshold_in, seed_in, side_in}
 
 -- ---- the places
 
@@ -73,7 +72,7 @@ given read words n setting = option_and_then read (value_given words n setting)
 unfoldable pub criterion_given : List (List ℕ) → ℕ → Criterion
 criterion_given words n = record {
   min_area = unwrap_or (given area_in words n MinArea) 0;
-  max_area = unwrap_or (given area_in words n MaxArea) 16777216;
+  max_area = unwrap_or (given area_in words n MaxArea) (2 ^ 24);
   min_flux = unwrap_or (given flux_in words n MinFlux) (pos 0);
   min_fill = unwrap_or (given thousandths_in words n MinFill) 0;
 }
@@ -105,6 +104,7 @@ order_for words n job = record {
   strips = unwrap_or (given strips_in words n Strips) 1;
   workers = unwrap_or (given workers_in words n Workers) 1;
   mesh = unwrap_or (given mesh_in words n Mesh) 0;
+  flat = unwrap_or (given flat_in words n Flat) false;
 }
 
 -- the order that n pairs of a name and a value give, none of which is at fault
@@ -131,10 +131,6 @@ order_by words (Some command) = order_unless (first_at_fault command words) (len
 -- the order, or the first word at fault; where something is missing at the end, that is the one behind the last
 unfoldable pub order_of : List (List ℕ) → Result Order Usage
 order_of words = order_by words (command_of words)
-
--- the words, as bytes
-abbrev pub texts : List (Bor (List ℕ)) → List (List ℕ)
-texts words = map (λ word. word.now) words
 
 -- the numbers of a job are within their limits
 abbrev pub HasJobLimits : Job → Type 0

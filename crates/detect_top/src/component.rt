@@ -1,7 +1,8 @@
 //! The residual of a plane, and its component tree, by workers that flood its strips.
 ghost use Rattle.std.specs.Prelude.{◌≡◌, ◌≤◌, IfOk};
 ghost use Rattle.comp_tree.specs.Components.{tree_of};
-ghost use Rattle.mesh_background.specs.Residuals.{residual_of, HasValuesInHalfRange};
+ghost use Rattle.comp_tree.specs.Raster.{HasValuesInHalfRange};
+ghost use Rattle.mesh_background.specs.Residuals.{residual_of};
 ghost use Rattle.detect_top.specs.Words.{HasLimits};
 
 use crate::Order;
@@ -13,18 +14,19 @@ use std::thread::Threads;
 use strip_crew::{Gate, even_cut, flood_all};
 use tree_canon::canon;
 
-/// The plane less its background over a mesh, in the place of the plane. Without a mesh it is the plane itself.
+/// The plane less its background over a mesh, flat or smooth, in the place of the plane. Without a mesh it is the plane itself.
 pub(crate) fn residual_plane<R: Threads + Sync>(
     rt: &R,
     alloc: Global,
     mut plane: Plane,
     mesh: u32,
+    flat: bool,
 ) -> Result<Plane, OutOfMemory>
     requires mesh { mesh ≤ 65535 }
     requires in_range { HasValuesInHalfRange plane.values }
-    ensures { IfOk result (λ residual. residual ≡ residual_of plane mesh) }
+    ensures { IfOk result (λ residual. residual ≡ residual_of plane mesh flat) }
 {
-    match subtract_background(rt, alloc, &mut plane, mesh) {
+    match subtract_background(rt, alloc, &mut plane, mesh, flat) {
         Ok(()) => Ok(plane),
         Err(error) => Err(error),
     }

@@ -147,6 +147,7 @@ fn words_of_a_detection_are_read(rt: HostRuntime) -> Result<(), Fail> {
         strips: 1,
         workers: 1,
         mesh: 0,
+        flat: false,
     };
     assert_eq!(rt;
         read_words(&["detect", "--threshold", "-17179869184"]),

@@ -30,7 +30,7 @@ pub enum Fault {
     NoImage,
     /// A side is longer than 65,535, or there are more than 2^24 pixels.
     ImageTooLarge,
-    /// BITPIX isn't 8, 16 or 32.
+    /// BITPIX isn't 8, 16, 32 or 64.
     Bitpix,
     /// BSCALE isn't 1.
     Bscale,
@@ -40,13 +40,18 @@ pub enum Fault {
     Blank,
     /// The bytes end within the image.
     TruncatedData,
+    /// With BITPIX 64: BZERO and the stored number of this pixel together are below -2^36 or above 2^36. It is the first such
+    /// pixel.
+    PixelRange { pixel: u32, stored: i64 },
 }
 
-/// Where a card stands: the number of its HDU, from 0, and its own in the header, from 1.
+/// What a fault names besides itself.
 #[derive(Clone, Copy, Debug, PartialEq, Eq)]
-pub(crate) struct CardPlace {
-    pub(crate) hdu: u16,
-    pub(crate) card: u32,
+pub(crate) enum Place {
+    /// A card, by the number of its HDU, from 0, and its own in the header, from 1.
+    Card { hdu: u16, card: u32 },
+    /// A pixel, from 0, and its stored number.
+    Pixel { pixel: u32, stored: i64 },
 }
 
 impl Fault {
@@ -86,6 +91,7 @@ impl Fault {
             Fault::Bzero => 15,
             Fault::Blank => 16,
             Fault::TruncatedData => 17,
+            Fault::PixelRange { .. } => 18,
         }
     }
 
@@ -110,14 +116,17 @@ impl Fault {
             Fault::Bzero => "Bzero",
             Fault::Blank => "Blank",
             Fault::TruncatedData => "TruncatedData",
+            Fault::PixelRange { .. } => "PixelRange",
         }
     }
-    /// Where the card at fault stands, if it is a card's fault.
-    pub(crate) fn place(self) -> Option<CardPlace>
+
+    /// The card or the pixel at fault, if it is one's fault.
+    pub(crate) fn place(self) -> Option<Place>
         ensures { result ≡ place_of self }
     {
         match self {
-            Fault::BadKeyword { hdu, card } => Some(CardPlace { hdu, card }),
+            Fault::BadKeyword { hdu, card } => Some(Place::Card { hdu, card }),
+            Fault::PixelRange { pixel, stored } => Some(Place::Pixel { pixel, stored }),
             _ => None,
         }
     }

@@ -4,7 +4,7 @@ ghost use Rattle.std.specs.Option.{ForSome};
 ghost use Rattle.dev_io.specs.Causes.{Rose};
 ghost use Rattle.dev_io.specs.Streams.{Takes};
 ghost use Rattle.pixel_plane.specs.Images.{checked};
-ghost use Rattle.pixel_plane.specs.Stored.{HasStorableValues};
+ghost use Rattle.comp_tree.specs.Raster.{HasValuesInHalfRange};
 ghost use Rattle.pixel_plane.specs.Verdicts.{verdict, verdict_by};
 ghost use Rattle.detect_top.specs.Faults.{stop_at_hdu, stop_at_plane, IsCutStop};
 ghost use Rattle.detect_top.specs.Streams.{ImageRead, ImageStopped};
@@ -46,6 +46,9 @@ impl Stop {
     {
         match fault {
             PlaneFault::TruncatedData => Stop::Refused(Fault::TruncatedData),
+            PlaneFault::PixelRange { pixel, stored } => {
+                Stop::Refused(Fault::PixelRange { pixel, stored })
+            }
             PlaneFault::ReadFault => Stop::ReadFault,
             PlaneFault::OutOfMemory => Stop::NoMemory,
         }
@@ -57,7 +60,7 @@ fn read_found<S: Source>(alloc: Global, src: &mut S, hdu: &Hdu) -> Result<Plane,
     ensures told { (bytes : List ℕ) (head : ℕ) → Takes bytes (S.left src.old) head → MatchResult result
         (λ plane. ImageRead (verdict_by bytes hdu.now head (checked hdu.now)) bytes (S.left src.new) plane)
         (λ stop. ImageStopped (verdict_by bytes hdu.now head (checked hdu.now)) bytes (S.left src.new) stop) }
-    ensures storable { IfOk result (λ plane. HasStorableValues plane.values) }
+    ensures storable { IfOk result (λ plane. HasValuesInHalfRange plane.values) }
     ensures ended { IfErr result (λ stop. IsCutStop stop → IsTrue (S.ended src.new)) }
     ensures later { S.faults src.old ≤ S.faults src.new }
     ensures fault { IsErrOf result Stop.ReadFault → Rose (S.faults src.old) (S.faults src.new) }
@@ -77,7 +80,7 @@ pub(crate) fn read_image<S: Source>(alloc: Global, src: &mut S, number: u16) -> 
     ensures told { ForSome (S.left src.old) (λ bytes. MatchResult result
         (λ plane. ImageRead (verdict bytes number) bytes (S.left src.new) plane)
         (λ stop. ImageStopped (verdict bytes number) bytes (S.left src.new) stop)) }
-    ensures storable { IfOk result (λ plane. HasStorableValues plane.values) }
+    ensures storable { IfOk result (λ plane. HasValuesInHalfRange plane.values) }
     ensures ended { IfErr result (λ stop. IsCutStop stop → IsTrue (S.ended src.new)) }
     ensures later { S.faults src.old ≤ S.faults src.new }
     ensures fault { IsErrOf result Stop.ReadFault → Rose (S.faults src.old) (S.faults src.new) }

@@ -37,3 +37,5 @@ mod strips_tests;
 mod tests;
 #[cfg(test)]
 mod trial_tests;
+#[cfg(test)]
+mod wide_tests;

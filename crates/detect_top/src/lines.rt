@@ -3,40 +3,13 @@ ghost use Rattle.std.specs.Prelude.{◌≡◌, ◌≤◌, ◌++◌, length, OnOk
 ghost use Rattle.dev_io.specs.Causes.{HasCause};
 ghost use Rattle.dev_io.specs.Streams.{PutAppends, AppendsPrefix};
 ghost use Rattle.dev_io.specs.Blocks.{Moves};
-ghost use Rattle.detect_top.specs.Lines.{joined, parent_text as text_of_parent, node_line, tree_lines};
+ghost use Rattle.detect_top.specs.Lines.{parent_text as text_of_parent, node_line, tree_lines};
 
+use command_line::lines::add_all;
 use comp_tree::{NONE, NodeRow, Tree};
 use dev_io::{Block, Failed, Sink};
 use fits_write::WriteFault;
 use itoa::Buffer;
-
-// Lets these pieces wait, one behind the other.
-fn add_all<O: Sink>(sink: &mut O, block: &mut Block, pieces: &[&[u8]]) -> Result<(), Failed>
-    requires { length (joined pieces.now) ≤ 2880 }
-    ensures ok { OnOk result (Moves (O.written sink.old) (O.written sink.new) (block.old ++ joined pieces.now) block.new) }
-    ensures err { OnErr result (AppendsPrefix (O.written sink.old) (O.written sink.new) (block.old ++ joined pieces.now)) }
-    ensures cause { HasCause (O.faults sink.old) (O.faults sink.new) result }
-{
-    for piece in pieces {
-        if let Err(failed) = block.add(sink, piece) {
-            return Err(failed);
-        }
-    }
-    Ok(())
-}
-
-/// Writes a line of these pieces.
-pub(crate) fn put_line<O: Sink>(sink: &mut O, pieces: &[&[u8]]) -> Result<(), Failed>
-    requires { length (joined pieces.now) ≤ 2880 }
-    ensures bytes { PutAppends (O.written sink.old) (O.written sink.new) result (joined pieces.now) }
-    ensures cause { HasCause (O.faults sink.old) (O.faults sink.new) result }
-{
-    let mut block = Block::new();
-    if let Err(failed) = add_all(sink, &mut block, pieces) {
-        return Err(failed);
-    }
-    block.flush(sink)
-}
 
 // The number of a node's parent, or `-` at a root.
 fn parent_text(buffer: &mut Buffer, parent: u32) -> &str

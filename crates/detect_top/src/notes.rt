@@ -2,52 +2,60 @@
 ghost use Rattle.std.specs.Prelude.{◌≡◌, ◌≤◌, length};
 ghost use Rattle.dev_io.specs.Causes.{HasCause};
 ghost use Rattle.dev_io.specs.Streams.{PutAppends};
-ghost use Rattle.detect_top.specs.Answers.{note_of, usage_line, line_at_card, refusal_line};
-ghost use Rattle.detect_top.specs.Runs.{Noted};
+ghost use Rattle.detect_top.specs.Answers.{note_of, line_at_place, refusal_line};
+ghost use Rattle.command_line.specs.Notes.{Noted};
 
-use crate::fault::CardPlace;
-use crate::lines::put_line;
+use crate::fault::Place;
 use crate::top::End;
-use crate::{Fault, Usage};
+use crate::Fault;
+use command_line::lines::put_line;
+use command_line::notes::put_usage;
 use dev_io::{Failed, Sink};
 use itoa::Buffer;
-
-fn put_usage<N: Sink>(notes: &mut N, usage: Usage) -> Result<(), Failed>
-    ensures bytes { PutAppends (N.written notes.old) (N.written notes.new) result (usage_line usage.word) }
-    ensures cause { HasCause (N.faults notes.old) (N.faults notes.new) result }
-{
-    let mut word = Buffer::new();
-    put_line(
-        notes,
-        &[b"usage: word ", word.format(usage.word).as_bytes(), b"\n"],
-    )
-}
 
 fn put_place<N: Sink>(
     notes: &mut N,
     number: &[u8],
     name: &[u8],
-    place: CardPlace,
+    place: Place,
 ) -> Result<(), Failed>
     requires short_number { length number.now ≤ 40 }
     requires short_name { length name.now ≤ 15 }
-    ensures bytes { PutAppends (N.written notes.old) (N.written notes.new) result (line_at_card number.now name.now place) }
+    ensures bytes { PutAppends (N.written notes.old) (N.written notes.new) result (line_at_place number.now name.now place) }
     ensures cause { HasCause (N.faults notes.old) (N.faults notes.new) result }
 {
-    let mut hdu = Buffer::new();
-    let mut card = Buffer::new();
-    let pieces: [&[u8]; 9] = [
-        b"refused: ",
-        number,
-        b" ",
-        name,
-        b" hdu ",
-        hdu.format(place.hdu).as_bytes(),
-        b" card ",
-        card.format(place.card).as_bytes(),
-        b"\n",
-    ];
-    put_line(notes, &pieces)
+    let mut first = Buffer::new();
+    let mut second = Buffer::new();
+    match place {
+        Place::Card { hdu, card } => put_line(
+            notes,
+            &[
+                b"refused: ",
+                number,
+                b" ",
+                name,
+                b" hdu ",
+                first.format(hdu).as_bytes(),
+                b" card ",
+                second.format(card).as_bytes(),
+                b"\n",
+            ],
+        ),
+        Place::Pixel { pixel, stored } => put_line(
+            notes,
+            &[
+                b"refused: ",
+                number,
+                b" ",
+                name,
+                b" pixel ",
+                first.format(pixel).as_bytes(),
+                b" stored ",
+                second.format(stored).as_bytes(),
+                b"\n",
+            ],
+        ),
+    }
 }
 
 fn put_refusal<N: Sink>(notes: &mut N, fault: Fault) -> Result<(), Failed>
@@ -69,7 +77,7 @@ fn put_note<N: Sink>(notes: &mut N, end: End) -> Result<(), Failed>
 {
     match end {
         End::Done => Ok(()),
-        End::Usage(usage) => put_usage(notes, usage),
+        End::Usage(usage) => put_usage(notes, usage.word as usize),
         End::Refused(fault) => put_refusal(notes, fault),
         End::ReadFault => notes.put(b"read fault\n"),
         End::WriteFault => notes.put(b"write fault\n"),

@@ -1,10 +1,8 @@
 // The commands and their options.
 ghost use Rattle.std.specs.Prelude.{◌≡◌, ◌≤ℤ◌, ◌<◌, ℕ, Some, IfSome, is_some};
-ghost use Rattle.std.specs.List.{list_all};
-ghost use Rattle.std.specs.Char.{is_ascii_digit};
-ghost use Rattle.detect_top.specs.Options.{command_named, setting_named, option_named, takes as takes_option, name_of, is_value, hdu_in, connect_in, strips_in, workers_in, mesh_in, rule_in, area_in, flux_in, thousandths_in, threshold_in, seed_in, side_in};
-ghost use Rattle.detect_top.specs.Numbers.{without_minus as digits_of, is_numeral, within, number_between as number_in};
+ghost use Rattle.detect_top.specs.Options.{command_named, setting_named, option_named, takes as takes_option, name_of, is_value, hdu_in, connect_in, strips_in, workers_in, mesh_in, flat_in, rule_in, area_in, flux_in, thousandths_in, threshold_in, seed_in, side_in};
 
+use command_line::numbers::number_between;
 use comp_tree::Connect;
 use filter_rules::Rule;
 
@@ -35,7 +33,11 @@ impl Command {
     {
         match setting {
             Setting::Hdu => self != Command::Trial,
-            Setting::Connect | Setting::Strips | Setting::Workers | Setting::Mesh => true,
+            Setting::Connect
+            | Setting::Strips
+            | Setting::Workers
+            | Setting::Mesh
+            | Setting::Flat => true,
             Setting::Rule | Setting::MaxArea | Setting::MinFill => self == Command::Filter,
             Setting::MinArea | Setting::MinFlux => {
                 self == Command::Filter || self == Command::Detect
@@ -65,6 +67,7 @@ pub(crate) enum Setting {
     Strips,
     Workers,
     Mesh,
+    Flat,
     Rule,
     MinArea,
     MaxArea,
@@ -88,6 +91,7 @@ impl Setting {
             "--strips" => Some(Setting::Strips),
             "--workers" => Some(Setting::Workers),
             "--mesh" => Some(Setting::Mesh),
+            "--flat" => Some(Setting::Flat),
             "--rule" => Some(Setting::Rule),
             "--min-area" => Some(Setting::MinArea),
             "--max-area" => Some(Setting::MaxArea),
@@ -111,6 +115,7 @@ impl Setting {
             Setting::Strips => "--strips",
             Setting::Workers => "--workers",
             Setting::Mesh => "--mesh",
+            Setting::Flat => "--flat",
             Setting::Rule => "--rule",
             Setting::MinArea => "--min-area",
             Setting::MaxArea => "--max-area",
@@ -134,6 +139,7 @@ impl Setting {
             Setting::Strips => strips(text).is_some(),
             Setting::Workers => workers(text).is_some(),
             Setting::Mesh => mesh(text).is_some(),
+            Setting::Flat => flat(text).is_some(),
             Setting::Rule => rule(text).is_some(),
             Setting::MinArea | Setting::MaxArea => area(text).is_some(),
             Setting::MinFlux => flux(text).is_some(),
@@ -142,54 +148,6 @@ impl Setting {
             Setting::Seed => seed(text).is_some(),
             Setting::Width | Setting::Height => side(text).is_some(),
         }
-    }
-}
-
-fn without_minus(text: &[u8]) -> &[u8]
-    ensures { result.now ≡ digits_of text.now }
-{
-    match text {
-        [b'-', digits @ ..] => digits,
-        _ => text,
-    }
-}
-
-fn are_digits(bytes: &[u8]) -> bool
-    ensures { result ≡ list_all is_ascii_digit bytes.now }
-{
-    bytes.iter().all(|byte| byte.is_ascii_digit())
-}
-
-fn is_numeral(digits: &[u8]) -> bool
-    ensures { result ≡ is_numeral digits.now }
-{
-    !digits.is_empty() && digits.len() <= 19 && are_digits(digits)
-}
-
-fn within(number: i64, least: i64, most: i64) -> Option<i64>
-    ensures found { result ≡ within least most (Some number) }
-    ensures low { IfSome result (λ n. least ≤ℤ n) }
-    ensures high { IfSome result (λ n. n ≤ℤ most) }
-{
-    if least <= number && number <= most {
-        Some(number)
-    } else {
-        None
-    }
-}
-
-// The whole number from `least` to `most` that the text is: an optional minus and 1 to 19 digits.
-fn number_between(text: &str, least: i64, most: i64) -> Option<i64>
-    ensures number { result ≡ number_in least most text.now }
-    ensures low { IfSome result (λ n. least ≤ℤ n) }
-    ensures high { IfSome result (λ n. n ≤ℤ most) }
-{
-    if !is_numeral(without_minus(text.as_bytes())) {
-        return None;
-    }
-    match text.parse::<i64>() {
-        Ok(number) => within(number, least, most),
-        Err(_) => None,
     }
 }
 
@@ -245,6 +203,17 @@ pub(crate) fn mesh(text: &str) -> Option<u32>
 {
     match number_between(text, 0, 65535) {
         Some(number) => Some(number as u32),
+        None => None,
+    }
+}
+
+/// Whether each cell of the mesh gives one number to all its pixels: 0 or 1.
+#[tactic(auto, unfolding(crate::specs::Options::flat_in))]
+pub(crate) fn flat(text: &str) -> Option<bool>
+    ensures { result ≡ flat_in text.now }
+{
+    match number_between(text, 0, 1) {
+        Some(number) => Some(number == 1),
         None => None,
     }
 }

@@ -6,7 +6,7 @@ ghost use Rattle.comp_tree.specs.declared.shape.Connect.{Connect};
 ghost use Rattle.comp_tree.specs.Components.{tree_of};
 ghost use Rattle.mesh_background.specs.Residuals.{residual_of};
 ghost use Rattle.node_sums.specs.Sums.{IsTreeOfPlane};
-ghost use Rattle.pixel_plane.specs.Stored.{HasStorableValues};
+ghost use Rattle.comp_tree.specs.Raster.{HasValuesInHalfRange};
 ghost use Rattle.filter_rules.specs.Filtered.{filtered as filtered_of};
 ghost use Rattle.detect_top.specs.Words.{HasLimits, HasJobLimits};
 ghost use Rattle.detect_top.specs.Catalogues.{detection};
@@ -154,12 +154,12 @@ pub(crate) fn make<R: Threads + Sync, G: Gate>(
     gate: &G,
 ) -> Result<Product, OutOfMemory>
     requires limits { HasLimits order }
-    requires storable { HasStorableValues image.values }
-    requires suits { SuitsJob order.job (residual_of image order.mesh) }
+    requires storable { HasValuesInHalfRange image.values }
+    requires suits { SuitsJob order.job (residual_of image order.mesh order.flat) }
     ensures writable { IfOk result (λ product. IsWritable product) }
     ensures bytes { IfOk result (λ product. bytes_of product ≡ output_of order image) }
 {
-    let plane = match residual_plane(rt, alloc, image, order.mesh) {
+    let plane = match residual_plane(rt, alloc, image, order.mesh, order.flat) {
         Ok(plane) => plane,
         Err(error) => return Err(error),
     };

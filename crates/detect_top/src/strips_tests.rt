@@ -61,6 +61,7 @@ fn strips_have_the_plain_tree(rt: HostRuntime) -> Result<(), Fail> {
                     strips,
                     workers: 2,
                     mesh: 0,
+                    flat: false,
                 };
                 let tree = component_tree(&rt, alloc, &plane, order, &OpenGate)?;
                 assert!(rt; tree.rows() == plain.rows());

@@ -218,15 +218,35 @@ fn strips_and_workers_change_nothing(rt: HostRuntime) -> Result<(), Fail> {
 
 #[test]
 fn background_is_taken_off(rt: HostRuntime) -> Result<(), Fail> {
-    let rows: [Row; 1] = [Row {
-        words: &["tree", "--mesh", "2"],
-        header: b"SIMPLE  = T|BITPIX  = 8|NAXIS   = 2|NAXIS1  = 5|NAXIS2  = 2|BLANK   = 255|END|#",
-        data: &[1, 4, 255, 255, 9, 2, 3, 255, 255, 7],
-        status: 0,
-        output: b"0 -1 0 - 4\n1 0 5 0 3\n2 0 9 - 2\n3 1 6 1 2\n4 2 1 3 1\n5 2 4 2 1\n",
-        notes: b"",
-        taken: 2890,
-    }];
+    let rows: [Row; 3] = [
+        Row {
+            words: &["tree", "--mesh", "2", "--flat", "1"],
+            header: b"SIMPLE  = T|BITPIX  = 8|NAXIS   = 2|NAXIS1  = 5|NAXIS2  = 2|BLANK   = 255|END|#",
+            data: &[1, 4, 255, 255, 9, 2, 3, 255, 255, 7],
+            status: 0,
+            output: b"0 -1 0 - 4\n1 0 5 0 3\n2 0 9 - 2\n3 1 6 1 2\n4 2 1 3 1\n5 2 4 2 1\n",
+            notes: b"",
+            taken: 2890,
+        },
+        Row {
+            words: &["tree", "--mesh", "2"],
+            header: b"SIMPLE  = T|BITPIX  = 8|NAXIS   = 2|NAXIS1  = 5|NAXIS2  = 2|BLANK   = 255|END|#",
+            data: &[1, 4, 255, 255, 9, 2, 3, 255, 255, 7],
+            status: 0,
+            output: b"0 -1 0 - 4\n1 0 5 0 3\n2 1 6 1 2\n3 2 1 2 1\n4 4 9 - 2\n5 6 4 4 1\n",
+            notes: b"",
+            taken: 2890,
+        },
+        Row {
+            words: &["tree", "--mesh", "2", "--flat", "0"],
+            header: b"SIMPLE  = T|BITPIX  = 8|NAXIS   = 2|NAXIS1  = 6|NAXIS2  = 1|BZERO   = -20|END|#",
+            data: &[0, 0, 10, 10, 20, 20],
+            status: 0,
+            output: b"0 -2 1 - 6\n1 0 0 0 1\n2 0 3 0 4\n3 3 2 2 1\n4 10 4 2 2\n",
+            notes: b"",
+            taken: 2886,
+        },
+    ];
     for row in rows {
         compare(&rt, rt.alloc(), row)?;
     }
@@ -526,6 +546,7 @@ fn each_wrong_word_is_named(rt: HostRuntime) -> Result<(), Fail> {
         (&["tree", "--hdu", "1", "--hdu", "1"], 4),
         (&["tree", "--hdu", "-0", "--connect"], 5),
         (&["tree", "--mesh", "65536"], 3),
+        (&["trial", "--flat", "2"], 3),
         (&["tree", "--mesh", "2", "--mesh", "2"], 4),
         (&["tree", "--rule", "min"], 2),
         (&["filter"], 2),

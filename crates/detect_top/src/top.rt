@@ -4,13 +4,15 @@ ghost use Rattle.std.specs.Option.{ForSome};
 ghost use Rattle.std.specs.Io.KnownBytes.{Appends, Keeps};
 ghost use Rattle.dev_io.specs.Causes.{Rose};
 ghost use Rattle.pixel_plane.specs.Verdicts.{verdict};
-ghost use Rattle.detect_top.specs.Words.{texts, order_of, HasLimits};
+ghost use Rattle.command_line.specs.Lines.{texts};
+ghost use Rattle.detect_top.specs.Words.{order_of, HasLimits};
 ghost use Rattle.detect_top.specs.Faults.{IsCutStop};
 ghost use Rattle.detect_top.specs.Products.{bytes_of, image_made, IsWritable};
 ghost use Rattle.detect_top.specs.Trials.{trial_image as image_of};
 ghost use Rattle.detect_top.specs.Streams.{ImageStopped};
 ghost use Rattle.detect_top.specs.Answers.{answer, note_of, status_of};
-ghost use Rattle.detect_top.specs.Runs.{Noted, Took, TookAtMost, ProductRead, Untouched, Tells, EndBytes, EndCause, LeavesInput};
+ghost use Rattle.command_line.specs.Notes.{Noted, SourceStays};
+ghost use Rattle.detect_top.specs.Runs.{Took, TookAtMost, ProductRead, Tells, EndBytes, EndCause, LeavesInput};
 ghost use Rattle.detect_top.specs.Headline.{ForBytes, IsComplete, IsStatus, CutsAnswer, MayWantMemory, ReadFails, TellsEnd};
 
 use crate::image::{Stop, read_image};
@@ -151,7 +153,7 @@ fn work<R: Threads + Sync, S: Source, O: Sink, G: Gate>(
         (O.written output.old) (O.written output.new) (O.settled output.new) (O.faults output.old) (O.faults output.new) result }
     ensures read_later { S.faults input.old ≤ S.faults input.new }
     ensures write_later { O.faults output.old ≤ O.faults output.new }
-    ensures untouched { LeavesInput (order_of (texts words.now)) → Untouched S.left S.ended S.faults input.old input.new }
+    ensures untouched { LeavesInput (order_of (texts words.now)) → SourceStays S.left S.ended S.faults input.old input.new }
 {
     let order = match read_words(words) {
         Ok(order) => order,
@@ -214,7 +216,7 @@ pub fn run<R: Threads + Sync, S: Source, O: Sink, N: Sink, G: Gate>(
         (note_of (answer (texts words.now) bytes).end)) }
 
     // Without an order and for a trial the input is left alone.
-    ensures untouched { LeavesInput (order_of (texts words.now)) → Untouched S.left S.ended S.faults input.old input.new }
+    ensures untouched { LeavesInput (order_of (texts words.now)) → SourceStays S.left S.ended S.faults input.old input.new }
 
     // Where no count rose the status is the answer's, or memory is wanted where it may be.
     ensures complete { (Rose (S.faults input.old) (S.faults input.new) → ⊥) → (Rose (O.faults output.old) (O.faults output.new) → ⊥) →

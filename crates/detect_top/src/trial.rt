@@ -18,7 +18,7 @@ ghost use Rattle.detect_top.specs.Trials.{
   HasSmallFluxes,
 };
 
-use crate::lines::put_line;
+use command_line::lines::put_line;
 use comp_tree::{NONE, NodeRow, Plane, Shape, Tree};
 use dev_io::{Failed, OutOfMemory, Sink};
 use fits_write::WriteFault;

@@ -1,11 +1,12 @@
 // The words of the command.
 ghost use Rattle.std.specs.Prelude.{◌≡◌, ◌≤◌, ◌<◌, ◌+◌, ◌*◌, ℕ, IfOk, IfSome, MatchResult, length, is_some};
 ghost use Rattle.std.specs.Option.{option_map};
-ghost use Rattle.detect_top.specs.Words.{order_of, texts, HasLimits, command_of, naming as naming_of, value_given, criterion_given, choice_given, job_given, order_for, order_given, shape_given};
+ghost use Rattle.command_line.specs.Lines.{texts};
+ghost use Rattle.detect_top.specs.Words.{order_of, HasLimits, command_of, naming as naming_of, value_given, criterion_given, choice_given, job_given, order_for, order_given, shape_given};
 ghost use Rattle.detect_top.specs.Given.{AreRead, IsFirstFault};
 
 use crate::options::{
-    Command, Setting, area, connect, flux, hdu, mesh, rule, seed, side, strips, thousandths,
+    Command, Setting, area, connect, flat, flux, hdu, mesh, rule, seed, side, strips, thousandths,
     threshold, workers,
 };
 use comp_tree::{Connect, Shape};
@@ -26,6 +27,9 @@ pub struct Order {
     pub workers: u32,
     /// The side of the cells whose medians are the background, in pixels; 0 for none.
     pub mesh: u32,
+    /// The background of a pixel is its cell's median alone. Else the medians are filtered, and interpolated between the cells'
+    /// centres.
+    pub flat: bool,
 }
 
 /// What is made of the image.
@@ -215,6 +219,9 @@ fn order_of_job(words: &[&str], pairs: u32, job: Job) -> Order
         mesh: value(words, Setting::Mesh, pairs)
             .and_then(mesh)
             .unwrap_or(0),
+        flat: value(words, Setting::Flat, pairs)
+            .and_then(flat)
+            .unwrap_or(false),
     }
 }
 

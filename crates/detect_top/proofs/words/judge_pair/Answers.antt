@@ -3,9 +3,9 @@ use Rattle.std.specs.Prelude.{is_some}
 use Rattle.std.proofs.lemmas.List.{length-map}
 use denote.Ref.{Bor}
 use Rattle.detect_top.specs.Options.{option_named, is_value}
-use Rattle.detect_top.specs.Words.{texts}
+use Rattle.command_line.specs.Lines.{texts}
 use Rattle.detect_top.proofs.FewOptions.{few_read}
-use Rattle.detect_top.proofs.NodeLines.{text_in}
+use Rattle.command_line.proofs.LineLemmas.{text_in}
 use Rattle.detect_top.proofs.Places.{text_of, past, unnamed, named_by, value_missing, value_by, name_at_fault, value_at_fault, pair_read}
 use Rattle.detect_top.proofs.words.judge_pair.Goals as goal
 

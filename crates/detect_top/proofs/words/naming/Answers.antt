@@ -1,5 +1,5 @@
 use Rattle.std.proofs.Common.{◌∙◌, ◌≤◌, ◌+◌, ◌*◌, sym, arith}
-use Rattle.detect_top.specs.Words.{texts}
+use Rattle.command_line.specs.Lines.{texts}
 use Rattle.detect_top.proofs.Places.{name_at, one_more_other, first_naming, no_naming}
 use Rattle.detect_top.proofs.words.naming.Goals as goal
 

@@ -2,7 +2,8 @@ use Rattle.std.proofs.Common.{rules, ◌∙◌, ℕ, List, ap, sym, subst, arith
 use Rattle.std.proofs.lemmas.List.{length-map}
 use Rattle.std.specs.Prelude.{Ok, Some, None}
 use denote.Ref.{Bor}
-use Rattle.detect_top.specs.Words.{texts, HasLimits}
+use Rattle.command_line.specs.Lines.{texts}
+use Rattle.detect_top.specs.Words.{HasLimits}
 use Rattle.detect_top.proofs.FewOptions.{few_read}
 use Rattle.detect_top.proofs.Limits.{given_limits}
 use Rattle.detect_top.proofs.Places.{nothing_read, refused_at, ordered, no_command}

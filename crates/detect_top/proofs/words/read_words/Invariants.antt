@@ -1,6 +1,6 @@
 -- So many pairs of a name and a value are read, and none of them is at fault.
 use Rattle.std.proofs.Common.{◌-◌, ◌*◌, ◌+◌, length}
-use Rattle.detect_top.specs.Words.{texts}
+use Rattle.command_line.specs.Lines.{texts}
 use Rattle.detect_top.specs.Given.{AreRead}
 use Rattle.detect_top.proofs.words.read_words.Given as goal
 

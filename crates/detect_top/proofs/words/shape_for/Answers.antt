@@ -2,7 +2,8 @@ use Rattle.std.proofs.Common.{◌∙◌, refl}
 use Rattle.std.specs.Prelude.{Some, None}
 use Rattle.detect_top.specs.declared.options.Setting.TheVariants.{Height}
 use Rattle.detect_top.specs.Options.{side_in}
-use Rattle.detect_top.specs.Words.{texts, given}
+use Rattle.command_line.specs.Lines.{texts}
+use Rattle.detect_top.specs.Words.{given}
 use Rattle.detect_top.proofs.Given.{given_by}
 use Rattle.detect_top.proofs.Shapes.{shape_is, shape_by}
 use Rattle.detect_top.proofs.words.shape_for.Goals as goal

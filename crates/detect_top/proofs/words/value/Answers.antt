@@ -1,5 +1,5 @@
 use Rattle.std.proofs.Common.{sym, arith}
-use Rattle.detect_top.specs.Words.{texts}
+use Rattle.command_line.specs.Lines.{texts}
 use Rattle.detect_top.proofs.Places.{naming_within, value_is, no_value}
 use Rattle.detect_top.proofs.words.value.Goals as goal
 

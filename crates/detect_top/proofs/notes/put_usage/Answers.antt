@@ -1,7 +1,0 @@
-use Rattle.std.proofs.Common.{◌∙◌, ◌++◌, ap, List, ℕ, codes}
-use Rattle.detect_top.proofs.NodeLines.{put_again}
-use Rattle.detect_top.proofs.notes.put_usage.Goals as goal
-
-pub returns-clause-bytes : goal.returns-clause-bytes
-returns-clause-bytes g c =
-    put_again _ _ _ _ _ (ap (λ (l : List ℕ). codes "usage: word " ++ (l ++ codes "\n")) (c.as_bytes.ensures.value ∙ c.format.ensures.text)) c.put_line.ensures.bytes
