@@ -1,5 +1,5 @@
 -- Where area and flux alone are asked of from below, the rules agree.
-use Rattle.std.proofs.Common.{◌≡◌, ℕ, ◌*◌, ◌<◌, ◌≤◌, Bool, true, ◌&&◌, ◌||◌, length, refl, sym, ◌∙◌, ap, arith, inl}
+use Rattle.std.proofs.Common.{◌≡◌, ℕ, ◌*◌, ◌^◌, ◌<◌, ◌≤◌, Bool, true, ◌&&◌, ◌||◌, length, refl, sym, ◌∙◌, ap, arith, inl}
 use Rattle.std.specs.Prelude.{ℤ, ◌≤ℤ◌, nat_le, int_le}
 use Rattle.std.proofs.lemmas.Int.{ints}
 use Rattle.std.proofs.lemmas.Bool.{and_parts, and_from, leb-true, le-leb}
@@ -9,16 +9,18 @@ use Rattle.comp_tree.specs.Components.{nodes, is_in_node, tree_of}
 use Rattle.comp_tree.specs.Laws.{LiesWithin}
 use Rattle.comp_tree.proofs.Levels.{int_le-true, int_le-from}
 use Rattle.node_sums.specs.declared.entry.Sums.{Sums}
-use Rattle.node_sums.specs.Sums.{sums_of, sums_over, pixels_of}
+use Rattle.node_sums.specs.Sums.{sums_of, sums_over}
+use Rattle.comp_tree.specs.Nesting.{pixels_of, is_root}
 use Rattle.node_sums.specs.Flux.{flux_of}
 use Rattle.node_sums.proofs.Fluxes.{flux_grows}
 use Rattle.filter_rules.specs.declared.rule.Rule.TheVariants.{Min, Max, Direct}
 use Rattle.filter_rules.specs.declared.rule.Criterion.{Criterion}
 use Rattle.filter_rules.specs.Criteria.{box_of, is_filled, admits, satisfies}
-use Rattle.filter_rules.specs.Filtered.{is_root, keeps, is_kept}
+use Rattle.filter_rules.specs.Filtered.{keeps, is_kept}
 use Rattle.filter_rules.specs.Laws.{RulesAgreeOnGrowingMeasures}
 use Rattle.filter_rules.proofs.Lists.{same_bool}
-use Rattle.filter_rules.proofs.Around.{IsAbove, within_gives, within_from_above, min_gives, min_from, IsKeptFor, max_gives, max_from}
+use Rattle.filter_rules.proofs.Around.{IsAbove, within_from_above, min_gives, min_from, IsKeptFor, max_gives, max_from}
+use Rattle.comp_tree.proofs.Nesting.{within_from_test}
 use Rattle.filter_rules.proofs.Boxes.{length_grows, few_in}
 
 area_is : (r : Raster) (connect : Connect) (n : ℕ) → (sums_of r connect n).area ≡ length (pixels_of r connect n)
@@ -43,7 +45,7 @@ admitted criterion s flux h =
     let d : (nat_le criterion.min_area s.area ≡ true) × (nat_le s.area criterion.max_area ≡ true) = and_parts (nat_le criterion.min_area s.area) (nat_le s.area criterion.max_area) b.0 in
     record { large = leb-true criterion.min_area s.area d.0; bright = int_le-true criterion.min_flux flux b.1 }
 
-admits-from : (criterion : Criterion) (s : Sums) (flux : ℤ) → criterion.max_area ≡ 16777216 → criterion.min_fill ≡ 0 → s.area ≤ 16777216
+admits-from : (criterion : Criterion) (s : Sums) (flux : ℤ) → criterion.max_area ≡ 2 ^ 24 → criterion.min_fill ≡ 0 → s.area ≤ 2 ^ 24
     → IsAdmitted criterion s flux → admits criterion s flux ≡ true
 admits-from criterion s flux most none few k =
     and_from (nat_le criterion.min_area s.area && nat_le s.area criterion.max_area && int_le criterion.min_flux flux) (is_filled criterion s)
@@ -60,14 +62,14 @@ admits-from criterion s flux most none few k =
 
 -- a node around one that satisfies does too
 satisfies_grows : (r : Raster) (connect : Connect) (criterion : Criterion) (m n : ℕ) → IsPlane r → m < length (nodes r connect) → n < length (nodes r connect)
-    → criterion.max_area ≡ 16777216 → criterion.min_fill ≡ 0 → IsAbove (tree_of r connect).rows m n → satisfies r connect criterion n ≡ true → satisfies r connect criterion m ≡ true
+    → criterion.max_area ≡ 2 ^ 24 → criterion.min_fill ≡ 0 → IsAbove (tree_of r connect).rows m n → satisfies r connect criterion n ≡ true → satisfies r connect criterion m ≡ true
 unfolding satisfies
 satisfies_grows r connect criterion m n plane hm hn most none a h =
     admits-from criterion (sums_of r connect m) (flux_of r connect m) most none (omega (arith, area_is r connect m, few_in r connect m plane))
     (record { large = omega (arith, k.large, area_is r connect m, area_is r connect n, pixels_grow r connect m n w); bright = omega (arith, ints, k.bright, flux_grows r connect m n plane hm hn w) })
   where
     w : LiesWithin r connect n m
-    w = within_gives r connect n m (within_from_above r connect n m plane hn hm a)
+    w = within_from_test r connect n m (within_from_above r connect n m plane hn hm a)
 
     k : IsAdmitted criterion (sums_of r connect n) (flux_of r connect n)
     k = admitted criterion (sums_of r connect n) (flux_of r connect n) h

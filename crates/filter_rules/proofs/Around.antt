@@ -3,21 +3,20 @@ use Rattle.std.proofs.Common.{◌≡◌, ℕ, ◌+◌, ◌<◌, ◌≤◌, true,
 use Rattle.std.specs.Prelude.{IsTrue}
 use Rattle.comp_tree.specs.declared.shape.Connect.{Connect}
 use Rattle.comp_tree.specs.declared.tree.NodeRow.{NodeRow}
-use Rattle.comp_tree.specs.Raster.{Raster, IsPlane, pixels, is_defined}
+use Rattle.comp_tree.specs.Raster.{Raster, IsPlane, is_defined}
 use Rattle.comp_tree.specs.Components.{nodes, node_of, is_in_node, tree_of}
-use Rattle.comp_tree.specs.Laws.{IsAncestor, parent, above, top_of, LiesWithin}
+use Rattle.comp_tree.specs.Nesting.{node_numbers, lies_within}
+use Rattle.comp_tree.specs.Laws.{IsAncestor, parent, above, top_of}
 use Rattle.comp_tree.proofs.Members.{IsAmong, IsWitness, among-filter, among_from_filter, among-range, among_from_range, any_from_among, witness_from_any}
-use Rattle.comp_tree.proofs.Reaching.{among_from_defined}
-use Rattle.comp_tree.proofs.Components.{top-representative, top-defined, top-here}
+use Rattle.comp_tree.proofs.Components.{top-representative, top-defined}
 use Rattle.comp_tree.proofs.Ancestors.{length-rows, ancestors_are_the_larger_nodes, pixels_belong_to_their_ancestors}
+use Rattle.comp_tree.proofs.Nesting.{all_gives, all_from, in_node-defined, top_inside, within_from_test, test_from_within}
 use Rattle.comp_tree.proofs.Nodes
-use Rattle.node_sums.specs.Sums.{pixels_of}
-use Rattle.node_sums.proofs.Counting.{goes_down, ancestor_smaller, in_node-defined}
+use Rattle.node_sums.proofs.Counting.{goes_down, ancestor_smaller}
 use Rattle.filter_rules.specs.declared.rule.Rule.TheVariants.{Min, Max}
 use Rattle.filter_rules.specs.declared.rule.Criterion.{Criterion}
 use Rattle.filter_rules.specs.Criteria.{satisfies}
-use Rattle.filter_rules.specs.Filtered.{node_numbers, lies_within, around, inside, keeps}
-use Rattle.filter_rules.proofs.Lists.{all_gives, all_from}
+use Rattle.filter_rules.specs.Filtered.{around, inside, keeps}
 
 -- m is n, or one of its ancestors
 abbrev pub IsAbove : List NodeRow → ℕ → ℕ → Type 0
@@ -27,29 +26,7 @@ pub ancestor_listed : (rows : List NodeRow) (m n : ℕ) → IsAncestor rows m n 
 ancestor_listed rows m _ (parent n e l) = l
 ancestor_listed rows m _ (above k n e l rest) = ancestor_listed rows m k rest
 
--- ---- the test whether a component lies within another
-
-pub among_pixels : (r : Raster) (connect : Connect) (n q : ℕ) → is_in_node r connect n q ≡ true → IsAmong q (pixels_of r connect n)
-unfolding pixels_of
-among_pixels r connect n q h = among-filter (is_in_node r connect n) q (pixels r) (among_from_defined r q (in_node-defined r connect n q h)) h
-
-among_pixels-in : (r : Raster) (connect : Connect) (n q : ℕ) → IsAmong q (pixels_of r connect n) → is_in_node r connect n q ≡ true
-unfolding pixels_of
-among_pixels-in r connect n q m = (among_from_filter (is_in_node r connect n) q (pixels r) m).1
-
-pub within_gives : (r : Raster) (connect : Connect) (n m : ℕ) → lies_within r connect n m ≡ true → LiesWithin r connect n m
-unfolding lies_within
-within_gives r connect n m h = λ q k. all_gives (is_in_node r connect m) (pixels_of r connect n) q h (among_pixels r connect n q k)
-
-pub within_from : (r : Raster) (connect : Connect) (n m : ℕ) → LiesWithin r connect n m → lies_within r connect n m ≡ true
-unfolding lies_within
-within_from r connect n m h = all_from (is_in_node r connect m) (pixels_of r connect n) (λ q k. h q (among_pixels-in r connect n q k))
-
 -- ---- the nodes around a pixel
-
-pub top_in : (r : Raster) (connect : Connect) (n : ℕ) → n < length (nodes r connect) → is_in_node r connect n (top_of r connect n) ≡ true
-unfolding is_in_node
-top_in r connect n h = top-here r connect n h
 
 pub node_of_top : (r : Raster) (connect : Connect) (n : ℕ) → n < length (nodes r connect) → node_of r connect (top_of r connect n) ≡ n
 node_of_top r connect n h =
@@ -78,12 +55,12 @@ pub above_from_within : (r : Raster) (connect : Connect) (n m : ℕ) → IsPlane
     → lies_within r connect n m ≡ true → IsAbove (tree_of r connect).rows m n
 above_from_within r connect n m plane hn hm h =
     subst (λ (k : ℕ). IsAbove (tree_of r connect).rows m k) (node_of_top r connect n hn)
-    (above_from_in r connect m (top_of r connect n) plane hm (within_gives r connect n m h (top_of r connect n) (top_in r connect n hn)))
+    (above_from_in r connect m (top_of r connect n) plane hm (within_from_test r connect n m h (top_of r connect n) (top_inside r connect n hn)))
 
 pub within_from_above : (r : Raster) (connect : Connect) (n m : ℕ) → IsPlane r → n < length (nodes r connect) → m < length (nodes r connect)
     → IsAbove (tree_of r connect).rows m n → lies_within r connect n m ≡ true
-within_from_above r connect n m plane hn hm (inl e) = within_from r connect n m (λ q k. subst (λ (j : ℕ). is_in_node r connect j q ≡ true) (sym e) k)
-within_from_above r connect n m plane hn hm (inr a) = within_from r connect n m ((ancestors_are_the_larger_nodes r connect m n plane hm hn).1 a).0
+within_from_above r connect n m plane hn hm (inl e) = test_from_within r connect n m (λ q k. subst (λ (j : ℕ). is_in_node r connect j q ≡ true) (sym e) k)
+within_from_above r connect n m plane hn hm (inr a) = test_from_within r connect n m ((ancestors_are_the_larger_nodes r connect m n plane hm hn).1 a).0
 
 -- two nodes that lie within each other are one
 pub above_both : (r : Raster) (connect : Connect) (m n : ℕ) → IsPlane r → m < length (nodes r connect) → n < length (nodes r connect)

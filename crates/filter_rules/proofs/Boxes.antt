@@ -15,16 +15,17 @@ use Rattle.comp_tree.proofs.Finding.{length-pixels}
 use Rattle.comp_tree.proofs.Ancestors.{length-rows, parent-of_node, parent-candidate}
 use Rattle.comp_tree.proofs.Levels.{int_lt-true}
 use Rattle.node_sums.specs.declared.entry.Sums.{Sums}
-use Rattle.node_sums.specs.Sums.{AreTheTrees, sums_of, sums_in, sums_over, pixels_of, x_of, y_of, least, greatest}
+use Rattle.node_sums.specs.Sums.{AreTheTrees, sums_of, sums_in, sums_over, x_of, y_of, least, greatest}
+use Rattle.comp_tree.specs.Nesting.{pixels_of, level_in}
 use Rattle.node_sums.proofs.Sizes.{x_small, y_small, level_up_to}
 use Rattle.node_sums.proofs.Fluxes.{level-of_node}
-use Rattle.node_sums.specs.Flux.{level_in, flux_of}
+use Rattle.node_sums.specs.Flux.{flux_of}
 use Rattle.node_sums.specs.Merging.{IsUpTo, value_bound}
-use Rattle.node_sums.proofs.Counting.{in_node-defined, goes_down}
+use Rattle.node_sums.proofs.Counting.{goes_down}
+use Rattle.comp_tree.proofs.Nesting.{in_node-defined, among_pixels, top_inside}
 use Rattle.filter_rules.specs.declared.rule.Criterion.{Criterion}
-use Rattle.filter_rules.specs.Criteria.{admits, satisfies, HasBox}
-use Rattle.filter_rules.specs.Passes.{IsRising}
-use Rattle.filter_rules.proofs.Around.{among_pixels, top_in}
+use Rattle.filter_rules.specs.Criteria.{admits, satisfies}
+use Rattle.filter_rules.specs.Passes.{HasRisingLevels, HasBox}
 
 least_at_most : (f : ℕ → ℕ) (ps : List ℕ) (p : ℕ) → IsAmong p ps → least f ps ≤ f p
 least_at_most f [] p m = absurd m
@@ -80,7 +81,7 @@ has_box r connect n plane hn = record {
 }
   where
     there : IsAmong (top_of r connect n) (pixels_of r connect n)
-    there = among_pixels r connect n (top_of r connect n) (top_in r connect n hn)
+    there = among_pixels r connect n (top_of r connect n) (top_inside r connect n hn)
 
 -- ---- the sums of some plane's tree
 
@@ -107,11 +108,11 @@ admitted r connect tree sums criterion n d flux e f h g =
     ∙ ap (λ (z : ℤ). admits criterion (sums_of r connect n) z) g
 
 -- the rows of the tree rise
-pub trees_rise : (tree : ComponentTree) (sums : List Sums) → AreTheTrees tree sums → IsRising tree.rows
+pub trees_rise : (tree : ComponentTree) (sums : List Sums) → AreTheTrees tree sums → HasRisingLevels tree.rows
 trees_rise tree sums t =
-    subst (λ (x : ComponentTree). IsRising x.rows) (sym t.of_plane.tree_is) (rise t.plane t.of_plane.connect t.one_each t.in_range)
+    subst (λ (x : ComponentTree). HasRisingLevels x.rows) (sym t.of_plane.tree_is) (rise t.plane t.of_plane.connect t.one_each t.in_range)
   where
-    rise : (r : Raster) (connect : Connect) → IsPlane r → HasValuesInRange r.values → IsRising (tree_of r connect).rows
+    rise : (r : Raster) (connect : Connect) → IsPlane r → HasValuesInRange r.values → HasRisingLevels (tree_of r connect).rows
     rise r connect plane range = record {
       few = (goes_down r connect plane).few;
       parents = (goes_down r connect plane).parents;

@@ -11,34 +11,34 @@ use mir.Val.{SFits, of_z, to_z}
 use Rattle.comp_tree.specs.declared.tree.NodeRow.{NodeRow}
 use Rattle.comp_tree.specs.Limits.{IsWithinRange}
 use Rattle.comp_tree.specs.ComponentTree.{parent_in, no_node}
-use Rattle.node_sums.specs.Flux.{level_in}
+use Rattle.comp_tree.specs.Nesting.{level_in}
 use Rattle.node_sums.specs.Merging.{IsUpTo, value_bound}
 use Rattle.node_sums.proofs.Sizes.{up_to-minus}
 use Rattle.node_sums.proofs.Reading.{fits, row-parent}
 use Rattle.filter_rules.specs.declared.rule.Rule.{Rule}
 use Rattle.filter_rules.specs.declared.rule.Rule.TheVariants.{Subtractive}
-use Rattle.filter_rules.specs.Passes.{IsRising, flag, pixel_value, value, value_of_kept, value_of_node, AreValues}
+use Rattle.filter_rules.specs.Passes.{HasRisingLevels, flag, filled_pixel, value, value_of_kept, value_of_node, AreValues}
 
 -- ---- pixels
 
 -- the first p pixels have their values, and the others are undefined
 pub record IsFilled (node_of : List ℕ) (values : List ℤ) (pixels : List (Option ℤ)) (p : ℕ) : Type 0 where
   pub one_each : length pixels ≡ length node_of
-  pub done : (q : ℕ) → q < p → q < length node_of → slice_index_or pixels q None ≡ pixel_value values (slice_index node_of q)
+  pub done : (q : ℕ) → q < p → q < length node_of → slice_index_or pixels q None ≡ filled_pixel values (slice_index node_of q)
   pub rest : (q : ℕ) → p ≤ q → slice_index_or pixels q None ≡ None
 
 from_places : (values : List ℤ) (node_of : List ℕ) (pixels : List (Option ℤ)) → length pixels ≡ length node_of
-    → ((q : ℕ) → q < length node_of → slice_index_or pixels q None ≡ pixel_value values (slice_index node_of q)) → pixels ≡ map (pixel_value values) node_of
+    → ((q : ℕ) → q < length node_of → slice_index_or pixels q None ≡ filled_pixel values (slice_index node_of q)) → pixels ≡ map (filled_pixel values) node_of
 from_places values [] [] l h = refl
 from_places values [] (x ∷ pixels) l h = absurd (omega arith)
 from_places values (n ∷ node_of) [] l h = absurd (omega arith)
 from_places values (n ∷ node_of) (x ∷ pixels) l h =
-    let first : x ≡ pixel_value values n = h 0 (omega arith) in
-    let others : pixels ≡ map (pixel_value values) node_of = from_places values node_of pixels (omega arith) (λ q k. h (suc q) (omega arith)) in
-    ap (λ (y : Option ℤ). y ∷ pixels) first ∙ ap (λ (ys : List (Option ℤ)). pixel_value values n ∷ ys) others
+    let first : x ≡ filled_pixel values n = h 0 (omega arith) in
+    let others : pixels ≡ map (filled_pixel values) node_of = from_places values node_of pixels (omega arith) (λ q k. h (suc q) (omega arith)) in
+    ap (λ (y : Option ℤ). y ∷ pixels) first ∙ ap (λ (ys : List (Option ℤ)). filled_pixel values n ∷ ys) others
 
 pub filled_all : (node_of : List ℕ) (values : List ℤ) (pixels : List (Option ℤ)) (p : ℕ) → length node_of ≤ p → IsFilled node_of values pixels p
-    → pixels ≡ map (pixel_value values) node_of
+    → pixels ≡ map (filled_pixel values) node_of
 filled_all node_of values pixels p l h = from_places values node_of pixels h.one_each (λ q k. h.done q (omega arith) k)
 
 -- ---- reading rows and values
@@ -51,13 +51,13 @@ row_level (x ∷ rows) (suc n) d h = row_level rows n d (omega arith)
 fits_range : (z : ℤ) → IsWithinRange z → SFits w64 z
 fits_range z h = fits w64 value_bound z (record { low = h.low; high = h.high }) (lit< tt)
 
-pub level_read : (rows : List NodeRow) (n : ℕ) (d : NodeRow) → IsRising rows → n < length rows → to_z w64 (of_z w64 (slice_index_or rows n d).level) ≡ level_in rows n
+pub level_read : (rows : List NodeRow) (n : ℕ) (d : NodeRow) → HasRisingLevels rows → n < length rows → to_z w64 (of_z w64 (slice_index_or rows n d).level) ≡ level_in rows n
 level_read rows n d rising h = ap (λ (z : ℤ). to_z w64 (of_z w64 z)) (row_level rows n d h) ∙ to_z-of_z w64 (level_in rows n) (fits_range (level_in rows n) (rising.levels n h))
 
 -- ---- the value of one node
 
 module _ (rows : List NodeRow) (rule : Rule) (kept : List Bool) (values : List ℤ) (n : ℕ) (d : NodeRow)
-    (rising : IsRising rows) (node : n < length rows) (before : n ≡ length values) (made : AreValues rows rule kept values) where
+    (rising : HasRisingLevels rows) (node : n < length rows) (before : n ≡ length values) (made : AreValues rows rule kept values) where
   pub own_level : to_z w64 (of_z w64 (slice_index_or rows n d).level) ≡ level_in rows n
   own_level = level_read rows n d rising node
 
@@ -194,7 +194,7 @@ module _ (rows : List NodeRow) (rule : Rule) (kept : List Bool) (values : List �
   same_value : (m : ℕ) → m < length values → value (values ++ v ∷ []) m ≡ value values m
   same_value m l = get_or-append values (v ∷ []) (pos 0) m l
 
-  same_node : (n : ℕ) → IsRising rows → n < length rows → n ≤ length values
+  same_node : (n : ℕ) → HasRisingLevels rows → n < length rows → n ≤ length values
       → value_of_node rows rule kept (values ++ v ∷ []) n ≡ value_of_node rows rule kept values n
   same_node n rising h l = go (rising.parents n h)
     where
@@ -204,7 +204,7 @@ module _ (rows : List NodeRow) (rule : Rule) (kept : List Bool) (values : List �
           ap (λ (z : ℤ). cond (parent_in rows n == no_node) (level_in rows n)
           (cond (flag kept n) (value_of_kept rule (level_in rows n) (level_in rows (parent_in rows n)) z) z)) (same_value (parent_in rows n) (omega arith))
 
-  pub values_more : IsRising rows → length values < length rows → AreValues rows rule kept values → v ≡ value_of_node rows rule kept values (length values)
+  pub values_more : HasRisingLevels rows → length values < length rows → AreValues rows rule kept values → v ≡ value_of_node rows rule kept values (length values)
       → IsWithinRange v → v ≤ℤ level_in rows (length values) → AreValues rows rule kept (values ++ v ∷ [])
   values_more rising room made exact range most = record {
     each = λ n l. side n l (λ k. same_value n k ∙ made.each n k ∙ sym (same_node n rising (omega arith) (omega arith)))
@@ -225,7 +225,7 @@ pub record IsPushed (rows : List NodeRow) (rule : Rule) (kept : List Bool) (n : 
   pub one_each : length values ≡ n
   pub made : AreValues rows rule kept values
 
-pub values_pushed : (rows : List NodeRow) (rule : Rule) (kept : List Bool) (n : ℕ) (values lent pushed : List ℤ) (v : ℤ) → IsRising rows → n < length rows
+pub values_pushed : (rows : List NodeRow) (rule : Rule) (kept : List Bool) (n : ℕ) (values lent pushed : List ℤ) (v : ℤ) → HasRisingLevels rows → n < length rows
     → IsPushed rows rule kept n values → lent ≡ values → v ≡ value_of_node rows rule kept lent n → IsWithinRange v → v ≤ℤ level_in rows n
     → pushed ≡ values ++ to_z w64 (of_z w64 v) ∷ [] → IsPushed rows rule kept (n + 1) pushed
 values_pushed rows rule kept n values lent pushed v rising node h same exact range most is =

@@ -17,11 +17,11 @@ use Rattle.filter_rules.specs.declared.rule.Rule.TheVariants.{Min, Max, Direct, 
 use Rattle.filter_rules.specs.declared.rule.Criterion.{Criterion}
 use Rattle.filter_rules.specs.Criteria.{satisfies}
 use Rattle.filter_rules.specs.Filtered.{keeps}
-use Rattle.filter_rules.specs.Passes.{IsRising, flag, with_parent, AreWithParents, ComesFrom, AreWithChildren, AreKeptBy}
+use Rattle.filter_rules.specs.Passes.{HasRisingLevels, flag, flag_with_parent, AreWithParents, ComesFrom, AreWithChildren, AreKeptBy}
 use Rattle.filter_rules.proofs.Lists.{same_bool}
 use Rattle.filter_rules.proofs.Around.{IsAbove, ancestor_listed, min_gives, min_from, IsKeptFor, max_gives, max_from}
 
-module _ (rows : List NodeRow) (rising : IsRising rows) (own flags : List Bool) where
+module _ (rows : List NodeRow) (rising : HasRisingLevels rows) (own flags : List Bool) where
   not_none : (n : ℕ) → n < length rows → n ≡ no_node → ⊥
   not_none n h e = absurd (omega (arith, rising.few))
 
@@ -82,7 +82,7 @@ module _ (rows : List NodeRow) (rising : IsRising rows) (own flags : List Bool) 
 
 -- ---- one node more
 
-module _ (rows : List NodeRow) (rising : IsRising rows) (own flags : List Bool) (n : ℕ) (node : n < length rows) where
+module _ (rows : List NodeRow) (rising : HasRisingLevels rows) (own flags : List Bool) (n : ℕ) (node : n < length rows) where
   pub parent_less : (d : NodeRow) → ((slice_index_or rows n d).parent ≡ no_node → ⊥) → (slice_index_or rows n d).parent < n
   parent_less d some = go (rising.parents n node)
     where
@@ -113,31 +113,31 @@ module _ (rows : List NodeRow) (rising : IsRising rows) (own flags : List Bool) 
         other : (m : ℕ) → (m ≡ n → ⊥) → flag (set flags n false) m ≡ flag flags m
         other m ne = get_or-set_other flags n m false false ne
 
-        same : (m : ℕ) → m ≤ n → with_parent rows own (set flags n false) m ≡ with_parent rows own flags m
+        same : (m : ℕ) → m ≤ n → flag_with_parent rows own (set flags n false) m ≡ flag_with_parent rows own flags m
         same m l = ap (λ (b : Bool). flag own m && (parent_in rows m == no_node || b)) (other (parent_in rows m) (parent_not_here m l))
 
-        before : (m : ℕ) → m < length rows → m < n → flag (set flags n false) m ≡ with_parent rows own (set flags n false) m
+        before : (m : ℕ) → m < length rows → m < n → flag (set flags n false) m ≡ flag_with_parent rows own (set flags n false) m
         before m h l = other m (λ e. absurd (omega arith)) ∙ w.asked m l h ∙ sym (same m (omega arith))
 
-        here : (m : ℕ) → m ≡ n → flag (set flags n false) m ≡ with_parent rows own (set flags n false) m
+        here : (m : ℕ) → m ≡ n → flag (set flags n false) m ≡ flag_with_parent rows own (set flags n false) m
         here m e =
             ap (flag (set flags n false)) e ∙ get_or-set_same flags n false false (omega (arith, one_each, w.one_each)) ∙ sym refused
-            ∙ sym (ap (λ (j : ℕ). with_parent rows own (set flags n false) j) e)
+            ∙ sym (ap (λ (j : ℕ). flag_with_parent rows own (set flags n false) j) e)
           where
             both : (b : Bool) → b && false ≡ false
             both true = refl
             both false = refl
 
-            refused : with_parent rows own (set flags n false) n ≡ false
+            refused : flag_with_parent rows own (set flags n false) n ≡ false
             refused =
                 same n (omega arith) ∙ ap (λ (b : Bool). flag own n && (b || flag flags (parent_in rows n))) (ne_eqb (parent_in rows n) no_node some)
                 ∙ ap (λ (b : Bool). flag own n && b) off ∙ both (flag own n)
 
-        side : (m : ℕ) → m < n + 1 → (m < n → flag (set flags n false) m ≡ with_parent rows own (set flags n false) m)
-            → ((j : ℕ) → j ≡ n → flag (set flags n false) j ≡ with_parent rows own (set flags n false) j) → flag (set flags n false) m ≡ with_parent rows own (set flags n false) m
+        side : (m : ℕ) → m < n + 1 → (m < n → flag (set flags n false) m ≡ flag_with_parent rows own (set flags n false) m)
+            → ((j : ℕ) → j ≡ n → flag (set flags n false) j ≡ flag_with_parent rows own (set flags n false) j) → flag (set flags n false) m ≡ flag_with_parent rows own (set flags n false) m
         side m l x y = go (cases_lt m n)
           where
-            go : (m < n) ⊎ (n ≤ m) → flag (set flags n false) m ≡ with_parent rows own (set flags n false) m
+            go : (m < n) ⊎ (n ≤ m) → flag (set flags n false) m ≡ flag_with_parent rows own (set flags n false) m
             go (inl k) = x k
             go (inr k) = y m (omega arith)
 
@@ -149,12 +149,12 @@ module _ (rows : List NodeRow) (rising : IsRising rows) (own flags : List Bool) 
         kept true = refl
         kept false = refl
 
-        here : flag flags n ≡ with_parent rows own flags n
+        here : flag flags n ≡ flag_with_parent rows own flags n
         here = w.others n (omega arith) ∙ sym (kept (flag own n)) ∙ ap (λ (b : Bool). flag own n && b) (sym on)
 
-        go : (m : ℕ) → m < length rows → m < n + 1 → (m < n) ⊎ (n ≤ m) → flag flags m ≡ with_parent rows own flags m
+        go : (m : ℕ) → m < length rows → m < n + 1 → (m < n) ⊎ (n ≤ m) → flag flags m ≡ flag_with_parent rows own flags m
         go m h l (inl k) = w.asked m k h
-        go m h l (inr k) = let e : n ≡ m = omega arith in subst (λ (j : ℕ). flag flags j ≡ with_parent rows own flags j) e here
+        go m h l (inr k) = let e : n ≡ m = omega arith in subst (λ (j : ℕ). flag flags j ≡ flag_with_parent rows own flags j) e here
 
   module _ (one_each : length own ≡ length rows) (w : AreWithChildren rows own flags (suc n)) where
     -- the parent gets the flag
@@ -220,7 +220,7 @@ subtractive : (r : Raster) (connect : Connect) (criterion : Criterion) (n : ℕ)
 unfolding keeps
 subtractive r connect criterion n = refl
 
-pub kept_by_rule : (r : Raster) (connect : Connect) (criterion : Criterion) (rule : Rule) (own flags : List Bool) → IsPlane r → IsRising (tree_of r connect).rows
+pub kept_by_rule : (r : Raster) (connect : Connect) (criterion : Criterion) (rule : Rule) (own flags : List Bool) → IsPlane r → HasRisingLevels (tree_of r connect).rows
     → ((n : ℕ) → n < length (tree_of r connect).rows → flag own n ≡ satisfies r connect criterion n) → AreKeptBy rule (tree_of r connect).rows own flags
     → (n : ℕ) → n < length (tree_of r connect).rows → flag flags n ≡ keeps r connect rule criterion n
 kept_by_rule r connect criterion Min own flags plane rising o w n h =
@@ -262,10 +262,10 @@ kept_by_rule r connect criterion Subtractive own flags plane rising o w n h = ap
 
 -- the same for a tree of a plane, and as the code hands the lists on
 pub kept_of_tree : (r : Raster) (connect : Connect) (criterion : Criterion) (rule : Rule) (tree : ComponentTree) (rows : List NodeRow) (own lent flags : List Bool) → IsPlane r
-    → tree ≡ tree_of r connect → IsRising tree.rows → ((n : ℕ) → n < length tree.rows → flag own n ≡ satisfies r connect criterion n)
+    → tree ≡ tree_of r connect → HasRisingLevels tree.rows → ((n : ℕ) → n < length tree.rows → flag own n ≡ satisfies r connect criterion n)
     → rows ≡ tree.rows → lent ≡ own → AreKeptBy rule rows lent flags → (n : ℕ) → n < length tree.rows → flag flags n ≡ keeps r connect rule criterion n
 kept_of_tree r connect criterion rule tree rows own lent flags plane e rising o same handed w n h =
-    kept_by_rule r connect criterion rule own flags plane (subst (λ (t : ComponentTree). IsRising t.rows) e rising)
+    kept_by_rule r connect criterion rule own flags plane (subst (λ (t : ComponentTree). HasRisingLevels t.rows) e rising)
     (λ m l. o m (subst (λ (t : ComponentTree). m < length t.rows) (sym e) l))
     (subst (λ (xs : List NodeRow). AreKeptBy rule xs own flags) (same ∙ ap (λ (t : ComponentTree). t.rows) e) (subst (λ (bs : List Bool). AreKeptBy rule rows bs flags) handed w))
     n (subst (λ (t : ComponentTree). n < length t.rows) e h)

@@ -16,8 +16,10 @@ use Rattle.node_sums.specs.Sums.{total}
 use Rattle.node_sums.proofs.Counting.{goes_down, ancestor_smaller, parent_smaller}
 use Rattle.filter_rules.specs.declared.rule.Rule.{Rule}
 use Rattle.filter_rules.specs.declared.rule.Criterion.{Criterion}
-use Rattle.filter_rules.specs.Filtered.{node_numbers, lies_within, is_kept, holders, smallest, value_from, filtered_value}
-use Rattle.filter_rules.proofs.Lists.{same_bool, all_gives, all_from, filter_on, total_split, total_one}
+use Rattle.filter_rules.specs.Filtered.{is_kept, holders, smallest, value_from, filtered_value}
+use Rattle.comp_tree.specs.Nesting.{node_numbers, lies_within}
+use Rattle.filter_rules.proofs.Lists.{same_bool, filter_on, total_split, total_one}
+use Rattle.comp_tree.proofs.Nesting.{all_gives, all_from}
 use Rattle.filter_rules.proofs.Around.{IsAbove, below_from_numbers, above_from_in, in_from_above, above_from_within, within_from_above, above_both, node_of_top}
 
 -- node m is kept and holds p
@@ -92,22 +94,22 @@ module _ (r : Raster) (connect : Connect) (plane : IsPlane r) where
       in_from_above r connect m (top_of r connect n) plane hm (top-defined r connect n hn)
       (subst (λ (k : ℕ). IsAbove (tree_of r connect).rows m k) (sym (node_of_top r connect n hn)) a)
 
-  top_in : (n m : ℕ) → n < length (nodes r connect) → m < length (nodes r connect) → is_in_node r connect m (top_of r connect n) ≡ true → IsAbove (tree_of r connect).rows m n
-  top_in n m hn hm h = subst (λ (k : ℕ). IsAbove (tree_of r connect).rows m k) (node_of_top r connect n hn) (above_from_in r connect m (top_of r connect n) plane hm h)
+  top_inside : (n m : ℕ) → n < length (nodes r connect) → m < length (nodes r connect) → is_in_node r connect m (top_of r connect n) ≡ true → IsAbove (tree_of r connect).rows m n
+  top_inside n m hn hm h = subst (λ (k : ℕ). IsAbove (tree_of r connect).rows m k) (node_of_top r connect n hn) (above_from_in r connect m (top_of r connect n) plane hm h)
 
   in_child : (n a m : ℕ) → IsChild r connect n a → m < length (nodes r connect) → (m ≡ n → ⊥)
       → is_in_node r connect m (top_of r connect n) ≡ is_in_node r connect m (top_of r connect a)
   in_child n a m c hm ne =
       same_bool (is_in_node r connect m (top_of r connect n)) (is_in_node r connect m (top_of r connect a))
-      (λ h. go (above_child n a m c (top_in n m c.node hm h)))
-      (λ h. in_top n m c.node hm (inr (child_above n a m c (top_in a m c.parent_listed hm h))))
+      (λ h. go (above_child n a m c (top_inside n m c.node hm h)))
+      (λ h. in_top n m c.node hm (inr (child_above n a m c (top_inside a m c.parent_listed hm h))))
     where
       go : (m ≡ n) ⊎ IsAbove (tree_of r connect).rows m a → is_in_node r connect m (top_of r connect a) ≡ true
       go (inl e) = absurd (ne e)
       go (inr x) = in_top a m c.parent_listed hm x
 
   not_in_parent : (n a : ℕ) → IsChild r connect n a → is_in_node r connect n (top_of r connect a) ≡ false
-  not_in_parent n a c = false_from_ne_true (is_in_node r connect n (top_of r connect a)) (λ h. go (top_in a n c.parent_listed c.node h))
+  not_in_parent n a c = false_from_ne_true (is_in_node r connect n (top_of r connect a)) (λ h. go (top_inside a n c.parent_listed c.node h))
     where
       less : a < n
       less = parent_less n a c
@@ -173,7 +175,7 @@ module _ (r : Raster) (connect : Connect) (plane : IsPlane r) where
         passes =
             all_from (lies_within r connect n) (holders r connect rule criterion (top_of r connect n))
             (λ m x. let h : IsHolder (top_of r connect n) m = holder_is (top_of r connect n) m x in
-            within_from_above r connect n m plane hn h.node (top_in n m hn h.node h.holds_it))
+            within_from_above r connect n m plane hn h.node (top_inside n m hn h.node h.holds_it))
 
         go : (o : Option ℕ) → find (λ m. list_all (lies_within r connect m) (holders r connect rule criterion (top_of r connect n))) (holders r connect rule criterion (top_of r connect n)) ≡ o
             → find (λ m. list_all (lies_within r connect m) (holders r connect rule criterion (top_of r connect n))) (holders r connect rule criterion (top_of r connect n)) ≡ Some n
@@ -190,7 +192,7 @@ module _ (r : Raster) (connect : Connect) (plane : IsPlane r) where
 
             is_n : m ≡ n
             is_n =
-                above_both r connect m n plane h.node hn (top_in n m hn h.node h.holds_it)
+                above_both r connect m n plane h.node hn (top_inside n m hn h.node h.holds_it)
                 (above_from_within r connect m n plane h.node hn (all_gives (lies_within r connect m) (holders r connect rule criterion (top_of r connect n)) n found.1 there))
 
     -- the sum of the rises: of a root, and of a child that is kept
@@ -204,7 +206,7 @@ module _ (r : Raster) (connect : Connect) (plane : IsPlane r) where
         same : (m : ℕ) → m < length (nodes r connect) → holds r connect rule criterion (top_of r connect n) m ≡ (m == n)
         same m hm =
             same_bool (holds r connect rule criterion (top_of r connect n) m) (m == n)
-            (λ h. eq-eqb m n (above_root n m e (top_in n m hn hm (and_parts (is_kept r connect rule criterion m) (is_in_node r connect m (top_of r connect n)) h).1)))
+            (λ h. eq-eqb m n (above_root n m e (top_inside n m hn hm (and_parts (is_kept r connect rule criterion m) (is_in_node r connect m (top_of r connect n)) h).1)))
             (λ h. let u : m ≡ n = eqb-true m n h in
             and_from (is_kept r connect rule criterion m) (is_in_node r connect m (top_of r connect n)) (ap (is_kept r connect rule criterion) u ∙ k) (in_top n m hn hm (inl u)))
 

@@ -1,9 +1,9 @@
 -- Tests over lists, and sums over the members that pass one.
 use Rattle.std.proofs.Common.{◌≡◌, ℕ, ◌+◌, ◌<◌, ◌≤◌, zero, suc, Bool, true, false, cond, List, [], ◌∷◌, map, refl, sym, ◌∙◌, ap, arith, inl, inr}
 use Rattle.std.specs.Prelude.{ℤ, pos, ◌+ℤ◌, filter, ◌==◌, ◌≢◌}
-use Rattle.std.specs.List.{list_all, range_with_len}
+use Rattle.std.specs.List.{range_with_len}
 use Rattle.std.proofs.lemmas.Int.{ints}
-use Rattle.std.proofs.lemmas.Bool.{and_parts, and_from, eqb-true, eqb-false, ne_eqb}
+use Rattle.std.proofs.lemmas.Bool.{eqb-true, eqb-false, ne_eqb}
 use Rattle.comp_tree.proofs.Members.{IsAmong}
 use Rattle.node_sums.specs.Sums.{total}
 
@@ -14,18 +14,6 @@ same_bool false b h k = go b refl
     go : (c : Bool) → b ≡ c → false ≡ b
     go true u = k u ∙ sym u
     go false u = sym u
-
-pub all_gives : {X : Type 0} (test : X → Bool) (xs : List X) (x : X) → list_all test xs ≡ true → IsAmong x xs → test x ≡ true
-all_gives test [] x h m = absurd m
-all_gives test (y ∷ xs) x h m = go (and_parts (test y) (list_all test xs) h) m (all_gives test xs x)
-  where
-    go : (test y ≡ true) × (list_all test xs ≡ true) → IsAmong x (y ∷ xs) → (list_all test xs ≡ true → IsAmong x xs → test x ≡ true) → test x ≡ true
-    go p (inl e) ih = ap test (sym e) ∙ p.0
-    go p (inr k) ih = ih p.1 k
-
-pub all_from : {X : Type 0} (test : X → Bool) (xs : List X) → ((x : X) → IsAmong x xs → test x ≡ true) → list_all test xs ≡ true
-all_from test [] h = refl
-all_from test (y ∷ xs) h = and_from (test y) (list_all test xs) (h y (inl refl)) (all_from test xs (λ x m. h x (inr m)))
 
 pub filter_on : {X : Type 0} (f g : X → Bool) (xs : List X) → ((x : X) → IsAmong x xs → f x ≡ g x) → filter f xs ≡ filter g xs
 filter_on f g [] h = refl

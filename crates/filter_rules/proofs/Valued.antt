@@ -14,16 +14,16 @@ use Rattle.comp_tree.proofs.Components.{top-defined}
 use Rattle.comp_tree.proofs.Ancestors.{length-rows, below_no_node}
 use Rattle.comp_tree.proofs.Nodes
 use Rattle.node_sums.specs.Sums.{total}
-use Rattle.node_sums.specs.Flux.{level_in}
+use Rattle.comp_tree.specs.Nesting.{level_in, is_root, node_numbers, lies_within}
 use Rattle.node_sums.proofs.Counting.{goes_down}
 use Rattle.filter_rules.specs.declared.rule.Rule.{Rule}
 use Rattle.filter_rules.specs.declared.rule.Rule.TheVariants.{Min, Max, Direct, Subtractive}
 use Rattle.filter_rules.specs.declared.rule.Criterion.{Criterion}
-use Rattle.filter_rules.specs.Filtered.{node_numbers, lies_within, is_root, keeps, is_kept, holders, smallest, level_of_smallest, rise_in, value_from, filtered_value}
+use Rattle.filter_rules.specs.Filtered.{keeps, is_kept, holders, smallest, level_of_smallest, rise_in, value_from, filtered_value}
 use Rattle.filter_rules.specs.Laws.{IsSmallestHolder, EachPixelHasASmallestHolder}
 use Rattle.filter_rules.specs.Passes.{flag, value, value_of_kept, value_of_node, AreValues}
-use Rattle.filter_rules.proofs.Lists.{all_gives}
-use Rattle.filter_rules.proofs.Around.{within_gives, node_of_top}
+use Rattle.comp_tree.proofs.Nesting.{all_gives, within_from_test}
+use Rattle.filter_rules.proofs.Around.{node_of_top}
 use Rattle.filter_rules.proofs.Holding.{IsChild, holders_of_dropped, smallest_of_kept, rises_of_root, rises_of_kept, same_value, same_holders, IsHolder, holder_is}
 
 module _ (r : Raster) (connect : Connect) (plane : IsPlane r) where
@@ -172,7 +172,7 @@ smallest_is r connect rule criterion p n plane e = record {
   node = h.node;
   kept = h.kept;
   holds = h.holds_it;
-  least = λ m hm k x. within_gives r connect n m
+  least = λ m hm k x. within_from_test r connect n m
       (all_gives (lies_within r connect n) (holders r connect rule criterion p) m found.1 (among_all r connect rule criterion p m hm k x));
 }
   where

@@ -13,7 +13,7 @@ use Rattle.comp_tree.proofs.Nodes
 use Rattle.filter_rules.specs.declared.rule.Rule.{Rule}
 use Rattle.filter_rules.specs.declared.rule.Criterion.{Criterion}
 use Rattle.filter_rules.specs.Filtered.{keeps, filtered_value, filtered}
-use Rattle.filter_rules.specs.Passes.{flag, AreValues, pixel_value}
+use Rattle.filter_rules.specs.Passes.{flag, AreValues, filled_pixel}
 use Rattle.filter_rules.proofs.Valued.{value_of_pixel}
 
 -- what two clauses say of a result
@@ -44,14 +44,14 @@ pub record IsMade (r left : Raster) (connect : Connect) (tree : ComponentTree) (
   pub one_each : length values ≡ length tree.rows
   pub made : AreValues tree.rows rule kept values
   pub same_shape : left.shape ≡ r.shape
-  pub filled : left.values ≡ map (pixel_value values) tree.node_of
+  pub filled : left.values ≡ map (filled_pixel values) tree.node_of
 
 pub made_is_filtered : (r left : Raster) (connect : Connect) (tree : ComponentTree) (rule : Rule) (criterion : Criterion) (kept : List Bool) (values : List ℤ) → IsPlane r
     → IsMade r left connect tree rule criterion kept values → left ≡ filtered r connect rule criterion
 made_is_filtered r left connect tree rule criterion kept values plane m =
     filtered-is r connect rule criterion left m.same_shape
-    (m.filled ∙ ap (map (pixel_value values)) (ap (λ (t : ComponentTree). t.node_of) m.tree_is ∙ numbers_are r connect)
-    ∙ map_twice (pixel_value values) (node_of r connect) (λ p. cond (is_defined r p) (Some (filtered_value r connect rule criterion p)) None) (pixels r)
+    (m.filled ∙ ap (map (filled_pixel values)) (ap (λ (t : ComponentTree). t.node_of) m.tree_is ∙ numbers_are r connect)
+    ∙ map_twice (filled_pixel values) (node_of r connect) (λ p. cond (is_defined r p) (Some (filtered_value r connect rule criterion p)) None) (pixels r)
     (λ p. go p (is_defined r p) refl))
   where
     count : length values ≡ length (nodes r connect)
@@ -64,7 +64,7 @@ made_is_filtered r left connect tree rule criterion kept values plane m =
     made = subst (λ (t : ComponentTree). AreValues t.rows rule kept values) m.tree_is m.made
 
     go : (p : ℕ) → (b : Bool) → is_defined r p ≡ b
-        → pixel_value values (node_of r connect p) ≡ cond (is_defined r p) (Some (filtered_value r connect rule criterion p)) None
+        → filled_pixel values (node_of r connect p) ≡ cond (is_defined r p) (Some (filtered_value r connect rule criterion p)) None
     go p true d =
         let some : (node_of r connect p == no_node) ≡ false =
         ne_eqb (node_of r connect p) no_node (below_no_node r connect (node_of r connect p) plane (Nodes.node_of-is r connect p d).below) in

@@ -1,5 +1,5 @@
--- Which nodes of a plane's tree satisfy a criterion: by the sums over their components, and by their flux.
-use Rattle.std.specs.Prelude.{ℕ, ◌+◌, ◌-◌, ◌*◌, ◌^◌, ◌≤◌, ℤ, Bool, ◌&&◌, nat_le, int_le}
+-- Model: which nodes of a plane's tree satisfy a criterion: by the sums over their components, and by their flux.
+use Rattle.std.specs.Prelude.{ℕ, ◌+◌, ◌-◌, ◌*◌, ℤ, Bool, ◌&&◌, nat_le, int_le}
 use Rattle.comp_tree.specs.declared.shape.Connect.{Connect}
 use Rattle.comp_tree.specs.Raster.{Raster}
 use Rattle.node_sums.specs.declared.entry.Sums.{Sums}
@@ -23,11 +23,3 @@ admits criterion s flux =
 -- node n of the plane's tree does
 unfoldable pub satisfies : Raster → Connect → Criterion → ℕ → Bool
 satisfies r connect criterion n = admits criterion (sums_of r connect n) (flux_of r connect n)
-
--- as the sums of a node of an image: the box lies in the image, and so do all pixels
-pub record HasBox (s : Sums) : Type 0 where
-  pub area : s.area ≤ 2 ^ 24
-  pub columns : s.xmin ≤ s.xmax
-  pub few_columns : s.xmax ≤ 65535
-  pub rows : s.ymin ≤ s.ymax
-  pub few_rows : s.ymax ≤ 65535

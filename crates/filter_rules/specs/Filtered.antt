@@ -1,14 +1,14 @@
--- The plane that a filter rule makes of a plane r, by the components of the nodes of its tree. `Min`, `Max` and `Direct` are
+-- Model: the plane that a filter rule makes of a plane r, by the components of the nodes of its tree. `Min`, `Max` and `Direct` are
 -- those of Salembier, Oliveras and Garrido 1998; `Subtractive`, and that a root is always kept, are this project's.
-use Rattle.std.specs.Prelude.{ℕ, Bool, ◌&&◌, ◌||◌, ◌==◌, cond, ℤ, pos, ◌-ℤ◌, List, length, map, filter, find, Option, Some, None}
-use Rattle.std.specs.List.{list_all, list_any, range_with_len}
+use Rattle.std.specs.Prelude.{ℕ, Bool, ◌&&◌, ◌||◌, cond, ℤ, pos, ◌-ℤ◌, List, map, filter, find, Option, Some, None}
+use Rattle.std.specs.List.{list_all, list_any}
 use Rattle.std.specs.Option.{option_map_or}
 use Rattle.comp_tree.specs.declared.shape.Connect.{Connect}
 use Rattle.comp_tree.specs.Raster.{Raster, pixels, is_defined}
-use Rattle.comp_tree.specs.ComponentTree.{ComponentTree, parent_in, no_node}
-use Rattle.comp_tree.specs.Components.{nodes, is_in_node, tree_of}
-use Rattle.node_sums.specs.Sums.{pixels_of, total}
-use Rattle.node_sums.specs.Flux.{level_in}
+use Rattle.comp_tree.specs.ComponentTree.{ComponentTree, parent_in}
+use Rattle.comp_tree.specs.Components.{is_in_node, tree_of}
+use Rattle.comp_tree.specs.Nesting.{node_numbers, is_root, level_in, lies_within}
+use Rattle.node_sums.specs.Sums.{total}
 use Rattle.filter_rules.specs.declared.rule.Rule.{Rule}
 use Rattle.filter_rules.specs.declared.rule.Rule.TheVariants.{Min, Max, Direct, Subtractive}
 use Rattle.filter_rules.specs.declared.rule.Criterion.{Criterion}
@@ -16,23 +16,12 @@ use Rattle.filter_rules.specs.Criteria.{satisfies}
 
 -- ---- which nodes are kept
 
--- the numbers of all nodes
-abbrev pub node_numbers : Raster → Connect → List ℕ
-node_numbers r connect = range_with_len 0 (length (nodes r connect))
-
--- the component of node n lies within that of node m
-unfoldable pub lies_within : Raster → Connect → ℕ → ℕ → Bool
-lies_within r connect n m = list_all (is_in_node r connect m) (pixels_of r connect n)
-
 -- the nodes whose component contains that of n, and those whose component lies within it: n is among both
 abbrev pub around : Raster → Connect → ℕ → List ℕ
 around r connect n = filter (λ m. lies_within r connect n m) (node_numbers r connect)
 
 abbrev pub inside : Raster → Connect → ℕ → List ℕ
 inside r connect n = filter (λ m. lies_within r connect m n) (node_numbers r connect)
-
-abbrev pub is_root : ComponentTree → ℕ → Bool
-is_root tree n = parent_in tree.rows n == no_node
 
 -- the rule keeps node n, where it isn't a root
 unfoldable pub keeps : Raster → Connect → Rule → Criterion → ℕ → Bool

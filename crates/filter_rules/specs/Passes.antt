@@ -1,19 +1,28 @@
--- What the passes over the nodes and the pixels make of their lists.
+-- Bookkeeping: what the passes over the nodes and the pixels make of their lists.
 use Rattle.std.specs.Prelude.{◌≡◌, ℕ, ◌<◌, ◌≤◌, ◌^◌, Bool, true, false, ◌&&◌, ◌||◌, ◌==◌, cond, ◌⊎◌, ℤ, pos, ◌+ℤ◌, ◌-ℤ◌, ◌≤ℤ◌, List, length, Option, Some, None, slice_index_or}
 use Rattle.comp_tree.specs.declared.tree.NodeRow.{NodeRow}
 use Rattle.comp_tree.specs.Limits.{IsWithinRange}
 use Rattle.comp_tree.specs.ComponentTree.{parent_in, no_node}
 use Rattle.comp_tree.specs.Laws.{IsAncestor}
-use Rattle.node_sums.specs.Flux.{level_in}
+use Rattle.comp_tree.specs.Nesting.{level_in}
+use Rattle.node_sums.specs.declared.entry.Sums.{Sums}
 use Rattle.filter_rules.specs.declared.rule.Rule.{Rule}
 use Rattle.filter_rules.specs.declared.rule.Rule.TheVariants.{Min, Max, Direct, Subtractive}
 
 -- rows as in the tree of a plane: a parent's number is smaller, its level too, and the levels are in the range of pixels
-pub record IsRising (rows : List NodeRow) : Type 0 where
+pub record HasRisingLevels (rows : List NodeRow) : Type 0 where
   pub few : length rows ≤ 2 ^ 24
   pub parents : (n : ℕ) → n < length rows → (parent_in rows n ≡ no_node) ⊎ (parent_in rows n < n)
   pub levels : (n : ℕ) → n < length rows → IsWithinRange (level_in rows n)
   pub rising : (n : ℕ) → n < length rows → parent_in rows n < length rows → level_in rows (parent_in rows n) ≤ℤ level_in rows n
+
+-- sums as those of a node of an image: the box lies in the image, and so do all pixels
+pub record HasBox (s : Sums) : Type 0 where
+  pub area : s.area ≤ 2 ^ 24
+  pub columns : s.xmin ≤ s.xmax
+  pub few_columns : s.xmax ≤ 65535
+  pub rows : s.ymin ≤ s.ymax
+  pub few_rows : s.ymax ≤ 65535
 
 -- the flag and the value of node n
 abbrev pub flag : List Bool → ℕ → Bool
@@ -24,13 +33,13 @@ value values n = slice_index_or values n (pos 0)
 
 -- ---- `Min`: a node keeps its flag where its parent does
 
-abbrev pub with_parent : List NodeRow → List Bool → List Bool → ℕ → Bool
-with_parent rows own flags n = flag own n && (parent_in rows n == no_node || flag flags (parent_in rows n))
+abbrev pub flag_with_parent : List NodeRow → List Bool → List Bool → ℕ → Bool
+flag_with_parent rows own flags n = flag own n && (parent_in rows n == no_node || flag flags (parent_in rows n))
 
 -- the first k nodes have been asked
 pub record AreWithParents (rows : List NodeRow) (own flags : List Bool) (k : ℕ) : Type 0 where
   pub one_each : length flags ≡ length own
-  pub asked : (n : ℕ) → n < k → n < length rows → flag flags n ≡ with_parent rows own flags n
+  pub asked : (n : ℕ) → n < k → n < length rows → flag flags n ≡ flag_with_parent rows own flags n
   pub others : (n : ℕ) → k ≤ n → flag flags n ≡ flag own n
 
 -- ---- `Max`: the flag of a node goes to its parent
@@ -82,5 +91,5 @@ pub record AreValues (rows : List NodeRow) (rule : Rule) (kept : List Bool) (val
 -- ---- pixels
 
 -- what a pixel gets whose smallest node is n
-abbrev pub pixel_value : List ℤ → ℕ → Option ℤ
-pixel_value values n = cond (n == no_node) None (Some (value values n))
+abbrev pub filled_pixel : List ℤ → ℕ → Option ℤ
+filled_pixel values n = cond (n == no_node) None (Some (value values n))

@@ -2,10 +2,10 @@ ghost use Rattle.std.specs.Prelude.{◌≡◌, ℕ, ◌*◌, ◌<◌, ◌≤◌,
 ghost use Rattle.comp_tree.specs.declared.shape.Connect.{Connect};
 ghost use Rattle.comp_tree.specs.Limits.{IsWithinRange};
 ghost use Rattle.comp_tree.specs.Components.{tree_of, no_node};
+ghost use Rattle.comp_tree.specs.Nesting.{level_in};
 ghost use Rattle.node_sums.specs.Sums.{sums_in, AreOfPlane, AreTheTrees};
-ghost use Rattle.node_sums.specs.Flux.{level_in};
 ghost use Rattle.filter_rules.specs.Filtered.{filtered};
-ghost use Rattle.filter_rules.specs.Passes.{IsRising, AreValues, value_of_node, pixel_value as pixel_value_of, value};
+ghost use Rattle.filter_rules.specs.Passes.{HasRisingLevels, AreValues, value_of_node, filled_pixel as filled_pixel_of, value};
 
 use crate::keeping::kept_nodes;
 use crate::rule::{Criterion, Rule};
@@ -45,7 +45,7 @@ fn node_values(
     rule: Rule,
     kept: &[bool],
 ) -> Result<Vec<i64>, OutOfMemory>
-    requires rows { IsRising rows.now }
+    requires rows { HasRisingLevels rows.now }
     requires one_each { length kept.now ≡ length rows.now }
     ensures one_each { IfOk result (λ values. length values.items ≡ length rows.now) }
     ensures values { IfOk result (λ values. AreValues rows.now rule kept.now values.items) }
@@ -60,7 +60,7 @@ fn node_values(
 
 // The value of node `n`, where those of the nodes before it are known.
 fn node_value(rows: &[NodeRow], rule: Rule, kept: &[bool], values: &[i64], n: usize) -> i64
-    requires rows { IsRising rows.now }
+    requires rows { HasRisingLevels rows.now }
     requires one_each { length kept.now ≡ length rows.now }
     requires node { n < length rows.now }
     requires before { n ≡ length values.now }
@@ -90,19 +90,19 @@ fn fill(alloc: Global, shape: Shape, node_of: &[u32], values: &[i64]) -> Result<
     requires nodes { (p : ℕ) → p < length node_of.now → (slice_index node_of.now p ≡ no_node) ⊎ (slice_index node_of.now p < length values.now) }
     requires values { (n : ℕ) → n < length values.now → IsWithinRange (value values.now n) }
     ensures shape { IfOk result (λ plane. plane.shape ≡ shape) }
-    ensures values { IfOk result (λ plane. plane.values ≡ map (pixel_value_of values.now) node_of.now) }
+    ensures values { IfOk result (λ plane. plane.values ≡ map (filled_pixel_of values.now) node_of.now) }
 {
     let mut plane = Plane::blank(alloc, shape)?;
     for p in 0..shape.pixels() {
-        plane.set(p, pixel_value(values, node_of[p as usize]));
+        plane.set(p, filled_pixel(values, node_of[p as usize]));
     }
     Ok(plane)
 }
 
 // What a pixel gets whose smallest node is `n`.
-fn pixel_value(values: &[i64], n: u32) -> Option<i64>
+fn filled_pixel(values: &[i64], n: u32) -> Option<i64>
     requires { (n ≡ no_node) ⊎ (n < length values.now) }
-    ensures { result ≡ pixel_value_of values.now n }
+    ensures { result ≡ filled_pixel_of values.now n }
 {
     if n == NONE {
         None

@@ -1,11 +1,9 @@
 ghost use Rattle.std.specs.Prelude.{◌≡◌, ℕ, ◌<◌, ◌≤◌, IfOk, length};
-ghost use Rattle.comp_tree.specs.declared.shape.Connect.{Connect};
-ghost use Rattle.comp_tree.specs.Raster.{Raster, IsPlane};
-ghost use Rattle.comp_tree.specs.Components.{tree_of};
-ghost use Rattle.node_sums.specs.Sums.{sums_in, AreTheTrees};
+ghost use Rattle.comp_tree.specs.Raster.{IsPlane};
+ghost use Rattle.node_sums.specs.Sums.{AreTheTrees, ForEachPlaneOf};
 ghost use Rattle.filter_rules.specs.Criteria.{satisfies as satisfies_criterion};
 ghost use Rattle.filter_rules.specs.Filtered.{keeps};
-ghost use Rattle.filter_rules.specs.Passes.{flag, IsRising, AreWithParents, AreWithChildren, AreKeptBy};
+ghost use Rattle.filter_rules.specs.Passes.{flag, HasRisingLevels, AreWithParents, AreWithChildren, AreKeptBy};
 
 use crate::rule::{Criterion, Rule};
 use comp_tree::{NONE, NodeRow, Tree};
@@ -24,8 +22,8 @@ pub(crate) fn kept_nodes(
     requires sums { AreTheTrees tree.now sums.now }
     requires fill { criterion.now.min_fill ≤ 1000 }
     ensures one_each { IfOk result (λ kept. length kept.items ≡ length tree.now.rows) }
-    ensures kept { IfOk result (λ kept. (plane : Raster) (connect : Connect) → IsPlane plane → tree.now ≡ tree_of plane connect → sums.now ≡ sums_in plane connect
-        → (n : ℕ) → n < length tree.now.rows → flag kept.items n ≡ keeps plane connect rule criterion.now n) }
+    ensures kept { IfOk result (λ kept. ForEachPlaneOf tree.now sums.now (λ plane connect. IsPlane plane
+        → (n : ℕ) → n < length tree.now.rows → flag kept.items n ≡ keeps plane connect rule criterion.now n)) }
 {
     let mut kept = satisfying(alloc, tree, sums, criterion)?;
     apply(rule, tree.rows(), &mut kept);
@@ -42,8 +40,8 @@ fn satisfying(
     requires sums { AreTheTrees tree.now sums.now }
     requires fill { criterion.now.min_fill ≤ 1000 }
     ensures one_each { IfOk result (λ flags. length flags.items ≡ length tree.now.rows) }
-    ensures flags { IfOk result (λ flags. (plane : Raster) (connect : Connect) → tree.now ≡ tree_of plane connect → sums.now ≡ sums_in plane connect
-        → (n : ℕ) → n < length tree.now.rows → flag flags.items n ≡ satisfies_criterion plane connect criterion.now n) }
+    ensures flags { IfOk result (λ flags. ForEachPlaneOf tree.now sums.now (λ plane connect.
+        (n : ℕ) → n < length tree.now.rows → flag flags.items n ≡ satisfies_criterion plane connect criterion.now n)) }
 {
     let count = tree.rows().len() as u32;
     let mut flags = Vec::with_capacity(alloc, count as usize)?;
@@ -58,15 +56,14 @@ fn satisfies(tree: &Tree, sums: &[Sums], n: u32, criterion: &Criterion) -> bool
     requires node { n < length tree.now.rows }
     requires sums { AreTheTrees tree.now sums.now }
     requires fill { criterion.now.min_fill ≤ 1000 }
-    ensures { (plane : Raster) (connect : Connect) → tree.now ≡ tree_of plane connect → sums.now ≡ sums_in plane connect
-        → result ≡ satisfies_criterion plane connect criterion.now n }
+    ensures { ForEachPlaneOf tree.now sums.now (λ plane connect. result ≡ satisfies_criterion plane connect criterion.now n) }
 {
     criterion.admits(&sums[n as usize], flux(tree, sums, n))
 }
 
 // From the nodes that satisfy the criterion to those that the rule keeps.
 fn apply(rule: Rule, rows: &[NodeRow], kept: &mut [bool])
-    requires rows { IsRising rows.now }
+    requires rows { HasRisingLevels rows.now }
     requires one_each { length kept.old ≡ length rows.now }
     ensures { AreKeptBy rule rows.now kept.old kept.new }
 {
@@ -79,7 +76,7 @@ fn apply(rule: Rule, rows: &[NodeRow], kept: &mut [bool])
 
 // Keeps a node only where its parent, whose number is smaller, has been kept.
 fn keep_with_parents(rows: &[NodeRow], kept: &mut [bool])
-    requires rows { IsRising rows.now }
+    requires rows { HasRisingLevels rows.now }
     requires one_each { length kept.old ≡ length rows.now }
     ensures { AreWithParents rows.now kept.old kept.new (length rows.now) }
 {
@@ -93,7 +90,7 @@ fn keep_with_parents(rows: &[NodeRow], kept: &mut [bool])
 
 // Keeps the parent of each node that is kept, from the last node to the first.
 fn keep_with_children(rows: &[NodeRow], kept: &mut [bool])
-    requires rows { IsRising rows.now }
+    requires rows { HasRisingLevels rows.now }
     requires one_each { length kept.old ≡ length rows.now }
     ensures { AreWithChildren rows.now kept.old kept.new 0 }
 {

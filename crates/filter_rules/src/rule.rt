@@ -1,5 +1,6 @@
-ghost use Rattle.std.specs.Prelude.{◌≡◌, ◌≤◌};
-ghost use Rattle.filter_rules.specs.Criteria.{admits, is_filled, box_of, HasBox};
+ghost use Rattle.std.specs.Prelude.{◌≡◌, ◌≤◌, ◌^◌};
+ghost use Rattle.filter_rules.specs.Criteria.{admits, is_filled, box_of};
+ghost use Rattle.filter_rules.specs.Passes.{HasBox};
 
 use node_sums::Sums;
 
@@ -58,7 +59,7 @@ impl Criterion {
 fn places(sums: &Sums) -> u64
     requires { HasBox sums.now }
     ensures exact { result ≡ box_of sums.now }
-    ensures few { result ≤ 4294967296 }
+    ensures few { result ≤ 2 ^ 32 }
 {
     let columns = sums.xmax - sums.xmin + 1;
     let rows = sums.ymax - sums.ymin + 1;

@@ -10,13 +10,15 @@ use Rattle.comp_tree.specs.declared.tree.NodeRow.{NodeRow}
 use Rattle.comp_tree.specs.Raster.{Raster, IsPlane, pixels, is_defined}
 use Rattle.comp_tree.specs.ComponentTree.{ComponentTree, parent_in, no_node}
 use Rattle.comp_tree.specs.Components.{nodes, is_in_node, tree_of}
+use Rattle.comp_tree.specs.Nesting.{pixels_of}
 use Rattle.comp_tree.proofs.Ancestors.{below_no_node}
 use Rattle.comp_tree.proofs.Finding.{node-undefined}
 use Rattle.comp_tree.proofs.Members.{IsAmong, among_from_range}
 use Rattle.node_sums.specs.declared.entry.Sums.{Sums}
-use Rattle.node_sums.specs.Sums.{sums_over, sums_of, sums_in, pixels_of, IsTreeOfPlane}
+use Rattle.node_sums.specs.Sums.{sums_over, sums_of, sums_in, IsTreeOfPlane}
 use Rattle.node_sums.specs.Merging.{is_counted}
-use Rattle.node_sums.specs.Areas.{area_of, areas_in, times_among, AreCounts, AreSoFar}
+use Rattle.node_sums.specs.Areas.{area_of, areas_in}
+use Rattle.node_sums.specs.AreaPasses.{times_among, AreCounts, AreSoFar}
 use Rattle.node_sums.proofs.Merging.{sums_over-union}
 use Rattle.node_sums.proofs.Sizes.{length-filter-le}
 use Rattle.node_sums.proofs.Counting.{counted-start, counted-end, counted-same, counted-parent, number-within, IsUnion}

@@ -4,7 +4,7 @@ use Rattle.std.specs.Prelude.{◌==◌, nat_lt, slice_index}
 use Rattle.std.proofs.lemmas.Bool.{true≢false, eqb-true, eq-eqb, ltb-true, lt-ltb, le-ltb, and_parts, and_from, and_left, and_right, not-true, not_from_false, false_from_ne_true, true_from_ne_false, cases_lt, cases_eq}
 use Rattle.comp_tree.specs.declared.shape.Connect.{Connect}
 use Rattle.comp_tree.specs.declared.tree.NodeRow.{NodeRow}
-use Rattle.comp_tree.specs.Raster.{Raster, IsPlane, pixels, is_defined, level}
+use Rattle.comp_tree.specs.Raster.{Raster, IsPlane, pixels, is_defined}
 use Rattle.comp_tree.specs.ComponentTree.{parent_in, no_node}
 use Rattle.comp_tree.specs.Components.{nodes, node_of, is_in_node, tree_of}
 use Rattle.comp_tree.specs.Laws.{IsAncestor, parent, above}
@@ -12,6 +12,7 @@ use Rattle.comp_tree.proofs.Reaching.{below_from_defined}
 use Rattle.comp_tree.proofs.Ancestors.{pixels_belong_to_their_ancestors, length-rows}
 use Rattle.comp_tree.proofs.OneTree.{read-node_of}
 use Rattle.comp_tree.proofs.Finding.{length-nodes-le}
+use Rattle.comp_tree.proofs.Nesting.{in_node-defined}
 use Rattle.comp_tree.proofs.WellFormed.{tree_of-well_formed}
 use Rattle.comp_tree.proofs.Nodes
 use Rattle.node_sums.specs.Merging.{none_between, is_counted}
@@ -69,10 +70,6 @@ goes_down r connect plane = record {
   few = omega (arith, length-rows r connect, length-nodes-le r connect, plane, r.shape.within_limits.few_pixels);
   parents = (tree_of-well_formed r connect plane).parents;
 }
-
-pub in_node-defined : (r : Raster) (connect : Connect) (n q : ℕ) → is_in_node r connect n q ≡ true → is_defined r q ≡ true
-unfolding is_in_node
-in_node-defined r connect n q h = Nodes.defined_from_reached r connect (level r (slice_index (nodes r connect) n)) (slice_index (nodes r connect) n) q h
 
 -- node n holds q: it is the smallest node of q, or one of that node's ancestors
 abbrev Holds : Raster → Connect → ℕ → ℕ → Type 0

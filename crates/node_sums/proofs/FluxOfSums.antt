@@ -12,10 +12,11 @@ use Rattle.comp_tree.specs.declared.shape.Connect.{Connect}
 use Rattle.comp_tree.specs.Raster.{Raster, IsPlane, HasValuesInRange, pixels, level}
 use Rattle.comp_tree.specs.ComponentTree.{ComponentTree}
 use Rattle.comp_tree.specs.Components.{nodes, is_in_node, tree_of}
+use Rattle.comp_tree.specs.Nesting.{pixels_of}
 use Rattle.comp_tree.specs.Laws.{top_of}
 use Rattle.comp_tree.proofs.Ancestors.{length-rows}
 use Rattle.node_sums.specs.declared.entry.Sums.{Sums}
-use Rattle.node_sums.specs.Sums.{sums_over, sums_of, sums_in, pixels_of, IsSomePlanes, AreTheTrees}
+use Rattle.node_sums.specs.Sums.{sums_over, sums_of, sums_in, AreTheTrees}
 use Rattle.node_sums.specs.Flux.{base_of, flux_of}
 use Rattle.node_sums.specs.Merging.{IsUpTo, HasSizes, value_bound, total_bound}
 use Rattle.node_sums.proofs.Sizes.{sizes, filtered, level_up_to, up_to-times, up_to-minus, up_to_more}
@@ -54,9 +55,6 @@ pub trees_rows : (tree : ComponentTree) (sums : List Sums) → AreTheTrees tree 
 trees_rows tree sums t =
     ap length t.of_plane.sums_are ∙ length-sums_in t.plane t.of_plane.connect ∙ sym (length-rows t.plane t.of_plane.connect)
     ∙ ap (λ (x : ComponentTree). length x.rows) (sym t.of_plane.tree_is)
-
-pub trees_plane : (tree : ComponentTree) (sums : List Sums) → AreTheTrees tree sums → IsSomePlanes tree
-trees_plane tree sums t = record { plane = t.plane; one_each = t.one_each; of_plane = (t.of_plane.connect, t.of_plane.tree_is) }
 
 pub flux_not_negative : (tree : ComponentTree) (sums : List Sums) (n : ℕ) (entry : Sums) → AreTheTrees tree sums → slice_get sums n ≡ Some entry
     → pos 0 ≤ℤ (entry.r -ℤ base_of tree n *ℤ pos entry.area)

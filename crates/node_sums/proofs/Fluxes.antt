@@ -7,17 +7,17 @@ use Rattle.comp_tree.specs.declared.shape.Connect.{Connect}
 use Rattle.comp_tree.specs.Raster.{Raster, IsPlane, pixels, level}
 use Rattle.comp_tree.specs.ComponentTree.{ComponentTree, parent_in, no_node}
 use Rattle.comp_tree.specs.Components.{nodes, is_in_node, row_of, tree_of}
+use Rattle.comp_tree.specs.Nesting.{level_in, pixels_of}
 use Rattle.comp_tree.specs.Laws.{IsAncestor, parent, above, top_of, LiesWithin}
-use Rattle.comp_tree.proofs.Members.{IsAmong, among-filter, among_from_filter}
-use Rattle.comp_tree.proofs.Reaching.{among_from_defined}
+use Rattle.comp_tree.proofs.Members.{IsAmong}
 use Rattle.comp_tree.proofs.Levels.{int_le-true, int_lt-true}
-use Rattle.comp_tree.proofs.Components.{top-here}
+use Rattle.comp_tree.proofs.Nesting.{top_inside, among_pixels, in_node_from_among}
 use Rattle.comp_tree.proofs.Ancestors.{length-rows, parent-of_node, parent-candidate, below_no_node}
 use Rattle.comp_tree.proofs.Nodes
-use Rattle.node_sums.specs.Sums.{total, pixels_of}
-use Rattle.node_sums.specs.Flux.{level_in, base_of, flux_of}
+use Rattle.node_sums.specs.Sums.{total}
+use Rattle.node_sums.specs.Flux.{base_of, flux_of}
 use Rattle.node_sums.specs.Laws.{FluxGrowsWithTheComponent, FluxIsNeverNegative, FluxIsZeroAtFlatRootsAlone, IsFlatRoot}
-use Rattle.node_sums.proofs.Counting.{goes_down, in_node-defined, holders}
+use Rattle.node_sums.proofs.Counting.{goes_down, holders}
 use Rattle.node_sums.proofs.Totals.{total_not_negative, each_zero, total_zero, total_grows}
 
 -- ---- levels and bases
@@ -71,10 +71,6 @@ unfolding is_in_node
 level_at_least r connect n q h =
     int_le-true (level r (top_of r connect n)) (level r q)
     (Nodes.level_from_at_least r (level r (top_of r connect n)) q (Nodes.reaches_end r connect (level r (top_of r connect n)) (top_of r connect n) q h))
-
-top_inside : (r : Raster) (connect : Connect) (n : ℕ) → n < length (nodes r connect) → is_in_node r connect n (top_of r connect n) ≡ true
-unfolding is_in_node
-top_inside r connect n h = top-here r connect n h
 
 value_above_base : (r : Raster) (connect : Connect) (n q : ℕ) → IsPlane r → n < length (nodes r connect) → is_in_node r connect n q ≡ true
     → pos 0 ≤ℤ (level r q -ℤ base_of (tree_of r connect) n)
@@ -151,20 +147,11 @@ flux_grows r connect m n plane hm hn w =
 -- each number that the flux sums is not negative
 terms : (r : Raster) (connect : Connect) (n : ℕ) → IsPlane r → n < length (nodes r connect) → (p : ℕ) → IsAmong p (pixels_of r connect n)
     → pos 0 ≤ℤ (level r p -ℤ base_of (tree_of r connect) n)
-unfolding pixels_of
-terms r connect n plane hn p k = value_above_base r connect n p plane hn (among_from_filter (is_in_node r connect n) p (pixels r) k).1
+terms r connect n plane hn p k = value_above_base r connect n p plane hn (in_node_from_among r connect n p k)
 
 pub never_negative : FluxIsNeverNegative
 unfolding flux_of
 never_negative r connect n plane hn = total_not_negative (λ p. level r p -ℤ base_of (tree_of r connect) n) (pixels_of r connect n) (terms r connect n plane hn)
-
-among_pixels : (r : Raster) (connect : Connect) (n p : ℕ) → is_in_node r connect n p ≡ true → IsAmong p (pixels_of r connect n)
-unfolding pixels_of
-among_pixels r connect n p h = among-filter (is_in_node r connect n) p (pixels r) (among_from_defined r p (in_node-defined r connect n p h)) h
-
-inside_pixels : (r : Raster) (connect : Connect) (n p : ℕ) → IsAmong p (pixels_of r connect n) → is_in_node r connect n p ≡ true
-unfolding pixels_of
-inside_pixels r connect n p k = (among_from_filter (is_in_node r connect n) p (pixels r) k).1
 
 pub zero_at_flat_roots : FluxIsZeroAtFlatRootsAlone
 unfolding flux_of
@@ -187,6 +174,6 @@ zero_at_flat_roots r connect n plane hn = (flat, zero_flux)
     zero_flux : IsFlatRoot r connect n → total (λ p. level r p -ℤ base_of (tree_of r connect) n) (pixels_of r connect n) ≡ pos 0
     zero_flux f =
         total_zero (λ p. level r p -ℤ base_of (tree_of r connect) n) (pixels_of r connect n) (λ p k.
-        let same : level r p ≡ level r (top_of r connect n) = f.1 p (top_of r connect n) (inside_pixels r connect n p k) (top_inside r connect n hn) in
+        let same : level r p ≡ level r (top_of r connect n) = f.1 p (top_of r connect n) (in_node_from_among r connect n p k) (top_inside r connect n hn) in
         let b : base_of (tree_of r connect) n ≡ level r (top_of r connect n) = base-root (tree_of r connect) n f.0 ∙ level-of_node r connect n hn in
         omega (arith, ints))

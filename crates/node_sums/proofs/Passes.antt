@@ -17,11 +17,12 @@ use Rattle.comp_tree.specs.Limits.{IsWithinRange}
 use Rattle.comp_tree.specs.Raster.{Raster, IsPlane, HasValuesInRange, pixels, is_defined, level, value_at}
 use Rattle.comp_tree.specs.ComponentTree.{ComponentTree, parent_in, no_node}
 use Rattle.comp_tree.specs.Components.{nodes, node_of, is_in_node, tree_of}
+use Rattle.comp_tree.specs.Nesting.{pixels_of}
 use Rattle.comp_tree.proofs.Ancestors.{length-rows, below_no_node}
 use Rattle.comp_tree.proofs.Finding.{length-pixels}
 use Rattle.comp_tree.proofs.Nodes
 use Rattle.node_sums.specs.declared.entry.Sums.{Sums}
-use Rattle.node_sums.specs.Sums.{sums_over, sums_of, sums_in, pixels_of, IsTreeOfPlane, AreOfPlane, AreTheTrees}
+use Rattle.node_sums.specs.Sums.{sums_over, sums_of, sums_in, IsTreeOfPlane, AreOfPlane, AreTheTrees}
 use Rattle.node_sums.specs.Merging.{together, sums_of_pixel, IsUpTo, HasSizes, is_own, is_counted, AreCounted, AreOwn, AreOwnTo, sums_at_place, value_bound}
 use Rattle.node_sums.proofs.Merging.{sums_at, sums_over-push, sums_over-union}
 use Rattle.node_sums.proofs.Sizes.{sizes, filtered, level_up_to}

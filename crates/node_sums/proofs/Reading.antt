@@ -1,12 +1,12 @@
 -- Signed numbers as the code computes them, and entries of lists that are read and written.
-use Rattle.std.proofs.Common.{◌≡◌, ℕ, ◌^◌, ◌<◌, zero, suc, List, [], ◌∷◌, length, refl, ◌∙◌, ap, arith, ◌⊎◌, inl, inr, set}
+use Rattle.std.proofs.Common.{◌≡◌, ℕ, ◌^◌, ◌<◌, zero, suc, List, [], ◌∷◌, length, refl, sym, ◌∙◌, ap, arith, ◌⊎◌, inl, inr, set}
 use Rattle.std.specs.Prelude.{ℤ, pos, ◌+ℤ◌, ◌*ℤ◌, Some, slice_get, slice_index_or}
 use Rattle.std.proofs.lemmas.Int.{to_z-of_z, to_z_pos, fits_signed_from_abs}
 use Rattle.std.specs.Int.{int_max}
 use mir.Syntax.{Width, w64, w128}
 use mir.Val.{SFits, of_z, to_z, hbits}
 use Rattle.comp_tree.specs.declared.tree.NodeRow.{NodeRow}
-use Rattle.comp_tree.specs.ComponentTree.{parent_in}
+use Rattle.comp_tree.specs.ComponentTree.{ComponentTree, IsWellFormed, parent_in, no_node}
 use Rattle.node_sums.specs.declared.entry.Sums.{Sums}
 use Rattle.node_sums.specs.Merging.{IsUpTo}
 use Rattle.node_sums.proofs.Sizes.{abs_up_to}
@@ -21,6 +21,13 @@ pub row-parent : (rows : List NodeRow) (n : ℕ) (d : NodeRow) → n < length ro
 row-parent [] n d h = absurd (omega arith)
 row-parent (x ∷ rows) zero d h = refl
 row-parent (x ∷ rows) (suc n) d h = row-parent rows n d (omega arith)
+
+pub parent_below : (tree : ComponentTree) (n m : ℕ) → IsWellFormed tree → n < length tree.rows → parent_in tree.rows n ≡ m → (m ≡ no_node → ⊥) → m < n
+parent_below tree n m w h e f = go (w.parents n h)
+  where
+    go : (parent_in tree.rows n ≡ no_node) ⊎ (parent_in tree.rows n < n) → m < n
+    go (inl k) = absurd (f (sym e ∙ k))
+    go (inr l) = omega arith
 
 -- an entry of a list in which one was written
 pub get-written : {X : Type 0} (xs : List X) (i : ℕ) (v : X) (m : ℕ) (s : X) → slice_get (set xs i v) m ≡ Some s

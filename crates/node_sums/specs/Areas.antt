@@ -1,12 +1,8 @@
--- The areas of the nodes of a component tree, in pixels, and how they are counted.
-use Rattle.std.specs.Prelude.{◌≡◌, ℕ, ◌<◌, ◌==◌, List, length, map, filter, slice_index}
-use Rattle.std.specs.List.{range_with_len}
+-- Model: the areas of the nodes of a component tree, in pixels.
+use Rattle.std.specs.Prelude.{ℕ, List, length, map}
 use Rattle.comp_tree.specs.declared.shape.Connect.{Connect}
-use Rattle.comp_tree.specs.Raster.{Raster, pixels}
-use Rattle.comp_tree.specs.ComponentTree.{ComponentTree}
-use Rattle.comp_tree.specs.Components.{nodes, tree_of}
-use Rattle.node_sums.specs.Sums.{pixels_of}
-use Rattle.node_sums.specs.Merging.{is_counted}
+use Rattle.comp_tree.specs.Raster.{Raster}
+use Rattle.comp_tree.specs.Nesting.{node_numbers, pixels_of}
 
 -- the area of node n of the plane's tree: how many pixels its component has
 abbrev pub area_of : Raster → Connect → ℕ → ℕ
@@ -14,19 +10,4 @@ area_of r connect n = length (pixels_of r connect n)
 
 -- the areas of all its nodes, in the order of their numbers
 unfoldable pub areas_in : Raster → Connect → List ℕ
-areas_in r connect = map (area_of r connect) (range_with_len 0 (length (nodes r connect)))
-
--- how many of the first n entries of a list are m
-abbrev pub times_among : List ℕ → ℕ → ℕ → ℕ
-times_among numbers m n = length (filter (λ q. slice_index numbers q == m) (range_with_len 0 n))
-
--- each entry says how often its place occurs among the first n numbers
-pub record AreCounts (numbers : List ℕ) (n : ℕ) (areas : List ℕ) : Type 0 where
-  pub counts : (m : ℕ) → m < length areas → slice_index areas m ≡ times_among numbers m n
-
--- when the nodes numbered from k on have been added to their parents, the entry of node m counts the pixels of m
--- that belong to no node with a number above m and below k
-pub record AreSoFar (r : Raster) (tree : ComponentTree) (k : ℕ) (areas : List ℕ) : Type 0 where
-  pub one_each : length areas ≡ length tree.rows
-  pub counted : (connect : Connect) (m : ℕ) → tree ≡ tree_of r connect → m < length areas
-      → slice_index areas m ≡ length (filter (is_counted r connect k m) (pixels r))
+areas_in r connect = map (area_of r connect) (node_numbers r connect)

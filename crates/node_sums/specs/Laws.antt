@@ -1,4 +1,4 @@
--- The law of the flux.
+-- Model: the law of the flux.
 use Rattle.std.specs.Prelude.{◌≡◌, ℕ, ◌<◌, IsTrue, ◌↔◌, pos, ◌≤ℤ◌, length}
 use Rattle.comp_tree.specs.declared.shape.Connect.{Connect}
 use Rattle.comp_tree.specs.Raster.{Raster, IsPlane, level}

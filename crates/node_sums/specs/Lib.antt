@@ -3,3 +3,4 @@ pub mod Flux
 pub mod Laws
 pub mod Merging
 pub mod Areas
+pub mod AreaPasses

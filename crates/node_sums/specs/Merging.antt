@@ -1,5 +1,6 @@
--- Sums over two sets of pixels that share none, made from the sums over each.
-use Rattle.std.specs.Prelude.{◌≡◌, ℕ, ◌+◌, ◌*◌, ◌/◌, ◌%◌, ◌^◌, ◌≤◌, ◌<◌, min, max, Bool, true, ◌&&◌, not, nat_lt, zero, suc, ℤ, pos, neg_ℤ, ◌+ℤ◌, ◌*ℤ◌, ◌≤ℤ◌, List, length, filter, slice_get, Some, slice_index, ◌==◌}
+-- Bookkeeping: sums over two sets of pixels that share none, made from the sums over each, and what the two passes have added so far.
+use Rattle.std.specs.Prelude.{◌≡◌, ℕ, ◌+◌, ◌*◌, ◌/◌, ◌%◌, ◌^◌, ◌≤◌, ◌<◌, min, max, Bool, true, ◌&&◌, not, nat_lt, zero, suc, ◌==◌}
+use Rattle.std.specs.Prelude.{ℤ, pos, neg_ℤ, ◌+ℤ◌, ◌*ℤ◌, ◌≤ℤ◌, List, length, filter, slice_get, Some, slice_index}
 use Rattle.std.specs.Int.{int_max}
 use Rattle.std.specs.List.{range_with_len}
 use Rattle.comp_tree.specs.declared.shape.Connect.{Connect}
@@ -60,13 +61,13 @@ pub record IsUpTo (m : ℕ) (z : ℤ) : Type 0 where
 
 -- how far from zero the values of planes lie at most, a value times a coordinate, and the sum of the values of a plane
 abbrev pub value_bound : ℕ
-value_bound = 2 ^ 34
+value_bound = 2 ^ 37
 
 abbrev pub moment_bound : ℕ
-moment_bound = 2 ^ 50
+moment_bound = 2 ^ 53
 
 abbrev pub total_bound : ℕ
-total_bound = 2 ^ 58
+total_bound = 2 ^ 61
 
 -- how large the sums over some pixels of a plane are, by their number
 pub record HasSizes (s : Sums) : Type 0 where

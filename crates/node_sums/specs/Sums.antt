@@ -1,11 +1,11 @@
--- Sums over the component of a node: plain sums over its set of pixels. As in FITS, x and y count columns and rows from 1.
-use Rattle.std.specs.Prelude.{◌≡◌, ℕ, ◌+◌, ◌-◌, ◌*◌, ◌/◌, ◌%◌, ◌^◌, min, max, ℤ, pos, neg_ℤ, ◌+ℤ◌, ◌*ℤ◌, List, [], ◌∷◌, length, map, filter, sum_by}
-use Rattle.std.specs.List.{range_with_len}
+-- Model: sums over the component of a node: plain sums over its set of pixels. As in FITS, x and y count columns and rows from 1.
+use Rattle.std.specs.Prelude.{◌≡◌, ℕ, ◌+◌, ◌-◌, ◌*◌, ◌/◌, ◌%◌, ◌^◌, min, max, ℤ, pos, neg_ℤ, ◌+ℤ◌, ◌*ℤ◌, List, [], ◌∷◌, length, map, sum_by}
 use Rattle.std.specs.Int.{int_max}
 use Rattle.comp_tree.specs.declared.shape.Connect.{Connect}
-use Rattle.comp_tree.specs.Raster.{Raster, IsPlane, HasValuesInRange, pixels, level}
+use Rattle.comp_tree.specs.Raster.{Raster, IsPlane, HasValuesInRange, level}
 use Rattle.comp_tree.specs.ComponentTree.{ComponentTree}
-use Rattle.comp_tree.specs.Components.{nodes, is_in_node, tree_of}
+use Rattle.comp_tree.specs.Components.{tree_of}
+use Rattle.comp_tree.specs.Nesting.{node_numbers, pixels_of}
 use Rattle.node_sums.specs.declared.entry.Sums.{Sums}
 
 -- the column and the row of pixel p, from 1
@@ -14,10 +14,6 @@ x_of r p = p % r.shape.width + 1
 
 abbrev pub y_of : Raster → ℕ → ℕ
 y_of r p = p / r.shape.width + 1
-
--- the component of node n, as the list of its pixels
-unfoldable pub pixels_of : Raster → Connect → ℕ → List ℕ
-pixels_of r connect n = filter (is_in_node r connect n) (pixels r)
 
 -- the sum of f over some pixels
 abbrev pub total : (ℕ → ℤ) → List ℕ → ℤ
@@ -63,17 +59,11 @@ sums_of r connect n = sums_over r (pixels_of r connect n)
 
 -- the sums of all its nodes, in the order of their numbers
 unfoldable pub sums_in : Raster → Connect → List Sums
-sums_in r connect = map (sums_of r connect) (range_with_len 0 (length (nodes r connect)))
+sums_in r connect = map (sums_of r connect) (node_numbers r connect)
 
 -- the tree is that of the plane r, for some connectivity
 abbrev pub IsTreeOfPlane : Raster → ComponentTree → Type 0
 IsTreeOfPlane r tree = (connect : Connect) × (tree ≡ tree_of r connect)
-
--- the tree is some plane's, for some connectivity
-pub record IsSomePlanes (tree : ComponentTree) : Type 0 where
-  pub plane : Raster
-  pub one_each : IsPlane plane
-  pub of_plane : IsTreeOfPlane plane tree
 
 -- the tree and the sums are those of the plane r, for some connectivity
 pub record AreOfPlane (r : Raster) (tree : ComponentTree) (sums : List Sums) : Type 0 where
@@ -87,3 +77,8 @@ pub record AreTheTrees (tree : ComponentTree) (sums : List Sums) : Type 0 where
   pub one_each : IsPlane plane
   pub in_range : HasValuesInRange plane.values
   pub of_plane : AreOfPlane plane tree sums
+
+-- what is said of each plane and connectivity that have this tree and these sums
+abbrev pub ForEachPlaneOf : ComponentTree → List Sums → (Raster → Connect → Type 0) → Type 0
+ForEachPlaneOf tree sums Statement =
+    (plane : Raster) (connect : Connect) → tree ≡ tree_of plane connect → sums ≡ sums_in plane connect → Statement plane connect

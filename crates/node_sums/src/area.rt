@@ -5,7 +5,8 @@ ghost use Rattle.comp_tree.specs.declared.shape.Connect.{Connect};
 ghost use Rattle.comp_tree.specs.Raster.{IsPlane};
 ghost use Rattle.comp_tree.specs.Components.{tree_of};
 ghost use Rattle.node_sums.specs.Sums.{sums_in, IsTreeOfPlane};
-ghost use Rattle.node_sums.specs.Areas.{areas_in, AreCounts, AreSoFar};
+ghost use Rattle.node_sums.specs.Areas.{areas_in};
+ghost use Rattle.node_sums.specs.AreaPasses.{AreCounts, AreSoFar};
 
 use comp_tree::{NONE, Plane, Tree};
 use dev_io::OutOfMemory;

@@ -1,9 +1,6 @@
-ghost use Rattle.std.specs.Prelude.{◌≡◌, ◌<◌, ℤ, pos, ◌-ℤ◌, ◌*ℤ◌, ◌≤ℤ◌, length, slice_get, Some};
-ghost use Rattle.comp_tree.specs.declared.shape.Connect.{Connect};
-ghost use Rattle.comp_tree.specs.Raster.{Raster};
-ghost use Rattle.comp_tree.specs.Components.{tree_of};
+ghost use Rattle.std.specs.Prelude.{◌≡◌, ◌<◌, pos, ◌-ℤ◌, ◌*ℤ◌, ◌≤ℤ◌, length, slice_get, Some};
 ghost use Rattle.node_sums.specs.declared.entry.Sums.{Sums as Entry};
-ghost use Rattle.node_sums.specs.Sums.{sums_in, IsSomePlanes, AreTheTrees};
+ghost use Rattle.node_sums.specs.Sums.{AreTheTrees, ForEachPlaneOf};
 ghost use Rattle.node_sums.specs.Flux.{base_of, flux_of};
 
 use crate::entry::Sums;
@@ -12,10 +9,11 @@ use comp_tree::{NONE, Tree};
 /// The base of a node: the level of its parent, and at a root its own level.
 #[tactic(auto, unfolding(crate::specs::Flux::base_of))]
 pub fn base(tree: &Tree, n: u32) -> i64
-    requires node { n < length tree.now.rows }
-    requires tree { IsSomePlanes tree.now }
+    requires { n < length tree.now.rows }
     ensures { result ≡ base_of tree.now n }
 {
+    // A tree tells with its shape that its numbers are in range.
+    let _shape = tree.shape();
     let row = tree.rows()[n as usize];
     if row.parent == NONE {
         row.level
@@ -28,7 +26,7 @@ pub fn base(tree: &Tree, n: u32) -> i64
 pub fn flux(tree: &Tree, sums: &[Sums], n: u32) -> i64
     requires node { n < length tree.now.rows }
     requires sums { AreTheTrees tree.now sums.now }
-    ensures exact { (plane : Raster) (connect : Connect) → tree.now ≡ tree_of plane connect → sums.now ≡ sums_in plane connect → result ≡ flux_of plane connect n }
+    ensures exact { ForEachPlaneOf tree.now sums.now (λ plane connect. result ≡ flux_of plane connect n) }
     ensures of_sums { (entry : Entry) → slice_get sums.now n ≡ Some entry → result ≡ entry.r -ℤ base_of tree.now n *ℤ pos entry.area }
     ensures never_negative { pos 0 ≤ℤ result }
 {

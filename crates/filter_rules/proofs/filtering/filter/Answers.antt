@@ -5,13 +5,13 @@ use Rattle.comp_tree.specs.declared.tree.NodeRow.{NodeRow}
 use Rattle.comp_tree.specs.Raster.{IsPlane}
 use Rattle.comp_tree.specs.ComponentTree.{no_node}
 use Rattle.node_sums.proofs.Passes.{numbers_for_pixels}
-use Rattle.filter_rules.specs.Passes.{IsRising, AreValues, flag, pixel_value}
+use Rattle.filter_rules.specs.Passes.{HasRisingLevels, AreValues, flag, filled_pixel}
 use Rattle.filter_rules.proofs.Boxes.{trees_rise}
 use Rattle.filter_rules.proofs.Whole.{both_ok, made_is_filtered, numbers_fit}
 use Rattle.filter_rules.proofs.filtering.filter.Goals as goal
 
 pub node_values-requires-clause-rows : goal.node_values-requires-clause-rows
-node_values-requires-clause-rows c = subst (λ (rows : List NodeRow). IsRising rows) (sym c.rows.ensures) (trees_rise c.args.tree.now c.args.sums.now c.requires.the_trees)
+node_values-requires-clause-rows c = subst (λ (rows : List NodeRow). HasRisingLevels rows) (sym c.rows.ensures) (trees_rise c.args.tree.now c.args.sums.now c.requires.the_trees)
 
 pub fill-requires-clause-pixels : goal.fill-requires-clause-pixels
 fill-requires-clause-pixels c =
@@ -28,14 +28,14 @@ fill-requires-clause-nodes c =
 pub returns : goal.returns
 returns c =
     let plane : IsPlane c.args.plane.now = c.shape.ensures.pixels ∙ ap (λ (s : Shape). s.width * s.height) c.shape.ensures.same in
-    both_ok c.fill.result (λ left. left.shape ≡ c.shape.result) (λ left. left.values ≡ map (pixel_value c.deref-2.result.now) c.node_of.result.now) _
+    both_ok c.fill.result (λ left. left.shape ≡ c.shape.result) (λ left. left.values ≡ map (filled_pixel c.deref-2.result.now) c.node_of.result.now) _
     c.fill.ensures.shape c.fill.ensures.values (λ left s v connect e f.
     made_is_filtered c.args.plane.now left connect c.args.tree.now c.args.rule c.args.criterion.now c.deref.result.now c.deref-2.result.now plane (record {
       tree_is = e;
-      flags = λ n h. ap (λ (flags : List Bool). flag flags n) c.deref.ensures.value ∙ c.in_ok-kept.ensures.kept c.args.plane.now connect plane e f n h;
+      flags = λ n h. ap (λ (flags : List Bool). flag flags n) c.deref.ensures.value ∙ c.in_ok-kept.ensures.kept c.args.plane.now connect e f plane n h;
       one_each = ap length c.deref-2.ensures.value ∙ c.in_ok-values.ensures.one_each ∙ ap length c.rows.ensures;
       made = subst (λ (values : List ℤ). AreValues c.args.tree.now.rows c.args.rule c.deref.result.now values) (sym c.deref-2.ensures.value)
           (subst (λ (rows : List NodeRow). AreValues rows c.args.rule c.deref.result.now c.in_ok-values.values.items) c.rows.ensures c.in_ok-values.ensures.values);
       same_shape = s ∙ c.shape.ensures.same;
-      filled = v ∙ ap (map (pixel_value c.deref-2.result.now)) c.node_of.ensures;
+      filled = v ∙ ap (map (filled_pixel c.deref-2.result.now)) c.node_of.ensures;
     }))

@@ -1,10 +1,10 @@
 use Rattle.std.proofs.Common.{◌≤◌, ◌^◌, length, ap, arith}
-use Rattle.filter_rules.specs.Passes.{IsRising}
+use Rattle.filter_rules.specs.Passes.{HasRisingLevels}
 use Rattle.filter_rules.proofs.Boxes.{trees_rise}
 use Rattle.filter_rules.proofs.keeping.satisfying.Goals as goal
 
 pub overflow_cast-count : goal.overflow_cast-count
 overflow_cast-count c =
-    let rising : IsRising c.args.tree.now.rows = trees_rise c.args.tree.now c.args.sums.now c.requires.sums in
+    let rising : HasRisingLevels c.args.tree.now.rows = trees_rise c.args.tree.now c.args.sums.now c.requires.sums in
     let few : length c.rows.result.now ≤ 2 ^ 24 = omega (arith, rising.few, ap length c.rows.ensures) in
     record { fits = omega arith }

@@ -1,4 +1,4 @@
-use Rattle.node_sums.specs.Areas.{AreSoFar}
+use Rattle.node_sums.specs.AreaPasses.{AreSoFar}
 use Rattle.node_sums.proofs.area.add_to_parents.Given as goal
 
 abbrev pub invariant-loop-n : goal.invariant-loop-n

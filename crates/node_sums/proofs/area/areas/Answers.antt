@@ -1,6 +1,6 @@
 use Rattle.std.proofs.Common.{◌≡◌, ◌∙◌, ℕ, List, length, sym, ap, subst}
 use Rattle.std.proofs.lemmas.List.{length-replicate}
-use Rattle.node_sums.specs.Areas.{AreCounts, AreSoFar}
+use Rattle.node_sums.specs.AreaPasses.{AreCounts, AreSoFar}
 use Rattle.node_sums.proofs.Passes.{numbers_for_pixels, take_front}
 use Rattle.node_sums.proofs.AreaSteps.{counts_none, areas_from_counts, areas_from_steps, areas-of_sums}
 use Rattle.node_sums.proofs.area.areas.Goals as goal

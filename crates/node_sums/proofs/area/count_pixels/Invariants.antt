@@ -1,4 +1,4 @@
-use Rattle.node_sums.specs.Areas.{AreCounts}
+use Rattle.node_sums.specs.AreaPasses.{AreCounts}
 use Rattle.node_sums.proofs.area.count_pixels.Given as goal
 
 abbrev pub invariant-loop-p : goal.invariant-loop-p

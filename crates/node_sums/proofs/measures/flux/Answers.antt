@@ -10,9 +10,6 @@ use Rattle.node_sums.proofs.measures.flux.Goals as goal
 pub bounds-sums-n : goal.bounds-sums-n
 bounds-sums-n c = omega (arith, c.requires.node, FluxOfSums.trees_rows c.args.tree.now c.args.sums.now c.requires.sums)
 
-pub base-requires-clause-tree : goal.base-requires-clause-tree
-base-requires-clause-tree c = FluxOfSums.trees_plane c.args.tree.now c.args.sums.now c.requires.sums
-
 pub overflow_mul-result : goal.overflow_mul-result
 overflow_mul-result c =
     let read = slice_get-get_or c.args.sums.now c.args.n _ (omega (arith, c.requires.node, FluxOfSums.trees_rows c.args.tree.now c.args.sums.now c.requires.sums)) in
