@@ -10,7 +10,7 @@ use Rattle.comp_tree.specs.Limits.{IsWithinLimits}
 use Rattle.comp_tree.specs.Raster.{Raster, pixels}
 use Rattle.comp_tree.proofs.Nearby.{row-from, filter-skip}
 use Rattle.mesh_background.specs.Laws.{CellsAreSquares}
-use Rattle.mesh_background.specs.Mesh.{cells_along, IsCell, cell_of, cell_pixels}
+use Rattle.mesh_background.specs.Mesh.{cells_along, IsCell, mesh_cell_of, cell_pixels}
 
 -- ---- how many cells lie along a side
 
@@ -111,8 +111,8 @@ belongs mesh side j low high x some l h ge lt =
 
 -- the pixel in column x of row y
 in-cell : (mesh width height k left right top bottom x y : ℕ) → IsCell mesh width height k left right top bottom → x < width → left ≤ x → x < right → top ≤ y → y < bottom
-    → cell_of mesh width (y * width + x) ≡ k
-unfolding cell_of
+    → mesh_cell_of mesh width (y * width + x) ≡ k
+unfolding mesh_cell_of
 in-cell mesh width height k left right top bottom x y c xw xl xr yt yb =
     let n : ℕ = cells_along mesh width in
     let row : (y * width + x) / width ≡ y = div-mul-add y width x xw in
@@ -129,8 +129,8 @@ record IsInside (width height left right top bottom p : ℕ) : Type 0 where
   above : top ≤ p / width
   below : p / width < height → p / width < bottom
 
-inside : (mesh width height k left right top bottom p : ℕ) → IsCell mesh width height k left right top bottom → cell_of mesh width p ≡ k → IsInside width height left right top bottom p
-unfolding cell_of
+inside : (mesh width height k left right top bottom p : ℕ) → IsCell mesh width height k left right top bottom → mesh_cell_of mesh width p ≡ k → IsInside width height left right top bottom p
+unfolding mesh_cell_of
 inside mesh width height k left right top bottom p c e =
     let n : ℕ = cells_along mesh width in
     let short : p % width < width = mod_below p width (wide-of mesh width height k left right top bottom c) in
@@ -147,7 +147,7 @@ inside mesh width height k left right top bottom p c e =
     }
 
 pub cells_are_squares : CellsAreSquares
-unfolding cell_of
+unfolding mesh_cell_of
 cells_are_squares mesh width p q some wide = (
   λ e.
       let n : ℕ = cells_along mesh width in
@@ -182,22 +182,22 @@ filter-every f a (suc n) h =
 
 -- those of the first n pixels that lie in cell k
 unfoldable pub pixels_before : ℕ → ℕ → ℕ → ℕ → List ℕ
-pixels_before mesh width k n = filter (λ p. cell_of mesh width p == k) (range_with_len 0 n)
+pixels_before mesh width k n = filter (λ p. mesh_cell_of mesh width p == k) (range_with_len 0 n)
 
 -- pixels that lie outside change nothing
-before-skip : (mesh width k m n : ℕ) → m ≤ n → ((p : ℕ) → m ≤ p → p < n → cell_of mesh width p ≡ k → ⊥) → pixels_before mesh width k m ≡ pixels_before mesh width k n
+before-skip : (mesh width k m n : ℕ) → m ≤ n → ((p : ℕ) → m ≤ p → p < n → mesh_cell_of mesh width p ≡ k → ⊥) → pixels_before mesh width k m ≡ pixels_before mesh width k n
 unfolding pixels_before
-before-skip mesh width k m n le out = filter-skip (λ p. cell_of mesh width p == k) m n le (λ p low high. ne_eqb (cell_of mesh width p) k (out p low high))
+before-skip mesh width k m n le out = filter-skip (λ p. mesh_cell_of mesh width p == k) m n le (λ p low high. ne_eqb (mesh_cell_of mesh width p) k (out p low high))
 
-before-run : (mesh width k m n : ℕ) → m ≤ n → ((p : ℕ) → m ≤ p → p < n → cell_of mesh width p ≡ k)
+before-run : (mesh width k m n : ℕ) → m ≤ n → ((p : ℕ) → m ≤ p → p < n → mesh_cell_of mesh width p ≡ k)
     → pixels_before mesh width k n ≡ pixels_before mesh width k m ++ range_with_len m (n - m)
 unfolding pixels_before
 before-run mesh width k m n le here =
-    let f : ℕ → Bool = λ p. cell_of mesh width p == k in
+    let f : ℕ → Bool = λ p. mesh_cell_of mesh width p == k in
     let long : n ≡ m + (n - m) = omega arith in
     ap (λ (q : ℕ). filter f (range_with_len 0 q)) long ∙ ap (filter f) (range-append 0 m (n - m) m (omega arith))
     ∙ filter-append f (range_with_len 0 m) (range_with_len m (n - m))
-    ∙ ap (λ (xs : List ℕ). filter f (range_with_len 0 m) ++ xs) (filter-every f m (n - m) (λ p low high. eq-eqb (cell_of mesh width p) k (here p low (omega arith))))
+    ∙ ap (λ (xs : List ℕ). filter f (range_with_len 0 m) ++ xs) (filter-every f m (n - m) (λ p low high. eq-eqb (mesh_cell_of mesh width p) k (here p low (omega arith))))
 
 before-none : (mesh width k : ℕ) → pixels_before mesh width k 0 ≡ []
 unfolding pixels_before
@@ -241,11 +241,11 @@ before-row mesh width height k left right top bottom y c yt yb =
         let e : p % width ≡ p - y * width = at.1 in
         absurd (omega arith)
 
-    within : (p : ℕ) → y * width + left ≤ p → p < y * width + right → cell_of mesh width p ≡ k
+    within : (p : ℕ) → y * width + left ≤ p → p < y * width + right → mesh_cell_of mesh width p ≡ k
     within p low high =
         let x : ℕ = p - y * width in
         let e : y * width + x ≡ p = omega arith in
-        subst (λ (q : ℕ). cell_of mesh width q ≡ k) e (in-cell mesh width height k left right top bottom x y c (omega arith) (omega arith) (omega arith) yt yb)
+        subst (λ (q : ℕ). mesh_cell_of mesh width q ≡ k) e (in-cell mesh width height k left right top bottom x y c (omega arith) (omega arith) (omega arith) yt yb)
 
 -- and none below it
 pub before-end : (mesh width height k left right top bottom n : ℕ) → IsCell mesh width height k left right top bottom → n ≡ width * height → bottom * width ≤ n

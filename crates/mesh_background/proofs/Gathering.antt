@@ -8,7 +8,7 @@ use Rattle.std.proofs.lemmas.List.Elements.{filter-append}
 use Rattle.std.proofs.Math.Nat.{mul-le-mul_right}
 use Rattle.comp_tree.specs.Raster.{Raster, IsPlane, pixels, value_at, is_defined, level}
 use Rattle.mesh_background.specs.Medians.{lower_median}
-use Rattle.mesh_background.specs.Mesh.{IsCell, cells_of, defined_values, cell_pixels, image_value, mesh_value, values_of_mesh}
+use Rattle.mesh_background.specs.Mesh.{IsCell, cell_count, defined_values, cell_pixels, image_value, mesh_value, values_of_mesh}
 use Rattle.mesh_background.proofs.Extents.{range-append, pixels_before, before-start, before-row, before-end, pixels_of_cell}
 
 pub defined-append : (r : Raster) (ps qs : List ℕ) → defined_values r (ps ++ qs) ≡ defined_values r ps ++ defined_values r qs
@@ -122,8 +122,8 @@ fill-map r mesh [] = refl
 fill-map r mesh (k ∷ ks) = ap (λ (ys : List ℤ). mesh_value r mesh k ∷ ys) (fill-map r mesh ks)
 
 pub filled-is : (r : Raster) (mesh : ℕ) (medians : List (Option ℤ)) (value : ℤ) (items : List ℤ)
-    → medians ≡ map (λ k. lower_median (defined_values r (cell_pixels r mesh k))) (range_with_len 0 (cells_of mesh r.shape))
+    → medians ≡ map (λ k. lower_median (defined_values r (cell_pixels r mesh k))) (range_with_len 0 (cell_count mesh r.shape))
     → ((k : ℕ) → slice_get medians k ≡ Some None → value ≡ image_value r) → items ≡ map (λ m. unwrap_or m value) medians → items ≡ values_of_mesh r mesh
 unfolding values_of_mesh
 filled-is r mesh medians value items are otherwise is =
-    is ∙ same_fill medians value (image_value r) otherwise ∙ ap (map (λ m. unwrap_or m (image_value r))) are ∙ fill-map r mesh (range_with_len 0 (cells_of mesh r.shape))
+    is ∙ same_fill medians value (image_value r) otherwise ∙ ap (map (λ m. unwrap_or m (image_value r))) are ∙ fill-map r mesh (range_with_len 0 (cell_count mesh r.shape))

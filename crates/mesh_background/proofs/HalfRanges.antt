@@ -2,7 +2,8 @@
 use Rattle.std.proofs.Common.{◌≡◌, ℕ, zero, suc, List, [], ◌∷◌, sym, subst}
 use Rattle.std.specs.Prelude.{ℤ, Option, Some, None, IfSome, replicate, slice_get, slice_set}
 use Rattle.comp_tree.specs.Raster.{Raster}
-use Rattle.mesh_background.specs.Residuals.{IsInHalfRange, HasValuesInHalfRange}
+use Rattle.comp_tree.specs.Limits.{IsInHalfRange}
+use Rattle.comp_tree.specs.Raster.{HasValuesInHalfRange}
 
 none_some : (v : ℤ) → (let o : Option (Option ℤ) = None in o) ≡ Some (Some v) → ⊥
 none_some v h = cc

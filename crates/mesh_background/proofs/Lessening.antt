@@ -11,8 +11,10 @@ use Rattle.std.proofs.Math.Nat.{mul_comm, mul-le-mul_right}
 use Rattle.std.proofs.lemmas.Nat.{div-add-mod', mod_below, div_below, div-mul-add, mul-add-lt}
 use Rattle.comp_tree.specs.Limits.{IsWithinLimits}
 use Rattle.comp_tree.specs.Raster.{Raster, IsPlane, value_at}
-use Rattle.mesh_background.specs.Mesh.{cells_along, cells_of, cell_of, mesh_value, values_of_mesh}
-use Rattle.mesh_background.specs.Residuals.{background, residual_at, residual_of, number_of_cell, IsInHalfRange, HasValuesInHalfRange, IsInHalfRangeFrom, IsLessened, IsWritten}
+use Rattle.mesh_background.specs.Mesh.{cells_along, cell_count, mesh_cell_of, mesh_value, values_of_mesh}
+use Rattle.comp_tree.specs.Limits.{IsInHalfRange}
+use Rattle.comp_tree.specs.Raster.{HasValuesInHalfRange}
+use Rattle.mesh_background.specs.Residuals.{background, residual_at, residual_of, number_of_cell, IsInHalfRangeFrom, IsLessened, IsWritten}
 use Rattle.mesh_background.proofs.Extents.{cell-below, along-above, along-below, cells_few}
 use Rattle.mesh_background.proofs.Residuals.{background-some, cell-number, half-mesh, half-of, residual-all}
 
@@ -82,7 +84,7 @@ half_from-at values first p h le = go (value_at values p) refl
 
 pub half-numbers : (r : Raster) (mesh : ℕ) → HasValuesInHalfRange r.values → All IsInHalfRange (values_of_mesh r mesh)
 unfolding values_of_mesh
-half-numbers r mesh h = All-map IsInHalfRange (mesh_value r mesh) (range_with_len 0 (cells_of mesh r.shape)) (All-each (range_with_len 0 (cells_of mesh r.shape)))
+half-numbers r mesh h = All-map IsInHalfRange (mesh_value r mesh) (range_with_len 0 (cell_count mesh r.shape)) (All-each (range_with_len 0 (cell_count mesh r.shape)))
   where
     All-each : (ks : List ℕ) → All (λ k. IsInHalfRange (mesh_value r mesh k)) ks
     All-each ks = λ i d lt. half-mesh r mesh _ h
@@ -104,7 +106,7 @@ number-in mesh width columns y i p numbers some c low high end =
     ap (λ (n : ℕ). get_or numbers (y / mesh * n + i) (pos 0)) c
     ∙ ap (λ (n : ℕ). get_or numbers (y / mesh * cells_along mesh width + n) (pos 0)) (sym column)
     ∙ ap (λ (n : ℕ). get_or numbers n (pos 0)) (sym (cell-number mesh width x y (omega arith)))
-    ∙ ap (λ (n : ℕ). get_or numbers (cell_of mesh width n) (pos 0)) (sym place)
+    ∙ ap (λ (n : ℕ). get_or numbers (mesh_cell_of mesh width n) (pos 0)) (sym place)
 
 -- the place of a row's cell in the list of all
 pub place-few : (mesh width height columns y i : ℕ) → 0 < mesh → IsWithinLimits width height → columns ≡ cells_along mesh width → y < height → i < columns
@@ -145,17 +147,17 @@ row-end mesh width columns n some c le =
 
 -- ---- all pixels
 
-cell-inside : (mesh width height p : ℕ) → 0 < mesh → 0 < width → p < width * height → cell_of mesh width p < cells_along mesh width * cells_along mesh height
-unfolding cell_of
+cell-inside : (mesh width height p : ℕ) → 0 < mesh → 0 < width → p < width * height → mesh_cell_of mesh width p < cells_along mesh width * cells_along mesh height
+unfolding mesh_cell_of
 cell-inside mesh width height p some wide lt =
     cell-below mesh width height (p % width) (p / width) some (mod_below p width wide) (div_below p width height wide (omega (arith, mul_comm width height)))
 
-lessened-at : (r : Raster) (mesh p : ℕ) (numbers : List ℤ) → 0 < mesh → numbers ≡ values_of_mesh r mesh → cell_of mesh r.shape.width p < cells_of mesh r.shape
+lessened-at : (r : Raster) (mesh p : ℕ) (numbers : List ℤ) → 0 < mesh → numbers ≡ values_of_mesh r mesh → mesh_cell_of mesh r.shape.width p < cell_count mesh r.shape
     → number_of_cell mesh r.shape.width numbers p ≡ background r mesh p
 unfolding values_of_mesh
 lessened-at r mesh p numbers some is lt =
-    ap (λ (vs : List ℤ). get_or vs (cell_of mesh r.shape.width p) (pos 0)) is
-    ∙ get_or-map-range_with_len (mesh_value r mesh) 0 (cells_of mesh r.shape) (cell_of mesh r.shape.width p) (cell_of mesh r.shape.width p) (pos 0) lt (omega arith)
+    ap (λ (vs : List ℤ). get_or vs (mesh_cell_of mesh r.shape.width p) (pos 0)) is
+    ∙ get_or-map-range_with_len (mesh_value r mesh) 0 (cell_count mesh r.shape) (mesh_cell_of mesh r.shape.width p) (mesh_cell_of mesh r.shape.width p) (pos 0) lt (omega arith)
     ∙ sym (background-some r mesh p some)
 
 pub lessened-all : (r new : Raster) (mesh n : ℕ) (numbers : List ℤ) → 0 < mesh → 0 < r.shape.width → IsPlane r → numbers ≡ values_of_mesh r mesh
@@ -168,7 +170,7 @@ lessened-all r new mesh n numbers some wide plane is h e = residual-all r new me
       shape_is = h.shape_is;
       one_each = h.one_each;
       written = λ p lt.
-          let inside : cell_of mesh r.shape.width p < cells_of mesh r.shape = cell-inside mesh r.shape.width r.shape.height p some wide (omega arith) in
+          let inside : mesh_cell_of mesh r.shape.width p < cell_count mesh r.shape = cell-inside mesh r.shape.width r.shape.height p some wide (omega arith) in
           h.inside p (omega arith) lt
           ∙ ap (λ (z : ℤ). option_map (λ v. v -ℤ z) (value_at r.values p)) (lessened-at r mesh p numbers some is inside);
     }

@@ -13,7 +13,7 @@ use Rattle.std.proofs.lemmas.List.Elements.{All-nil, All-cons, All-weaker}
 use Rattle.std.proofs.lemmas.List.Sorted.{sorted_far, ranks_by, IsPermutation-sym, IsPermutation-trans, IsPermutation-cons, IsPermutation-middle, IsPermutation-refl, All-permutation, Contains-permutation, sum_by-IsPermutation, length_permutation}
 use Rattle.comp_tree.proofs.Levels.{int_le-true, int_le-from, int_lt-true, int_lt-from, int_lt-false, int_lt-from_not_le}
 use Rattle.comp_tree.proofs.Members.{IsAmong, find_some, find_none}
-use Rattle.mesh_background.specs.Medians.{lower_half, count_below, count_up_to, IsLowerMedian, is_lower_median, lower_median}
+use Rattle.mesh_background.specs.Medians.{lower_half, count_less, count_up_to, IsLowerMedian, is_lower_median, lower_median}
 use Rattle.mesh_background.specs.Laws.{LowerMedianIsTheOne, SomeMemberIsLowerMedian}
 use Rattle.mesh_background.proofs.Counts.{count-weaker, count_most, count_least}
 
@@ -32,15 +32,15 @@ among_from_contains x (y ∷ xs) (suc k) lt e = inr (among_from_contains x xs k 
 -- ---- there is no second one
 
 record HasCounts (xs : List ℤ) (v : ℤ) : Type 0 where
-  few : count_below xs v < lower_half xs
+  few : count_less xs v < lower_half xs
   enough : lower_half xs ≤ count_up_to xs v
 
 not_less : (xs : List ℤ) (v w : ℤ) → HasCounts xs v → HasCounts xs w → v <ℤ w → ⊥
 not_less xs v w a b lt =
-    let more : count_up_to xs v ≤ count_below xs w = count-weaker (λ x. int_le x v) (λ x. int_lt x w) xs
+    let more : count_up_to xs v ≤ count_less xs w = count-weaker (λ x. int_le x v) (λ x. int_lt x w) xs
     (λ x h. let le : x ≤ℤ v = int_le-true x v h in int_lt-from x w (omega (arith, ints))) in
     let low : lower_half xs ≤ count_up_to xs v = a.enough in
-    let high : count_below xs w < lower_half xs = b.few in
+    let high : count_less xs w < lower_half xs = b.few in
     absurd (omega arith)
 
 unique : (xs : List ℤ) (v w : ℤ) → HasCounts xs v → HasCounts xs w → v ≡ w
@@ -52,14 +52,14 @@ unique xs v w a b = by_lt_z v w (λ lt. absurd (not_less xs v w a b lt))
 test-counts : (xs : List ℤ) (v : ℤ) → is_lower_median xs v ≡ true → HasCounts xs v
 unfolding is_lower_median
 test-counts xs v h =
-    let parts : (nat_lt (count_below xs v) (lower_half xs) ≡ true) × (nat_le (lower_half xs) (count_up_to xs v) ≡ true) =
-    and_parts (nat_lt (count_below xs v) (lower_half xs)) (nat_le (lower_half xs) (count_up_to xs v)) h in
-    record { few = ltb-true (count_below xs v) (lower_half xs) parts.0; enough = leb-true (lower_half xs) (count_up_to xs v) parts.1 }
+    let parts : (nat_lt (count_less xs v) (lower_half xs) ≡ true) × (nat_le (lower_half xs) (count_up_to xs v) ≡ true) =
+    and_parts (nat_lt (count_less xs v) (lower_half xs)) (nat_le (lower_half xs) (count_up_to xs v)) h in
+    record { few = ltb-true (count_less xs v) (lower_half xs) parts.0; enough = leb-true (lower_half xs) (count_up_to xs v) parts.1 }
 
 test-from : (xs : List ℤ) (v : ℤ) → HasCounts xs v → is_lower_median xs v ≡ true
 unfolding is_lower_median
-test-from xs v h = and_from (nat_lt (count_below xs v) (lower_half xs)) (nat_le (lower_half xs) (count_up_to xs v))
-    (lt-ltb (count_below xs v) (lower_half xs) h.few) (le-leb (lower_half xs) (count_up_to xs v) h.enough)
+test-from xs v h = and_from (nat_lt (count_less xs v) (lower_half xs)) (nat_le (lower_half xs) (count_up_to xs v))
+    (lt-ltb (count_less xs v) (lower_half xs) h.few) (le-leb (lower_half xs) (count_up_to xs v) h.enough)
 
 found-is : (xs : List ℤ) (v : ℤ) → lower_median xs ≡ Some v → IsLowerMedian xs v
 unfolding lower_median
@@ -112,10 +112,10 @@ rising-counts xs m v up some place here =
     let inside : m < length xs = omega arith in
     let front : length (take m xs) ≡ m = length-take-le m xs (omega arith) in
     let more : length (take (m + 1) xs) ≡ m + 1 = length-take-le (m + 1) xs (omega arith) in
-    let most : count_below (take m xs ++ drop m xs) v ≤ length (take m xs) = count_most (λ x. int_lt x v) (take m xs) (drop m xs) (late xs m v up inside here) in
+    let most : count_less (take m xs ++ drop m xs) v ≤ length (take m xs) = count_most (λ x. int_lt x v) (take m xs) (drop m xs) (late xs m v up inside here) in
     let least : length (take (m + 1) xs) ≤ count_up_to (take (m + 1) xs ++ drop (m + 1) xs) v =
     count_least (λ x. int_le x v) (take (m + 1) xs) (drop (m + 1) xs) (early xs m v up inside here) in
-    let below : count_below xs v ≡ count_below (take m xs ++ drop m xs) v = ap (λ (ys : List ℤ). count_below ys v) (sym (take-append-drop m xs)) in
+    let below : count_less xs v ≡ count_less (take m xs ++ drop m xs) v = ap (λ (ys : List ℤ). count_less ys v) (sym (take-append-drop m xs)) in
     let upto : count_up_to xs v ≡ count_up_to (take (m + 1) xs ++ drop (m + 1) xs) v = ap (λ (ys : List ℤ). count_up_to ys v) (sym (take-append-drop (m + 1) xs)) in
     record { few = omega arith; enough = omega arith }
 
@@ -125,9 +125,9 @@ pub median_in_order : (xs ys : List ℤ) (m : ℕ) (v : ℤ) → IsPermutation x
 median_in_order xs ys m v moved up some place here =
     let counts : HasCounts ys v = rising-counts ys m v up some place here in
     let long : length ys ≡ length xs = length_permutation xs ys moved in
-    let below : count_below ys v ≡ count_below xs v = sum_by-IsPermutation (λ x. cond (int_lt x v) 1 0) xs ys moved in
+    let below : count_less ys v ≡ count_less xs v = sum_by-IsPermutation (λ x. cond (int_lt x v) 1 0) xs ys moved in
     let upto : count_up_to ys v ≡ count_up_to xs v = sum_by-IsPermutation (λ x. cond (int_le x v) 1 0) xs ys moved in
-    let few : count_below ys v < lower_half ys = counts.few in
+    let few : count_less ys v < lower_half ys = counts.few in
     let enough : lower_half ys ≤ count_up_to ys v = counts.enough in
     found-from xs v (record {
       member = Contains-permutation ys xs v (IsPermutation-sym xs ys moved) (m, omega arith, here v);

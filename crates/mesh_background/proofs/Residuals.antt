@@ -17,8 +17,10 @@ use Rattle.comp_tree.specs.Raster.{Raster, pixels, value_at, is_defined, level}
 use Rattle.comp_tree.proofs.Finding.{length-pixels}
 use Rattle.comp_tree.proofs.OneTree.{IsImage, get_from_map, get-pixels}
 use Rattle.mesh_background.specs.Medians.{IsLowerMedian, lower_median}
-use Rattle.mesh_background.specs.Mesh.{cells_along, cells_of, cell_of, cell_pixels, defined_values, image_value, mesh_value, values_of_mesh}
-use Rattle.mesh_background.specs.Residuals.{background, residual_at, residual_of, IsInHalfRange, HasValuesInHalfRange, IsWritten}
+use Rattle.mesh_background.specs.Mesh.{cells_along, cell_count, mesh_cell_of, cell_pixels, defined_values, image_value, mesh_value, values_of_mesh}
+use Rattle.comp_tree.specs.Limits.{IsInHalfRange}
+use Rattle.comp_tree.specs.Raster.{HasValuesInHalfRange}
+use Rattle.mesh_background.specs.Residuals.{background, residual_at, residual_of, IsWritten}
 use Rattle.mesh_background.specs.Laws.{NoMeshLeavesThePlane, ResidualIsPlane, ResidualIsInRange}
 use Rattle.mesh_background.proofs.Medians.{the_one}
 
@@ -96,9 +98,9 @@ half-background : (r : Raster) (mesh p : ℕ) → HasValuesInHalfRange r.values 
 unfolding background
 half-background r mesh p h = go (mesh == 0)
   where
-    go : (b : Bool) → IsInHalfRange (cond b (pos 0) (mesh_value r mesh (cell_of mesh r.shape.width p)))
+    go : (b : Bool) → IsInHalfRange (cond b (pos 0) (mesh_value r mesh (mesh_cell_of mesh r.shape.width p)))
     go true = half-zero
-    go false = half-mesh r mesh (cell_of mesh r.shape.width p) h
+    go false = half-mesh r mesh (mesh_cell_of mesh r.shape.width p) h
 
 -- the difference of two numbers in half of the range is in the range
 pub within_range : (v b : ℤ) → IsInHalfRange v → IsInHalfRange b → IsWithinRange (v -ℤ b)
@@ -169,28 +171,28 @@ residual-all r new mesh n h le = written-all r new (residual_at r mesh) n h le
 
 -- ---- the background of one pixel, as it is read
 
-pub cell-number : (mesh width x y : ℕ) → x < width → cell_of mesh width (y * width + x) ≡ y / mesh * cells_along mesh width + x / mesh
-unfolding cell_of
+pub cell-number : (mesh width x y : ℕ) → x < width → mesh_cell_of mesh width (y * width + x) ≡ y / mesh * cells_along mesh width + x / mesh
+unfolding mesh_cell_of
 cell-number mesh width x y lt =
     ap (λ (q : ℕ). q / mesh * cells_along mesh width + (y * width + x) % width / mesh) (div-mul-add y width x lt)
     ∙ ap (λ (q : ℕ). y / mesh * cells_along mesh width + q / mesh) (mod-mul-add y width x lt)
 
-pub background-some : (r : Raster) (mesh p : ℕ) → 0 < mesh → background r mesh p ≡ mesh_value r mesh (cell_of mesh r.shape.width p)
+pub background-some : (r : Raster) (mesh p : ℕ) → 0 < mesh → background r mesh p ≡ mesh_value r mesh (mesh_cell_of mesh r.shape.width p)
 unfolding background
-background-some r mesh p some = ap (λ (b : Bool). cond b (pos 0) (mesh_value r mesh (cell_of mesh r.shape.width p))) (ne_eqb mesh 0 (λ e. absurd (omega arith)))
+background-some r mesh p some = ap (λ (b : Bool). cond b (pos 0) (mesh_value r mesh (mesh_cell_of mesh r.shape.width p))) (ne_eqb mesh 0 (λ e. absurd (omega arith)))
 
 pub background-read : (r : Raster) (mesh columns x y : ℕ) (values : List ℤ) (d : ℤ) → 0 < mesh → columns ≡ cells_along mesh r.shape.width → values ≡ values_of_mesh r mesh → x < r.shape.width
-    → y / mesh * columns + x / mesh < cells_of mesh r.shape → get_or values (y / mesh * columns + x / mesh) d ≡ background r mesh (y * r.shape.width + x)
+    → y / mesh * columns + x / mesh < cell_count mesh r.shape → get_or values (y / mesh * columns + x / mesh) d ≡ background r mesh (y * r.shape.width + x)
 unfolding values_of_mesh
 background-read r mesh columns x y values d some c is xl kl =
     let k : ℕ = y / mesh * columns + x / mesh in
-    ap (λ (vs : List ℤ). get_or vs k d) is ∙ get_or-map-range_with_len (mesh_value r mesh) 0 (cells_of mesh r.shape) k k d kl (omega arith)
+    ap (λ (vs : List ℤ). get_or vs k d) is ∙ get_or-map-range_with_len (mesh_value r mesh) 0 (cell_count mesh r.shape) k k d kl (omega arith)
     ∙ ap (λ (n : ℕ). mesh_value r mesh (y / mesh * n + x / mesh)) c
     ∙ ap (mesh_value r mesh) (sym (cell-number mesh r.shape.width x y xl)) ∙ sym (background-some r mesh (y * r.shape.width + x) some)
 
-pub length-values : (r : Raster) (mesh : ℕ) → length (values_of_mesh r mesh) ≡ cells_of mesh r.shape
+pub length-values : (r : Raster) (mesh : ℕ) → length (values_of_mesh r mesh) ≡ cell_count mesh r.shape
 unfolding values_of_mesh
-length-values r mesh = length-map-range_with_len (mesh_value r mesh) 0 (cells_of mesh r.shape)
+length-values r mesh = length-map-range_with_len (mesh_value r mesh) 0 (cell_count mesh r.shape)
 
 pub residual-none_at : (r : Raster) (mesh p : ℕ) → None ≡ value_at r.values p → None ≡ residual_at r mesh p
 unfolding residual_at
@@ -244,10 +246,10 @@ difference-range r mesh p v b h = subst IsWithinRange (sym (difference-is r mesh
 
 -- a pixel whose cell's number was looked up
 pub read-is : (r : Raster) (mesh columns x y k : ℕ) (values : List ℤ) (v d : ℤ) → 0 < mesh → columns ≡ cells_along mesh r.shape.width → values ≡ values_of_mesh r mesh → x < r.shape.width
-    → k ≡ y / mesh * columns + x / mesh → k < cells_of mesh r.shape → HasValuesInHalfRange r.values → Some v ≡ value_at r.values (y * r.shape.width + x)
+    → k ≡ y / mesh * columns + x / mesh → k < cell_count mesh r.shape → HasValuesInHalfRange r.values → Some v ≡ value_at r.values (y * r.shape.width + x)
     → IsRead r mesh (y * r.shape.width + x) v (get_or values k d)
 read-is r mesh columns x y k values v d some c is xl place lt h e = record {
   value = e;
-  less = ap (λ (n : ℕ). get_or values n d) place ∙ background-read r mesh columns x y values d some c is xl (subst (λ (n : ℕ). n < cells_of mesh r.shape) place lt);
+  less = ap (λ (n : ℕ). get_or values n d) place ∙ background-read r mesh columns x y values d some c is xl (subst (λ (n : ℕ). n < cell_count mesh r.shape) place lt);
   half = h;
 }

@@ -1,9 +1,9 @@
 -- The laws of the lower median, of the cells and of the residual.
 use Rattle.std.specs.Prelude.{◌≡◌, ◌↔◌, ℕ, ◌/◌, ◌%◌, ◌<◌, ℤ, List, length, Some, IsSome}
-use Rattle.comp_tree.specs.Raster.{Raster, IsPlane, HasValuesInRange}
+use Rattle.comp_tree.specs.Raster.{Raster, IsPlane, HasValuesInRange, HasValuesInHalfRange}
 use Rattle.mesh_background.specs.Medians.{IsLowerMedian, lower_median}
-use Rattle.mesh_background.specs.Mesh.{cell_of}
-use Rattle.mesh_background.specs.Residuals.{residual_of, HasValuesInHalfRange}
+use Rattle.mesh_background.specs.Mesh.{mesh_cell_of}
+use Rattle.mesh_background.specs.Residuals.{residual_of}
 
 -- the lower median of a list is the one number that is so by the counts
 abbrev pub LowerMedianIsTheOne : Type 0
@@ -16,7 +16,7 @@ SomeMemberIsLowerMedian = (xs : List ℤ) → 0 < length xs → IsSome (lower_me
 -- two pixels have one cell exactly where their columns, and their rows, have one quotient by the size of the mesh
 abbrev pub CellsAreSquares : Type 0
 CellsAreSquares = (mesh width p q : ℕ) → 0 < mesh → 0 < width
-    → (cell_of mesh width p ≡ cell_of mesh width q) ↔ ((p % width / mesh ≡ q % width / mesh) × (p / width / mesh ≡ q / width / mesh))
+    → (mesh_cell_of mesh width p ≡ mesh_cell_of mesh width q) ↔ ((p % width / mesh ≡ q % width / mesh) × (p / width / mesh ≡ q / width / mesh))
 
 -- without a mesh the residual is the plane
 abbrev pub NoMeshLeavesThePlane : Type 0

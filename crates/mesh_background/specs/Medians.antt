@@ -6,8 +6,8 @@ abbrev pub lower_half : List ℤ → ℕ
 lower_half xs = (length xs - 1) / 2 + 1
 
 -- how many members are below v, and how many are at most v
-abbrev pub count_below : List ℤ → ℤ → ℕ
-count_below xs v = count_by (λ x. int_lt x v) xs
+abbrev pub count_less : List ℤ → ℤ → ℕ
+count_less xs v = count_by (λ x. int_lt x v) xs
 
 abbrev pub count_up_to : List ℤ → ℤ → ℕ
 count_up_to xs v = count_by (λ x. int_le x v) xs
@@ -15,12 +15,12 @@ count_up_to xs v = count_by (λ x. int_le x v) xs
 -- v is the lower median: a member such that fewer members than the lower half are below it, and at least that many at most it
 pub record IsLowerMedian (xs : List ℤ) (v : ℤ) : Type 0 where
   pub member : Contains xs v
-  pub few_below : count_below xs v < lower_half xs
+  pub few_below : count_less xs v < lower_half xs
   pub enough : lower_half xs ≤ count_up_to xs v
 
 -- the test of these counts
 unfoldable pub is_lower_median : List ℤ → ℤ → Bool
-is_lower_median xs v = nat_lt (count_below xs v) (lower_half xs) && nat_le (lower_half xs) (count_up_to xs v)
+is_lower_median xs v = nat_lt (count_less xs v) (lower_half xs) && nat_le (lower_half xs) (count_up_to xs v)
 
 -- the lower median of a list, which has one unless it is empty: the first member that passes the test
 unfoldable pub lower_median : List ℤ → Option ℤ

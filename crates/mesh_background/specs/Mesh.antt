@@ -10,12 +10,12 @@ abbrev pub cells_along : ℕ → ℕ → ℕ
 cells_along mesh side = (side + (mesh - 1)) / mesh
 
 -- how many cells the mesh has
-abbrev pub cells_of : ℕ → Shape → ℕ
-cells_of mesh shape = cells_along mesh shape.width * cells_along mesh shape.height
+abbrev pub cell_count : ℕ → Shape → ℕ
+cell_count mesh shape = cells_along mesh shape.width * cells_along mesh shape.height
 
 -- the cell of pixel p. Cells are numbered row by row, from 0
-unfoldable pub cell_of : ℕ → ℕ → ℕ → ℕ
-cell_of mesh width p = p / width / mesh * cells_along mesh width + p % width / mesh
+unfoldable pub mesh_cell_of : ℕ → ℕ → ℕ → ℕ
+mesh_cell_of mesh width p = p / width / mesh * cells_along mesh width + p % width / mesh
 
 -- the bounds of cell k in an image of this width and height: it has the columns from left up to right and the rows from top
 -- up to bottom, and at least one of each
@@ -29,7 +29,7 @@ pub record IsCell (mesh width height k left right top bottom : ℕ) : Type 0 whe
 
 -- the pixels of a cell, in rising order
 unfoldable pub cell_pixels : Raster → ℕ → ℕ → List ℕ
-cell_pixels r mesh k = filter (λ p. cell_of mesh r.shape.width p == k) (pixels r)
+cell_pixels r mesh k = filter (λ p. mesh_cell_of mesh r.shape.width p == k) (pixels r)
 
 -- the values of those pixels of a list that are defined
 unfoldable pub defined_values : Raster → List ℕ → List ℤ
@@ -45,4 +45,4 @@ mesh_value r mesh k = unwrap_or (lower_median (defined_values r (cell_pixels r m
 
 -- the numbers of all cells, row by row
 unfoldable pub values_of_mesh : Raster → ℕ → List ℤ
-values_of_mesh r mesh = map (mesh_value r mesh) (range_with_len 0 (cells_of mesh r.shape))
+values_of_mesh r mesh = map (mesh_value r mesh) (range_with_len 0 (cell_count mesh r.shape))

@@ -5,7 +5,7 @@ ghost use Rattle.std.specs.List.{range_with_len};
 ghost use Rattle.std.specs.Option.{option_to_list};
 ghost use Rattle.comp_tree.specs.Raster.{Raster, value_at};
 ghost use Rattle.mesh_background.specs.Medians.{lower_median as lower_median_of};
-ghost use Rattle.mesh_background.specs.Mesh.{cells_of, cell_pixels, defined_values, image_value, values_of_mesh};
+ghost use Rattle.mesh_background.specs.Mesh.{cell_count, cell_pixels, defined_values, image_value, values_of_mesh};
 
 use crate::grid::Grid;
 use crate::median::lower_median;
@@ -46,14 +46,14 @@ fn cell_medians<R: Threads + Sync>(
     requires { grid.now.shape ≡ plane.now.shape }
     ensures { IfOk result (λ medians. medians.items
         ≡ map (λ k. lower_median_of (defined_values plane.now (cell_pixels plane.now grid.now.mesh k)))
-        (range_with_len 0 (cells_of grid.now.mesh plane.now.shape))) }
+        (range_with_len 0 (cell_count grid.now.mesh plane.now.shape))) }
 {
     (0..grid.cells())
         .into_par_iter()
         .with_min_len(1)
         .map(
             |cell: u32| -> Result<Option<i64>, OutOfMemory>
-                requires { (grid.now.shape ≡ plane.now.shape) × (cell < cells_of grid.now.mesh plane.now.shape) }
+                requires { (grid.now.shape ≡ plane.now.shape) × (cell < cell_count grid.now.mesh plane.now.shape) }
                 ensures { IfOk result (λ median. median
                     ≡ lower_median_of (defined_values plane.entry.now (cell_pixels plane.entry.now grid.entry.now.mesh cell))) }
             { cell_median(alloc, plane, grid, cell) },
@@ -69,7 +69,7 @@ fn cell_median(
     cell: u32,
 ) -> Result<Option<i64>, OutOfMemory>
     requires shape { grid.now.shape ≡ plane.now.shape }
-    requires cell { cell < cells_of grid.now.mesh plane.now.shape }
+    requires cell { cell < cell_count grid.now.mesh plane.now.shape }
     ensures { IfOk result (λ median. median ≡ lower_median_of (defined_values plane.now (cell_pixels plane.now grid.now.mesh cell))) }
 {
     let mut members = cell_members(alloc, plane, grid, cell)?;
@@ -84,7 +84,7 @@ fn cell_members(
     cell: u32,
 ) -> Result<Vec<i64>, OutOfMemory>
     requires shape { grid.now.shape ≡ plane.now.shape }
-    requires cell { cell < cells_of grid.now.mesh plane.now.shape }
+    requires cell { cell < cell_count grid.now.mesh plane.now.shape }
     ensures { IfOk result (λ members. members.items ≡ defined_values plane.now (cell_pixels plane.now grid.now.mesh cell)) }
 {
     let width = plane.shape().width;

@@ -1,7 +1,7 @@
 //! The cells of a mesh over an image.
 
 ghost use Rattle.std.specs.Prelude.{◌≡◌, ◌+◌, ◌-◌, ◌*◌, ◌/◌, ◌%◌, ◌<◌, ◌≤◌, ◌^◌};
-ghost use Rattle.mesh_background.specs.Mesh.{cells_along, cells_of, IsCell};
+ghost use Rattle.mesh_background.specs.Mesh.{cells_along, cell_count, IsCell};
 
 use comp_tree::Shape;
 
@@ -41,7 +41,7 @@ impl Grid {
 
     /// How many cells there are: at most as many as pixels.
     pub(crate) fn cells(&self) -> u32
-        ensures count { result ≡ cells_of self.now.mesh self.now.shape }
+        ensures count { result ≡ cell_count self.now.mesh self.now.shape }
         ensures few { result ≤ 2 ^ 24 }
     {
         self.columns * cells_over(self.mesh, self.shape.height)
@@ -49,7 +49,7 @@ impl Grid {
 
     /// The pixels of a cell. Those at the right and at the bottom may be short.
     pub(crate) fn cell(&self, number: u32) -> Cell
-        requires { number < cells_of self.now.mesh self.now.shape }
+        requires { number < cell_count self.now.mesh self.now.shape }
         ensures { IsCell self.now.mesh self.now.shape.width self.now.shape.height number
             result.left result.right result.top result.bottom }
     {
@@ -69,7 +69,7 @@ impl Grid {
         requires column { x < self.now.shape.width }
         requires row { y < self.now.shape.height }
         ensures place { result ≡ y / self.now.mesh * self.now.columns + x / self.now.mesh }
-        ensures cell { result < cells_of self.now.mesh self.now.shape }
+        ensures cell { result < cell_count self.now.mesh self.now.shape }
     {
         y / self.mesh * self.columns + x / self.mesh
     }

@@ -2,8 +2,10 @@
 
 ghost use Rattle.std.specs.Prelude.{◌≡◌, ◌+◌, ◌*◌, ◌<◌, ◌≤◌, length, All, IfOk, IfSome, OnOk, OnErr};
 ghost use Rattle.comp_tree.specs.Raster.{IsPlane, value_at};
-ghost use Rattle.mesh_background.specs.Mesh.{cells_of, values_of_mesh};
-ghost use Rattle.mesh_background.specs.Residuals.{residual_of, number_of_cell, HasValuesInHalfRange, IsInHalfRange, IsInHalfRangeFrom, IsLessened};
+ghost use Rattle.mesh_background.specs.Mesh.{cell_count, values_of_mesh};
+ghost use Rattle.comp_tree.specs.Limits.{IsInHalfRange};
+ghost use Rattle.comp_tree.specs.Raster.{HasValuesInHalfRange};
+ghost use Rattle.mesh_background.specs.Residuals.{residual_of, number_of_cell, IsInHalfRangeFrom, IsLessened};
 
 use crate::cells::mesh_values;
 use crate::grid::Grid;
@@ -90,7 +92,7 @@ fn lessen_row(plane: &mut Plane, grid: &Grid, numbers: &[i64], y: u32)
     requires shape { grid.now.shape ≡ plane.old.shape }
     requires one_each { IsPlane plane.old }
     requires row { y < plane.old.shape.height }
-    requires numbers { length numbers.now ≡ cells_of grid.now.mesh plane.old.shape }
+    requires numbers { length numbers.now ≡ cell_count grid.now.mesh plane.old.shape }
     requires numbers_in_range { All IsInHalfRange numbers.now }
     requires in_range { IsInHalfRangeFrom (y * plane.old.shape.width) plane.old.values }
     ensures { IsLessened plane.old (number_of_cell grid.now.mesh plane.old.shape.width numbers.now)

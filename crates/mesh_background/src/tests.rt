@@ -2,7 +2,7 @@
 
 ghost use Rattle.std.specs.Prelude.{IfOk};
 ghost use Rattle.comp_tree.specs.Raster.{Raster};
-ghost use Rattle.mesh_background.specs.Residuals.{HasValuesInHalfRange};
+ghost use Rattle.comp_tree.specs.Raster.{HasValuesInHalfRange};
 
 use crate::{mesh_values, residual, subtract_background};
 use comp_tree::{Plane, Shape};

@@ -4,7 +4,7 @@ use mir.Syntax.{w64}
 use mir.Val.{of_z, to_z}
 use Rattle.comp_tree.specs.declared.shape.Shape.{Shape}
 use Rattle.comp_tree.specs.Raster.{Raster}
-use Rattle.mesh_background.specs.Mesh.{cells_along, cells_of}
+use Rattle.mesh_background.specs.Mesh.{cells_along, cell_count}
 use Rattle.mesh_background.specs.Residuals.{number_of_cell, IsInHalfRangeFrom, IsLessened}
 use Rattle.mesh_background.proofs.Extents.{columns-some}
 use Rattle.mesh_background.proofs.Residuals.{half-fits}
@@ -32,7 +32,7 @@ bounds-numbers-cells c =
     let g = c.args.grid.now in
     let high : g.shape.height ≡ c.args.plane.now.shape.height = ap (λ (s : Shape). s.height) c.requires.shape in
     let few = place-few g.mesh g.shape.width g.shape.height g.columns c.args.y c.loop-column.column g.some g.shape.within_limits g.columns_is (omega arith) (omega arith) in
-    let same : cells_of g.mesh g.shape ≡ cells_of g.mesh c.args.plane.now.shape = ap (λ (s : Shape). cells_of g.mesh s) c.requires.shape in
+    let same : cell_count g.mesh g.shape ≡ cell_count g.mesh c.args.plane.now.shape = ap (λ (s : Shape). cell_count g.mesh s) c.requires.shape in
     omega (arith, few.0)
 
 pub lessen_run-requires-clause-in_range : goal.lessen_run-requires-clause-in_range
@@ -56,7 +56,7 @@ loop-column-preserved c =
     let columns : g.columns ≡ cells_along g.mesh r.shape.width = g.columns_is ∙ ap (λ (n : ℕ). cells_along g.mesh n) wide in
     let high : g.shape.height ≡ r.shape.height = ap (λ (s : Shape). s.height) c.requires.shape in
     let few = place-few g.mesh g.shape.width g.shape.height g.columns c.args.y c.loop-column.column g.some g.shape.within_limits g.columns_is (omega arith) (omega arith) in
-    let same : cells_of g.mesh g.shape ≡ cells_of g.mesh r.shape = ap (λ (s : Shape). cells_of g.mesh s) c.requires.shape in
+    let same : cell_count g.mesh g.shape ≡ cell_count g.mesh r.shape = ap (λ (s : Shape). cell_count g.mesh s) c.requires.shape in
     let inside : c.args.y / g.mesh * g.columns + c.loop-column.column < length c.args.numbers.now = omega (arith, few.0) in
     let number : ℤ = get_or c.args.numbers.now (c.args.y / g.mesh * g.columns + c.loop-column.column) (pos 0) in
     row-next r c.loop-column.plane c.lessen_run.new.plane g.mesh r.shape.width g.columns c.args.y c.loop-column.column c.min-right.result c.args.numbers.now (to_z w64 (of_z w64 number)) g.some columns c.loop-column-test.true

@@ -2,8 +2,9 @@ use Rattle.std.proofs.Common.{◌≡◌, ◌+◌, ◌*◌, ◌<◌, ℕ, ℤ, Li
 use Rattle.std.proofs.Math.Nat.{mul_comm}
 use Rattle.comp_tree.specs.declared.shape.Shape.{Shape}
 use Rattle.comp_tree.specs.Raster.{Raster, IsPlane}
-use Rattle.mesh_background.specs.Mesh.{cells_of, values_of_mesh}
-use Rattle.mesh_background.specs.Residuals.{IsInHalfRange, number_of_cell, IsLessened}
+use Rattle.mesh_background.specs.Mesh.{cell_count, values_of_mesh}
+use Rattle.comp_tree.specs.Limits.{IsInHalfRange}
+use Rattle.mesh_background.specs.Residuals.{number_of_cell, IsLessened}
 use Rattle.mesh_background.proofs.Residuals.{length-values}
 use Rattle.mesh_background.proofs.Lessening.{half_from-all, half_from-later, half-numbers, lessened-more, lessened-all}
 use Rattle.mesh_background.proofs.subtraction.lessen_rows.Goals as goal
@@ -12,7 +13,7 @@ pub lessen_row-requires-clause-numbers : goal.lessen_row-requires-clause-numbers
 lessen_row-requires-clause-numbers c =
     let r : Raster = c.args.plane.now in
     ap (λ (vs : List ℤ). length vs) c.requires.numbers ∙ length-values r c.args.grid.now.mesh
-    ∙ ap (λ (s : Shape). cells_of c.args.grid.now.mesh s) (sym c.loop-y.invariant.shape_is)
+    ∙ ap (λ (s : Shape). cell_count c.args.grid.now.mesh s) (sym c.loop-y.invariant.shape_is)
 
 pub lessen_row-requires-clause-numbers_in_range : goal.lessen_row-requires-clause-numbers_in_range
 lessen_row-requires-clause-numbers_in_range c =

@@ -1,7 +1,7 @@
 use Rattle.std.proofs.Common.{◌*◌, subst, sym, ◌∙◌, arith}
 use Rattle.std.proofs.lemmas.Int.{ints}
 use Rattle.comp_tree.specs.Raster.{Raster}
-use Rattle.mesh_background.specs.Residuals.{HasValuesInHalfRange}
+use Rattle.comp_tree.specs.Raster.{HasValuesInHalfRange}
 use Rattle.mesh_background.proofs.HalfRanges.{half_range-blank, half_range-set}
 use Rattle.mesh_background.proofs.tests.plane_of.Goals as goal
 use Rattle.mesh_background.proofs.tests.plane_of.Goals.{then-value+then-value-lt-U+then-p-pixels, else-value}
