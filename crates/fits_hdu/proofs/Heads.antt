@@ -1,8 +1,7 @@
 -- The end of a header, and what comes after the data of an HDU.
-use Rattle.std.proofs.Common.{◌≡◌, ℕ, zero, suc, ◌+◌, ◌-◌, ◌*◌, ◌/◌, ◌%◌, ◌^◌, ◌<◌, ◌≤◌, ◌⊎◌, inl, inr, Bool, true, false, cond, min, nat_lt, List, length, take, drop, Option, Some, None, Result, Ok, Err, refl, sym, ◌∙◌, subst, ap, arith, eqb, ℤ, pos}
-use Rattle.std.specs.Prelude.{unwrap_or, IsTrue, IfErr}
+use Rattle.std.proofs.Common.{◌≡◌, ℕ, ◌+◌, ◌-◌, ◌*◌, ◌/◌, ◌%◌, ◌<◌, ◌≤◌, ◌⊎◌, inl, inr, Bool, true, false, cond, min, nat_lt, List, length, Option, Some, Result, Ok, Err, refl, sym, ◌∙◌, subst, ap, arith, eqb, ℤ}
+use Rattle.std.specs.Prelude.{IsTrue, IfErr}
 use Rattle.std.proofs.lemmas.Bool.Decides.{nat_tests}
-use Rattle.dev_io.specs.Causes.{Rose}
 use Rattle.dev_io.specs.Streams.{Takes, TakesAtMost}
 use Rattle.fits_hdu.specs.declared.answer.Hdu.{Hdu}
 use Rattle.fits_hdu.specs.declared.answer.HduFault.{HduFault}
@@ -10,12 +9,12 @@ use Rattle.fits_hdu.specs.declared.answer.HduFault.TheVariants.{NotFits, Truncat
 use Rattle.fits_hdu.specs.declared.header.Mandatory.{Mandatory}
 use Rattle.fits_hdu.specs.declared.header.Ended.{Ended}
 use Rattle.fits_hdu.specs.Cards.{bitpix_of, is_image}
-use Rattle.fits_hdu.specs.Headers.{Found, found, refused, found_by, head_after, header_of, whole_header, header_at, judged, is_groups, described, most_data, card_at, axes_of, axis_count, others_before}
+use Rattle.fits_hdu.specs.Headers.{Found, refused, found_by, head_after, header_of, whole_header, header_at, judged, is_groups, described, most_data, card_at, axes_of, axis_count, others_before}
 use Rattle.fits_hdu.specs.Kept.{kept_axes, kept_others}
 use Rattle.fits_hdu.specs.Finding.{padded, padding, following, past_padding, taken_by}
 use Rattle.fits_hdu.specs.Streams.{Stopped, Finds, OtherBytes}
-use Rattle.fits_hdu.specs.Reading.{MandatoryRead, EndRead, Caused, NotThere, OtherLeft, OtherBehind, OtherPastPadding}
-use Rattle.fits_hdu.proofs.Places.{axes_to, axes_all, length-axes_to}
+use Rattle.fits_hdu.specs.Reading.{MandatoryRead, EndRead, Caused, NotThere, OtherBehind, OtherPastPadding}
+use Rattle.fits_hdu.proofs.Places.{axes_all, length-axes_to}
 use Rattle.fits_hdu.proofs.Reaching.{lost_within, header_takes_first}
 
 -- The end of the header.

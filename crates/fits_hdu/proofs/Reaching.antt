@@ -1,14 +1,14 @@
 -- The header by the card at which its reading ends, and how many bytes were taken there.
-use Rattle.std.proofs.Common.{◌≡◌, ℕ, zero, suc, ◌+◌, ◌-◌, ◌*◌, ◌/◌, ◌<◌, ◌≤◌, inl, inr, Bool, true, false, not, ◌&&◌, ◌||◌, cond, nat_lt, min, List, [], ◌∷◌, ◌++◌, length, take, drop, Option, Some, None, Result, Ok, Err, codes, refl, sym, ◌∙◌, subst, ap, arith, eqb, length-drop}
+use Rattle.std.proofs.Common.{◌≡◌, ℕ, ◌+◌, ◌-◌, ◌*◌, ◌<◌, ◌≤◌, inl, inr, Bool, true, false, ◌||◌, cond, nat_lt, min, List, length, take, drop, Option, Result, Ok, Err, refl, sym, ◌∙◌, subst, arith, eqb}
 use Rattle.std.proofs.lemmas.Bool.Decides.{nat_tests}
 use Rattle.std.proofs.lemmas.Bool.{cases_lt}
 use Rattle.dev_io.specs.Streams.{Takes, TakesAtMost}
 use Rattle.fits_hdu.specs.declared.answer.Hdu.{Hdu}
 use Rattle.fits_hdu.specs.declared.answer.HduFault.{HduFault}
 use Rattle.fits_hdu.specs.declared.answer.HduFault.TheVariants.{NotFits, TruncatedHeader, BadKeyword, HeaderTooLong, Groups, DataTooLong, NoSuchHdu, TruncatedSkip, ReadFault}
-use Rattle.fits_hdu.specs.Headers.{Found, found, refused, found_by, head_after, header_of, whole_header, header_read_to, header_at, begins, last_read, stops, is_missing, is_bad, is_last, card_at, most_cards, first_passing}
+use Rattle.fits_hdu.specs.Headers.{refused, found_by, head_after, header_of, whole_header, header_read_to, header_at, begins, last_read, stops, is_missing, is_bad, is_last, card_at, most_cards}
 use Rattle.fits_hdu.specs.Finding.{taken_by}
-use Rattle.fits_hdu.specs.Streams.{Stopped, Finds}
+use Rattle.fits_hdu.specs.Streams.{Stopped}
 use Rattle.fits_hdu.specs.Reading.{CardsPassed, CardRead, CardMissing}
 use Rattle.fits_hdu.proofs.FirstPassing.{first_passing_is, first_passing_past, first_passing_from}
 

@@ -1,9 +1,8 @@
 -- The HDUs one after the other.
-use Rattle.std.proofs.Common.{◌≡◌, ℕ, zero, suc, ◌+◌, ◌-◌, ◌*◌, ◌/◌, ◌<◌, ◌≤◌, ◌⊎◌, inl, inr, Bool, true, false, cond, min, nat_lt, List, length, take, drop, Option, Some, None, Result, Ok, Err, refl, sym, ◌∙◌, subst, ap, arith, eqb}
+use Rattle.std.proofs.Common.{◌≡◌, ℕ, zero, suc, ◌+◌, ◌-◌, ◌*◌, ◌<◌, ◌≤◌, ◌⊎◌, inl, inr, Bool, true, false, cond, min, nat_lt, List, length, Option, Some, Result, Ok, Err, refl, sym, ◌∙◌, subst, ap, arith, eqb}
 use Rattle.std.specs.Prelude.{IsTrue, IfErr, IsErrOf}
-use Rattle.std.proofs.lemmas.Bool.{cases_lt}
 use Rattle.std.proofs.lemmas.Bool.Decides.{nat_tests}
-use Rattle.dev_io.specs.Streams.{Takes, TakesAtMost}
+use Rattle.dev_io.specs.Streams.{Takes}
 use Rattle.fits_hdu.specs.declared.answer.Hdu.{Hdu}
 use Rattle.fits_hdu.specs.declared.answer.HduFault.{HduFault}
 use Rattle.fits_hdu.specs.declared.answer.HduFault.TheVariants.{NotFits, TruncatedHeader, BadKeyword, HeaderTooLong, Groups, DataTooLong, NoSuchHdu, TruncatedSkip, ReadFault}
@@ -12,7 +11,7 @@ use Rattle.fits_hdu.specs.Finding.{padded, padding, following, following_found, 
 use Rattle.fits_hdu.specs.Streams.{Stopped, Finds, OtherBytes, IsOther, IsOtherAfter}
 use Rattle.fits_hdu.specs.Reading.{Caused, OtherBehind, OtherPastPadding, OtherLater}
 use Rattle.fits_hdu.specs.Laws.{HasData, SearchGoesOn, OtherBytesAreMet}
-use Rattle.fits_hdu.proofs.Heads.{following_takes, follows_data, caused_more}
+use Rattle.fits_hdu.proofs.Heads.{following_takes, follows_data}
 
 find_first : (bytes : List ℕ) → find_of bytes 0 ≡ header_at bytes 0 0
 unfolding find_of

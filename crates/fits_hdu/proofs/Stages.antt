@@ -6,18 +6,18 @@ use Rattle.std.proofs.lemmas.Bool.{cases_lt}
 use Rattle.dev_io.specs.Streams.{Takes, TakesAtMost, Fills}
 use Rattle.dev_io.specs.Laws.{Takes-after}
 use Rattle.fits_hdu.specs.declared.answer.HduFault.{HduFault}
-use Rattle.fits_hdu.specs.declared.answer.HduFault.TheVariants.{NotFits, TruncatedHeader, BadKeyword, HeaderTooLong, NoSuchHdu, ReadFault}
+use Rattle.fits_hdu.specs.declared.answer.HduFault.TheVariants.{NotFits, TruncatedHeader, BadKeyword, NoSuchHdu}
 use Rattle.fits_hdu.specs.declared.axes.Axes.{Axes}
 use Rattle.fits_hdu.specs.declared.others.Others.{Others}
 use Rattle.fits_hdu.specs.Cards.{is_end, is_first, is_image, bitpix_of, naxis_of, axis_of, natural, has_keyword, at_most}
-use Rattle.fits_hdu.specs.Headers.{refused, header_at, whole_header, begins, is_beginning, is_bad, is_bad_count, is_last, card_at, axis_count, axes_of, others_before}
+use Rattle.fits_hdu.specs.Headers.{refused, header_at, begins, is_beginning, is_bad, is_bad_count, is_last, card_at, axis_count, others_before}
 use Rattle.fits_hdu.specs.Kept.{kept_axes, kept_others}
 use Rattle.fits_hdu.specs.Finding.{taken_by}
-use Rattle.fits_hdu.specs.Streams.{Stopped, OtherBytes}
-use Rattle.fits_hdu.specs.Reading.{CardsPassed, CardRead, CardMissing, FirstRead, BitpixRead, NaxisRead, AxisRead, AxesRead, EndRead, OtherLeft}
+use Rattle.fits_hdu.specs.Streams.{Stopped}
+use Rattle.fits_hdu.specs.Reading.{CardsPassed, CardRead, FirstRead, BitpixRead, NaxisRead, AxisRead, AxesRead, EndRead, OtherLeft}
 use Rattle.fits_hdu.proofs.Filled.{card_read, filled_cut, card_lost, beginning_is}
 use Rattle.fits_hdu.proofs.Places.{bad_first, bad_second, bad_third, bad_axis, bad_other, last_other, not_last, axis_natural, axes_to, axes_more, axes_all, length-axes_to, others_none, others_next}
-use Rattle.fits_hdu.proofs.Reaching.{header_other, header_takes_first, lost_within, card_is, reach_next, stop_bad, stop_missing, stop_long, end_whole}
+use Rattle.fits_hdu.proofs.Reaching.{header_other, header_takes_first, lost_within, card_is, reach_next, stop_bad, stop_missing, end_whole}
 
 -- The first card.
 

@@ -1,9 +1,8 @@
 -- Model: the header that starts at a place in a list of bytes (FITS Standard 4.0, sections 3.3 and 4.4).
-use Rattle.std.specs.Prelude.{ℕ, zero, suc, ◌+◌, ◌-◌, ◌*◌, ◌/◌, ◌^◌, Bool, true, false, not, List, [], ◌∷◌, ◌++◌, ◌==◌, ◌&&◌, ◌||◌, length, take, drop, min, map, Option, Some, None, Result, Ok, Err, codes, if◌then◌else◌, ℤ, pos, nat_lt, is_some, is_none, unwrap_or, slice_index, find}
+use Rattle.std.specs.Prelude.{ℕ, zero, suc, ◌+◌, ◌-◌, ◌*◌, ◌/◌, ◌^◌, Bool, true, false, not, List, [], ◌∷◌, ◌++◌, ◌==◌, ◌&&◌, ◌||◌, length, take, drop, min, map, Option, Result, Ok, Err, codes, if◌then◌else◌, ℤ, pos, nat_lt, is_none, unwrap_or, slice_index, find}
 use Rattle.std.specs.List.{list_all}
 use Rattle.std.specs.Str.{bytes_eq}
 use Rattle.std.specs.Option.{option_map}
-use Rattle.fits_card.specs.declared.number.Whole.{Whole}
 use Rattle.fits_card.specs.declared.number.Whole.TheVariants.{Is}
 use Rattle.fits_hdu.specs.declared.answer.Kind.{Kind}
 use Rattle.fits_hdu.specs.declared.answer.Kind.TheVariants.{Primary, Image, Other}

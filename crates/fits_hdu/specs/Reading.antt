@@ -1,5 +1,5 @@
 -- Bookkeeping: how far reading has come, and what stands behind each fault.
-use Rattle.std.specs.Prelude.{◌≡◌, ℕ, ◌+◌, ◌*◌, ◌<◌, ◌≤◌, ◌==◌, Bool, true, false, List, length, take, drop, Some, ℤ, IsTrue, ◌⊎◌}
+use Rattle.std.specs.Prelude.{◌≡◌, ℕ, ◌+◌, ◌*◌, ◌<◌, ◌≤◌, Bool, true, false, List, length, take, drop, Some, ℤ, IsTrue, ◌⊎◌}
 use Rattle.std.specs.declared.option.Option.{Option}
 use Rattle.dev_io.specs.Causes.{Rose}
 use Rattle.dev_io.specs.Streams.{Takes, TakesAtMost}
@@ -7,7 +7,6 @@ use Rattle.fits_hdu.specs.declared.answer.Hdu.{Hdu}
 use Rattle.fits_hdu.specs.declared.answer.HduFault.{HduFault}
 use Rattle.fits_hdu.specs.declared.answer.HduFault.TheVariants.{TruncatedHeader, TruncatedSkip, NoSuchHdu, ReadFault}
 use Rattle.fits_hdu.specs.declared.axes.Axes.{Axes}
-use Rattle.fits_hdu.specs.declared.others.Others.{Others}
 use Rattle.fits_hdu.specs.declared.header.Mandatory.{Mandatory}
 use Rattle.fits_hdu.specs.declared.header.Ended.{Ended}
 use Rattle.fits_hdu.specs.Cards.{is_image, bitpix_of, natural}

@@ -1,3 +1,5 @@
+ghost use Rattle.std.specs.Prelude.{◌<◌};
+
 use super::*;
 use dev_io::PlainSource;
 use fits_card::number::Whole;
@@ -35,7 +37,9 @@ fn find(bytes: &[u8], number: u16) -> (Result<Hdu, HduFault>, usize) {
 }
 
 // The HDU with this number after an extension with three bytes of data, which were taken, and how many bytes are left.
-fn go_on(bytes: &[u8], number: u16) -> (Result<Hdu, HduFault>, usize) {
+fn go_on(bytes: &[u8], number: u16) -> (Result<Hdu, HduFault>, usize)
+    requires { 1 < number }
+{
     let mut source = PlainSource::new(bytes);
     let found = find_after(&mut source, &image_row(), 1, number);
     (found, source.rest().len())
