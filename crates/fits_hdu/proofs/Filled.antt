@@ -1,5 +1,5 @@
 -- A card's buffer after it was filled.
-use Rattle.std.proofs.Common.{◌≡◌, ℕ, ◌+◌, ◌-◌, ◌<◌, ◌≤◌, inl, inr, Bool, true, false, List, length, take, drop, Option, min, refl, sym, ap, subst, ◌∙◌, arith, lit≤, length-drop, take_all}
+use Rattle.std.proofs.Common.{◌≡◌, ℕ, ◌+◌, ◌<◌, inl, inr, Bool, List, length, take, drop, Option, min, sym, ap, subst, ◌∙◌, arith, lit≤, length-drop, take_all}
 use Rattle.std.proofs.lemmas.Bool.{cases_lt}
 use Rattle.std.proofs.lemmas.List.{take-take, take_min}
 use Rattle.std.specs.Str.{bytes_eq}

@@ -1,8 +1,7 @@
 -- The end of a header, and what comes after the data of an HDU.
-use Rattle.std.proofs.Common.{◌≡◌, ℕ, zero, suc, ◌+◌, ◌-◌, ◌*◌, ◌/◌, ◌%◌, ◌^◌, ◌<◌, ◌≤◌, ◌⊎◌, inl, inr, Bool, true, false, cond, min, nat_lt, List, length, take, drop, Option, Some, None, Result, Ok, Err, refl, sym, ◌∙◌, subst, ap, arith, eqb, ℤ, pos}
-use Rattle.std.specs.Prelude.{unwrap_or, IsTrue, IfErr}
+use Rattle.std.proofs.Common.{◌≡◌, ℕ, ◌+◌, ◌-◌, ◌*◌, ◌/◌, ◌%◌, ◌<◌, ◌≤◌, ◌⊎◌, inl, inr, Bool, true, false, cond, min, nat_lt, List, length, Option, Some, Result, Ok, Err, refl, sym, ◌∙◌, subst, ap, arith, eqb, ℤ}
+use Rattle.std.specs.Prelude.{IsTrue, IfErr}
 use Rattle.std.proofs.lemmas.Bool.Decides.{nat_tests}
-use Rattle.dev_io.specs.Causes.{Rose}
 use Rattle.dev_io.specs.Streams.{Takes, TakesAtMost}
 use Rattle.fits_hdu.specs.declared.answer.Hdu.{Hdu}
 use Rattle.fits_hdu.specs.declared.answer.HduFault.{HduFault}
@@ -10,12 +9,12 @@ use Rattle.fits_hdu.specs.declared.answer.HduFault.TheVariants.{NotFits, Truncat
 use Rattle.fits_hdu.specs.declared.header.Mandatory.{Mandatory}
 use Rattle.fits_hdu.specs.declared.header.Ended.{Ended}
 use Rattle.fits_hdu.specs.Cards.{bitpix_of, is_image}
-use Rattle.fits_hdu.specs.Headers.{Found, found, refused, found_by, head_after, header_of, whole_header, header_at, judged, is_groups, described, most_data, card_at, axes_of, axis_count, others_before}
+use Rattle.fits_hdu.specs.Headers.{Found, refused, found_by, head_after, header_of, whole_header, header_at, judged, is_groups, described, most_data, card_at, axes_of, axis_count, others_before}
 use Rattle.fits_hdu.specs.Kept.{kept_axes, kept_others}
-use Rattle.fits_hdu.specs.Finding.{padded, following, taken_by}
-use Rattle.fits_hdu.specs.Streams.{Stopped, Finds, Caused}
-use Rattle.fits_hdu.specs.Reading.{MandatoryRead, EndRead, OtherBytes, OtherLeft, OtherBehind}
-use Rattle.fits_hdu.proofs.Places.{axes_to, axes_all, length-axes_to}
+use Rattle.fits_hdu.specs.Finding.{padded, padding, following, past_padding, taken_by}
+use Rattle.fits_hdu.specs.Streams.{Stopped, Finds, OtherBytes}
+use Rattle.fits_hdu.specs.Reading.{MandatoryRead, EndRead, Caused, NotThere, OtherBehind, OtherPastPadding}
+use Rattle.fits_hdu.proofs.Places.{axes_all, length-axes_to}
 use Rattle.fits_hdu.proofs.Reaching.{lost_within, header_takes_first}
 
 -- The end of the header.
@@ -91,11 +90,8 @@ header_lost bytes hdu start b d ended rest padding last lost =
 
 -- After the data.
 
-pad_is : (size : ℕ) → size + (2880 - size % 2880) % 2880 ≡ padded size
-pad_is size = omega arith
-
-pub pads_to : (head size : ℕ) → head + size + (2880 - size % 2880) % 2880 ≡ head + padded size
-pads_to head size = omega (arith, pad_is size)
+pub pads_to : (start size : ℕ) → start + (2880 - size % 2880) % 2880 ≡ start + padding size
+pads_to start size = omega arith
 
 lt_false : (n m : ℕ) → m ≤ n → nat_lt n m ≡ false
 lt_false n m h = grind (arith, nat_tests)
@@ -103,23 +99,45 @@ lt_false n m h = grind (arith, nat_tests)
 lt_true : (n m : ℕ) → n < m → nat_lt n m ≡ true
 lt_true n m h = grind (arith, nat_tests)
 
+padded_at : (bytes : List ℕ) (hdu size start : ℕ) → start + padding size ≤ length bytes → past_padding bytes hdu size start ≡ header_at bytes hdu (start + padding size)
+unfolding past_padding
+padded_at bytes hdu size start whole = let is = lt_false (length bytes) (start + padding size) whole in rw is refl
+
+padding_cut : (bytes : List ℕ) (hdu size start : ℕ) → length bytes < start + padding size → past_padding bytes hdu size start ≡ refused NoSuchHdu (length bytes)
+unfolding past_padding
+padding_cut bytes hdu size start short = let is = lt_true (length bytes) (start + padding size) short in rw is refl
+
+pub past_padding_takes : (bytes : List ℕ) (hdu size start : ℕ) → min (start + padding size) (length bytes) ≤ taken_by (past_padding bytes hdu size start)
+unfolding past_padding
+past_padding_takes bytes hdu size start = by (nat_lt (length bytes) (start + padding size))
+  where
+    by : (b : Bool) → min (start + padding size) (length bytes) ≤ taken_by (cond b (refused NoSuchHdu (length bytes)) (header_at bytes hdu (start + padding size)))
+    by true = omega arith
+    by false = omega (arith, header_takes_first bytes hdu (start + padding size))
+
+pub pad_found : (bytes : List ℕ) (hdu size start : ℕ) (b d : Option (List ℕ)) (result : Result Hdu HduFault) → Takes bytes b (start + (2880 - size % 2880) % 2880)
+    → ((bytes : List ℕ) (start : ℕ) → Takes bytes b start → Finds (header_at bytes hdu start) bytes d result) → Finds (past_padding bytes hdu size start) bytes d result
+pad_found bytes hdu size start b d result pad says =
+    let place : Takes bytes b (start + padding size) = subst (Takes bytes b) (pads_to start size) pad in
+    subst (λ e. Finds e bytes d result) (sym (padded_at bytes hdu size start place.within)) (says bytes (start + padding size) place)
+
+pub pad_none : (bytes : List ℕ) (hdu size start : ℕ) (d : Option (List ℕ)) → (length bytes < start + (2880 - size % 2880) % 2880) × Takes bytes d (length bytes) → Stopped (past_padding bytes hdu size start) bytes d NoSuchHdu
+pad_none bytes hdu size start d cut = (length bytes, padding_cut bytes hdu size start (omega (arith, cut.0, pads_to start size)), cut.1)
+
+pub pad_lost : (bytes : List ℕ) (hdu size start : ℕ) (d : Option (List ℕ)) → TakesAtMost bytes d (start + (2880 - size % 2880) % 2880) → TakesAtMost bytes d (taken_by (past_padding bytes hdu size start))
+pad_lost bytes hdu size start d lost = lost_within bytes d _ _ lost (omega (arith, past_padding_takes bytes hdu size start, pads_to start size))
+
 follows_cut : (bytes : List ℕ) (hdu size head : ℕ) → length bytes < head + size → following bytes hdu size head ≡ refused TruncatedSkip (length bytes)
 unfolding following
 follows_cut bytes hdu size head short = let is = lt_true (length bytes) (head + size) short in rw is refl
 
-follows_none : (bytes : List ℕ) (hdu size head : ℕ) → head + size ≤ length bytes → length bytes < head + padded size → following bytes hdu size head ≡ refused NoSuchHdu (length bytes)
-unfolding following
-follows_none bytes hdu size head long short =
+-- behind whole data stands their padding
+pub follows_data : (bytes : List ℕ) (hdu size head : ℕ) → head + size ≤ length bytes → following bytes hdu size head ≡ past_padding bytes hdu size (head + size)
+unfolding following past_padding
+follows_data bytes hdu size head long =
     let all = lt_false (length bytes) (head + size) long in
-    let is = lt_true (length bytes) (head + padded size) short in
-    rw (all, is) refl
-
-follows_is : (bytes : List ℕ) (hdu size head : ℕ) → head + size ≤ length bytes → head + padded size ≤ length bytes → following bytes hdu size head ≡ header_at bytes hdu (head + padded size)
-unfolding following
-follows_is bytes hdu size head long whole =
-    let all = lt_false (length bytes) (head + size) long in
-    let is = lt_false (length bytes) (head + padded size) whole in
-    rw (all, is) refl
+    let place : head + padded size ≡ head + size + padding size = omega arith in
+    rw (all, place) refl
 
 pub following_takes : (bytes : List ℕ) (hdu size head : ℕ) → min (head + padded size) (length bytes) ≤ taken_by (following bytes hdu size head)
 unfolding following
@@ -136,17 +154,10 @@ next_cut bytes hdu size head d cut = (length bytes, follows_cut bytes hdu size h
 pub next_lost : (bytes : List ℕ) (hdu size head : ℕ) (d : Option (List ℕ)) → TakesAtMost bytes d (head + size) → TakesAtMost bytes d (taken_by (following bytes hdu size head))
 next_lost bytes hdu size head d lost = lost_within bytes d _ _ lost (omega (arith, following_takes bytes hdu size head))
 
-pub next_none : (bytes : List ℕ) (hdu size head : ℕ) (b d : Option (List ℕ)) → Takes bytes b (head + size) → (length bytes < head + size + (2880 - size % 2880) % 2880) × Takes bytes d (length bytes) → Stopped (following bytes hdu size head) bytes d NoSuchHdu
-next_none bytes hdu size head b d takes cut = (length bytes, follows_none bytes hdu size head takes.within (omega (arith, cut.0, pads_to head size)), cut.1)
-
-pub next_pad_lost : (bytes : List ℕ) (hdu size head : ℕ) (d : Option (List ℕ)) → TakesAtMost bytes d (head + size + (2880 - size % 2880) % 2880) → TakesAtMost bytes d (taken_by (following bytes hdu size head))
-next_pad_lost bytes hdu size head d lost = lost_within bytes d _ _ lost (omega (arith, following_takes bytes hdu size head, pads_to head size))
-
-pub next_found : (bytes : List ℕ) (hdu size head : ℕ) (a b d : Option (List ℕ)) (result : Result Hdu HduFault) → Takes bytes a (head + size) → Takes bytes b (head + size + (2880 - size % 2880) % 2880)
-    → ((bytes : List ℕ) (start : ℕ) → Takes bytes b start → Finds (header_at bytes hdu start) bytes d result) → Finds (following bytes hdu size head) bytes d result
-next_found bytes hdu size head a b d result content pad says =
-    let place : Takes bytes b (head + padded size) = subst (Takes bytes b) (pads_to head size) pad in
-    subst (λ e. Finds e bytes d result) (sym (follows_is bytes hdu size head content.within place.within)) (says bytes (head + padded size) place)
+pub next_found : (bytes : List ℕ) (hdu size head : ℕ) (a d : Option (List ℕ)) (result : Result Hdu HduFault) → Takes bytes a (head + size)
+    → ((bytes : List ℕ) (start : ℕ) → Takes bytes a start → Finds (past_padding bytes hdu size start) bytes d result) → Finds (following bytes hdu size head) bytes d result
+next_found bytes hdu size head a d result content says =
+    subst (λ e. Finds e bytes d result) (sym (follows_data bytes hdu size head content.within)) (says bytes (head + size) content)
 
 -- Causes.
 
@@ -165,3 +176,21 @@ pub judged_caused : (M : Type 0) (ended : Bool) (a c : ℕ) (result : Result Hdu
 judged_caused M ended a c (Ok hdu) h = tt
 judged_caused M ended a c (Err fault) (inl is) = subst (Caused M ended a c) (sym is) tt
 judged_caused M ended a c (Err fault) (inr is) = subst (Caused M ended a c) (sym is) tt
+
+-- the cause of a fault in a search that this one goes on with
+pub caused_by : {M N : Type 0} (ended : Bool) (a b c : ℕ) (result : Result Hdu HduFault) → (M → N) → a ≤ b → IfErr result (Caused M ended b c) → IfErr result (Caused N ended a c)
+caused_by ended a b c (Ok hdu) f h u = tt
+caused_by ended a b c (Err fault) f h u = caused_more ended a b c fault f h u
+
+-- no HDU behind the padding, so none where the padding starts
+pub not_past_padding : (a b : Option (List ℕ)) (ended : Bool) (hdu size : ℕ) → ((bytes : List ℕ) (at : ℕ) → Takes bytes a at → Takes bytes b (at + (2880 - size % 2880) % 2880)) → NotThere ended b hdu → IsTrue ended ⊎ OtherPastPadding a hdu size
+not_past_padding a b ended hdu size skipped (later, inl end) = inl end
+not_past_padding a b ended hdu size skipped (later, inr other) = inr (λ bytes start takes. subst (OtherBytes bytes hdu) (pads_to start size) (other bytes _ (skipped bytes start takes)))
+
+-- nor where the data start
+pub not_behind : (a b : Option (List ℕ)) (ended : Bool) (hdu size : ℕ) → ((bytes : List ℕ) (at : ℕ) → Takes bytes a at → Takes bytes b (at + size)) → IsTrue ended ⊎ OtherPastPadding b hdu size → IsTrue ended ⊎ OtherBehind a hdu size
+not_behind a b ended hdu size skipped (inl end) = inl end
+not_behind a b ended hdu size skipped (inr other) = inr (λ bytes head takes. subst (OtherBytes bytes hdu) (place head) (other bytes _ (skipped bytes head takes)))
+  where
+    place : (head : ℕ) → head + size + padding size ≡ head + padded size
+    place head = omega arith

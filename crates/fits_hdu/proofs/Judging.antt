@@ -1,12 +1,10 @@
 -- What is kept of a header says what its HDU is.
-use Rattle.std.proofs.Common.{◌≡◌, ℕ, zero, suc, ◌+◌, ◌-◌, ◌*◌, ◌/◌, ◌^◌, ◌<◌, ◌≤◌, Bool, true, false, ◌&&◌, cond, min, nat_lt, List, [], ◌∷◌, length, Option, Some, None, Result, Ok, Err, refl, sym, ◌∙◌, subst, ap, arith, eqb, ℤ, pos}
-use Rattle.std.specs.Prelude.{unwrap_or, unsigned_abs}
+use Rattle.std.proofs.Common.{◌≡◌, ℕ, ◌+◌, ◌*◌, ◌<◌, ◌≤◌, Bool, true, false, ◌&&◌, nat_lt, List, [], ◌∷◌, length, Ok, Err, refl, sym, ap, arith, eqb, ℤ, pos}
+use Rattle.std.specs.Prelude.{unwrap_or}
 use Rattle.std.proofs.lemmas.Bool.Decides.{nat_tests}
 use Rattle.fits_card.specs.declared.number.Whole.{Whole}
 use Rattle.fits_card.specs.declared.number.Whole.TheVariants.{Is}
 use Rattle.fits_hdu.specs.declared.answer.Kind.{Kind}
-use Rattle.fits_hdu.specs.declared.answer.Hdu.{Hdu}
-use Rattle.fits_hdu.specs.declared.answer.HduFault.{HduFault}
 use Rattle.fits_hdu.specs.declared.answer.HduFault.TheVariants.{Groups, DataTooLong}
 use Rattle.fits_hdu.specs.declared.axes.Axes.{Axes}
 use Rattle.fits_hdu.specs.declared.others.Others.{Others}
@@ -14,7 +12,7 @@ use Rattle.fits_hdu.specs.Sizes.{data_size, product, number_bytes}
 use Rattle.fits_hdu.specs.Headers.{described, judged, is_groups, kind_of, most_data}
 use Rattle.fits_hdu.specs.Kept.{held, kept_axes, kept_others}
 use Rattle.fits_hdu.proofs.Saturating.{held-primary, held-extension}
-use Rattle.fits_hdu.proofs.Keeping.{groups_kept, pcount_kept, gcount_kept, bscale_kept, bzero_kept, blank_kept}
+use Rattle.fits_hdu.proofs.Keeping.{pcount_kept, gcount_kept}
 
 -- The size of the data.
 

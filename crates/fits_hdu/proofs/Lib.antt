@@ -1,7 +1,7 @@
 mod Saturating
 mod Keeping
 mod Keywords
-mod Least
+mod FirstPassing
 mod Places
 mod Filled
 mod Reaching

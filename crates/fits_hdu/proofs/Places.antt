@@ -1,9 +1,9 @@
 -- Which cards are where: the mandatory ones, the axes and the others.
-use Rattle.std.proofs.Common.{◌≡◌, ℕ, zero, suc, ◌+◌, ◌-◌, ◌*◌, ◌<◌, ◌≤◌, inl, inr, Bool, true, false, not, ◌&&◌, ◌||◌, cond, nat_lt, List, [], ◌∷◌, ◌++◌, map, length, take, drop, Option, Some, None, codes, is_some, refl, sym, ◌∙◌, subst, ap, arith, eqb}
+use Rattle.std.proofs.Common.{◌≡◌, ℕ, zero, suc, ◌+◌, ◌-◌, ◌<◌, ◌≤◌, Bool, true, false, not, ◌&&◌, ◌||◌, cond, nat_lt, List, [], ◌∷◌, ◌++◌, map, length, Some, None, codes, is_some, refl, sym, ◌∙◌, ap, arith, eqb}
 use Rattle.std.proofs.lemmas.Bool.Decides.{nat_tests}
 use Rattle.std.specs.Prelude.{unwrap_or}
 use Rattle.fits_hdu.specs.Cards.{is_end, is_first, bitpix_of, naxis_of, axis_of, natural, is_mandatory, has_keyword}
-use Rattle.fits_hdu.specs.Headers.{card_at, cards_from, axis_count, natural_or_zero, axes_of, others_before, is_bad_count, is_bad, is_last, is_missing, stops}
+use Rattle.fits_hdu.specs.Headers.{cards_from, axis_count, natural_or_zero, axes_of, others_before, is_bad_count, is_bad, is_last}
 
 low : (m j : ℕ) → j ≤ m → nat_lt m j ≡ false
 low m j h = grind (arith, nat_tests)

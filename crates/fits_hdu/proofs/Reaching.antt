@@ -1,16 +1,16 @@
 -- The header by the card at which its reading ends, and how many bytes were taken there.
-use Rattle.std.proofs.Common.{◌≡◌, ℕ, zero, suc, ◌+◌, ◌-◌, ◌*◌, ◌/◌, ◌<◌, ◌≤◌, inl, inr, Bool, true, false, not, ◌&&◌, ◌||◌, cond, nat_lt, min, List, [], ◌∷◌, ◌++◌, length, take, drop, Option, Some, None, Result, Ok, Err, codes, refl, sym, ◌∙◌, subst, ap, arith, eqb, length-drop}
+use Rattle.std.proofs.Common.{◌≡◌, ℕ, ◌+◌, ◌-◌, ◌*◌, ◌<◌, ◌≤◌, inl, inr, Bool, true, false, ◌||◌, cond, nat_lt, min, List, length, take, drop, Option, Result, Ok, Err, refl, sym, ◌∙◌, subst, arith, eqb}
 use Rattle.std.proofs.lemmas.Bool.Decides.{nat_tests}
 use Rattle.std.proofs.lemmas.Bool.{cases_lt}
 use Rattle.dev_io.specs.Streams.{Takes, TakesAtMost}
 use Rattle.fits_hdu.specs.declared.answer.Hdu.{Hdu}
 use Rattle.fits_hdu.specs.declared.answer.HduFault.{HduFault}
 use Rattle.fits_hdu.specs.declared.answer.HduFault.TheVariants.{NotFits, TruncatedHeader, BadKeyword, HeaderTooLong, Groups, DataTooLong, NoSuchHdu, TruncatedSkip, ReadFault}
-use Rattle.fits_hdu.specs.Headers.{Found, found, refused, found_by, head_after, header_of, whole_header, header_read_to, header_at, begins, last_read, stops, is_missing, is_bad, is_last, card_at, most_cards, least}
+use Rattle.fits_hdu.specs.Headers.{refused, found_by, head_after, header_of, whole_header, header_read_to, header_at, begins, last_read, stops, is_missing, is_bad, is_last, card_at, most_cards}
 use Rattle.fits_hdu.specs.Finding.{taken_by}
-use Rattle.fits_hdu.specs.Streams.{Stopped, Finds}
-use Rattle.fits_hdu.specs.Reading.{Reached, CardRead, CardMissing}
-use Rattle.fits_hdu.proofs.Least.{least_is, least_past, least_from}
+use Rattle.fits_hdu.specs.Streams.{Stopped}
+use Rattle.fits_hdu.specs.Reading.{CardsPassed, CardRead, CardMissing}
+use Rattle.fits_hdu.proofs.FirstPassing.{first_passing_is, first_passing_past, first_passing_from}
 
 pub stops_is : (bytes : List ℕ) (hdu start j : ℕ) (missing bad last : Bool) → is_missing bytes start j ≡ missing → is_bad (eqb hdu 0) (card_at bytes start) j ≡ bad → is_last (card_at bytes start) j ≡ last
     → stops bytes hdu start j ≡ (missing || (bad || last))
@@ -28,15 +28,15 @@ there_is bytes start j h = grind (arith, nat_tests)
 -- reading ends at the card after the ones that were passed
 last_read_is : (bytes : List ℕ) (hdu start k j : ℕ) → j ≡ k + 1 → j ≤ 36000 → ((i : ℕ) → 1 ≤ i → i ≤ k → stops bytes hdu start i ≡ false) → stops bytes hdu start j ≡ true → last_read bytes hdu start ≡ j
 unfolding last_read
-last_read_is bytes hdu start k j next most passed stop = least_is (stops bytes hdu start) most_cards 1 j (omega arith) (omega arith) stop (λ i l h. passed i l (omega arith))
+last_read_is bytes hdu start k j next most passed stop = first_passing_is (stops bytes hdu start) most_cards 1 j (omega arith) (omega arith) stop (λ i l h. passed i l (omega arith))
 
 last_read_past : (bytes : List ℕ) (hdu start k : ℕ) → k ≡ 36000 → ((i : ℕ) → 1 ≤ i → i ≤ k → stops bytes hdu start i ≡ false) → last_read bytes hdu start ≡ k + 1
 unfolding last_read
-last_read_past bytes hdu start k all passed = least_past (stops bytes hdu start) most_cards 1 (λ i l h. passed i l (omega arith)) ∙ omega arith
+last_read_past bytes hdu start k all passed = first_passing_past (stops bytes hdu start) most_cards 1 (λ i l h. passed i l (omega arith)) ∙ omega arith
 
 last_read_from : (bytes : List ℕ) (hdu start k : ℕ) → k ≤ 36000 → ((i : ℕ) → 1 ≤ i → i ≤ k → stops bytes hdu start i ≡ false) → k + 1 ≤ last_read bytes hdu start
 unfolding last_read
-last_read_from bytes hdu start k most passed = least_from (stops bytes hdu start) most_cards 1 (k + 1) (omega arith) (λ i l h. passed i l (omega arith))
+last_read_from bytes hdu start k most passed = first_passing_from (stops bytes hdu start) most_cards 1 (k + 1) (omega arith) (λ i l h. passed i l (omega arith))
 
 header_begun : (bytes : List ℕ) (hdu start j : ℕ) → begins hdu bytes start ≡ true → last_read bytes hdu start ≡ j → header_at bytes hdu start ≡ header_read_to bytes hdu start j
 unfolding header_at
@@ -109,11 +109,11 @@ lost_within bytes left most taken lost h = record { count = lost.count; few = om
 card_here : (bytes : List ℕ) (start k j : ℕ) (card : List ℕ) → j ≡ k + 1 → card ≡ take 80 (drop (start + 80 * k) bytes) → card_at bytes start j ≡ card
 card_here bytes start k j card next is = let place : start + 80 * (j - 1) ≡ start + 80 * k = omega arith in rw place (sym is)
 
-pub card_is : (bytes : List ℕ) (hdu start k j : ℕ) (a b : Option (List ℕ)) (card : List ℕ) → Reached bytes hdu start a k → j ≡ k + 1 → CardRead bytes (start + 80 * k) b card → card_at bytes start j ≡ card
+pub card_is : (bytes : List ℕ) (hdu start k j : ℕ) (a b : Option (List ℕ)) (card : List ℕ) → CardsPassed bytes hdu start a k → j ≡ k + 1 → CardRead bytes (start + 80 * k) b card → card_at bytes start j ≡ card
 card_is bytes hdu start k j a b card reached next read = card_here bytes start k j card next read.card_is
 
-pub reach_next : (bytes : List ℕ) (hdu start k j : ℕ) (a b : Option (List ℕ)) (card : List ℕ) → Reached bytes hdu start a k → j ≡ k + 1 → CardRead bytes (start + 80 * k) b card
-    → is_bad (eqb hdu 0) (card_at bytes start) j ≡ false → is_last (card_at bytes start) j ≡ false → Reached bytes hdu start b j
+pub reach_next : (bytes : List ℕ) (hdu start k j : ℕ) (a b : Option (List ℕ)) (card : List ℕ) → CardsPassed bytes hdu start a k → j ≡ k + 1 → CardRead bytes (start + 80 * k) b card
+    → is_bad (eqb hdu 0) (card_at bytes start) j ≡ false → is_last (card_at bytes start) j ≡ false → CardsPassed bytes hdu start b j
 reach_next bytes hdu start k j a b card reached next read good more = record {
   begun = reached.begun;
   passed = λ i l h. by i l h;
@@ -132,7 +132,7 @@ reach_next bytes hdu start k j a b card reached next read good more = record {
     by : (i : ℕ) → 1 ≤ i → i ≤ j → stops bytes hdu start i ≡ false
     by i l h = elim (cases_lt i j) [ inl less ↦ reached.passed i l (omega arith) | inr same ↦ let is : j ≡ i = omega arith in subst (λ n. stops bytes hdu start n ≡ false) is here ]
 
-pub stop_bad : (bytes : List ℕ) (hdu start k j : ℕ) (a b : Option (List ℕ)) (card : List ℕ) → Reached bytes hdu start a k → j ≡ k + 1 → j ≤ 36000 → CardRead bytes (start + 80 * k) b card
+pub stop_bad : (bytes : List ℕ) (hdu start k j : ℕ) (a b : Option (List ℕ)) (card : List ℕ) → CardsPassed bytes hdu start a k → j ≡ k + 1 → j ≤ 36000 → CardRead bytes (start + 80 * k) b card
     → is_bad (eqb hdu 0) (card_at bytes start) j ≡ true → Stopped (header_at bytes hdu start) bytes b (BadKeyword hdu j)
 stop_bad bytes hdu start k j a b card reached next most read bad =
     let place : start + 80 * k + 80 ≡ start + 80 * j = omega arith in
@@ -140,7 +140,7 @@ stop_bad bytes hdu start k j a b card reached next most read bad =
     let stop = stops_is bytes hdu start j false true _ there bad refl in
     (start + 80 * j, header_begun bytes hdu start j reached.begun (last_read_is bytes hdu start k j next most reached.passed stop) ∙ read_to_bad bytes hdu start j most there bad, subst (Takes bytes b) place read.takes)
 
-pub stop_missing : (bytes : List ℕ) (hdu start k : ℕ) (a b : Option (List ℕ)) (fault : HduFault) → Reached bytes hdu start a k → k < 36000 → CardMissing bytes (start + 80 * k) b fault → Stopped (header_at bytes hdu start) bytes b fault
+pub stop_missing : (bytes : List ℕ) (hdu start k : ℕ) (a b : Option (List ℕ)) (fault : HduFault) → CardsPassed bytes hdu start a k → k < 36000 → CardMissing bytes (start + 80 * k) b fault → Stopped (header_at bytes hdu start) bytes b fault
 stop_missing bytes hdu start k a b TruncatedHeader reached most cut =
     let missing = missing_is bytes start (k + 1) (omega (arith, cut.0)) in
     let stop = stops_is bytes hdu start (k + 1) true _ _ missing refl refl in
@@ -155,12 +155,12 @@ stop_missing bytes hdu start k a b DataTooLong reached most h = absurd h
 stop_missing bytes hdu start k a b NoSuchHdu reached most h = absurd h
 stop_missing bytes hdu start k a b TruncatedSkip reached most h = absurd h
 
-pub stop_long : (bytes : List ℕ) (hdu start k : ℕ) (a : Option (List ℕ)) → Reached bytes hdu start a k → k ≡ 36000 → Stopped (header_at bytes hdu start) bytes a HeaderTooLong
+pub stop_long : (bytes : List ℕ) (hdu start k : ℕ) (a : Option (List ℕ)) → CardsPassed bytes hdu start a k → k ≡ 36000 → Stopped (header_at bytes hdu start) bytes a HeaderTooLong
 stop_long bytes hdu start k a reached all =
     (start + 80 * 36000, header_begun bytes hdu start (k + 1) reached.begun (last_read_past bytes hdu start k all reached.passed) ∙ read_to_long bytes hdu start (k + 1) (omega arith), subst (λ n. Takes bytes a (start + 80 * n)) all reached.takes)
 
 -- END was read
-pub end_whole : (bytes : List ℕ) (hdu start k j : ℕ) (a b : Option (List ℕ)) (card : List ℕ) → Reached bytes hdu start a k → j ≡ k + 1 → j ≤ 36000 → CardRead bytes (start + 80 * k) b card
+pub end_whole : (bytes : List ℕ) (hdu start k j : ℕ) (a b : Option (List ℕ)) (card : List ℕ) → CardsPassed bytes hdu start a k → j ≡ k + 1 → j ≤ 36000 → CardRead bytes (start + 80 * k) b card
     → is_bad (eqb hdu 0) (card_at bytes start) j ≡ false → is_last (card_at bytes start) j ≡ true → header_at bytes hdu start ≡ whole_header bytes hdu start j
 end_whole bytes hdu start k j a b card reached next most read good last =
     let there = there_is bytes start j (omega (arith, read.takes.within)) in

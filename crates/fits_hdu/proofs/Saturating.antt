@@ -1,5 +1,5 @@
 -- Products and sums that stop at a last number are the exact ones up to that number.
-use Rattle.std.proofs.Common.{◌≡◌, ℕ, zero, suc, ◌+◌, ◌-◌, ◌*◌, ◌^◌, ◌<◌, ◌≤◌, ◌⊎◌, inl, inr, List, [], ◌∷◌, ◌++◌, min, sym, ap, ◌∙◌, arith}
+use Rattle.std.proofs.Common.{◌≡◌, ℕ, zero, suc, ◌+◌, ◌-◌, ◌*◌, ◌^◌, ◌<◌, ◌≤◌, inl, inr, List, [], ◌∷◌, ◌++◌, min, sym, ap, ◌∙◌, arith}
 use Rattle.std.proofs.Math.Nat.{mul_comm, mul_assoc, mul-suc}
 use Rattle.std.proofs.lemmas.Bool.{cases_lt}
 use Rattle.fits_hdu.specs.Sizes.{product}

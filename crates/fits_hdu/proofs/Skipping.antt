@@ -1,5 +1,5 @@
 -- A piece more is passed over.
-use Rattle.std.proofs.Common.{◌≡◌, ℕ, ◌+◌, ◌-◌, ◌<◌, ◌≤◌, Bool, true, false, List, length, take, drop, Option, min, refl, sym, ap, subst, ◌∙◌, arith, length-drop}
+use Rattle.std.proofs.Common.{◌≡◌, ℕ, ◌+◌, ◌-◌, ◌<◌, ◌≤◌, Bool, true, false, List, length, drop, Option, subst, arith, length-drop}
 use Rattle.dev_io.specs.Streams.{Takes, TakesAtMost, Fills}
 use Rattle.fits_hdu.specs.Reading.{Skipped}
 use Rattle.dev_io.specs.Laws.{Takes-after, TakesAtMost-after}

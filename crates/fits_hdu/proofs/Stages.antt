@@ -6,18 +6,18 @@ use Rattle.std.proofs.lemmas.Bool.{cases_lt}
 use Rattle.dev_io.specs.Streams.{Takes, TakesAtMost, Fills}
 use Rattle.dev_io.specs.Laws.{Takes-after}
 use Rattle.fits_hdu.specs.declared.answer.HduFault.{HduFault}
-use Rattle.fits_hdu.specs.declared.answer.HduFault.TheVariants.{NotFits, TruncatedHeader, BadKeyword, HeaderTooLong, NoSuchHdu, ReadFault}
+use Rattle.fits_hdu.specs.declared.answer.HduFault.TheVariants.{NotFits, TruncatedHeader, BadKeyword, NoSuchHdu}
 use Rattle.fits_hdu.specs.declared.axes.Axes.{Axes}
 use Rattle.fits_hdu.specs.declared.others.Others.{Others}
 use Rattle.fits_hdu.specs.Cards.{is_end, is_first, is_image, bitpix_of, naxis_of, axis_of, natural, has_keyword, at_most}
-use Rattle.fits_hdu.specs.Headers.{refused, header_at, whole_header, begins, is_beginning, is_bad, is_bad_count, is_last, card_at, axis_count, axes_of, others_before}
+use Rattle.fits_hdu.specs.Headers.{refused, header_at, begins, is_beginning, is_bad, is_bad_count, is_last, card_at, axis_count, others_before}
 use Rattle.fits_hdu.specs.Kept.{kept_axes, kept_others}
 use Rattle.fits_hdu.specs.Finding.{taken_by}
 use Rattle.fits_hdu.specs.Streams.{Stopped}
-use Rattle.fits_hdu.specs.Reading.{Reached, CardRead, CardMissing, FirstRead, BitpixRead, NaxisRead, AxisRead, AxesRead, EndRead, OtherBytes, OtherLeft}
+use Rattle.fits_hdu.specs.Reading.{CardsPassed, CardRead, FirstRead, BitpixRead, NaxisRead, AxisRead, AxesRead, EndRead, OtherLeft}
 use Rattle.fits_hdu.proofs.Filled.{card_read, filled_cut, card_lost, beginning_is}
 use Rattle.fits_hdu.proofs.Places.{bad_first, bad_second, bad_third, bad_axis, bad_other, last_other, not_last, axis_natural, axes_to, axes_more, axes_all, length-axes_to, others_none, others_next}
-use Rattle.fits_hdu.proofs.Reaching.{header_other, header_takes_first, lost_within, card_is, reach_next, stop_bad, stop_missing, stop_long, end_whole}
+use Rattle.fits_hdu.proofs.Reaching.{header_other, header_takes_first, lost_within, card_is, reach_next, stop_bad, stop_missing, end_whole}
 
 -- The first card.
 
@@ -51,7 +51,7 @@ first_not a hdu b n buf is ended long moved short test other = elim (cases_lt n 
   })
 ]
 
-reached_none : (bytes : List ℕ) (hdu start : ℕ) (a : Option (List ℕ)) → begins hdu bytes start ≡ true → Takes bytes a start → Reached bytes hdu start a 0
+reached_none : (bytes : List ℕ) (hdu start : ℕ) (a : Option (List ℕ)) → begins hdu bytes start ≡ true → Takes bytes a start → CardsPassed bytes hdu start a 0
 reached_none bytes hdu start a begun takes = record {
   begun = begun;
   passed = λ j l h. absurd (omega arith);
@@ -95,15 +95,15 @@ first_read bytes hdu start a b n buf is first image takes long fills test named 
 
 -- BITPIX
 
-bitpix_says : (bytes : List ℕ) (hdu start : ℕ) (a b : Option (List ℕ)) (card : List ℕ) (o : Option ℤ) → Reached bytes hdu start a 1 → CardRead bytes (start + 80 * 1) b card → o ≡ bitpix_of card → bitpix_of (card_at bytes start 2) ≡ o
+bitpix_says : (bytes : List ℕ) (hdu start : ℕ) (a b : Option (List ℕ)) (card : List ℕ) (o : Option ℤ) → CardsPassed bytes hdu start a 1 → CardRead bytes (start + 80 * 1) b card → o ≡ bitpix_of card → bitpix_of (card_at bytes start 2) ≡ o
 bitpix_says bytes hdu start a b card o reached read says = ap bitpix_of (card_is bytes hdu start 1 2 a b card reached refl read) ∙ sym says
 
-pub bitpix_bad : (bytes : List ℕ) (hdu start : ℕ) (a b : Option (List ℕ)) (card : List ℕ) (o : Option ℤ) → Reached bytes hdu start a 1 → CardRead bytes (start + 80 * 1) b card → o ≡ bitpix_of card → o ≡ None → Stopped (header_at bytes hdu start) bytes b (BadKeyword hdu 2)
+pub bitpix_bad : (bytes : List ℕ) (hdu start : ℕ) (a b : Option (List ℕ)) (card : List ℕ) (o : Option ℤ) → CardsPassed bytes hdu start a 1 → CardRead bytes (start + 80 * 1) b card → o ≡ bitpix_of card → o ≡ None → Stopped (header_at bytes hdu start) bytes b (BadKeyword hdu 2)
 bitpix_bad bytes hdu start a b card o reached read says none =
     let bad : is_bad (eqb hdu 0) (card_at bytes start) 2 ≡ true = bad_second (eqb hdu 0) (card_at bytes start) ∙ ap (λ o. not (is_some o)) (bitpix_says bytes hdu start a b card o reached read says ∙ none) in
     stop_bad bytes hdu start 1 2 a b card reached refl (lit≤ tt) read bad
 
-pub bitpix_read : (bytes : List ℕ) (hdu start : ℕ) (a b : Option (List ℕ)) (card : List ℕ) (o : Option ℤ) (n : ℤ) → Reached bytes hdu start a 1 → CardRead bytes (start + 80 * 1) b card → o ≡ bitpix_of card → o ≡ Some n → BitpixRead bytes hdu start b n
+pub bitpix_read : (bytes : List ℕ) (hdu start : ℕ) (a b : Option (List ℕ)) (card : List ℕ) (o : Option ℤ) (n : ℤ) → CardsPassed bytes hdu start a 1 → CardRead bytes (start + 80 * 1) b card → o ≡ bitpix_of card → o ≡ Some n → BitpixRead bytes hdu start b n
 bitpix_read bytes hdu start a b card o n reached read says some =
     let is : bitpix_of (card_at bytes start 2) ≡ Some n = bitpix_says bytes hdu start a b card o reached read says ∙ some in
     let good : is_bad (eqb hdu 0) (card_at bytes start) 2 ≡ false = bad_second (eqb hdu 0) (card_at bytes start) ∙ ap (λ o. not (is_some o)) is in
@@ -111,10 +111,10 @@ bitpix_read bytes hdu start a b card o n reached read says some =
 
 -- NAXIS
 
-naxis_says : (bytes : List ℕ) (hdu start : ℕ) (a b : Option (List ℕ)) (card : List ℕ) (o : Option ℕ) → Reached bytes hdu start a 2 → CardRead bytes (start + 80 * 2) b card → o ≡ naxis_of card → naxis_of (card_at bytes start 3) ≡ o
+naxis_says : (bytes : List ℕ) (hdu start : ℕ) (a b : Option (List ℕ)) (card : List ℕ) (o : Option ℕ) → CardsPassed bytes hdu start a 2 → CardRead bytes (start + 80 * 2) b card → o ≡ naxis_of card → naxis_of (card_at bytes start 3) ≡ o
 naxis_says bytes hdu start a b card o reached read says = ap naxis_of (card_is bytes hdu start 2 3 a b card reached refl read) ∙ sym says
 
-pub naxis_bad : (bytes : List ℕ) (hdu start : ℕ) (a b : Option (List ℕ)) (card : List ℕ) (o : Option ℕ) → Reached bytes hdu start a 2 → CardRead bytes (start + 80 * 2) b card → o ≡ naxis_of card → o ≡ None → Stopped (header_at bytes hdu start) bytes b (BadKeyword hdu 3)
+pub naxis_bad : (bytes : List ℕ) (hdu start : ℕ) (a b : Option (List ℕ)) (card : List ℕ) (o : Option ℕ) → CardsPassed bytes hdu start a 2 → CardRead bytes (start + 80 * 2) b card → o ≡ naxis_of card → o ≡ None → Stopped (header_at bytes hdu start) bytes b (BadKeyword hdu 3)
 naxis_bad bytes hdu start a b card o reached read says none =
     let bad : is_bad (eqb hdu 0) (card_at bytes start) 3 ≡ true = bad_third (eqb hdu 0) (card_at bytes start) ∙ ap (λ o. not (is_some o)) (naxis_says bytes hdu start a b card o reached read says ∙ none) in
     stop_bad bytes hdu start 2 3 a b card reached refl (lit≤ tt) read bad
@@ -136,7 +136,7 @@ count_is : (card : ℕ → List ℕ) (n : ℕ) → naxis_of (card 3) ≡ Some n 
 unfolding axis_count
 count_is card n is = ap (λ o. unwrap_or o 0) is
 
-pub naxis_read : (bytes : List ℕ) (hdu start : ℕ) (a b : Option (List ℕ)) (card : List ℕ) (o : Option ℕ) (n : ℕ) → Reached bytes hdu start a 2 → CardRead bytes (start + 80 * 2) b card → o ≡ naxis_of card → o ≡ Some n → NaxisRead bytes hdu start b n
+pub naxis_read : (bytes : List ℕ) (hdu start : ℕ) (a b : Option (List ℕ)) (card : List ℕ) (o : Option ℕ) (n : ℕ) → CardsPassed bytes hdu start a 2 → CardRead bytes (start + 80 * 2) b card → o ≡ naxis_of card → o ≡ Some n → NaxisRead bytes hdu start b n
 naxis_read bytes hdu start a b card o n reached read says some =
     let is : naxis_of (card_at bytes start 3) ≡ Some n = naxis_says bytes hdu start a b card o reached read says ∙ some in
     let good : is_bad (eqb hdu 0) (card_at bytes start) 3 ≡ false = bad_third (eqb hdu 0) (card_at bytes start) ∙ ap (λ o. not (is_some o)) is in
@@ -148,16 +148,16 @@ naxis_read bytes hdu start a b card o n reached read says some =
 
 -- The axes.
 
-axis_says : (bytes : List ℕ) (hdu start k : ℕ) (a b : Option (List ℕ)) (card : List ℕ) (o : Option ℕ) → Reached bytes hdu start a (2 + k) → CardRead bytes (start + 80 * (2 + k)) b card → o ≡ axis_of k card → axis_of k (card_at bytes start (3 + k)) ≡ o
+axis_says : (bytes : List ℕ) (hdu start k : ℕ) (a b : Option (List ℕ)) (card : List ℕ) (o : Option ℕ) → CardsPassed bytes hdu start a (2 + k) → CardRead bytes (start + 80 * (2 + k)) b card → o ≡ axis_of k card → axis_of k (card_at bytes start (3 + k)) ≡ o
 axis_says bytes hdu start k a b card o reached read says = ap (axis_of k) (card_is bytes hdu start (2 + k) (3 + k) a b card reached (omega arith) read) ∙ sym says
 
-pub axis_bad : (bytes : List ℕ) (hdu start k : ℕ) (a b : Option (List ℕ)) (card : List ℕ) (o : Option ℕ) → 1 ≤ k → k ≤ 999 → Reached bytes hdu start a (2 + k) → k ≤ axis_count (card_at bytes start) → CardRead bytes (start + 80 * (2 + k)) b card
+pub axis_bad : (bytes : List ℕ) (hdu start k : ℕ) (a b : Option (List ℕ)) (card : List ℕ) (o : Option ℕ) → 1 ≤ k → k ≤ 999 → CardsPassed bytes hdu start a (2 + k) → k ≤ axis_count (card_at bytes start) → CardRead bytes (start + 80 * (2 + k)) b card
     → o ≡ axis_of k card → o ≡ None → Stopped (header_at bytes hdu start) bytes b (BadKeyword hdu (3 + k))
 axis_bad bytes hdu start k a b card o first few reached within read says none =
     let bad : is_bad (eqb hdu 0) (card_at bytes start) (3 + k) ≡ true = bad_axis (eqb hdu 0) (card_at bytes start) k first within ∙ ap (λ o. not (is_some o)) (axis_says bytes hdu start k a b card o reached read says ∙ none) in
     stop_bad bytes hdu start (2 + k) (3 + k) a b card reached (omega arith) (omega arith) read bad
 
-pub axis_read : (bytes : List ℕ) (hdu start k : ℕ) (a b : Option (List ℕ)) (card : List ℕ) (o : Option ℕ) (n : ℕ) → 1 ≤ k → k ≤ 999 → Reached bytes hdu start a (2 + k) → k ≤ axis_count (card_at bytes start) → CardRead bytes (start + 80 * (2 + k)) b card
+pub axis_read : (bytes : List ℕ) (hdu start k : ℕ) (a b : Option (List ℕ)) (card : List ℕ) (o : Option ℕ) (n : ℕ) → 1 ≤ k → k ≤ 999 → CardsPassed bytes hdu start a (2 + k) → k ≤ axis_count (card_at bytes start) → CardRead bytes (start + 80 * (2 + k)) b card
     → o ≡ axis_of k card → o ≡ Some n → AxisRead bytes hdu start b k n
 axis_read bytes hdu start k a b card o n first few reached within read says some =
     let is : axis_of k (card_at bytes start (3 + k)) ≡ Some n = axis_says bytes hdu start k a b card o reached read says ∙ some in
@@ -169,14 +169,14 @@ axis_read bytes hdu start k a b card o n first few reached within read says some
 
 -- the first k axes were read
 pub record AxesTo (bytes : List ℕ) (hdu start : ℕ) (left : Option (List ℕ)) (k : ℕ) (axes : Axes) : Type 0 where
-  pub reached : Reached bytes hdu start left (3 + k)
+  pub reached : CardsPassed bytes hdu start left (3 + k)
   pub axes_are : axes ≡ kept_axes (axes_to (card_at bytes start) k)
 
 -- The cards after them.
 
 -- the cards up to the one before card j were read, and none of them is END
 pub record OthersTo (bytes : List ℕ) (hdu start : ℕ) (left : Option (List ℕ)) (j : ℕ) (others : Others) : Type 0 where
-  pub reached : Reached bytes hdu start left (j - 1)
+  pub reached : CardsPassed bytes hdu start left (j - 1)
   pub others_are : others ≡ kept_others (others_before (card_at bytes start) j)
 
 pub axes_step : (bytes : List ℕ) (hdu start k j : ℕ) (a b : Option (List ℕ)) (axes next : Axes) (n : ℕ) → AxesTo bytes hdu start a k axes → j ≡ k + 1 → AxisRead bytes hdu start b j n
@@ -186,15 +186,15 @@ axes_step bytes hdu start k j a b axes next n before same read kept = record {
   axes_are = kept (axes_to (card_at bytes start) k) (length-axes_to (card_at bytes start) k) before.axes_are ∙ ap kept_axes (sym (axes_more (card_at bytes start) k j n same read.size_is));
 }
 
-pub axes_next : (bytes : List ℕ) (hdu start k j : ℕ) (a : Option (List ℕ)) (axes : Axes) → AxesTo bytes hdu start a k axes → j ≡ k + 1 → Reached bytes hdu start a (2 + j)
-axes_next bytes hdu start k j a axes before same = let place : 3 + k ≡ 2 + j = omega arith in subst (Reached bytes hdu start a) place before.reached
+pub axes_next : (bytes : List ℕ) (hdu start k j : ℕ) (a : Option (List ℕ)) (axes : Axes) → AxesTo bytes hdu start a k axes → j ≡ k + 1 → CardsPassed bytes hdu start a (2 + j)
+axes_next bytes hdu start k j a axes before same = let place : 3 + k ≡ 2 + j = omega arith in subst (CardsPassed bytes hdu start a) place before.reached
 
 pub axes_done : (bytes : List ℕ) (hdu start k : ℕ) (a : Option (List ℕ)) (axes : Axes) → AxesTo bytes hdu start a k axes → axis_count (card_at bytes start) ≡ k → AxesRead bytes hdu start a k axes
 axes_done bytes hdu start k a axes all count = record { reached = all.reached; axes_are = all.axes_are ∙ ap kept_axes (axes_all (card_at bytes start) k count) }
 
-pub others_first : (bytes : List ℕ) (hdu start naxis j : ℕ) (a : Option (List ℕ)) (others : Others) → Reached bytes hdu start a (3 + naxis) → axis_count (card_at bytes start) ≡ naxis → j ≡ 4 + naxis → others ≡ kept_others [] → OthersTo bytes hdu start a j others
+pub others_first : (bytes : List ℕ) (hdu start naxis j : ℕ) (a : Option (List ℕ)) (others : Others) → CardsPassed bytes hdu start a (3 + naxis) → axis_count (card_at bytes start) ≡ naxis → j ≡ 4 + naxis → others ≡ kept_others [] → OthersTo bytes hdu start a j others
 others_first bytes hdu start naxis j a others reached count place none = record {
-  reached = let same : 3 + naxis ≡ j - 1 = omega arith in subst (Reached bytes hdu start a) same reached;
+  reached = let same : 3 + naxis ≡ j - 1 = omega arith in subst (CardsPassed bytes hdu start a) same reached;
   others_are = none ∙ ap kept_others (sym (others_none (card_at bytes start) j (omega arith)));
 }
 
@@ -239,10 +239,10 @@ pub others_step : (bytes : List ℕ) (hdu start naxis j i : ℕ) (a b : Option (
     → bad ≡ false → end ≡ is_end card → end ≡ false → ((cards : List (List ℕ)) → others ≡ kept_others cards → next ≡ kept_others (cards ++ card ∷ [])) → OthersTo bytes hdu start b i next
 others_step bytes hdu start naxis j i a b card others next bad end to count place same read judged right says other kept =
     let here : card_at bytes start j ≡ card = card_is bytes hdu start (j - 1) j a b card to.reached (omega arith) read in
-    let reached : Reached bytes hdu start b j = reach_next bytes hdu start (j - 1) j a b card to.reached (omega arith) read
+    let reached : CardsPassed bytes hdu start b j = reach_next bytes hdu start (j - 1) j a b card to.reached (omega arith) read
     (other_bad bytes hdu start naxis j a b card others bad to count place read judged ∙ right) (other_end bytes hdu start naxis j a b card others end to count place read says ∙ other) in
     record {
-      reached = let last : j ≡ i - 1 = omega arith in subst (Reached bytes hdu start b) last reached;
+      reached = let last : j ≡ i - 1 = omega arith in subst (CardsPassed bytes hdu start b) last reached;
       others_are = kept (others_before (card_at bytes start) j) to.others_are
           ∙ ap (λ l. kept_others (others_before (card_at bytes start) j ++ l ∷ [])) (sym here)
           ∙ ap kept_others (sym (others_next (card_at bytes start) j (omega arith)))

@@ -1,9 +1,8 @@
--- The header that starts at a place in a list of bytes (FITS Standard 4.0, sections 3.3 and 4.4).
-use Rattle.std.specs.Prelude.{ℕ, zero, suc, ◌+◌, ◌-◌, ◌*◌, ◌/◌, ◌^◌, Bool, true, false, not, List, [], ◌∷◌, ◌++◌, ◌==◌, ◌&&◌, ◌||◌, length, take, drop, min, map, Option, Some, None, Result, Ok, Err, codes, if◌then◌else◌, ℤ, pos, nat_lt, is_some, is_none, unwrap_or, slice_index, find}
+-- Model: the header that starts at a place in a list of bytes (FITS Standard 4.0, sections 3.3 and 4.4).
+use Rattle.std.specs.Prelude.{ℕ, zero, suc, ◌+◌, ◌-◌, ◌*◌, ◌/◌, ◌^◌, Bool, true, false, not, List, [], ◌∷◌, ◌++◌, ◌==◌, ◌&&◌, ◌||◌, length, take, drop, min, map, Option, Result, Ok, Err, codes, if◌then◌else◌, ℤ, pos, nat_lt, is_none, unwrap_or, slice_index, find}
 use Rattle.std.specs.List.{list_all}
 use Rattle.std.specs.Str.{bytes_eq}
 use Rattle.std.specs.Option.{option_map}
-use Rattle.fits_card.specs.declared.number.Whole.{Whole}
 use Rattle.fits_card.specs.declared.number.Whole.TheVariants.{Is}
 use Rattle.fits_hdu.specs.declared.answer.Kind.{Kind}
 use Rattle.fits_hdu.specs.declared.answer.Kind.TheVariants.{Primary, Image, Other}
@@ -66,16 +65,16 @@ unfoldable pub stops : List ℕ → ℕ → ℕ → ℕ → Bool
 stops bytes hdu start j = is_missing bytes start j || (is_bad (hdu == 0) (card_at bytes start) j || is_last (card_at bytes start) j)
 
 -- the least number that passes the test, of so many from the first on, or the one after them
-unfoldable pub least : (ℕ → Bool) → ℕ → ℕ → ℕ
-least test first zero = first
-least test first (suc n) = if test first then first else least test (first + 1) n
+unfoldable pub first_passing : (ℕ → Bool) → ℕ → ℕ → ℕ
+first_passing test first zero = first
+first_passing test first (suc n) = if test first then first else first_passing test (first + 1) n
 
 abbrev pub most_cards : ℕ
 most_cards = 36000
 
 -- the card at which reading ends, or 36,001
 unfoldable pub last_read : List ℕ → ℕ → ℕ → ℕ
-last_read bytes hdu start = least (stops bytes hdu start) 1 most_cards
+last_read bytes hdu start = first_passing (stops bytes hdu start) 1 most_cards
 
 abbrev pub beginning : Bool → List ℕ
 beginning true = codes "SIMPLE  "

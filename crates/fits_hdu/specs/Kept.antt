@@ -1,5 +1,5 @@
--- What is kept of the cards that were read.
-use Rattle.std.specs.Prelude.{ℕ, ◌-◌, ◌^◌, Bool, List, ◌==◌, codes, drop, min, slice_index}
+-- Bookkeeping: what is kept of the cards that were read.
+use Rattle.std.specs.Prelude.{ℕ, ◌-◌, ◌^◌, List, ◌==◌, codes, drop, min, slice_index}
 use Rattle.std.specs.List.{list_all}
 use Rattle.std.specs.Option.{option_map}
 use Rattle.fits_hdu.specs.declared.axes.Axes.{Axes}

@@ -5,3 +5,4 @@ pub mod Finding
 pub mod Streams
 pub mod Kept
 pub mod Reading
+pub mod Laws

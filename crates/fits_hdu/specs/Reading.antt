@@ -1,16 +1,18 @@
--- How far the reading of a header has come.
-use Rattle.std.specs.Prelude.{◌≡◌, ℕ, ◌+◌, ◌*◌, ◌<◌, ◌≤◌, ◌==◌, Bool, true, false, List, length, take, drop, Some, ℤ, IsTrue, ◌⊎◌}
+-- Bookkeeping: how far reading has come, and what stands behind each fault.
+use Rattle.std.specs.Prelude.{◌≡◌, ℕ, ◌+◌, ◌*◌, ◌<◌, ◌≤◌, Bool, true, false, List, length, take, drop, Some, ℤ, IsTrue, ◌⊎◌}
 use Rattle.std.specs.declared.option.Option.{Option}
+use Rattle.dev_io.specs.Causes.{Rose}
 use Rattle.dev_io.specs.Streams.{Takes, TakesAtMost}
+use Rattle.fits_hdu.specs.declared.answer.Hdu.{Hdu}
 use Rattle.fits_hdu.specs.declared.answer.HduFault.{HduFault}
-use Rattle.fits_hdu.specs.declared.answer.HduFault.TheVariants.{TruncatedHeader, ReadFault}
+use Rattle.fits_hdu.specs.declared.answer.HduFault.TheVariants.{TruncatedHeader, TruncatedSkip, NoSuchHdu, ReadFault}
 use Rattle.fits_hdu.specs.declared.axes.Axes.{Axes}
-use Rattle.fits_hdu.specs.declared.others.Others.{Others}
 use Rattle.fits_hdu.specs.declared.header.Mandatory.{Mandatory}
 use Rattle.fits_hdu.specs.declared.header.Ended.{Ended}
 use Rattle.fits_hdu.specs.Cards.{is_image, bitpix_of, natural}
-use Rattle.fits_hdu.specs.Headers.{begins, stops, card_at, axis_count, axes_of, others_before, whole_header, header_at}
-use Rattle.fits_hdu.specs.Finding.{padded}
+use Rattle.fits_hdu.specs.Headers.{found, begins, stops, card_at, axis_count, axes_of, others_before, whole_header, header_at}
+use Rattle.fits_hdu.specs.Finding.{padded, padding, find_on_of}
+use Rattle.fits_hdu.specs.Streams.{OtherBytes, IsOther}
 use Rattle.fits_hdu.specs.Kept.{kept_axes, kept_others}
 
 -- the next 80 bytes were read
@@ -25,34 +27,34 @@ CardMissing bytes at left ReadFault = TakesAtMost bytes left (at + 80)
 CardMissing bytes at left fault = ⊥
 
 -- reading doesn't end up to card k, whose last byte was taken
-pub record Reached (bytes : List ℕ) (hdu start : ℕ) (left : Option (List ℕ)) (k : ℕ) : Type 0 where
+pub record CardsPassed (bytes : List ℕ) (hdu start : ℕ) (left : Option (List ℕ)) (k : ℕ) : Type 0 where
   pub begun : begins hdu bytes start ≡ true
   pub passed : (j : ℕ) → 1 ≤ j → j ≤ k → stops bytes hdu start j ≡ false
   pub takes : Takes bytes left (start + 80 * k)
 
 pub record FirstRead (bytes : List ℕ) (hdu start : ℕ) (left : Option (List ℕ)) (image : Bool) : Type 0 where
-  pub reached : Reached bytes hdu start left 1
+  pub reached : CardsPassed bytes hdu start left 1
   pub image_is : image ≡ is_image (card_at bytes start 1)
 
 pub record BitpixRead (bytes : List ℕ) (hdu start : ℕ) (left : Option (List ℕ)) (bitpix : ℤ) : Type 0 where
-  pub reached : Reached bytes hdu start left 2
+  pub reached : CardsPassed bytes hdu start left 2
   pub bitpix_is : bitpix_of (card_at bytes start 2) ≡ Some bitpix
 
 pub record NaxisRead (bytes : List ℕ) (hdu start : ℕ) (left : Option (List ℕ)) (naxis : ℕ) : Type 0 where
-  pub reached : Reached bytes hdu start left 3
+  pub reached : CardsPassed bytes hdu start left 3
   pub naxis_is : axis_count (card_at bytes start) ≡ naxis
   pub few : naxis ≤ 999
 
 pub record AxisRead (bytes : List ℕ) (hdu start : ℕ) (left : Option (List ℕ)) (k size : ℕ) : Type 0 where
-  pub reached : Reached bytes hdu start left (3 + k)
+  pub reached : CardsPassed bytes hdu start left (3 + k)
   pub size_is : natural (card_at bytes start (3 + k)) ≡ Some size
 
 pub record AxesRead (bytes : List ℕ) (hdu start : ℕ) (left : Option (List ℕ)) (naxis : ℕ) (axes : Axes) : Type 0 where
-  pub reached : Reached bytes hdu start left (3 + naxis)
+  pub reached : CardsPassed bytes hdu start left (3 + naxis)
   pub axes_are : axes ≡ kept_axes (axes_of (card_at bytes start))
 
 pub record MandatoryRead (bytes : List ℕ) (hdu start : ℕ) (left : Option (List ℕ)) (cards : Mandatory) : Type 0 where
-  pub reached : Reached bytes hdu start left (3 + cards.naxis)
+  pub reached : CardsPassed bytes hdu start left (3 + cards.naxis)
   pub image_is : cards.image ≡ is_image (card_at bytes start 1)
   pub bitpix_is : bitpix_of (card_at bytes start 2) ≡ Some cards.bitpix
   pub naxis_is : axis_count (card_at bytes start) ≡ cards.naxis
@@ -71,10 +73,15 @@ abbrev pub Skipped : List ℕ → ℕ → ℕ → Option (List ℕ) → Bool →
 Skipped bytes at count left true = Takes bytes left (at + count)
 Skipped bytes at count left false = (length bytes < at + count) × Takes bytes left (length bytes)
 
--- other bytes than an HDU's stand where it is to begin
-pub record OtherBytes (bytes : List ℕ) (hdu start : ℕ) : Type 0 where
-  pub there : start + 8 ≤ length bytes
-  pub other : begins hdu bytes start ≡ false
+-- The causes of faults.
+
+-- A header or a skip that is cut short has found the end, a read fault has raised the count, and behind NoSuchHdu stands what is named.
+abbrev pub Caused : Type 0 → Bool → ℕ → ℕ → HduFault → Type 0
+Caused missing ended before now TruncatedHeader = IsTrue ended
+Caused missing ended before now TruncatedSkip = IsTrue ended
+Caused missing ended before now NoSuchHdu = missing
+Caused missing ended before now ReadFault = Rose before now
+Caused missing ended before now fault = Unit {0}
 
 -- the bytes that were left begin so
 abbrev pub OtherLeft : Option (List ℕ) → ℕ → Type 0
@@ -84,6 +91,14 @@ OtherLeft left hdu = (bytes : List ℕ) (start : ℕ) → Takes bytes left start
 abbrev pub NotThere : Bool → Option (List ℕ) → ℕ → Type 0
 NotThere ended left hdu = (0 < hdu) × (IsTrue ended ⊎ OtherLeft left hdu)
 
+-- the same behind the padding of data of this size
+abbrev pub OtherPastPadding : Option (List ℕ) → ℕ → ℕ → Type 0
+OtherPastPadding left hdu size = (bytes : List ℕ) (start : ℕ) → Takes bytes left start → OtherBytes bytes hdu (start + padding size)
+
 -- the same behind data of this size and its padding
 abbrev pub OtherBehind : Option (List ℕ) → ℕ → ℕ → Type 0
 OtherBehind left hdu size = (bytes : List ℕ) (head : ℕ) → Takes bytes left head → OtherBytes bytes hdu (head + padded size)
+
+-- the same after HDU n or a later one
+abbrev pub OtherLater : Option (List ℕ) → ℕ → Hdu → ℕ → Type 0
+OtherLater left n hdu number = (bytes : List ℕ) (head : ℕ) → Takes bytes left head → IsOther bytes (find_on_of bytes n (found hdu head)) n number

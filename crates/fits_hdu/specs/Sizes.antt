@@ -1,4 +1,4 @@
--- The size of an HDU's data, exact however large its factors are (FITS Standard 4.0, section 4.4.1).
+-- Model: the size of an HDU's data, exact however large its factors are (FITS Standard 4.0, section 4.4.1).
 use Rattle.std.specs.Prelude.{ℕ, ◌+◌, ◌*◌, ◌/◌, Bool, true, false, List, [], ◌∷◌, ℤ, unsigned_abs}
 
 abbrev pub product : List ℕ → ℕ

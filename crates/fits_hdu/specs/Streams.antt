@@ -1,13 +1,12 @@
--- What reading does to the bytes that are told, and what stands behind each fault.
-use Rattle.std.specs.Prelude.{◌≡◌, ℕ, suc, ◌+◌, ◌*◌, ◌<◌, ◌≤◌, Bool, true, false, List, length, take, drop, Result, Ok, Err, IsTrue, Some}
+-- Model: what a search for an HDU does to the bytes that are told, and what stands where no HDU was found.
+use Rattle.std.specs.Prelude.{◌≡◌, ℕ, ◌+◌, ◌<◌, ◌≤◌, ◌⊎◌, false, List, length, Result, Ok, Err}
 use Rattle.std.specs.declared.option.Option.{Option}
-use Rattle.dev_io.specs.Causes.{Rose}
 use Rattle.dev_io.specs.Streams.{Takes, TakesAtMost}
 use Rattle.fits_hdu.specs.declared.answer.Hdu.{Hdu}
 use Rattle.fits_hdu.specs.declared.answer.HduFault.{HduFault}
-use Rattle.fits_hdu.specs.declared.answer.HduFault.TheVariants.{NotFits, TruncatedHeader, BadKeyword, HeaderTooLong, Groups, DataTooLong, NoSuchHdu, TruncatedSkip, ReadFault}
-use Rattle.fits_hdu.specs.Headers.{Found, found, refused, begins, stops, card_at, whole_header, header_at}
-use Rattle.fits_hdu.specs.Finding.{padded, find_of, taken_by}
+use Rattle.fits_hdu.specs.declared.answer.HduFault.TheVariants.{ReadFault}
+use Rattle.fits_hdu.specs.Headers.{Found, found, refused, begins}
+use Rattle.fits_hdu.specs.Finding.{padded, padding, find_after_of, taken_by}
 
 -- a read fault took no more than was to be taken; any other fault is the one that was to be found, and took its bytes
 abbrev pub Stopped : Found → List ℕ → Option (List ℕ) → HduFault → Type 0
@@ -19,20 +18,21 @@ abbrev pub Finds : Found → List ℕ → Option (List ℕ) → Result Hdu HduFa
 Finds expected bytes left (Ok hdu) = (head : ℕ) × (expected ≡ found hdu head) × Takes bytes left head
 Finds expected bytes left (Err fault) = Stopped expected bytes left fault
 
--- A header or a skip that is cut short has found the end, a read fault has raised the count, and behind NoSuchHdu stands what is named.
-abbrev pub Caused : Type 0 → Bool → ℕ → ℕ → HduFault → Type 0
-Caused missing ended before now TruncatedHeader = IsTrue ended
-Caused missing ended before now TruncatedSkip = IsTrue ended
-Caused missing ended before now NoSuchHdu = missing
-Caused missing ended before now ReadFault = Rose before now
-Caused missing ended before now fault = Unit {0}
+-- other bytes than an HDU's stand where it is to begin
+pub record OtherBytes (bytes : List ℕ) (hdu start : ℕ) : Type 0 where
+  pub there : start + 8 ≤ length bytes
+  pub other : begins hdu bytes start ≡ false
 
--- other bytes than an extension's stand where one of the HDUs up to this number is to begin
-pub record IsOther (bytes : List ℕ) (number : ℕ) : Type 0 where
+-- a search finds an HDU, from n on, after which other bytes than an extension's stand; the next has at most this number
+pub record IsOther (bytes : List ℕ) (search : ℕ → Found) (n number : ℕ) : Type 0 where
   pub before : ℕ
+  pub from : n ≤ before
   pub earlier : before < number
   pub hdu : Hdu
   pub head : ℕ
-  pub is : find_of bytes before ≡ found hdu head
-  pub there : head + padded hdu.data_bytes + 8 ≤ length bytes
-  pub other : begins (before + 1) bytes (head + padded hdu.data_bytes) ≡ false
+  pub is : search before ≡ found hdu head
+  pub other : OtherBytes bytes (before + 1) (head + padded hdu.data_bytes)
+
+-- the same after HDU n, whose data of this size end here: other bytes stand behind its padding, or after a later HDU
+abbrev pub IsOtherAfter : List ℕ → ℕ → ℕ → ℕ → ℕ → Type 0
+IsOtherAfter bytes n size start number = OtherBytes bytes (n + 1) (start + padding size) ⊎ IsOther bytes (find_after_of bytes n size start) (n + 1) number

@@ -43,7 +43,8 @@ pub enum HduFault {
     /// The input ended inside a header, before the end of its last block.
     #[error("the input ends inside a header")]
     TruncatedHeader,
-    /// This card, numbered from 1, isn't the mandatory card of its place with a permitted value, or is a PCOUNT or GCOUNT that isn't an integer from 0.
+    /// At this place, counted from 1, another card than the mandatory one stands, or one with a value that it may not have. For an extension also
+    /// a PCOUNT or GCOUNT that counts, with something else than an integer from 0.
     #[error("card {card} of HDU {hdu} isn't the card that belongs there")]
     BadKeyword { hdu: u16, card: u32 },
     /// None of the first 36,000 cards is END.

@@ -1,16 +1,30 @@
 // Finding an HDU by its number.
-ghost use Rattle.std.specs.Prelude.{◌≡◌, ◌≤◌, ◌+◌, ◌^◌, ◌==◌, ◌⊎◌, List, ℕ, Result, MatchResult, IfErr, IfOk, OnErr, IsTrue, IsErrOf};
+ghost use Rattle.std.specs.Prelude.{◌≡◌, ◌<◌, ◌≤◌, ◌+◌, ◌⊎◌, List, ℕ, IfErr, IsTrue, IsErrOf};
 ghost use Rattle.std.specs.Option.{ForSome};
 ghost use Rattle.dev_io.specs.Causes.{Rose};
 ghost use Rattle.dev_io.specs.Streams.{Takes};
-ghost use Rattle.fits_hdu.specs.Finding.{following, find_of};
-ghost use Rattle.fits_hdu.specs.Streams.{Caused, Stopped, Finds, IsOther};
-ghost use Rattle.fits_hdu.specs.Reading.{OtherBehind};
+ghost use Rattle.fits_hdu.specs.Headers.{found};
+ghost use Rattle.fits_hdu.specs.Finding.{following, past_padding, find_of, find_on_of, find_after_of};
+ghost use Rattle.fits_hdu.specs.Streams.{Finds, IsOther, IsOtherAfter};
+ghost use Rattle.fits_hdu.specs.Reading.{Caused, OtherBehind, OtherPastPadding, OtherLater};
 
 use crate::answer::{Hdu, HduFault};
 use crate::header::read_header;
 use crate::stream::skip;
 use dev_io::Source;
+
+/// The HDU with this number, whose header starts behind the padding of data of this size.
+fn read_past_padding<S: Source>(src: &mut S, size: u64, hdu: u16) -> Result<Hdu, HduFault>
+    ensures told { (bytes : List ℕ) (start : ℕ) → Takes bytes (S.left src.old) start → Finds (past_padding bytes hdu size start) bytes (S.left src.new) result }
+    ensures cause { IfErr result (Caused (IsTrue (S.ended src.new) ⊎ OtherPastPadding (S.left src.old) hdu size) (S.ended src.new) (S.faults src.old) (S.faults src.new)) }
+    ensures later { S.faults src.old ≤ S.faults src.new }
+{
+    match skip(src, (2880 - size % 2880) % 2880) {
+        Ok(true) => read_header(src, hdu),
+        Ok(false) => Err(HduFault::NoSuchHdu),
+        Err(_) => Err(HduFault::ReadFault),
+    }
+}
 
 /// The HDU with this number, behind data of this size.
 fn find_next<S: Source>(src: &mut S, size: u64, hdu: u16) -> Result<Hdu, HduFault>
@@ -19,15 +33,27 @@ fn find_next<S: Source>(src: &mut S, size: u64, hdu: u16) -> Result<Hdu, HduFaul
     ensures later { S.faults src.old ≤ S.faults src.new }
 {
     match skip(src, size) {
-        Ok(true) => {}
-        Ok(false) => return Err(HduFault::TruncatedSkip),
-        Err(_) => return Err(HduFault::ReadFault),
-    }
-    match skip(src, (2880 - size % 2880) % 2880) {
-        Ok(true) => read_header(src, hdu),
-        Ok(false) => Err(HduFault::NoSuchHdu),
+        Ok(true) => read_past_padding(src, size, hdu),
+        Ok(false) => Err(HduFault::TruncatedSkip),
         Err(_) => Err(HduFault::ReadFault),
     }
+}
+
+/// The HDU with this number, where `hdu` is the one with the number `from`, and the first byte of its data is the next.
+fn find_on<S: Source>(src: &mut S, hdu: Hdu, from: u16, number: u16) -> Result<Hdu, HduFault>
+    requires { from ≤ number }
+    ensures told { (bytes : List ℕ) (head : ℕ) → Takes bytes (S.left src.old) head → Finds (find_on_of bytes from (found hdu head) number) bytes (S.left src.new) result }
+    ensures cause { IfErr result (Caused (IsTrue (S.ended src.new) ⊎ OtherLater (S.left src.old) from hdu number) (S.ended src.new) (S.faults src.old) (S.faults src.new)) }
+    ensures later { S.faults src.old ≤ S.faults src.new }
+{
+    let mut last = hdu;
+    for before in from..number {
+        last = match find_next(src, last.data_bytes, before + 1) {
+            Ok(next) => next,
+            Err(fault) => return Err(fault),
+        };
+    }
+    Ok(last)
 }
 
 /// Finds the HDU with this number, from 0 (FITS Standard 4.0, section 3.3). The data of each HDU before it is taken and not looked at.
@@ -38,19 +64,36 @@ pub fn find_hdu<S: Source>(src: &mut S, number: u16) -> Result<Hdu, HduFault>
     ensures told { ForSome (S.left src.old) (λ bytes. Finds (find_of bytes number) bytes (S.left src.new) result) }
     ensures header_ended { IsErrOf result HduFault.TruncatedHeader → IsTrue (S.ended src.new) }
     ensures skip_ended { IsErrOf result HduFault.TruncatedSkip → IsTrue (S.ended src.new) }
-    ensures missing { IsErrOf result HduFault.NoSuchHdu → ForSome (S.left src.old) (λ bytes. IsTrue (S.ended src.new) ⊎ IsOther bytes number) }
+    ensures missing { IsErrOf result HduFault.NoSuchHdu → ForSome (S.left src.old) (λ bytes. IsTrue (S.ended src.new) ⊎ IsOther bytes (find_of bytes) 0 number) }
     ensures read_fault { IsErrOf result HduFault.ReadFault → Rose (S.faults src.old) (S.faults src.new) }
     ensures later { S.faults src.old ≤ S.faults src.new }
 {
-    let mut hdu = match read_header(src, 0) {
-        Ok(hdu) => hdu,
-        Err(fault) => return Err(fault),
-    };
-    for before in 0..number {
-        hdu = match find_next(src, hdu.data_bytes, before + 1) {
-            Ok(next) => next,
-            Err(fault) => return Err(fault),
-        };
+    match read_header(src, 0) {
+        Ok(hdu) => find_on(src, hdu, 0, number),
+        Err(fault) => Err(fault),
     }
-    Ok(hdu)
+}
+
+/// Goes on with the search behind `passed`, the HDU with the number `at`, whose data alone was taken since it was found: the next byte is the first of
+/// its padding. It finds the HDU with this number as [`find_hdu`] does, and numbers in its faults count from the start of the file.
+///
+/// An end in the padding is `NoSuchHdu`. It takes no memory.
+pub fn find_after<S: Source>(
+    src: &mut S,
+    passed: &Hdu,
+    at: u16,
+    number: u16,
+) -> Result<Hdu, HduFault>
+    requires { at < number }
+    ensures told { (bytes : List ℕ) (start : ℕ) → Takes bytes (S.left src.old) start → Finds (find_after_of bytes at passed.now.data_bytes start number) bytes (S.left src.new) result }
+    ensures header_ended { IsErrOf result HduFault.TruncatedHeader → IsTrue (S.ended src.new) }
+    ensures skip_ended { IsErrOf result HduFault.TruncatedSkip → IsTrue (S.ended src.new) }
+    ensures missing { IsErrOf result HduFault.NoSuchHdu → (bytes : List ℕ) (start : ℕ) → Takes bytes (S.left src.old) start → IsTrue (S.ended src.new) ⊎ IsOtherAfter bytes at passed.now.data_bytes start number }
+    ensures read_fault { IsErrOf result HduFault.ReadFault → Rose (S.faults src.old) (S.faults src.new) }
+    ensures later { S.faults src.old ≤ S.faults src.new }
+{
+    match read_past_padding(src, passed.data_bytes, at + 1) {
+        Ok(hdu) => find_on(src, hdu, at + 1, number),
+        Err(fault) => Err(fault),
+    }
 }

@@ -5,8 +5,8 @@ ghost use Rattle.dev_io.specs.Streams.{Takes, TakesAtMost};
 ghost use Rattle.fits_hdu.specs.Headers.{header_at, axis_count, card_at, judged, kind_of};
 ghost use Rattle.fits_hdu.specs.Kept.{kept_axes, kept_others, held};
 ghost use Rattle.fits_hdu.specs.Sizes.{data_size};
-ghost use Rattle.fits_hdu.specs.Streams.{Caused, Stopped, Finds};
-ghost use Rattle.fits_hdu.specs.Reading.{Reached, FirstRead, BitpixRead, NaxisRead, AxesRead, MandatoryRead, AxisRead, EndRead, NotThere};
+ghost use Rattle.fits_hdu.specs.Streams.{Stopped, Finds};
+ghost use Rattle.fits_hdu.specs.Reading.{Caused, CardsPassed, FirstRead, BitpixRead, NaxisRead, AxesRead, MandatoryRead, AxisRead, EndRead, NotThere};
 
 use crate::answer::{Hdu, HduFault, Kind};
 use crate::axes::Axes;
@@ -68,7 +68,7 @@ fn read_first<S: Source>(src: &mut S, hdu: u16) -> Result<bool, HduFault>
 }
 
 fn read_bitpix<S: Source>(src: &mut S, hdu: u16) -> Result<i32, HduFault>
-    ensures told { (bytes : List ℕ) (start : ℕ) → Reached bytes hdu start (S.left src.old) 1 → MatchResult result
+    ensures told { (bytes : List ℕ) (start : ℕ) → CardsPassed bytes hdu start (S.left src.old) 1 → MatchResult result
         (λ bitpix. BitpixRead bytes hdu start (S.left src.new) bitpix)
         (λ fault. Stopped (header_at bytes hdu start) bytes (S.left src.new) fault) }
     ensures cause { IfErr result (Caused ⊥ (S.ended src.new) (S.faults src.old) (S.faults src.new)) }
@@ -85,7 +85,7 @@ fn read_bitpix<S: Source>(src: &mut S, hdu: u16) -> Result<i32, HduFault>
 }
 
 fn read_naxis<S: Source>(src: &mut S, hdu: u16) -> Result<u16, HduFault>
-    ensures told { (bytes : List ℕ) (start : ℕ) → Reached bytes hdu start (S.left src.old) 2 → MatchResult result
+    ensures told { (bytes : List ℕ) (start : ℕ) → CardsPassed bytes hdu start (S.left src.old) 2 → MatchResult result
         (λ naxis. NaxisRead bytes hdu start (S.left src.new) naxis)
         (λ fault. Stopped (header_at bytes hdu start) bytes (S.left src.new) fault) }
     ensures few { IfOk result (λ naxis. naxis ≤ 999) }
@@ -106,7 +106,7 @@ fn read_naxis<S: Source>(src: &mut S, hdu: u16) -> Result<u16, HduFault>
 fn read_axis<S: Source>(src: &mut S, hdu: u16, number: u16) -> Result<u64, HduFault>
     requires first { 1 ≤ number }
     requires last { number ≤ 999 }
-    ensures told { (bytes : List ℕ) (start : ℕ) → Reached bytes hdu start (S.left src.old) (2 + number) → number ≤ axis_count (card_at bytes start) → MatchResult result
+    ensures told { (bytes : List ℕ) (start : ℕ) → CardsPassed bytes hdu start (S.left src.old) (2 + number) → number ≤ axis_count (card_at bytes start) → MatchResult result
         (λ size. AxisRead bytes hdu start (S.left src.new) number size)
         (λ fault. Stopped (header_at bytes hdu start) bytes (S.left src.new) fault) }
     ensures cause { IfErr result (Caused ⊥ (S.ended src.new) (S.faults src.old) (S.faults src.new)) }
@@ -127,7 +127,7 @@ fn read_axis<S: Source>(src: &mut S, hdu: u16, number: u16) -> Result<u64, HduFa
 
 fn read_axes<S: Source>(src: &mut S, hdu: u16, naxis: u16) -> Result<Axes, HduFault>
     requires { naxis ≤ 999 }
-    ensures told { (bytes : List ℕ) (start : ℕ) → Reached bytes hdu start (S.left src.old) 3 → axis_count (card_at bytes start) ≡ naxis → MatchResult result
+    ensures told { (bytes : List ℕ) (start : ℕ) → CardsPassed bytes hdu start (S.left src.old) 3 → axis_count (card_at bytes start) ≡ naxis → MatchResult result
         (λ axes. AxesRead bytes hdu start (S.left src.new) naxis axes)
         (λ fault. Stopped (header_at bytes hdu start) bytes (S.left src.new) fault) }
     ensures cause { IfErr result (Caused ⊥ (S.ended src.new) (S.faults src.old) (S.faults src.new)) }
@@ -179,7 +179,7 @@ fn read_mandatory<S: Source>(src: &mut S, hdu: u16) -> Result<Mandatory, HduFaul
 /// The cards after the mandatory ones, up to END.
 fn read_others<S: Source>(src: &mut S, hdu: u16, naxis: u16) -> Result<Ended, HduFault>
     requires { naxis ≤ 999 }
-    ensures told { (bytes : List ℕ) (start : ℕ) → Reached bytes hdu start (S.left src.old) (3 + naxis) → axis_count (card_at bytes start) ≡ naxis → MatchResult result
+    ensures told { (bytes : List ℕ) (start : ℕ) → CardsPassed bytes hdu start (S.left src.old) (3 + naxis) → axis_count (card_at bytes start) ≡ naxis → MatchResult result
         (λ ended. EndRead bytes hdu start (S.left src.new) ended)
         (λ fault. Stopped (header_at bytes hdu start) bytes (S.left src.new) fault) }
     ensures few { IfOk result (λ ended. ended.number ≤ 36000) }

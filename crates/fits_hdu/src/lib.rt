@@ -1,4 +1,5 @@
-//! Headers and data units of a FITS file (FITS Standard 4.0, sections 3 and 4.4): an HDU is found by its number in a stream of bytes.
+//! Headers and data units of a FITS file (FITS Standard 4.0, sections 3 and 4.4): an HDU is found by its number in a stream of bytes,
+//! from its start or from an HDU that was found before.
 #![tactic(auto)]
 
 mod answer;
@@ -6,11 +7,12 @@ mod axes;
 mod cards;
 mod finding;
 mod header;
+pub mod laws;
 mod others;
 mod stream;
 
 pub use answer::{Hdu, HduFault, Kind};
-pub use finding::find_hdu;
+pub use finding::{find_after, find_hdu};
 
 #[cfg(test)]
 mod tests;

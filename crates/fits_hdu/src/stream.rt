@@ -2,8 +2,7 @@
 ghost use Rattle.std.specs.Prelude.{◌≡◌, ◌≤◌, ◌+◌, List, ℕ, Result, MatchResult, IfErr, IfOk, OnErr, IsTrue, false};
 ghost use Rattle.dev_io.specs.Causes.{Rose, HasCause};
 ghost use Rattle.dev_io.specs.Streams.{Takes, TakesAtMost};
-ghost use Rattle.fits_hdu.specs.Streams.{Caused};
-ghost use Rattle.fits_hdu.specs.Reading.{CardRead, CardMissing, Skipped};
+ghost use Rattle.fits_hdu.specs.Reading.{Caused, CardRead, CardMissing, Skipped};
 
 use crate::answer::HduFault;
 use dev_io::{Failed, Source, fill};

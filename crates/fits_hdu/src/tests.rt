@@ -1,3 +1,5 @@
+ghost use Rattle.std.specs.Prelude.{◌<◌};
+
 use super::*;
 use dev_io::PlainSource;
 use fits_card::number::Whole;
@@ -32,6 +34,45 @@ fn find(bytes: &[u8], number: u16) -> (Result<Hdu, HduFault>, usize) {
     let mut source = PlainSource::new(bytes);
     let found = find_hdu(&mut source, number);
     (found, source.rest().len())
+}
+
+// The HDU with this number after an extension with three bytes of data, which were taken, and how many bytes are left.
+fn go_on(bytes: &[u8], number: u16) -> (Result<Hdu, HduFault>, usize)
+    requires { 1 < number }
+{
+    let mut source = PlainSource::new(bytes);
+    let found = find_after(&mut source, &image_row(), 1, number);
+    (found, source.rest().len())
+}
+
+// An image extension of three pixels in one row.
+fn image_row() -> Hdu {
+    Hdu {
+        kind: Kind::Image,
+        bitpix: 8,
+        naxis: 2,
+        width: 3,
+        height: 1,
+        flat: true,
+        data_bytes: 3,
+        bscale: Whole::Is(1),
+        bzero: Whole::Is(0),
+        blank: None,
+    }
+}
+
+// Its header up to END.
+fn extension() -> [Card; 8] {
+    [
+        card_of(b"XTENSION= 'IMAGE   '"),
+        bitpix(8),
+        naxis(2),
+        axis(b'1', 3),
+        axis(b'2', 1),
+        int_card(b"PCOUNT  ", 0),
+        int_card(b"GCOUNT  ", 1),
+        end_card(),
+    ]
 }
 
 fn simple() -> Card {
@@ -212,19 +253,7 @@ fn later_hdus_are_found(rt: HostRuntime) -> Result<(), Fail> {
     )?;
     bytes.extend_from_slice(&header_of(alloc, &extension, 27)?)?;
     bytes.extend_from_slice(&[1, 2])?;
-    let hdu = Hdu {
-        kind: Kind::Image,
-        bitpix: 8,
-        naxis: 2,
-        width: 3,
-        height: 1,
-        flat: true,
-        data_bytes: 3,
-        bscale: Whole::Is(1),
-        bzero: Whole::Is(0),
-        blank: None,
-    };
-    assert_eq!(rt; find(&bytes, 1), (Ok(hdu), 2));
+    assert_eq!(rt; find(&bytes, 1), (Ok(image_row()), 2));
     assert_eq!(rt; find(&bytes, 2), (Err(HduFault::TruncatedSkip), 0));
     bytes.extend_from_slice(&[1])?;
     assert_eq!(rt; find(&bytes, 2), (Err(HduFault::NoSuchHdu), 0));
@@ -252,5 +281,31 @@ fn a_count_below_0_is_refused(rt: HostRuntime) -> Result<(), Fail> {
         find(&bytes, 1),
         (Err(HduFault::BadKeyword { hdu: 1, card: 4 }), 2560)
     );
+    Ok(())
+}
+
+#[test]
+fn the_search_goes_on(rt: HostRuntime) -> Result<(), Fail> {
+    let alloc = rt.alloc();
+    let header = header_of(alloc, &extension(), 28)?;
+    let mut bytes = Vec::new(alloc);
+    bytes.resize(2877, 0)?;
+    assert_eq!(rt; go_on(&bytes, 3), (Err(HduFault::NoSuchHdu), 0));
+    bytes.extend_from_slice(&header)?;
+    bytes.extend_from_slice(&[1, 2, 3])?;
+    assert_eq!(rt; go_on(&bytes, 2), (Ok(image_row()), 3));
+    bytes.resize(8637, 0)?;
+    let later = header_of(alloc, &[card_of(b"XTENSION= 'IMAGE   '"), bitpix(7)], 34)?;
+    bytes.extend_from_slice(&later)?;
+    assert_eq!(rt;
+        go_on(&bytes, 3),
+        (Err(HduFault::BadKeyword { hdu: 3, card: 2 }), 2720)
+    );
+    Ok(())
+}
+
+#[test]
+fn an_end_in_the_padding_is_no_hdu(rt: HostRuntime) -> Result<(), Fail> {
+    assert_eq!(rt; go_on(&[0; 2876], 2), (Err(HduFault::NoSuchHdu), 0));
     Ok(())
 }

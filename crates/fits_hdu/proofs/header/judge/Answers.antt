@@ -1,4 +1,4 @@
-use Rattle.std.proofs.Common.{sym, ◌∙◌, ap, ◌≡◌, w32, SFits, rules}
+use Rattle.std.proofs.Common.{sym, ◌∙◌, w32, SFits, rules}
 use Rattle.std.proofs.lemmas.Int.{to_z-of_z}
 use Rattle.fits_hdu.proofs.Judging.{groups_is, judged_groups, judged_long, judged_found}
 use Rattle.fits_hdu.proofs.header.judge.Goals as goal

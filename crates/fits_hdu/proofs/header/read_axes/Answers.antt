@@ -1,5 +1,4 @@
-use Rattle.std.proofs.Common.{refl, arith, sym, ◌∙◌, ap, ◌≡◌, subst}
-use Rattle.fits_hdu.specs.Headers.{axis_count, card_at}
+use Rattle.std.proofs.Common.{refl, arith, ◌≡◌, subst}
 use Rattle.fits_hdu.proofs.Stages.{AxesTo, axes_step, axes_next, axes_done}
 use Rattle.fits_hdu.proofs.header.read_axes.Goals as goal
 

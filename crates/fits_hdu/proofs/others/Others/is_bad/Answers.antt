@@ -1,4 +1,3 @@
-use Rattle.std.proofs.Common.{refl}
 use Rattle.fits_hdu.proofs.Keeping.{pcount_kept, gcount_kept, or_first, or_second}
 use Rattle.fits_hdu.proofs.others.Others.is_bad.Goals as goal
 
