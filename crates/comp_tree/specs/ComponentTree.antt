@@ -1,4 +1,4 @@
--- A tree as contracts see it: its shape, its rows in the order of their numbers, and for each pixel its smallest node.
+-- Model: a tree as contracts see it: its shape, its rows in the order of their numbers, and for each pixel its smallest node.
 use Rattle.std.specs.Prelude.{◌≡◌, ℕ, ◌*◌, ◌<◌, ◌≤◌, ◌⊎◌, List, map, length, slice_index}
 use Rattle.comp_tree.specs.declared.shape.Shape.{Shape}
 use Rattle.comp_tree.specs.declared.tree.NodeRow.{NodeRow}

@@ -1,4 +1,4 @@
--- Counts of pixels.
+-- Model: counts of pixels.
 use Rattle.std.specs.Prelude.{ℕ, zero, suc, Bool, cond, is_some, ◌+◌, List, Option, ℤ}
 use Rattle.comp_tree.specs.Raster.{value_at, is_before}
 

@@ -1,8 +1,11 @@
--- Links of the pixels of some whole rows, and what they stand for.
+-- Model: links of the pixels of some whole rows, and what they stand for.
 use Rattle.std.specs.Prelude.{◌≡◌, ℕ, ◌-◌, List, length, Option, ℤ, ◌⊎◌, ◌↔◌, slice_index_or}
 pub use Rattle.comp_tree.specs.Limits.{no_node}
 pub use Rattle.comp_tree.specs.Raster.{value_at, IsDefined, IsAtLeast, is_before, IsBefore}
 pub use Rattle.comp_tree.specs.Grid.{IsWithin}
+use Rattle.comp_tree.specs.declared.shape.Connect.{Connect}
+use Rattle.comp_tree.specs.Raster.{Raster}
+use Rattle.comp_tree.specs.Grid.{IsAdjacency}
 use Rattle.comp_tree.specs.Joined.{Joined}
 
 -- a is earlier than b
@@ -57,6 +60,10 @@ HaveSameLast values first links h p q = (z : ℕ) × (IsLast values first links 
 pub record StandsFor (values : List (Option ℤ)) (first : ℕ) (links : List ℕ) (E : ℕ → ℕ → Type 0) : Type 0 where
   pub joins : (h : ℤ) (p q : ℕ) → IsHigh values first (length links) h p → IsHigh values first (length links) h q →
       HaveSameLast values first links h p q ↔ Joined (IsHigh values first (length links) h) E p q
+
+-- the links, one for each pixel of the plane, stand for all its adjacencies
+abbrev pub StandsForAll : Raster → Connect → List ℕ → Type 0
+StandsForAll r connect links = StandsFor r.values 0 links (IsAdjacency r.values r.shape.width connect)
 
 -- E and F join the same pixels at each level
 pub record JoinSame (values : List (Option ℤ)) (first count : ℕ) (E F : ℕ → ℕ → Type 0) : Type 0 where

@@ -1,4 +1,4 @@
--- Which pixels of a grid are neighbours.
+-- Model: which pixels of a grid are neighbours.
 use Rattle.std.specs.Prelude.{ℕ, ◌+◌, ◌-◌, ◌/◌, ◌%◌, ◌<◌, ◌≤◌, max, Bool, ◌&&◌, ◌==◌, IsTrue, is_some, List, Option, ℤ}
 use Rattle.comp_tree.specs.declared.shape.Connect.{Connect}
 use Rattle.comp_tree.specs.declared.shape.Connect.TheVariants.{Four, Eight}

@@ -1,4 +1,4 @@
--- The laws of the component tree of a plane r. Its nodes are numbered, and the component of node n is the set of the
+-- Model: the laws of the component tree of a plane r. Its nodes are numbered, and the component of node n is the set of the
 -- pixels q with `IsIn r connect n q`.
 use Rattle.std.specs.Prelude.{◌≡◌, ℕ, ◌+◌, ◌<◌, ◌≤◌, IsTrue, IsFalse, ◌↔◌, ◌⊎◌, ℤ, List, length, Option, slice_index}
 use Rattle.comp_tree.specs.declared.shape.Connect.{Connect}
@@ -7,8 +7,7 @@ pub use Rattle.comp_tree.specs.ComponentTree.{parent_in}
 use Rattle.comp_tree.specs.Raster.{Raster, IsPlane, is_at_least, level, is_defined}
 use Rattle.comp_tree.specs.Components.{IsReached, no_node, reaches, nodes, node_of, is_candidate, is_in_node, tree_of, representative}
 use Rattle.comp_tree.specs.Nesting.{lies_within}
-use Rattle.comp_tree.specs.Grid.{IsAdjacency}
-use Rattle.comp_tree.specs.Forest.{IsHigh, IsForest, IsLast, StandsFor}
+use Rattle.comp_tree.specs.Forest.{IsHigh, IsForest, IsLast, StandsForAll}
 
 -- n is the number of a node
 abbrev pub IsNode : Raster → Connect → ℕ → Type 0
@@ -123,5 +122,5 @@ EachWalkHasOneLast = (values : List (Option ℤ)) (first : ℕ) (links : List �
 abbrev pub LastAtOwnLevelIsRepresentative : Type 0
 LastAtOwnLevelIsRepresentative = (r : Raster) (connect : Connect) (links : List ℕ)
     → IsPlane r → length links ≡ length r.values → IsForest r.values 0 links
-    → StandsFor r.values 0 links (IsAdjacency r.values r.shape.width connect)
+    → StandsForAll r connect links
     → (p : ℕ) → IsTrue (is_defined r p) → IsLast r.values 0 links (level r p) p (representative r connect p)

@@ -1,4 +1,4 @@
--- Marks on the pixels of a plane, while a component is being found.
+-- Bookkeeping: marks on the pixels of a plane, while a component is being found.
 use Rattle.std.specs.Prelude.{ℕ, Bool, false, IsTrue, IsFalse, List, filter, ℤ, slice_index_or}
 use Rattle.std.specs.List.{list_any}
 use Rattle.comp_tree.specs.declared.shape.Connect.{Connect}

@@ -1,4 +1,4 @@
--- The nodes of a plane's tree by their numbers: their levels, their components as lists of pixels, and which of these lie in which.
+-- Model: the nodes of a plane's tree by their numbers: their levels, their components as lists of pixels, and which of these lie in which.
 use Rattle.std.specs.Prelude.{ℕ, Bool, ◌==◌, ℤ, pos, List, length, map, filter, slice_index_or}
 use Rattle.std.specs.List.{range_with_len, list_all}
 use Rattle.comp_tree.specs.declared.shape.Connect.{Connect}

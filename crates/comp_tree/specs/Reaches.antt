@@ -1,7 +1,7 @@
--- A test for `IsReached` of Components: the law `reach_is_by_paths` says that it decides it. Definitions that need a value
--- that can be computed, as the least pixel that is reached, read this test.
--- The pixels get labels, at first each its own; a pair gives all that have its first pixel's label its second one's. In
--- the end pixels have the same label exactly where the pairs lead from one to the other.
+-- Model: a test for `IsReached` of Components: the law `reach_is_by_paths` says that it decides it. Definitions that need a
+-- value that can be computed, as the least pixel that is reached, read this test. The pixels get labels, at first each its own;
+-- a pair gives all that have its first pixel's label its second one's. In the end pixels have the same label exactly where the
+-- pairs lead from one to the other.
 use Rattle.std.specs.Prelude.{ℕ, Bool, cond, ◌&&◌, ◌||◌, ◌==◌, List, [], ◌∷◌, map, filter, flat_map, ℤ}
 use Rattle.std.specs.List.{list_any}
 use Rattle.comp_tree.specs.declared.shape.Connect.{Connect}

@@ -1,4 +1,4 @@
--- The shape of an image with given sides.
+-- Model: the shape of an image with given sides.
 use Rattle.std.specs.Prelude.{◌≡◌, ℕ, ◌*◌, ◌^◌, Bool, true, false, ◌&&◌, nat_lt, nat_le, Option, Some, None}
 use Rattle.std.proofs.Common.{refl, arith}
 use Rattle.std.proofs.lemmas.Bool.Decides.{nat_tests}

@@ -1,4 +1,4 @@
--- The component tree of a plane by what it is, over paths alone: `tree_of` is the one tree of which this holds.
+-- Model: the component tree of a plane by what it is, over paths alone: `tree_of` is the one tree of which this holds.
 use Rattle.std.specs.Prelude.{◌≡◌, ℕ, ◌<◌, ◌≤◌, IsTrue, IsFalse, ◌<ℤ◌, ◌≤ℤ◌, List, length, slice_index, slice_get, Some}
 use Rattle.comp_tree.specs.declared.shape.Connect.{Connect}
 use Rattle.comp_tree.specs.declared.tree.NodeRow.{NodeRow}

@@ -1,4 +1,4 @@
--- What is answered to these words and these bytes.
+-- Model: what is answered to these words and these bytes.
 use Rattle.std.specs.Prelude.{ℕ, List, [], ◌∷◌, Result, Ok, Err, Option, Some, None, codes, decimal}
 use Rattle.std.specs.List.{concat}
 use Rattle.std.specs.Fmt.{signed_decimal}

@@ -1,4 +1,4 @@
--- What is written of the sources of a plane: a primary HDU without data, their segmentation map, and their catalogue.
+-- Model: what is written of the sources of a plane: a primary HDU without data, their segmentation map, and their catalogue.
 use Rattle.std.specs.Prelude.{◌≡◌, ℕ, ◌*◌, ◌^◌, ◌≤◌, List, [], ◌∷◌, ◌++◌, length, codes, ℤ}
 use Rattle.std.specs.List.{All, flat_map}
 use Rattle.comp_tree.specs.declared.shape.Shape.{Shape}

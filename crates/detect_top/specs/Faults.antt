@@ -1,4 +1,4 @@
--- The faults of an input: their numbers, their names, and what of the reading they are.
+-- Model: the faults of an input: their numbers, their names, and what of the reading they are.
 use Rattle.std.specs.Prelude.{ℕ, List, Option, Some, None, codes}
 use Rattle.fits_hdu.specs.declared.answer.HduFault.{HduFault}
 use Rattle.fits_hdu.specs.declared.answer.HduFault.TheVariants as hdu

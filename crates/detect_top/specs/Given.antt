@@ -1,4 +1,4 @@
--- How far the reading of the words has come.
+-- Bookkeeping: how far the reading of the words has come.
 use Rattle.std.specs.Prelude.{◌≡◌, ℕ, ◌+◌, ◌*◌, ◌<◌, ◌≤◌, true, false, List, length}
 use Rattle.detect_top.specs.declared.options.Command.{Command}
 use Rattle.detect_top.specs.Words.{is_bad_name, is_bad_value, is_at_fault}

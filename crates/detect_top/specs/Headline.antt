@@ -1,4 +1,4 @@
--- The headline: what a run answers, by its status.
+-- Model: the headline: what a run answers, by its status.
 use Rattle.std.specs.Prelude.{◌≡◌, ℕ, ◌≤◌, ◌⊎◌, Bool, List, IsTrue}
 use Rattle.std.specs.declared.option.Option.{Option}
 use Rattle.std.specs.Io.KnownBytes.{Keeps}

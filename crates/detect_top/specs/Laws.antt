@@ -1,4 +1,4 @@
--- Laws on answers.
+-- Model: laws on answers.
 use Rattle.std.specs.Prelude.{ℕ, ◌≤◌, List}
 use Rattle.detect_top.specs.Answers.{answer, status_of}
 

@@ -1,4 +1,4 @@
--- How the list of a tree's nodes is written.
+-- Model: how the list of a tree's nodes is written.
 use Rattle.std.specs.Prelude.{ℕ, ◌==◌, List, [], ◌∷◌, map, length, get_or, slice_index, codes, decimal, pos, if◌then◌else◌}
 use Rattle.std.specs.List.{concat, range_with_len}
 use Rattle.std.specs.Fmt.{signed_decimal}

@@ -1,4 +1,4 @@
--- The commands, their options, and what the values of these are.
+-- Model: the commands, their options, and what the values of these are.
 use Rattle.std.specs.Prelude.{ℕ, ◌^◌, Bool, true, false, List, [], ◌∷◌, find, ◌||◌, ℤ, pos, neg_ℤ, unsigned_abs, Option, Some, None, is_some, codes, if◌then◌else◌, not}
 use Rattle.std.specs.Str.{bytes_eq}
 use Rattle.std.specs.Option.{option_map}

@@ -1,4 +1,4 @@
--- What a job makes of a plane, and the bytes that are written of it.
+-- Model: what a job makes of a plane, and the bytes that are written of it.
 use Rattle.std.specs.Prelude.{◌≡◌, ℕ, List, length, Option, Some, None}
 use Rattle.comp_tree.specs.declared.shape.Connect.{Connect}
 use Rattle.comp_tree.specs.Raster.{Raster}

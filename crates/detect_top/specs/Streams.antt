@@ -1,4 +1,4 @@
--- What reading an image does to the bytes that are told.
+-- Model: what reading an image does to the bytes that are told.
 use Rattle.std.specs.Prelude.{◌≡◌, ℕ, ◌⊎◌, List, Some, None}
 use Rattle.std.specs.declared.option.Option.{Option}
 use Rattle.dev_io.specs.Streams.{Takes, TakesAtMost}

@@ -1,5 +1,5 @@
--- What the words of the command mean. Words are counted from 1: the first is the command, the even ones behind it name options, and each odd
--- one is the value of the option that is named before it.
+-- Model: what the words of the command mean. Words are counted from 1: the first is the command, the even ones behind it name
+-- options, and each odd one is the value of the option that is named before it.
 use Rattle.std.specs.Prelude.{ℕ, ◌<◌, ◌≤◌, ◌+◌, ◌-◌, ◌*◌, ◌/◌, ◌%◌, ◌^◌, Bool, true, false, ◌==◌, ◌||◌, not, nat_lt, List, [], ◌∷◌, length, find, get_or, ℤ, pos, Option, Some, None, is_some, unwrap_or, option_and_then, Result, Ok, Err, if◌then◌else◌}
 use Rattle.std.specs.Str.{bytes_eq}
 use Rattle.std.specs.List.{range_with_len}

@@ -1,4 +1,4 @@
--- Bytes on their way to a sink through a block.
+-- Model: bytes on their way to a sink through a block.
 use Rattle.std.specs.Prelude.{◌≡◌, ℕ, List, [], ◌++◌, Result, Ok, Err, OnOk, OnErr}
 use Rattle.std.proofs.Common.{ap, subst, sym, ◌∙◌, append_assoc, append-nil}
 use Rattle.std.proofs.KnownBytes.{Appends-trans}

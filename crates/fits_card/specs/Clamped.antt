@@ -1,4 +1,4 @@
--- The exponent as the code keeps it.
+-- Bookkeeping: the exponent as the code keeps it.
 use Rattle.std.specs.Prelude.{ℤ, pos, negsuc, min}
 
 -- e, or 1000 or -1000 where e is beyond these

@@ -1,4 +1,4 @@
--- Written cards are read back.
+-- Model: written cards are read back.
 use Rattle.std.specs.Prelude.{[], ◌∷◌, ◌++◌, ◌==◌, if◌then◌else◌, Some, slice_index, ◌≡◌, ℕ, ◌≤◌, ◌≢◌, Bool, List, length, ℤ, FitsSigned}
 use Rattle.std.specs.List.{All}
 use Rattle.std.specs.Int.{w64}

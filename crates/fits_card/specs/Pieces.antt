@@ -1,4 +1,4 @@
--- How the bytes of a value field are cut. A space is the byte 32 alone.
+-- Model: how the bytes of a value field are cut. A space is the byte 32 alone.
 use Rattle.std.specs.Prelude.{ℕ, Bool, true, List, [], ◌∷◌, ◌==◌, Option, Some, None, if◌then◌else◌}
 use Rattle.std.specs.List.{list_any}
 use Rattle.std.specs.Option.{option_map}

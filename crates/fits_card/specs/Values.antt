@@ -1,4 +1,4 @@
--- The value of a card, by the grammar of its value field, on exact numbers.
+-- Model: the value of a card, by the grammar of its value field, on exact numbers.
 use Rattle.std.specs.Prelude.{ℕ, suc, ◌^◌, ◌%◌, Bool, true, false, List, [], ◌∷◌, ◌++◌, ◌==◌, ◌||◌, ◌&&◌, length, drop, Option, Some, None, codes, if◌then◌else◌, ℤ, pos, negsuc, neg_ℤ, ◌*ℤ◌, ◌-ℤ◌, nat_lt, unsigned_abs, int_div, slice_index}
 use Rattle.std.specs.Str.{all_ascii_digits}
 use Rattle.std.specs.Str.Parse.{digits_value}

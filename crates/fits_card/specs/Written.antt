@@ -1,4 +1,4 @@
--- The 80 bytes of written cards, in fixed format.
+-- Model: the 80 bytes of written cards, in fixed format.
 use Rattle.std.specs.Prelude.{ℕ, ◌-◌, Bool, List, [], ◌∷◌, ◌++◌, length, replicate, codes, ℤ, if◌then◌else◌}
 use Rattle.std.specs.Fmt.{signed_decimal}
 use Rattle.fits_card.specs.Pieces.{space, quote}

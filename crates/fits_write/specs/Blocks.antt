@@ -1,4 +1,4 @@
--- Bytes that are filled to whole blocks (FITS Standard 4.0, section 3.1), and how they get to a sink.
+-- Model: bytes that are filled to whole blocks (FITS Standard 4.0, section 3.1), and how they get to a sink.
 use Rattle.std.specs.Prelude.{◌≡◌, ℕ, ◌-◌, ◌%◌, List, ◌++◌, length, replicate}
 use Rattle.std.specs.declared.option.Option.{Option}
 use Rattle.dev_io.specs.Blocks.{Moves}

@@ -1,5 +1,6 @@
--- The bytes of written HDUs (FITS Standard 4.0): the cards of the header in fixed format (sections 4.2 and 4.4) up to END, and spaces to a block;
--- then the numbers in two's complement, the most significant byte first (section 5.2), and zero bytes to a block.
+-- Model: the bytes of written HDUs (FITS Standard 4.0): the cards of the header in fixed format (sections 4.2 and 4.4) up to
+-- END, and spaces to a block; then the numbers in two's complement, the most significant byte first (section 5.2), and zero
+-- bytes to a block.
 use Rattle.std.specs.Prelude.{ℕ, ◌^◌, ◌/◌, true, List, [], ◌∷◌, ◌++◌, length, map, codes, ℤ, pos, neg_ℤ, Option, unwrap_or}
 use Rattle.std.specs.List.{concat}
 use Rattle.std.specs.Int.{w64, cast_unsigned}

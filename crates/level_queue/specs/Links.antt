@@ -1,4 +1,4 @@
--- How the lists lie in the arrays.
+-- Bookkeeping: how the lists lie in the arrays.
 use Rattle.std.specs.Prelude.{◌≡◌, ℕ, zero, suc, ◌-◌, ◌^◌, ◌<◌, ◌≤◌, Bool, List, [], ◌∷◌, length, map, get_or, slice_get, Option, Some, None, is_some, option_map}
 use Rattle.level_queue.specs.Queue.{Queue}
 use Rattle.level_queue.specs.declared.queue.Ends.{Ends}

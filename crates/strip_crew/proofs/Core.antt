@@ -6,12 +6,12 @@ use mathlib.Core.Option.{some, some-injective, some-ne-none}
 use lib.ListN.{get_elem?}
 use Rattle.atomic_table.proofs.Lists.{set_else, at_index}
 use Rattle.comp_tree.specs.Counts.{sum_below}
-use Rattle.strip_crew.specs.Counting.{Claim, fresh, spent, claims, passes, gives_back, splits, joins, total, count_of, holds_of, one_if_is, Counts}
+use Rattle.strip_crew.specs.Counting.{SeatClaims, fresh, spent, claims, passes, gives_back, splits, joins, total, count_of, holds_of, one_if_is, Counts}
 use Rattle.strip_crew.specs.Core.{Waiting, Out, Flooded, Core, Event, Claims, Passes, Gives, Splits, Joins, seat_at, start, Needs, after, Leads, Keeps, is_claim, is_give, Lawful, CoreLaw, IsLast, CoreEnds}
 use Rattle.strip_crew.proofs.Lists.{total_append, total_set, only, only_same, only_other, below_only, below_next}
 use Rattle.strip_crew.proofs.Counting.{hand_inside, claims_counts, passes_counts, gives_counts, splits_counts, joins_counts, no_hand, held_by_none, word0_is}
 
-pub seat_there : (cs : List Claim) (j : ℕ) → (get_or cs j spent).joined ≡ false → get_elem? cs j ≡ some (get_or cs j spent)
+pub seat_there : (cs : List SeatClaims) (j : ℕ) → (get_or cs j spent).joined ≡ false → get_elem? cs j ≡ some (get_or cs j spent)
 seat_there [] j e = absurd (true≢false e)
 seat_there (c ∷ cs) zero e = refl
 seat_there (c ∷ cs) (suc j) e = seat_there cs j e
@@ -45,11 +45,11 @@ starts_counts n k = record {
   owing = λ j c found some_claimed. absurd (no_list j c found some_claimed);
 }
   where
-    no_first : (j : ℕ) (c : Claim) (i : ℕ) → get_elem? (fresh k ∷ []) j ≡ some c → c.hand ≡ Some i → ⊥
-    no_first zero c i found is = no_hand i (subst (λ (x : Claim). x.hand ≡ Some i) (sym (some-injective (fresh k) c found)) is)
+    no_first : (j : ℕ) (c : SeatClaims) (i : ℕ) → get_elem? (fresh k ∷ []) j ≡ some c → c.hand ≡ Some i → ⊥
+    no_first zero c i found is = no_hand i (subst (λ (x : SeatClaims). x.hand ≡ Some i) (sym (some-injective (fresh k) c found)) is)
     no_first (suc j) c i found is = some-ne-none c (sym found)
 
-    no_list : (j : ℕ) (c : Claim) → get_elem? (fresh k ∷ []) j ≡ some c → 0 < length c.claimed → ⊥
+    no_list : (j : ℕ) (c : SeatClaims) → get_elem? (fresh k ∷ []) j ≡ some c → 0 < length c.claimed → ⊥
     no_list zero c found h = let t = some-injective (fresh k) c found in omega (arith, ap count_of t)
     no_list (suc j) c found h = some-ne-none c (sym found)
 
@@ -70,7 +70,7 @@ record Adds (n k i : ℕ) (c : Core) (e : Event) : Type 0 where
 module _ (n k r : ℕ) (c : Core) (o : Keeps n k c) where
   adds : (e : Event) → Needs n c e → Adds n k r c e
   adds (Claims j i) t =
-      let s : Claim = seat_at c j in let d : Claim = claims s i in
+      let s : SeatClaims = seat_at c j in let d : SeatClaims = claims s i in
       let at : get_elem? c.seats j ≡ some s = seat_there c.seats j t.0 in
       let w : ℕ = c.word0 in
       let near : w < n = omega (arith, t.3, t.4) in
@@ -90,7 +90,7 @@ module _ (n k r : ℕ) (c : Core) (o : Keeps n k c) where
         given = omega (arith, more, moved r);
       }
   adds (Passes j) t =
-      let s : Claim = seat_at c j in let d : Claim = passes s in
+      let s : SeatClaims = seat_at c j in let d : SeatClaims = passes s in
       let at : get_elem? c.seats j ≡ some s = seat_there c.seats j t.0 in
       let w : ℕ = c.word0 in
       let moved : (x : ℕ) → total (holds_of x) (set c.seats j d) ≡ total (holds_of x) c.seats = λ x. omega (arith, total_set (holds_of x) c.seats j s d at) in
@@ -106,7 +106,7 @@ module _ (n k r : ℕ) (c : Core) (o : Keeps n k c) where
         given = omega (arith, same, moved r);
       }
   adds (Gives j i) t =
-      let s : Claim = seat_at c j in let d : Claim = gives_back s in
+      let s : SeatClaims = seat_at c j in let d : SeatClaims = gives_back s in
       let at : get_elem? c.seats j ≡ some s = seat_there c.seats j t.0 in
       let w : ℕ = c.word0 in
       let mine = hand_inside n k w c.word1 c.seats o.counts j s i at t.1 in
@@ -124,7 +124,7 @@ module _ (n k r : ℕ) (c : Core) (o : Keeps n k c) where
         given = omega (arith, moved r);
       }
   adds (Splits j l) t =
-      let s : Claim = seat_at c j in let d : Claim = splits s in let ds : List Claim = set c.seats j d in
+      let s : SeatClaims = seat_at c j in let d : SeatClaims = splits s in let ds : List SeatClaims = set c.seats j d in
       let at : get_elem? c.seats j ≡ some s = seat_there c.seats j t.0 in
       let moved : (x : ℕ) → total (holds_of x) (ds ++ fresh 1 ∷ []) ≡ total (holds_of x) c.seats = λ x. omega (arith, total_append (holds_of x) ds (fresh 1 ∷ []), total_set (holds_of x) c.seats j s d at) in
       record {
@@ -138,7 +138,7 @@ module _ (n k r : ℕ) (c : Core) (o : Keeps n k c) where
         given = omega (arith, moved r);
       }
   adds (Joins j l) t =
-      let s : Claim = seat_at c j in let b : Claim = seat_at c l in let d : Claim = joins s b in let ds : List Claim = set c.seats j d in
+      let s : SeatClaims = seat_at c j in let b : SeatClaims = seat_at c l in let d : SeatClaims = joins s b in let ds : List SeatClaims = set c.seats j d in
       let at : get_elem? c.seats j ≡ some s = seat_there c.seats j t.1 in
       let apart : l ≢ j = λ z. t.0 (sym z) in
       let there : get_elem? ds l ≡ some b = set_else c.seats j l d apart ∙ seat_there c.seats l t.2 in
@@ -184,7 +184,7 @@ module _ (n k : ℕ) (es : List Event) (c : Core) (t : Leads n (start n k) es c)
 
   pub ended : (j : ℕ) → 0 < k → IsLast k c j → (i : ℕ) → i < n → (total (is_claim i) es ≡ 1) × (total (is_give i) es ≡ 1)
   ended j some_worker is i inside =
-      let s : Claim = seat_at c j in let at : get_elem? c.seats j ≡ some s = at_index c.seats j s is.0 refl_or in
+      let s : SeatClaims = seat_at c j in let at : get_elem? c.seats j ≡ some s = at_index c.seats j s is.0 refl_or in
       let o = lawful.keeps.counts in
       let far : c.word0 ≡ n + k = word0_is n k c.word0 c.word1 c.seats o j s at is.1 some_worker in
       let free = held_by_none n k c.word0 c.word1 c.seats o j s at is.1 is.2 i in

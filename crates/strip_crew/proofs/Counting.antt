@@ -6,7 +6,7 @@ use mathlib.Core.Option.{some}
 use lib.ListN.{get_elem?}
 use Rattle.atomic_table.proofs.Lists.{at_set, set_else, at_snoc}
 use Rattle.comp_tree.specs.Counts.{sum_below}
-use Rattle.strip_crew.specs.Counting.{Claim, fresh, spent, claims, passes, gives_back, splits, joins, total, weight_of, count_of, past_of, due_of, hands_of, holds_of, one_if_some, one_if_is, Counts}
+use Rattle.strip_crew.specs.Counting.{SeatClaims, fresh, spent, claims, passes, gives_back, splits, joins, total, weight_of, count_of, past_of, due_of, hands_of, holds_of, one_if_some, one_if_is, Counts}
 use Rattle.strip_crew.proofs.Lists.{no_items, total_alone, total_same, total_append, total_set, term_le, terms_le, total_one, below_one, below_next, only, only_same, below_only}
 
 abbrev value_or : Option ℕ → ℕ
@@ -19,30 +19,30 @@ hand_is a b e = ap value_or e
 pub no_hand : (a : ℕ) → None ≡ Some a → ⊥
 no_hand a e = omega (arith, ap one_if_some e)
 
-abbrev pub EndsWith : ℕ → Claim → Type 0
+abbrev pub EndsWith : ℕ → SeatClaims → Type 0
 EndsWith r c = (before : List ℕ) × (c.claimed ≡ before ++ r ∷ [])
 
 -- a fact on each seat, after a change of one
-each_set : (P : Claim → Type 0) (cs : List Claim) (j : ℕ) (d : Claim) → P d → ((i : ℕ) (e : Claim) → get_elem? cs i ≡ some e → P e) → (i : ℕ) (e : Claim) → get_elem? (set cs j d) i ≡ some e → P e
+each_set : (P : SeatClaims → Type 0) (cs : List SeatClaims) (j : ℕ) (d : SeatClaims) → P d → ((i : ℕ) (e : SeatClaims) → get_elem? cs i ≡ some e → P e) → (i : ℕ) (e : SeatClaims) → get_elem? (set cs j d) i ≡ some e → P e
 each_set P cs j d here others i e found = ⊎_elim (λ (t : (i ≡ j) × (d ≡ e)). subst P t.1 here) (λ (t : (i ≢ j) × (get_elem? cs i ≡ some e)). others i e t.1) (at_set cs j i d e found)
 
-each_snoc : (P : Claim → Type 0) (cs : List Claim) (d : Claim) → P d → ((i : ℕ) (e : Claim) → get_elem? cs i ≡ some e → P e) → (i : ℕ) (e : Claim) → get_elem? (cs ++ d ∷ []) i ≡ some e → P e
+each_snoc : (P : SeatClaims → Type 0) (cs : List SeatClaims) (d : SeatClaims) → P d → ((i : ℕ) (e : SeatClaims) → get_elem? cs i ≡ some e → P e) → (i : ℕ) (e : SeatClaims) → get_elem? (cs ++ d ∷ []) i ≡ some e → P e
 each_snoc P cs d here others i e found = ⊎_elim (λ (t : get_elem? cs i ≡ some e). others i e t) (λ (t : d ≡ e). subst P t here) (at_snoc cs d e i found)
 
-abbrev Lasts : ℕ → Claim → Type 0
+abbrev Lasts : ℕ → SeatClaims → Type 0
 Lasts r c = c.hand ≡ Some r → EndsWith r c
 
-abbrev Owes : Claim → Type 0
+abbrev Owes : SeatClaims → Type 0
 Owes c = 0 < length c.claimed → 0 < c.due + c.past
 
-module _ (n k w0 w1 : ℕ) (cs : List Claim) (o : Counts n k w0 w1 cs) where
+module _ (n k w0 w1 : ℕ) (cs : List SeatClaims) (o : Counts n k w0 w1 cs) where
   -- a strip that a seat has claimed lies below word 0 and is one of the strips
-  pub inside : (j : ℕ) (c : Claim) (i : ℕ) → get_elem? cs j ≡ some c → 0 < total (only i) c.claimed → (i < w0) × (i < n)
+  pub inside : (j : ℕ) (c : SeatClaims) (i : ℕ) → get_elem? cs j ≡ some c → 0 < total (only i) c.claimed → (i < w0) × (i < n)
   inside j c i at has = dite (dec_le (min w0 n) i)
       (λ out. absurd (omega (arith, o.once (only i), term_le (weight_of (only i)) cs j c at, (below_only i (min w0 n)).1 out)))
       (λ near. let near' : i < min w0 n = omega arith in (omega arith, omega arith))
 
-  pub hand_inside : (j : ℕ) (c : Claim) (i : ℕ) → get_elem? cs j ≡ some c → c.hand ≡ Some i → (i < w0) × (i < n)
+  pub hand_inside : (j : ℕ) (c : SeatClaims) (i : ℕ) → get_elem? cs j ≡ some c → c.hand ≡ Some i → (i < w0) × (i < n)
   hand_inside j c i at is = let t = o.last j c i at is in
       inside j c i at (omega (arith, ap (total (only i)) t.1, total_append (only i) t.0 (i ∷ []), only_same i))
 
@@ -55,9 +55,9 @@ module _ (n k w0 w1 : ℕ) (cs : List Claim) (o : Counts n k w0 w1 cs) where
   pub word1_le : w1 ≤ n
   word1_le = omega (arith, claimed_in_all, o.given)
 
-  module _ (j : ℕ) (c : Claim) (at : get_elem? cs j ≡ some c) where
+  module _ (j : ℕ) (c : SeatClaims) (at : get_elem? cs j ≡ some c) where
     pub claims_counts : c.hand ≡ None → 0 < c.due → w0 < n → Counts n k (w0 + 1) w1 (set cs j (claims c w0))
-    claims_counts empty due near = let d : Claim = claims c w0 in record {
+    claims_counts empty due near = let d : SeatClaims = claims c w0 in record {
       once = λ h. let more : min (w0 + 1) n ≡ min w0 n + 1 = omega arith in let here : min w0 n ≡ w0 = omega arith in
           omega (arith, total_set (weight_of h) cs j c d at, total_append h c.claimed (w0 ∷ []), o.once h, ap (sum_below h) more, below_next h (min w0 n), ap h here);
       counted = omega (arith, o.counted, total_set count_of cs j c d at, total_set past_of cs j c d at, length-append c.claimed (w0 ∷ []));
@@ -68,7 +68,7 @@ module _ (n k w0 w1 : ℕ) (cs : List Claim) (o : Counts n k w0 w1 cs) where
     }
 
     pub passes_counts : c.hand ≡ None → 0 < c.due → n ≤ w0 → Counts n k (w0 + 1) w1 (set cs j (passes c))
-    passes_counts empty due far = let d : Claim = passes c in record {
+    passes_counts empty due far = let d : SeatClaims = passes c in record {
       once = λ h. let same : min (w0 + 1) n ≡ min w0 n = omega arith in omega (arith, total_set (weight_of h) cs j c d at, o.once h, ap (sum_below h) same);
       counted = omega (arith, o.counted, total_set count_of cs j c d at, total_set past_of cs j c d at);
       last = λ i e r. each_set (Lasts r) cs j d (λ is. o.last j c r at is) (λ i' e' found is. o.last i' e' r found is) i e;
@@ -78,7 +78,7 @@ module _ (n k w0 w1 : ℕ) (cs : List Claim) (o : Counts n k w0 w1 cs) where
     }
 
     pub gives_counts : (i : ℕ) → c.hand ≡ Some i → Counts n k w0 (w1 + 1) (set cs j (gives_back c))
-    gives_counts i has = let d : Claim = gives_back c in record {
+    gives_counts i has = let d : SeatClaims = gives_back c in record {
       once = λ h. omega (arith, total_set (weight_of h) cs j c d at, o.once h);
       counted = omega (arith, o.counted, total_set count_of cs j c d at, total_set past_of cs j c d at);
       last = λ x e r. each_set (Lasts r) cs j d (λ is. absurd (no_hand r is)) (λ i' e' found is. o.last i' e' r found is) x e;
@@ -88,7 +88,7 @@ module _ (n k w0 w1 : ℕ) (cs : List Claim) (o : Counts n k w0 w1 cs) where
     }
 
     pub splits_counts : c.claimed ≡ [] → 0 < c.due → Counts n k w0 w1 (set cs j (splits c) ++ fresh 1 ∷ [])
-    splits_counts empty due = let d : Claim = splits c in let ds : List Claim = set cs j d in let f : Claim = fresh 1 in record {
+    splits_counts empty due = let d : SeatClaims = splits c in let ds : List SeatClaims = set cs j d in let f : SeatClaims = fresh 1 in record {
       once = λ h. omega (arith, total_append (weight_of h) ds (f ∷ []), total_set (weight_of h) cs j c d at, o.once h);
       counted = omega (arith, o.counted, total_append count_of ds (f ∷ []), total_append past_of ds (f ∷ []), total_set count_of cs j c d at, total_set past_of cs j c d at);
       last = λ i e r. each_snoc (Lasts r) ds f (λ is. absurd (no_hand r is)) (each_set (Lasts r) cs j d (λ is. o.last j c r at is) (λ i' e' found is. o.last i' e' r found is)) i e;
@@ -97,10 +97,10 @@ module _ (n k w0 w1 : ℕ) (cs : List Claim) (o : Counts n k w0 w1 cs) where
       owing = each_snoc Owes ds f (λ z. absurd (omega arith)) (each_set Owes cs j d (λ z. absurd (omega (arith, ap (λ (l : List ℕ). length l) empty))) o.owing);
     }
 
-    pub joins_counts : (l : ℕ) (b : Claim) → get_elem? (set cs j (joins c b)) l ≡ some b → l ≢ j → c.hand ≡ None → b.hand ≡ None → Counts n k w0 w1 (set (set cs j (joins c b)) l spent)
-    joins_counts l b there apart empty free = let d : Claim = joins c b in let ds : List Claim = set cs j d in
+    pub joins_counts : (l : ℕ) (b : SeatClaims) → get_elem? (set cs j (joins c b)) l ≡ some b → l ≢ j → c.hand ≡ None → b.hand ≡ None → Counts n k w0 w1 (set (set cs j (joins c b)) l spent)
+    joins_counts l b there apart empty free = let d : SeatClaims = joins c b in let ds : List SeatClaims = set cs j d in
         let was : get_elem? cs l ≡ some b = sym (set_else cs j l d apart) ∙ there in
-        let both : (g : Claim → ℕ) → total g (set ds l spent) + g b + g c ≡ total g cs + g d + g spent = λ g. omega (arith, total_set g cs j c d at, total_set g ds l b spent there) in record {
+        let both : (g : SeatClaims → ℕ) → total g (set ds l spent) + g b + g c ≡ total g cs + g d + g spent = λ g. omega (arith, total_set g cs j c d at, total_set g ds l b spent there) in record {
           once = λ h. omega (arith, both (weight_of h), total_append h c.claimed b.claimed, o.once h);
           counted = omega (arith, o.counted, both count_of, both past_of, length-append c.claimed b.claimed);
           last = λ i e r. each_set (Lasts r) ds l spent (λ is. absurd (no_hand r is)) (each_set (Lasts r) cs j d (λ is. absurd (no_hand r is)) (λ i' e' found is. o.last i' e' r found is)) i e;
@@ -112,21 +112,21 @@ module _ (n k w0 w1 : ℕ) (cs : List Claim) (o : Counts n k w0 w1 cs) where
         }
 
     module _ (all : c.past ≡ k) where
-      others : (i : ℕ) (d : Claim) → i ≢ j → get_elem? cs i ≡ some d → length d.claimed ≡ 0
+      others : (i : ℕ) (d : SeatClaims) → i ≢ j → get_elem? cs i ≡ some d → length d.claimed ≡ 0
       others i d ne found = dite (dec_le (length d.claimed) 0) (λ h. omega arith)
           (λ some_claimed. absurd (omega (arith, o.owing i d found (omega arith), o.ends, terms_le past_of cs j i c d ne at found, term_le due_of cs i d found)))
 
-      pub nothing : (i : ℕ) (d : Claim) → i ≢ j → get_elem? cs i ≡ some d → d.claimed ≡ []
+      pub nothing : (i : ℕ) (d : SeatClaims) → i ≢ j → get_elem? cs i ≡ some d → d.claimed ≡ []
       nothing i d ne found = no_items d.claimed (others i d ne found)
 
-      no_end : (d : Claim) (r : ℕ) → length d.claimed ≡ 0 → EndsWith r d → ⊥
+      no_end : (d : SeatClaims) (r : ℕ) → length d.claimed ≡ 0 → EndsWith r d → ⊥
       no_end d r none t = omega (arith, ap (λ (l : List ℕ). length l) t.1, length-append t.0 (r ∷ []))
 
-      free_hand : (d : Claim) (h : Option ℕ) → d.hand ≡ h → length d.claimed ≡ 0 → ((r : ℕ) → d.hand ≡ Some r → EndsWith r d) → h ≡ None
+      free_hand : (d : SeatClaims) (h : Option ℕ) → d.hand ≡ h → length d.claimed ≡ 0 → ((r : ℕ) → d.hand ≡ Some r → EndsWith r d) → h ≡ None
       free_hand d None is none lasts = refl
       free_hand d (Some r) is none lasts = absurd (no_end d r none (lasts r is))
 
-      pub free_hands : (i : ℕ) (d : Claim) → i ≢ j → get_elem? cs i ≡ some d → d.hand ≡ None
+      pub free_hands : (i : ℕ) (d : SeatClaims) → i ≢ j → get_elem? cs i ≡ some d → d.hand ≡ None
       free_hands i d ne found = free_hand d d.hand refl (others i d ne found) (λ r is. o.last i d r found is)
 
       pub alone : (h : ℕ → ℕ) → total (weight_of h) cs ≡ total h c.claimed

@@ -9,7 +9,7 @@ use Rattle.atomic_table.specs.Table.{State, step, Act, keeps, takes, gives, Vali
 use Rattle.atomic_table.proofs.Lists.{at_set, set_here, set_else, at_snoc, at_map}
 use Rattle.strip_flood.specs.Jobs.{JobView}
 use Rattle.strip_crew.specs.Run.{Run, strips, IsSized, IsJobOf}
-use Rattle.strip_crew.specs.Counting.{Claim, fresh, spent, claims, passes, gives_back, splits, joins, total, holds_of, one_if_is, Counts}
+use Rattle.strip_crew.specs.Counting.{SeatClaims, fresh, spent, claims, passes, gives_back, splits, joins, total, holds_of, one_if_is, Counts}
 use Rattle.strip_crew.specs.Core.{Waiting, Core, seat_at, Reached}
 use Rattle.strip_crew.specs.Claims.{view, claim_of, Seated, IsHome, RuleHolds, opening_view, top, claimed, gave, split_left, split_right, joined, spent_view, SettleLaw, HasSettled, AreReady, AreFlooded}
 use Rattle.strip_crew.specs.declared.view.View.{View}
@@ -25,7 +25,7 @@ abbrev board : List ℕ → List (Option JobView) → List View → St
 board ws hs vs = record { words = ws; homes = hs; views = vs }
 
 -- the parts of the rule that read the words and the views, at plain variables
-abbrev Read : Run → List (Option JobView) → ℕ → ℕ → List Claim → Type 0
+abbrev Read : Run → List (Option JobView) → ℕ → ℕ → List SeatClaims → Type 0
 Read run hs w0 w1 cs =
     Counts (strips run) run.workers w0 w1 cs
     × ((i : ℕ) → w0 ≤ i → i < strips run → IsHome run hs i false)
@@ -38,12 +38,12 @@ Same run vs = (j : ℕ) (v : View) → get_elem? vs j ≡ some v → v.claim.joi
 reads : (run : Run) (s : St) → RuleHolds run s → Read run s.homes (get_or s.words 0 0) (get_or s.words 1 0) (map claim_of s.views)
 reads run s o = (o.counts, o.waiting, o.done, o.history)
 
-made : (run : Run) (ws : List ℕ) (hs : List (Option JobView)) (vs : List View) (w0 w1 : ℕ) (cs : List Claim)
+made : (run : Run) (ws : List ℕ) (hs : List (Option JobView)) (vs : List View) (w0 w1 : ℕ) (cs : List SeatClaims)
     → IsSized (strips run) run.workers → length ws ≡ 2 → length hs ≡ strips run → get_or ws 0 0 ≡ w0 → get_or ws 1 0 ≡ w1 → map claim_of vs ≡ cs
     → Read run hs w0 w1 cs → Same run vs → RuleHolds run (board ws hs vs)
 made run ws hs vs w0 w1 cs sized wide deep is0 is1 are o same =
     let r : Read run hs (get_or ws 0 0) (get_or ws 1 0) (map claim_of vs) =
-    subst (λ (x : ℕ). Read run hs x (get_or ws 1 0) (map claim_of vs)) (sym is0) (subst (λ (x : ℕ). Read run hs w0 x (map claim_of vs)) (sym is1) (subst (λ (x : List Claim). Read run hs w0 w1 x) (sym are) o)) in
+    subst (λ (x : ℕ). Read run hs x (get_or ws 1 0) (map claim_of vs)) (sym is0) (subst (λ (x : ℕ). Read run hs w0 x (map claim_of vs)) (sym is1) (subst (λ (x : List SeatClaims). Read run hs w0 w1 x) (sym are) o)) in
     record { sized = sized; wide = wide; deep = deep; counts = r.0; waiting = r.1; done = r.2; same_run = same; history = r.3 }
 
 same_set : (run : Run) (vs : List View) (j : ℕ) (w : View) → (w.claim.joined ≡ false → w.of ≡ run) → Same run vs → Same run (set vs j w)
@@ -77,10 +77,10 @@ module _ (run : Run) (s : St) (o : RuleHolds run s) (id : ℕ) (m : Seated) (at 
   abbrev w1 : ℕ
   w1 = get_or s.words 1 0
 
-  abbrev cs : List Claim
+  abbrev cs : List SeatClaims
   cs = map claim_of s.views
 
-  abbrev c : Claim
+  abbrev c : SeatClaims
   c = m.0.claim
 
   there : get_elem? cs id ≡ some c
@@ -179,10 +179,10 @@ gives_allowed run slots id m i job more held free has its flooded =
 
 pub splits_allowed : (run : Run) (id : ℕ) (v : View) → v.claim.joined ≡ false → v.claim.claimed ≡ [] → 0 < v.claim.due → Splits (RuleHolds run) id v (split_left v) (split_right v)
 splits_allowed run id v free empty due s o at =
-    let n : ℕ = strips run in let k : ℕ = run.workers in let w0 : ℕ = get_or s.words 0 0 in let w1 : ℕ = get_or s.words 1 0 in let cs : List Claim = map claim_of s.views in let c : Claim = v.claim in
+    let n : ℕ = strips run in let k : ℕ = run.workers in let w0 : ℕ = get_or s.words 0 0 in let w1 : ℕ = get_or s.words 1 0 in let cs : List SeatClaims = map claim_of s.views in let c : SeatClaims = v.claim in
     let is : v.of ≡ run = o.same_run id v at free in let there : get_elem? cs id ≡ some c = at_map claim_of s.views id v at in
-    let l : View = split_left v in let r : View = split_right v in let vs : List View = set s.views id l in let ds : List Claim = set cs id (splits c) in
-    let are : map claim_of (vs ++ r ∷ []) ≡ ds ++ fresh 1 ∷ [] = map_append claim_of vs (r ∷ []) ∙ ap (λ (x : List Claim). x ++ fresh 1 ∷ []) (map_set claim_of s.views id l) in
+    let l : View = split_left v in let r : View = split_right v in let vs : List View = set s.views id l in let ds : List SeatClaims = set cs id (splits c) in
+    let are : map claim_of (vs ++ r ∷ []) ≡ ds ++ fresh 1 ∷ [] = map_append claim_of vs (r ∷ []) ∙ ap (λ (x : List SeatClaims). x ++ fresh 1 ∷ []) (map_set claim_of s.views id l) in
     let moved : (x : ℕ) → total (holds_of x) (ds ++ fresh 1 ∷ []) ≡ total (holds_of x) cs = λ x. omega (arith, total_append (holds_of x) ds (fresh 1 ∷ []), total_set (holds_of x) cs id c (splits c) there) in
     made run s.words s.homes (vs ++ r ∷ []) w0 w1 (ds ++ fresh 1 ∷ []) o.sized o.wide o.deep refl refl are
     (splits_counts n k w0 w1 cs o.counts id c there empty due, o.waiting, (λ i low in_strips none_holds. o.done i low in_strips (omega (arith, moved i))), splits_reached n k w0 w1 cs o.history id c there free empty due)
@@ -190,13 +190,13 @@ splits_allowed run id v free empty due s o at =
 
 pub joins_allowed : (run : Run) (id : ℕ) (v : View) (other : ℕ) (u : View) → v.claim.joined ≡ false → u.claim.joined ≡ false → v.claim.hand ≡ None → u.claim.hand ≡ None → Joins (RuleHolds run) id v other u (joined v u) spent_view
 joins_allowed run id v other u free free' empty empty' s o at apart them =
-    let n : ℕ = strips run in let k : ℕ = run.workers in let w0 : ℕ = get_or s.words 0 0 in let w1 : ℕ = get_or s.words 1 0 in let cs : List Claim = map claim_of s.views in let c : Claim = v.claim in let b : Claim = u.claim in
+    let n : ℕ = strips run in let k : ℕ = run.workers in let w0 : ℕ = get_or s.words 0 0 in let w1 : ℕ = get_or s.words 1 0 in let cs : List SeatClaims = map claim_of s.views in let c : SeatClaims = v.claim in let b : SeatClaims = u.claim in
     let is : v.of ≡ run = o.same_run id v at free in let there : get_elem? cs id ≡ some c = at_map claim_of s.views id v at in
-    let w : View = joined v u in let vs : List View = set s.views id w in let d : Claim = joins c b in let ds : List Claim = set cs id d in
+    let w : View = joined v u in let vs : List View = set s.views id w in let d : SeatClaims = joins c b in let ds : List SeatClaims = set cs id d in
     let are : map claim_of vs ≡ ds = map_set claim_of s.views id w in
-    let them' : get_elem? ds other ≡ some b = subst (λ (x : List Claim). get_elem? x other ≡ some b) are (at_map claim_of vs other u them) in
+    let them' : get_elem? ds other ≡ some b = subst (λ (x : List SeatClaims). get_elem? x other ≡ some b) are (at_map claim_of vs other u them) in
     let was : get_elem? cs other ≡ some b = sym (set_else cs id other d apart) ∙ them' in
-    let all : map claim_of (set vs other spent_view) ≡ set ds other spent = map_set claim_of vs other spent_view ∙ ap (λ (x : List Claim). set x other spent) are in
+    let all : map claim_of (set vs other spent_view) ≡ set ds other spent = map_set claim_of vs other spent_view ∙ ap (λ (x : List SeatClaims). set x other spent) are in
     let moved : (x : ℕ) → total (holds_of x) (set ds other spent) ≡ total (holds_of x) cs = λ x. omega (arith, total_set (holds_of x) cs id c d there, total_set (holds_of x) ds other b spent them', ap (one_if_is x) empty, ap (one_if_is x) empty') in
     made run s.words s.homes (set vs other spent_view) w0 w1 (set ds other spent) o.sized o.wide o.deep refl refl all
     (joins_counts n k w0 w1 cs o.counts id c there other b them' apart empty empty', o.waiting, (λ i low in_strips none_holds. o.done i low in_strips (omega (arith, moved i))), joins_reached n k w0 w1 cs o.history id c there free other b was free' apart empty empty')
@@ -221,12 +221,12 @@ starts run jobs sized ready =
 
 pub settles : SettleLaw
 settles run s j v o at all empty =
-    let n : ℕ = strips run in let k : ℕ = run.workers in let w0 : ℕ = get_or s.words 0 0 in let w1 : ℕ = get_or s.words 1 0 in let cs : List Claim = map claim_of s.views in let c : Claim = v.claim in
+    let n : ℕ = strips run in let k : ℕ = run.workers in let w0 : ℕ = get_or s.words 0 0 in let w1 : ℕ = get_or s.words 1 0 in let cs : List SeatClaims = map claim_of s.views in let c : SeatClaims = v.claim in
     let there : get_elem? cs j ≡ some c = at_map claim_of s.views j v at in
     let far : w0 ≡ n + k = word0_is n k w0 w1 cs o.counts j c there all o.sized.some_worker in
     let h = o.history in let d : Core = record { word0 = w0; word1 = w1; seats = cs; strips = h.statuses } in
     let it : seat_at d j ≡ c = or_at cs j c spent there in
-    let ones = ended n k h.events d h.leads j o.sized.some_worker (in_range cs j c there, ap (λ (x : Claim). x.past) it ∙ all, ap (λ (x : Claim). x.hand) it ∙ empty) in
+    let ones = ended n k h.events d h.leads j o.sized.some_worker (in_range cs j c there, ap (λ (x : SeatClaims). x.past) it ∙ all, ap (λ (x : SeatClaims). x.hand) it ∙ empty) in
     record {
       others = λ i u ne found. nothing n k w0 w1 cs o.counts j c there all i u.claim ne (at_map claim_of s.views i u found);
       word0 = far;

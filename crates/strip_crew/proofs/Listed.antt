@@ -6,7 +6,7 @@ use mathlib.Core.Option.{some, some-injective}
 use lib.ListN.{get_elem?}
 use Rattle.atomic_table.proofs.Lists.{at_map}
 use Rattle.strip_crew.specs.Run.{strips}
-use Rattle.strip_crew.specs.Counting.{Claim, total, weight_of, holds_of, one_if_is, Counts}
+use Rattle.strip_crew.specs.Counting.{SeatClaims, total, weight_of, holds_of, one_if_is, Counts}
 use Rattle.strip_crew.specs.Claims.{claim_of, ListedLaw}
 use Rattle.strip_crew.proofs.Lists.{total_append, total_none, term_le, terms_le, only, only_same, only_other, below_only}
 use Rattle.strip_crew.proofs.Counting.{inside}
@@ -15,11 +15,11 @@ use Rattle.strip_crew.proofs.Counting.{inside}
 weighs : (l : List ℕ) (place i : ℕ) → get_elem? l place ≡ some i → 0 < total (only i) l
 weighs l place i at = omega (arith, term_le (only i) l place i at, only_same i)
 
-module _ (n k w0 w1 : ℕ) (cs : List Claim) (o : Counts n k w0 w1 cs) (j : ℕ) (c : Claim) (i : ℕ) (at : get_elem? cs j ≡ some c) (has : 0 < total (only i) c.claimed)
+module _ (n k w0 w1 : ℕ) (cs : List SeatClaims) (o : Counts n k w0 w1 cs) (j : ℕ) (c : SeatClaims) (i : ℕ) (at : get_elem? cs j ≡ some c) (has : 0 < total (only i) c.claimed)
     (free : c.hand ≢ Some i) where
-  not_held : (l : ℕ) (d : Claim) → get_elem? cs l ≡ some d → d.hand ≡ Some i → ⊥
+  not_held : (l : ℕ) (d : SeatClaims) → get_elem? cs l ≡ some d → d.hand ≡ Some i → ⊥
   not_held l d found held = dite (ℕ_discrete l j)
-      (λ same. free (ap (λ (x : Claim). x.hand) (some-injective c d (sym at ∙ (ap (get_elem? cs) (sym same) ∙ found))) ∙ held))
+      (λ same. free (ap (λ (x : SeatClaims). x.hand) (some-injective c d (sym at ∙ (ap (get_elem? cs) (sym same) ∙ found))) ∙ held))
       (λ ne.
       let t = o.last l d i found held in
       omega (
@@ -32,7 +32,7 @@ module _ (n k w0 w1 : ℕ) (cs : List Claim) (o : Counts n k w0 w1 cs) (j : ℕ)
         only_same i,
       ))
 
-  weightless : (l : ℕ) (d : Claim) → get_elem? cs l ≡ some d → (h : Option ℕ) → d.hand ≡ h → one_if_is i h ≡ 0
+  weightless : (l : ℕ) (d : SeatClaims) → get_elem? cs l ≡ some d → (h : Option ℕ) → d.hand ≡ h → one_if_is i h ≡ 0
   weightless l d found None is = refl
   weightless l d found (Some x) is = dite (ℕ_discrete x i)
       (λ same. absurd (not_held l d found (is ∙ ap (λ (y : ℕ). Some y) same)))
@@ -43,7 +43,7 @@ module _ (n k w0 w1 : ℕ) (cs : List Claim) (o : Counts n k w0 w1 cs) (j : ℕ)
 
 pub listed : ListedLaw
 listed run s j v place i o at lists free =
-    let n : ℕ = strips run in let k : ℕ = run.workers in let w0 : ℕ = get_or s.words 0 0 in let w1 : ℕ = get_or s.words 1 0 in let cs : List Claim = map claim_of s.views in let c : Claim = v.claim in
+    let n : ℕ = strips run in let k : ℕ = run.workers in let w0 : ℕ = get_or s.words 0 0 in let w1 : ℕ = get_or s.words 1 0 in let cs : List SeatClaims = map claim_of s.views in let c : SeatClaims = v.claim in
     let there : get_elem? cs j ≡ some c = at_map claim_of s.views j v at in
     let has : 0 < total (only i) c.claimed = weighs c.claimed place i lists in
     let near = inside n k w0 w1 cs o.counts j c i there has in

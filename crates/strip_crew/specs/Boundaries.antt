@@ -1,4 +1,4 @@
--- The boundaries in a group of strips: the first rows of all its strips but the first.
+-- Model: the boundaries in a group of strips: the first rows of all its strips but the first.
 use Rattle.std.specs.Prelude.{◌≡◌, ◌≢◌, ℕ, ◌+◌, ◌*◌, ◌<◌, ◌≤◌, ◌⊎◌, List, Option, ℤ, length, slice_index}
 use Rattle.comp_tree.specs.declared.shape.Connect.{Connect}
 use Rattle.comp_tree.specs.Raster.{Raster}

@@ -1,4 +1,4 @@
--- The rule of the claims table, and what each of its steps tells.
+-- Model: the rule of the claims table, and what each of its steps tells.
 use Rattle.std.specs.Prelude.{◌≡◌, ◌≢◌, ℕ, ◌+◌, ◌<◌, ◌≤◌, Bool, true, false, List, [], ◌∷◌, ◌++◌, map, length, max, slice_index, Some, None, IsSomeAnd, ◌*◌, min, Result, IfOk}
 use mathlib.Core.Option.{Option, some}
 use lib.ListN.{get_elem?}
@@ -9,15 +9,15 @@ use Rattle.comp_tree.specs.Counts.{sum_below}
 use Rattle.strip_flood.specs.Jobs.{JobView}
 use Rattle.comp_tree.specs.Raster.{Raster}
 use Rattle.strip_crew.specs.Run.{Plan, Run, run_with, no_run, strips, IsSized, IsJobOf}
-use Rattle.strip_crew.specs.Counting.{Claim, claim, fresh, spent, claims, passes, gives_back, splits, joins, total, holds_of, Counts}
+use Rattle.strip_crew.specs.Counting.{SeatClaims, claim, fresh, spent, claims, passes, gives_back, splits, joins, total, holds_of, Counts}
 use Rattle.strip_crew.specs.Core.{Reached, Ends}
 use Rattle.strip_crew.specs.declared.view.View.{View}
 use Rattle.strip_crew.specs.declared.rule.Key.{Key}
 
-abbrev pub view : Claim → Run → View
+abbrev pub view : SeatClaims → Run → View
 view c run = record { claim = c; of = run }
 
-abbrev pub claim_of : View → Claim
+abbrev pub claim_of : View → SeatClaims
 claim_of v = v.claim
 
 -- the fixed data of a run, as clauses see them
@@ -102,8 +102,8 @@ abbrev pub IsOver : Run → Raster → Type 0
 IsOver run plane = run.plan.plane ≡ plane
 
 -- the seat holds slot i alone, of whose job P holds
-abbrev pub Holds : Seated → ℕ → (JobView → Type 0) → Type 0
-Holds m i P = (job : JobView) × (m.1 ≡ (i, job) ∷ []) × P job
+abbrev pub HoldsSlot : Seated → ℕ → (JobView → Type 0) → Type 0
+HoldsSlot m i P = (job : JobView) × (m.1 ≡ (i, job) ∷ []) × P job
 
 -- the new job is the old one, flooded
 pub record IsFloodedFrom (old new : JobView) : Type 0 where
@@ -116,8 +116,8 @@ pub record IsFloodedFrom (old new : JobView) : Type 0 where
   pub values : new.values ≡ old.values
 
 -- a job of strip i, flooded or not
-abbrev pub IsJob : Plan → ℕ → Bool → JobView → Type 0
-IsJob plan i flooded job = IsJobOf plan i job × (job.flooded ≡ flooded)
+abbrev pub IsJobOf : Plan → ℕ → Bool → JobView → Type 0
+IsJobOf plan i flooded job = IsJobOf plan i job × (job.flooded ≡ flooded)
 
 -- what of table's state the last seat knows
 pub record Settled (run : Run) (s : State JobView View) (j : ℕ) (v : View) : Type 0 where

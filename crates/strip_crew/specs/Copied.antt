@@ -1,4 +1,4 @@
--- The links of strips, one after the other.
+-- Bookkeeping: the links of strips, one after the other.
 use Rattle.std.specs.Prelude.{◌≡◌, ℕ, ◌*◌, ◌/◌, ◌<◌, List, Option, ℤ, length, IsTrue}
 use Rattle.comp_tree.specs.declared.shape.Connect.{Connect}
 use Rattle.comp_tree.specs.Raster.{IsPlane}

@@ -1,6 +1,6 @@
--- The claims of a run as a machine without threads.
+-- Model: the claims of a run as a machine without threads.
 use Rattle.std.specs.Prelude.{◌≡◌, ◌≢◌, ℕ, ◌+◌, ◌<◌, ◌≤◌, ◌==◌, cond, false, List, [], ◌∷◌, ◌++◌, length, replicate, Some, None, slice_set, slice_index_or}
-use Rattle.strip_crew.specs.Counting.{Claim, fresh, spent, claims, passes, gives_back, splits, joins, total, holds_of, Counts}
+use Rattle.strip_crew.specs.Counting.{SeatClaims, fresh, spent, claims, passes, gives_back, splits, joins, total, holds_of, Counts}
 
 -- what a strip is: not yet claimed, in a hand, or given back flooded
 pub data Status : Type 0 where
@@ -11,7 +11,7 @@ pub data Status : Type 0 where
 pub record Core : Type 0 where
   pub word0 : ℕ
   pub word1 : ℕ
-  pub seats : List Claim
+  pub seats : List SeatClaims
   pub strips : List Status
 
 -- the kinds of step, each with the number of its seat
@@ -23,7 +23,7 @@ pub data Event : Type 0 where
   Joins : (seat other : ℕ) → Event
 
 -- a seat by its number. One that isn't there can make no step, as one that was joined away
-abbrev pub seat_at : Core → ℕ → Claim
+abbrev pub seat_at : Core → ℕ → SeatClaims
 seat_at c j = slice_index_or c.seats j spent
 
 -- no seat has claimed a strip, and the one seat owes a claim past the end for each worker
@@ -122,7 +122,7 @@ pub record Lawful (n k : ℕ) (events : List Event) (c : Core) : Type 0 where
   pub none_past : (i : ℕ) → n ≤ i → (total (is_claim i) events ≡ 0) × (total (is_give i) events ≡ 0)
 
 -- these words and seats are those of the machine after some events
-pub record Reached (n k word0 word1 : ℕ) (cs : List Claim) : Type 0 where
+pub record Reached (n k word0 word1 : ℕ) (cs : List SeatClaims) : Type 0 where
   pub events : List Event
   pub statuses : List Status
   pub leads : Leads n (start n k) events (record { word0 = word0; word1 = word1; seats = cs; strips = statuses })
@@ -142,7 +142,7 @@ CoreEnds =
     → (i : ℕ) → i < n → (total (is_claim i) events ≡ 1) × (total (is_give i) events ≡ 1)
 
 -- these words and seats are those of the machine after some events, among which each strip was claimed once and given back once
-pub record Ends (n k word0 word1 : ℕ) (cs : List Claim) : Type 0 where
+pub record Ends (n k word0 word1 : ℕ) (cs : List SeatClaims) : Type 0 where
   pub reached : Reached n k word0 word1 cs
   pub claimed_once : (i : ℕ) → i < n → total (is_claim i) reached.events ≡ 1
   pub given_once : (i : ℕ) → i < n → total (is_give i) reached.events ≡ 1

@@ -1,4 +1,4 @@
--- The fixed data of a run, and the job of each of its strips.
+-- Model: the fixed data of a run, and the job of each of its strips.
 use Rattle.std.specs.Prelude.{◌≡◌, ℕ, ◌+◌, ◌*◌, ◌/◌, ◌<◌, ◌≤◌, List, [], map, length, slice_index, slice_index_or}
 use Rattle.std.specs.List.{range_with_len}
 use Rattle.std.proofs.Common.{arith}
@@ -6,7 +6,7 @@ use Rattle.comp_tree.specs.declared.shape.Connect.{Connect}
 use Rattle.comp_tree.specs.declared.shape.Connect.TheVariants.{Four}
 use Rattle.comp_tree.specs.Limits.{IsWithinLimits}
 use Rattle.comp_tree.specs.Raster.{Raster}
-use Rattle.strip_flood.specs.Jobs.{JobView, IsFit}
+use Rattle.strip_flood.specs.Jobs.{JobView, SuitsStrip}
 
 -- the plane, the connectivity, and the first row of each strip
 pub record Plan : Type 0 where
@@ -48,7 +48,7 @@ pub record IsSized (strips workers : ℕ) : Type 0 where
 
 -- the job fits the plane, and has the connectivity and the rows of strip i
 pub record IsJobOf (plan : Plan) (i : ℕ) (job : JobView) : Type 0 where
-  pub fit : IsFit job plan.plane
+  pub fit : SuitsStrip job plan.plane
   pub connect : job.connect ≡ plan.connect
   pub first_row : job.first_row ≡ slice_index plan.cut i
   pub end_row : job.end_row ≡ row_at plan (i + 1)

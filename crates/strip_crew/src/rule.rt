@@ -26,16 +26,16 @@ pub struct Key {
 /// flooded. Together with this it keeps a history, a list of the machine's events that leads from its start to these
 /// words and views.
 #[derive(Clone, Copy, Drop)]
-pub struct Claims;
+pub struct ClaimRule;
 
-impl TableRule<StripJob, View, Key> for Claims {
+impl TableRule<StripJob, View, Key> for ClaimRule {
     ghost holds = { λ key. RuleHolds (run_of key) };
 
     ghost first = { λ key. opening_view (run_of key) };
 }
 
 /// The table of a run, with the job of each strip in a slot of its own.
-pub type ClaimTable = Table<StripJob, View, Key, Claims, Global>;
+pub type ClaimTable = Table<StripJob, View, Key, ClaimRule, Global>;
 
 /// The right to claim strips at a table.
 pub type ClaimSeat = Seat<StripJob, View>;

@@ -18,7 +18,7 @@ match_map (Some x) f g m = g x m
 pub nowhere_free : (q : Queue) (x : ℕ) → IsNowhere q.lists x → IsQueued q x → ⊥
 nowhere_free q x w i = w.nowhere i.0 i.2
 
-pub highest_own : (q : Queue) (result : Option ℕ) → MatchOption result (AllEmpty q) (IsHighest q) → MatchOption result (IsEmpty q.lists) (λ r. own.IsHighest q.lists r)
+pub highest_own : (q : Queue) (result : Option ℕ) → MatchOption result (AllEmpty q) (IsHighest q) → MatchOption result (IsEmpty q.lists) (λ r. own.IsHighestRank q.lists r)
 highest_own q result m = match_map result (λ e. record { empty = e }) (λ r h. record { inside = h.0; some = λ e. (let l : 0 < length (list_of q r) = h.1 in let z : length (list_of q r) ≡ 0 = ap length e in omega arith); above = h.2 }) m
 
 none_length : (xs : List ℕ) → (xs ≡ [] → ⊥) → 0 < length xs
@@ -26,7 +26,7 @@ none_length [] n = absurd (n refl)
 none_length (x ∷ xs) n = omega arith
 
 -- and back
-pub own_highest : (q : Queue) (result : Option ℕ) → MatchOption result (IsEmpty q.lists) (λ r. own.IsHighest q.lists r) → MatchOption result (AllEmpty q) (IsHighest q)
+pub own_highest : (q : Queue) (result : Option ℕ) → MatchOption result (IsEmpty q.lists) (λ r. own.IsHighestRank q.lists r) → MatchOption result (AllEmpty q) (IsHighest q)
 own_highest q result m = match_map result (λ e. e.empty) (λ r h. (h.inside, none_length (list_of q r) h.some, h.above)) m
 
 first_of : (lists : List (List ℕ)) (r : ℕ) (xs : List ℕ) (result : Option ℕ) → list_at lists r ≡ xs → result ≡ slice_get xs 0 → MatchOption result (list_at lists r ≡ []) (λ x. IsFront lists r x)

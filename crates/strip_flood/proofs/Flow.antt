@@ -7,7 +7,7 @@ use Rattle.comp_tree.specs.declared.shape.Connect.TheVariants.{Four, Eight}
 use Rattle.comp_tree.specs.Joined.{Joined, here, Or}
 use Rattle.comp_tree.specs.Flooding.{Both, With, IsSound, IsComplete}
 use Rattle.comp_tree.specs.Grid.{IsInner}
-use Rattle.strip_flood.specs.Flood.{Ground, ends, direction, IsOf, cursor_of, IsQueued, IsLooked}
+use Rattle.strip_flood.specs.Flood.{Ground, ends, direction, IsOf, cursor_of, IsInQueue, IsLooked}
 use Rattle.comp_tree.proofs.Joining.{joined_sym, joined_within, joined_first, joined_second}
 
 -- from p, one look in direction k at a neighbour with a value, or none where there is no such neighbour
@@ -72,25 +72,25 @@ module _ (g : Ground) (cursors : List ℕ) (long : length cursors ≡ length g.r
       (cases_eq x p)
 
   -- the new cursor is the one of a queued pixel
-  pub queued_new : 0 < v → v < 10 → IsQueued g (set cursors (p - g.first) v) p
+  pub queued_new : 0 < v → v < 10 → IsInQueue g (set cursors (p - g.first) v) p
   queued_new l h = record { inside = inside; low = subst (λ c. 0 < c) (sym cursor_new) l; high = subst (λ c. c < 10) (sym cursor_new) h }
 
-  pub queued_old : (x : ℕ) → (x ≡ p → ⊥) → IsQueued g cursors x → IsQueued g (set cursors (p - g.first) v) x
+  pub queued_old : (x : ℕ) → (x ≡ p → ⊥) → IsInQueue g cursors x → IsInQueue g (set cursors (p - g.first) v) x
   queued_old x ne q = record { inside = q.inside; low = subst (λ c. 0 < c) (sym (cursor_old x q.inside ne)) q.low; high = subst (λ c. c < 10) (sym (cursor_old x q.inside ne)) q.high }
 
-  pub queued_back : (x : ℕ) → (x ≡ p → ⊥) → IsQueued g (set cursors (p - g.first) v) x → IsQueued g cursors x
+  pub queued_back : (x : ℕ) → (x ≡ p → ⊥) → IsInQueue g (set cursors (p - g.first) v) x → IsInQueue g cursors x
   queued_back x ne q = record { inside = q.inside; low = subst (λ c. 0 < c) (cursor_old x q.inside ne) q.low; high = subst (λ c. c < 10) (cursor_old x q.inside ne) q.high }
 
-  pub queued_cases : (x : ℕ) → IsQueued g (set cursors (p - g.first) v) x → ((x ≡ p → ⊥) × IsQueued g cursors x) ⊎ (x ≡ p)
+  pub queued_cases : (x : ℕ) → IsInQueue g (set cursors (p - g.first) v) x → ((x ≡ p → ⊥) × IsInQueue g cursors x) ⊎ (x ≡ p)
   queued_cases x q = ⊎_elim (λ (e : x ≡ p). inr e) (λ (ne : x ≡ p → ⊥). inl (ne, queued_back x ne q)) (cases_eq x p)
 
   -- a finished pixel's cursor is 10
-  not_queued : v ≡ 10 → IsQueued g (set cursors (p - g.first) v) p → ⊥
+  not_queued : v ≡ 10 → IsInQueue g (set cursors (p - g.first) v) p → ⊥
   not_queued e q = let h : cursor_of g (set cursors (p - g.first) v) p < 10 = q.high in let n : cursor_of g (set cursors (p - g.first) v) p ≡ v = cursor_new in omega arith
 
-  pub queued_done : v ≡ 10 → (x : ℕ) → IsQueued g (set cursors (p - g.first) v) x → (x ≡ p → ⊥) × IsQueued g cursors x
+  pub queued_done : v ≡ 10 → (x : ℕ) → IsInQueue g (set cursors (p - g.first) v) x → (x ≡ p → ⊥) × IsInQueue g cursors x
   queued_done e x q = ⊎_elim
-      (λ (ex : x ≡ p). absurd (not_queued e (subst (λ y. IsQueued g (set cursors (p - g.first) v) y) ex q)))
+      (λ (ex : x ≡ p). absurd (not_queued e (subst (λ y. IsInQueue g (set cursors (p - g.first) v) y) ex q)))
       (λ (ne : x ≡ p → ⊥). (ne, queued_back x ne q)) (cases_eq x p)
 
   -- what was looked at, where the cursor of p did not pass a neighbour

@@ -2,7 +2,7 @@
 use Rattle.std.proofs.Common.{◌≡◌, ℕ, zero, suc, ◌+◌, ◌-◌, ◌<◌, ◌≤◌, List, [], ◌∷◌, ◌++◌, length, set, get_or, Contains, ◌⊎◌, inl, inr, refl, sym, subst, ap, ◌∙◌, ⊎_elim, arith, get_or-set_same, get_or-set_other}
 use Rattle.std.proofs.lemmas.Bool.{cases_eq}
 use Rattle.std.proofs.lemmas.List.Elements.{Contains-push, Contains-push_cases, Contains-append_left}
-use Rattle.strip_flood.specs.Flood.{Ground, list_at, IsOf, rank_of, IsQueued, IsListed}
+use Rattle.strip_flood.specs.Flood.{Ground, list_at, IsOf, rank_of, IsInQueue, IsListed}
 use Rattle.strip_flood.proofs.Flow.{queued_new, queued_old, queued_cases, queued_done}
 
 pub list_new : (lists : List (List ℕ)) (r : ℕ) (l : List ℕ) → r < length lists → list_at (set lists r l) r ≡ l
@@ -37,13 +37,13 @@ module _ (g : Ground) (lists : List (List ℕ)) (cursors : List ℕ) (long : len
     new = set lists r (list_at lists r ++ (p - g.first) ∷ [])
 
     To : ℕ → ℕ → Type 0
-    To s q = (rank_of g q ≡ s) × IsQueued g (set cursors (p - g.first) 1) q
+    To s q = (rank_of g q ≡ s) × IsInQueue g (set cursors (p - g.first) 1) q
 
     old_to : (s i : ℕ) → Contains (list_at lists s) i → To s (g.first + i)
-    old_to s i c = let o : (rank_of g (g.first + i) ≡ s) × IsQueued g cursors (g.first + i) = listed.to s i c in (
+    old_to s i c = let o : (rank_of g (g.first + i) ≡ s) × IsInQueue g cursors (g.first + i) = listed.to s i c in (
       o.0,
       ⊎_elim
-          (λ (e : g.first + i ≡ p). subst (λ q. IsQueued g (set cursors (p - g.first) 1) q) (sym e) (queued_new g cursors long p 1 inside (omega arith) (omega arith)))
+          (λ (e : g.first + i ≡ p). subst (λ q. IsInQueue g (set cursors (p - g.first) 1) q) (sym e) (queued_new g cursors long p 1 inside (omega arith) (omega arith)))
           (λ (ne : g.first + i ≡ p → ⊥). queued_old g cursors long p 1 inside (g.first + i) ne o.1)
           (cases_eq (g.first + i) p),
     )
@@ -65,28 +65,28 @@ module _ (g : Ground) (lists : List (List ℕ)) (cursors : List ℕ) (long : len
         (λ (ne : s ≡ r → ⊥). subst (λ l. Contains l (q - g.first)) (sym (list_old lists r (list_at lists r ++ (p - g.first) ∷ []) s ne)) c)
         (cases_eq s r)
 
-    from : (q : ℕ) → IsQueued g (set cursors (p - g.first) 1) q → Contains (list_at new (rank_of g q)) (q - g.first)
+    from : (q : ℕ) → IsInQueue g (set cursors (p - g.first) 1) q → Contains (list_at new (rank_of g q)) (q - g.first)
     from q w = ⊎_elim
-        (λ (o : (q ≡ p → ⊥) × IsQueued g cursors q). in_new q (rank_of g q) (listed.from q o.1))
+        (λ (o : (q ≡ p → ⊥) × IsInQueue g cursors q). in_new q (rank_of g q) (listed.from q o.1))
         (λ (e : q ≡ p). subst (λ x. Contains (list_at new (rank_of g x)) (x - g.first)) (sym e)
         (subst (λ s. Contains (list_at new s) (p - g.first)) (sym rank)
         (subst (λ l. Contains l (p - g.first)) (sym (list_new lists r (list_at lists r ++ (p - g.first) ∷ []) lt)) (Contains-push (list_at lists r) (p - g.first)))))
         (queued_cases g cursors long p 1 inside q w)
 
-  pub look_listed : (v : ℕ) → 0 < v → v < 10 → IsQueued g cursors p → IsListed g lists (set cursors (p - g.first) v)
+  pub look_listed : (v : ℕ) → 0 < v → v < 10 → IsInQueue g cursors p → IsListed g lists (set cursors (p - g.first) v)
   look_listed v low high queued = record { to = to; from = from } where
-    to : (s i : ℕ) → Contains (list_at lists s) i → (rank_of g (g.first + i) ≡ s) × IsQueued g (set cursors (p - g.first) v) (g.first + i)
-    to s i c = let o : (rank_of g (g.first + i) ≡ s) × IsQueued g cursors (g.first + i) = listed.to s i c in (
+    to : (s i : ℕ) → Contains (list_at lists s) i → (rank_of g (g.first + i) ≡ s) × IsInQueue g (set cursors (p - g.first) v) (g.first + i)
+    to s i c = let o : (rank_of g (g.first + i) ≡ s) × IsInQueue g cursors (g.first + i) = listed.to s i c in (
       o.0,
       ⊎_elim
-          (λ (e : g.first + i ≡ p). subst (λ q. IsQueued g (set cursors (p - g.first) v) q) (sym e) (queued_new g cursors long p v inside low high))
+          (λ (e : g.first + i ≡ p). subst (λ q. IsInQueue g (set cursors (p - g.first) v) q) (sym e) (queued_new g cursors long p v inside low high))
           (λ (ne : g.first + i ≡ p → ⊥). queued_old g cursors long p v inside (g.first + i) ne o.1)
           (cases_eq (g.first + i) p),
     )
 
-    from : (q : ℕ) → IsQueued g (set cursors (p - g.first) v) q → Contains (list_at lists (rank_of g q)) (q - g.first)
+    from : (q : ℕ) → IsInQueue g (set cursors (p - g.first) v) q → Contains (list_at lists (rank_of g q)) (q - g.first)
     from q w = ⊎_elim
-        (λ (o : (q ≡ p → ⊥) × IsQueued g cursors q). listed.from q o.1)
+        (λ (o : (q ≡ p → ⊥) × IsInQueue g cursors q). listed.from q o.1)
         (λ (e : q ≡ p). subst (λ x. Contains (list_at lists (rank_of g x)) (x - g.first)) (sym e) (listed.from p queued))
         (queued_cases g cursors long p v inside q w)
 
@@ -96,14 +96,14 @@ module _ (g : Ground) (lists : List (List ℕ)) (cursors : List ℕ) (long : len
     place = p - g.first
 
     rank : rank_of g p ≡ r
-    rank = let o : (rank_of g (g.first + (p - g.first)) ≡ r) × IsQueued g cursors (g.first + (p - g.first)) = listed.to r (p - g.first) (subst (λ l. Contains l (p - g.first)) (sym front) (Contains-first rest (p - g.first))) in
+    rank = let o : (rank_of g (g.first + (p - g.first)) ≡ r) × IsInQueue g cursors (g.first + (p - g.first)) = listed.to r (p - g.first) (subst (λ l. Contains l (p - g.first)) (sym front) (Contains-first rest (p - g.first))) in
         subst (λ q. rank_of g q ≡ r) at_place o.0
 
     To : ℕ → ℕ → Type 0
-    To s q = (rank_of g q ≡ s) × IsQueued g (set cursors (p - g.first) 10) q
+    To s q = (rank_of g q ≡ s) × IsInQueue g (set cursors (p - g.first) 10) q
 
     old_to : (s i : ℕ) → (i ≡ p - g.first → ⊥) → Contains (list_at lists s) i → To s (g.first + i)
-    old_to s i ne c = let o : (rank_of g (g.first + i) ≡ s) × IsQueued g cursors (g.first + i) = listed.to s i c in
+    old_to s i ne c = let o : (rank_of g (g.first + i) ≡ s) × IsInQueue g cursors (g.first + i) = listed.to s i c in
         (o.0, queued_old g cursors long p 10 inside (g.first + i) (λ e. ne (place_of i e)) o.1)
 
     to : (s i : ℕ) → Contains (list_at (set lists r rest) s) i → To s (g.first + i)
@@ -111,12 +111,12 @@ module _ (g : Ground) (lists : List (List ℕ)) (cursors : List ℕ) (long : len
         (λ (e : s ≡ r). let there : Contains rest i = subst (λ l. Contains l i) (ap (λ t. list_at (set lists r rest) t) e ∙ list_new lists r rest lt) c in
         old_to s i (λ ei. once (subst (λ j. Contains rest j) ei there)) (subst (λ t. Contains (list_at lists t) i) (sym e) (subst (λ l. Contains l i) (sym front) (Contains-rest rest (p - g.first) i there))))
         (λ (ne : s ≡ r → ⊥). let there : Contains (list_at lists s) i = subst (λ l. Contains l i) (list_old lists r rest s ne) c in
-        old_to s i (λ ei. let o : (rank_of g (g.first + i) ≡ s) × IsQueued g cursors (g.first + i) = listed.to s i there in
+        old_to s i (λ ei. let o : (rank_of g (g.first + i) ≡ s) × IsInQueue g cursors (g.first + i) = listed.to s i there in
         ne (sym (subst (λ q. rank_of g q ≡ s) (let a : g.first + (p - g.first) ≡ p = at_place in let b : g.first + i ≡ p = omega arith in b) o.0) ∙ rank)) there)
         (cases_eq s r)
 
-    from : (q : ℕ) → IsQueued g (set cursors (p - g.first) 10) q → Contains (list_at (set lists r rest) (rank_of g q)) (q - g.first)
-    from q w = let o : (q ≡ p → ⊥) × IsQueued g cursors q = queued_done g cursors long p 10 inside refl q w in
+    from : (q : ℕ) → IsInQueue g (set cursors (p - g.first) 10) q → Contains (list_at (set lists r rest) (rank_of g q)) (q - g.first)
+    from q w = let o : (q ≡ p → ⊥) × IsInQueue g cursors q = queued_done g cursors long p 10 inside refl q w in
         let there : Contains (list_at lists (rank_of g q)) (q - g.first) = listed.from q o.1 in
         ⊎_elim
         (λ (e : rank_of g q ≡ r). subst (λ l. Contains l (q - g.first)) (sym (ap (λ t. list_at (set lists r rest) t) e ∙ list_new lists r rest lt))

@@ -3,7 +3,7 @@ use Rattle.std.proofs.Common.{◌≡◌, ℕ, ◌+◌, ◌-◌, ◌<◌, ◌≤�
 use Rattle.std.proofs.lemmas.Bool.{cases_eq}
 use Rattle.std.proofs.lemmas.List.{set_comm, set-set, set-get_or}
 use Rattle.strip_flood.specs.Queue.{IsFront}
-use Rattle.strip_flood.specs.Flood.{Ground, State, state, list_at, ends, IsOf, rank_of, cursor_of, IsQueued, IsRanked, IsFair, IsTurning, IsAtFront, IsNeighbour, IsStep, work}
+use Rattle.strip_flood.specs.Flood.{Ground, State, state, list_at, ends, IsOf, rank_of, cursor_of, IsInQueue, IsRanked, IsFair, IsTurning, IsAtFront, IsNeighbour, IsStep, work}
 use Rattle.strip_flood.proofs.Flow.{IsSeen, IsAround, ends_small, cursor_new, cursor_old, queued_new, queued_old}
 use Rattle.strip_flood.proofs.Listing.{list_new, list_old}
 use Rattle.strip_flood.proofs.Seeing.{below, see_pushed, see_around, seen_now, look_turning, look_front, pushed_front}
@@ -17,7 +17,7 @@ pub record IsAfter (g : Ground) (old new : State) (queued_old queued_new looked_
   pub less : work new.cursors < work old.cursors
 
 -- the cursor of p goes on, past what was seen
-goes_on : (g : Ground) (s : State) → IsRanked g → IsTurning g s → (p k v q l m : ℕ) → IsQueued g s.cursors p → cursor_of g s.cursors p ≡ k + 1 → v ≡ k + 2 → k < ends g.connect
+goes_on : (g : Ground) (s : State) → IsRanked g → IsTurning g s → (p k v q l m : ℕ) → IsInQueue g s.cursors p → cursor_of g s.cursors p ≡ k + 1 → v ≡ k + 2 → k < ends g.connect
     → IsSeen g s.cursors p k → IsAround g p k l m → IsAfter g s (state s.lists (set s.cursors (p - g.first) v) s.earliest s.links) q q l m
 goes_on g s ok turning p k v q l m queued at e more seen around = record {
   turning = look_turning g s ok turning p k v queued at e more seen;
@@ -131,7 +131,7 @@ module _ (g : Ground) (ok : IsRanked g) (lists : List (List ℕ)) (cursors earli
     pushed_turning : IsTurning g then
     pushed_turning = see_pushed g now ok turning p front.top n t next.inside next.near rank unseen_now new pushed
 
-    still_queued : IsQueued g then.cursors p
+    still_queued : IsInQueue g then.cursors p
     still_queued = queued_old g (set cursors (p - g.first) c) long n 1 next.inside p (λ e. apart n next.inside queued unseen (sym e)) front.top.queued
 
     still_at : cursor_of g then.cursors p ≡ c - 1 + 1

@@ -2,8 +2,8 @@
 use Rattle.std.proofs.Common.{◌≡◌, ℕ, zero, suc, ◌+◌, ◌-◌, ◌<◌, ◌≤◌, List, [], ◌∷◌, length, set, slice_index, Contains, Option, Some, None, MatchOption, ℤ, inl, inr, refl, sym, subst, ap, ◌∙◌, ⊎_elim, arith, get_or-set_same, get_or}
 use Rattle.std.proofs.lemmas.Bool.{cases_eq, cases_lt}
 use Rattle.comp_tree.specs.Forest.{no_node, IsEarlier}
-use Rattle.strip_flood.specs.Queue.{IsEmpty, IsHighest, IsFront, IsPopped}
-use Rattle.strip_flood.specs.Flood.{Ground, State, state, list_at, ends, rank_of, cursor_of, IsQueued, IsKept, IsOpen, IsRanked, IsKeptAt, IsFair, IsBusyBut, IsTurning, IsTop, IsAtFront}
+use Rattle.strip_flood.specs.Queue.{IsEmpty, IsHighestRank, IsFront, IsPopped}
+use Rattle.strip_flood.specs.Flood.{Ground, State, state, list_at, ends, rank_of, cursor_of, IsInQueue, IsEarliestKept, IsOpen, IsRanked, IsKeptAt, IsFair, IsBusyBut, IsTurning, IsTop, IsAtFront}
 use Rattle.strip_flood.proofs.Flow.{item_read}
 use Rattle.strip_flood.proofs.Listing.{list_old}
 use Rattle.strip_flood.proofs.Stepping.{High, not_none, kept_there, none_kept, hang_fair, end_fair, under_fair, keep_fair}
@@ -25,7 +25,7 @@ popped_front None A old new r i no_node m f = let e : list_at old r ≡ [] = no_
 popped_front (Some x) A old new r i no_node m f = subst (λ y. IsPopped old r y new) (front_same (list_at old r) x i m.rest f.rest m.front f.front) m
 
 -- the front of a rank is a queued pixel
-pub front_queued : (g : Ground) (s : State) → IsFair g s → (r i : ℕ) → IsFront s.lists r i → IsQueued g s.cursors (g.first + i)
+pub front_queued : (g : Ground) (s : State) → IsFair g s → (r i : ℕ) → IsFront s.lists r i → IsInQueue g s.cursors (g.first + i)
 front_queued g s fair r i front = (fair.listed.to r i (subst (λ l. Contains l i) (sym front.front) (0, omega arith, refl))).1
 
 pub front_rank : (g : Ground) (s : State) → IsFair g s → (r i : ℕ) → IsFront s.lists r i → rank_of g (g.first + i) ≡ r
@@ -109,11 +109,11 @@ module _ (g : Ground) (s : State) (ok : IsRanked g) (fair : IsFair g s) (r : ℕ
   e = slice_index s.earliest r
 
   -- a queued pixel's rank has a list
-  queued_list : (x : ℕ) → IsQueued g s.cursors x → list_at s.lists (rank_of g x) ≡ [] → ⊥
+  queued_list : (x : ℕ) → IsInQueue g s.cursors x → list_at s.lists (rank_of g x) ≡ [] → ⊥
   queued_list x q = contains_some (list_at s.lists (rank_of g x)) (x - g.first) (fair.listed.from x q)
 
   -- and so has a kept pixel's, if that is not e
-  kept_list : (x : ℕ) → IsKept g s.earliest x → (x ≡ e → ⊥) → list_at s.lists (rank_of g x) ≡ [] → ⊥
+  kept_list : (x : ℕ) → IsEarliestKept g s.earliest x → (x ≡ e → ⊥) → list_at s.lists (rank_of g x) ≡ [] → ⊥
   kept_list x k ne = busy.busy (rank_of g x) k.ranked (λ same. ne (sym k.kept ∙ ap (λ t. slice_index s.earliest t) same)) (λ n. not_none g ok x k.inside (sym k.kept ∙ n))
 
   still_busy : (links : List ℕ) → (t : ℕ) → t < g.size → (slice_index (set s.earliest r no_node) t ≡ no_node → ⊥) → list_at s.lists t ≡ [] → ⊥
@@ -128,13 +128,13 @@ module _ (g : Ground) (s : State) (ok : IsRanked g) (fair : IsFair g s) (r : ℕ
     alone x (inr k) = ⊎_elim (λ (same : x ≡ e). same) (λ (ne : x ≡ e → ⊥). absurd (kept_list x k ne (all.empty (rank_of g x)))) (cases_eq x e)
 
   -- it is hung under the front of the highest rank
-  pub close_hang : (t i : ℕ) → IsHighest s.lists t → IsFront s.lists t i → ((u : ℕ) → r < u → list_at s.lists u ≡ [])
+  pub close_hang : (t i : ℕ) → IsHighestRank s.lists t → IsFront s.lists t i → ((u : ℕ) → r < u → list_at s.lists u ≡ [])
       → IsTurning g (state s.lists s.cursors (set s.earliest r no_node) (set s.links (e - g.first) (g.first + i)))
   close_hang t i highest front above = record {
     fair = hang_fair g s ok fair r e (g.first + i) low refl some it.1 earlier between;
     busy = still_busy (set s.links (e - g.first) (g.first + i));
   } where
-    it : (rank_of g (g.first + i) ≡ t) × IsQueued g s.cursors (g.first + i)
+    it : (rank_of g (g.first + i) ≡ t) × IsInQueue g s.cursors (g.first + i)
     it = fair.listed.to t i (subst (λ l. Contains l i) (sym front.front) (0, omega arith, refl))
 
     k : IsKeptAt g s.cursors r e

@@ -5,7 +5,7 @@ use Rattle.comp_tree.specs.Joined.{Joined}
 use Rattle.comp_tree.specs.Forest.{no_node, value_at, IsDefined, IsAtLeast}
 use Rattle.comp_tree.specs.Grid.{are_neighbours}
 use Rattle.strip_flood.specs.Queue.{IsNowhere, IsEmpty, IsFront}
-use Rattle.strip_flood.specs.Flood.{Ground, State, state, list_at, ends, direction, IsOf, rank_of, cursor_of, IsQueued, IsOpen, IsRanked, IsFair, IsTurning, IsTop, IsAtFront, IsNeighbour, HasNone}
+use Rattle.strip_flood.specs.Flood.{Ground, State, state, list_at, ends, direction, IsOf, rank_of, cursor_of, IsInQueue, IsOpen, IsRanked, IsFair, IsTurning, IsTop, IsAtFront, IsNeighbour, HasNone}
 use Rattle.comp_tree.proofs.Joining.{joined_trans, joined_pair}
 use Rattle.comp_tree.proofs.Order.{at_least_cases}
 use Rattle.strip_flood.proofs.Flow.{IsSeen, IsAround, cursor_new, queued_new, queued_old}
@@ -27,7 +27,7 @@ module _ (g : Ground) (s : State) (ok : IsRanked g) (turning : IsTurning g s) wh
   -- a pixel that was not seen is in no list
   pub unseen_nowhere : (n : ℕ) → IsOf g n → cursor_of g s.cursors n ≡ 0 → IsNowhere s.lists (n - g.first)
   unseen_nowhere n w z = record {
-    nowhere = λ r c. let q : IsQueued g s.cursors (g.first + (n - g.first)) = (turning.fair.listed.to r (n - g.first) c).1 in
+    nowhere = λ r c. let q : IsInQueue g s.cursors (g.first + (n - g.first)) = (turning.fair.listed.to r (n - g.first) c).1 in
         let a : g.first ≤ n = w.low in let at : g.first + (n - g.first) ≡ n = omega arith in
         let l : 0 < cursor_of g s.cursors n = subst (λ x. 0 < cursor_of g s.cursors x) at q.low in omega arith;
   }
@@ -143,7 +143,7 @@ module _ (g : Ground) (s : State) (ok : IsRanked g) (turning : IsTurning g s) wh
     }
 
   -- the cursor goes on
-  pub look_turning : (p k v : ℕ) → IsQueued g s.cursors p → cursor_of g s.cursors p ≡ k + 1 → v ≡ k + 2 → k < ends g.connect → IsSeen g s.cursors p k
+  pub look_turning : (p k v : ℕ) → IsInQueue g s.cursors p → cursor_of g s.cursors p ≡ k + 1 → v ≡ k + 2 → k < ends g.connect → IsSeen g s.cursors p k
       → IsTurning g (state s.lists (set s.cursors (p - g.first) v) s.earliest s.links)
   look_turning p k v queued at e more seen = record {
     fair = look_fair g s ok turning.fair p v queued (omega arith) (omega arith) (λ y i d. seen.seen y i (omega arith));
@@ -157,7 +157,7 @@ push_front g s fair r p n t front w z at le = record { top = record { queued = q
   ne : p ≡ n → ⊥
   ne e = let l : 0 < cursor_of g s.cursors p = front.top.queued.low in let z2 : cursor_of g s.cursors p ≡ 0 = ap (λ x. cursor_of g s.cursors x) e ∙ z in omega arith
 
-  queued : IsQueued g (set s.cursors (n - g.first) 1) p
+  queued : IsInQueue g (set s.cursors (n - g.first) 1) p
   queued = queued_old g s.cursors fair.cursors_length n 1 w p ne front.top.queued
 
   above : (u : ℕ) → rank_of g p < u → list_at (set s.lists t (list_at s.lists t ++ (n - g.first) ∷ [])) u ≡ []

@@ -5,7 +5,7 @@ use Rattle.comp_tree.specs.Joined.{Joined, Or, Only}
 use Rattle.comp_tree.specs.Flooding.{Both, With, Without, IsSound, IsComplete}
 use Rattle.comp_tree.specs.Forest.{no_node, IsEarlier, IsWithin, IsHigh, link_of, IsLink, IsForest}
 use Rattle.comp_tree.specs.Grid.{IsInner}
-use Rattle.strip_flood.specs.Flood.{Ground, State, state, list_at, ends, direction, IsOf, rank_of, cursor_of, IsQueued, IsKept, IsOpen, IsLooked, IsRanked, IsListed, IsKeptAt, IsFair}
+use Rattle.strip_flood.specs.Flood.{Ground, State, state, list_at, ends, direction, IsOf, rank_of, cursor_of, IsInQueue, IsEarliestKept, IsOpen, IsLooked, IsRanked, IsListed, IsKeptAt, IsFair}
 use Rattle.comp_tree.proofs.Joining.{joined_sym, joined_second}
 use Rattle.comp_tree.proofs.Flooding.{close_sound, close_complete, end_complete}
 use Rattle.comp_tree.proofs.Hanging.{links_before, links_after, link_hung, link_set_other, forest_hung}
@@ -45,8 +45,8 @@ module _ (g : Ground) (s : State) (ok : IsRanked g) (fair : IsFair g s) (p v : �
     finished = cursor_old g s.cursors fair.cursors_length p v inside e k.inside (λ (same : e ≡ p). let f : cursor_of g s.cursors p ≡ 10 = subst (λ x. cursor_of g s.cursors x ≡ 10) same k.finished in omega arith) ∙ k.finished;
   }
 
-  pub free_set : (x : ℕ) → IsOf g x → (cursor_of g (set s.cursors (p - g.first) v) x < 10) ⊎ IsKept g s.earliest x → link_of g.first s.links x ≡ no_node
-  free_set = each (λ x c. (c < 10) ⊎ IsKept g s.earliest x → link_of g.first s.links x ≡ no_node) (λ o. fair.free p inside (inl young)) (λ x w ne. fair.free x w)
+  pub free_set : (x : ℕ) → IsOf g x → (cursor_of g (set s.cursors (p - g.first) v) x < 10) ⊎ IsEarliestKept g s.earliest x → link_of g.first s.links x ≡ no_node
+  free_set = each (λ x c. (c < 10) ⊎ IsEarliestKept g s.earliest x → link_of g.first s.links x ≡ no_node) (λ o. fair.free p inside (inl young)) (λ x w ne. fair.free x w)
 
 -- A pixel that was not seen is queued. Each open pixel of a level is joined to it.
 module _ (g : Ground) (s : State) (ok : IsRanked g) (fair : IsFair g s) (p r : ℕ) (inside : IsOf g p) (rank : rank_of g p ≡ r) (low : r < g.size) (unseen : cursor_of g s.cursors p ≡ 0)
@@ -76,7 +76,7 @@ module _ (g : Ground) (s : State) (ok : IsRanked g) (fair : IsFair g s) (p r : �
     sound h = sound_fewer (High g h) (Adj g) (IsLink g.first s.links) (IsLink g.first s.links) (With (IsOpen g s.cursors s.earliest) p) (IsOpen g later s.earliest) (λ x y m. m) open_with
         (add_sound (High g h) (Adj g) (IsLink g.first s.links) (IsOpen g s.cursors s.earliest) p (joins h) (fair.joining.sound h)) where
           open_with : (x : ℕ) → IsOpen g later s.earliest x → With (IsOpen g s.cursors s.earliest) p x
-          open_with x (inl q) = ⊎_elim (λ (o : (x ≡ p → ⊥) × IsQueued g s.cursors x). inl (inl o.1)) (λ (e : x ≡ p). inr e) (queued_cases g s.cursors fair.cursors_length p 1 inside x q)
+          open_with x (inl q) = ⊎_elim (λ (o : (x ≡ p → ⊥) × IsInQueue g s.cursors x). inl (inl o.1)) (λ (e : x ≡ p). inr e) (queued_cases g s.cursors fair.cursors_length p 1 inside x q)
           open_with x (inr k) = inl (inr k)
 
     complete : (h : ℤ) → IsComplete (High g h) (IsLooked g later) (IsLink g.first s.links) (IsOpen g later s.earliest)
@@ -91,7 +91,7 @@ module _ (g : Ground) (s : State) (ok : IsRanked g) (fair : IsFair g s) (p r : �
           open_later x (inr k) = inr k
 
 -- A queued pixel looks in its next direction. A neighbour there was seen.
-module _ (g : Ground) (s : State) (ok : IsRanked g) (fair : IsFair g s) (p v : ℕ) (queued : IsQueued g s.cursors p) (next : v ≡ cursor_of g s.cursors p + 1) (more : v ≤ ends g.connect + 1)
+module _ (g : Ground) (s : State) (ok : IsRanked g) (fair : IsFair g s) (p v : ℕ) (queued : IsInQueue g s.cursors p) (next : v ≡ cursor_of g s.cursors p + 1) (more : v ≤ ends g.connect + 1)
     (seen : (y : ℕ) → IsInner g.values g.width g.connect g.first (length g.ranks) p y → direction g.connect g.width p y + 1 ≡ cursor_of g s.cursors p → 0 < cursor_of g s.cursors y) where
   pub look_fair : IsFair g (state s.lists (set s.cursors (p - g.first) v) s.earliest s.links)
   look_fair = record {
@@ -115,12 +115,12 @@ module _ (g : Ground) (s : State) (ok : IsRanked g) (fair : IsFair g s) (p v : �
     later = set s.cursors (p - g.first) v
 
     open_before : (x : ℕ) → IsOpen g later s.earliest x → IsOpen g s.cursors s.earliest x
-    open_before x (inl q) = ⊎_elim (λ (o : (x ≡ p → ⊥) × IsQueued g s.cursors x). inl o.1) (λ (e : x ≡ p). inl (subst (λ y. IsQueued g s.cursors y) (sym e) queued)) (queued_cases g s.cursors fair.cursors_length p v queued.inside x q)
+    open_before x (inl q) = ⊎_elim (λ (o : (x ≡ p → ⊥) × IsInQueue g s.cursors x). inl o.1) (λ (e : x ≡ p). inl (subst (λ y. IsInQueue g s.cursors y) (sym e) queued)) (queued_cases g s.cursors fair.cursors_length p v queued.inside x q)
     open_before x (inr k) = inr k
 
     open_later : (x : ℕ) → IsOpen g s.cursors s.earliest x → IsOpen g later s.earliest x
     open_later x (inl q) = ⊎_elim
-        (λ (e : x ≡ p). inl (subst (λ y. IsQueued g later y) (sym e) (queued_new g s.cursors fair.cursors_length p v queued.inside (omega arith) below)))
+        (λ (e : x ≡ p). inl (subst (λ y. IsInQueue g later y) (sym e) (queued_new g s.cursors fair.cursors_length p v queued.inside (omega arith) below)))
         (λ (ne : x ≡ p → ⊥). inl (queued_old g s.cursors fair.cursors_length p v queued.inside x ne q)) (cases_eq x p)
     open_later x (inr k) = inr k
 
@@ -165,20 +165,20 @@ module _ (g : Ground) (s : State) (ok : IsRanked g) (fair : IsFair g s) (r e : �
   pub kept_there : IsKeptAt g s.cursors r e
   kept_there = subst (λ x. IsKeptAt g s.cursors r x) is (fair.kept r low (λ n. some (sym is ∙ n)))
 
-  pub kept_it : IsKept g s.earliest e
+  pub kept_it : IsEarliestKept g s.earliest e
   kept_it = record { inside = kept_there.inside; ranked = subst (λ t. t < g.size) (sym kept_there.rank) low; kept = ap (λ t. slice_index s.earliest t) kept_there.rank ∙ is }
 
   in_earliest : r < length s.earliest
   in_earliest = let l : length s.earliest ≡ g.size = fair.earliest_length in omega arith
 
   -- where it is kept no more, the others still are
-  pub kept_before : (x : ℕ) → IsKept g (set s.earliest r no_node) x → IsKept g s.earliest x × (x ≡ e → ⊥)
+  pub kept_before : (x : ℕ) → IsEarliestKept g (set s.earliest r no_node) x → IsEarliestKept g s.earliest x × (x ≡ e → ⊥)
   kept_before x k = ⊎_elim
       (λ (same : rank_of g x ≡ r). absurd (not_none g ok x k.inside (sym k.kept ∙ (ap (λ t. slice_index (set s.earliest r no_node) t) same ∙ get_or-set_same s.earliest r no_node 0 in_earliest))))
       (λ (ne : rank_of g x ≡ r → ⊥). (record { inside = k.inside; ranked = k.ranked; kept = sym (get_or-set_other s.earliest r (rank_of g x) no_node 0 ne) ∙ k.kept }, λ (same : x ≡ e). ne (ap (λ y. rank_of g y) same ∙ kept_there.rank)))
       (cases_eq (rank_of g x) r)
 
-  pub kept_later : (x : ℕ) → (x ≡ e → ⊥) → IsKept g s.earliest x → IsKept g (set s.earliest r no_node) x
+  pub kept_later : (x : ℕ) → (x ≡ e → ⊥) → IsEarliestKept g s.earliest x → IsEarliestKept g (set s.earliest r no_node) x
   kept_later x ne k = record { inside = k.inside; ranked = k.ranked; kept = get_or-set_other s.earliest r (rank_of g x) no_node 0 (λ (same : rank_of g x ≡ r). ne (sym k.kept ∙ (ap (λ t. slice_index s.earliest t) same ∙ is))) ∙ k.kept }
 
   pub none_kept : (t : ℕ) → t < g.size → (slice_index (set s.earliest r no_node) t ≡ no_node → ⊥) → (t ≡ r → ⊥) × (slice_index (set s.earliest r no_node) t ≡ slice_index s.earliest t)
@@ -215,7 +215,7 @@ module _ (g : Ground) (s : State) (ok : IsRanked g) (fair : IsFair g s) (a b : �
 
 -- The kept pixel of a rank is hung under the queued pixel q.
 module _ (g : Ground) (s : State) (ok : IsRanked g) (fair : IsFair g s) (r e q : ℕ) (low : r < g.size) (is : slice_index s.earliest r ≡ e) (some : e ≡ no_node → ⊥)
-    (queued : IsQueued g s.cursors q) (earlier : IsEarlier g.values q e)
+    (queued : IsInQueue g s.cursors q) (earlier : IsEarlier g.values q e)
     (between : (h : ℤ) (x : ℕ) → IsOpen g s.cursors s.earliest x → (x ≡ e → ⊥) → High g h e → High g h x → High g h q) where
   pub hang_fair : IsFair g (state s.lists s.cursors (set s.earliest r no_node) (set s.links (e - g.first) q))
   hang_fair = record {
@@ -235,7 +235,7 @@ module _ (g : Ground) (s : State) (ok : IsRanked g) (fair : IsFair g s) (r e q :
     it : IsKeptAt g s.cursors r e
     it = kept_there g s ok fair r e low is some
 
-    open_e : IsKept g s.earliest e
+    open_e : IsEarliestKept g s.earliest e
     open_e = kept_it g s ok fair r e low is some
 
     unhung : link_of g.first s.links e ≡ no_node
@@ -248,9 +248,9 @@ module _ (g : Ground) (s : State) (ok : IsRanked g) (fair : IsFair g s) (r e q :
     kept t lt some_t = let o : (t ≡ r → ⊥) × (slice_index (set s.earliest r no_node) t ≡ slice_index s.earliest t) = none_kept g s ok fair r e low is some t lt some_t in
         subst (λ x. IsKeptAt g s.cursors t x) (sym o.1) (fair.kept t lt (λ n. some_t (o.1 ∙ n)))
 
-    free : (x : ℕ) → IsOf g x → (cursor_of g s.cursors x < 10) ⊎ IsKept g (set s.earliest r no_node) x → link_of g.first (set s.links (e - g.first) q) x ≡ no_node
+    free : (x : ℕ) → IsOf g x → (cursor_of g s.cursors x < 10) ⊎ IsEarliestKept g (set s.earliest r no_node) x → link_of g.first (set s.links (e - g.first) q) x ≡ no_node
     free x w (inl l) = hung_other g s ok fair e q it.inside queued.inside unhung earlier x w (apart x l) ∙ fair.free x w (inl l)
-    free x w (inr k) = let o : IsKept g s.earliest x × (x ≡ e → ⊥) = kept_before g s ok fair r e low is some x k in
+    free x w (inr k) = let o : IsEarliestKept g s.earliest x × (x ≡ e → ⊥) = kept_before g s ok fair r e low is some x k in
         hung_other g s ok fair e q it.inside queued.inside unhung earlier x w o.1 ∙ fair.free x w (inr o.0)
 
     Open : ℕ → Type 0
@@ -264,7 +264,7 @@ module _ (g : Ground) (s : State) (ok : IsRanked g) (fair : IsFair g s) (r e q :
 
     before : (x : ℕ) → Later x → Without Open e x
     before x (inl k) = (inl k, apart x k.high)
-    before x (inr k) = let o : IsKept g s.earliest x × (x ≡ e → ⊥) = kept_before g s ok fair r e low is some x k in (inr o.0, o.1)
+    before x (inr k) = let o : IsEarliestKept g s.earliest x × (x ≡ e → ⊥) = kept_before g s ok fair r e low is some x k in (inr o.0, o.1)
 
     after : (x : ℕ) → Without Open e x → Later x
     after x (inl k, ne) = inl k
@@ -304,7 +304,7 @@ module _ (g : Ground) (s : State) (ok : IsRanked g) (fair : IsFair g s) (r e : �
     kept t lt some_t = let o : (t ≡ r → ⊥) × (slice_index (set s.earliest r no_node) t ≡ slice_index s.earliest t) = none_kept g s ok fair r e low is some t lt some_t in
         subst (λ x. IsKeptAt g s.cursors t x) (sym o.1) (fair.kept t lt (λ n. some_t (o.1 ∙ n)))
 
-    free : (x : ℕ) → IsOf g x → (cursor_of g s.cursors x < 10) ⊎ IsKept g (set s.earliest r no_node) x → link_of g.first s.links x ≡ no_node
+    free : (x : ℕ) → IsOf g x → (cursor_of g s.cursors x < 10) ⊎ IsEarliestKept g (set s.earliest r no_node) x → link_of g.first s.links x ≡ no_node
     free x w (inl l) = fair.free x w (inl l)
     free x w (inr k) = fair.free x w (inr (kept_before g s ok fair r e low is some x k).0)
 
@@ -320,7 +320,7 @@ module _ (g : Ground) (s : State) (ok : IsRanked g) (fair : IsFair g s) (r e : �
         (end_complete (High g h) (Adj g) (IsLooked g s.cursors) (IsLink g.first s.links) (IsOpen g s.cursors s.earliest) e alone (fair.joining.complete h))
 
 -- The first pixel p of the list of its rank is finished.
-module _ (g : Ground) (s : State) (ok : IsRanked g) (fair : IsFair g s) (r p : ℕ) (rest : List ℕ) (queued : IsQueued g s.cursors p) (rank : rank_of g p ≡ r)
+module _ (g : Ground) (s : State) (ok : IsRanked g) (fair : IsFair g s) (r p : ℕ) (rest : List ℕ) (queued : IsInQueue g s.cursors p) (rank : rank_of g p ≡ r)
     (front : list_at s.lists r ≡ (p - g.first) ∷ rest) (once : Contains rest (p - g.first) → ⊥) (turned : cursor_of g s.cursors p ≡ ends g.connect + 1) where
   abbrev done : List ℕ
   done = set s.cursors (p - g.first) 10
@@ -359,26 +359,26 @@ module _ (g : Ground) (s : State) (ok : IsRanked g) (fair : IsFair g s) (r p : �
       it : IsKeptAt g s.cursors r e
       it = kept_there g s ok fair r e low is some
 
-      open_e : IsKept g s.earliest e
+      open_e : IsEarliestKept g s.earliest e
       open_e = kept_it g s ok fair r e low is some
 
       unhung : link_of g.first s.links p ≡ no_node
       unhung = fair.free p queued.inside (inl queued.high)
 
       -- a kept pixel is another
-      apart : (x : ℕ) → IsKept g s.earliest x → x ≡ p → ⊥
+      apart : (x : ℕ) → IsEarliestKept g s.earliest x → x ≡ p → ⊥
       apart x k same = let f : cursor_of g s.cursors x ≡ 10 = (subst (λ y. IsKeptAt g s.cursors (rank_of g x) y) k.kept (fair.kept (rank_of g x) k.ranked (λ n. not_none g ok x k.inside (sym k.kept ∙ n)))).finished in
           let l : cursor_of g s.cursors x < 10 = subst (λ y. cursor_of g s.cursors y < 10) (sym same) queued.high in omega arith
 
-      free : (x : ℕ) → IsOf g x → (cursor_of g done x < 10) ⊎ IsKept g s.earliest x → link_of g.first (set s.links (p - g.first) e) x ≡ no_node
+      free : (x : ℕ) → IsOf g x → (cursor_of g done x < 10) ⊎ IsEarliestKept g s.earliest x → link_of g.first (set s.links (p - g.first) e) x ≡ no_node
       free x w o = ⊎_elim
           (λ (same : x ≡ p). ⊎_elim
           (λ (l : cursor_of g done x < 10). absurd (let f : cursor_of g done p ≡ 10 = cursor_new g s.cursors fair.cursors_length p 10 queued.inside in let l2 : cursor_of g done p < 10 = subst (λ y. cursor_of g done y < 10) same l in omega arith))
-          (λ (k : IsKept g s.earliest x). absurd (apart x k same))
+          (λ (k : IsEarliestKept g s.earliest x). absurd (apart x k same))
           o)
           (λ (ne : x ≡ p → ⊥). hung_other g s ok fair p e queued.inside it.inside unhung earlier x w ne ∙ ⊎_elim
           (λ (l : cursor_of g done x < 10). fair.free x w (inl (subst (λ c. c < 10) (cursor_old g s.cursors fair.cursors_length p 10 queued.inside x w ne) l)))
-          (λ (k : IsKept g s.earliest x). fair.free x w (inr k))
+          (λ (k : IsEarliestKept g s.earliest x). fair.free x w (inr k))
           o)
           (cases_eq x p)
 
@@ -392,7 +392,7 @@ module _ (g : Ground) (s : State) (ok : IsRanked g) (fair : IsFair g s) (r p : �
       M = IsLink g.first (set s.links (p - g.first) e)
 
       before : (x : ℕ) → Later x → Without Open p x
-      before x (inl k) = let o : (x ≡ p → ⊥) × IsQueued g s.cursors x = queued_done g s.cursors fair.cursors_length p 10 queued.inside refl x k in (inl o.1, o.0)
+      before x (inl k) = let o : (x ≡ p → ⊥) × IsInQueue g s.cursors x = queued_done g s.cursors fair.cursors_length p 10 queued.inside refl x k in (inl o.1, o.0)
       before x (inr k) = (inr k, apart x k)
 
       after : (x : ℕ) → Without Open p x → Later x
@@ -448,13 +448,13 @@ module _ (g : Ground) (s : State) (ok : IsRanked g) (fair : IsFair g s) (r p : �
           subst (λ x. IsKeptAt g done t x) (sym o) (kept_set g s ok fair p 10 queued.inside queued.high t (slice_index s.earliest t) (fair.kept t lt (λ n. some_t (o ∙ n)))))
           (cases_eq t r)
 
-      kept_cases : (x : ℕ) → IsKept g later x → IsKept g s.earliest x ⊎ (x ≡ p)
+      kept_cases : (x : ℕ) → IsEarliestKept g later x → IsEarliestKept g s.earliest x ⊎ (x ≡ p)
       kept_cases x k = ⊎_elim
           (λ (same : rank_of g x ≡ r). inr (sym k.kept ∙ (ap (λ t. slice_index later t) same ∙ at_r)))
           (λ (ne : rank_of g x ≡ r → ⊥). inl (record { inside = k.inside; ranked = k.ranked; kept = sym (get_or-set_other s.earliest r (rank_of g x) p 0 ne) ∙ k.kept }))
           (cases_eq (rank_of g x) r)
 
-      kept_still : (x : ℕ) → IsKept g s.earliest x → IsKept g later x
+      kept_still : (x : ℕ) → IsEarliestKept g s.earliest x → IsEarliestKept g later x
       kept_still x k = record {
         inside = k.inside;
         ranked = k.ranked;
@@ -462,25 +462,25 @@ module _ (g : Ground) (s : State) (ok : IsRanked g) (fair : IsFair g s) (r p : �
             (λ (same : rank_of g x ≡ r). not_none g ok x k.inside (sym k.kept ∙ (ap (λ t. slice_index s.earliest t) same ∙ vacant))) ∙ k.kept;
       }
 
-      kept_new : IsKept g later p
+      kept_new : IsEarliestKept g later p
       kept_new = record { inside = queued.inside; ranked = (let l : r < g.size = low in omega arith); kept = ap (λ t. slice_index later t) rank ∙ at_r }
 
-      free : (x : ℕ) → IsOf g x → (cursor_of g done x < 10) ⊎ IsKept g later x → link_of g.first s.links x ≡ no_node
+      free : (x : ℕ) → IsOf g x → (cursor_of g done x < 10) ⊎ IsEarliestKept g later x → link_of g.first s.links x ≡ no_node
       free x w o = ⊎_elim
           (λ (same : x ≡ p). subst (λ y. link_of g.first s.links y ≡ no_node) (sym same) (fair.free p queued.inside (inl queued.high)))
           (λ (ne : x ≡ p → ⊥). ⊎_elim
           (λ (l : cursor_of g done x < 10). fair.free x w (inl (subst (λ c. c < 10) (cursor_old g s.cursors fair.cursors_length p 10 queued.inside x w ne) l)))
-          (λ (k : IsKept g later x). ⊎_elim (λ (old : IsKept g s.earliest x). fair.free x w (inr old)) (λ (same : x ≡ p). absurd (ne same)) (kept_cases x k))
+          (λ (k : IsEarliestKept g later x). ⊎_elim (λ (old : IsEarliestKept g s.earliest x). fair.free x w (inr old)) (λ (same : x ≡ p). absurd (ne same)) (kept_cases x k))
           o)
           (cases_eq x p)
 
       before : (x : ℕ) → IsOpen g done later x → IsOpen g s.cursors s.earliest x
       before x (inl k) = inl (queued_done g s.cursors fair.cursors_length p 10 queued.inside refl x k).1
-      before x (inr k) = ⊎_elim (λ (old : IsKept g s.earliest x). inr old) (λ (same : x ≡ p). inl (subst (λ y. IsQueued g s.cursors y) (sym same) queued)) (kept_cases x k)
+      before x (inr k) = ⊎_elim (λ (old : IsEarliestKept g s.earliest x). inr old) (λ (same : x ≡ p). inl (subst (λ y. IsInQueue g s.cursors y) (sym same) queued)) (kept_cases x k)
 
       after : (x : ℕ) → IsOpen g s.cursors s.earliest x → IsOpen g done later x
       after x (inl k) = ⊎_elim
-          (λ (same : x ≡ p). inr (subst (λ y. IsKept g later y) (sym same) kept_new))
+          (λ (same : x ≡ p). inr (subst (λ y. IsEarliestKept g later y) (sym same) kept_new))
           (λ (ne : x ≡ p → ⊥). inl (queued_old g s.cursors fair.cursors_length p 10 queued.inside x ne k)) (cases_eq x p)
       after x (inr k) = inr (kept_still x k)
 

@@ -19,8 +19,8 @@ use Rattle.comp_tree.proofs.Levels.{int_le-true, int_le-from}
 use Rattle.comp_tree.proofs.Agreeing.{stands_inner_agree, forest_agree}
 use Rattle.strip_flood.specs.declared.strip.Strip.{Strip}
 use Rattle.strip_flood.specs.declared.flood.Flood.{Flood}
-use Rattle.strip_flood.specs.Flood.{Ground, as_ground, list_at, direction, IsOf, rank_of, cursor_of, IsQueued, IsKept, IsOpen, IsRanked, IsFair, IsTurning, HasOffsets, seen_count, is_looked, looks, inner_count}
-use Rattle.strip_flood.specs.Jobs.{IsFit, IsStanding, view_of, IsRising, IsJob, AreRanks}
+use Rattle.strip_flood.specs.Flood.{Ground, as_ground, list_at, direction, IsOf, rank_of, cursor_of, IsInQueue, IsEarliestKept, IsOpen, IsRanked, IsFair, IsTurning, HasOffsets, seen_count, is_looked, looks, inner_count}
+use Rattle.strip_flood.specs.Jobs.{SuitsStrip, IsStanding, view_of, IsRising, HasJobFields, AreRanks}
 use Rattle.strip_flood.specs.Strips.{ranked_values, plane_values, values_of, ground_of, state_of, IsStrip, IsBetweenTurns, IsAll, IsFresh}
 use Rattle.strip_flood.proofs.Stepping.{not_none}
 use Rattle.strip_flood.proofs.Retiring.{contains_some}
@@ -99,10 +99,10 @@ module _ (strip : Strip) (known : IsStrip strip) (flood : Flood) (fresh : IsFres
   unkept : (r : ℕ) → r < g.size → slice_index earliest r ≡ no_node
   unkept r l = fresh.unkept.each r (let e : length earliest ≡ g.size = fresh.earliest_length in omega arith)
 
-  not_queued : (p : ℕ) → IsQueued g cursors p → ⊥
+  not_queued : (p : ℕ) → IsInQueue g cursors p → ⊥
   not_queued p q = let z : cursor_of g cursors p ≡ 0 = unseen p q.inside in let l : 0 < cursor_of g cursors p = q.low in omega arith
 
-  not_kept : (p : ℕ) → IsKept g earliest p → ⊥
+  not_kept : (p : ℕ) → IsEarliestKept g earliest p → ⊥
   not_kept p k = not_none g ok p k.inside (sym k.kept ∙ unkept (rank_of g p) k.ranked)
 
   not_open : (p : ℕ) → IsOpen g cursors earliest p → ⊥
@@ -203,12 +203,12 @@ strip_known connect width height first_row end_row ranks levels offsets limits r
     }
 
 pub fit_after : (width height first_row end_row : ℕ) (strip : Strip) (flood after : Flood) (b d : Bool) (p : Raster)
-    → IsFit (view_of width height first_row end_row strip flood b) p → IsFit (view_of width height first_row end_row strip after d) p
+    → SuitsStrip (view_of width height first_row end_row strip flood b) p → SuitsStrip (view_of width height first_row end_row strip after d) p
 fit_after width height first_row end_row strip flood after b d p fit = record { width = fit.width; height = fit.height; count = fit.count; same = fit.same }
 
 -- a strip that was flooded stands for each plane that it fits
 module _ (width height first_row end_row : ℕ) (strip : Strip) (sides : strip.width ≡ width) (start : strip.first ≡ first_row * width) (after : Flood) (long : length after.links.items ≡ length strip.ranks.items) (b : Bool) where
-  pub fit_agree : (p : Raster) → IsFit (view_of width height first_row end_row strip after b) p → Agree (values_of strip) p.values strip.first (length strip.ranks.items)
+  pub fit_agree : (p : Raster) → SuitsStrip (view_of width height first_row end_row strip after b) p → Agree (values_of strip) p.values strip.first (length strip.ranks.items)
   fit_agree p fit = record {
     same = λ x w. let a : strip.first ≤ x = w.low in let c : x < strip.first + length strip.ranks.items = w.high in
         let at : strip.first + (x - strip.first) ≡ x = omega arith in let at2 : first_row * width + (x - strip.first) ≡ x = omega arith in
@@ -218,12 +218,12 @@ module _ (width height first_row end_row : ℕ) (strip : Strip) (sides : strip.w
         ∙ sym (subst (λ y. value_at p.values y ≡ get_or (ranked_values strip.levels.items strip.ranks.items) (x - strip.first) None) at2 (fit.same (x - strip.first) m));
   }
 
-  pub fit_defined : (p : Raster) → IsFit (view_of width height first_row end_row strip after b) p
+  pub fit_defined : (p : Raster) → SuitsStrip (view_of width height first_row end_row strip after b) p
       → count_defined (values_of strip) strip.first (length strip.ranks.items) ≡ count_defined p.values (first_row * width) (length after.links.items)
   fit_defined p fit = defined_agree (values_of strip) p.values strip.first (length strip.ranks.items) (fit_agree p fit)
       ∙ ap (λ f. count_defined p.values f (length strip.ranks.items)) start ∙ ap (λ n. count_defined p.values (first_row * width) n) (sym long)
 
-  pub fit_inner : (p : Raster) → IsFit (view_of width height first_row end_row strip after b) p
+  pub fit_inner : (p : Raster) → SuitsStrip (view_of width height first_row end_row strip after b) p
       → inner_count (values_of strip) strip.width strip.connect strip.first (length strip.ranks.items) ≡ inner_count p.values width strip.connect (first_row * width) (length after.links.items)
   fit_inner p fit = subst (λ n. inner_count (values_of strip) strip.width strip.connect strip.first (length strip.ranks.items) ≡ inner_count p.values width strip.connect (first_row * width) n) (sym long)
       (subst₂ (λ f w. inner_count (values_of strip) strip.width strip.connect strip.first (length strip.ranks.items) ≡ inner_count p.values w strip.connect f (length strip.ranks.items)) start sides
@@ -231,19 +231,19 @@ module _ (width height first_row end_row : ℕ) (strip : Strip) (sides : strip.w
 
   module _ (forest : IsForest (values_of strip) strip.first after.links.items)
       (stands : StandsFor (values_of strip) strip.first after.links.items (IsInner (values_of strip) strip.width strip.connect strip.first (length after.links.items))) where
-    agree : (p : Raster) → IsFit (view_of width height first_row end_row strip after b) p → Agree (values_of strip) p.values strip.first (length after.links.items)
+    agree : (p : Raster) → SuitsStrip (view_of width height first_row end_row strip after b) p → Agree (values_of strip) p.values strip.first (length after.links.items)
     agree p fit = subst (λ n. Agree (values_of strip) p.values strip.first n) (sym long) (fit_agree p fit)
 
-    pub fit_standing : (p : Raster) → IsFit (view_of width height first_row end_row strip after b) p → IsStanding (view_of width height first_row end_row strip after b) p
+    pub fit_standing : (p : Raster) → SuitsStrip (view_of width height first_row end_row strip after b) p → IsStanding (view_of width height first_row end_row strip after b) p
     fit_standing p fit = record {
       forest = subst (λ f. IsForest p.values f after.links.items) start (forest_agree (values_of strip) p.values strip.first after.links.items (agree p fit) forest);
       stands = subst₂ (λ f w. StandsFor p.values f after.links.items (IsInner p.values w strip.connect f (length after.links.items))) start sides
           (stands_inner_agree (values_of strip) p.values strip.width strip.connect strip.first after.links.items (agree p fit) stands);
     }
 
-pub job_flooded : (width height first_row end_row : ℕ) (strip : Strip) (flood after : Flood) → IsJob width height first_row end_row strip flood false → length after.links.items ≡ length strip.ranks.items
+pub job_flooded : (width height first_row end_row : ℕ) (strip : Strip) (flood after : Flood) → HasJobFields width height first_row end_row strip flood false → length after.links.items ≡ length strip.ranks.items
     → IsForest (values_of strip) strip.first after.links.items → StandsFor (values_of strip) strip.first after.links.items (IsInner (values_of strip) strip.width strip.connect strip.first (length after.links.items))
-    → IsJob width height first_row end_row strip after true
+    → HasJobFields width height first_row end_row strip after true
 job_flooded width height first_row end_row strip flood after job long forest stands = record {
   known = job.known;
   sides = job.sides;

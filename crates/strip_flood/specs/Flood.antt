@@ -1,4 +1,4 @@
--- The flooding of one strip: what does not change, the state, and what holds between two turns.
+-- Bookkeeping: the flooding of one strip: what does not change, the state, and what holds between two turns.
 use Rattle.std.specs.Prelude.{◌≡◌, ℕ, ◌+◌, ◌-◌, ◌*◌, ◌/◌, ◌%◌, ◌<◌, ◌≤◌, nat_lt, cond, Bool, ◌&&◌, IsTrue, List, [], length, slice_index, Contains, Option, ℤ, ◌⊎◌}
 use Rattle.comp_tree.specs.declared.shape.Connect.{Connect}
 use Rattle.comp_tree.specs.declared.shape.Connect.TheVariants.{Four, Eight}
@@ -60,19 +60,19 @@ rank_of g p = slice_index g.ranks (p - g.first)
 abbrev pub cursor_of : Ground → List ℕ → ℕ → ℕ
 cursor_of g cursors p = slice_index cursors (p - g.first)
 
-pub record IsQueued (g : Ground) (cursors : List ℕ) (p : ℕ) : Type 0 where
+pub record IsInQueue (g : Ground) (cursors : List ℕ) (p : ℕ) : Type 0 where
   pub inside : IsOf g p
   pub low : 0 < cursor_of g cursors p
   pub high : cursor_of g cursors p < 10
 
 -- p is kept as the earliest finished pixel of its rank
-pub record IsKept (g : Ground) (earliest : List ℕ) (p : ℕ) : Type 0 where
+pub record IsEarliestKept (g : Ground) (earliest : List ℕ) (p : ℕ) : Type 0 where
   pub inside : IsOf g p
   pub ranked : rank_of g p < g.size
   pub kept : slice_index earliest (rank_of g p) ≡ p
 
 abbrev pub IsOpen : Ground → List ℕ → List ℕ → ℕ → Type 0
-IsOpen g cursors earliest p = IsQueued g cursors p ⊎ IsKept g earliest p
+IsOpen g cursors earliest p = IsInQueue g cursors p ⊎ IsEarliestKept g earliest p
 
 -- an adjacency of the strip that was looked at from x
 pub record IsLooked (g : Ground) (cursors : List ℕ) (x y : ℕ) : Type 0 where
@@ -91,8 +91,8 @@ pub record IsRanked (g : Ground) : Type 0 where
 
 -- the lists have the queued pixels, each by its place in the list of its rank
 pub record IsListed (g : Ground) (lists : List (List ℕ)) (cursors : List ℕ) : Type 0 where
-  pub to : (r i : ℕ) → Contains (list_at lists r) i → (rank_of g (g.first + i) ≡ r) × IsQueued g cursors (g.first + i)
-  pub from : (p : ℕ) → IsQueued g cursors p → Contains (list_at lists (rank_of g p)) (p - g.first)
+  pub to : (r i : ℕ) → Contains (list_at lists r) i → (rank_of g (g.first + i) ≡ r) × IsInQueue g cursors (g.first + i)
+  pub from : (p : ℕ) → IsInQueue g cursors p → Contains (list_at lists (rank_of g p)) (p - g.first)
 
 pub record IsKeptAt (g : Ground) (cursors : List ℕ) (r e : ℕ) : Type 0 where
   pub inside : IsOf g e
@@ -115,7 +115,7 @@ pub record IsFair (g : Ground) (s : State) : Type 0 where
   pub turning : (p : ℕ) → IsOf g p → cursor_of g s.cursors p < 10 → cursor_of g s.cursors p ≤ ends g.connect + 1
   pub seen : (p : ℕ) → IsOf g p → 0 < cursor_of g s.cursors p → rank_of g p < g.size
   pub kept : (r : ℕ) → r < g.size → (slice_index s.earliest r ≡ no_node → ⊥) → IsKeptAt g s.cursors r (slice_index s.earliest r)
-  pub free : (p : ℕ) → IsOf g p → (cursor_of g s.cursors p < 10) ⊎ IsKept g s.earliest p → link_of g.first s.links p ≡ no_node
+  pub free : (p : ℕ) → IsOf g p → (cursor_of g s.cursors p < 10) ⊎ IsEarliestKept g s.earliest p → link_of g.first s.links p ≡ no_node
   pub forest : IsForest g.values g.first s.links
   pub joining : IsJoining g s
 
@@ -186,7 +186,7 @@ pub record IsStep (g : Ground) (old new : List ℕ) (queued_old queued_new looke
 
 -- p is queued, and no open pixel is higher
 pub record IsTop (g : Ground) (s : State) (p : ℕ) : Type 0 where
-  pub queued : IsQueued g s.cursors p
+  pub queued : IsInQueue g s.cursors p
   pub above : (r : ℕ) → rank_of g p < r → list_at s.lists r ≡ []
 
 -- p is the front of rank r, and no open pixel is higher

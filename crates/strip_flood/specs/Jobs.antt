@@ -1,4 +1,4 @@
--- What contracts see of a strip's job.
+-- Model: what contracts see of a strip's job.
 use Rattle.std.specs.Prelude.{◌≡◌, ℕ, ◌+◌, ◌-◌, ◌*◌, ◌<◌, ◌≤◌, Bool, true, false, List, length, slice_index_or, slice_get, slice_index, Contains, Option, Some, None, ℤ, pos, ◌<ℤ◌}
 use Rattle.comp_tree.specs.declared.shape.Connect.{Connect}
 use Rattle.comp_tree.specs.Counts.{count_defined}
@@ -26,7 +26,7 @@ abbrev pub first_of : JobView → ℕ
 first_of j = j.first_row * j.width
 
 -- the plane has the job's sides and, in the strip, its values
-pub record IsFit (j : JobView) (p : Raster) : Type 0 where
+pub record SuitsStrip (j : JobView) (p : Raster) : Type 0 where
   pub width : p.shape.width ≡ j.width
   pub height : p.shape.height ≡ j.height
   pub count : length j.values ≡ (j.end_row - j.first_row) * j.width
@@ -47,14 +47,14 @@ adjacency_count j p = inner_count p.values j.width j.connect (first_of j) (lengt
 
 -- where it is flooded, so it is for each plane that it fits
 pub record IsStandingWhereFlooded (j : JobView) : Type 0 where
-  pub standing : j.flooded ≡ true → (p : Raster) → IsFit j p → IsStanding j p
+  pub standing : j.flooded ≡ true → (p : Raster) → SuitsStrip j p → IsStanding j p
 
 -- what contracts see of these fields
 abbrev pub view_of : ℕ → ℕ → ℕ → ℕ → Strip → Flood → Bool → JobView
 view_of width height first_row end_row strip flood flooded = record { width = width; height = height; connect = strip.connect; first_row = first_row; end_row = end_row; values = ranked_values strip.levels.items strip.ranks.items; flooded = flooded; links = flood.links.items }
 
 -- what is true of the fields of each job
-pub record IsJob (width height first_row end_row : ℕ) (strip : Strip) (flood : Flood) (flooded : Bool) : Type 0 where
+pub record HasJobFields (width height first_row end_row : ℕ) (strip : Strip) (flood : Flood) (flooded : Bool) : Type 0 where
   pub known : IsStrip strip
   pub sides : strip.width ≡ width
   pub start : strip.first ≡ first_row * width

@@ -1,4 +1,4 @@
--- What contracts see of a queue by ranks: one list of items for each rank, the first item first.
+-- Bookkeeping: what contracts see of a queue by ranks: one list of items for each rank, the first item first.
 use Rattle.std.specs.Prelude.{◌≡◌, ℕ, ◌<◌, List, [], ◌∷◌, length, slice_set, slice_index_or, Contains}
 
 -- the list of a rank
@@ -14,7 +14,7 @@ pub record IsEmpty (lists : List (List ℕ)) : Type 0 where
   pub empty : (r : ℕ) → list_at lists r ≡ []
 
 -- r is the greatest rank whose list is not empty
-pub record IsHighest (lists : List (List ℕ)) (r : ℕ) : Type 0 where
+pub record IsHighestRank (lists : List (List ℕ)) (r : ℕ) : Type 0 where
   pub inside : r < length lists
   pub some : list_at lists r ≡ [] → ⊥
   pub above : (s : ℕ) → r < s → list_at lists s ≡ []

@@ -2,7 +2,7 @@
 
 ghost use Rattle.std.specs.Prelude.{◌≡◌, ◌+◌, ◌-◌, ◌*◌, ◌<◌, ◌≤◌, length, true, false, IfOk};
 ghost use Rattle.comp_tree.specs.Forest.{no_node};
-ghost use Rattle.strip_flood.specs.Jobs.{IsFit, IsStanding, IsStandingWhereFlooded, defined_count, adjacency_count};
+ghost use Rattle.strip_flood.specs.Jobs.{SuitsStrip, IsStanding, IsStandingWhereFlooded, defined_count, adjacency_count};
 ghost use Rattle.strip_flood.specs.Strips.{IsAll};
 
 use crate::flood::Flood;
@@ -27,13 +27,13 @@ pub struct StripJob {
 }
 
 impl Model for StripJob {
-    ghost use Rattle.strip_flood.specs.Jobs.{JobView, view_of, IsJob};
+    ghost use Rattle.strip_flood.specs.Jobs.{JobView, view_of, HasJobFields};
 
     ghost Value = { JobView };
 
     ghost view = { λ j. view_of j.shape.width j.shape.height j.first_row j.end_row j.strip j.flood j.flooded };
 
-    ghost invariant = { λ j. IsJob j.shape.width j.shape.height j.first_row j.end_row j.strip j.flood j.flooded };
+    ghost invariant = { λ j. HasJobFields j.shape.width j.shape.height j.first_row j.end_row j.strip j.flood j.flooded };
 }
 
 impl StripJob {
@@ -47,7 +47,7 @@ impl StripJob {
     ) -> Result<StripJob, OutOfMemory>
         requires rows { first_row < end_row }
         requires inside { end_row ≤ plane.now.shape.height }
-        ensures fit { IfOk result (λ job. IsFit job plane.now) }
+        ensures fit { IfOk result (λ job. SuitsStrip job plane.now) }
         ensures connect { IfOk result (λ job. job.connect ≡ connect) }
         ensures first_row { IfOk result (λ job. job.first_row ≡ first_row) }
         ensures end_row { IfOk result (λ job. job.end_row ≡ end_row) }
@@ -119,7 +119,7 @@ impl StripJob {
         queued: &mut Steps<A>,
         looked: &mut Steps<B>,
     )
-        requires fit { IsFit self.old plane.now }
+        requires fit { SuitsStrip self.old plane.now }
         requires unflooded { self.old.flooded ≡ false }
         ensures flooded { self.new.flooded ≡ true }
         ensures width { self.new.width ≡ self.old.width }

@@ -1,7 +1,7 @@
 // The queue's calls, with their clauses in the words of the flooding.
 
 ghost use Rattle.std.specs.Prelude.{◌≡◌, ℕ, ◌+◌, ◌<◌, ◌≤◌, ◌++◌, ◌∷◌, [], length, MatchOption, slice_set};
-ghost use Rattle.strip_flood.specs.Queue.{list_at, IsNowhere, IsEmpty, IsHighest, IsFront, IsPopped};
+ghost use Rattle.strip_flood.specs.Queue.{list_at, IsNowhere, IsEmpty, IsHighestRank, IsFront, IsPopped};
 
 use dev_io::Steps;
 use level_queue::LevelQueue;
@@ -21,7 +21,7 @@ pub fn add<L: Ledger>(queue: &mut LevelQueue, rank: u32, item: u32, queued: &mut
 
 /// The greatest rank whose list is not empty.
 pub fn highest(queue: &LevelQueue) -> Option<u32>
-    ensures { MatchOption result (IsEmpty queue.now.lists) (λ r. IsHighest queue.now.lists r) }
+    ensures { MatchOption result (IsEmpty queue.now.lists) (λ r. IsHighestRank queue.now.lists r) }
 {
     queue.highest()
 }

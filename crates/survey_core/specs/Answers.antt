@@ -1,4 +1,4 @@
--- What is answered to these words, these bytes and these tables.
+-- Model: what is answered to these words, these bytes and these tables.
 use Rattle.std.specs.Prelude.{ℕ, ◌+◌, List, [], ◌∷◌, Result, Ok, Err, Option, Some, None, codes, decimal}
 use Rattle.std.specs.List.{concat}
 use Rattle.command_line.specs.Notes.{usage_line}

@@ -1,4 +1,4 @@
--- What a call of a keeper does to its tables, where these are told, and what stands behind a fault.
+-- Model: what a call of a keeper does to its tables, where these are told, and what stands behind a fault.
 use Rattle.std.specs.Prelude.{ℕ, ◌≡◌, ◌≤◌, List, Option, Some, None, Result, IfErr, ⊤}
 use Rattle.dev_io.specs.Causes.{Rose}
 use Rattle.survey_core.specs.declared.keeper.Refused.{Refused}

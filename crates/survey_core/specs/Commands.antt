@@ -1,4 +1,4 @@
--- What the words of a session mean: its commands, one behind the other.
+-- Model: what the words of a session mean: its commands, one behind the other.
 use Rattle.std.specs.Prelude.{ℕ, ◌+◌, min, List, [], ◌∷◌, ◌==◌, length, drop, pos, unsigned_abs, Option, Some, None, Result, Ok, Err, codes, if◌then◌else◌}
 use Rattle.std.specs.Str.{bytes_eq}
 use Rattle.std.specs.Option.{option_map}

@@ -1,4 +1,4 @@
--- Which calls of a keeper in memory fail.
+-- Model: which calls of a keeper in memory fail.
 use Rattle.std.specs.Prelude.{◌≡◌, ℕ, Bool, true, false, List, Result, Ok, Err, if◌then◌else◌}
 use Rattle.survey_core.specs.declared.keeper.Refused.{Refused}
 use Rattle.survey_core.specs.declared.keeper.Refused.TheVariants.{Fault, OutOfMemory}

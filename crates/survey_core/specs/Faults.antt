@@ -1,4 +1,4 @@
--- The faults of a session: their numbers and their names, and what stops a command.
+-- Model: the faults of a session: their numbers and their names, and what stops a command.
 use Rattle.std.specs.Prelude.{ℕ, List, codes}
 use Rattle.fits_hdu.specs.declared.answer.HduFault.{HduFault}
 use Rattle.fits_hdu.specs.declared.answer.HduFault.TheVariants as hdu

@@ -1,4 +1,4 @@
--- The headline: what a session answers, by its status.
+-- Model: the headline: what a session answers, by its status.
 use Rattle.std.specs.Prelude.{◌≡◌, ℕ, ◌≤◌, ◌⊎◌, Bool, List, Ok}
 use Rattle.std.specs.declared.option.Option.{Option}
 use Rattle.std.specs.Option.{ForSome}

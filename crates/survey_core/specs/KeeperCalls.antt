@@ -1,4 +1,4 @@
--- What stands behind a stop of a call that asks the keeper alone.
+-- Bookkeeping: what stands behind a stop of a call that asks the keeper alone.
 use Rattle.std.specs.Prelude.{ℕ}
 use Rattle.dev_io.specs.Causes.{Rose}
 use Rattle.survey_core.specs.declared.fault.Stop.{Stop}

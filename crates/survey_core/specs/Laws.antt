@@ -1,4 +1,4 @@
--- What the tables are after the commands of a session, told by the last command that names a field.
+-- Model: what the tables are after the commands of a session, told by the last command that names a field.
 use Rattle.std.specs.Prelude.{◌≡◌, ℕ, Bool, false, List, ◌∷◌, ◌++◌, drop, ℤ, Some, None}
 use Rattle.std.specs.List.{list_any}
 use Rattle.std.specs.Str.{bytes_eq}

@@ -1,4 +1,4 @@
--- What `list` prints: of each field how many rows it has, and the exact sum of their fluxes.
+-- Model: what `list` prints: of each field how many rows it has, and the exact sum of their fluxes.
 use Rattle.std.specs.Prelude.{ℕ, zero, suc, ◌+◌, ◌*◌, ◌/◌, List, [], ◌∷◌, length, map, get_or, codes, decimal, ℤ, pos, ◌+ℤ◌}
 use Rattle.std.specs.List.{concat}
 use Rattle.std.specs.Fmt.{signed_decimal}

@@ -1,4 +1,4 @@
--- What a keeper in memory is seen as.
+-- Model: what a keeper in memory is seen as.
 use Rattle.std.specs.Prelude.{ℕ, ◌+◌, ◌-◌, ◌^◌, ◌==◌, Bool, min, List, map}
 use Rattle.std.specs.List.{list_any}
 use Rattle.survey_core.specs.declared.mem_keeper.Entry.{Entry}

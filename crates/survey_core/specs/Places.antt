@@ -1,4 +1,4 @@
--- Where a field stands among entries, or where it belongs.
+-- Bookkeeping: where a field stands among entries, or where it belongs.
 use Rattle.std.specs.Prelude.{◌≡◌, ℕ, Bool, true, false, List, [], ◌∷◌, take, drop, length, ◌≤◌}
 use Rattle.std.specs.List.{AllByRecursion}
 use Rattle.std.specs.declared.cmp.Ordering.TheVariants.{Less, Equal, Greater}

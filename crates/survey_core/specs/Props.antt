@@ -1,4 +1,4 @@
--- Facts on tables have at most one proof, so they come out of a truncated invariant, and stand in a ghost field.
+-- Bookkeeping: facts on tables have at most one proof, so they come out of a truncated invariant, and stand in a ghost field.
 use Rattle.std.proofs.Common.{◌≡◌, ℕ, ◌*◌, ◌+◌, ◌%◌, ◌<◌, ℤ, pos, List, [], ◌∷◌, length, slice_get, Some, Ordering, Less}
 use Rattle.std.specs.List.{AllByRecursion}
 use Rattle.std.specs.Coded.{coded_ℕ, coded_ℤ, coded_list, coded×}

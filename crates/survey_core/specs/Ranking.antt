@@ -1,4 +1,4 @@
--- What `brightest` prints: the rows of all fields, from the greatest flux on.
+-- Model: what `brightest` prints: the rows of all fields, from the greatest flux on.
 use Rattle.std.specs.Prelude.{ℕ, ◌==◌, Bool, List, [], ◌∷◌, map, filter, find, length, codes, ℤ, Option}
 use Rattle.std.specs.List.{concat, range_with_len, flat_map}
 use Rattle.std.specs.Option.{option_to_list}

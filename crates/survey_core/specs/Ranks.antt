@@ -1,4 +1,4 @@
--- Rows in their order.
+-- Bookkeeping: rows in their order.
 use Rattle.std.specs.Prelude.{◌≡◌, false, List, [], ◌∷◌, if◌then◌else◌}
 use Rattle.std.specs.List.{AllByRecursion}
 use Rattle.survey_core.specs.declared.ranking.Row.{Row}

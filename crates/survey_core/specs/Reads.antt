@@ -1,4 +1,4 @@
--- What reading a catalogue does to the bytes that are told.
+-- Bookkeeping: what reading a catalogue does to the bytes that are told.
 use Rattle.std.specs.Prelude.{◌≡◌, ℕ, ◌*◌, ◌<◌, List, take, length, ℤ}
 use Rattle.std.specs.declared.option.Option.{Option}
 use Rattle.dev_io.specs.Causes.{Rose}

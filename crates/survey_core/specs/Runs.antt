@@ -1,4 +1,4 @@
--- What a session does to its source, its tables and its sinks.
+-- Model: what a session does to its source, its tables and its sinks.
 use Rattle.std.specs.Prelude.{◌≡◌, ℕ, ◌+◌, ◌≤◌, Bool, List, ◌∷◌, ◌++◌, drop, Result, Ok, Err, Option, Some, None, IsTrue}
 use Rattle.std.specs.List.{list_any}
 use Rattle.std.specs.Io.KnownBytes.{Appends}

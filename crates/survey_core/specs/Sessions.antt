@@ -1,4 +1,4 @@
--- What the commands of a session do, one after the other, to the bytes of the input and to the tables.
+-- Model: what the commands of a session do, one after the other, to the bytes of the input and to the tables.
 use Rattle.std.specs.Prelude.{ℕ, ◌+◌, Bool, true, false, ◌||◌, List, [], ◌∷◌, ◌++◌, drop, Option, Some, None, is_some, if◌then◌else◌}
 use Rattle.survey_core.specs.declared.words.Command.{Command}
 use Rattle.survey_core.specs.declared.words.Command.TheVariants.{Add, Drop, List as Listing, Brightest}

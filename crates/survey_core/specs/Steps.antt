@@ -1,4 +1,4 @@
--- What one command does to the input, the tables and the output, where these are told, and what stands behind each stop.
+-- Model: what one command does to the input, the tables and the output, where these are told, and what stands behind each stop.
 use Rattle.std.specs.Prelude.{◌≡◌, ℕ, ◌<◌, Bool, true, false, ◌||◌, List, [], ◌++◌, Option, Some, None, Result, Ok, Err, IsTrue}
 use Rattle.std.specs.Io.KnownBytes.{Appends}
 use Rattle.dev_io.specs.Causes.{Rose}

@@ -1,4 +1,4 @@
--- The tables of a survey: a finite map from fields to the cells of their catalogues, as the list of its entries in the order of their fields.
+-- Model: the tables of a survey: a finite map from fields to the cells of their catalogues, as the list of its entries in the order of their fields.
 use Rattle.std.specs.Prelude.{ℕ, ◌*◌, ◌+◌, ◌%◌, ◌<◌, ◌≡◌, ◌⊎◌, ℤ, pos, true, not, if◌then◌else◌, List, [], ◌∷◌, length, map, filter, slice_get, Option, Some, None, ⊤}
 use Rattle.std.specs.declared.cmp.Ordering.TheVariants.{Less}
 use Rattle.std.specs.List.{AllByRecursion}

@@ -1,4 +1,4 @@
--- Cells as bytes: 64 bits each, the most significant byte first.
+-- Model: cells as bytes: 64 bits each, the most significant byte first.
 use Rattle.std.specs.Prelude.{ℕ, zero, suc, ◌≡◌, ◌/◌, ◌%◌, ℤ, List, [], ◌∷◌, length, take, drop, flat_map}
 use Rattle.std.specs.Int.{w64, to_be_bytes, from_be_bytes, cast_unsigned, cast_signed}
 use Rattle.survey_core.specs.Tables.{IsNumbered}

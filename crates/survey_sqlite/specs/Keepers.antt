@@ -1,4 +1,4 @@
--- What a keeper over memory is seen as.
+-- Model: what a keeper over memory is seen as.
 use Rattle.std.specs.Prelude.{List, []}
 use Rattle.std.specs.declared.option.Option.{Option}
 use Rattle.std.specs.declared.option.Option.TheVariants.{None, Some}

@@ -1,4 +1,4 @@
--- Laws on the tables that rows of `source` are.
+-- Model: laws on the tables that rows of `source` are.
 use Rattle.std.specs.Prelude.{List, [], ◌∷◌, IfSome}
 use Rattle.std.proofs.Common.{inl, inr, refl, sym, subst}
 use Rattle.std.proofs.Math.Logic.{∥∥₁_elim}

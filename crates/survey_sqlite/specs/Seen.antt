@@ -1,4 +1,4 @@
--- What the keepers are seen as.
+-- Model: what the keepers are seen as.
 use Rattle.std.specs.Prelude.{ℕ, List, Option, None}
 use Rattle.survey_core.specs.Tables.{Table}
 use Rattle.survey_sqlite.specs.declared.sql_keeper.SqlKeeper.{SqlKeeper}

@@ -1,4 +1,4 @@
--- The rows of the table `source`, and the tables of fields that they are.
+-- Model: the rows of the table `source`, and the tables of fields that they are.
 use Rattle.std.specs.Prelude.{ℕ, ◌≡◌, ℤ, true, false, List, [], ◌∷◌, IsTrue}
 use Rattle.sqlite.specs.declared.types.Value.TheVariants.{Int, Text, Blob}
 use Rattle.sqlite.specs.Order.{Row, column, bytes}

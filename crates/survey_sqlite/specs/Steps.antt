@@ -1,4 +1,4 @@
--- What a call on a connection does to the rows of `source`.
+-- Model: what a call on a connection does to the rows of `source`.
 use Rattle.std.specs.Prelude.{◌≡◌, ◌⊎◌, ◌==◌, ◌<◌, ◌+◌, ℕ, List, [], length, get_or, ◌∷◌, None, Some, is_some, map, IsTrue}
 use Rattle.sqlite.specs.declared.types.Value.TheVariants.{Text, Blob}
 use Rattle.sqlite.specs.Order.{Row, column, bytes}

@@ -1,4 +1,4 @@
--- The statements on the table of fields, and the schema.
+-- Model: the statements on the table of fields, and the schema.
 use Rattle.std.specs.Prelude.{codes, List, ℕ, [], ◌∷◌, true, false, None}
 use Rattle.sqlite.specs.Collation.TheVariants.{Binary}
 use Rattle.sqlite.specs.declared.types.Value.TheVariants.{Null}

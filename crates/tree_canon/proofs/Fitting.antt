@@ -26,7 +26,7 @@ use Rattle.comp_tree.proofs.OneTree.{read-node_of, tree_of-is}
 use Rattle.tree_canon.proofs.Finding.{read_link}
 use Rattle.tree_canon.proofs.Parents.{blank}
 use Rattle.comp_tree.proofs.Nodes
-use Rattle.tree_canon.specs.Canonical.{StandsForAll}
+use Rattle.comp_tree.specs.Forest.{StandsForAll}
 use Rattle.tree_canon.specs.Fitting.{IsFit, outside, root, inside, up, AreFit}
 
 module _ (r : Raster) (connect : Connect) (links : List ℕ) (plane : IsPlane r) (whole : length links ≡ length r.values) (fit : AreFit r connect links (length r.values)) where

@@ -15,7 +15,7 @@ use Rattle.comp_tree.proofs.Members.{IsAmong, among-filter, among_from_filter}
 use Rattle.comp_tree.proofs.Finding.{length-in_order, length-pixels}
 use Rattle.comp_tree.proofs.Ordering.{ordered-same_place, among_at, among_in_order-from}
 use Rattle.comp_tree.proofs.OneTree.{IsImage, get_is, get-map, get_from_map}
-use Rattle.tree_canon.specs.Canonical.{is_canonical, canonical_pixels, loose_row, number_at, IsNumbering}
+use Rattle.tree_canon.specs.Canonical.{is_canonical, canonical_pixels, loose_row, node_number_at, IsNumbering}
 use Rattle.tree_canon.specs.Numbers.{HaveOwnPixels, HasRowNumbers, LeadBack, HasLinkNumbers}
 use Rattle.tree_canon.proofs.Finding.{IsPixelLink, pixel_link, link_high}
 use Rattle.tree_canon.specs.Places.{ArePixelsFrom, IsRowAt, AreNumberedBy}
@@ -27,8 +27,8 @@ use Rattle.tree_canon.proofs.Sorting.{canonical-ordered, canonical-is, canonical
 
 pub record IsNumberedTo (rows : List NodeRow) (old new : List ℕ) (k : ℕ) : Type 0 where
   pub one_each : length new ≡ length old
-  pub of_rows : (n : ℕ) (row : NodeRow) → n < k → slice_get rows n ≡ Some row → number_at new row.rep ≡ n
-  pub others : (p : ℕ) → ((n : ℕ) (row : NodeRow) → n < k → slice_get rows n ≡ Some row → row.rep ≢ p) → number_at new p ≡ number_at old p
+  pub of_rows : (n : ℕ) (row : NodeRow) → n < k → slice_get rows n ≡ Some row → node_number_at new row.rep ≡ n
+  pub others : (p : ℕ) → ((n : ℕ) (row : NodeRow) → n < k → slice_get rows n ≡ Some row → row.rep ≢ p) → node_number_at new p ≡ node_number_at old p
 
 pub numbered_none : (rows : List NodeRow) (old : List ℕ) → IsNumberedTo rows old old 0
 numbered_none rows old = record { one_each = refl; of_rows = λ n row lt at. absurd (omega arith); others = λ p apart. refl }
@@ -40,7 +40,7 @@ numbered_more rows old new k row own at below h = record {
   of_rows = λ n other lt got. elim (cases_eq n k) [
     | inl e ↦
         let same : other ≡ row = same_Some other row (sym got ∙ ap (slice_get rows) e ∙ at) in
-        ap (λ (x : NodeRow). number_at (set new row.rep k) x.rep) same ∙ get_or-set_same new row.rep k no_node (omega (arith, below, h.one_each)) ∙ sym e
+        ap (λ (x : NodeRow). node_number_at (set new row.rep k) x.rep) same ∙ get_or-set_same new row.rep k no_node (omega (arith, below, h.one_each)) ∙ sym e
     | inr ne ↦
         get_or-set_other new row.rep other.rep k no_node (λ (e : other.rep ≡ row.rep). ne (own n k other row got at e))
         ∙ h.of_rows n other (omega arith) got
@@ -61,20 +61,20 @@ numbered_all rows old new k long h = record {
 
 pub record IsFollowedTo (links old new : List ℕ) (k : ℕ) : Type 0 where
   pub one_each : length new ≡ length old
-  pub kept : (p : ℕ) → number_at old p ≢ no_node → number_at new p ≡ number_at old p
-  pub followed : (p : ℕ) → p < k → number_at old p ≡ no_node → number_at new p ≡ number_at new (link_of 0 links p)
-  pub ahead : (p : ℕ) → k ≤ p → number_at new p ≡ number_at old p
+  pub kept : (p : ℕ) → node_number_at old p ≢ no_node → node_number_at new p ≡ node_number_at old p
+  pub followed : (p : ℕ) → p < k → node_number_at old p ≡ no_node → node_number_at new p ≡ node_number_at new (link_of 0 links p)
+  pub ahead : (p : ℕ) → k ≤ p → node_number_at new p ≡ node_number_at old p
 
 pub followed_none : (links old : List ℕ) → IsFollowedTo links old old 0
 followed_none links old = record { one_each = refl; kept = λ p some. refl; followed = λ p lt none. absurd (omega arith); ahead = λ p le. refl }
 
 -- a pixel that has a number keeps it
-pub followed_same : (links old new : List ℕ) (k : ℕ) → number_at new k ≢ no_node → IsFollowedTo links old new k → IsFollowedTo links old new (k + 1)
+pub followed_same : (links old new : List ℕ) (k : ℕ) → node_number_at new k ≢ no_node → IsFollowedTo links old new k → IsFollowedTo links old new (k + 1)
 followed_same links old new k some h = record {
   one_each = h.one_each;
   kept = h.kept;
   followed = λ p lt none. elim (cases_eq p k) [
-    | inl e ↦ absurd (some (h.ahead k (omega arith) ∙ ap (number_at old) (sym e) ∙ none))
+    | inl e ↦ absurd (some (h.ahead k (omega arith) ∙ ap (node_number_at old) (sym e) ∙ none))
     | inr ne ↦ h.followed p (omega arith) none
   ];
   ahead = λ p le. h.ahead p (omega arith);
@@ -82,17 +82,17 @@ followed_same links old new k some h = record {
 
 -- one that has none gets that of its link
 pub followed_set : (links old new : List ℕ) (k m : ℕ) → LeadBack links old → length old ≡ length links → length links ≤ 2 ^ 24 → k < length links
-    → number_at new k ≡ no_node → m ≡ number_at new (link_of 0 links k) → IsFollowedTo links old new k → IsFollowedTo links old (set new k m) (k + 1)
+    → node_number_at new k ≡ no_node → m ≡ node_number_at new (link_of 0 links k) → IsFollowedTo links old new k → IsFollowedTo links old (set new k m) (k + 1)
 followed_set links old new k m back count few below none is h = record {
   one_each = length-set new k m ∙ h.one_each;
   kept = λ p some. elim (cases_eq p k) [
-    | inl e ↦ absurd (some (ap (number_at old) e ∙ none_old))
+    | inl e ↦ absurd (some (ap (node_number_at old) e ∙ none_old))
     | inr ne ↦ get_or-set_other new k p m no_node ne ∙ h.kept p some
   ];
   followed = λ p lt bare. elim (cases_eq p k) [
     | inl e ↦
-        ap (number_at (set new k m)) e ∙ get_or-set_same new k m no_node (omega (arith, h.one_each)) ∙ is
-        ∙ sym (get_or-set_other new k (link_of 0 links k) m no_node (away k (omega arith) none_old)) ∙ ap (λ q. number_at (set new k m) (link_of 0 links q)) (sym e)
+        ap (node_number_at (set new k m)) e ∙ get_or-set_same new k m no_node (omega (arith, h.one_each)) ∙ is
+        ∙ sym (get_or-set_other new k (link_of 0 links k) m no_node (away k (omega arith) none_old)) ∙ ap (λ q. node_number_at (set new k m) (link_of 0 links q)) (sym e)
     | inr ne ↦
         get_or-set_other new k p m no_node ne ∙ h.followed p (omega arith) bare
         ∙ sym (get_or-set_other new k (link_of 0 links p) m no_node (away p (omega arith) bare))
@@ -100,10 +100,10 @@ followed_set links old new k m back count few below none is h = record {
   ahead = λ p le. get_or-set_other new k p m no_node (λ (e : p ≡ k). let f : p ≡ k = e in omega arith) ∙ h.ahead p (omega arith);
 }
   where
-    none_old : number_at old k ≡ no_node
+    none_old : node_number_at old k ≡ no_node
     none_old = sym (h.ahead k (omega arith)) ∙ none
 
-    away : (p : ℕ) → p ≤ k → number_at old p ≡ no_node → link_of 0 links p ≢ k
+    away : (p : ℕ) → p ≤ k → node_number_at old p ≡ no_node → link_of 0 links p ≢ k
     away p le bare e = elim (back p (omega arith) bare) [
       | inl f ↦ let g : no_node ≡ k = sym f ∙ e in omega (arith, g)
       | inr lt ↦ omega (arith, lt, e)
@@ -112,7 +112,7 @@ followed_set links old new k m back count few below none is h = record {
 past_link : (links : List ℕ) (p : ℕ) → length links ≤ p → link_of 0 links p ≡ no_node
 past_link links p le = get_or_past links (p - 0) no_node (omega arith)
 
-past_number : (numbers : List ℕ) (p : ℕ) → length numbers ≤ p → number_at numbers p ≡ no_node
+past_number : (numbers : List ℕ) (p : ℕ) → length numbers ≤ p → node_number_at numbers p ≡ no_node
 past_number numbers p le = get_or_past numbers p no_node le
 
 pub followed_all : (links old new : List ℕ) (k : ℕ) → length old ≡ length links → length links ≤ 2 ^ 24 → length links ≤ k → IsFollowedTo links old new k → HasLinkNumbers links old new
@@ -122,7 +122,7 @@ followed_all links old new k count few long h = record {
   followed = λ p bare. elim (leb_tells (length links) p) [
     | inl far ↦
         past_number new p (omega (arith, h.one_each, far.1)) ∙ sym (past_number new no_node (omega (arith, h.one_each)))
-        ∙ ap (number_at new) (sym (past_link links p far.1))
+        ∙ ap (node_number_at new) (sym (past_link links p far.1))
     | inr near ↦ h.followed p (omega (arith, near.1)) bare
   ];
 }
@@ -196,13 +196,13 @@ module _ (r : Raster) (links : List ℕ) (whole : length links ≡ length r.valu
       omega (arith, below, whole, count)
 
   module _ (none numbers : List ℕ) (bare : none ≡ replicate (length links) no_node) (numbered : HasRowNumbers rows none numbers) where
-    bare_at : (p : ℕ) → number_at none p ≡ no_node
-    bare_at p = ap (λ xs. number_at xs p) bare ∙ elim (leb_tells (length links) p) [
+    bare_at : (p : ℕ) → node_number_at none p ≡ no_node
+    bare_at p = ap (λ xs. node_number_at xs p) bare ∙ elim (leb_tells (length links) p) [
       | inl far ↦ get_or_past (replicate (length links) no_node) p no_node (let e = length-replicate {A = ℕ} (length links) no_node in omega (arith, e, far.1))
       | inr near ↦ get_or-replicate (length links) p no_node no_node near.1
     ]
 
-    number_of_place : (n p : ℕ) → slice_get (canonical_pixels r links) n ≡ Some p → number_at numbers p ≡ n
+    number_of_place : (n p : ℕ) → slice_get (canonical_pixels r links) n ≡ Some p → node_number_at numbers p ≡ n
     number_of_place n p got = numbered.of_rows n (loose_row r p) (row_at n p got)
 
     small : (n p : ℕ) → slice_get (canonical_pixels r links) n ≡ Some p → n ≢ no_node
@@ -234,7 +234,7 @@ pub rows_by_pixels : (r : Raster) (links ps numbers : List ℕ) (rows : List Nod
     → IsNumbering r links numbers → AreNumberedBy rows ps numbers
 rows_by_pixels r links ps numbers rows found is numbering = record { rows_at = rows_at; all = all }
   where
-    rows_at : (k : ℕ) → k < length ps → IsRowAt rows (number_at numbers (slice_index ps k)) (slice_index ps k)
+    rows_at : (k : ℕ) → k < length ps → IsRowAt rows (node_number_at numbers (slice_index ps k)) (slice_index ps k)
     rows_at k lt =
         let member : IsAmong (slice_index ps k) (filter (is_canonical r links) (pixels r)) = subst (IsAmong (slice_index ps k)) found (among_at ps k lt) in
         let n = place_of r links (slice_index ps k) (among_from_filter (is_canonical r links) (slice_index ps k) (pixels r) member).1 in
@@ -245,14 +245,14 @@ rows_by_pixels r links ps numbers rows found is numbering = record { rows_at = r
           pixel = ap (λ (xs : List NodeRow). (get_or xs n.0 blank).rep) is ∙ ap (λ (x : NodeRow). x.rep) (get_or-map (loose_row r) (canonical_pixels r links) n.0 0 blank place.0) ∙ place.1;
         })
 
-    all : (n : ℕ) (row : NodeRow) → slice_get rows n ≡ Some row → (k : ℕ) × ((k < length ps) × (number_at numbers (slice_index ps k) ≡ n))
+    all : (n : ℕ) (row : NodeRow) → slice_get rows n ≡ Some row → (k : ℕ) × ((k < length ps) × (node_number_at numbers (slice_index ps k) ≡ n))
     all n row got =
         let image : IsImage (loose_row r) (canonical_pixels r links) n row = get_from_map (loose_row r) (canonical_pixels r links) n row (subst (λ (xs : List NodeRow). slice_get xs n ≡ Some row) is got) in
         let here = get_is (canonical_pixels r links) n image.it image.at in
         let member = canonical-found r links image.it (subst (λ x. IsAmong x (canonical_pixels r links)) here.1 (among_at (canonical_pixels r links) n here.0)) in
         let k = placed image.it ps (subst (IsAmong image.it) (sym found) member) in
         let there = get_is ps k.0 image.it k.1 in
-        (k.0, (there.0, ap (number_at numbers) there.1 ∙ numbering.canonical n image.it image.at))
+        (k.0, (there.0, ap (node_number_at numbers) there.1 ∙ numbering.canonical n image.it image.at))
 
 pub pixels_within : (r : Raster) (links ps : List ℕ) → length links ≡ length r.values → ps ≡ filter (is_canonical r links) (pixels r) → All (λ p. p < length links) ps
 pixels_within r links ps whole found k d lt =

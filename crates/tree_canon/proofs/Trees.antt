@@ -25,7 +25,8 @@ use Rattle.comp_tree.proofs.Joining.{joined_wider}
 use Rattle.comp_tree.proofs.OneTree.{get_is, make_tree}
 use Rattle.comp_tree.proofs.WellFormed.{tree_of-well_formed}
 use Rattle.comp_tree.proofs.Nodes
-use Rattle.tree_canon.specs.Canonical.{StandsForAll, is_canonical, canonical_pixels, number_at, IsNumbering, loose_row, with_parent}
+use Rattle.comp_tree.specs.Forest.{StandsForAll}
+use Rattle.tree_canon.specs.Canonical.{is_canonical, canonical_pixels, node_number_at, IsNumbering, loose_row, with_parent}
 use Rattle.tree_canon.proofs.Finding.{IsPixelLink, pixel_link, canonical-none, canonical-some, link_high}
 use Rattle.tree_canon.proofs.Sorting.{canonical-defined, canonical-is}
 use Rattle.tree_canon.proofs.Numbering.{place_of}
@@ -106,14 +107,14 @@ module _ (r : Raster) (connect : Connect) (links : List ℕ) (plane : IsPlane r)
 
   module _ (numbers : List ℕ) (numbering : IsNumbering r links numbers) where
     abbrev Numbered : ℕ → Type 0
-    Numbered p = Nodes.IsPlace (nodes r connect) (representative r connect p) (number_at numbers p)
+    Numbered p = Nodes.IsPlace (nodes r connect) (representative r connect p) (node_number_at numbers p)
 
     number_canonical : (p : ℕ) → IsTrue (is_canonical r links p) → Numbered p
     number_canonical p h =
         let k = place_of r links p h in
         let place = get_is (canonical_pixels r links) k.0 p k.1 in
         let e : representative r connect p ≡ p = (Nodes.is_representative-parts r connect p (to_representative p h)).1 in
-        subst (λ (xs : List ℕ). Nodes.IsPlace xs (representative r connect p) (number_at numbers p)) canonical_nodes
+        subst (λ (xs : List ℕ). Nodes.IsPlace xs (representative r connect p) (node_number_at numbers p)) canonical_nodes
         (subst (λ (n : ℕ). Nodes.IsPlace (canonical_pixels r links) (representative r connect p) n) (sym (numbering.canonical k.0 p k.1))
         (record { below = place.0; it_is = place.1 ∙ sym e }))
 
@@ -133,14 +134,14 @@ module _ (r : Raster) (connect : Connect) (links : List ℕ) (plane : IsPlane r)
             let high = link_high r links p d (some u) u in
             let lower = before_level (value_at r.values (link_of 0 links p)) (value_at r.values p) (level r p) (link_of 0 links p) p (value-level r p d) high k.earlier in
             let e = link_same p d (record { within = record { low = omega arith; high = omega (arith, k.below) }; value = high }) lower.0 k.link_defined in
-            subst (λ (x : ℕ). Nodes.IsPlace (nodes r connect) x (number_at numbers p)) (sym e)
+            subst (λ (x : ℕ). Nodes.IsPlace (nodes r connect) x (node_number_at numbers p)) (sym e)
             (subst (λ (m : ℕ). Nodes.IsPlace (nodes r connect) (representative r connect (link_of 0 links p)) m) (sym (numbering.others p u))
             (ih (link_of 0 links p) (omega (arith, lower.1)) k.link_defined))
 
-    number_none : number_at numbers no_node ≡ no_node
+    number_none : node_number_at numbers no_node ≡ no_node
     number_none = get_or_past numbers no_node no_node (omega (arith, numbering.one_each, whole, few))
 
-    number_is : (p : ℕ) → p < length r.values → number_at numbers p ≡ node_of r connect p
+    number_is : (p : ℕ) → p < length r.values → node_number_at numbers p ≡ node_of r connect p
     number_is p lt = on (is_defined r p) refl
       where
         undefined : is_defined r p ≡ false → (b : Bool) → is_canonical r links p ≡ b → is_canonical r links p ≡ false
@@ -153,10 +154,10 @@ module _ (r : Raster) (connect : Connect) (links : List ℕ) (plane : IsPlane r)
           | inr some ↦ absurd (true≢false (sym (pixel_link r links p forest (omega (arith, whole)) some).defined ∙ u))
         ]
 
-        on : (b : Bool) → is_defined r p ≡ b → number_at numbers p ≡ node_of r connect p
-        on true d = sym (Nodes.node-unique r connect p (number_at numbers p) d (number_defined (suc p) p (omega arith) d))
+        on : (b : Bool) → is_defined r p ≡ b → node_number_at numbers p ≡ node_of r connect p
+        on true d = sym (Nodes.node-unique r connect p (node_number_at numbers p) d (number_defined (suc p) p (omega arith) d))
         on false u =
-            numbering.others p (undefined u (is_canonical r links p) refl) ∙ ap (number_at numbers) (none u) ∙ number_none ∙ node-undefined r connect p u
+            numbering.others p (undefined u (is_canonical r links p) refl) ∙ ap (node_number_at numbers) (none u) ∙ number_none ∙ node-undefined r connect p u
 
     -- where the link is none there is no candidate for the parent
     no_parent : (p : ℕ) → IsTrue (is_defined r p) → link_of 0 links p ≡ no_node → parent_of r connect p ≡ no_node
@@ -198,9 +199,9 @@ module _ (r : Raster) (connect : Connect) (links : List ℕ) (plane : IsPlane r)
         on n (Nodes.root _) = refl
         on n (Nodes.child q c _) = absurd (no_candidate q c)
 
-    parent_is : (p : ℕ) → IsTrue (is_canonical r links p) → number_at numbers (link_of 0 links p) ≡ parent_of r connect p
+    parent_is : (p : ℕ) → IsTrue (is_canonical r links p) → node_number_at numbers (link_of 0 links p) ≡ parent_of r connect p
     parent_is p h = elim (cases_eq (link_of 0 links p) no_node) [
-      | inl none ↦ ap (number_at numbers) none ∙ number_none ∙ sym (no_parent p d none)
+      | inl none ↦ ap (node_number_at numbers) none ∙ number_none ∙ sym (no_parent p d none)
       | inr some ↦
           let below = below_from_defined r p d in
           let k : IsPixelLink r links p = pixel_link r links p forest (omega (arith, whole, below)) some in

@@ -1,15 +1,10 @@
--- What canonical numbering reads off the links of a forest, which has one link for each pixel of a plane r.
+-- Bookkeeping: what canonical numbering reads off the links of a forest, which has one link for each pixel of a plane r.
 use Rattle.std.specs.Prelude.{◌≡◌, ℕ, Bool, ◌&&◌, ◌||◌, ◌==◌, not, IsFalse, List, length, filter, slice_index_or, slice_get, Some}
 use Rattle.comp_tree.specs.declared.shape.Connect.{Connect}
 use Rattle.comp_tree.specs.declared.tree.NodeRow.{NodeRow}
 use Rattle.comp_tree.specs.Raster.{Raster, pixels, is_defined, is_at_least, level}
 use Rattle.comp_tree.specs.Components.{in_order, no_node}
-use Rattle.comp_tree.specs.Forest.{link_of, StandsFor}
-use Rattle.comp_tree.specs.Grid.{IsAdjacency}
-
--- the links stand for all adjacencies of the plane
-abbrev pub StandsForAll : Raster → Connect → List ℕ → Type 0
-StandsForAll r connect links = StandsFor r.values 0 links (IsAdjacency r.values r.shape.width connect)
+use Rattle.comp_tree.specs.Forest.{link_of}
 
 -- p is canonical: it is defined, and its link is none or has a smaller value
 unfoldable pub is_canonical : Raster → List ℕ → ℕ → Bool
@@ -21,14 +16,14 @@ unfoldable pub canonical_pixels : Raster → List ℕ → List ℕ
 canonical_pixels r links = in_order r (filter (is_canonical r links) (pixels r))
 
 -- the number that a list has for pixel p, and none for no pixel
-abbrev pub number_at : List ℕ → ℕ → ℕ
-number_at numbers p = slice_index_or numbers p no_node
+abbrev pub node_number_at : List ℕ → ℕ → ℕ
+node_number_at numbers p = slice_index_or numbers p no_node
 
 -- a canonical pixel has the number of its node, and any other pixel the number of its link
 pub record IsNumbering (r : Raster) (links numbers : List ℕ) : Type 0 where
   pub one_each : length numbers ≡ length links
-  pub canonical : (n p : ℕ) → slice_get (canonical_pixels r links) n ≡ Some p → number_at numbers p ≡ n
-  pub others : (p : ℕ) → IsFalse (is_canonical r links p) → number_at numbers p ≡ number_at numbers (link_of 0 links p)
+  pub canonical : (n p : ℕ) → slice_get (canonical_pixels r links) n ≡ Some p → node_number_at numbers p ≡ n
+  pub others : (p : ℕ) → IsFalse (is_canonical r links p) → node_number_at numbers p ≡ node_number_at numbers (link_of 0 links p)
 
 -- the row of a canonical pixel, before the nodes have numbers
 abbrev pub loose_row : Raster → ℕ → NodeRow
@@ -36,4 +31,4 @@ loose_row r p = record { level = level r p; rep = p; parent = no_node }
 
 -- a row with its parent: the node that has the number of the link
 abbrev pub with_parent : List ℕ → List ℕ → NodeRow → NodeRow
-with_parent links numbers row = record { level = row.level; rep = row.rep; parent = number_at numbers (link_of 0 links row.rep) }
+with_parent links numbers row = record { level = row.level; rep = row.rep; parent = node_number_at numbers (link_of 0 links row.rep) }

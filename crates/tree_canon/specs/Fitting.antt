@@ -1,4 +1,4 @@
--- Links that fit the component tree of a plane pixel by pixel. Forests that are given by hand are tried by it.
+-- Bookkeeping: links that fit the component tree of a plane pixel by pixel. Forests that are given by hand are tried by it.
 use Rattle.std.specs.Prelude.{◌≡◌, ℕ, ◌<◌, IsTrue, IsFalse, List}
 use Rattle.comp_tree.specs.declared.shape.Connect.{Connect}
 use Rattle.comp_tree.specs.Raster.{Raster, is_defined}

@@ -16,7 +16,7 @@ ghost use Rattle.comp_tree.specs.declared.shape.Connect.{Connect};
 ghost use Rattle.comp_tree.specs.declared.shape.Connect.TheVariants.{Four, Eight};
 ghost use Rattle.comp_tree.specs.Components.{tree_of};
 ghost use Rattle.comp_tree.specs.Forest.{IsForest};
-ghost use Rattle.tree_canon.specs.Canonical.{StandsForAll};
+ghost use Rattle.comp_tree.specs.Forest.{StandsForAll};
 
 use comp_tree::{Forest, Plane, Tree};
 use dev_io::OutOfMemory;

@@ -2,7 +2,7 @@
 
 ghost use Rattle.std.specs.Prelude.{◌≡◌, ◌<◌, ◌≤◌, ◌^◌, length, map, All, IfOk};
 ghost use Rattle.comp_tree.specs.Forest.{IsForest};
-ghost use Rattle.tree_canon.specs.Canonical.{canonical_pixels, loose_row, number_at as number_in, IsNumbering};
+ghost use Rattle.tree_canon.specs.Canonical.{canonical_pixels, loose_row, node_number_at as number_in, IsNumbering};
 ghost use Rattle.tree_canon.specs.Numbers.{HaveOwnPixels, HasRowNumbers, LeadBack, HasLinkNumbers};
 
 use comp_tree::{NONE, NodeRow, Plane};
@@ -30,7 +30,7 @@ pub(crate) fn number_pixels(
 
 /// The number that a list has for a pixel. `NONE` lies outside every list, so its number is `NONE`.
 #[inline]
-pub(crate) fn number_at(numbers: &[u32], p: u32) -> u32
+pub(crate) fn node_number_at(numbers: &[u32], p: u32) -> u32
     ensures { result ≡ number_in numbers.now p }
 {
     numbers.get(p as usize).copied().unwrap_or(NONE)
@@ -57,7 +57,7 @@ pub(crate) fn number_others(links: &[u32], numbers: &mut [u32])
 {
     for p in 0..links.len() {
         if numbers[p] == NONE {
-            let number = number_at(numbers, links[p]);
+            let number = node_number_at(numbers, links[p]);
             numbers[p] = number;
         }
     }

@@ -8,7 +8,7 @@ ghost use Rattle.comp_tree.specs.Forest.{IsForest};
 ghost use Rattle.tree_canon.specs.Canonical.{is_canonical as is_canonical_in, loose_row, with_parent};
 ghost use Rattle.tree_canon.specs.Places.{ArePixelsFrom, AreNumberedBy};
 
-use crate::numbers::number_at;
+use crate::numbers::node_number_at;
 use comp_tree::{NONE, NodeRow, Plane};
 use dev_io::OutOfMemory;
 use std::alloc::Global;
@@ -95,7 +95,7 @@ pub(crate) fn set_parents(links: &[u32], numbers: &[u32], pixels: &[u32], rows: 
     ensures { rows.new ≡ map (with_parent links.now numbers.now) rows.old }
 {
     for p in pixels {
-        let parent = number_at(numbers, links[*p as usize]);
+        let parent = node_number_at(numbers, links[*p as usize]);
         rows[numbers[*p as usize] as usize].parent = parent;
     }
 }

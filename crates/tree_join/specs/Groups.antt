@@ -1,5 +1,5 @@
--- Neighbouring groups of rows.
-use Rattle.std.specs.Prelude.{ℕ, ◌+◌, ◌≤◌, ◌++◌, List, length, Option, ℤ}
+-- Model: neighbouring groups of rows.
+use Rattle.std.specs.Prelude.{ℕ, ◌+◌, ◌^◌, ◌≤◌, ◌++◌, List, length, Option, ℤ}
 use Rattle.comp_tree.specs.Grid.{IsWithin}
 use Rattle.comp_tree.specs.Joined.{Or, Has}
 use Rattle.comp_tree.specs.Forest.{IsForest, StandsFor}
@@ -9,11 +9,11 @@ pub record IsInside (first count : ℕ) (E : ℕ → ℕ → Type 0) : Type 0 wh
   pub one : (p q : ℕ) → E p q → IsWithin first count p
   pub other : (p q : ℕ) → E p q → IsWithin first count q
 
--- Where two neighbouring groups have links that stay in their group and stand for E and for F, the links of both, one
--- after the other, stand for E and F together.
+-- The links of one group stand for E and those of the group behind it for F, and none leads out of its group. Then the list
+-- that has the second group's links behind the first's stands for the pairs of both.
 abbrev pub GroupsStand : Type 0
 GroupsStand = (values : List (Option ℤ)) (first : ℕ) (links more : List ℕ) (E F : List (ℕ × ℕ))
-    → first + (length links + length more) ≤ 16777216
+    → first + (length links + length more) ≤ 2 ^ 24
     → IsForest values first links → IsForest values (first + length links) more
     → IsInside first (length links) (Has E) → IsInside (first + length links) (length more) (Has F)
     → StandsFor values first links (Has E) → StandsFor values (first + length links) more (Has F)

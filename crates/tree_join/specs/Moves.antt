@@ -1,4 +1,4 @@
--- The moves of the walk that joins two pixels, and the pairs that a row of pixels is joined by.
+-- Bookkeeping: the moves of the walk that joins two pixels, and the pairs that a row of pixels is joined by.
 use Rattle.std.specs.Prelude.{◌≡◌, ℕ, max, cond, is_some, ◌-◌, ◌<◌, ◌≤◌, List, length, Option, ℤ}
 use Rattle.comp_tree.specs.Joined.{Or, Only}
 use Rattle.comp_tree.specs.Forest.{value_at, IsDefined, IsPixel, IsLink, JoinSame}

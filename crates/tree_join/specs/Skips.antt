@@ -1,4 +1,4 @@
--- Skips over ways that were joined before, and the table that holds them.
+-- Bookkeeping: skips over ways that were joined before, and the table that holds them.
 use Rattle.std.specs.Prelude.{◌≡◌, ℕ, ◌<◌, ◌⊎◌, List, length, Option, ℤ, slice_index, set}
 use Rattle.comp_tree.specs.Joined.{Joined}
 use Rattle.comp_tree.specs.Forest.{no_node, IsPixel, IsHigh}

@@ -3,7 +3,7 @@ use Rattle.comp_tree.specs.declared.shape.Shape.{Shape}
 use Rattle.comp_tree.specs.declared.shape.Connect.TheVariants.{Four, Eight}
 use Rattle.comp_tree.specs.Raster.{IsPlane}
 use Rattle.comp_tree.specs.Forest.{IsForest}
-use Rattle.tree_canon.specs.Canonical.{StandsForAll}
+use Rattle.comp_tree.specs.Forest.{StandsForAll}
 use Rattle.tree_canon.proofs.Fitting.{fit_forest, fit_stands, one_of_two}
 use Rattle.tree_canon.proofs.tests.tree_from.Goals as goal
 

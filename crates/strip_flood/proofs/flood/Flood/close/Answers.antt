@@ -1,6 +1,6 @@
 use Rattle.std.proofs.Common.{◌≡◌, ◌+◌, ◌-◌, ◌<◌, ◌≤◌, set, slice_index, length, subst, arith}
 use Rattle.comp_tree.specs.Forest.{no_node}
-use Rattle.strip_flood.specs.Flood.{state, IsQueued, IsTurning}
+use Rattle.strip_flood.specs.Flood.{state, IsInQueue, IsTurning}
 use Rattle.strip_flood.specs.Strips.{ground_of, state_of}
 use Rattle.strip_flood.proofs.Flow.{item_read}
 use Rattle.strip_flood.proofs.Retiring.{close_end, close_hang, front_queued}
@@ -15,7 +15,7 @@ returns-in_default-clause-between c = record {
 
 pub overflow_add-pixel : goal.overflow_add-pixel
 overflow_add-pixel c =
-    let q : IsQueued (ground_of c.args.strip.now) c.args.self.now.cursors.items (c.args.strip.now.first + c.in-Some-front.item) = front_queued (ground_of c.args.strip.now) (state_of c.args.self.now) c.requires.fair c.in-Some.next c.in-Some-front.item c.in-Some-front.ensures in
+    let q : IsInQueue (ground_of c.args.strip.now) c.args.self.now.cursors.items (c.args.strip.now.first + c.in-Some-front.item) = front_queued (ground_of c.args.strip.now) (state_of c.args.self.now) c.requires.fair c.in-Some.next c.in-Some-front.item c.in-Some-front.ensures in
     let l : c.args.strip.now.first + c.in-Some-front.item < c.args.strip.now.first + length c.args.strip.now.ranks.items = q.inside.high in
     let few : c.args.strip.now.first + length c.args.strip.now.ranks.items ≤ 16777216 = c.requires.strip.few in omega arith
 

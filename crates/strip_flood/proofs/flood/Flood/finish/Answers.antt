@@ -1,5 +1,5 @@
 use Rattle.std.proofs.Common.{◌+◌, ◌<◌, ◌≤◌, length, arith, ◌∙◌}
-use Rattle.strip_flood.specs.Flood.{IsQueued}
+use Rattle.strip_flood.specs.Flood.{IsInQueue}
 use Rattle.strip_flood.specs.Strips.{ground_of, state_of}
 use Rattle.strip_flood.proofs.Retiring.{still_turning, front_queued}
 use Rattle.strip_flood.proofs.Looking.{front_current}
@@ -7,7 +7,7 @@ use Rattle.strip_flood.proofs.flood.Flood.finish.Goals as goal
 
 pub overflow_add-result : goal.overflow_add-result
 overflow_add-result c =
-    let q : IsQueued (ground_of c.args.strip.now) c.retire.new.self.cursors.items (c.args.strip.now.first + c.in-Some.item) = front_queued (ground_of c.args.strip.now) (state_of c.retire.new.self) c.retire.ensures.fair c.args.at.rank c.in-Some.item c.in-Some.ensures in
+    let q : IsInQueue (ground_of c.args.strip.now) c.retire.new.self.cursors.items (c.args.strip.now.first + c.in-Some.item) = front_queued (ground_of c.args.strip.now) (state_of c.retire.new.self) c.retire.ensures.fair c.args.at.rank c.in-Some.item c.in-Some.ensures in
     let l : c.args.strip.now.first + c.in-Some.item < c.args.strip.now.first + length c.args.strip.now.ranks.items = q.inside.high in
     let few : c.args.strip.now.first + length c.args.strip.now.ranks.items ≤ 16777216 = c.requires.strip.few in omega arith
 

@@ -1,5 +1,5 @@
 use Rattle.std.proofs.Common.{◌≡◌, ◌+◌, ◌*◌, length, false, true, sym, subst, ap, ◌∙◌, arith}
-use Rattle.strip_flood.specs.Jobs.{IsFit, IsJob}
+use Rattle.strip_flood.specs.Jobs.{SuitsStrip, HasJobFields}
 use Rattle.strip_flood.specs.Flood.{inner_count}
 use Rattle.strip_flood.specs.Strips.{values_of}
 use Rattle.strip_flood.proofs.Working.{fresh_between, fresh_unseen, fresh_unlooked, job_flooded, fit_after, fit_defined, fit_inner, fit_standing}
@@ -16,19 +16,19 @@ run-requires-clause-unlooked g c = fresh_unlooked c.self.inside.strip c.self.inv
 
 pub invariant_of-self : goal.invariant_of-self
 invariant_of-self g c = job_flooded c.self.inside.shape.width c.self.inside.shape.height c.self.inside.first_row c.self.inside.end_row c.self.inside.strip c.self.inside.flood c.run.new.self
-    (subst (λ b. IsJob c.self.inside.shape.width c.self.inside.shape.height c.self.inside.first_row c.self.inside.end_row c.self.inside.strip c.self.inside.flood b) (subst (λ v. v.flooded ≡ false) (sym c.self.view_is) c.requires.unflooded) c.self.invariant) c.run.ensures.links c.run.ensures.forest c.run.ensures.stands
+    (subst (λ b. HasJobFields c.self.inside.shape.width c.self.inside.shape.height c.self.inside.first_row c.self.inside.end_row c.self.inside.strip c.self.inside.flood b) (subst (λ v. v.flooded ≡ false) (sym c.self.view_is) c.requires.unflooded) c.self.invariant) c.run.ensures.links c.run.ensures.forest c.run.ensures.stands
 
 pub returns-clause-standing : goal.returns-clause-standing
-returns-clause-standing g c = fit_standing c.self.inside.shape.width c.self.inside.shape.height c.self.inside.first_row c.self.inside.end_row c.self.inside.strip c.self.invariant.sides c.self.invariant.start c.run.new.self c.run.ensures.links true c.run.ensures.forest c.run.ensures.stands c.args.plane.now (fit_after c.self.inside.shape.width c.self.inside.shape.height c.self.inside.first_row c.self.inside.end_row c.self.inside.strip c.self.inside.flood c.run.new.self c.self.inside.flooded true c.args.plane.now (subst (λ v. IsFit v c.args.plane.now) (sym c.self.view_is) c.requires.fit))
+returns-clause-standing g c = fit_standing c.self.inside.shape.width c.self.inside.shape.height c.self.inside.first_row c.self.inside.end_row c.self.inside.strip c.self.invariant.sides c.self.invariant.start c.run.new.self c.run.ensures.links true c.run.ensures.forest c.run.ensures.stands c.args.plane.now (fit_after c.self.inside.shape.width c.self.inside.shape.height c.self.inside.first_row c.self.inside.end_row c.self.inside.strip c.self.inside.flood c.run.new.self c.self.inside.flooded true c.args.plane.now (subst (λ v. SuitsStrip v c.args.plane.now) (sym c.self.view_is) c.requires.fit))
 
 pub returns-clause-queued : goal.returns-clause-queued
-returns-clause-queued g c = c.run.ensures.queued ∙ ap (λ n. c.args.queued.now + n) (fit_defined c.self.inside.shape.width c.self.inside.shape.height c.self.inside.first_row c.self.inside.end_row c.self.inside.strip c.self.invariant.sides c.self.invariant.start c.run.new.self c.run.ensures.links true c.args.plane.now (fit_after c.self.inside.shape.width c.self.inside.shape.height c.self.inside.first_row c.self.inside.end_row c.self.inside.strip c.self.inside.flood c.run.new.self c.self.inside.flooded true c.args.plane.now (subst (λ v. IsFit v c.args.plane.now) (sym c.self.view_is) c.requires.fit)))
+returns-clause-queued g c = c.run.ensures.queued ∙ ap (λ n. c.args.queued.now + n) (fit_defined c.self.inside.shape.width c.self.inside.shape.height c.self.inside.first_row c.self.inside.end_row c.self.inside.strip c.self.invariant.sides c.self.invariant.start c.run.new.self c.run.ensures.links true c.args.plane.now (fit_after c.self.inside.shape.width c.self.inside.shape.height c.self.inside.first_row c.self.inside.end_row c.self.inside.strip c.self.inside.flood c.run.new.self c.self.inside.flooded true c.args.plane.now (subst (λ v. SuitsStrip v c.args.plane.now) (sym c.self.view_is) c.requires.fit)))
 
 pub returns-clause-each_look : goal.returns-clause-each_look
-returns-clause-each_look g c = c.run.ensures.looked ∙ ap (λ n. c.args.looked.now + n) (fit_inner c.self.inside.shape.width c.self.inside.shape.height c.self.inside.first_row c.self.inside.end_row c.self.inside.strip c.self.invariant.sides c.self.invariant.start c.run.new.self c.run.ensures.links true c.args.plane.now (fit_after c.self.inside.shape.width c.self.inside.shape.height c.self.inside.first_row c.self.inside.end_row c.self.inside.strip c.self.inside.flood c.run.new.self c.self.inside.flooded true c.args.plane.now (subst (λ v. IsFit v c.args.plane.now) (sym c.self.view_is) c.requires.fit)))
+returns-clause-each_look g c = c.run.ensures.looked ∙ ap (λ n. c.args.looked.now + n) (fit_inner c.self.inside.shape.width c.self.inside.shape.height c.self.inside.first_row c.self.inside.end_row c.self.inside.strip c.self.invariant.sides c.self.invariant.start c.run.new.self c.run.ensures.links true c.args.plane.now (fit_after c.self.inside.shape.width c.self.inside.shape.height c.self.inside.first_row c.self.inside.end_row c.self.inside.strip c.self.inside.flood c.run.new.self c.self.inside.flooded true c.args.plane.now (subst (λ v. SuitsStrip v c.args.plane.now) (sym c.self.view_is) c.requires.fit)))
 
 pub returns-clause-looked : goal.returns-clause-looked
 returns-clause-looked g c =
     let few : inner_count (values_of c.self.inside.strip) c.self.inside.strip.width c.self.inside.strip.connect c.self.inside.strip.first (length c.self.inside.strip.ranks.items) ≡ inner_count c.args.plane.now.values c.self.inside.shape.width c.self.inside.strip.connect (c.self.inside.first_row * c.self.inside.shape.width) (length c.run.new.self.links.items)
-    = fit_inner c.self.inside.shape.width c.self.inside.shape.height c.self.inside.first_row c.self.inside.end_row c.self.inside.strip c.self.invariant.sides c.self.invariant.start c.run.new.self c.run.ensures.links true c.args.plane.now (fit_after c.self.inside.shape.width c.self.inside.shape.height c.self.inside.first_row c.self.inside.end_row c.self.inside.strip c.self.inside.flood c.run.new.self c.self.inside.flooded true c.args.plane.now (subst (λ v. IsFit v c.args.plane.now) (sym c.self.view_is) c.requires.fit)) in
+    = fit_inner c.self.inside.shape.width c.self.inside.shape.height c.self.inside.first_row c.self.inside.end_row c.self.inside.strip c.self.invariant.sides c.self.invariant.start c.run.new.self c.run.ensures.links true c.args.plane.now (fit_after c.self.inside.shape.width c.self.inside.shape.height c.self.inside.first_row c.self.inside.end_row c.self.inside.strip c.self.inside.flood c.run.new.self c.self.inside.flooded true c.args.plane.now (subst (λ v. SuitsStrip v c.args.plane.now) (sym c.self.view_is) c.requires.fit)) in
     omega (arith, c.run.ensures.looked)
