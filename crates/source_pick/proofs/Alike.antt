@@ -17,7 +17,7 @@ use Rattle.comp_tree.proofs.Levels.{int_le_refl}
 use Rattle.comp_tree.proofs.Ordering.{ordered-same_place}
 use Rattle.comp_tree.proofs.Components.{top-representative}
 use Rattle.comp_tree.proofs.Nodes
-use Rattle.node_sums.specs.Sums.{pixels_of}
+use Rattle.comp_tree.specs.Nesting.{pixels_of}
 use Rattle.source_pick.specs.Locality.{IsNearHigh, AgreeNearHigh}
 use Rattle.source_pick.proofs.Splits.{same_bool}
 

@@ -17,7 +17,8 @@ use Rattle.node_sums.specs.Sums.{sums_of}
 use Rattle.node_sums.specs.Flux.{flux_of}
 use Rattle.node_sums.proofs.Fluxes.{level-of_node}
 use Rattle.source_pick.specs.declared.choice.Choice.{Choice}
-use Rattle.source_pick.specs.Sources.{level_of_node, is_large, is_lowest, is_entry, entry_of, has_contrast, is_strong, is_split, has_strong_sibling, contains_split, is_source}
+use Rattle.source_pick.specs.Sources.{is_large, is_lowest, is_entry, entry_of, has_contrast, is_strong, is_split, has_strong_sibling, contains_split, is_source}
+use Rattle.comp_tree.specs.Nesting.{level_of_node}
 use Rattle.source_pick.specs.Passes.{IsOnWay}
 use Rattle.source_pick.proofs.Within.{within_from_way, way_from_within, level_on_way}
 use Rattle.source_pick.proofs.Entries.{entry_parts, IsEntryOf, entry_of-parts, entry_of-found}

@@ -9,11 +9,11 @@ use Rattle.comp_tree.specs.Laws.{top_of}
 use Rattle.comp_tree.proofs.Members.{IsAmong, among_from_filter}
 use Rattle.comp_tree.proofs.Ancestors.{below_no_node}
 use Rattle.node_sums.specs.declared.entry.Sums.{Sums}
-use Rattle.node_sums.specs.Sums.{x_of, y_of, pixels_of, total, least, greatest, highest, sums_over, sums_of}
-use Rattle.node_sums.specs.Flux.{level_in, base_of, flux_of}
+use Rattle.node_sums.specs.Sums.{x_of, y_of, total, least, greatest, highest, sums_over, sums_of}
+use Rattle.comp_tree.specs.Nesting.{pixels_of, level_in, level_of_node}
+use Rattle.node_sums.specs.Flux.{base_of, flux_of}
 use Rattle.node_sums.proofs.Fluxes.{level-of_node, base-root, base-child}
-use Rattle.source_pick.specs.Sources.{level_of_node}
-use Rattle.source_pick.specs.Catalogue.{row_of, catalogue_row}
+use Rattle.source_pick.specs.Catalogue.{measured_row, catalogue_row}
 use Rattle.source_pick.proofs.Alike.{Alike, alike_sym, level_same, high_from_reached, IsCounterpart, counterpart_sym, top_level_low, top_level_same, pixels_same}
 use Rattle.source_pick.proofs.Bordering.{ParentsAgree, roots, children, parents_agree}
 
@@ -118,8 +118,8 @@ pub row_same : (r s : Raster) (connect : Connect) (h : ℤ) (number n m : ℕ) �
     → catalogue_row r connect number n ≡ catalogue_row s connect number m
 unfolding catalogue_row
 row_same r s connect h number n m plane_r plane_s a c =
-    ap (λ (z : ℤ). row_of number z (base_of (tree_of r connect) n) (flux_of r connect n) r.shape.width (sums_of r connect n)) (node_level_same r s connect h n m a c)
-    ∙ ap (λ (z : ℤ). row_of number (level_of_node s connect m) z (flux_of r connect n) r.shape.width (sums_of r connect n)) (base_same r s connect h n m plane_r plane_s a c)
-    ∙ ap (λ (z : ℤ). row_of number (level_of_node s connect m) (base_of (tree_of s connect) m) z r.shape.width (sums_of r connect n)) (flux_same r s connect h n m plane_r plane_s a c)
-    ∙ ap (λ (w : ℕ). row_of number (level_of_node s connect m) (base_of (tree_of s connect) m) (flux_of s connect m) w (sums_of r connect n)) a.width
-    ∙ ap (row_of number (level_of_node s connect m) (base_of (tree_of s connect) m) (flux_of s connect m) s.shape.width) (sums_same r s connect h n m a c)
+    ap (λ (z : ℤ). measured_row number z (base_of (tree_of r connect) n) (flux_of r connect n) r.shape.width (sums_of r connect n)) (node_level_same r s connect h n m a c)
+    ∙ ap (λ (z : ℤ). measured_row number (level_of_node s connect m) z (flux_of r connect n) r.shape.width (sums_of r connect n)) (base_same r s connect h n m plane_r plane_s a c)
+    ∙ ap (λ (z : ℤ). measured_row number (level_of_node s connect m) (base_of (tree_of s connect) m) z r.shape.width (sums_of r connect n)) (flux_same r s connect h n m plane_r plane_s a c)
+    ∙ ap (λ (w : ℕ). measured_row number (level_of_node s connect m) (base_of (tree_of s connect) m) (flux_of s connect m) w (sums_of r connect n)) a.width
+    ∙ ap (measured_row number (level_of_node s connect m) (base_of (tree_of s connect) m) (flux_of s connect m) s.shape.width) (sums_same r s connect h n m a c)

@@ -10,55 +10,55 @@ use Rattle.comp_tree.specs.Laws.{IsAncestor, parent, above}
 use Rattle.node_sums.proofs.Reading.{get-written, row-parent}
 use Rattle.source_pick.specs.declared.splitting.StrongChildren.{StrongChildren}
 use Rattle.source_pick.specs.declared.splitting.StrongChildren.TheVariants.{Zero, One, Several}
-use Rattle.source_pick.specs.Passes.{IsInner, Has, AreCounted, one_more, IsOnWay, IsAboveSplit, ArePassed, AreAboveSplits}
+use Rattle.source_pick.specs.Passes.{IsStrongChild, HasStrongChildren, AreStrongChildCounts, with_one_more, IsOnWay, IsAboveSplit, ArePassed, AreAboveSplits}
 use Rattle.source_pick.proofs.Within.{way_trans}
 
 -- ---- counting
 
-stays : (rows : List NodeRow) (entries : List ℕ) (strong : List Bool) (k m : ℕ) (c : StrongChildren) → (IsInner rows entries strong m k → ⊥)
-    → Has rows entries strong k m c → Has rows entries strong (k + 1) m c
+stays : (rows : List NodeRow) (entries : List ℕ) (strong : List Bool) (k m : ℕ) (c : StrongChildren) → (IsStrongChild rows entries strong m k → ⊥)
+    → HasStrongChildren rows entries strong k m c → HasStrongChildren rows entries strong (k + 1) m c
 stays rows entries strong k m Zero out h = record { none = λ n l i. go n (cases_lt n k) l i }
   where
-    go : (n : ℕ) → (n < k) ⊎ (k ≤ n) → n < k + 1 → IsInner rows entries strong m n → ⊥
+    go : (n : ℕ) → (n < k) ⊎ (k ≤ n) → n < k + 1 → IsStrongChild rows entries strong m n → ⊥
     go n (inl x) l i = h.none n x i
-    go n (inr x) l i = let e : n ≡ k = omega arith in out (subst (λ (j : ℕ). IsInner rows entries strong m j) e i)
+    go n (inr x) l i = let e : n ≡ k = omega arith in out (subst (λ (j : ℕ). IsStrongChild rows entries strong m j) e i)
 stays rows entries strong k m One out h = record { first = h.first; below = omega (arith, h.below); one = h.one; only = λ n l i. go n (cases_lt n k) l i }
   where
-    go : (n : ℕ) → (n < k) ⊎ (k ≤ n) → n < k + 1 → IsInner rows entries strong m n → n ≡ h.first
+    go : (n : ℕ) → (n < k) ⊎ (k ≤ n) → n < k + 1 → IsStrongChild rows entries strong m n → n ≡ h.first
     go n (inl x) l i = h.only n x i
-    go n (inr x) l i = let e : n ≡ k = omega arith in absurd (out (subst (λ (j : ℕ). IsInner rows entries strong m j) e i))
+    go n (inr x) l i = let e : n ≡ k = omega arith in absurd (out (subst (λ (j : ℕ). IsStrongChild rows entries strong m j) e i))
 stays rows entries strong k m Several out h = record { first = h.first; second = h.second; apart = h.apart; below = omega (arith, h.below); one = h.one; other = h.other }
 
-more : (rows : List NodeRow) (entries : List ℕ) (strong : List Bool) (k m : ℕ) (c : StrongChildren) → IsInner rows entries strong m k
-    → Has rows entries strong k m c → Has rows entries strong (k + 1) m (one_more c)
+more : (rows : List NodeRow) (entries : List ℕ) (strong : List Bool) (k m : ℕ) (c : StrongChildren) → IsStrongChild rows entries strong m k
+    → HasStrongChildren rows entries strong k m c → HasStrongChildren rows entries strong (k + 1) m (with_one_more c)
 more rows entries strong k m Zero i h = record { first = k; below = omega arith; one = i; only = λ n l j. go n (cases_lt n k) l j }
   where
-    go : (n : ℕ) → (n < k) ⊎ (k ≤ n) → n < k + 1 → IsInner rows entries strong m n → n ≡ k
+    go : (n : ℕ) → (n < k) ⊎ (k ≤ n) → n < k + 1 → IsStrongChild rows entries strong m n → n ≡ k
     go n (inl x) l j = absurd (h.none n x j)
     go n (inr x) l j = omega arith
 more rows entries strong k m One i h = record { first = h.first; second = k; apart = h.below; below = omega arith; one = h.one; other = i }
 more rows entries strong k m Several i h = record { first = h.first; second = h.second; apart = h.apart; below = omega (arith, h.below); one = h.one; other = h.other }
 
-pub counted_without : (rows : List NodeRow) (entries : List ℕ) (strong : List Bool) (k : ℕ) (children : List StrongChildren) → AreCounted rows entries strong k children
-    → ((m : ℕ) → m < length rows → IsInner rows entries strong m k → ⊥) → AreCounted rows entries strong (k + 1) children
+pub counted_without : (rows : List NodeRow) (entries : List ℕ) (strong : List Bool) (k : ℕ) (children : List StrongChildren) → AreStrongChildCounts rows entries strong k children
+    → ((m : ℕ) → m < length rows → IsStrongChild rows entries strong m k → ⊥) → AreStrongChildCounts rows entries strong (k + 1) children
 counted_without rows entries strong k children h out = record {
   one_each = h.one_each;
   each = λ m c g. stays rows entries strong k m c (out m (let a : m < length children = slice_get_within children m c g in let b : length children ≡ length rows = h.one_each in omega arith)) (h.each m c g);
 }
 
-pub counted_with : (rows : List NodeRow) (entries : List ℕ) (strong : List Bool) (k m : ℕ) (c v : StrongChildren) (children : List StrongChildren) → AreCounted rows entries strong k children
-    → slice_get children m ≡ Some c → IsInner rows entries strong m k → v ≡ one_more c → AreCounted rows entries strong (k + 1) (set children m v)
+pub counted_with : (rows : List NodeRow) (entries : List ℕ) (strong : List Bool) (k m : ℕ) (c v : StrongChildren) (children : List StrongChildren) → AreStrongChildCounts rows entries strong k children
+    → slice_get children m ≡ Some c → IsStrongChild rows entries strong m k → v ≡ with_one_more c → AreStrongChildCounts rows entries strong (k + 1) (set children m v)
 counted_with rows entries strong k m c v children h at inner e = record { one_each = length-set children m v ∙ h.one_each; each = λ j d g. go j d (get-written children m v j d g) }
   where
-    go : (j : ℕ) (d : StrongChildren) → ((j ≡ m) × (v ≡ d)) ⊎ ((j ≡ m → ⊥) × (slice_get children j ≡ Some d)) → Has rows entries strong (k + 1) j d
+    go : (j : ℕ) (d : StrongChildren) → ((j ≡ m) × (v ≡ d)) ⊎ ((j ≡ m → ⊥) × (slice_get children j ≡ Some d)) → HasStrongChildren rows entries strong (k + 1) j d
     go j d (inl x) =
-        subst (λ (y : ℕ). Has rows entries strong (k + 1) y d) (sym x.0)
-        (subst (λ (y : StrongChildren). Has rows entries strong (k + 1) m y) (sym e ∙ x.1) (more rows entries strong k m c inner (h.each m c at)))
+        subst (λ (y : ℕ). HasStrongChildren rows entries strong (k + 1) y d) (sym x.0)
+        (subst (λ (y : StrongChildren). HasStrongChildren rows entries strong (k + 1) m y) (sym e ∙ x.1) (more rows entries strong k m c inner (h.each m c at)))
     go j d (inr x) = stays rows entries strong k j d (λ i. x.0 (sym i.is_child ∙ inner.is_child)) (h.each j d x.1)
 
-pub counted_up_to : (rows : List NodeRow) (entries : List ℕ) (strong : List Bool) (j k : ℕ) (children : List StrongChildren) → AreCounted rows entries strong k children → j ≡ k
-    → AreCounted rows entries strong j children
-counted_up_to rows entries strong j k children h e = subst (λ (n : ℕ). AreCounted rows entries strong n children) (sym e) h
+pub counted_up_to : (rows : List NodeRow) (entries : List ℕ) (strong : List Bool) (j k : ℕ) (children : List StrongChildren) → AreStrongChildCounts rows entries strong k children → j ≡ k
+    → AreStrongChildCounts rows entries strong j children
+counted_up_to rows entries strong j k children h e = subst (λ (n : ℕ). AreStrongChildCounts rows entries strong n children) (sym e) h
 
 -- ---- handing upwards
 

@@ -12,10 +12,12 @@ use Rattle.comp_tree.proofs.Members.{IsAmong, among-range, among_from_range, fin
 use Rattle.comp_tree.proofs.Levels.{int_le-true, int_lt-true}
 use Rattle.comp_tree.proofs.Ancestors.{length-rows, below_no_node}
 use Rattle.source_pick.specs.declared.choice.Choice.{Choice}
-use Rattle.source_pick.specs.Sources.{node_numbers, level_of_node, lies_in, is_large, is_lowest, is_entry, entry_of}
+use Rattle.source_pick.specs.Sources.{is_large, is_lowest, is_entry, entry_of}
+use Rattle.comp_tree.specs.Nesting.{node_numbers, level_of_node, lies_within}
 use Rattle.source_pick.specs.Passes.{IsOnWay}
 use Rattle.source_pick.specs.Laws.{EntriesAreDisjoint}
-use Rattle.source_pick.proofs.Within.{within_from_way, within_from_lies_in, lies_in_from_within, top_inside, way_from_shared, way_from_within, HasParent, way_up, way_of_child, level_on_way}
+use Rattle.source_pick.proofs.Within.{within_from_way, way_from_shared, way_from_within, HasParent, way_up, way_of_child, level_on_way}
+use Rattle.comp_tree.proofs.Nesting.{within_from_test, test_from_within, top_inside}
 
 -- the parts of the definition
 pub record EntryParts (r : Raster) (connect : Connect) (choice : Choice) (n : ℕ) : Type 0 where
@@ -111,14 +113,14 @@ unfolding entry_of
 entry_of-parts r connect choice n e plane hn h = record {
   node = node;
   entry = parts.0;
-  way = way_from_within r connect e n plane node hn (within_from_lies_in r connect n e parts.1);
+  way = way_from_within r connect e n plane node hn (within_from_test r connect n e parts.1);
 }
   where
-    found : IsAmong e (node_numbers r connect) × (is_entry r connect choice e && lies_in r connect n e ≡ true)
-    found = find_some (λ x. is_entry r connect choice x && lies_in r connect n x) (node_numbers r connect) e h
+    found : IsAmong e (node_numbers r connect) × (is_entry r connect choice e && lies_within r connect n e ≡ true)
+    found = find_some (λ x. is_entry r connect choice x && lies_within r connect n x) (node_numbers r connect) e h
 
-    parts : (is_entry r connect choice e ≡ true) × (lies_in r connect n e ≡ true)
-    parts = and_parts (is_entry r connect choice e) (lies_in r connect n e) found.1
+    parts : (is_entry r connect choice e ≡ true) × (lies_within r connect n e ≡ true)
+    parts = and_parts (is_entry r connect choice e) (lies_within r connect n e) found.1
 
     node : e < length (nodes r connect)
     node = let k : (0 ≤ e) × (e < 0 + length (nodes r connect)) = among_from_range 0 (length (nodes r connect)) e found.0 in omega arith
@@ -127,9 +129,9 @@ pub entry_of-none : (r : Raster) (connect : Connect) (choice : Choice) (n e : �
     → entry_of r connect choice n ≡ None → IsEntryOf r connect choice n e → ⊥
 unfolding entry_of
 entry_of-none r connect choice n e plane hn h k =
-    true≢false (sym (and_from (is_entry r connect choice e) (lies_in r connect n e) k.entry
-    (lies_in_from_within r connect n e (within_from_way r connect e n plane k.node hn k.way)))
-    ∙ find_none (λ x. is_entry r connect choice x && lies_in r connect n x) (node_numbers r connect) e h
+    true≢false (sym (and_from (is_entry r connect choice e) (lies_within r connect n e) k.entry
+    (test_from_within r connect n e (within_from_way r connect e n plane k.node hn k.way)))
+    ∙ find_none (λ x. is_entry r connect choice x && lies_within r connect n x) (node_numbers r connect) e h
     (among-range 0 (length (nodes r connect)) e (omega arith) (let l : e < length (nodes r connect) = k.node in omega arith)))
 
 pub entry_of-found : (r : Raster) (connect : Connect) (choice : Choice) (n e : ℕ) → IsPlane r → n < length (nodes r connect)

@@ -14,39 +14,39 @@ use Rattle.comp_tree.specs.Components.{nodes, tree_of}
 use Rattle.comp_tree.specs.Laws.{parent_of_node}
 use Rattle.comp_tree.proofs.Ancestors.{below_no_node}
 use Rattle.node_sums.specs.declared.entry.Sums.{Sums}
-use Rattle.node_sums.specs.Sums.{sums_of, sums_in, AreTheTrees}
+use Rattle.node_sums.specs.Sums.{sums_of, sums_in, AreTheTrees, ForEachPlaneOf}
 use Rattle.node_sums.proofs.Reading.{get-written}
 use Rattle.source_pick.specs.declared.choice.Choice.{Choice}
 use Rattle.source_pick.specs.declared.splitting.StrongChildren.{StrongChildren}
 use Rattle.source_pick.specs.declared.splitting.StrongChildren.TheVariants.{Zero, One, Several}
 use Rattle.source_pick.specs.Sources.{is_entry, entry_of, is_split, has_strong_sibling, contains_split, is_source, sources_at, sources}
 use Rattle.source_pick.specs.Segmentation.{AreDisjointNodes}
-use Rattle.source_pick.specs.Passes.{IsOf, entry_number, AreEntries, AreStrong, IsInner, HasTwo, Has, AreCounted, are_several, IsOnWay, IsAboveSplit, AreAboveSplits, AreSources, IsFirstOf, IsNoFirst, StandAtFirst, ArePicked}
+use Rattle.source_pick.specs.Passes.{entry_number, AreEntries, AreStrong, IsStrongChild, HasTwoStrongChildren, HasStrongChildren, AreStrongChildCounts, are_several, IsOnWay, IsAboveSplit, AreAboveSplits, AreSources, IsFirstOf, IsNoFirst, StandAtFirst, ArePicked}
 use Rattle.source_pick.proofs.Entries.{IsEntryOf, entry_of-parts, entry_of-self, entry_of-found, entry_of_child}
 use Rattle.source_pick.proofs.Splits.{same_bool, AreTwins, other_way, IsSplitNode, split_parts, split_from, split_entry, sibling_parts, sibling_from, ContainsSplit, contains_parts, contains_from}
 use Rattle.source_pick.proofs.Sourcing.{source_from}
 use Rattle.source_pick.proofs.Listing.{sources_at-one, sources_at-none, flat-push, first_below, source_node, sources_apart}
-use Rattle.source_pick.proofs.Readings.{numbers-length, tree-shape, rows-length, node_inside, filled}
+use Rattle.source_pick.proofs.Readings.{HasTreeAndSums, numbers-length, tree-shape, rows-length, node_inside, filled}
 use Rattle.source_pick.proofs.Strong.{entry_from_number}
 
 -- ---- what the arrays say
 
 -- the arrays are those of the nodes
 pub record IsKnown (r : Raster) (connect : Connect) (choice : Choice) (tree : ComponentTree) (sums : List Sums) (entries : List ℕ) (strong : List Bool) (children : List StrongChildren) (above : List Bool) : Type 0 where
-  pub of : IsOf r connect tree sums
+  pub of : HasTreeAndSums r connect tree sums
   pub entries_are : AreEntries choice tree sums (length tree.rows) entries
   pub strong_are : AreStrong choice tree sums (length tree.rows) strong
-  pub children_are : AreCounted tree.rows entries strong (length tree.rows) children
+  pub children_are : AreStrongChildCounts tree.rows entries strong (length tree.rows) children
   pub above_are : AreAboveSplits tree.rows (map are_several children) above
 
-two_from_several : (rows : List NodeRow) (entries : List ℕ) (strong : List Bool) (count m : ℕ) (c : StrongChildren) → Has rows entries strong count m c → are_several c ≡ true
-    → HasTwo rows entries strong count m
+two_from_several : (rows : List NodeRow) (entries : List ℕ) (strong : List Bool) (count m : ℕ) (c : StrongChildren) → HasStrongChildren rows entries strong count m c → are_several c ≡ true
+    → HasTwoStrongChildren rows entries strong count m
 two_from_several rows entries strong count m Zero h e = absurd (true≢false (sym e))
 two_from_several rows entries strong count m One h e = absurd (true≢false (sym e))
 two_from_several rows entries strong count m Several h e = h
 
-several_from_two : (rows : List NodeRow) (entries : List ℕ) (strong : List Bool) (count m a b : ℕ) (c : StrongChildren) → Has rows entries strong count m c → a < b → b < count
-    → IsInner rows entries strong m a → IsInner rows entries strong m b → are_several c ≡ true
+several_from_two : (rows : List NodeRow) (entries : List ℕ) (strong : List Bool) (count m a b : ℕ) (c : StrongChildren) → HasStrongChildren rows entries strong count m c → a < b → b < count
+    → IsStrongChild rows entries strong m a → IsStrongChild rows entries strong m b → are_several c ≡ true
 several_from_two rows entries strong count m a b Zero h l u i j = absurd (h.none b u j)
 several_from_two rows entries strong count m a b One h l u i j =
     let e : a ≡ h.first = h.only a (omega arith) i in
@@ -74,38 +74,38 @@ module _ (r : Raster) (connect : Connect) (choice : Choice) (tree : ComponentTre
   child_of n = ap (λ (t : ComponentTree). parent_in t.rows n) k.of.tree_is
 
   entry_at : (m : ℕ) → m < length tree.rows → (slice_index entries m ≡ no_node → ⊥) → entry_of r connect choice m ≡ Some (slice_index entries m)
-  entry_at m h some = entry_from_number r connect choice m (slice_index entries m) plane (node m h) (k.entries_are.each r connect k.of m h) some
+  entry_at m h some = entry_from_number r connect choice m (slice_index entries m) plane (node m h) (k.entries_are.each r connect k.of.tree_is k.of.sums_are k.of.plane m h) some
 
-  inner_entry : (m a : ℕ) → m < length tree.rows → a < length tree.rows → IsInner tree.rows entries strong m a → entry_of r connect choice a ≡ Some (slice_index entries m)
+  inner_entry : (m a : ℕ) → m < length tree.rows → a < length tree.rows → IsStrongChild tree.rows entries strong m a → entry_of r connect choice a ≡ Some (slice_index entries m)
   inner_entry m a hm ha i =
       entry_of-found r connect choice a (slice_index entries m) plane (node a ha)
       (entry_of_child r connect choice a m (slice_index entries m) (sym (child_of a) ∙ i.is_child) (node m hm)
       (entry_of-parts r connect choice m (slice_index entries m) plane (node m hm) (entry_at m hm i.has_entry)))
 
   twins_from_inner : (m a b : ℕ) → m < length tree.rows → a < length tree.rows → b < length tree.rows → a < b
-      → IsInner tree.rows entries strong m a → IsInner tree.rows entries strong m b → AreTwins r connect choice m a b
+      → IsStrongChild tree.rows entries strong m a → IsStrongChild tree.rows entries strong m b → AreTwins r connect choice m a b
   twins_from_inner m a b hm ha hb l i j = record {
     apart = λ e. absurd (omega arith);
     one_child = sym (child_of a) ∙ i.is_child;
     other_child = sym (child_of b) ∙ j.is_child;
-    one_strong = sym (k.strong_are.each r connect k.of a ha) ∙ i.is_strong;
-    other_strong = sym (k.strong_are.each r connect k.of b hb) ∙ j.is_strong;
+    one_strong = sym (k.strong_are.each r connect k.of.tree_is k.of.sums_are k.of.plane a ha) ∙ i.is_strong;
+    other_strong = sym (k.strong_are.each r connect k.of.tree_is k.of.sums_are k.of.plane b hb) ∙ j.is_strong;
     entry = slice_index entries m;
     one_entry = inner_entry m a hm ha i;
     other_entry = inner_entry m b hm hb j;
   }
 
-  inner_from_twins : (m a b : ℕ) → m < length tree.rows → a < length (nodes r connect) → b < length (nodes r connect) → AreTwins r connect choice m a b → IsInner tree.rows entries strong m a
+  inner_from_twins : (m a b : ℕ) → m < length tree.rows → a < length (nodes r connect) → b < length (nodes r connect) → AreTwins r connect choice m a b → IsStrongChild tree.rows entries strong m a
   unfolding entry_number
   inner_from_twins m a b hm ha hb t = record {
     is_child = child_of a ∙ t.one_child;
-    is_strong = k.strong_are.each r connect k.of a (row a ha) ∙ t.one_strong;
+    is_strong = k.strong_are.each r connect k.of.tree_is k.of.sums_are k.of.plane a (row a ha) ∙ t.one_strong;
     has_entry = λ e. below_no_node r connect t.entry plane
         (entry_of-parts r connect choice m t.entry plane (node m hm) (split_entry r connect choice m a b plane (node m hm) ha hb t)).node
-        (sym (k.entries_are.each r connect k.of m hm ∙ ap (λ (o : Option ℕ). unwrap_or o no_node) (split_entry r connect choice m a b plane (node m hm) ha hb t)) ∙ e);
+        (sym (k.entries_are.each r connect k.of.tree_is k.of.sums_are k.of.plane m hm ∙ ap (λ (o : Option ℕ). unwrap_or o no_node) (split_entry r connect choice m a b plane (node m hm) ha hb t)) ∙ e);
   }
 
-  child_state : (m : ℕ) → m < length tree.rows → Has tree.rows entries strong (length tree.rows) m (slice_index_or children m Zero)
+  child_state : (m : ℕ) → m < length tree.rows → HasStrongChildren tree.rows entries strong (length tree.rows) m (slice_index_or children m Zero)
   child_state m h =
       k.children_are.each m (slice_index_or children m Zero)
       (slice_get-get_or children m Zero (let l : length children ≡ length tree.rows = k.children_are.one_each in omega arith))
@@ -115,7 +115,7 @@ module _ (r : Raster) (connect : Connect) (choice : Choice) (tree : ComponentTre
     where
       there : are_several (slice_index_or children m Zero) ≡ true → is_split r connect choice m ≡ true
       there e =
-          let t : HasTwo tree.rows entries strong (length tree.rows) m = two_from_several tree.rows entries strong (length tree.rows) m (slice_index_or children m Zero) (child_state m h) e in
+          let t : HasTwoStrongChildren tree.rows entries strong (length tree.rows) m = two_from_several tree.rows entries strong (length tree.rows) m (slice_index_or children m Zero) (child_state m h) e in
           let u : t.second < length tree.rows = t.below in
           let v : t.first < length tree.rows = omega (arith, t.apart) in
           split_from r connect choice m t.first t.second (node t.first v) (node t.second u) (twins_from_inner m t.first t.second h v u t.apart t.one t.other)
@@ -126,10 +126,10 @@ module _ (r : Raster) (connect : Connect) (choice : Choice) (tree : ComponentTre
           s : IsSplitNode r connect choice m
           s = split_parts r connect choice m e
 
-          one : IsInner tree.rows entries strong m s.first
+          one : IsStrongChild tree.rows entries strong m s.first
           one = inner_from_twins m s.first s.second h s.first_node s.second_node s.twins
 
-          other : IsInner tree.rows entries strong m s.second
+          other : IsStrongChild tree.rows entries strong m s.second
           other = inner_from_twins m s.second s.first h s.second_node s.first_node (other_way r connect choice m s.first s.second s.twins)
 
           order : (s.first ≡ s.second) ⊎ ((s.first < s.second) ⊎ (s.second < s.first)) → are_several (slice_index_or children m Zero) ≡ true
@@ -182,7 +182,7 @@ module _ (r : Raster) (connect : Connect) (choice : Choice) (tree : ComponentTre
   unfolding entry_number
   no_entry n h other =
       false_from_ne_true (is_entry r connect choice n)
-      (λ e. other (k.entries_are.each r connect k.of n h ∙ ap (λ (o : Option ℕ). unwrap_or o no_node) (entry_of-self r connect choice n plane (node n h) e)))
+      (λ e. other (k.entries_are.each r connect k.of.tree_is k.of.sums_are k.of.plane n h ∙ ap (λ (o : Option ℕ). unwrap_or o no_node) (entry_of-self r connect choice n plane (node n h) e)))
 
   by_sibling : (n : ℕ) (b : Bool) → n < length tree.rows → slice_index_or above n false ≡ false → (slice_index entries n ≡ n → ⊥) → b ≡ has_strong_sibling r connect choice n
       → b ≡ is_source r connect choice n
@@ -197,7 +197,7 @@ module _ (r : Raster) (connect : Connect) (choice : Choice) (tree : ComponentTre
   exit_weak n h e other weak =
       by_sibling n false h e other
       (sym (false_from_ne_true (has_strong_sibling r connect choice n)
-      (λ s. true≢false (sym (sibling_parts r connect choice n plane (node n h) s).strong ∙ sym (k.strong_are.each r connect k.of n h) ∙ weak))))
+      (λ s. true≢false (sym (sibling_parts r connect choice n plane (node n h) s).strong ∙ sym (k.strong_are.each r connect k.of.tree_is k.of.sums_are k.of.plane n h) ∙ weak))))
 
   pub exit_root : (n p : ℕ) → n < length tree.rows → slice_index_or above n false ≡ false → (slice_index entries n ≡ n → ⊥) → p ≡ parent_of_node r connect n → p ≡ no_node
       → false ≡ is_source r connect choice n
@@ -214,7 +214,7 @@ module _ (r : Raster) (connect : Connect) (choice : Choice) (tree : ComponentTre
       there : is_split r connect choice p ≡ true → has_strong_sibling r connect choice n ≡ true
       there s = sibling_from r connect choice n plane (node n h) (record {
         node = subst (λ (x : ℕ). x < length (nodes r connect)) is_parent (node p (omega arith));
-        strong = sym (k.strong_are.each r connect k.of n h) ∙ on;
+        strong = sym (k.strong_are.each r connect k.of.tree_is k.of.sums_are k.of.plane n h) ∙ on;
         split = subst (λ (x : ℕ). is_split r connect choice x ≡ true) is_parent s;
       })
 
@@ -224,24 +224,24 @@ module _ (r : Raster) (connect : Connect) (choice : Choice) (tree : ComponentTre
 -- ---- the flags
 
 pub sources_none : (choice : Choice) (tree : ComponentTree) (sums : List Sums) (flags : List Bool) → length flags ≡ length tree.rows → AreSources choice tree sums 0 flags
-sources_none choice tree sums flags l = record { one_each = l; each = λ r connect o n h. absurd (omega arith) }
+sources_none choice tree sums flags l = record { one_each = l; each = λ r connect of_tree of_sums is_plane n h. absurd (omega arith) }
 
 pub sources_more : (choice : Choice) (tree : ComponentTree) (sums : List Sums) (k : ℕ) (x : Bool) (flags : List Bool) → AreSources choice tree sums k flags → k < length tree.rows
-    → ((r : Raster) (connect : Connect) → IsOf r connect tree sums → x ≡ is_source r connect choice k) → AreSources choice tree sums (k + 1) (set flags k x)
+    → ForEachPlaneOf tree sums (λ r connect. IsPlane r → x ≡ is_source r connect choice k) → AreSources choice tree sums (k + 1) (set flags k x)
 sources_more choice tree sums k x flags h inside here = record {
   one_each = length-set flags k x ∙ h.one_each;
-  each = λ r connect o. filled flags k x false (is_source r connect choice) (let l : length flags ≡ length tree.rows = h.one_each in omega arith) (h.each r connect o) (here r connect o);
+  each = λ r connect of_tree of_sums is_plane. filled flags k x false (is_source r connect choice) (let l : length flags ≡ length tree.rows = h.one_each in omega arith) (h.each r connect of_tree of_sums is_plane) (here r connect of_tree of_sums is_plane);
 }
 
 pub sources_up_to : (choice : Choice) (tree : ComponentTree) (sums : List Sums) (j k : ℕ) (flags : List Bool) → AreSources choice tree sums k flags → j ≤ k → AreSources choice tree sums j flags
-sources_up_to choice tree sums j k flags h l = record { one_each = h.one_each; each = λ r connect o n m. h.each r connect o n (omega arith) }
+sources_up_to choice tree sums j k flags h l = record { one_each = h.one_each; each = λ r connect of_tree of_sums is_plane n m. h.each r connect of_tree of_sums is_plane n (omega arith) }
 
 -- ---- the marks at least pixels
 
 pub stand_none : (choice : Choice) (tree : ComponentTree) (sums : List Sums) (marks : List ℕ) → marks ≡ replicate (length tree.node_of) no_node → StandAtFirst choice tree sums 0 marks
 stand_none choice tree sums marks e = record {
   one_each = ap length e ∙ length-replicate (length tree.node_of) no_node;
-  each = λ r connect o p n g. inr (record {
+  each = λ r connect of_tree of_sums is_plane p n g. inr (record {
     none = nothing (length tree.node_of) p n (ap (λ (xs : List ℕ). slice_get xs p) (sym e) ∙ g);
     no_source = λ m l. absurd (omega arith);
   });
@@ -253,21 +253,21 @@ stand_none choice tree sums marks e = record {
     nothing (suc k) (suc i) n f = nothing k i n f
 
 pub stand_source : (choice : Choice) (tree : ComponentTree) (sums : List Sums) (k f : ℕ) (marks : List ℕ) → StandAtFirst choice tree sums k marks
-    → ((r : Raster) (connect : Connect) → IsOf r connect tree sums → is_source r connect choice k ≡ true)
-    → ((r : Raster) (connect : Connect) → IsOf r connect tree sums → f ≡ (sums_of r connect k).first) → StandAtFirst choice tree sums (k + 1) (set marks f k)
+    → ForEachPlaneOf tree sums (λ r connect. IsPlane r → is_source r connect choice k ≡ true)
+    → ForEachPlaneOf tree sums (λ r connect. IsPlane r → f ≡ (sums_of r connect k).first) → StandAtFirst choice tree sums (k + 1) (set marks f k)
 stand_source choice tree sums k f marks h source first = record {
   one_each = length-set marks f k ∙ h.one_each;
-  each = λ r connect o p n g. go r connect o p n (get-written marks f k p n g);
+  each = λ r connect of_tree of_sums is_plane p n g. go r connect (record { plane = is_plane; tree_is = of_tree; sums_are = of_sums }) p n (get-written marks f k p n g);
 }
   where
-    go : (r : Raster) (connect : Connect) → IsOf r connect tree sums → (p n : ℕ) → ((p ≡ f) × (k ≡ n)) ⊎ ((p ≡ f → ⊥) × (slice_get marks p ≡ Some n))
+    go : (r : Raster) (connect : Connect) → HasTreeAndSums r connect tree sums → (p n : ℕ) → ((p ≡ f) × (k ≡ n)) ⊎ ((p ≡ f → ⊥) × (slice_get marks p ≡ Some n))
         → IsFirstOf r connect choice (k + 1) p n ⊎ IsNoFirst r connect choice (k + 1) p n
     go r connect o p n (inl x) = inl (record {
       below = let e : k ≡ n = x.1 in omega arith;
-      source = subst (λ (y : ℕ). is_source r connect choice y ≡ true) x.1 (source r connect o);
-      first = subst (λ (y : ℕ). (sums_of r connect y).first ≡ p) x.1 (sym (first r connect o) ∙ sym x.0);
+      source = subst (λ (y : ℕ). is_source r connect choice y ≡ true) x.1 (source r connect o.tree_is o.sums_are o.plane);
+      first = subst (λ (y : ℕ). (sums_of r connect y).first ≡ p) x.1 (sym (first r connect o.tree_is o.sums_are o.plane) ∙ sym x.0);
     })
-    go r connect o p n (inr x) = old (h.each r connect o p n x.1)
+    go r connect o p n (inr x) = old (h.each r connect o.tree_is o.sums_are o.plane p n x.1)
       where
         old : IsFirstOf r connect choice k p n ⊎ IsNoFirst r connect choice k p n → IsFirstOf r connect choice (k + 1) p n ⊎ IsNoFirst r connect choice (k + 1) p n
         old (inl a) = inl (record { below = omega (arith, a.below); source = a.source; first = a.first })
@@ -277,26 +277,26 @@ stand_source choice tree sums k f marks h source first = record {
             last m (inl y) l s e = a.no_source m y s e
             last m (inr y) l s e =
                 let same : m ≡ k = omega arith in
-                x.0 (sym e ∙ ap (λ (z : ℕ). (sums_of r connect z).first) same ∙ sym (first r connect o))
+                x.0 (sym e ∙ ap (λ (z : ℕ). (sums_of r connect z).first) same ∙ sym (first r connect o.tree_is o.sums_are o.plane))
 
 pub stand_other : (choice : Choice) (tree : ComponentTree) (sums : List Sums) (k : ℕ) (marks : List ℕ) → StandAtFirst choice tree sums k marks
-    → ((r : Raster) (connect : Connect) → IsOf r connect tree sums → is_source r connect choice k ≡ false) → StandAtFirst choice tree sums (k + 1) marks
-stand_other choice tree sums k marks h other = record { one_each = h.one_each; each = λ r connect o p n g. old r connect o p n (h.each r connect o p n g) }
+    → ForEachPlaneOf tree sums (λ r connect. IsPlane r → is_source r connect choice k ≡ false) → StandAtFirst choice tree sums (k + 1) marks
+stand_other choice tree sums k marks h other = record { one_each = h.one_each; each = λ r connect of_tree of_sums is_plane p n g. old r connect (record { plane = is_plane; tree_is = of_tree; sums_are = of_sums }) p n (h.each r connect of_tree of_sums is_plane p n g) }
   where
-    old : (r : Raster) (connect : Connect) → IsOf r connect tree sums → (p n : ℕ) → IsFirstOf r connect choice k p n ⊎ IsNoFirst r connect choice k p n
+    old : (r : Raster) (connect : Connect) → HasTreeAndSums r connect tree sums → (p n : ℕ) → IsFirstOf r connect choice k p n ⊎ IsNoFirst r connect choice k p n
         → IsFirstOf r connect choice (k + 1) p n ⊎ IsNoFirst r connect choice (k + 1) p n
     old r connect o p n (inl a) = inl (record { below = omega (arith, a.below); source = a.source; first = a.first })
     old r connect o p n (inr a) = inr (record { none = a.none; no_source = λ m l s e. last m (cases_lt m k) l s e })
       where
         last : (m : ℕ) → (m < k) ⊎ (k ≤ m) → m < k + 1 → is_source r connect choice m ≡ true → (sums_of r connect m).first ≡ p → ⊥
         last m (inl y) l s e = a.no_source m y s e
-        last m (inr y) l s e = let same : m ≡ k = omega arith in true≢false (sym s ∙ ap (is_source r connect choice) same ∙ other r connect o)
+        last m (inr y) l s e = let same : m ≡ k = omega arith in true≢false (sym s ∙ ap (is_source r connect choice) same ∙ other r connect o.tree_is o.sums_are o.plane)
 
 pub stand_up_to : (choice : Choice) (tree : ComponentTree) (sums : List Sums) (j k : ℕ) (marks : List ℕ) → StandAtFirst choice tree sums k marks → j ≡ k → StandAtFirst choice tree sums j marks
 stand_up_to choice tree sums j k marks h e = subst (λ (n : ℕ). StandAtFirst choice tree sums n marks) (sym e) h
 
 -- a node's least pixel has a place
-pub first_place : (r : Raster) (connect : Connect) (tree : ComponentTree) (sums : List Sums) (n : ℕ) (s : Sums) (marks : List ℕ) → IsOf r connect tree sums → n < length tree.rows
+pub first_place : (r : Raster) (connect : Connect) (tree : ComponentTree) (sums : List Sums) (n : ℕ) (s : Sums) (marks : List ℕ) → HasTreeAndSums r connect tree sums → n < length tree.rows
     → s ≡ sums_of r connect n → length marks ≡ length tree.node_of → s.first < length marks
 first_place r connect tree sums n s marks o h e l =
     let a : (sums_of r connect n).first < length r.values = first_below r connect n o.plane (node_inside r connect tree n o.tree_is h) in
@@ -307,24 +307,24 @@ first_place r connect tree sums n s marks o h e l =
 -- ---- the list
 
 pub picked_none : (choice : Choice) (tree : ComponentTree) (sums : List Sums) (picked : List ℕ) → picked ≡ [] → ArePicked choice tree sums 0 picked
-picked_none choice tree sums picked e = record { listed = λ r connect o. e }
+picked_none choice tree sums picked e = record { listed = λ r connect of_tree of_sums is_plane. e }
 
 picked_step : (choice : Choice) (tree : ComponentTree) (sums : List Sums) (i : ℕ) (picked here : List ℕ) → ArePicked choice tree sums i picked
-    → ((r : Raster) (connect : Connect) → IsOf r connect tree sums → sources_at r connect choice i ≡ here) → ArePicked choice tree sums (i + 1) (picked ++ here)
+    → ForEachPlaneOf tree sums (λ r connect. IsPlane r → sources_at r connect choice i ≡ here) → ArePicked choice tree sums (i + 1) (picked ++ here)
 picked_step choice tree sums i picked here h at = record {
-  listed = λ r connect o.
+  listed = λ r connect of_tree of_sums is_plane.
       let next : suc i ≡ i + 1 = omega arith in
-      ap (λ (xs : List ℕ). xs ++ here) (h.listed r connect o)
-      ∙ ap (λ (xs : List ℕ). flat_map (sources_at r connect choice) (range_with_len 0 i) ++ xs) (sym (at r connect o))
+      ap (λ (xs : List ℕ). xs ++ here) (h.listed r connect of_tree of_sums is_plane)
+      ∙ ap (λ (xs : List ℕ). flat_map (sources_at r connect choice) (range_with_len 0 i) ++ xs) (sym (at r connect of_tree of_sums is_plane))
       ∙ sym (flat-push r connect choice i)
       ∙ ap (λ (n : ℕ). flat_map (sources_at r connect choice) (range_with_len 0 n)) next;
 }
 
 pub picked_more : (choice : Choice) (tree : ComponentTree) (sums : List Sums) (i n : ℕ) (marks picked : List ℕ) → StandAtFirst choice tree sums (length tree.rows) marks
     → slice_get marks i ≡ Some n → (n ≡ no_node → ⊥) → ArePicked choice tree sums i picked → ArePicked choice tree sums (i + 1) (picked ++ n ∷ [])
-picked_more choice tree sums i n marks picked s g some h = picked_step choice tree sums i picked (n ∷ []) h (λ r connect o. at r connect o (s.each r connect o i n g))
+picked_more choice tree sums i n marks picked s g some h = picked_step choice tree sums i picked (n ∷ []) h (λ r connect of_tree of_sums is_plane. at r connect (record { plane = is_plane; tree_is = of_tree; sums_are = of_sums }) (s.each r connect of_tree of_sums is_plane i n g))
   where
-    at : (r : Raster) (connect : Connect) → IsOf r connect tree sums → IsFirstOf r connect choice (length tree.rows) i n ⊎ IsNoFirst r connect choice (length tree.rows) i n
+    at : (r : Raster) (connect : Connect) → HasTreeAndSums r connect tree sums → IsFirstOf r connect choice (length tree.rows) i n ⊎ IsNoFirst r connect choice (length tree.rows) i n
         → sources_at r connect choice i ≡ n ∷ []
     at r connect o (inl a) = sources_at-one r connect choice i n o.plane (record { node = node_inside r connect tree n o.tree_is a.below; source = a.source; first = a.first })
     at r connect o (inr a) = absurd (some a.none)
@@ -332,9 +332,9 @@ picked_more choice tree sums i n marks picked s g some h = picked_step choice tr
 pub picked_same : (choice : Choice) (tree : ComponentTree) (sums : List Sums) (i n : ℕ) (marks picked : List ℕ) → StandAtFirst choice tree sums (length tree.rows) marks
     → slice_get marks i ≡ Some n → n ≡ no_node → ArePicked choice tree sums i picked → ArePicked choice tree sums (i + 1) picked
 picked_same choice tree sums i n marks picked s g none h =
-    subst (ArePicked choice tree sums (i + 1)) (append-nil picked) (picked_step choice tree sums i picked [] h (λ r connect o. at r connect o (s.each r connect o i n g)))
+    subst (ArePicked choice tree sums (i + 1)) (append-nil picked) (picked_step choice tree sums i picked [] h (λ r connect of_tree of_sums is_plane. at r connect (record { plane = is_plane; tree_is = of_tree; sums_are = of_sums }) (s.each r connect of_tree of_sums is_plane i n g)))
   where
-    at : (r : Raster) (connect : Connect) → IsOf r connect tree sums → IsFirstOf r connect choice (length tree.rows) i n ⊎ IsNoFirst r connect choice (length tree.rows) i n
+    at : (r : Raster) (connect : Connect) → HasTreeAndSums r connect tree sums → IsFirstOf r connect choice (length tree.rows) i n ⊎ IsNoFirst r connect choice (length tree.rows) i n
         → sources_at r connect choice i ≡ []
     at r connect o (inl a) = absurd (below_no_node r connect n o.plane (node_inside r connect tree n o.tree_is a.below) none)
     at r connect o (inr a) =
@@ -349,14 +349,14 @@ unfolding sources pixels
 list-is r connect choice = refl
 
 pub picked_all : (r : Raster) (connect : Connect) (choice : Choice) (tree : ComponentTree) (sums : List Sums) (count : ℕ) (picked : List ℕ) → ArePicked choice tree sums count picked
-    → count ≡ length tree.node_of → IsOf r connect tree sums → picked ≡ sources r connect choice
+    → count ≡ length tree.node_of → HasTreeAndSums r connect tree sums → picked ≡ sources r connect choice
 picked_all r connect choice tree sums count picked h e o =
-    h.listed r connect o
+    h.listed r connect o.tree_is o.sums_are o.plane
     ∙ ap (λ (n : ℕ). flat_map (sources_at r connect choice) (range_with_len 0 n)) (e ∙ numbers-length r connect tree o.tree_is)
     ∙ sym (list-is r connect choice)
 
 -- any plane with this tree and these sums
-pub of_same : (r : Raster) (connect : Connect) (tree : ComponentTree) (sums : List Sums) → AreTheTrees tree sums → tree ≡ tree_of r connect → sums ≡ sums_in r connect → IsOf r connect tree sums
+pub of_same : (r : Raster) (connect : Connect) (tree : ComponentTree) (sums : List Sums) → AreTheTrees tree sums → tree ≡ tree_of r connect → sums ≡ sums_in r connect → HasTreeAndSums r connect tree sums
 of_same r connect tree sums t e f = record { plane = plane; tree_is = e; sums_are = f }
   where
     plane : IsPlane r
@@ -392,13 +392,13 @@ flags_exact (Err d) choice tree sums entries strong a b h = tt
 pub picked_exact : {E : Type 0} (result : Result (Vec ℕ Global) E) (choice : Choice) (tree : ComponentTree) (sums : List Sums) (marks : List ℕ) → AreTheTrees tree sums
     → StandAtFirst choice tree sums (length tree.rows) marks
     → IfOk result (λ picked. (c : Choice) (t : ComponentTree) (s : List Sums) → StandAtFirst c t s (length t.rows) marks → ArePicked c t s (length marks) picked.items)
-    → IfOk result (λ picked. (plane : Raster) (connect : Connect) → tree ≡ tree_of plane connect → sums ≡ sums_in plane connect → picked.items ≡ sources plane connect choice)
+    → IfOk result (λ picked. ForEachPlaneOf tree sums (λ plane connect. picked.items ≡ sources plane connect choice))
 picked_exact (Ok v) choice tree sums marks t stand h = λ plane connect e f.
     picked_all plane connect choice tree sums (length marks) v.items (h choice tree sums stand) stand.one_each (of_same plane connect tree sums t e f)
 picked_exact (Err d) choice tree sums marks t stand h = tt
 
 pub picked_apart : {E : Type 0} (result : Result (Vec ℕ Global) E) (choice : Choice) (tree : ComponentTree) (sums : List Sums) → AreTheTrees tree sums
-    → IfOk result (λ picked. (plane : Raster) (connect : Connect) → tree ≡ tree_of plane connect → sums ≡ sums_in plane connect → picked.items ≡ sources plane connect choice)
+    → IfOk result (λ picked. ForEachPlaneOf tree sums (λ plane connect. picked.items ≡ sources plane connect choice))
     → IfOk result (λ picked. AreDisjointNodes tree picked.items)
 picked_apart (Ok v) choice tree sums t h = picked_disjoint choice tree sums v.items t (h t.plane t.of_plane.connect t.of_plane.tree_is t.of_plane.sums_are)
 picked_apart (Err d) choice tree sums t h = tt

@@ -12,13 +12,13 @@ use Rattle.comp_tree.specs.Components.{nodes, is_in_node}
 use Rattle.comp_tree.specs.Laws.{top_of, AreDisjoint}
 use Rattle.comp_tree.proofs.Members.{IsAmong, among-filter, among_from_filter}
 use Rattle.comp_tree.proofs.Reaching.{among_from_defined, below_from_defined}
-use Rattle.node_sums.specs.Sums.{least, sums_over, sums_of, pixels_of}
-use Rattle.node_sums.proofs.Counting.{in_node-defined}
+use Rattle.node_sums.specs.Sums.{least, sums_over, sums_of}
+use Rattle.comp_tree.specs.Nesting.{pixels_of, node_numbers}
+use Rattle.comp_tree.proofs.Nesting.{in_node-defined, top_inside}
 use Rattle.node_sums.proofs.Passes.{range-push}
 use Rattle.source_pick.specs.declared.choice.Choice.{Choice}
-use Rattle.source_pick.specs.Sources.{node_numbers, is_source, sources_at, sources}
+use Rattle.source_pick.specs.Sources.{is_source, sources_at, sources}
 use Rattle.source_pick.specs.Laws.{SourcesAreListed, SourcesAreInOrder}
-use Rattle.source_pick.proofs.Within.{top_inside}
 use Rattle.source_pick.proofs.Splits.{node_from_among}
 use Rattle.source_pick.proofs.Sourcing.{sources_that_share, sources_are_disjoint}
 

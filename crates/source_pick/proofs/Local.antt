@@ -12,7 +12,7 @@ use Rattle.node_sums.specs.Sums.{sums_of}
 use Rattle.source_pick.specs.declared.choice.Choice.{Choice}
 use Rattle.source_pick.specs.declared.catalogue.CatRow.{CatRow}
 use Rattle.source_pick.specs.Sources.{sources_at, sources}
-use Rattle.source_pick.specs.Segmentation.{number_at, segmentation_of, segmentation}
+use Rattle.source_pick.specs.Segmentation.{source_number_at, segmentation_of, segmentation}
 use Rattle.source_pick.specs.Catalogue.{catalogue_row, catalogue_of, catalogue}
 use Rattle.source_pick.specs.Locality.{SourcesAreLocal}
 use Rattle.source_pick.proofs.Listing.{IsSourceAt, sources_at-one, sources_at-none, among_sources_at}
@@ -105,16 +105,16 @@ position_same r s connect choice p i _ _ a (at_more {n} {m} {xs} {ys} c rest) =
     ∙ ap (λ (o : Option ℕ). cond (is_in_node s connect m p) (Some i) o) (position_same r s connect choice p (i + 1) xs ys a rest)
 
 number_same : (r s : Raster) (connect : Connect) (choice : Choice) (p : ℕ) (xs ys : List ℕ) → Alike r s connect choice.threshold → AreCounterparts r s connect choice xs ys
-    → number_at r connect xs p ≡ number_at s connect ys p
-unfolding number_at
+    → source_number_at r connect xs p ≡ source_number_at s connect ys p
+unfolding source_number_at
 number_same r s connect choice p xs ys a c = ap (λ (o : Option ℕ). unwrap_or o 0) (position_same r s connect choice p 1 xs ys a c)
 
 numbers_same : (r s : Raster) (connect : Connect) (choice : Choice) (xs ys : List ℕ) → Alike r s connect choice.threshold → AreCounterparts r s connect choice xs ys
     → segmentation_of r connect xs ≡ segmentation_of s connect ys
 unfolding segmentation_of
-numbers_same r s connect choice xs ys a c = ap (λ (f : ℕ → ℕ). map f (pixels r)) tests ∙ ap (map (number_at s connect ys)) (all_pixels_same r s connect choice.threshold a)
+numbers_same r s connect choice xs ys a c = ap (λ (f : ℕ → ℕ). map f (pixels r)) tests ∙ ap (map (source_number_at s connect ys)) (all_pixels_same r s connect choice.threshold a)
   where
-    tests : number_at r connect xs ≡ number_at s connect ys
+    tests : source_number_at r connect xs ≡ source_number_at s connect ys
     tests = λ i p. number_same r s connect choice p xs ys a c i
 
 rows_from_same : (r s : Raster) (connect : Connect) (choice : Choice) (number : ℕ) (xs ys : List ℕ) → IsPlane r → IsPlane s → Alike r s connect choice.threshold → AreCounterparts r s connect choice xs ys

@@ -17,10 +17,10 @@ use Rattle.comp_tree.proofs.Ancestors.{below_no_node, pixels_belong_to_their_anc
 use Rattle.comp_tree.proofs.Finding.{length-nodes-le}
 use Rattle.comp_tree.proofs.OneTree.{read-node_of}
 use Rattle.comp_tree.proofs.Nodes
-use Rattle.node_sums.proofs.Counting.{in_node-defined}
-use Rattle.source_pick.specs.Segmentation.{number_at, segmentation_of, AreDisjointNodes}
+use Rattle.comp_tree.proofs.Nesting.{in_node-defined, top_inside}
+use Rattle.source_pick.specs.Segmentation.{source_number_at, segmentation_of, AreDisjointNodes}
 use Rattle.source_pick.specs.Passes.{IsOnWay, AreMarked, AreNumbered}
-use Rattle.source_pick.proofs.Within.{top_inside, within_from_way, way_from_shared, HasParent, way_up, way_of_child}
+use Rattle.source_pick.proofs.Within.{within_from_way, way_from_shared, HasParent, way_up, way_of_child}
 use Rattle.source_pick.proofs.Entries.{node_from_row, row_from_node}
 use Rattle.source_pick.proofs.Splits.{same_bool}
 use Rattle.source_pick.proofs.Readings.{numbers-length, rows-length, node_inside, filled}
@@ -141,22 +141,22 @@ module _ (r : Raster) (connect : Connect) (tree : ComponentTree) (marked : List 
       ways_apart tree marked i j s t d l f g
       (subst (λ (x : ComponentTree). IsOnWay x.rows s t ⊎ IsOnWay x.rows t s) (sym same) (way_from_shared r connect s t q plane (is_node i s f) (is_node j t g) in_s in_t))
 
-  pub number-found : (i s p : ℕ) → slice_get marked i ≡ Some s → is_in_node r connect s p ≡ true → number_at r connect marked p ≡ i + 1
-  unfolding number_at
+  pub number-found : (i s p : ℕ) → slice_get marked i ≡ Some s → is_in_node r connect s p ≡ true → source_number_at r connect marked p ≡ i + 1
+  unfolding source_number_at
   number-found i s p g h =
       place_found (λ n. is_in_node r connect n p) 1 marked i s g h
       (λ j u l f. false_from_ne_true (is_in_node r connect u p) (λ k. apart j i u s p l f g k h)) ∙ omega arith
 
-  pub number-none : (p : ℕ) → ((j u : ℕ) → slice_get marked j ≡ Some u → is_in_node r connect u p ≡ false) → number_at r connect marked p ≡ 0
-  unfolding number_at
+  pub number-none : (p : ℕ) → ((j u : ℕ) → slice_get marked j ≡ Some u → is_in_node r connect u p ≡ false) → source_number_at r connect marked p ≡ 0
+  unfolding source_number_at
   number-none p h = place_none (λ n. is_in_node r connect n p) 1 marked h
 
-  pub number-same : (p q : ℕ) → ((j u : ℕ) → slice_get marked j ≡ Some u → is_in_node r connect u p ≡ is_in_node r connect u q) → number_at r connect marked p ≡ number_at r connect marked q
-  unfolding number_at
+  pub number-same : (p q : ℕ) → ((j u : ℕ) → slice_get marked j ≡ Some u → is_in_node r connect u p ≡ is_in_node r connect u q) → source_number_at r connect marked p ≡ source_number_at r connect marked q
+  unfolding source_number_at
   number-same p q h = ap (λ (o : Option ℕ). unwrap_or o 0) (place_same (λ n. is_in_node r connect n p) (λ n. is_in_node r connect n q) 1 marked h)
 
-  pub number_bound : (p : ℕ) → number_at r connect marked p ≤ length marked
-  unfolding number_at
+  pub number_bound : (p : ℕ) → source_number_at r connect marked p ≤ length marked
+  unfolding source_number_at
   number_bound p = let b : unwrap_or (position_from (λ n. is_in_node r connect n p) 1 marked) 0 + 1 ≤ 1 + length marked = place_bound (λ n. is_in_node r connect n p) 1 marked (omega arith) in omega arith
 
   -- the top of node m
@@ -165,12 +165,12 @@ module _ (r : Raster) (connect : Connect) (tree : ComponentTree) (marked : List 
       subst (λ (x : ℕ). (is_in_node r connect u (top_of r connect m) ≡ true) ↔ IsOnWay (tree_of r connect).rows u x) (node_of-top r connect m hm)
       (holds-way r connect u (top_of r connect m) plane hu (top-defined r connect m hm))
 
-  pub number_of_marked : (i n : ℕ) → n < length tree.rows → slice_get marked i ≡ Some n → number_at r connect marked (top_of r connect n) ≡ i + 1
+  pub number_of_marked : (i n : ℕ) → n < length tree.rows → slice_get marked i ≡ Some n → source_number_at r connect marked (top_of r connect n) ≡ i + 1
   number_of_marked i n h g = number-found i n (top_of r connect n) g (top_inside r connect n (node n h))
 
   -- a node that isn't in the list
   pub number_of_child : (n p : ℕ) → n < length tree.rows → p ≡ parent_of_node r connect n → p < n → ((j : ℕ) → slice_get marked j ≡ Some n → ⊥)
-      → number_at r connect marked (top_of r connect p) ≡ number_at r connect marked (top_of r connect n)
+      → source_number_at r connect marked (top_of r connect p) ≡ source_number_at r connect marked (top_of r connect n)
   number_of_child n p h is_parent l out = number-same (top_of r connect p) (top_of r connect n) each
     where
       hn : n < length (nodes r connect)
@@ -196,7 +196,7 @@ module _ (r : Raster) (connect : Connect) (tree : ComponentTree) (marked : List 
           up k = from ((top_way u n (is_node j u g) hn).0 k)
 
   pub number_of_root : (n p : ℕ) → n < length tree.rows → p ≡ parent_of_node r connect n → p ≡ no_node → ((j : ℕ) → slice_get marked j ≡ Some n → ⊥)
-      → number_at r connect marked (top_of r connect n) ≡ 0
+      → source_number_at r connect marked (top_of r connect n) ≡ 0
   number_of_root n p h is_parent none out =
       number-none (top_of r connect n) (λ j u g. false_from_ne_true (is_in_node r connect u (top_of r connect n)) (λ k. from j u g ((top_way u n (is_node j u g) (node n h)).0 k)))
     where
@@ -219,13 +219,13 @@ module _ (r : Raster) (connect : Connect) (tree : ComponentTree) (marked : List 
   undefined_none p e = rw e refl
 
   pub number_of_defined : (p n : ℕ) → p < length tree.node_of → n ≡ slice_index tree.node_of p → (n ≡ no_node → ⊥)
-      → (n < length tree.rows) × (number_at r connect marked (top_of r connect n) ≡ number_at r connect marked p)
+      → (n < length tree.rows) × (source_number_at r connect marked (top_of r connect n) ≡ source_number_at r connect marked p)
   number_of_defined p n h e some = go (is_defined r p) refl
     where
       is : n ≡ node_of r connect p
       is = e ∙ numbers_read p h
 
-      go : (b : Bool) → is_defined r p ≡ b → (n < length tree.rows) × (number_at r connect marked (top_of r connect n) ≡ number_at r connect marked p)
+      go : (b : Bool) → is_defined r p ≡ b → (n < length tree.rows) × (source_number_at r connect marked (top_of r connect n) ≡ source_number_at r connect marked p)
       go false u = absurd (some (is ∙ undefined_none p u))
       go true u = (let l : length tree.rows ≡ length (nodes r connect) = rows-length r connect tree same in omega (arith, hn), number-same (top_of r connect n) p each)
         where
@@ -237,7 +237,7 @@ module _ (r : Raster) (connect : Connect) (tree : ComponentTree) (marked : List 
               (λ k. (holds-way r connect v p plane (is_node j v g) u).1 (subst (λ (x : ℕ). IsOnWay (tree_of r connect).rows v x) is ((top_way v n (is_node j v g) hn).0 k)))
               (λ k. (top_way v n (is_node j v g) hn).1 (subst (λ (x : ℕ). IsOnWay (tree_of r connect).rows v x) (sym is) ((holds-way r connect v p plane (is_node j v g) u).0 k)))
 
-  pub number_of_undefined : (p n : ℕ) → p < length tree.node_of → n ≡ slice_index tree.node_of p → n ≡ no_node → number_at r connect marked p ≡ 0
+  pub number_of_undefined : (p n : ℕ) → p < length tree.node_of → n ≡ slice_index tree.node_of p → n ≡ no_node → source_number_at r connect marked p ≡ 0
   number_of_undefined p n h e none =
       number-none p (λ j u g. false_from_ne_true (is_in_node r connect u p) (λ k.
       below_no_node r connect (node_of r connect p) plane (Nodes.node_of-is r connect p (in_node-defined r connect u p k)).below (sym (e ∙ numbers_read p h) ∙ none)))
@@ -290,19 +290,19 @@ pub numbered_child : (tree : ComponentTree) (marked first numbers : List ℕ) (n
 numbered_child tree marked first numbers n p x d m h inside zeros is_parent l e = record {
   one_each = length-set numbers n x ∙ h.one_each;
   each = λ r connect plane same.
-      filled numbers n x 0 (λ k. number_at r connect marked (top_of r connect k)) (let a : length numbers ≡ length tree.rows = h.one_each in omega arith) (h.each r connect plane same)
+      filled numbers n x 0 (λ k. source_number_at r connect marked (top_of r connect k)) (let a : length numbers ≡ length tree.rows = h.one_each in omega arith) (h.each r connect plane same)
       (e ∙ h.each r connect plane same p l
       ∙ number_of_child r connect tree marked plane same d n p inside (sym is_parent ∙ ap (λ (t : ComponentTree). parent_in t.rows n) same) l (unmarked tree marked first n m zeros));
 }
 
 one_further : (tree : ComponentTree) (marked numbers : List ℕ) (n : ℕ) → AreNumbered tree marked n numbers
-    → ((r : Raster) (connect : Connect) → IsPlane r → tree ≡ tree_of r connect → slice_index numbers n ≡ number_at r connect marked (top_of r connect n)) → AreNumbered tree marked (n + 1) numbers
+    → ((r : Raster) (connect : Connect) → IsPlane r → tree ≡ tree_of r connect → slice_index numbers n ≡ source_number_at r connect marked (top_of r connect n)) → AreNumbered tree marked (n + 1) numbers
 one_further tree marked numbers n h here = record { one_each = h.one_each; each = λ r connect plane same k l. go r connect plane same k (cases_lt k n) l }
   where
-    go : (r : Raster) (connect : Connect) → IsPlane r → tree ≡ tree_of r connect → (k : ℕ) → (k < n) ⊎ (n ≤ k) → k < n + 1 → slice_index numbers k ≡ number_at r connect marked (top_of r connect k)
+    go : (r : Raster) (connect : Connect) → IsPlane r → tree ≡ tree_of r connect → (k : ℕ) → (k < n) ⊎ (n ≤ k) → k < n + 1 → slice_index numbers k ≡ source_number_at r connect marked (top_of r connect k)
     go r connect plane same k (inl x) l = h.each r connect plane same k x
     go r connect plane same k (inr x) l =
-        let e : n ≡ k = omega arith in subst (λ (y : ℕ). slice_index numbers y ≡ number_at r connect marked (top_of r connect y)) e (here r connect plane same)
+        let e : n ≡ k = omega arith in subst (λ (y : ℕ). slice_index numbers y ≡ source_number_at r connect marked (top_of r connect y)) e (here r connect plane same)
 
 pub numbered_marked : (tree : ComponentTree) (marked first numbers : List ℕ) (n : ℕ) → AreDisjointNodes tree marked → AreMarked (length tree.rows) marked (length marked) first
     → AreNumbered tree marked n numbers → n < length tree.rows → slice_index numbers n ≡ slice_index first n → (slice_index numbers n ≡ 0 → ⊥) → AreNumbered tree marked (n + 1) numbers
@@ -310,7 +310,7 @@ numbered_marked tree marked first numbers n d m h inside still some = one_furthe
   where
     go : (r : Raster) (connect : Connect) → IsPlane r → tree ≡ tree_of r connect
         → (slice_index first n ≡ 0) ⊎ ((i : ℕ) × (i < length marked) × (slice_get marked i ≡ Some n) × (slice_index first n ≡ i + 1))
-        → slice_index numbers n ≡ number_at r connect marked (top_of r connect n)
+        → slice_index numbers n ≡ source_number_at r connect marked (top_of r connect n)
     go r connect plane same (inl z) = absurd (some (still ∙ z))
     go r connect plane same (inr (i, l, g, z)) = still ∙ z ∙ sym (number_of_marked r connect tree marked plane same d i n inside g)
 
@@ -358,10 +358,10 @@ zeros_part xs part start none each k = go (cases_lt k (length part))
     go (inr l) = get_or_past part k 0 l
 
 pub pixels_all : (r : Raster) (connect : Connect) (tree : ComponentTree) (marked numbers : List ℕ) → tree ≡ tree_of r connect → length numbers ≡ length tree.node_of
-    → ((p : ℕ) → p < length tree.node_of → slice_index numbers p ≡ number_at r connect marked p) → numbers ≡ segmentation_of r connect marked
+    → ((p : ℕ) → p < length tree.node_of → slice_index numbers p ≡ source_number_at r connect marked p) → numbers ≡ segmentation_of r connect marked
 unfolding segmentation_of pixels
 pixels_all r connect tree marked numbers same l h =
-    fill_by_all (number_at r connect marked) numbers (length r.values) 0 (l ∙ numbers-length r connect tree same)
+    fill_by_all (source_number_at r connect marked) numbers (length r.values) 0 (l ∙ numbers-length r connect tree same)
     (λ p x. h p (let e : length tree.node_of ≡ length r.values = numbers-length r connect tree same in omega arith))
 
 pub map_bound : (tree : ComponentTree) (marked numbers : List ℕ) → (d : AreDisjointNodes tree marked) → numbers ≡ segmentation_of d.plane d.connect marked → (p : ℕ) → slice_index numbers p ≤ 2 ^ 24
@@ -378,12 +378,12 @@ map_bound tree marked numbers d e p = go (cases_lt p (length d.plane.values))
 
     go : (p < length d.plane.values) ⊎ (length d.plane.values ≤ p) → slice_index numbers p ≤ 2 ^ 24
     go (inl l) =
-        let a : slice_index numbers p ≡ number_at d.plane d.connect marked p =
-        ap (λ (xs : List ℕ). slice_index xs p) e ∙ get_or-map-range_with_len (number_at d.plane d.connect marked) 0 (length d.plane.values) p p 0 l (omega arith) in
-        let b : number_at d.plane d.connect marked p ≤ length marked = number_bound d.plane d.connect tree marked d.one_each d.tree_is d p in
+        let a : slice_index numbers p ≡ source_number_at d.plane d.connect marked p =
+        ap (λ (xs : List ℕ). slice_index xs p) e ∙ get_or-map-range_with_len (source_number_at d.plane d.connect marked) 0 (length d.plane.values) p p 0 l (omega arith) in
+        let b : source_number_at d.plane d.connect marked p ≤ length marked = number_bound d.plane d.connect tree marked d.one_each d.tree_is d p in
         omega (arith, few)
     go (inr l) =
         let n : length numbers ≡ length d.plane.values =
-        ap length e ∙ length-map (range_with_len 0 (length d.plane.values)) (number_at d.plane d.connect marked) ∙ length-range_with_len 0 (length d.plane.values) in
+        ap length e ∙ length-map (range_with_len 0 (length d.plane.values)) (source_number_at d.plane d.connect marked) ∙ length-range_with_len 0 (length d.plane.values) in
         let z : slice_index numbers p ≡ 0 = past numbers p (omega arith) in
         omega arith

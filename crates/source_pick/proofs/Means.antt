@@ -239,16 +239,16 @@ pub weighted-read : (moment base : ℤ) (sum : ℕ) → IsMoment moment base sum
     → to_z w128 (of_z w128 (to_z w128 (of_z w128 moment) -ℤ to_z w128 (of_z w128 (to_z w128 (of_z w128 (to_z w64 (of_z w64 base))) *ℤ to_z w128 sum)))) ≡ moment -ℤ base *ℤ pos sum
 weighted-read moment base sum k f =
     rw (wide base f, to_z_pos w128 sum (omega (arith, k.sum_small)), to_z-of_z w128 moment moment_fits, to_z-of_z w128 (base *ℤ pos sum) product_fits)
-    (to_z-of_z w128 (moment -ℤ base *ℤ pos sum) (fits w128 (2 ^ 74 + 2 ^ 74) (moment -ℤ base *ℤ pos sum) (up_to-minus (2 ^ 74) (2 ^ 74) moment (base *ℤ pos sum) k.moment_small product) (lit< tt)))
+    (to_z-of_z w128 (moment -ℤ base *ℤ pos sum) (fits w128 (2 ^ 77 + 2 ^ 77) (moment -ℤ base *ℤ pos sum) (up_to-minus (2 ^ 77) (2 ^ 77) moment (base *ℤ pos sum) k.moment_small product) (lit< tt)))
   where
-    product : IsUpTo (2 ^ 74) (base *ℤ pos sum)
-    product = up_to-times (2 ^ 34) (2 ^ 40) sum base k.base_small k.sum_small
+    product : IsUpTo (2 ^ 77) (base *ℤ pos sum)
+    product = up_to-times (2 ^ 37) (2 ^ 40) sum base k.base_small k.sum_small
 
     moment_fits : SFits w128 moment
-    moment_fits = fits w128 (2 ^ 74) moment k.moment_small (lit< tt)
+    moment_fits = fits w128 (2 ^ 77) moment k.moment_small (lit< tt)
 
     product_fits : SFits w128 (base *ℤ pos sum)
-    product_fits = fits w128 (2 ^ 74) (base *ℤ pos sum) product (lit< tt)
+    product_fits = fits w128 (2 ^ 77) (base *ℤ pos sum) product (lit< tt)
 
 -- ---- spreads
 
@@ -363,7 +363,7 @@ centre-without moment sum flux area k e =
     rw (int_eq-from flux (pos 0) (zero_flux flux k.not_negative e))
     (to_z_pos w64 (1000 * sum / area) (let t : 1000 * sum / area ≤ 1000 * 65535 = (thousand_between sum area 0 65535 k.some k.sum_low k.sum_high).1 in omega arith))
 
-moment_up_to : (moment flux : ℤ) → pos 0 ≤ℤ flux → flux ≤ℤ pos (2 ^ 59) → (flux *ℤ pos 0) ≤ℤ moment → moment ≤ℤ (flux *ℤ pos 65535) → IsUpTo (2 ^ 75) moment
+moment_up_to : (moment flux : ℤ) → pos 0 ≤ℤ flux → flux ≤ℤ pos (2 ^ 62) → (flux *ℤ pos 0) ≤ℤ moment → moment ≤ℤ (flux *ℤ pos 65535) → IsUpTo (2 ^ 78) moment
 moment_up_to moment (pos f) h s l u =
     let a : pos f *ℤ pos 0 ≡ pos (f * 0) = pos-*ℤ-pos f 0 in
     let b : pos f *ℤ pos 65535 ≡ pos (f * 65535) = pos-*ℤ-pos f 65535 in
@@ -376,7 +376,7 @@ unfolding centre_of
 centre-with moment sum flux area got k some f m e =
     e ∙ ap (λ (z : ℤ). int_div_euclid (to_z w128 (of_z w128 (pos 1000 *ℤ z))) (to_z w128 (of_z w128 (to_z w64 (of_z w64 flux))))) (to_z-of_z w128 moment m)
     ∙ ap (λ (z : ℤ). int_div_euclid z (to_z w128 (of_z w128 (to_z w64 (of_z w64 flux)))))
-    (to_z-of_z w128 (pos 1000 *ℤ moment) (fits w128 (1000 * 2 ^ 75) (pos 1000 *ℤ moment) (times_thousand (2 ^ 75) moment (moment_up_to moment flux k.not_negative k.small k.moment_low k.moment_high)) (lit< tt)))
+    (to_z-of_z w128 (pos 1000 *ℤ moment) (fits w128 (1000 * 2 ^ 78) (pos 1000 *ℤ moment) (times_thousand (2 ^ 78) moment (moment_up_to moment flux k.not_negative k.small k.moment_low k.moment_high)) (lit< tt)))
     ∙ ap (int_div_euclid (pos 1000 *ℤ moment)) (wide flux f)
     ∙ ap (λ (b : Bool). cond b (floor_of (pos (1000 * sum)) (pos area)) (floor_of (pos 1000 *ℤ moment) flux)) (sym other)
   where

@@ -20,15 +20,19 @@ use Rattle.comp_tree.proofs.Ancestors.{length-rows}
 use Rattle.comp_tree.proofs.Finding.{length-pixels}
 use Rattle.node_sums.specs.declared.entry.Sums.{Sums}
 use Rattle.node_sums.specs.Sums.{sums_of, sums_in, AreTheTrees}
-use Rattle.node_sums.specs.Flux.{level_in}
+use Rattle.comp_tree.specs.Nesting.{level_in, level_of_node}
 use Rattle.node_sums.proofs.Reading.{row-parent}
-use Rattle.source_pick.specs.Sources.{level_of_node}
-use Rattle.source_pick.specs.Passes.{IsOf}
 
 -- ---- the plane
 
+-- r has this tree for this connectivity, and these sums
+pub record HasTreeAndSums (r : Raster) (connect : Connect) (tree : ComponentTree) (sums : List Sums) : Type 0 where
+  pub plane : IsPlane r
+  pub tree_is : tree ≡ tree_of r connect
+  pub sums_are : sums ≡ sums_in r connect
+
 -- a plane that the sums are of
-pub of_trees : (tree : ComponentTree) (sums : List Sums) → (t : AreTheTrees tree sums) → IsOf t.plane t.of_plane.connect tree sums
+pub of_trees : (tree : ComponentTree) (sums : List Sums) → (t : AreTheTrees tree sums) → HasTreeAndSums t.plane t.of_plane.connect tree sums
 of_trees tree sums t = record { plane = t.one_each; tree_is = t.of_plane.tree_is; sums_are = t.of_plane.sums_are }
 
 length-numbers : (r : Raster) (connect : Connect) → length (tree_of r connect).node_of ≡ length r.values
@@ -89,18 +93,18 @@ parent_smaller tree rows n d w f h some = go (w.parents n h)
 
 -- ---- sums
 
-pub sums-length : (r : Raster) (connect : Connect) (tree : ComponentTree) (sums : List Sums) → IsOf r connect tree sums → length sums ≡ length (nodes r connect)
+pub sums-length : (r : Raster) (connect : Connect) (tree : ComponentTree) (sums : List Sums) → HasTreeAndSums r connect tree sums → length sums ≡ length (nodes r connect)
 unfolding sums_in
 sums-length r connect tree sums o =
     ap length o.sums_are ∙ length-map (range_with_len 0 (length (nodes r connect))) (sums_of r connect) ∙ length-range_with_len 0 (length (nodes r connect))
 
-pub sums_inside : (r : Raster) (connect : Connect) (tree : ComponentTree) (sums : List Sums) (n : ℕ) → IsOf r connect tree sums → n < length tree.rows → n < length sums
+pub sums_inside : (r : Raster) (connect : Connect) (tree : ComponentTree) (sums : List Sums) (n : ℕ) → HasTreeAndSums r connect tree sums → n < length tree.rows → n < length sums
 sums_inside r connect tree sums n o h =
     let a : length sums ≡ length (nodes r connect) = sums-length r connect tree sums o in
     let b : length tree.rows ≡ length (nodes r connect) = rows-length r connect tree o.tree_is in
     omega arith
 
-pub sums-read : (r : Raster) (connect : Connect) (tree : ComponentTree) (sums : List Sums) (n : ℕ) (d : Sums) → IsOf r connect tree sums → n < length tree.rows
+pub sums-read : (r : Raster) (connect : Connect) (tree : ComponentTree) (sums : List Sums) (n : ℕ) (d : Sums) → HasTreeAndSums r connect tree sums → n < length tree.rows
     → slice_index_or sums n d ≡ sums_of r connect n
 unfolding sums_in
 sums-read r connect tree sums n d o h =

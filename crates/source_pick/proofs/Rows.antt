@@ -12,19 +12,18 @@ use Rattle.comp_tree.specs.Laws.{top_of}
 use Rattle.comp_tree.proofs.Members.{IsAmong, among-filter, among_from_filter}
 use Rattle.comp_tree.proofs.Reaching.{among_from_defined, below_from_defined}
 use Rattle.node_sums.specs.declared.entry.Sums.{Sums}
-use Rattle.node_sums.specs.Sums.{total, least, greatest, x_of, y_of, pixels_of, sums_over, sums_of}
+use Rattle.node_sums.specs.Sums.{total, least, greatest, x_of, y_of, sums_over, sums_of}
+use Rattle.comp_tree.specs.Nesting.{pixels_of, level_of_node}
 use Rattle.node_sums.specs.Flux.{base_of, flux_of}
 use Rattle.node_sums.specs.Merging.{IsUpTo, HasSizes}
-use Rattle.node_sums.proofs.Counting.{in_node-defined}
+use Rattle.comp_tree.proofs.Nesting.{in_node-defined, top_inside}
 use Rattle.node_sums.proofs.Fluxes.{level_at_least, never_negative, BaseCase, at_root, at_child, base-case}
 use Rattle.node_sums.proofs.FluxOfSums.{base_up_to}
 use Rattle.node_sums.proofs.Reading.{fits}
 use Rattle.node_sums.proofs.Sizes.{sizes, filtered, level_up_to, total-up_to, up_to_more, up_to-minus, x_small, y_small}
 use Rattle.source_pick.specs.declared.catalogue.CatRow.{CatRow}
-use Rattle.source_pick.specs.Sources.{level_of_node}
-use Rattle.source_pick.specs.Catalogue.{centre_of, row_of, catalogue_row, FitsColumn, FitsColumns, IsCentred}
+use Rattle.source_pick.specs.Catalogue.{centre_of, measured_row, catalogue_row, FitsColumn, FitsColumns, IsCentred}
 use Rattle.source_pick.specs.Numbers.{IsMoment, IsMean, IsMeasured}
-use Rattle.source_pick.proofs.Within.{top_inside}
 use Rattle.source_pick.proofs.Listing.{first_below}
 use Rattle.source_pick.proofs.Means.{IsCentre, centred, centre-small, moment_low, moment_high, sum_low, sum_high, least_low, greatest_high, greatest_small}
 
@@ -36,8 +35,8 @@ small_column n h = record { low = omega (arith, ints); high = omega (arith, ints
 centre_column : (z : ℤ) → IsUpTo 65535000 z → FitsColumn z
 centre_column z h = record { low = omega (arith, ints, h.low); high = omega (arith, ints, h.high) }
 
-pub row_columns : (number : ℕ) (level base flux : ℤ) (width : ℕ) (s : Sums) → IsMeasured number base flux width s → FitsColumns (row_of number level base flux width s)
-unfolding row_of
+pub row_columns : (number : ℕ) (level base flux : ℤ) (width : ℕ) (s : Sums) → IsMeasured number base flux width s → FitsColumns (measured_row number level base flux width s)
+unfolding measured_row
 row_columns number level base flux width s k = record {
   number = small_column number k.few;
   area = small_column s.area k.sizes.area;
@@ -51,8 +50,8 @@ row_columns number level base flux width s k = record {
   ycen = centre_column (centre_of (s.ry -ℤ base *ℤ pos s.y) s.y flux s.area) (centre-small (s.ry -ℤ base *ℤ pos s.y) s.y flux s.area s.ymin s.ymax k.along);
 }
 
-pub row_centred : (number : ℕ) (level base flux : ℤ) (width : ℕ) (s : Sums) → IsMeasured number base flux width s → IsCentred (row_of number level base flux width s)
-unfolding row_of
+pub row_centred : (number : ℕ) (level base flux : ℤ) (width : ℕ) (s : Sums) → IsMeasured number base flux width s → IsCentred (measured_row number level base flux width s)
+unfolding measured_row
 row_centred number level base flux width s k = record {
   left = across.above;
   right = across.below;
@@ -71,16 +70,16 @@ row_centred number level base flux width s k = record {
 pub moment-read : (moment base : ℤ) (sum : ℕ) → IsMoment moment base sum → SFits w128 moment → SFits w64 base → IsMoment (to_z w128 (of_z w128 moment)) (to_z w64 (of_z w64 base)) sum
 moment-read moment base sum k f g = rw (to_z-of_z w128 moment f, to_z-of_z w64 base g) k
 
-pub moment_of : (base : ℤ) (s : Sums) → IsUpTo (2 ^ 34) base → HasSizes s → IsMoment s.rx base s.x
+pub moment_of : (base : ℤ) (s : Sums) → IsUpTo (2 ^ 37) base → HasSizes s → IsMoment s.rx base s.x
 moment_of base s b h = record {
-  moment_small = up_to_more (2 ^ 50 * s.area) (2 ^ 74) s.rx h.rx (omega (arith, h.area));
+  moment_small = up_to_more (2 ^ 53 * s.area) (2 ^ 77) s.rx h.rx (omega (arith, h.area));
   base_small = b;
   sum_small = omega (arith, h.x, h.area);
 }
 
-pub moment_along : (base : ℤ) (s : Sums) → IsUpTo (2 ^ 34) base → HasSizes s → IsMoment s.ry base s.y
+pub moment_along : (base : ℤ) (s : Sums) → IsUpTo (2 ^ 37) base → HasSizes s → IsMoment s.ry base s.y
 moment_along base s b h = record {
-  moment_small = up_to_more (2 ^ 50 * s.area) (2 ^ 74) s.ry h.ry (omega (arith, h.area));
+  moment_small = up_to_more (2 ^ 53 * s.area) (2 ^ 77) s.ry h.ry (omega (arith, h.area));
   base_small = b;
   sum_small = omega (arith, h.y, h.area);
 }
@@ -98,11 +97,11 @@ pub centre_is : (got weighed weight : ℤ) (sum : ℕ) (flux : ℤ) (area : ℕ)
 centre_is got weighed weight sum flux area f g e h =
     to_z-of_z w64 got f ∙ h ∙ ap (λ (z : ℤ). centre_of z sum (to_z w64 (of_z w64 flux)) area) e ∙ ap (λ (z : ℤ). centre_of weight sum z area) (to_z-of_z w64 flux g)
 
-pub moment_fits : (base : ℤ) (s : Sums) → IsUpTo (2 ^ 34) base → HasSizes s → SFits w128 s.rx
-moment_fits base s b h = fits w128 (2 ^ 74) s.rx (moment_of base s b h).moment_small (lit< tt)
+pub moment_fits : (base : ℤ) (s : Sums) → IsUpTo (2 ^ 37) base → HasSizes s → SFits w128 s.rx
+moment_fits base s b h = fits w128 (2 ^ 77) s.rx (moment_of base s b h).moment_small (lit< tt)
 
-pub moment_fits_along : (base : ℤ) (s : Sums) → IsUpTo (2 ^ 34) base → HasSizes s → SFits w128 s.ry
-moment_fits_along base s b h = fits w128 (2 ^ 74) s.ry (moment_along base s b h).moment_small (lit< tt)
+pub moment_fits_along : (base : ℤ) (s : Sums) → IsUpTo (2 ^ 37) base → HasSizes s → SFits w128 s.ry
+moment_fits_along base s b h = fits w128 (2 ^ 77) s.ry (moment_along base s b h).moment_small (lit< tt)
 
 pub same_row : (a b : CatRow) → a.number ≡ b.number → a.level ≡ b.level → a.base ≡ b.base → a.area ≡ b.area → a.flux ≡ b.flux → a.peak ≡ b.peak → a.xmin ≡ b.xmin → a.xmax ≡ b.xmax
     → a.ymin ≡ b.ymin → a.ymax ≡ b.ymax → a.xfirst ≡ b.xfirst → a.yfirst ≡ b.yfirst → a.xcen ≡ b.xcen → a.ycen ≡ b.ycen → a.xvar ≡ b.xvar → a.yvar ≡ b.yvar → a.xycov ≡ b.xycov → a ≡ b
@@ -167,14 +166,14 @@ module _ (r : Raster) (connect : Connect) (n : ℕ) (plane : IsPlane r) (range :
   unfolding sums_of sums_over
   area_few = node_sizes.area
 
-  flux_small : flux_of r connect n ≤ℤ pos (2 ^ 59)
+  flux_small : flux_of r connect n ≤ℤ pos (2 ^ 62)
   unfolding flux_of
   flux_small =
       let few : length (pixels_of r connect n) ≤ 2 ^ 24 = area_few in
-      let each : IsUpTo (2 ^ 35 * length (pixels_of r connect n)) (total (λ p. level r p -ℤ base_of (tree_of r connect) n) (pixels_of r connect n)) =
-      total-up_to (λ p. level r p -ℤ base_of (tree_of r connect) n) (2 ^ 35) (pixels_of r connect n)
-      (λ p k. up_to-minus (2 ^ 34) (2 ^ 34) (level r p) (base_of (tree_of r connect) n) (level_up_to r p range) (base_up_to r connect n plane range hn)) in
-      omega (arith, ints, (up_to_more (2 ^ 35 * length (pixels_of r connect n)) (2 ^ 59) (total (λ p. level r p -ℤ base_of (tree_of r connect) n) (pixels_of r connect n)) each (omega arith)).high)
+      let each : IsUpTo (2 ^ 38 * length (pixels_of r connect n)) (total (λ p. level r p -ℤ base_of (tree_of r connect) n) (pixels_of r connect n)) =
+      total-up_to (λ p. level r p -ℤ base_of (tree_of r connect) n) (2 ^ 38) (pixels_of r connect n)
+      (λ p k. up_to-minus (2 ^ 37) (2 ^ 37) (level r p) (base_of (tree_of r connect) n) (level_up_to r p range) (base_up_to r connect n plane range hn)) in
+      omega (arith, ints, (up_to_more (2 ^ 38 * length (pixels_of r connect n)) (2 ^ 62) (total (λ p. level r p -ℤ base_of (tree_of r connect) n) (pixels_of r connect n)) each (omega arith)).high)
 
   across : IsMean ((sums_of r connect n).rx -ℤ base_of (tree_of r connect) n *ℤ pos (sums_of r connect n).x) (sums_of r connect n).x (flux_of r connect n) (sums_of r connect n).area
       (sums_of r connect n).xmin (sums_of r connect n).xmax
@@ -230,12 +229,12 @@ module _ (r : Raster) (connect : Connect) (n : ℕ) (plane : IsPlane r) (range :
 
 -- ---- the row as it is read
 
-pub row-same : (number : ℕ) (a b c x y z : ℤ) (v w : ℕ) (s t : Sums) → a ≡ x → b ≡ y → c ≡ z → v ≡ w → s ≡ t → row_of number a b c v s ≡ row_of number x y z w t
+pub row-same : (number : ℕ) (a b c x y z : ℤ) (v w : ℕ) (s t : Sums) → a ≡ x → b ≡ y → c ≡ z → v ≡ w → s ≡ t → measured_row number a b c v s ≡ measured_row number x y z w t
 row-same number a b c x y z v w s t e f g h k =
-    ap (λ (q : ℤ). row_of number q b c v s) e ∙ ap (λ (q : ℤ). row_of number x q c v s) f ∙ ap (λ (q : ℤ). row_of number x y q v s) g ∙ ap (λ (q : ℕ). row_of number x y z q s) h
-    ∙ ap (λ (q : Sums). row_of number x y z w q) k
+    ap (λ (q : ℤ). measured_row number q b c v s) e ∙ ap (λ (q : ℤ). measured_row number x q c v s) f ∙ ap (λ (q : ℤ). measured_row number x y q v s) g ∙ ap (λ (q : ℕ). measured_row number x y z q s) h
+    ∙ ap (λ (q : Sums). measured_row number x y z w q) k
 
-pub row-is : (r : Raster) (connect : Connect) (number n : ℕ) → row_of number (level_of_node r connect n) (base_of (tree_of r connect) n) (flux_of r connect n) r.shape.width (sums_of r connect n)
+pub row-is : (r : Raster) (connect : Connect) (number n : ℕ) → measured_row number (level_of_node r connect n) (base_of (tree_of r connect) n) (flux_of r connect n) r.shape.width (sums_of r connect n)
     ≡ catalogue_row r connect number n
 unfolding catalogue_row
 row-is r connect number n = refl

@@ -7,10 +7,12 @@ use Rattle.comp_tree.specs.Raster.{Raster, IsPlane}
 use Rattle.comp_tree.specs.Components.{nodes, is_in_node, tree_of}
 use Rattle.comp_tree.specs.Laws.{IsAncestor, parent, parent_of_node, IsNode, LiesWithin}
 use Rattle.source_pick.specs.declared.choice.Choice.{Choice}
-use Rattle.source_pick.specs.Sources.{lies_in, is_entry, is_split, has_strong_sibling, contains_split, is_source}
+use Rattle.source_pick.specs.Sources.{is_entry, is_split, has_strong_sibling, contains_split, is_source}
+use Rattle.comp_tree.specs.Nesting.{lies_within}
 use Rattle.source_pick.specs.Passes.{IsOnWay}
 use Rattle.source_pick.specs.Laws.{SourcesAreDisjoint, EachEntryHoldsASource}
-use Rattle.source_pick.proofs.Within.{within_from_way, within_from_lies_in, lies_in_from_within, way_from_shared, way_from_within, way_trans, way_smaller, HasParent, way_up}
+use Rattle.source_pick.proofs.Within.{within_from_way, way_from_shared, way_from_within, way_trans, way_smaller, HasParent, way_up}
+use Rattle.comp_tree.proofs.Nesting.{within_from_test, test_from_within}
 use Rattle.source_pick.proofs.Entries.{row_from_node, IsEntryOf, entry_of-parts, entry_same}
 use Rattle.source_pick.proofs.Splits.{AreTwins, IsSplitNode, split_parts, HasEntry, strong_entry, HasSibling, sibling_parts, sibling_from_twins, ContainsSplit, contains_parts, contains_from}
 
@@ -119,14 +121,14 @@ last_passing test (suc k) = go (test k) refl (last_passing test k)
         at x (inr y) m = let e : x ≡ k = omega arith in ap test e ∙ u
 
 pub each_entry_holds_a_source : EachEntryHoldsASource
-each_entry_holds_a_source r connect choice e plane he is_e = go (last_passing (λ x. lies_in r connect x e && is_split r connect choice x) (length (nodes r connect)))
+each_entry_holds_a_source r connect choice e plane he is_e = go (last_passing (λ x. lies_within r connect x e && is_split r connect choice x) (length (nodes r connect)))
   where
     inside : (x : ℕ) → x < length (nodes r connect) → IsOnWay (tree_of r connect).rows e x → is_split r connect choice x ≡ true
-        → lies_in r connect x e && is_split r connect choice x ≡ true
-    inside x hx w s = and_from (lies_in r connect x e) (is_split r connect choice x) (lies_in_from_within r connect x e (within_from_way r connect e x plane he hx w)) s
+        → lies_within r connect x e && is_split r connect choice x ≡ true
+    inside x hx w s = and_from (lies_within r connect x e) (is_split r connect choice x) (test_from_within r connect x e (within_from_way r connect e x plane he hx w)) s
 
-    go : IsLastPassing (λ x. lies_in r connect x e && is_split r connect choice x) (length (nodes r connect))
-        ⊎ ((x : ℕ) → x < length (nodes r connect) → lies_in r connect x e && is_split r connect choice x ≡ false)
+    go : IsLastPassing (λ x. lies_within r connect x e && is_split r connect choice x) (length (nodes r connect))
+        ⊎ ((x : ℕ) → x < length (nodes r connect) → lies_within r connect x e && is_split r connect choice x ≡ false)
         → (n : ℕ) × IsNode r connect n × IsTrue (is_source r connect choice n) × LiesWithin r connect n e
     go (inr none) = (e, he, source_from r connect choice e (record { stands = inl is_e; whole = whole }), λ q k. k)
       where
@@ -141,8 +143,8 @@ each_entry_holds_a_source r connect choice e plane he is_e = go (last_passing (�
       within_from_way r connect e k.first plane he k.first_node around_first,
     )
       where
-        parts : (lies_in r connect s.it e ≡ true) × (is_split r connect choice s.it ≡ true)
-        parts = and_parts (lies_in r connect s.it e) (is_split r connect choice s.it) s.passes
+        parts : (lies_within r connect s.it e ≡ true) × (is_split r connect choice s.it ≡ true)
+        parts = and_parts (lies_within r connect s.it e) (is_split r connect choice s.it) s.passes
 
         k : IsSplitNode r connect choice s.it
         k = split_parts r connect choice s.it parts.1
@@ -151,7 +153,7 @@ each_entry_holds_a_source r connect choice e plane he is_e = go (last_passing (�
         up = parent k.first k.twins.one_child (row_from_node r connect s.it s.below)
 
         around_first : IsOnWay (tree_of r connect).rows e k.first
-        around_first = way_trans (tree_of r connect).rows e s.it k.first (way_from_within r connect e s.it plane he s.below (within_from_lies_in r connect s.it e parts.0)) (inr up)
+        around_first = way_trans (tree_of r connect).rows e s.it k.first (way_from_within r connect e s.it plane he s.below (within_from_test r connect s.it e parts.0)) (inr up)
 
         parent_node : parent_of_node r connect k.first < length (nodes r connect)
         parent_node = subst (λ (x : ℕ). x < length (nodes r connect)) (sym k.twins.one_child) s.below

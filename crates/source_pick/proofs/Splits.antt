@@ -13,9 +13,11 @@ use Rattle.comp_tree.proofs.Members.{IsAmong, among-range, among_from_range, any
 use Rattle.comp_tree.proofs.Ancestors.{below_no_node}
 use Rattle.node_sums.proofs.Counting.{goes_down}
 use Rattle.source_pick.specs.declared.choice.Choice.{Choice}
-use Rattle.source_pick.specs.Sources.{node_numbers, lies_in, is_large, entry_of, has_contrast, is_strong, share_entry, are_strong_children, is_split, has_strong_sibling, contains_split}
+use Rattle.source_pick.specs.Sources.{is_large, entry_of, has_contrast, is_strong, share_entry, are_strong_children, is_split, has_strong_sibling, contains_split}
+use Rattle.comp_tree.specs.Nesting.{node_numbers, lies_within}
 use Rattle.source_pick.specs.Passes.{IsOnWay}
-use Rattle.source_pick.proofs.Within.{within_from_way, within_from_lies_in, lies_in_from_within, way_from_within, HasParent, way_up}
+use Rattle.source_pick.proofs.Within.{within_from_way, way_from_within, HasParent, way_up}
+use Rattle.comp_tree.proofs.Nesting.{within_from_test, test_from_within}
 use Rattle.source_pick.proofs.Entries.{row_from_node, IsEntryOf, entry_of-parts, entry_of-found, entry_of_child}
 
 -- ---- tests over all nodes
@@ -304,14 +306,14 @@ pub contains_parts : (r : Raster) (connect : Connect) (choice : Choice) (n : ℕ
     → contains_split r connect choice n ≡ true → ContainsSplit r connect choice n
 unfolding contains_split
 contains_parts r connect choice n plane hn h =
-    let m : Passing r connect (λ x. lies_in r connect x n && is_split r connect choice x) = passing r connect (λ x. lies_in r connect x n && is_split r connect choice x) h in
-    let parts = and_parts (lies_in r connect m.it n) (is_split r connect choice m.it) m.passes in
-    record { split = m.it; node = m.node; way = way_from_within r connect n m.it plane hn m.node (within_from_lies_in r connect m.it n parts.0); is_split = parts.1 }
+    let m : Passing r connect (λ x. lies_within r connect x n && is_split r connect choice x) = passing r connect (λ x. lies_within r connect x n && is_split r connect choice x) h in
+    let parts = and_parts (lies_within r connect m.it n) (is_split r connect choice m.it) m.passes in
+    record { split = m.it; node = m.node; way = way_from_within r connect n m.it plane hn m.node (within_from_test r connect m.it n parts.0); is_split = parts.1 }
 
 pub contains_from : (r : Raster) (connect : Connect) (choice : Choice) (n : ℕ) → IsPlane r → n < length (nodes r connect)
     → ContainsSplit r connect choice n → contains_split r connect choice n ≡ true
 unfolding contains_split
 contains_from r connect choice n plane hn k =
-    any_node r connect (λ x. lies_in r connect x n && is_split r connect choice x) k.split k.node
-    (and_from (lies_in r connect k.split n) (is_split r connect choice k.split)
-    (lies_in_from_within r connect k.split n (within_from_way r connect n k.split plane hn k.node k.way)) k.is_split)
+    any_node r connect (λ x. lies_within r connect x n && is_split r connect choice x) k.split k.node
+    (and_from (lies_within r connect k.split n) (is_split r connect choice k.split)
+    (test_from_within r connect k.split n (within_from_way r connect n k.split plane hn k.node k.way)) k.is_split)

@@ -15,11 +15,12 @@ use Rattle.comp_tree.specs.Laws.{parent_of_node}
 use Rattle.comp_tree.proofs.Levels.{int_le-false, int_lt-true, int_lt-from_not_le}
 use Rattle.comp_tree.proofs.Ancestors.{below_no_node}
 use Rattle.node_sums.specs.declared.entry.Sums.{Sums}
-use Rattle.node_sums.specs.Sums.{sums_of}
+use Rattle.node_sums.specs.Sums.{sums_of, ForEachPlaneOf}
 use Rattle.node_sums.specs.Flux.{flux_of}
 use Rattle.source_pick.specs.declared.choice.Choice.{Choice}
-use Rattle.source_pick.specs.Sources.{level_of_node, is_large, is_lowest, is_entry, entry_of, has_contrast, is_strong}
-use Rattle.source_pick.specs.Passes.{IsOf, entry_number, AreEntries, AreStrong}
+use Rattle.source_pick.specs.Sources.{is_large, is_lowest, is_entry, entry_of, has_contrast, is_strong}
+use Rattle.comp_tree.specs.Nesting.{level_of_node}
+use Rattle.source_pick.specs.Passes.{entry_number, AreEntries, AreStrong}
 use Rattle.source_pick.proofs.Entries.{entry_of-parts, entry_of-self, entry_of-root, entry_of-child}
 use Rattle.source_pick.proofs.Splits.{strong-in, strong-none}
 use Rattle.source_pick.proofs.Readings.{filled}
@@ -114,17 +115,17 @@ none_from_number r connect choice n x plane hn e f = go (entry_of r connect choi
         (sym (e ∙ ap (λ (o : Option ℕ). unwrap_or o no_node) u) ∙ f))
 
 pub entries_none : (choice : Choice) (tree : ComponentTree) (sums : List Sums) (entries : List ℕ) → length entries ≡ length tree.rows → AreEntries choice tree sums 0 entries
-entries_none choice tree sums entries l = record { one_each = l; each = λ r connect o n h. absurd (omega arith) }
+entries_none choice tree sums entries l = record { one_each = l; each = λ r connect of_tree of_sums is_plane n h. absurd (omega arith) }
 
 pub entries_more : (choice : Choice) (tree : ComponentTree) (sums : List Sums) (k x : ℕ) (entries : List ℕ) → AreEntries choice tree sums k entries → k < length tree.rows
-    → ((r : Raster) (connect : Connect) → IsOf r connect tree sums → x ≡ entry_number r connect choice k) → AreEntries choice tree sums (k + 1) (set entries k x)
+    → ForEachPlaneOf tree sums (λ r connect. IsPlane r → x ≡ entry_number r connect choice k) → AreEntries choice tree sums (k + 1) (set entries k x)
 entries_more choice tree sums k x entries h inside here = record {
   one_each = length-set entries k x ∙ h.one_each;
-  each = λ r connect o. filled entries k x 0 (entry_number r connect choice) (let l : length entries ≡ length tree.rows = h.one_each in omega arith) (h.each r connect o) (here r connect o);
+  each = λ r connect of_tree of_sums is_plane. filled entries k x 0 (entry_number r connect choice) (let l : length entries ≡ length tree.rows = h.one_each in omega arith) (h.each r connect of_tree of_sums is_plane) (here r connect of_tree of_sums is_plane);
 }
 
 pub entries_up_to : (choice : Choice) (tree : ComponentTree) (sums : List Sums) (j k : ℕ) (entries : List ℕ) → AreEntries choice tree sums k entries → j ≤ k → AreEntries choice tree sums j entries
-entries_up_to choice tree sums j k entries h l = record { one_each = h.one_each; each = λ r connect o n m. h.each r connect o n (omega arith) }
+entries_up_to choice tree sums j k entries h l = record { one_each = h.one_each; each = λ r connect of_tree of_sums is_plane n m. h.each r connect of_tree of_sums is_plane n (omega arith) }
 
 -- ---- strong nodes
 
@@ -140,17 +141,17 @@ pub strong_if : (r : Raster) (connect : Connect) (choice : Choice) (n e : ℕ) (
 strong_if r connect choice n e b h k f = f ∙ ap (λ (x : Bool). x && has_contrast r connect choice n e) k ∙ sym (strong-in r connect choice n e h)
 
 pub strong_nodes_none : (choice : Choice) (tree : ComponentTree) (sums : List Sums) (strong : List Bool) → length strong ≡ length tree.rows → AreStrong choice tree sums 0 strong
-strong_nodes_none choice tree sums strong l = record { one_each = l; each = λ r connect o n h. absurd (omega arith) }
+strong_nodes_none choice tree sums strong l = record { one_each = l; each = λ r connect of_tree of_sums is_plane n h. absurd (omega arith) }
 
 pub strong_nodes_more : (choice : Choice) (tree : ComponentTree) (sums : List Sums) (k : ℕ) (x : Bool) (strong : List Bool) → AreStrong choice tree sums k strong → k < length tree.rows
-    → ((r : Raster) (connect : Connect) → IsOf r connect tree sums → x ≡ is_strong r connect choice k) → AreStrong choice tree sums (k + 1) (set strong k x)
+    → ForEachPlaneOf tree sums (λ r connect. IsPlane r → x ≡ is_strong r connect choice k) → AreStrong choice tree sums (k + 1) (set strong k x)
 strong_nodes_more choice tree sums k x strong h inside here = record {
   one_each = length-set strong k x ∙ h.one_each;
-  each = λ r connect o. filled strong k x false (is_strong r connect choice) (let l : length strong ≡ length tree.rows = h.one_each in omega arith) (h.each r connect o) (here r connect o);
+  each = λ r connect of_tree of_sums is_plane. filled strong k x false (is_strong r connect choice) (let l : length strong ≡ length tree.rows = h.one_each in omega arith) (h.each r connect of_tree of_sums is_plane) (here r connect of_tree of_sums is_plane);
 }
 
 pub strong_nodes_up_to : (choice : Choice) (tree : ComponentTree) (sums : List Sums) (j k : ℕ) (strong : List Bool) → AreStrong choice tree sums k strong → j ≤ k → AreStrong choice tree sums j strong
-strong_nodes_up_to choice tree sums j k strong h l = record { one_each = h.one_each; each = λ r connect o n m. h.each r connect o n (omega arith) }
+strong_nodes_up_to choice tree sums j k strong h l = record { one_each = h.one_each; each = λ r connect of_tree of_sums is_plane n m. h.each r connect of_tree of_sums is_plane n (omega arith) }
 
 -- ---- the contrast, as the code computes it
 

@@ -1,57 +1,21 @@
 -- Which components lie within which, by the ways upwards.
-use Rattle.std.proofs.Common.{◌≡◌, ℕ, ◌<◌, Bool, true, List, [], ◌∷◌, length, refl, sym, ◌∙◌, ap, subst, arith, ◌⊎◌, inl, inr}
-use Rattle.std.specs.Prelude.{ℤ, ◌≤ℤ◌, filter}
-use Rattle.std.specs.List.{list_all}
-use Rattle.std.proofs.lemmas.Bool.{true≢false, and_parts, and_from, cases_order}
+use Rattle.std.proofs.Common.{◌≡◌, ℕ, ◌<◌, true, List, length, refl, sym, ◌∙◌, subst, arith, ◌⊎◌, inl, inr}
+use Rattle.std.specs.Prelude.{ℤ, ◌≤ℤ◌}
+use Rattle.std.proofs.lemmas.Bool.{true≢false, cases_order}
 use Rattle.comp_tree.specs.declared.shape.Connect.{Connect}
 use Rattle.comp_tree.specs.declared.tree.NodeRow.{NodeRow}
-use Rattle.comp_tree.specs.Raster.{Raster, IsPlane, pixels, level}
+use Rattle.comp_tree.specs.Raster.{Raster, IsPlane, level}
 use Rattle.comp_tree.specs.ComponentTree.{parent_in}
 use Rattle.comp_tree.specs.Components.{nodes, is_in_node, tree_of}
+use Rattle.comp_tree.specs.Nesting.{level_of_node}
 use Rattle.comp_tree.specs.Laws.{IsAncestor, parent, above, top_of, LiesWithin}
-use Rattle.comp_tree.proofs.Members.{IsAmong, among-filter, among_from_filter}
-use Rattle.comp_tree.proofs.Reaching.{among_from_defined}
-use Rattle.comp_tree.proofs.Components.{top-here}
+use Rattle.comp_tree.proofs.Nesting.{top_inside}
 use Rattle.comp_tree.proofs.Ancestors.{length-rows, ancestors_are_the_larger_nodes}
-use Rattle.node_sums.specs.Sums.{pixels_of}
-use Rattle.node_sums.proofs.Counting.{goes_down, in_node-defined, holders, ancestor_smaller}
+use Rattle.node_sums.proofs.Counting.{goes_down, holders, ancestor_smaller}
 use Rattle.node_sums.proofs.Fluxes.{level-of_node, level_at_least}
-use Rattle.source_pick.specs.Sources.{level_of_node, lies_in}
 use Rattle.source_pick.specs.Passes.{IsOnWay}
-use Rattle.source_pick.specs.Laws.{LiesInIsInclusion}
-
--- ---- lists
-
-all_from : (test : ℕ → Bool) (xs : List ℕ) → ((x : ℕ) → IsAmong x xs → test x ≡ true) → list_all test xs ≡ true
-all_from test [] f = refl
-all_from test (x ∷ xs) f = and_from (test x) (list_all test xs) (f x (inl refl)) (all_from test xs (λ y m. f y (inr m)))
-
-all_at : (test : ℕ → Bool) (xs : List ℕ) (x : ℕ) → list_all test xs ≡ true → IsAmong x xs → test x ≡ true
-all_at test [] x h m = absurd m
-all_at test (y ∷ xs) x h (inl e) = sym (ap test e) ∙ (and_parts (test y) (list_all test xs) h).0
-all_at test (y ∷ xs) x h (inr m) = all_at test xs x (and_parts (test y) (list_all test xs) h).1 m
-
--- ---- the test
-
-pub within_from_lies_in : (r : Raster) (connect : Connect) (n m : ℕ) → lies_in r connect n m ≡ true → LiesWithin r connect n m
-unfolding lies_in pixels_of
-within_from_lies_in r connect n m h = λ q k.
-    all_at (is_in_node r connect m) (filter (is_in_node r connect n) (pixels r)) q h
-    (among-filter (is_in_node r connect n) q (pixels r) (among_from_defined r q (in_node-defined r connect n q k)) k)
-
-pub lies_in_from_within : (r : Raster) (connect : Connect) (n m : ℕ) → LiesWithin r connect n m → lies_in r connect n m ≡ true
-unfolding lies_in pixels_of
-lies_in_from_within r connect n m w =
-    all_from (is_in_node r connect m) (filter (is_in_node r connect n) (pixels r)) (λ q k. w q (among_from_filter (is_in_node r connect n) q (pixels r) k).1)
-
-pub lies_in_is_inclusion : LiesInIsInclusion
-lies_in_is_inclusion r connect n m = (within_from_lies_in r connect n m, lies_in_from_within r connect n m)
 
 -- ---- ways upwards
-
-pub top_inside : (r : Raster) (connect : Connect) (n : ℕ) → n < length (nodes r connect) → is_in_node r connect n (top_of r connect n) ≡ true
-unfolding is_in_node
-top_inside r connect n h = top-here r connect n h
 
 pub within_from_way : (r : Raster) (connect : Connect) (m n : ℕ) → IsPlane r → m < length (nodes r connect) → n < length (nodes r connect)
     → IsOnWay (tree_of r connect).rows m n → LiesWithin r connect n m

@@ -1,4 +1,4 @@
--- The catalogue: for each source 17 whole numbers, from the sums over its component and from its flux.
+-- Model: the catalogue: for each source 17 whole numbers, from the sums over its component and from its flux.
 use Rattle.std.specs.Prelude.{ℕ, ◌+◌, ◌*◌, ◌/◌, ◌%◌, ◌^◌, ◌-◌, cond, ℤ, pos, neg_ℤ, ◌-ℤ◌, ◌*ℤ◌, ◌≤ℤ◌, List, [], ◌∷◌, map}
 use Rattle.std.specs.List.{enumerate_from}
 use Rattle.std.specs.Int.{int_div_euclid}
@@ -6,12 +6,13 @@ use Rattle.std.specs.Ordering.{int_eq}
 use Rattle.comp_tree.specs.declared.shape.Connect.{Connect}
 use Rattle.comp_tree.specs.Raster.{Raster}
 use Rattle.comp_tree.specs.Components.{tree_of}
+use Rattle.comp_tree.specs.Nesting.{level_of_node}
 use Rattle.node_sums.specs.declared.entry.Sums.{Sums}
 use Rattle.node_sums.specs.Sums.{sums_of}
 use Rattle.node_sums.specs.Flux.{base_of, flux_of}
 use Rattle.source_pick.specs.declared.choice.Choice.{Choice}
 use Rattle.source_pick.specs.declared.catalogue.CatRow.{CatRow}
-use Rattle.source_pick.specs.Sources.{level_of_node, sources}
+use Rattle.source_pick.specs.Sources.{sources}
 
 -- a / d, for a d above 0, rounded towards minus infinity
 abbrev pub floor_of : ℤ → ℤ → ℤ
@@ -28,8 +29,8 @@ spread_of area products first second =
     floor_of (pos 1000 *ℤ (pos (area * products) -ℤ pos (first * second))) (pos (area * area))
 
 -- the row of a node from its level, its base, its flux and its sums, in a plane with so many columns
-unfoldable pub row_of : ℕ → ℤ → ℤ → ℤ → ℕ → Sums → CatRow
-row_of number level base flux width s = record {
+unfoldable pub measured_row : ℕ → ℤ → ℤ → ℤ → ℕ → Sums → CatRow
+measured_row number level base flux width s = record {
   number = pos number;
   level = level;
   base = base;
@@ -52,7 +53,7 @@ row_of number level base flux width s = record {
 -- the row of node n of the plane's tree, as source with this number
 unfoldable pub catalogue_row : Raster → Connect → ℕ → ℕ → CatRow
 catalogue_row r connect number n =
-    row_of number (level_of_node r connect n) (base_of (tree_of r connect) n) (flux_of r connect n) r.shape.width (sums_of r connect n)
+    measured_row number (level_of_node r connect n) (base_of (tree_of r connect) n) (flux_of r connect n) r.shape.width (sums_of r connect n)
 
 -- the rows of some nodes, which are numbered from 1
 unfoldable pub catalogue_of : Raster → Connect → List ℕ → List CatRow
@@ -65,7 +66,8 @@ catalogue r connect choice = catalogue_of r connect (sources r connect choice)
 -- the numbers of a row, in the order of the columns
 abbrev pub cells_of : CatRow → List ℤ
 cells_of row =
-    row.number ∷ row.level ∷ row.base ∷ row.area ∷ row.flux ∷ row.peak ∷ row.xmin ∷ row.xmax ∷ row.ymin ∷ row.ymax ∷ row.xfirst ∷ row.yfirst
+    row.number ∷ row.level ∷ row.base ∷ row.area ∷ row.flux ∷ row.peak
+    ∷ row.xmin ∷ row.xmax ∷ row.ymin ∷ row.ymax ∷ row.xfirst ∷ row.yfirst
     ∷ row.xcen ∷ row.ycen ∷ row.xvar ∷ row.yvar ∷ row.xycov ∷ []
 
 -- a number fits a column of 32 bits

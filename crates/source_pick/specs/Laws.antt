@@ -1,15 +1,11 @@
--- The law of the sources.
+-- Model: the law of the sources.
 use Rattle.std.specs.Prelude.{◌≡◌, ℕ, ◌<◌, ◌↔◌, IsTrue, Contains, Some, slice_get}
 use Rattle.comp_tree.specs.declared.shape.Connect.{Connect}
 use Rattle.comp_tree.specs.Raster.{Raster, IsPlane}
 use Rattle.comp_tree.specs.Laws.{IsNode, LiesWithin, AreDisjoint}
 use Rattle.node_sums.specs.Sums.{sums_of}
 use Rattle.source_pick.specs.declared.choice.Choice.{Choice}
-use Rattle.source_pick.specs.Sources.{lies_in, is_entry, is_source, sources}
-
--- the test whether a node lies within another is right
-abbrev pub LiesInIsInclusion : Type 0
-LiesInIsInclusion = (r : Raster) (connect : Connect) (n m : ℕ) → IsTrue (lies_in r connect n m) ↔ LiesWithin r connect n m
+use Rattle.source_pick.specs.Sources.{is_entry, is_source, sources}
 
 -- no two entries share a pixel
 abbrev pub EntriesAreDisjoint : Type 0

@@ -5,3 +5,4 @@ pub mod Laws
 pub mod Passes
 pub mod Numbers
 pub mod Locality
+pub mod Clearing

@@ -1,4 +1,4 @@
--- The law of locality: the sources depend on the pixels at and beside those with values of at least the threshold alone.
+-- Model: the law of locality: the sources depend on the pixels at and beside those with values of at least the threshold alone.
 use Rattle.std.specs.Prelude.{◌≡◌, ℕ, ◌<◌, ◌⊎◌, Bool, IsTrue, ◌||◌, cond, ℤ, length, map, filter, None}
 use Rattle.std.specs.List.{list_any}
 use Rattle.comp_tree.specs.declared.shape.Connect.{Connect}

@@ -1,12 +1,12 @@
--- How large the numbers are from which a catalogue row is made.
+-- Bookkeeping: how large the numbers are from which a catalogue row is made.
 use Rattle.std.specs.Prelude.{ℕ, ◌+◌, ◌*◌, ◌/◌, ◌^◌, ◌<◌, ◌≤◌, ℤ, pos, ◌-ℤ◌, ◌*ℤ◌, ◌≤ℤ◌}
 use Rattle.node_sums.specs.declared.entry.Sums.{Sums}
 use Rattle.node_sums.specs.Merging.{IsUpTo, HasSizes}
 
 -- a sum of value times coordinate, a base and a sum of coordinates
 pub record IsMoment (moment base : ℤ) (sum : ℕ) : Type 0 where
-  pub moment_small : IsUpTo (2 ^ 74) moment
-  pub base_small : IsUpTo (2 ^ 34) base
+  pub moment_small : IsUpTo (2 ^ 77) moment
+  pub base_small : IsUpTo (2 ^ 37) base
   pub sum_small : sum ≤ 2 ^ 40
 
 -- a moment above the base, the sum of the coordinates, the flux and the area, where each coordinate is from low to high
@@ -18,7 +18,7 @@ pub record IsMean (moment : ℤ) (sum : ℕ) (flux : ℤ) (area low high : ℕ) 
   pub sum_low : low * area ≤ sum
   pub sum_high : sum ≤ high * area
   pub not_negative : pos 0 ≤ℤ flux
-  pub small : flux ≤ℤ pos (2 ^ 59)
+  pub small : flux ≤ℤ pos (2 ^ 62)
   pub moment_low : (flux *ℤ pos low) ≤ℤ moment
   pub moment_high : moment ≤ℤ (flux *ℤ pos high)
 
@@ -36,7 +36,7 @@ pub record IsMeasured (number : ℕ) (base flux : ℤ) (width : ℕ) (s : Sums) 
   pub some_columns : 0 < width
   pub few_columns : width ≤ 65535
   pub few_rows : s.first / width + 1 ≤ 65535
-  pub base_up_to : IsUpTo (2 ^ 34) base
+  pub base_up_to : IsUpTo (2 ^ 37) base
   pub sizes : HasSizes s
   pub across : IsMean (s.rx -ℤ base *ℤ pos s.x) s.x flux s.area s.xmin s.xmax
   pub along : IsMean (s.ry -ℤ base *ℤ pos s.y) s.y flux s.area s.ymin s.ymax

@@ -1,28 +1,19 @@
--- What the passes over the nodes keep.
-use Rattle.std.specs.Prelude.{◌≡◌, ℕ, ◌<◌, ◌+◌, ◌-◌, ◌≤◌, Bool, true, false, IsTrue, List, length, ◌⊎◌, slice_get, slice_index, slice_index_or, Some, None, unwrap_or, ℤ, map, cond}
+-- Bookkeeping: what the passes over the nodes and the pixels have found so far.
+use Rattle.std.specs.Prelude.{◌≡◌, ℕ, ◌<◌, ◌+◌, ◌≤◌, Bool, true, false, List, length, ◌⊎◌, slice_get, slice_index, slice_index_or, Some, unwrap_or}
 use Rattle.std.specs.List.{range_with_len, flat_map}
 use Rattle.comp_tree.specs.declared.shape.Connect.{Connect}
-use Rattle.comp_tree.specs.declared.shape.Connect.TheVariants.{Four, Eight}
 use Rattle.comp_tree.specs.declared.tree.NodeRow.{NodeRow}
-use Rattle.comp_tree.specs.Raster.{Raster, IsPlane, pixels, value_at, is_defined, is_at_least}
-use Rattle.comp_tree.specs.Grid.{are_neighbours}
+use Rattle.comp_tree.specs.Raster.{Raster, IsPlane}
 use Rattle.comp_tree.specs.ComponentTree.{ComponentTree, parent_in, no_node}
 use Rattle.comp_tree.specs.Components.{tree_of}
 use Rattle.comp_tree.specs.Laws.{IsAncestor, top_of}
 use Rattle.node_sums.specs.declared.entry.Sums.{Sums}
-use Rattle.node_sums.specs.Sums.{sums_of, sums_in}
+use Rattle.node_sums.specs.Sums.{sums_of, ForEachPlaneOf}
 use Rattle.source_pick.specs.declared.choice.Choice.{Choice}
 use Rattle.source_pick.specs.declared.splitting.StrongChildren.{StrongChildren}
 use Rattle.source_pick.specs.declared.splitting.StrongChildren.TheVariants.{Zero, One, Several}
 use Rattle.source_pick.specs.Sources.{entry_of, is_strong, is_source, sources_at}
-use Rattle.source_pick.specs.Segmentation.{number_at, AreDisjointNodes}
-use Rattle.source_pick.specs.Locality.{is_near_high}
-
--- the tree and the sums are those of the plane r
-pub record IsOf (r : Raster) (connect : Connect) (tree : ComponentTree) (sums : List Sums) : Type 0 where
-  pub plane : IsPlane r
-  pub tree_is : tree ≡ tree_of r connect
-  pub sums_are : sums ≡ sums_in r connect
+use Rattle.source_pick.specs.Segmentation.{source_number_at, AreDisjointNodes}
 
 -- ---- entries and strong nodes
 
@@ -33,55 +24,57 @@ entry_number r connect choice n = unwrap_or (entry_of r connect choice n) no_nod
 -- the first count numbers are those of the nodes' entries
 pub record AreEntries (choice : Choice) (tree : ComponentTree) (sums : List Sums) (count : ℕ) (entries : List ℕ) : Type 0 where
   pub one_each : length entries ≡ length tree.rows
-  pub each : (r : Raster) (connect : Connect) → IsOf r connect tree sums → (n : ℕ) → n < count → slice_index entries n ≡ entry_number r connect choice n
+  pub each : ForEachPlaneOf tree sums (λ r connect. IsPlane r → (n : ℕ) → n < count → slice_index entries n ≡ entry_number r connect choice n)
 
 -- the first count flags say which nodes are strong
 pub record AreStrong (choice : Choice) (tree : ComponentTree) (sums : List Sums) (count : ℕ) (strong : List Bool) : Type 0 where
   pub one_each : length strong ≡ length tree.rows
-  pub each : (r : Raster) (connect : Connect) → IsOf r connect tree sums → (n : ℕ) → n < count → slice_index_or strong n false ≡ is_strong r connect choice n
+  pub each : ForEachPlaneOf tree sums (λ r connect. IsPlane r → (n : ℕ) → n < count → slice_index_or strong n false ≡ is_strong r connect choice n)
 
 -- ---- splits
 
 -- n is a child of m with a flag, and m has an entry
-pub record IsInner (rows : List NodeRow) (entries : List ℕ) (strong : List Bool) (m n : ℕ) : Type 0 where
+pub record IsStrongChild (rows : List NodeRow) (entries : List ℕ) (strong : List Bool) (m n : ℕ) : Type 0 where
   pub is_child : parent_in rows n ≡ m
   pub is_strong : slice_index_or strong n false ≡ true
   pub has_entry : slice_index entries m ≡ no_node → ⊥
 
 -- two such children have numbers below count
-pub record HasTwo (rows : List NodeRow) (entries : List ℕ) (strong : List Bool) (count m : ℕ) : Type 0 where
+pub record HasTwoStrongChildren (rows : List NodeRow) (entries : List ℕ) (strong : List Bool) (count m : ℕ) : Type 0 where
   pub first : ℕ
   pub second : ℕ
   pub apart : first < second
   pub below : second < count
-  pub one : IsInner rows entries strong m first
-  pub other : IsInner rows entries strong m second
+  pub one : IsStrongChild rows entries strong m first
+  pub other : IsStrongChild rows entries strong m second
 
 -- of the children with numbers below count one alone is so
-pub record HasOne (rows : List NodeRow) (entries : List ℕ) (strong : List Bool) (count m : ℕ) : Type 0 where
+pub record HasOneStrongChild (rows : List NodeRow) (entries : List ℕ) (strong : List Bool) (count m : ℕ) : Type 0 where
   pub first : ℕ
   pub below : first < count
-  pub one : IsInner rows entries strong m first
-  pub only : (n : ℕ) → n < count → IsInner rows entries strong m n → n ≡ first
+  pub one : IsStrongChild rows entries strong m first
+  pub only : (n : ℕ) → n < count → IsStrongChild rows entries strong m n → n ≡ first
 
 -- none is
-pub record HasNone (rows : List NodeRow) (entries : List ℕ) (strong : List Bool) (count m : ℕ) : Type 0 where
-  pub none : (n : ℕ) → n < count → IsInner rows entries strong m n → ⊥
+pub record HasNoStrongChild (rows : List NodeRow) (entries : List ℕ) (strong : List Bool) (count m : ℕ) : Type 0 where
+  pub none : (n : ℕ) → n < count → IsStrongChild rows entries strong m n → ⊥
 
-abbrev pub Has : List NodeRow → List ℕ → List Bool → ℕ → ℕ → StrongChildren → Type 0
-Has rows entries strong count m Zero = HasNone rows entries strong count m
-Has rows entries strong count m One = HasOne rows entries strong count m
-Has rows entries strong count m Several = HasTwo rows entries strong count m
+-- so many are
+abbrev pub HasStrongChildren : List NodeRow → List ℕ → List Bool → ℕ → ℕ → StrongChildren → Type 0
+HasStrongChildren rows entries strong count m Zero = HasNoStrongChild rows entries strong count m
+HasStrongChildren rows entries strong count m One = HasOneStrongChild rows entries strong count m
+HasStrongChildren rows entries strong count m Several = HasTwoStrongChildren rows entries strong count m
 
 -- what is counted of the children with numbers below count
-pub record AreCounted (rows : List NodeRow) (entries : List ℕ) (strong : List Bool) (count : ℕ) (children : List StrongChildren) : Type 0 where
+pub record AreStrongChildCounts (rows : List NodeRow) (entries : List ℕ) (strong : List Bool) (count : ℕ) (children : List StrongChildren) : Type 0 where
   pub one_each : length children ≡ length rows
-  pub each : (m : ℕ) (c : StrongChildren) → slice_get children m ≡ Some c → Has rows entries strong count m c
+  pub each : (m : ℕ) (c : StrongChildren) → slice_get children m ≡ Some c → HasStrongChildren rows entries strong count m c
 
-abbrev pub one_more : StrongChildren → StrongChildren
-one_more Zero = One
-one_more One = Several
-one_more Several = Several
+-- with one strong child more
+abbrev pub with_one_more : StrongChildren → StrongChildren
+with_one_more Zero = One
+with_one_more One = Several
+with_one_more Several = Several
 
 abbrev pub are_several : StrongChildren → Bool
 are_several Zero = false
@@ -118,7 +111,7 @@ pub record AreAboveSplits (rows : List NodeRow) (splits flags : List Bool) : Typ
 -- the first count flags say which nodes are sources
 pub record AreSources (choice : Choice) (tree : ComponentTree) (sums : List Sums) (count : ℕ) (flags : List Bool) : Type 0 where
   pub one_each : length flags ≡ length tree.rows
-  pub each : (r : Raster) (connect : Connect) → IsOf r connect tree sums → (n : ℕ) → n < count → slice_index_or flags n false ≡ is_source r connect choice n
+  pub each : ForEachPlaneOf tree sums (λ r connect. IsPlane r → (n : ℕ) → n < count → slice_index_or flags n false ≡ is_source r connect choice n)
 
 -- n is a source below count whose least pixel is p
 pub record IsFirstOf (r : Raster) (connect : Connect) (choice : Choice) (count p n : ℕ) : Type 0 where
@@ -134,79 +127,29 @@ pub record IsNoFirst (r : Raster) (connect : Connect) (choice : Choice) (count p
 -- the sources below count stand at their least pixels
 pub record StandAtFirst (choice : Choice) (tree : ComponentTree) (sums : List Sums) (count : ℕ) (marks : List ℕ) : Type 0 where
   pub one_each : length marks ≡ length tree.node_of
-  pub each : (r : Raster) (connect : Connect) → IsOf r connect tree sums → (p n : ℕ) → slice_get marks p ≡ Some n
-      → IsFirstOf r connect choice count p n ⊎ IsNoFirst r connect choice count p n
+  pub each : ForEachPlaneOf tree sums (λ r connect. IsPlane r → (p n : ℕ) → slice_get marks p ≡ Some n
+      → IsFirstOf r connect choice count p n ⊎ IsNoFirst r connect choice count p n)
 
 -- the list has the sources with least pixels below count, in the order of these
 pub record ArePicked (choice : Choice) (tree : ComponentTree) (sums : List Sums) (count : ℕ) (picked : List ℕ) : Type 0 where
-  pub listed : (r : Raster) (connect : Connect) → IsOf r connect tree sums → picked ≡ flat_map (sources_at r connect choice) (range_with_len 0 count)
+  pub listed : ForEachPlaneOf tree sums (λ r connect. IsPlane r → picked ≡ flat_map (sources_at r connect choice) (range_with_len 0 count))
 
 -- ---- the map
 
 -- the first count nodes of the list have their places from 1 at their numbers, and all other nodes have 0
 pub record AreMarked (size : ℕ) (marked : List ℕ) (count : ℕ) (numbers : List ℕ) : Type 0 where
   pub one_each : length numbers ≡ size
-  pub sound : (n : ℕ) → n < size → (slice_index numbers n ≡ 0) ⊎ ((i : ℕ) × (i < count) × (slice_get marked i ≡ Some n) × (slice_index numbers n ≡ i + 1))
+  pub sound : (n : ℕ) → n < size
+      → (slice_index numbers n ≡ 0) ⊎ ((i : ℕ) × (i < count) × (slice_get marked i ≡ Some n) × (slice_index numbers n ≡ i + 1))
   pub complete : (i n : ℕ) → i < count → slice_get marked i ≡ Some n → slice_index numbers n ≡ 0 → ⊥
 
 -- the first count nodes have the number of the node of the list that is on their way upwards
 pub record AreNumbered (tree : ComponentTree) (marked : List ℕ) (count : ℕ) (numbers : List ℕ) : Type 0 where
   pub one_each : length numbers ≡ length tree.rows
   pub each : (r : Raster) (connect : Connect) → IsPlane r → tree ≡ tree_of r connect → (n : ℕ) → n < count
-      → slice_index numbers n ≡ number_at r connect marked (top_of r connect n)
+      → slice_index numbers n ≡ source_number_at r connect marked (top_of r connect n)
 
 -- the map of the pixels from start on has the numbers of the first count of them, if `numbers` has those of the nodes
 pub record HavePixelNumbers (tree : ComponentTree) (numbers : List ℕ) (start count : ℕ) (map : List ℕ) : Type 0 where
   pub each : (marked : List ℕ) (r : Raster) (connect : Connect) → AreDisjointNodes tree marked → AreNumbered tree marked (length tree.rows) numbers
-      → tree ≡ tree_of r connect → (k : ℕ) → k < count → slice_index map k ≡ number_at r connect marked (start + k)
-
--- ---- the pixels that matter
-
--- of the first count pixels none is defined and below h
-abbrev pub HasNoneBelow : Raster → ℤ → ℕ → Type 0
-HasNoneBelow r h count = (p : ℕ) → p < count → IsTrue (is_defined r p) → IsTrue (is_at_least r h p)
-
--- pixel q is p, or a neighbour of p
-abbrev pub IsAround : Connect → ℕ → ℕ → ℕ → Type 0
-IsAround connect width p q = (q ≡ p) ⊎ IsTrue (are_neighbours connect width p q)
-
--- of a row that lies so many rows away, at most one, the pixels up to so many columns to each side are around a pixel
-abbrev pub reach : Connect → ℕ → ℕ
-reach Four rows = 1 - rows
-reach Eight rows = 1
-
--- In what follows a list of marks has one for each pixel from `start` on.
-
--- of the pixels from first up to end those before `count` have been marked, and no others
-pub record AreSetBetween (start first end count : ℕ) (old new : List Bool) : Type 0 where
-  pub one_each : length new ≡ length old
-  pub sound : (k : ℕ) → slice_index_or new k false ≡ true → (slice_index_or old k false ≡ true) ⊎ ((first ≤ start + k) × (start + k < end))
-  pub kept : (k : ℕ) → slice_index_or old k false ≡ true → slice_index_or new k false ≡ true
-  pub complete : (k : ℕ) → k < length old → first ≤ start + k → start + k < count → slice_index_or new k false ≡ true
-
--- of the pixels around p those before `count` have been marked, and no others
-pub record AreSetAround (connect : Connect) (width p start count : ℕ) (old new : List Bool) : Type 0 where
-  pub one_each : length new ≡ length old
-  pub sound : (k : ℕ) → slice_index_or new k false ≡ true → (slice_index_or old k false ≡ true) ⊎ IsAround connect width p (start + k)
-  pub kept : (k : ℕ) → slice_index_or old k false ≡ true → slice_index_or new k false ≡ true
-  pub complete : (k : ℕ) → k < length old → start + k < count → IsAround connect width p (start + k) → slice_index_or new k false ≡ true
-
--- what is around the pixels of at least h from first up to count is marked, and nothing that is not near such a pixel
-pub record AreMarkedNear (r : Raster) (connect : Connect) (h : ℤ) (start first count : ℕ) (marks : List Bool) : Type 0 where
-  pub sound : (k : ℕ) → slice_index_or marks k false ≡ true → is_near_high r connect h (start + k) ≡ true
-  pub complete : (p k : ℕ) → first ≤ p → p < count → IsTrue (is_at_least r h p) → k < length marks → IsAround connect r.shape.width p (start + k)
-      → slice_index_or marks k false ≡ true
-
--- a plane without the pixels that are not marked
-unfoldable pub without_unmarked : Raster → List Bool → Raster
-without_unmarked r marks = record {
-  shape = r.shape;
-  values = map (λ p. cond (slice_index_or marks p false) (value_at r.values p) None) (pixels r);
-}
-
--- the first count pixels are so
-pub record IsClearedUpTo (r : Raster) (marks : List Bool) (count : ℕ) (plane : Raster) : Type 0 where
-  pub same_shape : plane.shape ≡ r.shape
-  pub one_each : length plane.values ≡ length r.values
-  pub done : (p : ℕ) → p < count → value_at plane.values p ≡ cond (slice_index_or marks p false) (value_at r.values p) None
-  pub rest : (p : ℕ) → count ≤ p → value_at plane.values p ≡ value_at r.values p
+      → tree ≡ tree_of r connect → (k : ℕ) → k < count → slice_index map k ≡ source_number_at r connect marked (start + k)

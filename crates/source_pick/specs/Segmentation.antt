@@ -1,4 +1,4 @@
--- The segmentation map: to which of some disjoint nodes each pixel belongs.
+-- Model: the segmentation map: to which of some disjoint nodes each pixel belongs.
 use Rattle.std.specs.Prelude.{◌≡◌, ℕ, ◌<◌, List, length, map, Some, slice_get, unwrap_or}
 use Rattle.std.specs.List.{position_from}
 use Rattle.comp_tree.specs.declared.shape.Connect.{Connect}
@@ -10,12 +10,12 @@ use Rattle.source_pick.specs.declared.choice.Choice.{Choice}
 use Rattle.source_pick.specs.Sources.{sources}
 
 -- the place from 1 of the node in the list whose component holds pixel p, and 0 where none does
-unfoldable pub number_at : Raster → Connect → List ℕ → ℕ → ℕ
-number_at r connect marked p = unwrap_or (position_from (λ n. is_in_node r connect n p) 1 marked) 0
+unfoldable pub source_number_at : Raster → Connect → List ℕ → ℕ → ℕ
+source_number_at r connect marked p = unwrap_or (position_from (λ n. is_in_node r connect n p) 1 marked) 0
 
 -- the map over the nodes of a list: a number for each pixel
 unfoldable pub segmentation_of : Raster → Connect → List ℕ → List ℕ
-segmentation_of r connect marked = map (number_at r connect marked) (pixels r)
+segmentation_of r connect marked = map (source_number_at r connect marked) (pixels r)
 
 -- the map over the sources
 unfoldable pub segmentation : Raster → Connect → Choice → List ℕ

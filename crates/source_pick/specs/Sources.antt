@@ -1,27 +1,15 @@
--- Which nodes of a plane's component tree are sources, and in which order they are numbered.
-use Rattle.std.specs.Prelude.{ℕ, Bool, false, ◌&&◌, ◌||◌, ◌==◌, not, nat_le, ℤ, pos, ◌*ℤ◌, int_le, int_lt, List, length, filter, Option}
-use Rattle.std.specs.List.{range_with_len, list_any, list_all, find, flat_map}
+-- Model: which nodes of a plane's component tree are sources, and in which order they are numbered.
+use Rattle.std.specs.Prelude.{ℕ, Bool, false, ◌&&◌, ◌||◌, ◌==◌, not, nat_le, pos, ◌*ℤ◌, int_le, int_lt, List, filter, Option}
+use Rattle.std.specs.List.{list_any, find, flat_map}
 use Rattle.std.specs.Option.{option_map_or}
 use Rattle.comp_tree.specs.declared.shape.Connect.{Connect}
 use Rattle.comp_tree.specs.Raster.{Raster, pixels}
-use Rattle.comp_tree.specs.ComponentTree.{no_node}
-use Rattle.comp_tree.specs.Components.{nodes, is_in_node, tree_of}
+use Rattle.comp_tree.specs.Components.{tree_of}
+use Rattle.comp_tree.specs.Nesting.{node_numbers, is_root, level_of_node, lies_within}
 use Rattle.comp_tree.specs.Laws.{parent_of_node}
-use Rattle.node_sums.specs.Sums.{pixels_of, sums_of}
-use Rattle.node_sums.specs.Flux.{level_in, flux_of}
+use Rattle.node_sums.specs.Sums.{sums_of}
+use Rattle.node_sums.specs.Flux.{flux_of}
 use Rattle.source_pick.specs.declared.choice.Choice.{Choice}
-
--- the numbers of all nodes
-abbrev pub node_numbers : Raster → Connect → List ℕ
-node_numbers r connect = range_with_len 0 (length (nodes r connect))
-
--- the level of node n
-abbrev pub level_of_node : Raster → Connect → ℕ → ℤ
-level_of_node r connect n = level_in (tree_of r connect).rows n
-
--- the component of node n lies within that of node m
-unfoldable pub lies_in : Raster → Connect → ℕ → ℕ → Bool
-lies_in r connect n m = list_all (is_in_node r connect m) (pixels_of r connect n)
 
 -- ---- entries
 
@@ -32,7 +20,7 @@ is_large r connect choice n = nat_le choice.min_area (sums_of r connect n).area 
 -- node n is a root, or its parent lies below the threshold
 unfoldable pub is_lowest : Raster → Connect → Choice → ℕ → Bool
 is_lowest r connect choice n =
-    (parent_of_node r connect n == no_node) || int_lt (level_of_node r connect (parent_of_node r connect n)) choice.threshold
+    is_root (tree_of r connect) n || int_lt (level_of_node r connect (parent_of_node r connect n)) choice.threshold
 
 -- an entry: a whole component of the threshold set of the threshold, if it is large
 unfoldable pub is_entry : Raster → Connect → Choice → ℕ → Bool
@@ -41,7 +29,7 @@ is_entry r connect choice n =
 
 -- the entry in which node n lies. Entries are disjoint, so there is one at most
 unfoldable pub entry_of : Raster → Connect → Choice → ℕ → Option ℕ
-entry_of r connect choice n = find (λ e. is_entry r connect choice e && lies_in r connect n e) (node_numbers r connect)
+entry_of r connect choice n = find (λ e. is_entry r connect choice e && lies_within r connect n e) (node_numbers r connect)
 
 -- ---- splits
 
@@ -72,12 +60,12 @@ is_split r connect choice m =
 -- node n is strong, and has a strong sibling in the same entry: another child of its parent
 unfoldable pub has_strong_sibling : Raster → Connect → Choice → ℕ → Bool
 has_strong_sibling r connect choice n =
-    not (parent_of_node r connect n == no_node)
+    not (is_root (tree_of r connect) n)
     && list_any (are_strong_children r connect choice (parent_of_node r connect n) n) (node_numbers r connect)
 
 -- a node whose component lies within that of node n, n included, is a split
 unfoldable pub contains_split : Raster → Connect → Choice → ℕ → Bool
-contains_split r connect choice n = list_any (λ m. lies_in r connect m n && is_split r connect choice m) (node_numbers r connect)
+contains_split r connect choice n = list_any (λ m. lies_within r connect m n && is_split r connect choice m) (node_numbers r connect)
 
 -- ---- sources
 

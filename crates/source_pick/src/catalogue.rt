@@ -1,9 +1,6 @@
 ghost use Rattle.std.specs.Prelude.{◌≡◌, ◌^◌, ◌<◌, ◌≤◌, pos, ◌-ℤ◌, ◌*ℤ◌, length};
-ghost use Rattle.comp_tree.specs.declared.shape.Connect.{Connect};
-ghost use Rattle.comp_tree.specs.Raster.{Raster};
-ghost use Rattle.comp_tree.specs.Components.{tree_of};
-ghost use Rattle.node_sums.specs.Sums.{sums_in, AreTheTrees};
-ghost use Rattle.source_pick.specs.Catalogue.{catalogue_row, row_of, cells_of, centre_of, spread_of, FitsColumns, IsCentred};
+ghost use Rattle.node_sums.specs.Sums.{AreTheTrees, ForEachPlaneOf};
+ghost use Rattle.source_pick.specs.Catalogue.{catalogue_row, measured_row, cells_of, centre_of, spread_of, FitsColumns, IsCentred};
 ghost use Rattle.source_pick.specs.Numbers.{IsMoment, IsMean, IsSpread, IsMeasured};
 
 use comp_tree::Tree;
@@ -42,7 +39,7 @@ pub fn row(tree: &Tree, sums: &[Sums], number: u32, n: u32) -> CatRow
     requires node { n < length tree.now.rows }
     requires from_one { 1 ≤ number }
     requires few { number ≤ 2 ^ 24 }
-    ensures exact { (plane : Raster) (connect : Connect) → tree.now ≡ tree_of plane connect → sums.now ≡ sums_in plane connect → result ≡ catalogue_row plane connect number n }
+    ensures exact { ForEachPlaneOf tree.now sums.now (λ plane connect. result ≡ catalogue_row plane connect number n) }
     ensures columns { FitsColumns result }
     ensures centred { IsCentred result }
 {
@@ -56,7 +53,7 @@ pub fn row(tree: &Tree, sums: &[Sums], number: u32, n: u32) -> CatRow
 // The row from a node's numbers.
 fn row_from(number: u32, level: i64, base: i64, flux: i64, width: u32, s: &Sums) -> CatRow
     requires { IsMeasured number base flux width s.now }
-    ensures { result ≡ row_of number level base flux width s.now }
+    ensures { result ≡ measured_row number level base flux width s.now }
 {
     CatRow {
         number: number as i64,

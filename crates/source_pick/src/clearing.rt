@@ -4,7 +4,7 @@ ghost use Rattle.comp_tree.specs.Raster.{pixels, is_at_least};
 ghost use Rattle.comp_tree.specs.Grid.{distance as distance_of};
 ghost use Rattle.source_pick.specs.Locality.{is_near_high, kept, HaveSameSources};
 ghost use Rattle.source_pick.specs.declared.choice.Choice.{Choice};
-ghost use Rattle.source_pick.specs.Passes.{
+ghost use Rattle.source_pick.specs.Clearing.{
   reach as reach_of,
   HasNoneBelow,
   AreSetBetween,

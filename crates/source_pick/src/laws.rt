@@ -1,7 +1,6 @@
 //! The law of the sources. Each part is the contract of a function that does nothing, and speaks of the definitions alone.
 
 ghost use Rattle.source_pick.specs.Laws.{
-  LiesInIsInclusion,
   EntriesAreDisjoint,
   SourcesAreDisjoint,
   EachEntryHoldsASource,
@@ -9,11 +8,6 @@ ghost use Rattle.source_pick.specs.Laws.{
   SourcesAreInOrder,
 };
 ghost use Rattle.source_pick.specs.Locality.{SourcesAreLocal, KeptIsAPlane, KeptHasTheSameSources};
-
-/// The test whether a node lies within another passes exactly where its component does.
-pub fn lies_in_is_inclusion()
-    ensures { LiesInIsInclusion }
-{}
 
 /// No two entries share a pixel.
 pub fn entries_are_disjoint()

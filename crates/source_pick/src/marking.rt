@@ -2,11 +2,11 @@
 
 ghost use Rattle.std.specs.Prelude.{◌≡◌, ◌<◌, ◌≤◌, ◌^◌, IfOk, length};
 ghost use Rattle.comp_tree.specs.declared.shape.Connect.{Connect};
-ghost use Rattle.comp_tree.specs.Raster.{Raster};
+ghost use Rattle.comp_tree.specs.Raster.{Raster, IsPlane};
 ghost use Rattle.comp_tree.specs.Components.{tree_of};
-ghost use Rattle.node_sums.specs.Sums.{AreTheTrees};
+ghost use Rattle.node_sums.specs.Sums.{AreTheTrees, ForEachPlaneOf};
 ghost use Rattle.source_pick.specs.Sources.{is_large, is_lowest, is_entry, is_strong, has_contrast};
-ghost use Rattle.source_pick.specs.Passes.{IsOf, AreEntries, AreStrong, entry_number};
+ghost use Rattle.source_pick.specs.Passes.{AreEntries, AreStrong, entry_number};
 
 use crate::choice::Choice;
 use comp_tree::{NONE, Tree};
@@ -61,7 +61,7 @@ fn entry_of_node(tree: &Tree, sums: &[Sums], choice: &Choice, entries: &[u32], n
     requires node { n < length tree.now.rows }
     requires sums { AreTheTrees tree.now sums.now }
     requires parents { AreEntries choice.now tree.now sums.now n entries.now }
-    ensures { (r : Raster) (connect : Connect) → IsOf r connect tree.now sums.now → result ≡ entry_number r connect choice.now n }
+    ensures { ForEachPlaneOf tree.now sums.now (λ r connect. IsPlane r → result ≡ entry_number r connect choice.now n) }
 {
     if passes_as_entry(tree, sums, choice, n) {
         return n;
@@ -78,7 +78,7 @@ fn entry_of_node(tree: &Tree, sums: &[Sums], choice: &Choice, entries: &[u32], n
 fn passes_as_entry(tree: &Tree, sums: &[Sums], choice: &Choice, n: u32) -> bool
     requires node { n < length tree.now.rows }
     requires sums { AreTheTrees tree.now sums.now }
-    ensures { (r : Raster) (connect : Connect) → IsOf r connect tree.now sums.now → result ≡ is_entry r connect choice.now n }
+    ensures { ForEachPlaneOf tree.now sums.now (λ r connect. IsPlane r → result ≡ is_entry r connect choice.now n) }
 {
     if tree.rows()[n as usize].level < choice.threshold {
         return false;
@@ -108,7 +108,7 @@ fn lies_lowest(tree: &Tree, choice: &Choice, n: u32) -> bool
 fn has_size(tree: &Tree, sums: &[Sums], choice: &Choice, n: u32) -> bool
     requires node { n < length tree.now.rows }
     requires sums { AreTheTrees tree.now sums.now }
-    ensures { (r : Raster) (connect : Connect) → IsOf r connect tree.now sums.now → result ≡ is_large r connect choice.now n }
+    ensures { ForEachPlaneOf tree.now sums.now (λ r connect. IsPlane r → result ≡ is_large r connect choice.now n) }
 {
     if sums[n as usize].area < choice.min_area {
         return false;
@@ -154,7 +154,7 @@ fn passes_as_strong(tree: &Tree, sums: &[Sums], choice: &Choice, entries: &[u32]
     requires node { n < length tree.now.rows }
     requires sums { AreTheTrees tree.now sums.now }
     requires entries { AreEntries choice.now tree.now sums.now (length tree.now.rows) entries.now }
-    ensures { (r : Raster) (connect : Connect) → IsOf r connect tree.now sums.now → result ≡ is_strong r connect choice.now n }
+    ensures { ForEachPlaneOf tree.now sums.now (λ r connect. IsPlane r → result ≡ is_strong r connect choice.now n) }
 {
     let entry = entries[n as usize];
     if entry == NONE {
@@ -171,7 +171,7 @@ fn has_part(tree: &Tree, sums: &[Sums], choice: &Choice, n: u32, entry: u32) -> 
     requires node { n < length tree.now.rows }
     requires entry { entry < length tree.now.rows }
     requires sums { AreTheTrees tree.now sums.now }
-    ensures { (r : Raster) (connect : Connect) → IsOf r connect tree.now sums.now → result ≡ has_contrast r connect choice.now n entry }
+    ensures { ForEachPlaneOf tree.now sums.now (λ r connect. IsPlane r → result ≡ has_contrast r connect choice.now n entry) }
 {
     let whole = flux(tree, sums, entry) as i128;
     let part = flux(tree, sums, n) as i128;

@@ -1,18 +1,15 @@
 ghost use Rattle.std.specs.Prelude.{◌≡◌, ◌<◌, ◌≤◌, List, IfOk, length, map, replicate};
-ghost use Rattle.comp_tree.specs.declared.shape.Connect.{Connect};
-ghost use Rattle.comp_tree.specs.Raster.{Raster};
+ghost use Rattle.comp_tree.specs.Raster.{IsPlane};
 ghost use Rattle.comp_tree.specs.ComponentTree.{ComponentTree, no_node};
-ghost use Rattle.comp_tree.specs.Components.{tree_of};
 ghost use Rattle.node_sums.specs.declared.entry.Sums.{Sums as Entry};
-ghost use Rattle.node_sums.specs.Sums.{sums_in, AreTheTrees};
+ghost use Rattle.node_sums.specs.Sums.{AreTheTrees, ForEachPlaneOf};
 ghost use Rattle.source_pick.specs.declared.choice.Choice.{Choice as Chosen};
 ghost use Rattle.source_pick.specs.Sources.{is_source, sources};
 ghost use Rattle.source_pick.specs.Segmentation.{AreDisjointNodes};
 ghost use Rattle.source_pick.specs.Passes.{
-  IsOf,
   AreEntries,
   AreStrong,
-  AreCounted,
+  AreStrongChildCounts,
   AreAboveSplits,
   AreSources,
   StandAtFirst,
@@ -38,7 +35,7 @@ pub fn pick(
 ) -> Result<Vec<u32>, OutOfMemory>
     requires sums { AreTheTrees tree.now sums.now }
     requires contrast { choice.now.contrast ≤ 1000 }
-    ensures exact { IfOk result (λ picked. (plane : Raster) (connect : Connect) → tree.now ≡ tree_of plane connect → sums.now ≡ sums_in plane connect → picked.items ≡ sources plane connect choice.now) }
+    ensures exact { IfOk result (λ picked. ForEachPlaneOf tree.now sums.now (λ plane connect. picked.items ≡ sources plane connect choice.now)) }
     ensures disjoint { IfOk result (λ picked. AreDisjointNodes tree.now picked.items) }
 {
     let flags = flags_of_sources(alloc, tree, sums, choice)?;
@@ -74,7 +71,7 @@ fn source_flags(
 ) -> Result<Vec<bool>, OutOfMemory>
     requires entries { length entries.now ≡ length tree.now.rows }
     requires strong { length strong.now ≡ length tree.now.rows }
-    requires children { AreCounted tree.now.rows entries.now strong.now (length tree.now.rows) children.now }
+    requires children { AreStrongChildCounts tree.now.rows entries.now strong.now (length tree.now.rows) children.now }
     requires above { AreAboveSplits tree.now.rows (map are_several children.now) above.now }
     ensures { IfOk result (λ flags. (choice : Chosen) (sums : List Entry) → AreEntries choice tree.now sums (length tree.now.rows) entries.now
         → AreStrong choice tree.now sums (length tree.now.rows) strong.now → AreSources choice tree.now sums (length tree.now.rows) flags.items) }
@@ -98,7 +95,7 @@ fn flag_sources(
 )
     requires entries { length entries.now ≡ length tree.now.rows }
     requires strong { length strong.now ≡ length tree.now.rows }
-    requires children { AreCounted tree.now.rows entries.now strong.now (length tree.now.rows) children.now }
+    requires children { AreStrongChildCounts tree.now.rows entries.now strong.now (length tree.now.rows) children.now }
     requires above { AreAboveSplits tree.now.rows (map are_several children.now) above.now }
     requires flags { length flags.old ≡ length tree.now.rows }
     ensures { (choice : Chosen) (sums : List Entry) → AreEntries choice tree.now sums (length tree.now.rows) entries.now
@@ -121,11 +118,11 @@ fn passes_as_source(
     requires node { n < length tree.now.rows }
     requires entries { length entries.now ≡ length tree.now.rows }
     requires strong { length strong.now ≡ length tree.now.rows }
-    requires children { AreCounted tree.now.rows entries.now strong.now (length tree.now.rows) children.now }
+    requires children { AreStrongChildCounts tree.now.rows entries.now strong.now (length tree.now.rows) children.now }
     requires above { AreAboveSplits tree.now.rows (map are_several children.now) above.now }
-    ensures { (r : Raster) (connect : Connect) (choice : Chosen) (sums : List Entry) → IsOf r connect tree.now sums
-        → AreEntries choice tree.now sums (length tree.now.rows) entries.now → AreStrong choice tree.now sums (length tree.now.rows) strong.now
-        → result ≡ is_source r connect choice n }
+    ensures { (choice : Chosen) (sums : List Entry) → AreEntries choice tree.now sums (length tree.now.rows) entries.now
+        → AreStrong choice tree.now sums (length tree.now.rows) strong.now
+        → ForEachPlaneOf tree.now sums (λ r connect. IsPlane r → result ≡ is_source r connect choice n) }
 {
     if above[n as usize] {
         return false;

@@ -16,7 +16,8 @@ use std::thread::Threads;
 /// The one error is that memory was refused.
 pub fn segment(alloc: Global, tree: &Tree, sources: &[u32]) -> Result<Vec<u32>, OutOfMemory>
     requires { AreDisjointNodes tree.now sources.now }
-    ensures exact { IfOk result (λ numbers. (plane : Raster) (connect : Connect) → tree.now ≡ tree_of plane connect → numbers.items ≡ segmentation_of plane connect sources.now) }
+    ensures exact { IfOk result (λ numbers. (plane : Raster) (connect : Connect) → tree.now ≡ tree_of plane connect
+        → numbers.items ≡ segmentation_of plane connect sources.now) }
     ensures one_each { IfOk result (λ numbers. length numbers.items ≡ length tree.now.node_of) }
     ensures few { IfOk result (λ numbers. (p : ℕ) → slice_index numbers.items p ≤ 2 ^ 24) }
 {
@@ -35,7 +36,8 @@ pub fn segment_in_parts<R: Threads + Sync>(
     parts: u32,
 ) -> Result<Vec<u32>, OutOfMemory>
     requires { AreDisjointNodes tree.now sources.now }
-    ensures exact { IfOk result (λ numbers. (plane : Raster) (connect : Connect) → tree.now ≡ tree_of plane connect → numbers.items ≡ segmentation_of plane connect sources.now) }
+    ensures exact { IfOk result (λ numbers. (plane : Raster) (connect : Connect) → tree.now ≡ tree_of plane connect
+        → numbers.items ≡ segmentation_of plane connect sources.now) }
     ensures one_each { IfOk result (λ numbers. length numbers.items ≡ length tree.now.node_of) }
     ensures few { IfOk result (λ numbers. (p : ℕ) → slice_index numbers.items p ≤ 2 ^ 24) }
 {
@@ -98,8 +100,8 @@ fn pass_down(tree: &Tree, numbers: &mut [u32])
 fn number_all(tree: &Tree, numbers: &[u32], map: &mut [u32])
     requires numbers { length numbers.now ≡ length tree.now.rows }
     requires blank { map.old ≡ replicate (length tree.now.node_of) 0 }
-    ensures { (marked : List ℕ) (plane : Raster) (connect : Connect) → AreDisjointNodes tree.now marked → AreNumbered tree.now marked (length tree.now.rows) numbers.now
-        → tree.now ≡ tree_of plane connect → map.new ≡ segmentation_of plane connect marked }
+    ensures { (marked : List ℕ) (plane : Raster) (connect : Connect) → AreDisjointNodes tree.now marked
+        → AreNumbered tree.now marked (length tree.now.rows) numbers.now → tree.now ≡ tree_of plane connect → map.new ≡ segmentation_of plane connect marked }
 {
     number_pixels(tree, numbers, 0, map);
 }
@@ -109,8 +111,8 @@ fn number_bands<R: Threads + Sync>(rt: &R, tree: &Tree, numbers: &[u32], size: u
     requires some { 0 < size }
     requires numbers { length numbers.now ≡ length tree.now.rows }
     requires blank { map.old ≡ replicate (length tree.now.node_of) 0 }
-    ensures { (marked : List ℕ) (plane : Raster) (connect : Connect) → AreDisjointNodes tree.now marked → AreNumbered tree.now marked (length tree.now.rows) numbers.now
-        → tree.now ≡ tree_of plane connect → map.new ≡ segmentation_of plane connect marked }
+    ensures { (marked : List ℕ) (plane : Raster) (connect : Connect) → AreDisjointNodes tree.now marked
+        → AreNumbered tree.now marked (length tree.now.rows) numbers.now → tree.now ≡ tree_of plane connect → map.new ≡ segmentation_of plane connect marked }
 {
     thread::for_each_chunk_mut(
         rt,

@@ -1,7 +1,7 @@
 //! Splits: nodes with two or more strong children in one entry.
 
 ghost use Rattle.std.specs.Prelude.{◌≡◌, ◌<◌, ℕ, IfOk, IfSome, IfNone, length, map};
-ghost use Rattle.source_pick.specs.Passes.{IsInner, AreCounted, AreAboveSplits, one_more, are_several};
+ghost use Rattle.source_pick.specs.Passes.{IsStrongChild, AreStrongChildCounts, AreAboveSplits, with_one_more, are_several};
 
 use comp_tree::{NONE, Tree};
 use dev_io::OutOfMemory;
@@ -17,7 +17,7 @@ pub(crate) enum StrongChildren {
 
 impl StrongChildren {
     fn and_one(self) -> StrongChildren
-        ensures { result ≡ one_more self }
+        ensures { result ≡ with_one_more self }
     {
         match self {
             StrongChildren::Zero => StrongChildren::One,
@@ -46,7 +46,7 @@ pub(crate) fn strong_children(
 ) -> Result<Vec<StrongChildren>, OutOfMemory>
     requires entries { length entries.now ≡ length tree.now.rows }
     requires strong { length strong.now ≡ length tree.now.rows }
-    ensures { IfOk result (λ children. AreCounted tree.now.rows entries.now strong.now (length tree.now.rows) children.items) }
+    ensures { IfOk result (λ children. AreStrongChildCounts tree.now.rows entries.now strong.now (length tree.now.rows) children.items) }
 {
     match vec![in alloc; StrongChildren::Zero; tree.rows().len()] {
         Ok(mut children) => {
@@ -60,8 +60,8 @@ pub(crate) fn strong_children(
 fn count_children(tree: &Tree, entries: &[u32], strong: &[bool], children: &mut [StrongChildren])
     requires entries { length entries.now ≡ length tree.now.rows }
     requires strong { length strong.now ≡ length tree.now.rows }
-    requires none { AreCounted tree.now.rows entries.now strong.now 0 children.old }
-    ensures { AreCounted tree.now.rows entries.now strong.now (length tree.now.rows) children.new }
+    requires none { AreStrongChildCounts tree.now.rows entries.now strong.now 0 children.old }
+    ensures { AreStrongChildCounts tree.now.rows entries.now strong.now (length tree.now.rows) children.new }
 {
     for n in 0..tree.rows().len() {
         if let Some(parent) = inner_parent(tree, entries, strong, n) {
@@ -77,8 +77,8 @@ fn inner_parent(tree: &Tree, entries: &[u32], strong: &[bool], n: usize) -> Opti
     requires entries { length entries.now ≡ length tree.now.rows }
     requires strong { length strong.now ≡ length tree.now.rows }
     ensures inside { IfSome result (λ m. m < length tree.now.rows) }
-    ensures found { IfSome result (λ m. IsInner tree.now.rows entries.now strong.now m n) }
-    ensures none { IfNone result ((m : ℕ) → m < length tree.now.rows → IsInner tree.now.rows entries.now strong.now m n → ⊥) }
+    ensures found { IfSome result (λ m. IsStrongChild tree.now.rows entries.now strong.now m n) }
+    ensures none { IfNone result ((m : ℕ) → m < length tree.now.rows → IsStrongChild tree.now.rows entries.now strong.now m n → ⊥) }
 {
     if !strong[n] {
         return None;

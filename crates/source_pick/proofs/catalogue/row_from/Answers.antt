@@ -3,7 +3,7 @@ use Rattle.std.proofs.lemmas.Int.{to_z-of_z, to_z_pos}
 use Rattle.std.proofs.lemmas.Nat.{mod_below}
 use mir.Syntax.{w64, w128}
 use mir.Val.{SFits}
-use Rattle.source_pick.specs.Catalogue.{row_of}
+use Rattle.source_pick.specs.Catalogue.{measured_row}
 use Rattle.source_pick.proofs.Means.{widest}
 use Rattle.source_pick.proofs.Rows.{moment-read, moment_of, moment_along, weighted-read, mean-read, centre_is, moment_fits, moment_fits_along, same_row}
 use Rattle.source_pick.proofs.catalogue.row_from.Goals as goal
@@ -33,7 +33,7 @@ centre-requires-2 c =
     (weighted-read c.weighted-2.result c.args.s.now.ry c.args.base c.args.s.now.y got (moment_fits_along c.args.base c.args.s.now c.requires.base_up_to c.requires.sizes) c.ranges.base c.weighted-2.ensures) c.ranges.flux)
 
 pub returns : goal.returns
-unfolding row_of
+unfolding measured_row
 returns c =
     let peak : SFits w64 c.args.s.now.peak = search rules in
     let weighed : SFits w128 c.weighted.result = search rules in

@@ -3,7 +3,7 @@ use Rattle.std.proofs.lemmas.Int.{to_z-of_z}
 use Rattle.comp_tree.specs.declared.shape.Shape.{Shape}
 use Rattle.comp_tree.specs.Raster.{pixels}
 use Rattle.source_pick.specs.Locality.{is_near_high}
-use Rattle.source_pick.specs.Passes.{HasNoneBelow}
+use Rattle.source_pick.specs.Clearing.{HasNoneBelow}
 use Rattle.source_pick.proofs.Nearing.{length_of_marks, without-kept, kept_whole}
 use Rattle.source_pick.proofs.Keeping.{cleared_has_the_same_sources}
 use Rattle.source_pick.proofs.clearing.clear_far.Goals as goal

@@ -1,4 +1,4 @@
-use Rattle.source_pick.specs.Passes.{IsClearedUpTo}
+use Rattle.source_pick.specs.Clearing.{IsClearedUpTo}
 use Rattle.source_pick.proofs.clearing.clear_unmarked.Given as goal
 
 abbrev pub invariant-loop-p : goal.invariant-loop-p

@@ -1,4 +1,4 @@
-use Rattle.source_pick.specs.Passes.{HasNoneBelow}
+use Rattle.source_pick.specs.Clearing.{HasNoneBelow}
 use Rattle.source_pick.proofs.clearing.has_below.Given as goal
 
 abbrev pub invariant-loop-p : goal.invariant-loop-p

@@ -1,6 +1,6 @@
 use Rattle.std.proofs.Common.{◌≤◌, ◌<◌, ◌+◌, ◌*◌, ◌⊎◌, inl, inr, ap, ◌∙◌, subst, ℕ, arith}
 use Rattle.std.proofs.lemmas.Bool.{cases_lt}
-use Rattle.source_pick.specs.Passes.{reach}
+use Rattle.source_pick.specs.Clearing.{reach}
 use Rattle.source_pick.proofs.Around.{IsPartOfRow, part_of_row}
 use Rattle.source_pick.proofs.Nearing.{around_none, around_more, around_all}
 use Rattle.source_pick.proofs.clearing.mark_around.Goals as goal

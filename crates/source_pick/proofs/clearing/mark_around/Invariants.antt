@@ -1,5 +1,5 @@
 use Rattle.std.proofs.Common.{◌+◌, ◌*◌}
-use Rattle.source_pick.specs.Passes.{AreSetAround}
+use Rattle.source_pick.specs.Clearing.{AreSetAround}
 use Rattle.source_pick.proofs.clearing.mark_around.Given as goal
 
 abbrev pub invariant-loop-row : goal.invariant-loop-row

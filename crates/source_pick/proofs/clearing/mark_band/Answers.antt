@@ -3,7 +3,7 @@ use Rattle.std.proofs.lemmas.Bool.{cases_lt}
 use Rattle.std.proofs.lemmas.Int.{to_z-of_z}
 use Rattle.comp_tree.specs.declared.shape.Shape.{Shape}
 use Rattle.comp_tree.specs.Raster.{IsPlane}
-use Rattle.source_pick.specs.Passes.{AreMarkedNear}
+use Rattle.source_pick.specs.Clearing.{AreMarkedNear}
 use Rattle.source_pick.proofs.Nearing.{near_none, near_band}
 use Rattle.source_pick.proofs.clearing.mark_band.Goals as goal
 

@@ -1,4 +1,4 @@
-use Rattle.source_pick.specs.Passes.{AreSetBetween}
+use Rattle.source_pick.specs.Clearing.{AreSetBetween}
 use Rattle.source_pick.proofs.clearing.mark_between.Given as goal
 
 abbrev pub invariant-loop-p : goal.invariant-loop-p

@@ -1,5 +1,5 @@
 use Rattle.std.proofs.Common.{ℕ, ◌+◌, ◌*◌}
-use Rattle.source_pick.specs.Passes.{AreMarkedNear}
+use Rattle.source_pick.specs.Clearing.{AreMarkedNear}
 use Rattle.source_pick.proofs.clearing.mark_row.Given as goal
 
 abbrev pub invariant-loop-column : goal.invariant-loop-column

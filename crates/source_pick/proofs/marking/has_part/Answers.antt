@@ -12,9 +12,9 @@ overflow_mul-result-2 c =
     subst (λ (z : ℤ). SFits w128 z) (sym (product-read c.args.choice.now.contrast c.flux-whole.result few whole)) (part_fits c.args.choice.now.contrast c.flux-whole.result few whole)
 
 pub returns : goal.returns
-returns c = λ r connect o.
+returns c = λ r connect of_tree of_sums is_plane.
     let whole : SFits w64 c.flux-whole.result = search rules in
     let part : SFits w64 c.flux-part.result = search rules in
     let few : c.args.choice.now.contrast < 2 ^ 32 = search rules in
     contrast-read r connect c.args.choice.now c.args.n c.args.entry c.flux-whole.result c.flux-part.result few whole part
-    (c.flux-whole.ensures.exact r connect o.tree_is o.sums_are) (c.flux-part.ensures.exact r connect o.tree_is o.sums_are)
+    (c.flux-whole.ensures.exact r connect of_tree of_sums) (c.flux-part.ensures.exact r connect of_tree of_sums)

@@ -9,7 +9,7 @@ pub loop-n-preserved : goal.loop-n-preserved
 loop-n-preserved c = λ choice sums known_entries known_strong.
     sources_more choice c.args.tree.now sums c.loop-n.n c.passes_as_source-is_flagged.result c.loop-n.flags (c.loop-n.invariant choice sums known_entries known_strong)
     (omega (arith, c.loop-n-test.true, c.node_count-n-end.ensures.all))
-    (λ r connect o. c.passes_as_source-is_flagged.ensures r connect choice sums o known_entries known_strong)
+    (c.passes_as_source-is_flagged.ensures choice sums known_entries known_strong)
 
 pub returns : goal.returns
 returns c = λ choice sums known_entries known_strong.

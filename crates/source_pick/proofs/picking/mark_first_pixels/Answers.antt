@@ -30,13 +30,13 @@ loop-n-preserved c = elim c.if-flags-n.branch [
   | then-flags-n w ↦ λ choice known.
       subst (λ (xs : List ℕ). StandAtFirst choice c.args.tree.now c.args.sums.now (c.loop-n.n + 1) xs) (sym w.marks-is)
       (stand_source choice c.args.tree.now c.args.sums.now c.loop-n.n _ c.loop-n.marks (c.loop-n.invariant choice known)
-      (λ r connect o. sym (known.each r connect o c.loop-n.n (omega (arith, c.loop-n-test.true, c.node_count-n-end.ensures.all))) ∙ w.if-flags-n.true)
-      (λ r connect o. ap (λ (s : Sums). s.first)
-      (sums-read r connect c.args.tree.now c.args.sums.now c.loop-n.n _ o (omega (arith, c.loop-n-test.true, c.node_count-n-end.ensures.all)))))
+      (λ r connect of_tree of_sums is_plane. sym (known.each r connect of_tree of_sums is_plane c.loop-n.n (omega (arith, c.loop-n-test.true, c.node_count-n-end.ensures.all))) ∙ w.if-flags-n.true)
+      (λ r connect of_tree of_sums is_plane. ap (λ (s : Sums). s.first)
+      (sums-read r connect c.args.tree.now c.args.sums.now c.loop-n.n _ (record { plane = is_plane; tree_is = of_tree; sums_are = of_sums }) (omega (arith, c.loop-n-test.true, c.node_count-n-end.ensures.all)))))
   | else-flags-n w ↦ λ choice known.
       subst (λ (xs : List ℕ). StandAtFirst choice c.args.tree.now c.args.sums.now (c.loop-n.n + 1) xs) (sym w.marks-is)
       (stand_other choice c.args.tree.now c.args.sums.now c.loop-n.n c.loop-n.marks (c.loop-n.invariant choice known)
-      (λ r connect o. sym (known.each r connect o c.loop-n.n (omega (arith, c.loop-n-test.true, c.node_count-n-end.ensures.all))) ∙ w.if-flags-n.false))
+      (λ r connect of_tree of_sums is_plane. sym (known.each r connect of_tree of_sums is_plane c.loop-n.n (omega (arith, c.loop-n-test.true, c.node_count-n-end.ensures.all))) ∙ w.if-flags-n.false))
 ]
 
 pub returns : goal.returns

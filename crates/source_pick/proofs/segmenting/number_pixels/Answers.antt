@@ -1,6 +1,6 @@
 use Rattle.std.proofs.Common.{◌∙◌, ◌<◌, ◌+◌, ℕ, List, sym, ap, arith, length}
 use Rattle.std.specs.Prelude.{slice_index}
-use Rattle.source_pick.specs.Segmentation.{number_at}
+use Rattle.source_pick.specs.Segmentation.{source_number_at}
 use Rattle.source_pick.proofs.Readings.{plane_from_tree, filled}
 use Rattle.source_pick.proofs.Marks.{number_of_defined, number_of_undefined, filled_still, zeros_after}
 use Rattle.source_pick.proofs.segmenting.number_pixels.Goals.{then-n, else-n}
@@ -21,7 +21,7 @@ loop-k-preserved c =
               let both = number_of_defined r connect c.args.tree.now marked plane same d (c.args.start + c.loop-k.k) _ inside
               (ap (λ (xs : List ℕ). slice_index xs (c.args.start + c.loop-k.k)) c.node_of-node_of.ensures) w.if-n.true in
               ap (λ (xs : List ℕ). slice_index xs q) w.map-is
-              ∙ filled c.loop-k.map c.loop-k.k _ 0 (λ k. number_at r connect marked (c.args.start + k)) place (c.loop-k.invariant.done.each marked r connect d known same)
+              ∙ filled c.loop-k.map c.loop-k.k _ 0 (λ k. source_number_at r connect marked (c.args.start + k)) place (c.loop-k.invariant.done.each marked r connect d known same)
               (known.each r connect plane same _ both.0 ∙ both.1) q l;
         };
         rest = λ q l. ap (λ (xs : List ℕ). slice_index xs q) w.map-is ∙ zeros_after c.loop-k.map c.loop-k.k _ c.loop-k.invariant.rest q l;
@@ -31,7 +31,7 @@ loop-k-preserved c =
           each = λ marked r connect d known same q l.
               let plane = plane_from_tree r connect c.args.tree.now same c.shape-shape.ensures.well_formed.one_each in
               ap (λ (xs : List ℕ). slice_index xs q) w.map-is
-              ∙ filled_still c.loop-k.map c.loop-k.k (λ k. number_at r connect marked (c.args.start + k)) (c.loop-k.invariant.done.each marked r connect d known same)
+              ∙ filled_still c.loop-k.map c.loop-k.k (λ k. source_number_at r connect marked (c.args.start + k)) (c.loop-k.invariant.done.each marked r connect d known same)
               (c.loop-k.invariant.rest c.loop-k.k (omega arith)
               ∙ sym (number_of_undefined r connect c.args.tree.now marked plane same d (c.args.start + c.loop-k.k) _ inside
               (ap (λ (xs : List ℕ). slice_index xs (c.args.start + c.loop-k.k)) c.node_of-node_of.ensures) w.if-n.false)) q l;

@@ -1,0 +1,56 @@
+-- Bookkeeping: which pixels have been marked, and which have been made undefined, while those far from the threshold are cleared.
+use Rattle.std.specs.Prelude.{◌≡◌, ℕ, ◌<◌, ◌+◌, ◌-◌, ◌≤◌, Bool, true, false, IsTrue, List, length, ◌⊎◌, slice_index_or, None, ℤ, map, cond}
+use Rattle.comp_tree.specs.declared.shape.Connect.{Connect}
+use Rattle.comp_tree.specs.declared.shape.Connect.TheVariants.{Four, Eight}
+use Rattle.comp_tree.specs.Raster.{Raster, pixels, value_at, is_defined, is_at_least}
+use Rattle.comp_tree.specs.Grid.{are_neighbours}
+use Rattle.source_pick.specs.Locality.{is_near_high}
+
+-- of the first count pixels none is defined and below h
+abbrev pub HasNoneBelow : Raster → ℤ → ℕ → Type 0
+HasNoneBelow r h count = (p : ℕ) → p < count → IsTrue (is_defined r p) → IsTrue (is_at_least r h p)
+
+-- pixel q is p, or a neighbour of p
+abbrev pub IsAround : Connect → ℕ → ℕ → ℕ → Type 0
+IsAround connect width p q = (q ≡ p) ⊎ IsTrue (are_neighbours connect width p q)
+
+-- of a row that lies so many rows away, at most one, the pixels up to so many columns to each side are around a pixel
+abbrev pub reach : Connect → ℕ → ℕ
+reach Four rows = 1 - rows
+reach Eight rows = 1
+
+-- In what follows a list of marks has one for each pixel from `start` on.
+
+-- of the pixels from first up to end those before `count` have been marked, and no others
+pub record AreSetBetween (start first end count : ℕ) (old new : List Bool) : Type 0 where
+  pub one_each : length new ≡ length old
+  pub sound : (k : ℕ) → slice_index_or new k false ≡ true → (slice_index_or old k false ≡ true) ⊎ ((first ≤ start + k) × (start + k < end))
+  pub kept : (k : ℕ) → slice_index_or old k false ≡ true → slice_index_or new k false ≡ true
+  pub complete : (k : ℕ) → k < length old → first ≤ start + k → start + k < count → slice_index_or new k false ≡ true
+
+-- of the pixels around p those before `count` have been marked, and no others
+pub record AreSetAround (connect : Connect) (width p start count : ℕ) (old new : List Bool) : Type 0 where
+  pub one_each : length new ≡ length old
+  pub sound : (k : ℕ) → slice_index_or new k false ≡ true → (slice_index_or old k false ≡ true) ⊎ IsAround connect width p (start + k)
+  pub kept : (k : ℕ) → slice_index_or old k false ≡ true → slice_index_or new k false ≡ true
+  pub complete : (k : ℕ) → k < length old → start + k < count → IsAround connect width p (start + k) → slice_index_or new k false ≡ true
+
+-- what is around the pixels of at least h from first up to count is marked, and nothing that is not near such a pixel
+pub record AreMarkedNear (r : Raster) (connect : Connect) (h : ℤ) (start first count : ℕ) (marks : List Bool) : Type 0 where
+  pub sound : (k : ℕ) → slice_index_or marks k false ≡ true → is_near_high r connect h (start + k) ≡ true
+  pub complete : (p k : ℕ) → first ≤ p → p < count → IsTrue (is_at_least r h p) → k < length marks → IsAround connect r.shape.width p (start + k)
+      → slice_index_or marks k false ≡ true
+
+-- a plane without the pixels that are not marked
+unfoldable pub without_unmarked : Raster → List Bool → Raster
+without_unmarked r marks = record {
+  shape = r.shape;
+  values = map (λ p. cond (slice_index_or marks p false) (value_at r.values p) None) (pixels r);
+}
+
+-- the first count pixels are so
+pub record IsClearedUpTo (r : Raster) (marks : List Bool) (count : ℕ) (plane : Raster) : Type 0 where
+  pub same_shape : plane.shape ≡ r.shape
+  pub one_each : length plane.values ≡ length r.values
+  pub done : (p : ℕ) → p < count → value_at plane.values p ≡ cond (slice_index_or marks p false) (value_at r.values p) None
+  pub rest : (p : ℕ) → count ≤ p → value_at plane.values p ≡ value_at r.values p
