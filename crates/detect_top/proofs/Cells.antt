@@ -15,7 +15,8 @@ use Rattle.node_sums.specs.declared.entry.Sums.{Sums}
 use Rattle.node_sums.specs.Sums.{sums_in}
 use Rattle.fits_write.specs.declared.table.Cell.TheVariants.{J}
 use Rattle.fits_write.specs.declared.table.Column.{Column}
-use Rattle.fits_write.specs.Columns.{IsTable, FitsCell, cell_at, number_at, is_plain}
+use Rattle.fits_card.specs.Written.{is_plain}
+use Rattle.fits_write.specs.Columns.{IsTable, FitsCell, cell_at, number_at}
 use Rattle.source_pick.specs.declared.catalogue.CatRow.{CatRow}
 use Rattle.source_pick.specs.Catalogue.{catalogue_of, catalogue_row, cells_of, FitsColumn, FitsColumns}
 use Rattle.source_pick.specs.Segmentation.{AreDisjointNodes}

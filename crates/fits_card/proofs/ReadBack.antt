@@ -1,20 +1,19 @@
 -- Written cards are read back.
-use Rattle.std.proofs.Common.{◌≡◌, inl, inr, eq-eqb, ℕ, zero, suc, ◌-◌, ◌^◌, ◌<◌, ◌≤◌, ◌≢◌, Bool, true, false, not, cond, eqb, List, [], ◌∷◌, ◌++◌, length, get_or, drop, Some, ℤ, pos, negsuc, refl, sym, ap, ◌∙◌, arith, append_assoc, length-append}
+use Rattle.std.proofs.Common.{◌&&◌, nat_le, ◌≡◌, inl, inr, eq-eqb, ℕ, zero, suc, ◌-◌, ◌^◌, ◌<◌, ◌≤◌, ◌≢◌, Bool, true, false, not, cond, eqb, List, [], ◌∷◌, ◌++◌, length, get_or, drop, Some, ℤ, pos, negsuc, refl, sym, ap, ◌∙◌, arith, append_assoc, length-append}
 use Rattle.std.specs.Prelude.{codes, FitsSigned}
 use Rattle.std.specs.Int.{w64}
 use Rattle.std.specs.Str.{all_ascii_digits}
 use Rattle.std.specs.Fmt.{decimal}
-use Rattle.std.specs.List.{All, list_all}
+use Rattle.std.specs.List.{list_all}
 use Rattle.std.specs.Option.{option_map}
 use Rattle.std.proofs.lemmas.Bool.{cases_eq, ne_eqb, and_parts, and_from, or_from, not_from_false, not-true, lt-ltb}
 use Rattle.std.proofs.lemmas.List.{get_or_at, get_or_append_left, drop_at}
-use Rattle.std.proofs.lemmas.List.Sums.{list_all-from_AllPass}
 use Rattle.std.proofs.lemmas.Fmt.{digits_decimal, digits_value-decimal, decimal_nonempty}
 use Rattle.fits_card.specs.declared.number.Whole.TheVariants.{Is, Beyond}
 use Rattle.fits_card.specs.Pieces.{is_among, before_any, from_any, is_over, is_comment, closed, with_first, without_leading_spaces, without_trailing_spaces, before_kept}
 use Rattle.fits_card.specs.Values.{Integer, Text, Token, Quoted, Broken, value_field, content_value, token_content, quoted_content, token_value, number_value, is_negative, unsigned, number_of, signed, value_of, whole_of}
-use Rattle.fits_card.specs.Written.{spaces, left_justified, right_justified, written_value, written_logical, written_integer, written_text}
-use Rattle.fits_card.specs.Laws.{IsPlain, LogicalIsReadBack, IntegerIsReadBack, IntegerIsWhole, TextIsReadBack, doubled, DoubledQuotesAreRead}
+use Rattle.fits_card.specs.Written.{is_plain, spaces, left_justified, right_justified, written_value, written_logical, written_integer, written_text}
+use Rattle.fits_card.specs.Laws.{LogicalIsReadBack, IntegerIsReadBack, IntegerIsWhole, TextIsReadBack, doubled, DoubledQuotesAreRead}
 use Rattle.fits_card.proofs.Digits.{numerals, digit-in_range}
 use Rattle.fits_card.proofs.Cutting.{plain-byte, closing-quote}
 use Rattle.fits_card.proofs.Fields.{field-there, content-token, content-string}
@@ -56,8 +55,8 @@ spaces-over n = ap is_comment (only-spaces n)
 
 -- a token with nothing but spaces behind it
 
-abbrev is_plain : ℕ → Bool
-is_plain b = not (is_among (codes " /") b)
+abbrev is_bare : ℕ → Bool
+is_bare b = not (is_among (codes " /") b)
 
 before-spaces : (n : ℕ) → before_any (codes " /") (spaces n) ≡ []
 before-spaces zero = refl
@@ -67,21 +66,21 @@ from-spaces : (n : ℕ) → from_any (codes " /") (spaces n) ≡ spaces n
 from-spaces zero = refl
 from-spaces (suc n) = refl
 
-before-token : (token : List ℕ) (n : ℕ) → list_all is_plain token ≡ true → before_any (codes " /") (token ++ spaces n) ≡ token
+before-token : (token : List ℕ) (n : ℕ) → list_all is_bare token ≡ true → before_any (codes " /") (token ++ spaces n) ≡ token
 before-token [] n t = before-spaces n
 before-token (b ∷ token) n t =
-    let parts : (is_plain b ≡ true) × (list_all is_plain token ≡ true) = and_parts (is_plain b) (list_all is_plain token) t in
+    let parts : (is_bare b ≡ true) × (list_all is_bare token ≡ true) = and_parts (is_bare b) (list_all is_bare token) t in
     ap (λ v. cond v [] (b ∷ before_any (codes " /") (token ++ spaces n))) (not-true (is_among (codes " /") b) parts.0)
     ∙ ap (λ xs. b ∷ xs) (before-token token n parts.1)
 
-from-token : (token : List ℕ) (n : ℕ) → list_all is_plain token ≡ true → from_any (codes " /") (token ++ spaces n) ≡ spaces n
+from-token : (token : List ℕ) (n : ℕ) → list_all is_bare token ≡ true → from_any (codes " /") (token ++ spaces n) ≡ spaces n
 from-token [] n t = from-spaces n
 from-token (b ∷ token) n t =
-    let parts : (is_plain b ≡ true) × (list_all is_plain token ≡ true) = and_parts (is_plain b) (list_all is_plain token) t in
+    let parts : (is_bare b ≡ true) × (list_all is_bare token ≡ true) = and_parts (is_bare b) (list_all is_bare token) t in
     ap (λ v. cond v (b ∷ (token ++ spaces n)) (from_any (codes " /") (token ++ spaces n))) (not-true (is_among (codes " /") b) parts.0)
     ∙ from-token token n parts.1
 
-token-alone : (token : List ℕ) (n : ℕ) → list_all is_plain token ≡ true → token_content (token ++ spaces n) ≡ Token token
+token-alone : (token : List ℕ) (n : ℕ) → list_all is_bare token ≡ true → token_content (token ++ spaces n) ≡ Token token
 token-alone token n t =
     let over : is_over (from_any (codes " /") (token ++ spaces n)) ≡ true = ap is_over (from-token token n t) ∙ spaces-over n in
     ap (λ v. cond v (Token (before_any (codes " /") (token ++ spaces n))) Broken) over ∙ ap Token (before-token token n t)
@@ -90,7 +89,7 @@ first-kept : (b : ℕ) (rest : List ℕ) → b ≢ 32 → without_leading_spaces
 first-kept b rest n = ap (λ t. cond t (without_leading_spaces rest) (b ∷ rest)) (ne_eqb b 32 n)
 
 -- the value of a card whose value is a right-justified token
-right-value : (name : List ℕ) (b : ℕ) (more : List ℕ) → length name ≡ 8 → list_all is_plain (b ∷ more) ≡ true → b ≢ 32 → b ≢ 47 → b ≢ 39 → value_of (written_value name (right_justified 20 (b ∷ more))) ≡ token_value (b ∷ more)
+right-value : (name : List ℕ) (b : ℕ) (more : List ℕ) → length name ≡ 8 → list_all is_bare (b ∷ more) ≡ true → b ≢ 32 → b ≢ 47 → b ≢ 39 → value_of (written_value name (right_justified 20 (b ∷ more))) ≡ token_value (b ∷ more)
 right-value name b more l t n₁ n₂ n₃ =
     let token : List ℕ = b ∷ more in
     let pad : ℕ = 80 - length (name ++ codes "= " ++ right_justified 20 token) in
@@ -109,14 +108,14 @@ logical-read_back name false l =
 
 -- integers
 
-digit-plain : (d : ℕ) → 48 ≤ d → is_plain d ≡ true
+digit-plain : (d : ℕ) → 48 ≤ d → is_bare d ≡ true
 digit-plain d h = not_from_false (is_among (codes " /") d) (or_from (eqb 32 d) _ (ne_eqb 32 d (omega arith)) (or_from (eqb 47 d) false (ne_eqb 47 d (omega arith)) refl))
 
-digits-plain : (ds : List ℕ) → all_ascii_digits ds ≡ true → list_all is_plain ds ≡ true
+digits-plain : (ds : List ℕ) → all_ascii_digits ds ≡ true → list_all is_bare ds ≡ true
 digits-plain [] t = refl
 digits-plain (d ∷ ds) t =
     let range : IsInRange 48 57 d = digit-in_range (d ∷ ds) 0 t (omega arith) in
-    and_from (is_plain d) (list_all is_plain ds) (digit-plain d range.0) (digits-plain ds (and_parts _ (all_ascii_digits ds) t).1)
+    and_from (is_bare d) (list_all is_bare ds) (digit-plain d range.0) (digits-plain ds (and_parts _ (all_ascii_digits ds) t).1)
 
 not-negative : (d : ℕ) (ds : List ℕ) → 48 ≤ d → is_negative (d ∷ ds) ≡ false
 not-negative d ds h = ne_eqb d 45 (omega arith)
@@ -208,9 +207,11 @@ trailing-cut : (text : List ℕ) (n : ℕ) → without_trailing_spaces (text ++ 
 trailing-cut [] n = trailing-none n
 trailing-cut (b ∷ text) n = ap (before_kept b) (trailing-cut text n)
 
-plain-no_quote : (text : List ℕ) → All IsPlain text → list_all is_no_quote text ≡ true
-plain-no_quote text plain =
-    list_all-from_AllPass is_no_quote text (λ k d h. let p : IsPlain (get_or text k d) = plain k d h in not_from_false (eqb (get_or text k d) 39) (ne_eqb (get_or text k d) 39 p.no_quote))
+plain-no_quote : (text : List ℕ) → list_all is_plain text ≡ true → list_all is_no_quote text ≡ true
+plain-no_quote [] plain = refl
+plain-no_quote (b ∷ text) plain =
+    let parts : (is_plain b ≡ true) × (list_all is_plain text ≡ true) = and_parts (is_plain b) (list_all is_plain text) plain in
+    and_from (is_no_quote b) (list_all is_no_quote text) (and_parts (nat_le 32 b && nat_le b 126) (not (eqb b 39)) parts.0).1 (plain-no_quote text parts.1)
 
 pub text-read_back : TextIsReadBack
 unfolding written_text

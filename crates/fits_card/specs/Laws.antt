@@ -1,17 +1,11 @@
 -- Model: written cards are read back.
-use Rattle.std.specs.Prelude.{[], ◌∷◌, ◌++◌, ◌==◌, if◌then◌else◌, Some, slice_index, ◌≡◌, ℕ, ◌≤◌, ◌≢◌, Bool, List, length, ℤ, FitsSigned}
-use Rattle.std.specs.List.{All}
+use Rattle.std.specs.Prelude.{[], ◌∷◌, ◌++◌, ◌==◌, if◌then◌else◌, Some, slice_index, ◌≡◌, ℕ, ◌≤◌, ◌≢◌, Bool, IsTrue, List, length, ℤ, FitsSigned}
+use Rattle.std.specs.List.{list_all}
 use Rattle.std.specs.Int.{w64}
 use Rattle.fits_card.specs.declared.number.Whole.TheVariants.{Is}
 use Rattle.fits_card.specs.Pieces.{quote, without_trailing_spaces, closed}
 use Rattle.fits_card.specs.Values.{Logical, Integer, Text, value_of, whole_of}
-use Rattle.fits_card.specs.Written.{written_logical, written_integer, written_text}
-
--- a printing character that isn't a quote
-pub record IsPlain (b : ℕ) : Type 0 where
-  pub low : 32 ≤ b
-  pub high : b ≤ 126
-  pub no_quote : b ≢ quote
+use Rattle.fits_card.specs.Written.{is_plain, written_logical, written_integer, written_text}
 
 abbrev pub LogicalIsReadBack : Type 0
 LogicalIsReadBack = (name : List ℕ) (value : Bool) → length name ≡ 8 → value_of (written_logical name value) ≡ Logical value
@@ -26,7 +20,8 @@ IntegerIsWhole =
 
 abbrev pub TextIsReadBack : Type 0
 TextIsReadBack =
-    (name text : List ℕ) → length name ≡ 8 → length text ≤ 68 → All IsPlain text → value_of (written_text name text) ≡ Text (without_trailing_spaces text)
+    (name text : List ℕ) → length name ≡ 8 → length text ≤ 68 → IsTrue (list_all is_plain text)
+    → value_of (written_text name text) ≡ Text (without_trailing_spaces text)
 
 -- a text as it stands between quotes
 abbrev pub doubled : List ℕ → List ℕ

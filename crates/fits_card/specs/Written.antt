@@ -1,6 +1,6 @@
 -- Model: the 80 bytes of written cards, in fixed format.
-use Rattle.std.specs.Prelude.{ℕ, ◌-◌, Bool, List, [], ◌∷◌, ◌++◌, length, replicate, codes, ℤ, if◌then◌else◌}
-use Rattle.std.specs.Fmt.{signed_decimal}
+use Rattle.std.specs.Prelude.{ℕ, ◌-◌, Bool, ◌&&◌, ◌==◌, not, nat_le, List, [], ◌∷◌, ◌++◌, length, replicate, codes, ℤ, if◌then◌else◌}
+use Rattle.std.specs.Fmt.{decimal, signed_decimal}
 use Rattle.fits_card.specs.Pieces.{space, quote}
 
 abbrev pub spaces : ℕ → List ℕ
@@ -12,6 +12,14 @@ left_justified width bytes = bytes ++ spaces (width - length bytes)
 
 abbrev pub right_justified : ℕ → List ℕ → List ℕ
 right_justified width bytes = spaces (width - length bytes) ++ bytes
+
+-- the keyword with this root and number, filled with spaces to eight columns
+unfoldable pub numbered_keyword : List ℕ → ℕ → List ℕ
+numbered_keyword root n = left_justified 8 (root ++ decimal n)
+
+-- a printing character that isn't a quote
+abbrev pub is_plain : ℕ → Bool
+is_plain b = nat_le 32 b && nat_le b 126 && not (b == quote)
 
 -- the name in columns 1 to 8, `= `, and the value from column 11 on
 abbrev pub written_value : List ℕ → List ℕ → List ℕ

@@ -1,8 +1,7 @@
 // The cards that a program writes, in fixed format (FITS Standard 4.0, section 4.2).
-ghost use Rattle.std.specs.Prelude.{◌≡◌, ◌+◌, ◌≤◌, ◌++◌, length, take, drop};
-ghost use Rattle.std.specs.List.{All};
-ghost use Rattle.fits_card.specs.Laws.{IsPlain};
-ghost use Rattle.fits_card.specs.Written.{written_value, written_logical, written_integer, written_text, written_end};
+ghost use Rattle.std.specs.Prelude.{◌≡◌, ◌+◌, ◌≤◌, ◌++◌, length, take, drop, IsTrue};
+ghost use Rattle.std.specs.List.{list_all};
+ghost use Rattle.fits_card.specs.Written.{is_plain, written_value, written_logical, written_integer, written_text, written_end};
 
 use crate::Card;
 
@@ -51,7 +50,7 @@ pub fn int_card(name: &[u8; 8], value: i64) -> Card
 /// The text stands between quotes from column 11 on, filled with spaces to at least eight characters.
 pub fn text_card(name: &[u8; 8], value: &[u8]) -> Card
     requires short { length value.now ≤ 68 }
-    requires plain { All IsPlain value.now }
+    requires plain { IsTrue (list_all is_plain value.now) }
     ensures { result ≡ written_text name.now value.now }
 {
     let width = value.len().max(8);

@@ -1,10 +1,10 @@
 -- Model: what one card of a header says (FITS Standard 4.0, section 4.4).
-use Rattle.std.specs.Prelude.{ℕ, ◌-◌, Bool, true, false, List, [], ◌∷◌, ◌++◌, ◌==◌, ◌&&◌, length, take, replicate, Option, Some, None, codes, decimal, if◌then◌else◌, ℤ, pos, negsuc, nat_le, is_some, unwrap_or}
+use Rattle.std.specs.Prelude.{ℕ, ◌-◌, Bool, true, false, List, [], ◌∷◌, ◌==◌, ◌&&◌, take, Option, Some, None, codes, if◌then◌else◌, ℤ, pos, negsuc, nat_le, is_some, unwrap_or}
 use Rattle.std.specs.Str.{bytes_eq}
 use Rattle.std.specs.List.{list_any}
 use Rattle.std.specs.Ordering.{int_eq}
 use Rattle.fits_card.specs.Values.{value_of, is_present, logical_of, integer_of, text_of, whole_of}
-use Rattle.fits_card.specs.Written.{written_end}
+use Rattle.fits_card.specs.Written.{numbered_keyword, written_end}
 use Rattle.fits_card.specs.declared.number.Whole.{Whole}
 
 -- columns 1 to 8 have this keyword
@@ -65,13 +65,9 @@ at_most most (Some n) = if nat_le n most then Some n else None
 unfoldable pub naxis_of : List ℕ → Option ℕ
 naxis_of card = if has_keyword (codes "NAXIS   ") card then at_most 999 (natural card) else None
 
--- the keyword of axis k, from 1, filled with spaces
-unfoldable pub axis_keyword : ℕ → List ℕ
-axis_keyword k = let name = codes "NAXIS" ++ decimal k in name ++ replicate (8 - length name) 32
-
 -- NAXISk with an integer from 0
 unfoldable pub axis_of : ℕ → List ℕ → Option ℕ
-axis_of k card = if has_keyword (axis_keyword k) card then natural card else None
+axis_of k card = if has_keyword (numbered_keyword (codes "NAXIS") k) card then natural card else None
 
 -- the mandatory card of place j, from 1
 abbrev pub is_mandatory : Bool → ℕ → List ℕ → Bool

@@ -1,6 +1,7 @@
 // What one card says.
-ghost use Rattle.std.specs.Prelude.{◌≡◌, ◌<◌, ◌≤◌, Bool, List, ℕ};
-ghost use Rattle.fits_hdu.specs.Cards.{has_keyword, natural, whole, is_true, is_image, is_end, is_first, bitpix_of, naxis_of, axis_of, axis_keyword, is_valued};
+ghost use Rattle.std.specs.Prelude.{◌≡◌, ◌<◌, ◌≤◌, Bool, List, ℕ, codes};
+ghost use Rattle.fits_card.specs.Written.{numbered_keyword};
+ghost use Rattle.fits_hdu.specs.Cards.{has_keyword, natural, whole, is_true, is_image, is_end, is_first, bitpix_of, naxis_of, axis_of, is_valued};
 ghost use Rattle.fits_hdu.specs.Headers.{is_beginning};
 
 use fits_card::number::Whole;
@@ -133,10 +134,10 @@ pub(crate) fn axis(card: &Card, number: u16) -> Option<u64>
 }
 
 /// The keyword of an axis: its number without leading zeros, filled with spaces.
-#[tactic(auto, unfolding(crate::specs::Cards::axis_keyword))]
+#[tactic(auto, unfolding(fits_card::specs::Written::numbered_keyword))]
 fn axis_keyword(number: u16) -> [u8; 8]
     requires { number ≤ 999 }
-    ensures { result ≡ axis_keyword number }
+    ensures { result ≡ numbered_keyword (codes "NAXIS") number }
 {
     let ones = b'0' + (number % 10) as u8;
     let tens = b'0' + (number / 10 % 10) as u8;

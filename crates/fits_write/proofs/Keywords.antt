@@ -2,15 +2,14 @@
 use Rattle.std.proofs.Common.{◌≡◌, ℕ, ◌+◌, ◌/◌, ◌%◌, ◌<◌, ◌≤◌, List, [], ◌∷◌, ◌++◌, length, get_or, sym, ap, ◌∙◌, arith}
 use Rattle.std.specs.Fmt.{decimal}
 use Rattle.std.proofs.lemmas.Fmt.{decimal_digit, decimal_step}
-use Rattle.fits_card.specs.Written.{left_justified}
-use Rattle.fits_write.specs.Columns.{numbered}
+use Rattle.fits_card.specs.Written.{left_justified, numbered_keyword}
 
-by_digits : (root digits : List ℕ) (n : ℕ) → decimal n ≡ digits → numbered root n ≡ left_justified 8 (root ++ digits)
-unfolding numbered
+by_digits : (root digits : List ℕ) (n : ℕ) → decimal n ≡ digits → numbered_keyword root n ≡ left_justified 8 (root ++ digits)
+unfolding numbered_keyword
 by_digits root digits n e = ap (λ l. left_justified 8 (root ++ l)) e
 
 pub numbered_by_one : (root : List ℕ) (n : ℕ) → length root ≡ 5 → n < 10
-    → get_or root 0 0 ∷ get_or root 1 0 ∷ get_or root 2 0 ∷ get_or root 3 0 ∷ get_or root 4 0 ∷ (48 + n % 10) ∷ 32 ∷ 32 ∷ [] ≡ numbered root n
+    → get_or root 0 0 ∷ get_or root 1 0 ∷ get_or root 2 0 ∷ get_or root 3 0 ∷ get_or root 4 0 ∷ (48 + n % 10) ∷ 32 ∷ 32 ∷ [] ≡ numbered_keyword root n
 numbered_by_one (a ∷ b ∷ c ∷ d ∷ e ∷ []) n five less =
     let ones : n % 10 ≡ n = omega arith in
     rw ones (sym (by_digits (a ∷ b ∷ c ∷ d ∷ e ∷ []) _ n (decimal_digit n less)))
@@ -21,6 +20,6 @@ two_digits k least most =
     decimal_step k least (omega arith) ∙ ap (λ l. l ++ (48 + k % 10) ∷ []) (decimal_digit (k / 10) (omega arith))
 
 pub numbered_by_two : (root : List ℕ) (n : ℕ) → length root ≡ 5 → 10 ≤ n → n ≤ 99
-    → get_or root 0 0 ∷ get_or root 1 0 ∷ get_or root 2 0 ∷ get_or root 3 0 ∷ get_or root 4 0 ∷ (48 + n / 10) ∷ (48 + n % 10) ∷ 32 ∷ [] ≡ numbered root n
+    → get_or root 0 0 ∷ get_or root 1 0 ∷ get_or root 2 0 ∷ get_or root 3 0 ∷ get_or root 4 0 ∷ (48 + n / 10) ∷ (48 + n % 10) ∷ 32 ∷ [] ≡ numbered_keyword root n
 numbered_by_two (a ∷ b ∷ c ∷ d ∷ e ∷ []) n five least most = sym (by_digits (a ∷ b ∷ c ∷ d ∷ e ∷ []) _ n (two_digits n least (omega arith)))
 numbered_by_two _ n five least most = absurd (omega arith)

@@ -8,12 +8,12 @@ use Rattle.std.proofs.lemmas.List.FromFn.{get_or-map-range_with_len, length-map-
 use Rattle.std.specs.declared.result.Result.{Result}
 use Rattle.dev_io.specs.Streams.{AppendsPrefix, PutAppends}
 use Rattle.dev_io.specs.Laws.{AppendsPrefix-more}
-use Rattle.fits_card.specs.Written.{written_text}
+use Rattle.fits_card.specs.Written.{numbered_keyword, written_text}
 use Rattle.fits_write.specs.declared.table.Cell.{Cell}
 use Rattle.fits_write.specs.declared.table.Column.{Column}
 use Rattle.fits_write.specs.Blocks.{Waits, room_after}
 use Rattle.fits_write.specs.Hdus.{header, table_cards, table_front, table_back}
-use Rattle.fits_write.specs.Columns.{column_cards, numbered, form_of, bytes_at, cell_bytes, cell_at, number_at}
+use Rattle.fits_write.specs.Columns.{column_cards, form_of, bytes_at, cell_bytes, cell_at, number_at}
 use Rattle.fits_write.proofs.Pieces.{Waits-after, Waits-cut, from_nothing, cut_from_nothing, cut_filled, waits_filled}
 
 column_cards-append : (n : ℕ) (xs ys : List Column) → column_cards n (xs ++ ys) ≡ column_cards n xs ++ column_cards (n + length xs) ys
@@ -21,7 +21,7 @@ column_cards-append n [] ys = ap (λ k. column_cards k ys) (omega arith)
 column_cards-append n (x ∷ xs) ys =
     let e : column_cards (n + 1) (xs ++ ys) ≡ column_cards (n + 1) xs ++ column_cards (n + length (x ∷ xs)) ys =
     column_cards-append (n + 1) xs ys ∙ ap (λ k. column_cards (n + 1) xs ++ column_cards k ys) (omega arith) in
-    ap (λ l. written_text (numbered (codes "TTYPE") n) x.name ∷ written_text (numbered (codes "TFORM") n) (form_of x.cell) ∷ l) e
+    ap (λ l. written_text (numbered_keyword (codes "TTYPE") n) x.name ∷ written_text (numbered_keyword (codes "TFORM") n) (form_of x.cell) ∷ l) e
 
 columns_more : (columns : List Column) (i : ℕ) (d : Column) → i < length columns
     → concat (column_cards 1 (take (i + 1) columns)) ≡ concat (column_cards 1 (take i columns)) ++ concat (column_cards (i + 1) (get_or columns i d ∷ []))

@@ -4,7 +4,7 @@ use Rattle.std.specs.List.{concat, list_all, range_with_len}
 use Rattle.std.specs.Int.{w32, w64, cast_unsigned}
 use Rattle.byteorder.specs.Endian.{big_bytes}
 use Rattle.fits_card.specs.Pieces.{quote}
-use Rattle.fits_card.specs.Written.{left_justified, written_text}
+use Rattle.fits_card.specs.Written.{is_plain, numbered_keyword, written_text}
 use Rattle.fits_write.specs.declared.table.Cell.{Cell}
 use Rattle.fits_write.specs.declared.table.Cell.TheVariants.{J, K}
 use Rattle.fits_write.specs.declared.table.Column.{Column}
@@ -51,23 +51,15 @@ table_bytes columns cells = concat (map (bytes_at columns cells) (range_with_len
 abbrev pub row_size : List Column → ℕ
 row_size columns = sum_by (λ column. cell_size column.cell) columns
 
--- the keyword with this root and number, filled with spaces to eight columns
-unfoldable pub numbered : List ℕ → ℕ → List ℕ
-numbered root n = left_justified 8 (root ++ decimal n)
-
 -- TTYPEn and TFORMn of these columns, numbered from n
 abbrev pub column_cards : ℕ → List Column → List (List ℕ)
 column_cards n [] = []
 column_cards n (column ∷ columns) =
-    written_text (numbered (codes "TTYPE") n) column.name
-    ∷ written_text (numbered (codes "TFORM") n) (form_of column.cell)
+    written_text (numbered_keyword (codes "TTYPE") n) column.name
+    ∷ written_text (numbered_keyword (codes "TFORM") n) (form_of column.cell)
     ∷ column_cards (n + 1) columns
 
 -- ---- what can be written
-
--- a printing character that isn't a quote
-abbrev pub is_plain : ℕ → Bool
-is_plain b = nat_le 32 b && nat_le b 126 && not (b == quote)
 
 -- a table that can be written: from 1 to 99 columns with plain names, and whole rows, at most 2 ^ 24, of cells that fit their columns
 pub record IsTable (columns : List Column) (cells : List ℤ) : Type 0 where

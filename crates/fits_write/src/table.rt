@@ -4,7 +4,8 @@ ghost use Rattle.std.specs.List.{concat, list_all};
 ghost use Rattle.dev_io.specs.Causes.{HasCause};
 ghost use Rattle.dev_io.specs.Streams.{AppendsPrefix, PutAppends};
 ghost use Rattle.fits_write.specs.Blocks.{Waits, filled};
-ghost use Rattle.fits_write.specs.Columns.{IsTable, FitsCell, cell_size, cell_bytes, form_of, is_plain, row_size, numbered, column_cards, table_bytes};
+ghost use Rattle.fits_card.specs.Written.{is_plain, numbered_keyword};
+ghost use Rattle.fits_write.specs.Columns.{IsTable, FitsCell, cell_size, cell_bytes, form_of, row_size, column_cards, table_bytes};
 ghost use Rattle.fits_write.specs.Hdus.{header, table_front, table_back, table_cards, table_hdu};
 
 use crate::WriteFault;
@@ -159,7 +160,7 @@ fn column_cards(number: usize, column: &Column) -> [Card; 2]
 // The keyword with this root and number.
 fn numbered(root: &[u8; 5], number: usize) -> [u8; 8]
     requires { number ≤ 99 }
-    ensures { result ≡ numbered root.now number }
+    ensures { result ≡ numbered_keyword root.now number }
 {
     let ones = b'0' + (number % 10) as u8;
     let tens = b'0' + (number / 10) as u8;
