@@ -1,4 +1,5 @@
 pub mod Readable
+pub mod HalfRange
+pub mod Bounds
 pub mod Decoding
 pub mod Planes
-pub mod Storable
