@@ -1,5 +1,5 @@
 -- A number of 64 bits is compared with the bounds of the values, less BZERO.
-use Rattle.std.proofs.Common.{◌≡◌, ℕ, ◌^◌, ℤ, pos, neg_ℤ, ◌+ℤ◌, ◌-ℤ◌, ◌≤ℤ◌, ◌<ℤ◌, Bool, true, false, refl, sym, ◌∙◌, ap, arith}
+use Rattle.std.proofs.Common.{◌≡◌, ◌^◌, ℤ, pos, neg_ℤ, ◌+ℤ◌, ◌-ℤ◌, ◌≤ℤ◌, ◌<ℤ◌, Bool, true, false, refl, ◌∙◌, ap, arith}
 use Rattle.std.specs.Prelude.{int_le, int_lt, not, Some, None, ◌&&◌}
 use Rattle.std.specs.declared.option.Option.{Option}
 use Rattle.std.specs.Option.{option_eq}
@@ -13,13 +13,13 @@ use Rattle.pixel_plane.specs.Sizes.{IsFarNumber}
 pub high_test : (zero stored : ℤ) → (neg_ℤ (pos (2 ^ 36)) -ℤ zero) ≤ℤ stored → int_lt (pos (2 ^ 36) -ℤ zero) stored ≡ is_out_of_range (Some (zero +ℤ stored))
 high_test zero stored low = by_lt_z (pos (2 ^ 36) -ℤ zero) stored
     (λ (h : (pos (2 ^ 36) -ℤ zero) <ℤ stored).
-        let beyond : int_le (zero +ℤ stored) (pos (2 ^ 36)) ≡ false = int_le-false (zero +ℤ stored) (pos (2 ^ 36)) (omega (arith, ints)) in
-        let test : int_lt (pos (2 ^ 36) -ℤ zero) stored ≡ true = int_lt-from (pos (2 ^ 36) -ℤ zero) stored h in
-        rw (test, over, beyond) refl)
+    let beyond : int_le (zero +ℤ stored) (pos (2 ^ 36)) ≡ false = int_le-false (zero +ℤ stored) (pos (2 ^ 36)) (omega (arith, ints)) in
+    let test : int_lt (pos (2 ^ 36) -ℤ zero) stored ≡ true = int_lt-from (pos (2 ^ 36) -ℤ zero) stored h in
+    rw (test, over, beyond) refl)
     (λ (h : stored ≤ℤ (pos (2 ^ 36) -ℤ zero)).
-        let within : int_le (zero +ℤ stored) (pos (2 ^ 36)) ≡ true = int_le-from (zero +ℤ stored) (pos (2 ^ 36)) (omega (arith, ints)) in
-        let test : int_lt (pos (2 ^ 36) -ℤ zero) stored ≡ false = int_lt-false (pos (2 ^ 36) -ℤ zero) stored h in
-        rw (test, over, within) refl)
+    let within : int_le (zero +ℤ stored) (pos (2 ^ 36)) ≡ true = int_le-from (zero +ℤ stored) (pos (2 ^ 36)) (omega (arith, ints)) in
+    let test : int_lt (pos (2 ^ 36) -ℤ zero) stored ≡ false = int_lt-false (pos (2 ^ 36) -ℤ zero) stored h in
+    rw (test, over, within) refl)
   where
     over : int_le (neg_ℤ (pos (2 ^ 36))) (zero +ℤ stored) ≡ true
     over = int_le-from (neg_ℤ (pos (2 ^ 36))) (zero +ℤ stored) (omega (arith, ints, low))

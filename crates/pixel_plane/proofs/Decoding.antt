@@ -1,10 +1,10 @@
 -- The pixels are read one after the other.
-use Rattle.std.proofs.Common.{◌≡◌, ℕ, ◌+◌, ◌-◌, ◌*◌, ◌<◌, ◌≤◌, ◌⊎◌, List, length, take, drop, take_all, Option, None, ℤ, pos, ◌∙◌, ap, sym, subst, arith, slice_set, inl, inr, ⊎_elim, zero, suc, get_or, refl, false, mul-le-mul_right, suc-mul, length-drop, IsTrue, true, ◌==◌, ◌||◌}
+use Rattle.std.proofs.Common.{◌≡◌, ℕ, ◌+◌, ◌-◌, ◌*◌, ◌<◌, ◌≤◌, ◌⊎◌, List, length, take, drop, take_all, Option, None, ℤ, pos, ◌∙◌, ap, sym, subst, arith, slice_set, inl, inr, ⊎_elim, zero, suc, get_or, refl, mul-le-mul_right, suc-mul, length-drop, IsTrue, true, ◌==◌, ◌||◌}
 use Rattle.std.specs.Int.{w16, w32, w64, cast_signed}
 use Rattle.std.proofs.lemmas.Bool.{or_cases}
 use Rattle.std.proofs.lemmas.Bool.Decides.{nat_tests}
 use Rattle.std.proofs.lemmas.List.{get_or-take, drop-take, drop-drop, take_rest}
-use Rattle.dev_io.specs.Streams.{Takes, TakesAtMost, Fills}
+use Rattle.dev_io.specs.Streams.{Takes, Fills}
 use Rattle.dev_io.specs.Laws.{Takes-after, TakesAtMost-after}
 use Rattle.std.proofs.lemmas.Bool.{cases_lt}
 use Rattle.std.proofs.lemmas.List.{get_or-set_same, get_or-set_other}

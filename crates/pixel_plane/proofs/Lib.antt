@@ -3,3 +3,4 @@ pub mod HalfRange
 pub mod Bounds
 pub mod Decoding
 pub mod Planes
+pub mod Naming

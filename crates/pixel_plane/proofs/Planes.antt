@@ -1,6 +1,6 @@
 -- All pixels were read: the plane is the stored one.
-use Rattle.std.proofs.Common.{◌≡◌, ℕ, ◌+◌, ◌*◌, ◌<◌, List, length, map, drop, Bool, true, false, if◌then◌else◌, Option, Some, None, ℤ, pos, refl, ◌∙◌, ap, sym, subst, arith}
-use Rattle.std.specs.List.{range_with_len, position}
+use Rattle.std.proofs.Common.{◌≡◌, ℕ, ◌*◌, ◌<◌, List, length, drop, Bool, true, false, if◌then◌else◌, Option, Some, None, pos, refl, ◌∙◌, ap, sym, subst, arith}
+use Rattle.std.specs.List.{position}
 use Rattle.std.specs.Ordering.{int_eq}
 use Rattle.std.proofs.lemmas.List.{ext_get_or, length-map}
 use Rattle.std.proofs.lemmas.List.FromFn.{get_or-map-range_with_len, length-range_with_len}
@@ -9,7 +9,7 @@ use Rattle.comp_tree.specs.declared.shape.Shape.{Shape}
 use Rattle.comp_tree.specs.Raster.{Raster, value_at, HasValuesInHalfRange}
 use Rattle.fits_hdu.specs.declared.answer.Hdu.{Hdu}
 use Rattle.pixel_plane.specs.declared.encoding.Encoding.{Encoding}
-use Rattle.pixel_plane.specs.Stored.{size_of, whole_or_zero, blank_of, pixel_at, pixel_value, stored_number, stored_plane, is_out_of_range, first_out_of_range}
+use Rattle.pixel_plane.specs.Stored.{size_of, whole_or_zero, blank_of, pixel_value, stored_number, stored_plane, is_out_of_range, first_out_of_range}
 use Rattle.pixel_plane.specs.Images.{image_fault}
 use Rattle.pixel_plane.specs.Reading.{PlaneRead, PlaneStopped, image_bytes}
 use Rattle.pixel_plane.specs.Decoding.{decoded, PixelsRead, PixelsStopped}

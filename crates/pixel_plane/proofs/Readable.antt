@@ -1,5 +1,5 @@
 -- What an HDU without a fault as an image has.
-use Rattle.std.proofs.Common.{◌≡◌, ℕ, ◌^◌, ◌/◌, ◌==◌, Bool, true, false, ◌&&◌, ◌||◌, not, List, [], ◌∷◌, None, Option, Some, ℤ, pos, neg_ℤ, ◌≤ℤ◌, refl, sym, ◌⊎◌, inl, inr, ⊎_elim, unsigned_abs, ap, ◌∙◌, arith}
+use Rattle.std.proofs.Common.{◌≡◌, ℕ, ◌^◌, ◌/◌, Bool, true, false, ◌&&◌, ◌||◌, not, [], ◌∷◌, None, Option, Some, ℤ, pos, neg_ℤ, ◌≤ℤ◌, refl, sym, ◌⊎◌, inl, inr, ⊎_elim, unsigned_abs, ap, ◌∙◌, arith}
 use Rattle.std.specs.Prelude.{Result, Ok, Err, IfOk}
 use Rattle.std.specs.Result.{result_err}
 use Rattle.std.proofs.lemmas.Bool.{or_cases, not-false}
@@ -13,7 +13,7 @@ use Rattle.fits_card.specs.declared.number.Whole.TheVariants.{Is, NotWhole, Beyo
 use Rattle.fits_hdu.specs.declared.answer.Hdu.{Hdu}
 use Rattle.pixel_plane.specs.declared.fault.ImageFault.{ImageFault}
 use Rattle.pixel_plane.specs.declared.fault.ImageFault.TheVariants.{NotImage, NoImage, ImageTooLarge, Bitpix, Bscale, Bzero, Blank}
-use Rattle.pixel_plane.specs.Images.{checked, shape_unless, image_fault, first_fault, is_other, has_no_pixels, is_stored_size, is_one, is_zero_point, is_blank_or_none}
+use Rattle.pixel_plane.specs.Images.{checked, image_fault, first_fault, is_other, has_no_pixels, is_stored_size, is_one, is_zero_point, is_blank_or_none}
 use Rattle.pixel_plane.specs.Stored.{size_of, whole_or_zero}
 use Rattle.pixel_plane.specs.Sizes.{is_number_size}
 

@@ -6,7 +6,7 @@ use Rattle.comp_tree.specs.Raster.{value_at}
 use Rattle.pixel_plane.specs.declared.encoding.Encoding.{Encoding}
 use Rattle.pixel_plane.specs.declared.fault.PlaneFault.{PlaneFault}
 use Rattle.pixel_plane.specs.declared.fault.PlaneFault.TheVariants.{TruncatedData, PixelRange, ReadFault, OutOfMemory}
-use Rattle.pixel_plane.specs.Stored.{stored_number, pixel_at, is_out_of_range}
+use Rattle.pixel_plane.specs.Stored.{stored_number, value_stored_as, pixel_at, is_out_of_range}
 
 -- the value of pixel p, where the numbers are encoded so
 abbrev pub decoded : Encoding → List ℕ → ℕ → Option ℤ
@@ -66,3 +66,25 @@ pub record FarRead (encoding : Encoding) (count : ℕ) (bytes : List ℕ) (left 
 abbrev pub PixelsStopped : Encoding → ℕ → List ℕ → Option (List ℕ) → PlaneFault → Type 0
 PixelsStopped encoding count bytes left (PixelRange pixel stored) = FarRead encoding count bytes left pixel stored
 PixelsStopped encoding count bytes left fault = BytesStopped (count * encoding.size) bytes left fault
+
+-- ---- the pixel that a fault names, also where the bytes aren't told
+
+-- it names none
+abbrev pub NamesNone : PlaneFault → Type 0
+NamesNone (PixelRange pixel stored) = ⊥
+NamesNone fault = Unit {0}
+
+-- no other than this
+abbrev pub NamesOnly : ℕ → ℤ → PlaneFault → Type 0
+NamesOnly pixel stored (PixelRange p number) = (p ≡ pixel) × (number ≡ stored)
+NamesOnly pixel stored fault = Unit {0}
+
+-- one of so many, whose value is out of range
+pub record IsFarPixel (encoding : Encoding) (count pixel : ℕ) (stored : ℤ) : Type 0 where
+  pub wide : encoding.size ≡ 8
+  pub inside : pixel < count
+  pub far : is_out_of_range (value_stored_as encoding.zero encoding.blank stored) ≡ true
+
+abbrev pub NamesFar : Encoding → ℕ → PlaneFault → Type 0
+NamesFar encoding count (PixelRange pixel stored) = IsFarPixel encoding count pixel stored
+NamesFar encoding count fault = Unit {0}

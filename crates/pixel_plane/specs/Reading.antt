@@ -1,5 +1,5 @@
 -- Model: what the reading of a plane does to the bytes that are told.
-use Rattle.std.specs.Prelude.{◌≡◌, ℕ, ◌*◌, ◌<◌, List, length, ℤ, pos, Some, None}
+use Rattle.std.specs.Prelude.{◌≡◌, ℕ, ◌*◌, ◌<◌, true, List, length, ℤ, pos, Some, None}
 use Rattle.std.specs.declared.option.Option.{Option}
 use Rattle.dev_io.specs.Streams.{Takes, TakesAtMost}
 use Rattle.comp_tree.specs.declared.shape.Shape.{Shape}
@@ -7,7 +7,7 @@ use Rattle.comp_tree.specs.Raster.{Raster}
 use Rattle.fits_hdu.specs.declared.answer.Hdu.{Hdu}
 use Rattle.pixel_plane.specs.declared.fault.PlaneFault.{PlaneFault}
 use Rattle.pixel_plane.specs.declared.fault.PlaneFault.TheVariants.{TruncatedData, PixelRange, ReadFault, OutOfMemory}
-use Rattle.pixel_plane.specs.Stored.{size_of, stored_plane, stored_at, first_out_of_range}
+use Rattle.pixel_plane.specs.Stored.{size_of, whole_or_zero, blank_of, value_stored_as, stored_plane, stored_at, is_out_of_range, first_out_of_range}
 
 -- how many data bytes an image of this shape has
 abbrev pub image_bytes : Hdu → Shape → ℕ
@@ -33,3 +33,14 @@ PlaneStopped hdu shape bytes left TruncatedData = (length bytes < image_bytes hd
 PlaneStopped hdu shape bytes left (PixelRange pixel stored) = PixelOutOfRange hdu shape bytes left pixel stored
 PlaneStopped hdu shape bytes left ReadFault = TakesAtMost bytes left (image_bytes hdu shape)
 PlaneStopped hdu shape bytes left OutOfMemory = Takes bytes left 0
+
+-- what is known of such a pixel also where the bytes aren't told
+pub record MayBeOutOfRange (hdu : Hdu) (shape : Shape) (pixel : ℕ) (stored : ℤ) : Type 0 where
+  pub bits : hdu.bitpix ≡ pos 64
+  pub inside : pixel < shape.width * shape.height
+  pub outside : is_out_of_range (value_stored_as (whole_or_zero hdu.bzero) (blank_of hdu.blank) stored) ≡ true
+
+-- a fault that names a pixel comes with that alone
+abbrev pub NamesPixel : Hdu → Shape → PlaneFault → Type 0
+NamesPixel hdu shape (PixelRange pixel stored) = MayBeOutOfRange hdu shape pixel stored
+NamesPixel hdu shape fault = Unit {0}

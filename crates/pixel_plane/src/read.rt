@@ -1,12 +1,12 @@
 //! Reading the pixels.
-ghost use Rattle.std.specs.Prelude.{◌≡◌, ◌≢◌, ◌≤◌, ◌-◌, ◌*◌, Ok, length, IfOk, IsErrOf, IsTrue, MatchResult};
+ghost use Rattle.std.specs.Prelude.{◌≡◌, ◌≢◌, ◌≤◌, ◌-◌, ◌*◌, Ok, length, IfOk, IfErr, IsErrOf, IsTrue, MatchResult};
 ghost use Rattle.std.specs.Option.{ForSome};
 ghost use Rattle.dev_io.specs.Causes.{Rose};
 ghost use Rattle.dev_io.specs.Streams.{Takes, Fills};
 ghost use Rattle.comp_tree.specs.Raster.{HasValuesInHalfRange};
 ghost use Rattle.pixel_plane.specs.Images.{checked};
-ghost use Rattle.pixel_plane.specs.Reading.{PlaneRead, PlaneStopped};
-ghost use Rattle.pixel_plane.specs.Decoding.{PixelsRead, PixelsStopped, BytesStopped, RestStopped, IsDecoded, FarInside};
+ghost use Rattle.pixel_plane.specs.Reading.{PlaneRead, PlaneStopped, NamesPixel};
+ghost use Rattle.pixel_plane.specs.Decoding.{PixelsRead, PixelsStopped, BytesStopped, RestStopped, IsDecoded, FarInside, NamesNone, NamesOnly, NamesFar};
 
 use crate::PlaneFault;
 use crate::encoding::Encoding;
@@ -30,6 +30,7 @@ pub fn read_plane<S: Source>(
     ensures told { ForSome (S.left src.old) (λ bytes. MatchResult result
         (λ plane. PlaneRead hdu.now shape bytes (S.left src.new) plane)
         (λ fault. PlaneStopped hdu.now shape bytes (S.left src.new) fault)) }
+    ensures range { IfErr result (NamesPixel hdu.now shape) }
     ensures half_range { IfOk result (λ plane. HasValuesInHalfRange plane.values) }
     ensures truncated { IsErrOf result PlaneFault.TruncatedData → IsTrue (S.ended src.new) }
     ensures later { S.faults src.old ≤ S.faults src.new }
@@ -65,6 +66,7 @@ fn read_pixels<S: Source>(
     ensures told { ForSome (S.left src.old) (λ bytes. MatchResult result
         (λ _. PixelsRead encoding.now bytes (S.left src.new) plane.new.values)
         (λ fault. PixelsStopped encoding.now (length plane.old.values) bytes (S.left src.new) fault)) }
+    ensures range { IfErr result (NamesFar encoding.now (length plane.old.values)) }
     ensures truncated { IsErrOf result PlaneFault.TruncatedData → IsTrue (S.ended src.new) }
     ensures later { S.faults src.old ≤ S.faults src.new }
     ensures fault { IsErrOf result PlaneFault.ReadFault → Rose (S.faults src.old) (S.faults src.new) }
@@ -76,7 +78,7 @@ fn read_pixels<S: Source>(
     while first < count {
         let end = count.min(first + most);
         let bytes = &mut block[..(end - first) as usize * encoding.size];
-        if let Err(fault) = take_all(src, bytes) {
+        if let Err(fault) = fill_all(src, bytes) {
             return Err(fault);
         }
         if let Err(far) = decode(encoding, bytes, plane, first, end) {
@@ -91,6 +93,7 @@ fn read_pixels<S: Source>(
 // come, that goes before it.
 fn range_fault<S: Source>(src: &mut S, far: &FarPixel, rest: usize) -> PlaneFault
     ensures told { ForSome (S.left src.old) (λ bytes. RestStopped rest far.now.pixel far.now.stored bytes (S.left src.new) result) }
+    ensures range { NamesOnly far.now.pixel far.now.stored result }
     ensures truncated { result ≡ PlaneFault.TruncatedData → IsTrue (S.ended src.new) }
     ensures later { S.faults src.old ≤ S.faults src.new }
     ensures fault { result ≡ PlaneFault.ReadFault → Rose (S.faults src.old) (S.faults src.new) }
@@ -109,6 +112,7 @@ fn skip<S: Source>(src: &mut S, count: usize) -> Result<(), PlaneFault>
     ensures told { ForSome (S.left src.old) (λ bytes. MatchResult result
         (λ _. Takes bytes (S.left src.new) count)
         (λ fault. BytesStopped count bytes (S.left src.new) fault)) }
+    ensures range { IfErr result NamesNone }
     ensures truncated { IsErrOf result PlaneFault.TruncatedData → IsTrue (S.ended src.new) }
     ensures later { S.faults src.old ≤ S.faults src.new }
     ensures fault { IsErrOf result PlaneFault.ReadFault → Rose (S.faults src.old) (S.faults src.new) }
@@ -117,7 +121,7 @@ fn skip<S: Source>(src: &mut S, count: usize) -> Result<(), PlaneFault>
     let mut taken = 0;
     while taken < count {
         let piece = BLOCK.min(count - taken);
-        if let Err(fault) = take_all(src, &mut block[..piece]) {
+        if let Err(fault) = fill_all(src, &mut block[..piece]) {
             return Err(fault);
         }
         taken += piece;
@@ -126,10 +130,11 @@ fn skip<S: Source>(src: &mut S, count: usize) -> Result<(), PlaneFault>
 }
 
 // Fills the buffer from the next bytes.
-fn take_all<S: Source>(src: &mut S, buf: &mut [u8]) -> Result<(), PlaneFault>
+fn fill_all<S: Source>(src: &mut S, buf: &mut [u8]) -> Result<(), PlaneFault>
     ensures told { ForSome (S.left src.old) (λ bytes. MatchResult result
         (λ _. Fills bytes (S.left src.new) (length buf.new) buf.new)
         (λ fault. BytesStopped (length buf.new) bytes (S.left src.new) fault)) }
+    ensures range { IfErr result NamesNone }
     ensures truncated { IsErrOf result PlaneFault.TruncatedData → IsTrue (S.ended src.new) }
     ensures later { S.faults src.old ≤ S.faults src.new }
     ensures fault { IsErrOf result PlaneFault.ReadFault → Rose (S.faults src.old) (S.faults src.new) }

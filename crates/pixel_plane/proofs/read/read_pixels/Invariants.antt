@@ -1,5 +1,5 @@
 -- The pixels before the first are read, from exactly the bytes of their numbers.
-use Rattle.std.proofs.Common.{◌≡◌, ◌-◌, ◌*◌, ◌≤◌, length}
+use Rattle.std.proofs.Common.{◌≡◌, ◌-◌, ◌≤◌, length}
 use Rattle.std.specs.Option.{ForSome}
 use Rattle.comp_tree.specs.Raster.{HasValuesInHalfRange}
 use Rattle.pixel_plane.specs.Decoding.{ReadSoFar}

@@ -3,6 +3,7 @@ use Rattle.std.proofs.lemmas.List.{length-replicate}
 use Rattle.pixel_plane.proofs.Readable.{shape_without_fault}
 use Rattle.pixel_plane.proofs.HalfRange.{blank_in_half_range}
 use Rattle.pixel_plane.proofs.Planes.{IsEncodingOf, plane_is_read, plane_stopped}
+use Rattle.pixel_plane.proofs.Naming.{pixel_named}
 use Rattle.pixel_plane.proofs.read.read_plane.Goals as goal
 
 pub of-encoding-requires : goal.of-encoding-requires
@@ -32,3 +33,13 @@ returns-in-Err-clause-told g c = λ x e.
     let blank : length c.in-Ok.plane.values ≡ c.args.shape.width * c.args.shape.height = ap length c.in-Ok.ensures.undefined ∙ length-replicate _ _ in
     plane_stopped c.args.hdu.now c.args.shape c.of-encoding.result x _ _ c.in-Err.fault encoding (shape_without_fault c.args.hdu.now c.args.shape c.requires) blank
     (c.in-Err.ensures.told x e)
+
+pub returns-in-Err-clause-range : goal.returns-in-Err-clause-range
+returns-in-Err-clause-range g c =
+    let encoding : IsEncodingOf c.args.hdu.now c.of-encoding.result = record {
+      size = c.of-encoding.ensures.size;
+      zero = c.of-encoding.ensures.zero;
+      blank = c.of-encoding.ensures.blank;
+    } in
+    let blank : length c.in-Ok.plane.values ≡ c.args.shape.width * c.args.shape.height = ap length c.in-Ok.ensures.undefined ∙ length-replicate _ _ in
+    pixel_named c.args.hdu.now c.args.shape c.of-encoding.result _ c.in-Err.fault encoding (shape_without_fault c.args.hdu.now c.args.shape c.requires) blank c.in-Err.ensures.range

@@ -1,4 +1,4 @@
-use Rattle.std.proofs.Common.{◌≡◌, arith, rules, ℤ, pos, neg_ℤ, ◌-ℤ◌, ◌≤ℤ◌, ◌^◌, w64, to_z, of_z, false}
+use Rattle.std.proofs.Common.{◌≡◌, arith, ℤ, pos, neg_ℤ, ◌-ℤ◌, ◌^◌, w64, to_z, of_z, false}
 use Rattle.std.specs.Prelude.{int_lt}
 use Rattle.std.proofs.lemmas.Int.{ints}
 use Rattle.pixel_plane.proofs.Bounds.{high_test, not_below}

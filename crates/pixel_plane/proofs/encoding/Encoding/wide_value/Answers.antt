@@ -1,8 +1,7 @@
-use Rattle.std.proofs.Common.{◌≡◌, ◌∙◌, sym, rules, arith, ℤ, Some, ◌+ℤ◌, w64, to_z, of_z, true, false}
+use Rattle.std.proofs.Common.{◌≡◌, ◌∙◌, sym, arith, ℤ, Some, ◌+ℤ◌, w64, to_z, of_z, true, false}
 use Rattle.std.specs.Option.{option_eq}
 use Rattle.std.specs.Ordering.{int_eq}
-use Rattle.std.proofs.lemmas.Int.{ints, to_z-of_z}
-use Rattle.pixel_plane.specs.Sizes.{IsFarNumber}
+use Rattle.std.proofs.lemmas.Int.{ints}
 use Rattle.pixel_plane.specs.Stored.{stored_number, is_out_of_range}
 use Rattle.pixel_plane.proofs.Bounds.{far_number, half_range_of, value_is}
 use Rattle.pixel_plane.proofs.encoding.Encoding.wide_value.Goals as goal
