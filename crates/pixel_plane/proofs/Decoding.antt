@@ -1,18 +1,22 @@
 -- The pixels are read one after the other.
-use Rattle.std.proofs.Common.{◌≡◌, ℕ, ◌+◌, ◌-◌, ◌*◌, ◌<◌, ◌≤◌, ◌⊎◌, List, length, take, drop, take_all, Option, None, ℤ, pos, ◌∙◌, ap, sym, subst, arith, slice_set, inl, inr, ⊎_elim, suc, mul-le-mul_right, suc-mul, length-drop, IsTrue, true, ◌==◌, ◌||◌}
-use Rattle.std.specs.Int.{w16, w32, cast_signed}
+use Rattle.std.proofs.Common.{◌≡◌, ℕ, ◌+◌, ◌-◌, ◌*◌, ◌<◌, ◌≤◌, ◌⊎◌, List, length, take, drop, take_all, Option, None, ℤ, pos, ◌∙◌, ap, sym, subst, arith, slice_set, inl, inr, ⊎_elim, zero, suc, get_or, refl, mul-le-mul_right, suc-mul, length-drop, IsTrue, true, ◌==◌, ◌||◌}
+use Rattle.std.specs.Int.{w16, w32, w64, cast_signed}
 use Rattle.std.proofs.lemmas.Bool.{or_cases}
 use Rattle.std.proofs.lemmas.Bool.Decides.{nat_tests}
 use Rattle.std.proofs.lemmas.List.{get_or-take, drop-take, drop-drop, take_rest}
-use Rattle.dev_io.specs.Streams.{Takes, TakesAtMost, Fills}
+use Rattle.dev_io.specs.Streams.{Takes, Fills}
 use Rattle.dev_io.specs.Laws.{Takes-after, TakesAtMost-after}
 use Rattle.std.proofs.lemmas.Bool.{cases_lt}
 use Rattle.std.proofs.lemmas.List.{get_or-set_same, get_or-set_other}
-use Rattle.comp_tree.specs.Raster.{value_at}
+use Rattle.comp_tree.specs.Raster.{value_at, HasValuesInHalfRange}
 use Rattle.pixel_plane.specs.declared.encoding.Encoding.{Encoding}
-use Rattle.pixel_plane.specs.Reading.{decoded, IsDecoded, ReadSoFar, PixelsStopped}
-use Rattle.pixel_plane.specs.declared.fault.PlaneFault.TheVariants.{TruncatedData, ReadFault}
-use Rattle.pixel_plane.specs.Stored.{is_number_size, stored_number, value_of, pixel_at}
+use Rattle.pixel_plane.specs.Decoding.{decoded, IsDecoded, IsFar, FarInside, FarRead, ReadSoFar, BytesStopped, RestStopped, PixelsStopped}
+use Rattle.pixel_plane.specs.declared.fault.PlaneFault.{PlaneFault}
+use Rattle.pixel_plane.specs.declared.fault.PlaneFault.TheVariants.{TruncatedData, PixelRange, ReadFault, OutOfMemory}
+use Rattle.pixel_plane.specs.Stored.{stored_number, value_stored_as, pixel_at, is_out_of_range}
+use Rattle.pixel_plane.specs.Sizes.{is_number_size, IsFarNumber}
+use Rattle.pixel_plane.proofs.HalfRange.{none_far}
+use Rattle.byteorder.specs.Endian.{big_from}
 
 value_at-set : (values : List (Option ℤ)) (p : ℕ) (v : Option ℤ) → p < length values → value_at (slice_set values p v) p ≡ v
 value_at-set values p v h = get_or-set_same values p v None h
@@ -43,33 +47,34 @@ number_within first p end size count low high room =
 equals : (a b : ℕ) → (a == b) ≡ true → a ≡ b
 equals a b h = grind (arith, nat_tests)
 
-one_of_sizes : (size : ℕ) → IsTrue (is_number_size size) → size ≡ 1 ⊎ (size ≡ 2 ⊎ size ≡ 4)
+one_of_sizes : (size : ℕ) → IsTrue (is_number_size size) → size ≡ 1 ⊎ (size ≡ 2 ⊎ (size ≡ 4 ⊎ size ≡ 8))
 one_of_sizes size h =
     ⊎_elim
-    (λ (a : (size == 1 || size == 2) ≡ true). ⊎_elim (λ e. inl (equals size 1 e)) (λ e. inr (inl (equals size 2 e))) (or_cases (size == 1) (size == 2) a))
-    (λ (e : (size == 4) ≡ true). inr (inr (equals size 4 e)))
-    (or_cases (size == 1 || size == 2) (size == 4) h)
+    (λ (three : (size == 1 || size == 2 || size == 4) ≡ true). ⊎_elim
+    (λ (two : (size == 1 || size == 2) ≡ true). ⊎_elim (λ e. inl (equals size 1 e)) (λ e. inr (inl (equals size 2 e))) (or_cases (size == 1) (size == 2) two))
+    (λ (e : (size == 4) ≡ true). inr (inr (inl (equals size 4 e)))) (or_cases (size == 1 || size == 2) (size == 4) three))
+    (λ (e : (size == 8) ≡ true). inr (inr (inr (equals size 8 e))))
+    (or_cases (size == 1 || size == 2 || size == 4) (size == 8) h)
+
+big_from-take : (i n m : ℕ) (bytes : List ℕ) → i + n ≤ m → big_from i n (take m bytes) ≡ big_from i n bytes
+big_from-take i zero m bytes fits = refl
+big_from-take i (suc n) m bytes fits =
+    let first : get_or (take m bytes) i 0 ≡ get_or bytes i 0 = get_or-take m bytes i 0 (omega arith) in
+    let others : big_from (suc i) n (take m bytes) ≡ big_from (suc i) n bytes = big_from-take (suc i) n m bytes (omega arith) in
+    rw (first, others) refl
 
 -- a number is in its first bytes
-number_in_front : (size m : ℕ) (bytes : List ℕ) → size ≡ 1 ⊎ (size ≡ 2 ⊎ size ≡ 4) → size ≤ m → stored_number size (take m bytes) ≡ stored_number size bytes
-number_in_front size m bytes (inl e) fits =
-    rw e (ap pos (get_or-take m bytes 0 0 (omega (arith, e, fits))))
-number_in_front size m bytes (inr (inl e)) fits =
-    let a = get_or-take m bytes 0 0 (omega (arith, e, fits)) in
-    let b = get_or-take m bytes 1 0 (omega (arith, e, fits)) in
-    rw e (ap (cast_signed w16) (grind arith))
-number_in_front size m bytes (inr (inr e)) fits =
-    let a = get_or-take m bytes 0 0 (omega (arith, e, fits)) in
-    let b = get_or-take m bytes 1 0 (omega (arith, e, fits)) in
-    let c = get_or-take m bytes 2 0 (omega (arith, e, fits)) in
-    let d = get_or-take m bytes 3 0 (omega (arith, e, fits)) in
-    rw e (ap (cast_signed w32) (grind arith))
+number_in_front : (size m : ℕ) (bytes : List ℕ) → size ≡ 1 ⊎ (size ≡ 2 ⊎ (size ≡ 4 ⊎ size ≡ 8)) → size ≤ m → stored_number size (take m bytes) ≡ stored_number size bytes
+number_in_front size m bytes (inl e) fits = rw e (ap pos (get_or-take m bytes 0 0 (omega (arith, e, fits))))
+number_in_front size m bytes (inr (inl e)) fits = rw e (ap (cast_signed w16) (big_from-take 0 2 m bytes (omega (arith, e, fits))))
+number_in_front size m bytes (inr (inr (inl e))) fits = rw e (ap (cast_signed w32) (big_from-take 0 4 m bytes (omega (arith, e, fits))))
+number_in_front size m bytes (inr (inr (inr e))) fits = rw e (ap (cast_signed w64) (big_from-take 0 8 m bytes (omega (arith, e, fits))))
 
--- pixel p of the bytes is pixel p - first of those from the first one's place on
-decoded_there : (encoding : Encoding) (bytes : List ℕ) (first p end : ℕ) → first ≤ p → p < end
-    → decoded encoding (take ((end - first) * encoding.size) (drop (first * encoding.size) bytes)) (p - first) ≡ decoded encoding bytes p
-unfolding pixel_at
-decoded_there encoding bytes first p end low high =
+-- number p of the bytes is number p - first of those from the first one's place on
+number_there : (encoding : Encoding) (bytes : List ℕ) (first p end : ℕ) → first ≤ p → p < end
+    → stored_number encoding.size (drop ((p - first) * encoding.size) (take ((end - first) * encoding.size) (drop (first * encoding.size) bytes)))
+    ≡ stored_number encoding.size (drop (p * encoding.size) bytes)
+number_there encoding bytes first p end low high =
     let size : ℕ = encoding.size in
     let room : (p - first) * size + size ≤ (end - first) * size = number_within first p end size ((end - first) * size) low high (omega arith) in
     let rest : ℕ = (end - first) * size - (p - first) * size in
@@ -80,63 +85,138 @@ decoded_there encoding bytes first p end low high =
     ap (λ n. drop ((p - first) * size) (take n (drop (first * size) bytes))) whole
     ∙ drop-take ((p - first) * size) rest (drop (first * size) bytes)
     ∙ ap (take rest) (drop-drop ((p - first) * size) (first * size) bytes ∙ ap (λ n. drop n bytes) place) in
-    ap (λ xs. value_of encoding.zero encoding.blank (stored_number size xs)) cut
-    ∙ ap (value_of encoding.zero encoding.blank) (number_in_front size rest (drop (p * size) bytes) (one_of_sizes size encoding.sizes) fits)
+    ap (stored_number encoding.size) cut ∙ number_in_front size rest (drop (p * size) bytes) (one_of_sizes size encoding.sizes) fits
+
+-- so is the pixel
+decoded_there : (encoding : Encoding) (bytes : List ℕ) (first p end : ℕ) → first ≤ p → p < end
+    → decoded encoding (take ((end - first) * encoding.size) (drop (first * encoding.size) bytes)) (p - first) ≡ decoded encoding bytes p
+unfolding pixel_at
+decoded_there encoding bytes first p end low high = ap (value_stored_as encoding.zero encoding.blank) (number_there encoding bytes first p end low high)
 
 -- the bytes from a place on to the end
 pub value_from : (encoding : Encoding) (bytes : List ℕ) (k : ℕ)
-    → value_of encoding.zero encoding.blank (stored_number encoding.size (take (length bytes - k * encoding.size) (drop (k * encoding.size) bytes))) ≡ decoded encoding bytes k
+    → value_stored_as encoding.zero encoding.blank (stored_number encoding.size (take (length bytes - k * encoding.size) (drop (k * encoding.size) bytes))) ≡ decoded encoding bytes k
 unfolding pixel_at
 value_from encoding bytes k =
-    ap (λ xs. value_of encoding.zero encoding.blank (stored_number encoding.size xs)) (take_rest bytes (k * encoding.size))
+    ap (λ xs. value_stored_as encoding.zero encoding.blank (stored_number encoding.size xs)) (take_rest bytes (k * encoding.size))
+
+pub far_from : (encoding : Encoding) (bytes : List ℕ) (k : ℕ) (stored : ℤ) → encoding.size ≡ 8
+    → IsFarNumber encoding.zero encoding.blank stored (stored_number encoding.size (take (length bytes - k * encoding.size) (drop (k * encoding.size) bytes))) → IsFar encoding bytes k stored
+unfolding pixel_at
+far_from encoding bytes k stored wide far =
+    let rest : take (length bytes - k * encoding.size) (drop (k * encoding.size) bytes) ≡ drop (k * encoding.size) bytes = take_rest bytes (k * encoding.size) in
+    record {
+      wide = wide;
+      number = far.same ∙ ap (stored_number encoding.size) rest;
+      far = sym (ap (λ xs. is_out_of_range (value_stored_as encoding.zero encoding.blank (stored_number encoding.size xs))) rest) ∙ far.far;
+    }
 
 block_within : (first end count size : ℕ) → first ≤ end → end ≤ count → first * size + (end - first) * size ≤ count * size
 block_within first end count size order within =
     let together : first * size + (end - first) * size ≡ end * size = grind arith in
     omega (arith, together, mul-le-mul_right size within)
 
+-- a block that was filled
+filled : (encoding : Encoding) (bytes : List ℕ) (left' : Option (List ℕ)) (first end : ℕ) (buf : List ℕ) → length buf ≡ (end - first) * encoding.size
+    → Fills (drop (first * encoding.size) bytes) left' (length buf) buf → buf ≡ take ((end - first) * encoding.size) (drop (first * encoding.size) bytes)
+filled encoding bytes left' first end buf size fills =
+    sym (take_all (length buf) buf (omega arith)) ∙ fills.front ∙ ap (λ k. take k (drop (first * encoding.size) bytes)) size
+
+-- its bytes are taken
+pub taken_to : (encoding : Encoding) (bytes : List ℕ) (left left' : Option (List ℕ)) (first end : ℕ) (buf : List ℕ) → first ≤ end → length buf ≡ (end - first) * encoding.size
+    → Takes bytes left (first * encoding.size) → Fills (drop (first * encoding.size) bytes) left' (length buf) buf → Takes bytes left' (end * encoding.size)
+taken_to encoding bytes left left' first end buf order size before fills =
+    subst (Takes bytes left') total (Takes-after bytes left left' (first * encoding.size) (length buf) before fills.takes)
+  where
+    total : first * encoding.size + length buf ≡ end * encoding.size
+    total = grind (arith, size)
+
 -- the numbers of a block follow those that were read
-pub read_more : (encoding : Encoding) (bytes : List ℕ) (left left' : Option (List ℕ)) (first end n : ℕ) (buf : List ℕ) (old new : List (Option ℤ)) → first ≤ end
-    → length buf ≡ (end - first) * encoding.size → length buf ≤ n → ReadSoFar encoding bytes left old first
-    → Fills (drop (first * encoding.size) bytes) left' n buf → IsDecoded encoding buf first end old new → ReadSoFar encoding bytes left' new end
-read_more encoding bytes left left' first end n buf old new order size whole before fills next = record {
-  takes = subst (Takes bytes left') total (Takes-after bytes left left' (first * encoding.size) n before.takes fills.takes);
-  are_read = λ p h. ⊎_elim
-      (λ (low : p < first). next.before p low ∙ before.are_read p low)
-      (λ (low : first ≤ p). next.here p low h ∙ ap (λ xs. decoded encoding xs (p - first)) same ∙ decoded_there encoding bytes first p end low h)
-      (cases_lt p first);
-}
-  where
-    count : n ≡ (end - first) * encoding.size
-    count = omega (arith, fills.count, size, whole)
+read_up_to : (encoding : Encoding) (bytes : List ℕ) (first end p : ℕ) (buf : List ℕ) (old new : List (Option ℤ)) → p ≤ end
+    → buf ≡ take ((end - first) * encoding.size) (drop (first * encoding.size) bytes)
+    → ((q : ℕ) → q < first → value_at old q ≡ decoded encoding bytes q) → IsDecoded encoding buf first p old new
+    → (q : ℕ) → q < p → value_at new q ≡ decoded encoding bytes q
+read_up_to encoding bytes first end p buf old new within same before next = λ q h. ⊎_elim
+    (λ (low : q < first). next.before q low ∙ before q low)
+    (λ (low : first ≤ q). next.here q low h ∙ ap (λ xs. decoded encoding xs (q - first)) same ∙ decoded_there encoding bytes first q end low (omega arith))
+    (cases_lt q first)
 
-    total : first * encoding.size + n ≡ end * encoding.size
-    total = grind (arith, count)
-
-    same : buf ≡ take ((end - first) * encoding.size) (drop (first * encoding.size) bytes)
-    same = sym (take_all n buf whole) ∙ fills.front ∙ ap (λ k. take k (drop (first * encoding.size) bytes)) count
-
--- the bytes end inside a block
-pub read_cut : (encoding : Encoding) (bytes : List ℕ) (left left' : Option (List ℕ)) (first end count n : ℕ) (buf : List ℕ) (old : List (Option ℤ)) → first ≤ end → end ≤ count
-    → length buf ≡ (end - first) * encoding.size → n < length buf → ReadSoFar encoding bytes left old first
-    → Fills (drop (first * encoding.size) bytes) left' n buf → PixelsStopped (count * encoding.size) bytes left' TruncatedData
-read_cut encoding bytes left left' first end count n buf old order within size short before fills =
-    (omega (arith, rest, all, short, size, room), subst (Takes bytes left') all (Takes-after bytes left left' (first * encoding.size) n before.takes fills.takes))
-  where
-    rest : n ≡ length (drop (first * encoding.size) bytes)
-    rest = omega (arith, fills.count, short)
-
-    all : first * encoding.size + n ≡ length bytes
-    all = omega (arith, rest, length-drop (first * encoding.size) bytes, before.takes.within)
-
-    room : first * encoding.size + (end - first) * encoding.size ≤ count * encoding.size
-    room = block_within first end count encoding.size order within
-
--- the source fails at a block
-pub read_failed : (encoding : Encoding) (bytes : List ℕ) (left left' : Option (List ℕ)) (first end count : ℕ) (buf : List ℕ) (old : List (Option ℤ)) → first ≤ end → end ≤ count
+pub read_more : (encoding : Encoding) (bytes : List ℕ) (left left' : Option (List ℕ)) (first end : ℕ) (buf : List ℕ) (old new : List (Option ℤ)) → first ≤ end
     → length buf ≡ (end - first) * encoding.size → ReadSoFar encoding bytes left old first
-    → TakesAtMost (drop (first * encoding.size) bytes) left' (length buf) → PixelsStopped (count * encoding.size) bytes left' ReadFault
-read_failed encoding bytes left left' first end count buf old order within size before lost =
-    let after = TakesAtMost-after bytes left left' (first * encoding.size) (length buf) before.takes lost in
-    let room = block_within first end count encoding.size order within in
-    record { count = after.count; few = omega (arith, after.few, size, room); takes = after.takes }
+    → Fills (drop (first * encoding.size) bytes) left' (length buf) buf → IsDecoded encoding buf first end old new → ReadSoFar encoding bytes left' new end
+read_more encoding bytes left left' first end buf old new order size before fills next = record {
+  takes = taken_to encoding bytes left left' first end buf order size before.takes fills;
+  are_decoded = read_up_to encoding bytes first end end buf old new (omega arith) (filled encoding bytes left' first end buf size fills) before.are_decoded next;
+}
+
+-- ---- a reading that stops
+
+-- at further bytes
+pub stopped_after : (bytes : List ℕ) (left left' : Option (List ℕ)) (m n total : ℕ) (fault : PlaneFault) → m + n ≤ total → Takes bytes left m
+    → BytesStopped n (drop m bytes) left' fault → BytesStopped total bytes left' fault
+stopped_after bytes left left' m n total TruncatedData room before (short, takes) =
+    let all : m + length (drop m bytes) ≡ length bytes = omega (arith, length-drop m bytes, before.within) in
+    (omega (arith, all, short, room), subst (Takes bytes left') all (Takes-after bytes left left' m (length (drop m bytes)) before takes))
+stopped_after bytes left left' m n total ReadFault room before lost =
+    let after = TakesAtMost-after bytes left left' m n before lost in
+    record { count = after.count; few = omega (arith, after.few, room); takes = after.takes }
+stopped_after bytes left left' m n total OutOfMemory room before stopped = absurd stopped
+stopped_after bytes left left' m n total (PixelRange pixel stored) room before stopped = absurd stopped
+
+-- so do the pixels
+pub pixels_stopped : (encoding : Encoding) (count : ℕ) (bytes : List ℕ) (left : Option (List ℕ)) (fault : PlaneFault) → BytesStopped (count * encoding.size) bytes left fault
+    → PixelsStopped encoding count bytes left fault
+pixels_stopped encoding count bytes left TruncatedData stopped = stopped
+pixels_stopped encoding count bytes left ReadFault stopped = stopped
+pixels_stopped encoding count bytes left OutOfMemory stopped = absurd stopped
+pixels_stopped encoding count bytes left (PixelRange pixel stored) stopped = absurd stopped
+
+-- at a block
+pub block_stopped : (encoding : Encoding) (bytes : List ℕ) (left left' : Option (List ℕ)) (first end count n : ℕ) (fault : PlaneFault) → first ≤ end → end ≤ count
+    → n ≡ (end - first) * encoding.size → Takes bytes left (first * encoding.size) → BytesStopped n (drop (first * encoding.size) bytes) left' fault
+    → PixelsStopped encoding count bytes left' fault
+block_stopped encoding bytes left left' first end count n fault order within size before stopped =
+    let room : first * encoding.size + n ≤ count * encoding.size = omega (arith, block_within first end count encoding.size order within, size) in
+    pixels_stopped encoding count bytes left' fault (stopped_after bytes left left' (first * encoding.size) n (count * encoding.size) fault room before stopped)
+
+-- the pixel that is out of range in a block is the least one
+far_read : (encoding : Encoding) (bytes : List ℕ) (left : Option (List ℕ)) (first end count : ℕ) (buf : List ℕ) (old new : List (Option ℤ)) (pixel : ℕ) (stored : ℤ) → end ≤ count
+    → buf ≡ take ((end - first) * encoding.size) (drop (first * encoding.size) bytes)
+    → ((q : ℕ) → q < first → value_at old q ≡ decoded encoding bytes q) → FarInside encoding buf first end old new pixel stored → HasValuesInHalfRange new
+    → Takes bytes left (count * encoding.size) → FarRead encoding count bytes left pixel stored
+far_read encoding bytes left first end count buf old new pixel stored within same before far near takes = record {
+  inside = omega (arith, far.inside, within);
+  is_far = record {
+    wide = far.is_far.wide;
+    number = far.is_far.number ∙ ap (λ xs. stored_number encoding.size (drop ((pixel - first) * encoding.size) xs)) same ∙ number_there encoding bytes first pixel end far.from far.inside;
+    far = sym (ap is_out_of_range (ap (λ xs. decoded encoding xs (pixel - first)) same ∙ decoded_there encoding bytes first pixel end far.from far.inside)) ∙ far.is_far.far;
+  };
+  before = λ q h. sym (ap is_out_of_range (read_up_to encoding bytes first end pixel buf old new (omega (arith, far.inside)) same before far.decoded_before q h)) ∙ none_far new q near;
+  takes = takes;
+}
+
+-- at a pixel out of range
+pub far_stopped : (encoding : Encoding) (bytes : List ℕ) (left left' left'' : Option (List ℕ)) (first end count : ℕ) (buf : List ℕ) (old new : List (Option ℤ)) (pixel : ℕ) (stored : ℤ)
+    (fault : PlaneFault) → first ≤ end → end ≤ count → length buf ≡ (end - first) * encoding.size → ReadSoFar encoding bytes left old first
+    → Fills (drop (first * encoding.size) bytes) left' (length buf) buf → FarInside encoding buf first end old new pixel stored → HasValuesInHalfRange new
+    → RestStopped ((count - end) * encoding.size) pixel stored (drop (end * encoding.size) bytes) left'' fault → PixelsStopped encoding count bytes left'' fault
+far_stopped encoding bytes left left' left'' first end count buf old new pixel stored fault order within size before fills far near stopped = go fault stopped
+  where
+    taken : Takes bytes left' (end * encoding.size)
+    taken = taken_to encoding bytes left left' first end buf order size before.takes fills
+
+    total : end * encoding.size + (count - end) * encoding.size ≡ count * encoding.size
+    total = grind arith
+
+    rest : (fault : PlaneFault) → BytesStopped ((count - end) * encoding.size) (drop (end * encoding.size) bytes) left'' fault → PixelsStopped encoding count bytes left'' fault
+    rest fault stopped = pixels_stopped encoding count bytes left'' fault
+        (stopped_after bytes left' left'' (end * encoding.size) ((count - end) * encoding.size) (count * encoding.size) fault (omega (arith, total)) taken stopped)
+
+    go : (fault : PlaneFault) → RestStopped ((count - end) * encoding.size) pixel stored (drop (end * encoding.size) bytes) left'' fault → PixelsStopped encoding count bytes left'' fault
+    go TruncatedData stopped = rest TruncatedData stopped
+    go ReadFault stopped = rest ReadFault stopped
+    go OutOfMemory stopped = absurd stopped
+    go (PixelRange p number) (same_pixel, same_number, takes) =
+        let all : Takes bytes left'' (count * encoding.size) = subst (Takes bytes left'') total (Takes-after bytes left' left'' _ _ taken takes) in
+        subst (λ k. FarRead encoding count bytes left'' k number) (sym same_pixel) (subst (FarRead encoding count bytes left'' pixel) (sym same_number)
+        (far_read encoding bytes left'' first end count buf old new pixel stored within (filled encoding bytes left' first end buf size fills) before.are_decoded far near all))

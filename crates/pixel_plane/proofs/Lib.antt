@@ -1,4 +1,6 @@
 pub mod Readable
+pub mod HalfRange
+pub mod Bounds
 pub mod Decoding
 pub mod Planes
-pub mod Storable
+pub mod Naming

@@ -1,17 +1,22 @@
 -- All pixels were read: the plane is the stored one.
-use Rattle.std.proofs.Common.{◌≡◌, ℕ, ◌+◌, ◌*◌, ◌<◌, List, length, map, Option, None, ℤ, refl, ◌∙◌, ap, sym, subst, arith}
-use Rattle.std.specs.List.{range_with_len}
+use Rattle.std.proofs.Common.{◌≡◌, ℕ, ◌*◌, ◌<◌, List, length, drop, Bool, true, false, if◌then◌else◌, Option, Some, None, pos, refl, ◌∙◌, ap, sym, subst, arith}
+use Rattle.std.specs.List.{position}
+use Rattle.std.specs.Ordering.{int_eq}
 use Rattle.std.proofs.lemmas.List.{ext_get_or, length-map}
 use Rattle.std.proofs.lemmas.List.FromFn.{get_or-map-range_with_len, length-range_with_len}
 use Rattle.dev_io.specs.Streams.{Takes, TakesAtMost}
 use Rattle.comp_tree.specs.declared.shape.Shape.{Shape}
-use Rattle.comp_tree.specs.Raster.{Raster, value_at}
+use Rattle.comp_tree.specs.Raster.{Raster, value_at, HasValuesInHalfRange}
 use Rattle.fits_hdu.specs.declared.answer.Hdu.{Hdu}
 use Rattle.pixel_plane.specs.declared.encoding.Encoding.{Encoding}
-use Rattle.pixel_plane.specs.Stored.{size_of, whole_or_zero, blank_of, pixel_at, pixel_value, stored_plane}
-use Rattle.pixel_plane.specs.Reading.{decoded, PixelsRead, PixelsStopped, PlaneRead, PlaneStopped, image_bytes}
+use Rattle.pixel_plane.specs.Stored.{size_of, whole_or_zero, blank_of, pixel_value, stored_number, stored_plane, is_out_of_range, first_out_of_range}
+use Rattle.pixel_plane.specs.Images.{image_fault}
+use Rattle.pixel_plane.specs.Reading.{PlaneRead, PlaneStopped, image_bytes}
+use Rattle.pixel_plane.specs.Decoding.{decoded, PixelsRead, PixelsStopped}
+use Rattle.pixel_plane.proofs.Readable.{wide_bits}
+use Rattle.pixel_plane.proofs.HalfRange.{none_far, no_position, position_at}
 use Rattle.pixel_plane.specs.declared.fault.PlaneFault.{PlaneFault}
-use Rattle.pixel_plane.specs.declared.fault.PlaneFault.TheVariants.{TruncatedData, ReadFault, OutOfMemory}
+use Rattle.pixel_plane.specs.declared.fault.PlaneFault.TheVariants.{TruncatedData, PixelRange, ReadFault, OutOfMemory}
 
 -- the encoding of this image
 pub record IsEncodingOf (hdu : Hdu) (encoding : Encoding) : Type 0 where
@@ -26,29 +31,69 @@ same_pixels hdu encoding bytes p e = rw (e.size, e.zero, e.blank) refl
 image_bytes_are : (hdu : Hdu) (shape : Shape) (encoding : Encoding) (n : ℕ) → IsEncodingOf hdu encoding → n ≡ shape.width * shape.height → n * encoding.size ≡ image_bytes hdu shape
 image_bytes_are hdu shape encoding n e count = ap (λ size. n * size) e.size ∙ ap (λ k. k * size_of hdu) count
 
-pub plane_is_read : (hdu : Hdu) (shape : Shape) (encoding : Encoding) (bytes : List ℕ) (left : Option (List ℕ)) (plane : Raster) → IsEncodingOf hdu encoding → plane.shape ≡ shape
-    → length plane.values ≡ shape.width * shape.height → PixelsRead encoding bytes left plane.values → PlaneRead hdu shape bytes left plane
+raster_is : (a b : Raster) → a.shape ≡ b.shape → a.values ≡ b.values → a ≡ b
+raster_is a b s v = rw (s, v) refl
+
+-- pixel p of the stored plane
+stored_pixel : (hdu : Hdu) (shape : Shape) (encoding : Encoding) (bytes : List ℕ) (p : ℕ) → IsEncodingOf hdu encoding → p < shape.width * shape.height
+    → value_at (stored_plane hdu shape bytes).values p ≡ decoded encoding bytes p
 unfolding stored_plane
-plane_is_read hdu shape encoding bytes left plane e same count read = record {
-  plane_is = subst (λ s. plane ≡ record { shape = s; values = stored }) same (ap (λ values. record { shape = plane.shape; values = values }) values_are);
+stored_pixel hdu shape encoding bytes p e h =
+    get_or-map-range_with_len (pixel_value hdu bytes) 0 (shape.width * shape.height) p p None h (omega arith) ∙ sym (same_pixels hdu encoding bytes p e)
+
+stored_length : (hdu : Hdu) (shape : Shape) (bytes : List ℕ) → length (stored_plane hdu shape bytes).values ≡ shape.width * shape.height
+unfolding stored_plane
+stored_length hdu shape bytes = length-map _ (pixel_value hdu bytes) ∙ length-range_with_len 0 (shape.width * shape.height)
+
+stored_shape : (hdu : Hdu) (shape : Shape) (bytes : List ℕ) → (stored_plane hdu shape bytes).shape ≡ shape
+unfolding stored_plane
+stored_shape hdu shape bytes = refl
+
+-- with values in half the range no pixel is out of it
+none_first : (hdu : Hdu) (shape : Shape) (bytes : List ℕ) → HasValuesInHalfRange (stored_plane hdu shape bytes).values → first_out_of_range hdu shape bytes ≡ None
+unfolding first_out_of_range
+none_first hdu shape bytes near = go (int_eq hdu.bitpix (pos 64)) (no_position (stored_plane hdu shape bytes).values (λ p. none_far _ p near))
+  where
+    go : (wide : Bool) → position is_out_of_range (stored_plane hdu shape bytes).values ≡ None
+        → (if wide then position is_out_of_range (stored_plane hdu shape bytes).values else None) ≡ None
+    go true h = h
+    go false h = refl
+
+some_first : (hdu : Hdu) (shape : Shape) (bytes : List ℕ) (p : ℕ) → hdu.bitpix ≡ pos 64 → position is_out_of_range (stored_plane hdu shape bytes).values ≡ Some p
+    → first_out_of_range hdu shape bytes ≡ Some p
+unfolding first_out_of_range
+some_first hdu shape bytes p bits h = let wide : int_eq hdu.bitpix (pos 64) ≡ true = rw bits refl in rw wide h
+
+pub plane_is_read : (hdu : Hdu) (shape : Shape) (encoding : Encoding) (bytes : List ℕ) (left : Option (List ℕ)) (plane : Raster) → IsEncodingOf hdu encoding → plane.shape ≡ shape
+    → length plane.values ≡ shape.width * shape.height → HasValuesInHalfRange plane.values → PixelsRead encoding bytes left plane.values → PlaneRead hdu shape bytes left plane
+plane_is_read hdu shape encoding bytes left plane e same count near read = record {
+  plane_is = raster_is plane (stored_plane hdu shape bytes) (same ∙ sym (stored_shape hdu shape bytes)) values_are;
+  none_out_of_range = none_first hdu shape bytes (subst HasValuesInHalfRange values_are near);
   takes = subst (Takes bytes left) (image_bytes_are hdu shape encoding _ e count) read.takes;
 }
   where
-    stored : List (Option ℤ)
-    stored = map (pixel_value hdu bytes) (range_with_len 0 (shape.width * shape.height))
+    values_are : plane.values ≡ (stored_plane hdu shape bytes).values
+    values_are = ext_get_or None plane.values (stored_plane hdu shape bytes).values (count ∙ sym (stored_length hdu shape bytes)) (λ p h.
+        read.are_decoded p h ∙ sym (stored_pixel hdu shape encoding bytes p e (omega (arith, h, count))))
 
-    long : length stored ≡ shape.width * shape.height
-    long = length-map _ (pixel_value hdu bytes) ∙ length-range_with_len 0 (shape.width * shape.height)
-
-    values_are : plane.values ≡ stored
-    values_are = ext_get_or None plane.values stored (count ∙ sym long) (λ p h.
-        read.are_read p h ∙ same_pixels hdu encoding bytes p e
-        ∙ sym (get_or-map-range_with_len (pixel_value hdu bytes) 0 (shape.width * shape.height) p p None (omega (arith, h, count)) (omega arith)))
-
--- of a cut or failed reading
-pub plane_stopped : (hdu : Hdu) (shape : Shape) (encoding : Encoding) (bytes : List ℕ) (left : Option (List ℕ)) (n : ℕ) (fault : PlaneFault) → IsEncodingOf hdu encoding → n ≡ shape.width * shape.height
-    → PixelsStopped (n * encoding.size) bytes left fault → PlaneStopped hdu shape bytes left fault
-plane_stopped hdu shape encoding bytes left n TruncatedData e count (short, takes) =
+-- of a reading that stopped
+pub plane_stopped : (hdu : Hdu) (shape : Shape) (encoding : Encoding) (bytes : List ℕ) (left : Option (List ℕ)) (n : ℕ) (fault : PlaneFault) → IsEncodingOf hdu encoding
+    → image_fault hdu ≡ None → n ≡ shape.width * shape.height → PixelsStopped encoding n bytes left fault → PlaneStopped hdu shape bytes left fault
+plane_stopped hdu shape encoding bytes left n TruncatedData e readable count (short, takes) =
     (subst (λ total. length bytes < total) (image_bytes_are hdu shape encoding n e count) short, takes)
-plane_stopped hdu shape encoding bytes left n ReadFault e count stopped = subst (TakesAtMost bytes left) (image_bytes_are hdu shape encoding n e count) stopped
-plane_stopped hdu shape encoding bytes left n OutOfMemory e count stopped = absurd stopped
+plane_stopped hdu shape encoding bytes left n ReadFault e readable count stopped = subst (TakesAtMost bytes left) (image_bytes_are hdu shape encoding n e count) stopped
+plane_stopped hdu shape encoding bytes left n OutOfMemory e readable count stopped = absurd stopped
+plane_stopped hdu shape encoding bytes left n (PixelRange pixel stored) e readable count far = record {
+  bits = bits;
+  least = some_first hdu shape bytes pixel bits (position_at (stored_plane hdu shape bytes).values pixel (omega (arith, inside, stored_length hdu shape bytes))
+      (ap is_out_of_range (stored_pixel hdu shape encoding bytes pixel e inside) ∙ far.is_far.far)
+      (λ q h. ap is_out_of_range (stored_pixel hdu shape encoding bytes q e (omega (arith, h, inside))) ∙ far.before q h));
+  number = far.is_far.number ∙ ap (λ size. stored_number size (drop (pixel * size) bytes)) e.size;
+  takes = subst (Takes bytes left) (image_bytes_are hdu shape encoding n e count) far.takes;
+}
+  where
+    inside : pixel < shape.width * shape.height
+    inside = omega (arith, far.inside, count)
+
+    bits : hdu.bitpix ≡ pos 64
+    bits = wide_bits hdu readable (sym e.size ∙ far.is_far.wide)

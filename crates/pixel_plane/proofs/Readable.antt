@@ -1,19 +1,21 @@
 -- What an HDU without a fault as an image has.
-use Rattle.std.proofs.Common.{◌≡◌, ℕ, ◌^◌, ◌/◌, ◌==◌, Bool, true, false, ◌&&◌, ◌||◌, not, List, [], ◌∷◌, None, Option, Some, ℤ, pos, neg_ℤ, ◌≤ℤ◌, refl, sym, ◌⊎◌, inl, inr, ⊎_elim, unsigned_abs}
+use Rattle.std.proofs.Common.{◌≡◌, ℕ, ◌^◌, ◌/◌, Bool, true, false, ◌&&◌, ◌||◌, not, [], ◌∷◌, None, Option, Some, ℤ, pos, neg_ℤ, ◌≤ℤ◌, refl, sym, ◌⊎◌, inl, inr, ⊎_elim, unsigned_abs, ap, ◌∙◌, arith}
 use Rattle.std.specs.Prelude.{Result, Ok, Err, IfOk}
 use Rattle.std.specs.Result.{result_err}
 use Rattle.std.proofs.lemmas.Bool.{or_cases, not-false}
 use Rattle.std.specs.Ordering.{int_eq}
 use Rattle.comp_tree.proofs.Levels.{int_eq-true, int_le-true}
 use Rattle.comp_tree.specs.declared.shape.Shape.{Shape}
+use Rattle.comp_tree.specs.Shapes.{is_within}
 use Rattle.comp_tree.proofs.Shapes.{shape_of_sides}
 use Rattle.fits_card.specs.declared.number.Whole.{Whole}
 use Rattle.fits_card.specs.declared.number.Whole.TheVariants.{Is, NotWhole, Beyond, Unreadable}
 use Rattle.fits_hdu.specs.declared.answer.Hdu.{Hdu}
 use Rattle.pixel_plane.specs.declared.fault.ImageFault.{ImageFault}
 use Rattle.pixel_plane.specs.declared.fault.ImageFault.TheVariants.{NotImage, NoImage, ImageTooLarge, Bitpix, Bscale, Bzero, Blank}
-use Rattle.pixel_plane.specs.Images.{checked, shape_unless, image_fault, first_fault, is_other, has_no_pixels, is_small, is_stored_size, is_one, is_zero_point, is_blank_or_none}
-use Rattle.pixel_plane.specs.Stored.{size_of, is_number_size, whole_or_zero}
+use Rattle.pixel_plane.specs.Images.{checked, image_fault, first_fault, is_other, has_no_pixels, is_stored_size, is_one, is_zero_point, is_blank_or_none}
+use Rattle.pixel_plane.specs.Stored.{size_of, whole_or_zero}
+use Rattle.pixel_plane.specs.Sizes.{is_number_size}
 
 none_passed : (a b c d e f g : Bool) → first_fault ((a, NotImage) ∷ (b, NoImage) ∷ (c, ImageTooLarge) ∷ (d, Bitpix) ∷ (e, Bscale) ∷ (f, Bzero) ∷ (g, Blank) ∷ []) ≡ None
     → (d ≡ false) × (f ≡ false)
@@ -41,17 +43,38 @@ and_second false b h = absurd (cc)
 pub readable : (hdu : Hdu) → image_fault hdu ≡ None → IsReadable hdu
 unfolding image_fault
 readable hdu h =
-    let tests = none_passed (is_other hdu.kind) (has_no_pixels hdu) (not (is_small hdu.width hdu.height)) (not (is_stored_size hdu.bitpix)) (not (is_one hdu.bscale)) (not (is_zero_point hdu.bzero)) (not (is_blank_or_none hdu.blank)) h in
+    let tests = none_passed (is_other hdu.kind) (has_no_pixels hdu) (not (is_within hdu.width hdu.height)) (not (is_stored_size hdu.bitpix)) (not (is_one hdu.bscale)) (not (is_zero_point hdu.bzero)) (not (is_blank_or_none hdu.blank)) h in
     record { size = not-false _ tests.0; zero = not-false _ tests.1 }
 
-size_from : (bitpix : ℤ) → (int_eq bitpix (pos 8) || int_eq bitpix (pos 16)) ≡ true ⊎ int_eq bitpix (pos 32) ≡ true → is_number_size (unsigned_abs bitpix / 8) ≡ true
-size_from bitpix (inr h) = rw (int_eq-true bitpix (pos 32) h) refl
-size_from bitpix (inl h) =
-    ⊎_elim (λ e. rw (int_eq-true bitpix (pos 8) e) refl) (λ e. rw (int_eq-true bitpix (pos 16) e) refl) (or_cases _ _ h)
+bits_from : (bitpix : ℤ) → is_stored_size bitpix ≡ true → bitpix ≡ pos 8 ⊎ (bitpix ≡ pos 16 ⊎ (bitpix ≡ pos 32 ⊎ bitpix ≡ pos 64))
+bits_from bitpix h =
+    let is = λ (bits : ℕ) (e : int_eq bitpix (pos bits) ≡ true). int_eq-true bitpix (pos bits) e in
+    ⊎_elim
+    (λ (three : (int_eq bitpix (pos 8) || int_eq bitpix (pos 16) || int_eq bitpix (pos 32)) ≡ true). ⊎_elim
+    (λ (two : (int_eq bitpix (pos 8) || int_eq bitpix (pos 16)) ≡ true). ⊎_elim (λ e. inl (is 8 e)) (λ e. inr (inl (is 16 e))) (or_cases _ _ two))
+    (λ (e : int_eq bitpix (pos 32) ≡ true). inr (inr (inl (is 32 e)))) (or_cases _ _ three))
+    (λ (e : int_eq bitpix (pos 64) ≡ true). inr (inr (inr (is 64 e))))
+    (or_cases _ _ h)
 
--- the stored numbers have one, two or four bytes
+size_from : (bitpix : ℤ) → bitpix ≡ pos 8 ⊎ (bitpix ≡ pos 16 ⊎ (bitpix ≡ pos 32 ⊎ bitpix ≡ pos 64)) → is_number_size (unsigned_abs bitpix / 8) ≡ true
+size_from bitpix (inl e) = rw e refl
+size_from bitpix (inr (inl e)) = rw e refl
+size_from bitpix (inr (inr (inl e))) = rw e refl
+size_from bitpix (inr (inr (inr e))) = rw e refl
+
+-- the stored numbers have one, two, four or eight bytes
 pub size_fits : (hdu : Hdu) → image_fault hdu ≡ None → is_number_size (size_of hdu) ≡ true
-size_fits hdu h = size_from hdu.bitpix (or_cases _ _ (readable hdu h).size)
+size_fits hdu h = size_from hdu.bitpix (bits_from hdu.bitpix (readable hdu h).size)
+
+wide_from : (bitpix : ℤ) → bitpix ≡ pos 8 ⊎ (bitpix ≡ pos 16 ⊎ (bitpix ≡ pos 32 ⊎ bitpix ≡ pos 64)) → unsigned_abs bitpix / 8 ≡ 8 → bitpix ≡ pos 64
+wide_from bitpix (inl e) h = let k : 1 ≡ 8 = sym (ap (λ b. unsigned_abs b / 8) e) ∙ h in absurd (omega (arith, k))
+wide_from bitpix (inr (inl e)) h = let k : 2 ≡ 8 = sym (ap (λ b. unsigned_abs b / 8) e) ∙ h in absurd (omega (arith, k))
+wide_from bitpix (inr (inr (inl e))) h = let k : 4 ≡ 8 = sym (ap (λ b. unsigned_abs b / 8) e) ∙ h in absurd (omega (arith, k))
+wide_from bitpix (inr (inr (inr e))) h = e
+
+-- eight bytes are 64 bits
+pub wide_bits : (hdu : Hdu) → image_fault hdu ≡ None → size_of hdu ≡ 8 → hdu.bitpix ≡ pos 64
+wide_bits hdu h wide = wide_from hdu.bitpix (bits_from hdu.bitpix (readable hdu h).size) wide
 
 pub record IsNear (zero : ℤ) : Type 0 where
   pub low : neg_ℤ (pos (2 ^ 32)) ≤ℤ zero

@@ -1,12 +1,12 @@
--- Which HDUs are images that can be read.
-use Rattle.std.specs.Prelude.{ℕ, ◌*◌, ◌^◌, ◌/◌, Bool, true, false, ◌||◌, ◌&&◌, ◌==◌, not, nat_lt, nat_le, ℤ, pos, neg_ℤ, int_le, List, [], ◌∷◌, Option, Some, None, Result, Ok, Err, if◌then◌else◌}
+-- Model: which HDUs are images that can be read.
+use Rattle.std.specs.Prelude.{◌^◌, Bool, true, false, ◌||◌, ◌&&◌, ◌==◌, not, nat_lt, ℤ, pos, neg_ℤ, int_le, List, [], ◌∷◌, Option, Some, None, Result, Ok, Err, if◌then◌else◌}
 use Rattle.std.specs.Ordering.{int_eq}
 use Rattle.comp_tree.specs.declared.shape.Shape.{Shape}
-use Rattle.comp_tree.specs.Shapes.{shape_of}
+use Rattle.comp_tree.specs.Shapes.{is_within, shape_of}
 use Rattle.fits_card.specs.declared.number.Whole.{Whole}
-use Rattle.fits_card.specs.declared.number.Whole.TheVariants.{Is, NotWhole, Beyond, Unreadable}
+use Rattle.fits_card.specs.declared.number.Whole.TheVariants.{Is}
 use Rattle.fits_hdu.specs.declared.answer.Kind.{Kind}
-use Rattle.fits_hdu.specs.declared.answer.Kind.TheVariants.{Primary, Image, Other}
+use Rattle.fits_hdu.specs.declared.answer.Kind.TheVariants.{Other}
 use Rattle.fits_hdu.specs.declared.answer.Hdu.{Hdu}
 use Rattle.pixel_plane.specs.declared.fault.ImageFault.{ImageFault}
 use Rattle.pixel_plane.specs.declared.fault.ImageFault.TheVariants.{NotImage, NoImage, ImageTooLarge, Bitpix, Bscale, Bzero, Blank}
@@ -19,13 +19,9 @@ is_other _ = false
 abbrev pub has_no_pixels : Hdu → Bool
 has_no_pixels hdu = nat_lt hdu.naxis 2 || hdu.width == 0 || hdu.height == 0 || not hdu.flat
 
--- both sides are at most 65,535, and there are at most 2 ^ 24 pixels
-abbrev pub is_small : ℕ → ℕ → Bool
-is_small width height = (nat_le width 65535 && nat_le height 65535) && nat_le (width * height) (2 ^ 24)
-
--- the stored numbers have 8, 16 or 32 bits
+-- the stored numbers have 8, 16, 32 or 64 bits
 abbrev pub is_stored_size : ℤ → Bool
-is_stored_size bitpix = int_eq bitpix (pos 8) || int_eq bitpix (pos 16) || int_eq bitpix (pos 32)
+is_stored_size bitpix = int_eq bitpix (pos 8) || int_eq bitpix (pos 16) || int_eq bitpix (pos 32) || int_eq bitpix (pos 64)
 
 abbrev pub is_one : Whole → Bool
 is_one (Is n) = int_eq n (pos 1)
@@ -52,7 +48,7 @@ unfoldable pub image_fault : Hdu → Option ImageFault
 image_fault hdu = first_fault (
     (is_other hdu.kind, NotImage)
     ∷ (has_no_pixels hdu, NoImage)
-    ∷ (not (is_small hdu.width hdu.height), ImageTooLarge)
+    ∷ (not (is_within hdu.width hdu.height), ImageTooLarge)
     ∷ (not (is_stored_size hdu.bitpix), Bitpix)
     ∷ (not (is_one hdu.bscale), Bscale)
     ∷ (not (is_zero_point hdu.bzero), Bzero)

@@ -1,4 +1,6 @@
 pub mod Images
 pub mod Stored
+pub mod Sizes
 pub mod Reading
+pub mod Decoding
 pub mod Verdicts

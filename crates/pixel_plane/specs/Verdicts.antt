@@ -1,5 +1,5 @@
--- What the bytes of an input are: the stored image of the HDU with a number, or their first fault.
-use Rattle.std.specs.Prelude.{ℕ, ◌+◌, List, length, drop, Result, Ok, Err, nat_lt, if◌then◌else◌}
+-- Model: what the bytes of an input are: the stored image of the HDU with a number, or their first fault.
+use Rattle.std.specs.Prelude.{ℕ, ◌+◌, ℤ, List, length, drop, Option, Some, None, Result, Ok, Err, nat_lt, if◌then◌else◌}
 use Rattle.comp_tree.specs.declared.shape.Shape.{Shape}
 use Rattle.comp_tree.specs.Raster.{Raster}
 use Rattle.fits_hdu.specs.declared.answer.Hdu.{Hdu}
@@ -8,7 +8,7 @@ use Rattle.fits_hdu.specs.Headers as at_header
 use Rattle.fits_hdu.specs.Finding.{find_of}
 use Rattle.pixel_plane.specs.declared.fault.ImageFault.{ImageFault}
 use Rattle.pixel_plane.specs.Images.{checked}
-use Rattle.pixel_plane.specs.Stored.{stored_plane}
+use Rattle.pixel_plane.specs.Stored.{stored_plane, stored_at, first_out_of_range}
 use Rattle.pixel_plane.specs.Reading.{image_bytes}
 
 pub data Verdict : Type 0 where
@@ -20,12 +20,19 @@ pub data Verdict : Type 0 where
   unreadable : (fault : ImageFault) → (head : ℕ) → Verdict
   -- the bytes end before the image does
   truncated : (head taken : ℕ) → Verdict
+  -- all bytes of the image are there, and this is its least pixel out of range, with its stored number
+  out_of_range : (head end pixel : ℕ) (stored : ℤ) → Verdict
+
+-- the image in these data bytes, unless a pixel is out of range
+abbrev pub image_unless : List ℕ → Hdu → ℕ → Shape → Option ℕ → Verdict
+image_unless bytes hdu head shape None = image (stored_plane hdu shape bytes) head (head + image_bytes hdu shape)
+image_unless bytes hdu head shape (Some pixel) = out_of_range head (head + image_bytes hdu shape) pixel (stored_at hdu bytes pixel)
 
 -- the image behind a header
 abbrev pub image_behind : List ℕ → Hdu → ℕ → Shape → Verdict
 image_behind bytes hdu head shape =
     if nat_lt (length bytes) (head + image_bytes hdu shape) then truncated head (length bytes)
-    else image (stored_plane hdu shape (drop head bytes)) head (head + image_bytes hdu shape)
+    else image_unless (drop head bytes) hdu head shape (first_out_of_range hdu shape (drop head bytes))
 
 abbrev pub verdict_by : List ℕ → Hdu → ℕ → Result Shape ImageFault → Verdict
 verdict_by bytes hdu head (Err fault) = unreadable fault head
@@ -40,8 +47,9 @@ unfoldable pub verdict : List ℕ → ℕ → Verdict
 verdict bytes number = verdict_of bytes (find_of bytes number)
 
 -- how many bytes are taken for it
-abbrev pub taken_by : Verdict → ℕ
-taken_by (image plane head end) = end
-taken_by (unfound fault taken) = taken
-taken_by (unreadable fault head) = head
-taken_by (truncated head taken) = taken
+abbrev pub taken_for : Verdict → ℕ
+taken_for (image plane head end) = end
+taken_for (unfound fault taken) = taken
+taken_for (unreadable fault head) = head
+taken_for (truncated head taken) = taken
+taken_for (out_of_range head end pixel stored) = end

@@ -1,7 +1,8 @@
 //! Whether an HDU is an image that can be read.
 ghost use Rattle.std.specs.Prelude.{◌≡◌, ◌<◌, IfOk, IfSome, IsTrue, is_some};
 ghost use Rattle.std.specs.Result.{result_err};
-ghost use Rattle.pixel_plane.specs.Images.{checked, image_fault, is_small};
+ghost use Rattle.comp_tree.specs.Shapes.{is_within};
+ghost use Rattle.pixel_plane.specs.Images.{checked, image_fault};
 
 use crate::ImageFault;
 use comp_tree::Shape;
@@ -15,11 +16,11 @@ const MOST_ZERO: i64 = 1 << 32;
 pub fn check_image(hdu: &Hdu) -> Result<Shape, ImageFault>
     ensures { result ≡ checked hdu.now }
 {
-    judge(hdu)
+    image_shape(hdu)
 }
 
 #[tactic(auto, unfolding(crate::specs::Images::image_fault))]
-fn judge(hdu: &Hdu) -> Result<Shape, ImageFault>
+fn image_shape(hdu: &Hdu) -> Result<Shape, ImageFault>
     ensures fault { result_err result ≡ image_fault hdu.now }
     ensures sides { IfOk result (λ shape. (shape.width ≡ hdu.now.width) × (shape.height ≡ hdu.now.height)) }
 {
@@ -32,7 +33,7 @@ fn judge(hdu: &Hdu) -> Result<Shape, ImageFault>
     let Some(shape) = shape_of(hdu.width, hdu.height) else {
         return Err(ImageFault::ImageTooLarge);
     };
-    if !matches!(hdu.bitpix, 8 | 16 | 32) {
+    if !matches!(hdu.bitpix, 8 | 16 | 32 | 64) {
         return Err(ImageFault::Bitpix);
     }
     if hdu.bscale != Whole::Is(1) {
@@ -47,11 +48,10 @@ fn judge(hdu: &Hdu) -> Result<Shape, ImageFault>
     Ok(shape)
 }
 
-// The shape of these sides, which aren't 0, where they are within the limits.
+// The shape of these sides, where they are within the limits.
+#[tactic(auto, unfolding(comp_tree::specs::Shapes::is_within))]
 fn shape_of(width: u64, height: u64) -> Option<Shape>
-    requires columns { 0 < width }
-    requires rows { 0 < height }
-    ensures accepted { is_some result ≡ is_small width height }
+    ensures accepted { is_some result ≡ is_within width height }
     ensures sides { IfSome result (λ shape. (shape.width ≡ width) × (shape.height ≡ height)) }
 {
     if width > 65_535 || height > 65_535 {

@@ -1,12 +1,16 @@
 //! How an image keeps the values of its pixels as bytes.
-ghost use Rattle.std.specs.Prelude.{◌≡◌, ◌≤◌, length, IsTrue, None, IfSome, ◌≤ℤ◌, pos, neg_ℤ, ◌^◌};
-ghost use Rattle.comp_tree.specs.Limits.{IsWithinRange};
+ghost use Rattle.std.specs.Prelude.{◌≡◌, ◌≢◌, ◌≤◌, length, IsTrue, None, Some, IfSome, IfOk, MatchResult, ◌+ℤ◌, ◌≤ℤ◌, pos, neg_ℤ, ◌^◌};
+ghost use Rattle.comp_tree.specs.Limits.{IsWithinRange, IsInHalfRange};
 ghost use Rattle.pixel_plane.specs.Images.{image_fault};
-ghost use Rattle.pixel_plane.specs.Stored.{size_of, is_number_size, stored_number, value_of, whole_or_zero, blank_of, IsStorable};
+ghost use Rattle.pixel_plane.specs.Sizes.{is_number_size, IsFarNumber};
+ghost use Rattle.pixel_plane.specs.Stored.{size_of, stored_number, value_stored_as, is_out_of_range, whole_or_zero, blank_of};
 
 use byteorder::{BigEndian, ByteOrder};
 use fits_card::number::Whole;
 use fits_hdu::Hdu;
+
+// The greatest distance of a value from 0: 2^36.
+const MOST_VALUE: i64 = 1 << 36;
 
 /// The size of the stored numbers in bytes, what is added to each, and the number that stands for an undefined pixel.
 #[derive(Clone, Copy)]
@@ -34,12 +38,13 @@ impl Encoding {
         }
     }
 
-    /// The value that the first number of these bytes stands for.
+    /// The value that the first number of these bytes stands for, where it has at most four bytes: it is never out of range.
     pub(crate) fn value(&self, bytes: &[u8]) -> Option<i64>
-        requires { self.now.size ≤ length bytes.now }
-        ensures value { result ≡ value_of self.now.zero self.now.blank (stored_number self.now.size bytes.now) }
+        requires room { self.now.size ≤ length bytes.now }
+        requires narrow { self.now.size ≢ 8 }
+        ensures value { result ≡ value_stored_as self.now.zero self.now.blank (stored_number self.now.size bytes.now) }
         ensures in_range { IfSome result (λ v. IsWithinRange v) }
-        ensures storable { IfSome result (λ v. IsStorable v) }
+        ensures half_range { IfSome result (λ v. IsInHalfRange v) }
     {
         let stored = self.stored(bytes);
         if self.blank == Some(stored) {
@@ -50,7 +55,8 @@ impl Encoding {
     }
 
     fn stored(&self, bytes: &[u8]) -> i64
-        requires { self.now.size ≤ length bytes.now }
+        requires room { self.now.size ≤ length bytes.now }
+        requires narrow { self.now.size ≢ 8 }
         ensures number { result ≡ stored_number self.now.size bytes.now }
         ensures low { neg_ℤ (pos (2 ^ 32)) ≤ℤ result }
         ensures high { result ≤ℤ pos (2 ^ 32) }
@@ -60,6 +66,34 @@ impl Encoding {
             2 => i64::from(BigEndian::read_i16(bytes)),
             _ => i64::from(BigEndian::read_i32(bytes)),
         }
+    }
+
+    /// The value that the first number of these bytes stands for, where it has eight bytes, or the number itself if that value is
+    /// out of range.
+    pub(crate) fn wide_value(&self, bytes: &[u8]) -> Result<Option<i64>, i64>
+        requires room { self.now.size ≤ length bytes.now }
+        requires wide { self.now.size ≡ 8 }
+        ensures value { MatchResult result
+            (λ value. value ≡ value_stored_as self.now.zero self.now.blank (stored_number self.now.size bytes.now))
+            (λ stored. IsFarNumber self.now.zero self.now.blank stored (stored_number self.now.size bytes.now)) }
+        ensures in_range { IfOk result (λ value. IfSome value (λ v. IsWithinRange v)) }
+        ensures half_range { IfOk result (λ value. IfSome value (λ v. IsInHalfRange v)) }
+    {
+        let stored = BigEndian::read_i64(bytes);
+        if self.blank == Some(stored) {
+            return Ok(None);
+        }
+        if self.is_far(stored) {
+            return Err(stored);
+        }
+        Ok(Some(self.zero + stored))
+    }
+
+    // Whether the value that this number stands for is out of range. The number is compared, since the sum could pass the type's bounds.
+    fn is_far(&self, stored: i64) -> bool
+        ensures { result ≡ is_out_of_range (Some (self.now.zero +ℤ stored)) }
+    {
+        stored < -MOST_VALUE - self.zero || MOST_VALUE - self.zero < stored
     }
 }
 

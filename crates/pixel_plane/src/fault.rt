@@ -11,7 +11,7 @@ pub enum ImageFault {
     NoImage,
     #[error("an axis is longer than 65535, or there are more than 16777216 pixels")]
     ImageTooLarge,
-    #[error("BITPIX isn't 8, 16 or 32")]
+    #[error("BITPIX isn't 8, 16, 32 or 64")]
     Bitpix,
     #[error("BSCALE isn't 1")]
     Bscale,
@@ -26,6 +26,10 @@ pub enum ImageFault {
 pub enum PlaneFault {
     #[error("the input ends before the last pixel")]
     TruncatedData,
+    /// The least pixel with a value outside -2^36 to 2^36, counted from 0, and its stored number. All bytes of the image were taken.
+    /// Only images of 64 bits have such pixels.
+    #[error("the value of pixel {pixel}, which is stored as {stored}, is outside -68719476736 to 68719476736")]
+    PixelRange { pixel: u32, stored: i64 },
     #[error("the input failed")]
     ReadFault,
     #[error("there is no memory for the plane")]

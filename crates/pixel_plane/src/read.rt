@@ -1,10 +1,12 @@
 //! Reading the pixels.
-ghost use Rattle.std.specs.Prelude.{◌≡◌, ◌≤◌, ◌-◌, ◌*◌, Ok, length, IfOk, IsErrOf, IsTrue, MatchResult};
+ghost use Rattle.std.specs.Prelude.{◌≡◌, ◌≢◌, ◌≤◌, ◌-◌, ◌*◌, Ok, length, IfOk, IfErr, IsErrOf, IsTrue, MatchResult};
 ghost use Rattle.std.specs.Option.{ForSome};
 ghost use Rattle.dev_io.specs.Causes.{Rose};
+ghost use Rattle.dev_io.specs.Streams.{Takes, Fills};
+ghost use Rattle.comp_tree.specs.Raster.{HasValuesInHalfRange};
 ghost use Rattle.pixel_plane.specs.Images.{checked};
-ghost use Rattle.pixel_plane.specs.Stored.{HasStorableValues};
-ghost use Rattle.pixel_plane.specs.Reading.{PlaneRead, PlaneStopped, PixelsRead, PixelsStopped, IsDecoded};
+ghost use Rattle.pixel_plane.specs.Reading.{PlaneRead, PlaneStopped, NamesPixel};
+ghost use Rattle.pixel_plane.specs.Decoding.{PixelsRead, PixelsStopped, BytesStopped, RestStopped, IsDecoded, FarInside, NamesNone, NamesOnly, NamesFar};
 
 use crate::PlaneFault;
 use crate::encoding::Encoding;
@@ -17,7 +19,7 @@ use std::alloc::Global;
 const BLOCK: usize = 2880;
 
 /// The plane of an image whose data are the next bytes. A pixel has the value BZERO and its stored number together, and is undefined where
-/// the stored number is BLANK. All memory is taken before the first byte.
+/// the stored number is BLANK. All memory is taken before the first byte. A pixel out of range is answered when all bytes of the image were taken.
 pub fn read_plane<S: Source>(
     alloc: Global,
     src: &mut S,
@@ -28,7 +30,8 @@ pub fn read_plane<S: Source>(
     ensures told { ForSome (S.left src.old) (λ bytes. MatchResult result
         (λ plane. PlaneRead hdu.now shape bytes (S.left src.new) plane)
         (λ fault. PlaneStopped hdu.now shape bytes (S.left src.new) fault)) }
-    ensures storable { IfOk result (λ plane. HasStorableValues plane.values) }
+    ensures range { IfErr result (NamesPixel hdu.now shape) }
+    ensures half_range { IfOk result (λ plane. HasValuesInHalfRange plane.values) }
     ensures truncated { IsErrOf result PlaneFault.TruncatedData → IsTrue (S.ended src.new) }
     ensures later { S.faults src.old ≤ S.faults src.new }
     ensures fault { IsErrOf result PlaneFault.ReadFault → Rose (S.faults src.old) (S.faults src.new) }
@@ -43,18 +46,27 @@ pub fn read_plane<S: Source>(
     }
 }
 
+// A pixel whose value is out of range, with its stored number.
+#[derive(Clone, Copy)]
+struct FarPixel {
+    pixel: u32,
+    stored: i64,
+}
+
 // Gives the pixels their values, from the next bytes.
 fn read_pixels<S: Source>(
     src: &mut S,
     encoding: &Encoding,
     plane: &mut Plane,
 ) -> Result<(), PlaneFault>
+    requires { HasValuesInHalfRange plane.old.values }
     ensures shape { plane.new.shape ≡ plane.old.shape }
     ensures count { length plane.new.values ≡ length plane.old.values }
-    ensures storable { HasStorableValues plane.old.values → HasStorableValues plane.new.values }
+    ensures half_range { HasValuesInHalfRange plane.new.values }
     ensures told { ForSome (S.left src.old) (λ bytes. MatchResult result
         (λ _. PixelsRead encoding.now bytes (S.left src.new) plane.new.values)
-        (λ fault. PixelsStopped (length plane.old.values * encoding.now.size) bytes (S.left src.new) fault)) }
+        (λ fault. PixelsStopped encoding.now (length plane.old.values) bytes (S.left src.new) fault)) }
+    ensures range { IfErr result (NamesFar encoding.now (length plane.old.values)) }
     ensures truncated { IsErrOf result PlaneFault.TruncatedData → IsTrue (S.ended src.new) }
     ensures later { S.faults src.old ≤ S.faults src.new }
     ensures fault { IsErrOf result PlaneFault.ReadFault → Rose (S.faults src.old) (S.faults src.new) }
@@ -66,29 +78,141 @@ fn read_pixels<S: Source>(
     while first < count {
         let end = count.min(first + most);
         let bytes = &mut block[..(end - first) as usize * encoding.size];
-        let Ok(taken) = fill(src, bytes) else {
-            return Err(PlaneFault::ReadFault);
-        };
-        if taken < bytes.len() {
-            return Err(PlaneFault::TruncatedData);
+        if let Err(fault) = fill_all(src, bytes) {
+            return Err(fault);
         }
-        decode(encoding, bytes, plane, first, end);
+        if let Err(far) = decode(encoding, bytes, plane, first, end) {
+            return Err(range_fault(src, &far, (count - end) as usize * encoding.size));
+        }
         first = end;
     }
     Ok(())
 }
 
-// Gives the pixels from `first` up to `end` the values of the numbers in these bytes.
-fn decode(encoding: &Encoding, bytes: &[u8], plane: &mut Plane, first: u32, end: u32)
+// The fault of an image in which this is the first pixel out of range, and so many bytes are still to come: where they don't all
+// come, that goes before it.
+fn range_fault<S: Source>(src: &mut S, far: &FarPixel, rest: usize) -> PlaneFault
+    ensures told { ForSome (S.left src.old) (λ bytes. RestStopped rest far.now.pixel far.now.stored bytes (S.left src.new) result) }
+    ensures range { NamesOnly far.now.pixel far.now.stored result }
+    ensures truncated { result ≡ PlaneFault.TruncatedData → IsTrue (S.ended src.new) }
+    ensures later { S.faults src.old ≤ S.faults src.new }
+    ensures fault { result ≡ PlaneFault.ReadFault → Rose (S.faults src.old) (S.faults src.new) }
+{
+    match skip(src, rest) {
+        Ok(()) => PlaneFault::PixelRange {
+            pixel: far.pixel,
+            stored: far.stored,
+        },
+        Err(fault) => fault,
+    }
+}
+
+// Passes over so many bytes.
+fn skip<S: Source>(src: &mut S, count: usize) -> Result<(), PlaneFault>
+    ensures told { ForSome (S.left src.old) (λ bytes. MatchResult result
+        (λ _. Takes bytes (S.left src.new) count)
+        (λ fault. BytesStopped count bytes (S.left src.new) fault)) }
+    ensures range { IfErr result NamesNone }
+    ensures truncated { IsErrOf result PlaneFault.TruncatedData → IsTrue (S.ended src.new) }
+    ensures later { S.faults src.old ≤ S.faults src.new }
+    ensures fault { IsErrOf result PlaneFault.ReadFault → Rose (S.faults src.old) (S.faults src.new) }
+{
+    let mut block = [0; BLOCK];
+    let mut taken = 0;
+    while taken < count {
+        let piece = BLOCK.min(count - taken);
+        if let Err(fault) = fill_all(src, &mut block[..piece]) {
+            return Err(fault);
+        }
+        taken += piece;
+    }
+    Ok(())
+}
+
+// Fills the buffer from the next bytes.
+fn fill_all<S: Source>(src: &mut S, buf: &mut [u8]) -> Result<(), PlaneFault>
+    ensures told { ForSome (S.left src.old) (λ bytes. MatchResult result
+        (λ _. Fills bytes (S.left src.new) (length buf.new) buf.new)
+        (λ fault. BytesStopped (length buf.new) bytes (S.left src.new) fault)) }
+    ensures range { IfErr result NamesNone }
+    ensures truncated { IsErrOf result PlaneFault.TruncatedData → IsTrue (S.ended src.new) }
+    ensures later { S.faults src.old ≤ S.faults src.new }
+    ensures fault { IsErrOf result PlaneFault.ReadFault → Rose (S.faults src.old) (S.faults src.new) }
+{
+    match fill(src, buf) {
+        Ok(taken) if taken < buf.len() => Err(PlaneFault::TruncatedData),
+        Ok(_) => Ok(()),
+        Err(_) => Err(PlaneFault::ReadFault),
+    }
+}
+
+// Gives the pixels from `first` up to `end` the values of the numbers in these bytes, as far as they are in range.
+fn decode(
+    encoding: &Encoding,
+    bytes: &[u8],
+    plane: &mut Plane,
+    first: u32,
+    end: u32,
+) -> Result<(), FarPixel>
+    requires order { first ≤ end }
     requires room { (end - first) * encoding.now.size ≤ length bytes.now }
     requires within { end ≤ length plane.old.values }
+    requires in_half_range { HasValuesInHalfRange plane.old.values }
     ensures shape { plane.new.shape ≡ plane.old.shape }
     ensures count { length plane.new.values ≡ length plane.old.values }
-    ensures storable { HasStorableValues plane.old.values → HasStorableValues plane.new.values }
+    ensures half_range { HasValuesInHalfRange plane.new.values }
+    ensures decoded { MatchResult result
+        (λ _. IsDecoded encoding.now bytes.now first end plane.old.values plane.new.values)
+        (λ far. FarInside encoding.now bytes.now first end plane.old.values plane.new.values far.pixel far.stored) }
+{
+    // A loop for each, so that no pixel of fewer bits is compared with the range.
+    if encoding.size == 8 {
+        return decode_wide(encoding, bytes, plane, first, end);
+    }
+    decode_narrow(encoding, bytes, plane, first, end);
+    Ok(())
+}
+
+fn decode_narrow(encoding: &Encoding, bytes: &[u8], plane: &mut Plane, first: u32, end: u32)
+    requires narrow { encoding.now.size ≢ 8 }
+    requires room { (end - first) * encoding.now.size ≤ length bytes.now }
+    requires within { end ≤ length plane.old.values }
+    requires in_half_range { HasValuesInHalfRange plane.old.values }
+    ensures shape { plane.new.shape ≡ plane.old.shape }
+    ensures count { length plane.new.values ≡ length plane.old.values }
+    ensures half_range { HasValuesInHalfRange plane.new.values }
     ensures decoded { IsDecoded encoding.now bytes.now first end plane.old.values plane.new.values }
 {
     for p in first..end {
         let at = (p - first) as usize * encoding.size;
         plane.set(p, encoding.value(&bytes[at..]));
     }
+}
+
+fn decode_wide(
+    encoding: &Encoding,
+    bytes: &[u8],
+    plane: &mut Plane,
+    first: u32,
+    end: u32,
+) -> Result<(), FarPixel>
+    requires wide { encoding.now.size ≡ 8 }
+    requires room { (end - first) * encoding.now.size ≤ length bytes.now }
+    requires within { end ≤ length plane.old.values }
+    requires in_half_range { HasValuesInHalfRange plane.old.values }
+    ensures shape { plane.new.shape ≡ plane.old.shape }
+    ensures count { length plane.new.values ≡ length plane.old.values }
+    ensures half_range { HasValuesInHalfRange plane.new.values }
+    ensures decoded { MatchResult result
+        (λ _. IsDecoded encoding.now bytes.now first end plane.old.values plane.new.values)
+        (λ far. FarInside encoding.now bytes.now first end plane.old.values plane.new.values far.pixel far.stored) }
+{
+    for p in first..end {
+        let at = (p - first) as usize * encoding.size;
+        match encoding.wide_value(&bytes[at..]) {
+            Ok(value) => plane.set(p, value),
+            Err(stored) => return Err(FarPixel { pixel: p, stored }),
+        }
+    }
+    Ok(())
 }

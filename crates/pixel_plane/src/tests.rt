@@ -33,7 +33,7 @@ fn the_first_fault_is_answered(rt: HostRuntime) {
         (
             Hdu {
                 naxis: 1,
-                bitpix: 64,
+                bitpix: -64,
                 ..IMAGE
             },
             ImageFault::NoImage,
@@ -48,7 +48,7 @@ fn the_first_fault_is_answered(rt: HostRuntime) {
         (
             Hdu {
                 width: 65_536,
-                bitpix: 64,
+                bitpix: -64,
                 ..IMAGE
             },
             ImageFault::ImageTooLarge,
@@ -125,6 +125,84 @@ fn a_cut_and_a_failing_source_are_told_apart(rt: HostRuntime) -> Result<(), Fail
         matches!(
             read_plane(rt.alloc(), &mut failing, &IMAGE, shape),
             Err(PlaneFault::ReadFault)
+        )
+    );
+    Ok(())
+}
+
+// Two pixels of 64 bits.
+const WIDE: Hdu = Hdu {
+    bitpix: 64,
+    data_bytes: 16,
+    bzero: Whole::Is(0),
+    blank: None,
+    ..IMAGE
+};
+
+#[test]
+fn values_of_64_bits_reach_the_bounds(rt: HostRuntime) -> Result<(), Fail> {
+    let hdu = Hdu {
+        blank: Some(Whole::Is(i64::MAX)),
+        ..WIDE
+    };
+    let shape = check_image(&hdu)?;
+    let bytes = [
+        0xff, 0xff, 0xff, 0xf0, 0, 0, 0, 0, 0x7f, 0xff, 0xff, 0xff, 0xff, 0xff, 0xff, 0xff,
+    ];
+    let mut source = PlainSource::new(&bytes);
+    let plane = read_plane(rt.alloc(), &mut source, &hdu, shape).expect(&rt, "a plane");
+    assert_eq!(rt; plane.shape().pixels(), 2);
+    assert_eq!(rt; plane.get(0), Some(-68_719_476_736));
+    assert_eq!(rt; plane.shape().pixels(), 2);
+    assert_eq!(rt; plane.get(1), None);
+    Ok(())
+}
+
+#[test]
+fn the_least_pixel_out_of_range_is_answered_at_the_end(rt: HostRuntime) -> Result<(), Fail> {
+    let shape = check_image(&WIDE)?;
+    // 2^36 + 1, and the least number of 64 bits
+    let bytes = [0, 0, 0, 0x10, 0, 0, 0, 1, 0x80, 0, 0, 0, 0, 0, 0, 0, 9];
+    let mut source = PlainSource::new(&bytes);
+    assert!(rt;
+        matches!(
+            read_plane(rt.alloc(), &mut source, &WIDE, shape),
+            Err(PlaneFault::PixelRange {
+                pixel: 0,
+                stored: 68_719_476_737
+            })
+        )
+    );
+    assert_eq!(rt; source.rest(), &[9][..]);
+    let mut cut = PlainSource::new(&bytes[..15]);
+    assert!(rt;
+        matches!(
+            read_plane(rt.alloc(), &mut cut, &WIDE, shape),
+            Err(PlaneFault::TruncatedData)
+        )
+    );
+    Ok(())
+}
+
+#[test]
+fn bzero_counts_for_the_range(rt: HostRuntime) -> Result<(), Fail> {
+    let hdu = Hdu {
+        bzero: Whole::Is(1),
+        ..WIDE
+    };
+    let shape = check_image(&hdu)?;
+    // 2^36 - 1, and 2^36
+    let bytes = [
+        0, 0, 0, 0x0f, 0xff, 0xff, 0xff, 0xff, 0, 0, 0, 0x10, 0, 0, 0, 0,
+    ];
+    let mut source = PlainSource::new(&bytes);
+    assert!(rt;
+        matches!(
+            read_plane(rt.alloc(), &mut source, &hdu, shape),
+            Err(PlaneFault::PixelRange {
+                pixel: 1,
+                stored: 68_719_476_736
+            })
         )
     );
     Ok(())

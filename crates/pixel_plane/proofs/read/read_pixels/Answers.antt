@@ -1,21 +1,22 @@
 use Rattle.std.proofs.Common.{rules, arith, ◌≤◌, ◌≡◌, ◌-◌, ◌*◌, length, subst}
-use Rattle.pixel_plane.specs.Reading.{ReadSoFar}
-use Rattle.pixel_plane.proofs.Decoding.{read_more, read_cut, read_failed}
+use Rattle.pixel_plane.specs.Decoding.{ReadSoFar, PixelsStopped}
+use Rattle.pixel_plane.proofs.Decoding.{read_more, taken_to, block_stopped, far_stopped}
+use Rattle.pixel_plane.proofs.Naming.{none_far_named, far_named}
 use Rattle.pixel_plane.proofs.read.read_pixels.Goals as goal
 
 pub loop-first-preserved : goal.loop-first-preserved
 loop-first-preserved g c =
     let order : c.loop-first.first ≤ c.min-end.result = search rules in
-    let size : length c.fill.new.buf ≡ (c.min-end.result - c.loop-first.first) * c.args.encoding.now.size = search rules in
+    let size : length c.fill_all.new.buf ≡ (c.min-end.result - c.loop-first.first) * c.args.encoding.now.size = search rules in
     record {
       within = search rules;
       shape = search rules;
       values = search rules;
-      storable = λ h. c.decode.ensures.storable (c.loop-first.invariant.storable h);
+      half_range = search rules;
       told = λ x e.
           let before = c.loop-first.invariant.told x e in
-          let fills = c.in-Ok.ensures.moved _ before.takes.rest in
-          read_more c.args.encoding.now x _ _ _ _ _ _ _ _ order size c.if-taken-bytes.false before fills c.decode.ensures.decoded;
+          let fills = c.in_default.ensures.told _ before.takes.rest in
+          read_more c.args.encoding.now x _ _ _ _ _ _ _ order size before fills c.in_default-decode.ensures.decoded;
       later = search rules;
     }
 
@@ -24,20 +25,33 @@ returns-clause-told g c = λ x e.
     let all : c.loop-first.first ≡ length c.loop-first.plane.values = omega (arith, c.loop-first-test.false, c.loop-first.invariant.within, c.loop-first.invariant.values, c.shape.ensures.pixels, c.pixels-count.ensures.product) in
     subst (ReadSoFar c.args.encoding.now x _ c.loop-first.plane.values) all (c.loop-first.invariant.told x e)
 
-pub returns-in_default-clause-told : goal.returns-in_default-clause-told
-returns-in_default-clause-told g c = λ x e.
+pub returns-in-Err-clause-told : goal.returns-in-Err-clause-told
+returns-in-Err-clause-told g c = λ x e.
     let order : c.loop-first.first ≤ c.min-end.result = search rules in
-    let size : length c.fill.new.buf ≡ (c.min-end.result - c.loop-first.first) * c.args.encoding.now.size = search rules in
+    let size : length c.fill_all.new.buf ≡ (c.min-end.result - c.loop-first.first) * c.args.encoding.now.size = search rules in
     let within : c.min-end.result ≤ length c.args.plane.now.values = search rules in
     let before = c.loop-first.invariant.told x e in
-    let lost = c.in_default.ensures.lost _ before.takes.rest in
-    read_failed c.args.encoding.now x _ _ _ _ _ _ _ order within size before lost
+    block_stopped c.args.encoding.now x _ _ _ _ _ _ _ order within size before.takes (c.in-Err.ensures.told _ before.takes.rest)
 
-pub returns-then-taken-bytes-clause-told : goal.returns-then-taken-bytes-clause-told
-returns-then-taken-bytes-clause-told g c = λ x e.
+pub returns-in-Err-decode-clause-told : goal.returns-in-Err-decode-clause-told
+returns-in-Err-decode-clause-told g c = λ x e.
     let order : c.loop-first.first ≤ c.min-end.result = search rules in
-    let size : length c.fill.new.buf ≡ (c.min-end.result - c.loop-first.first) * c.args.encoding.now.size = search rules in
-    let within : c.min-end.result ≤ length c.args.plane.now.values = search rules in
+    let size : length c.fill_all.new.buf ≡ (c.min-end.result - c.loop-first.first) * c.args.encoding.now.size = search rules in
+    let within : c.min-end.result ≤ c.pixels-count.result = search rules in
+    let count : c.pixels-count.result ≡ length c.args.plane.now.values = search rules in
     let before = c.loop-first.invariant.told x e in
-    let fills = c.in-Ok.ensures.moved _ before.takes.rest in
-    read_cut c.args.encoding.now x _ _ _ _ _ _ _ _ order within size c.if-taken-bytes.true before fills
+    let fills = c.in_default.ensures.told _ before.takes.rest in
+    let taken = taken_to c.args.encoding.now x _ _ _ _ _ order size before.takes fills in
+    let far = c.in-Err-decode.ensures.decoded in
+    let near = c.in-Err-decode.ensures.half_range in
+    let stopped = c.range_fault.ensures.told _ taken.rest in
+    subst (λ n. PixelsStopped c.args.encoding.now n x (g.S.Source.left c.range_fault.new.src) c.range_fault.result) count
+    (far_stopped c.args.encoding.now x _ _ _ _ _ _ _ _ _ _ _ _ order within size before fills far near stopped)
+
+pub returns-in-Err-clause-range : goal.returns-in-Err-clause-range
+returns-in-Err-clause-range g c = none_far_named c.args.encoding.now (length c.args.plane.now.values) c.in-Err.fault c.in-Err.ensures.range
+
+pub returns-in-Err-decode-clause-range : goal.returns-in-Err-decode-clause-range
+returns-in-Err-decode-clause-range g c =
+    let within : c.min-end.result ≤ length c.args.plane.now.values = search rules in
+    far_named c.args.encoding.now _ _ _ _ _ _ _ _ c.range_fault.result within c.in-Err-decode.ensures.decoded c.range_fault.ensures.range

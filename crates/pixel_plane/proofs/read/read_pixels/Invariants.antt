@@ -1,8 +1,8 @@
 -- The pixels before the first are read, from exactly the bytes of their numbers.
-use Rattle.std.proofs.Common.{◌≡◌, ◌-◌, ◌*◌, ◌≤◌, length}
+use Rattle.std.proofs.Common.{◌≡◌, ◌-◌, ◌≤◌, length}
 use Rattle.std.specs.Option.{ForSome}
-use Rattle.pixel_plane.specs.Stored.{HasStorableValues}
-use Rattle.pixel_plane.specs.Reading.{ReadSoFar}
+use Rattle.comp_tree.specs.Raster.{HasValuesInHalfRange}
+use Rattle.pixel_plane.specs.Decoding.{ReadSoFar}
 use Rattle.pixel_plane.proofs.read.read_pixels.Given as goal
 
 abbrev pub invariant-loop-first : goal.invariant-loop-first
@@ -10,7 +10,7 @@ invariant-loop-first g l = record {
   within : l.first ≤ l.count;
   shape : l.plane.shape ≡ l.initial.plane.shape;
   values : length l.plane.values ≡ length l.initial.plane.values;
-  storable : HasStorableValues l.initial.plane.values → HasStorableValues l.plane.values;
+  half_range : HasValuesInHalfRange l.plane.values;
   told : ForSome (g.S.Source.left l.initial.src) (λ bytes. ReadSoFar l.encoding bytes (g.S.Source.left l.src) l.plane.values l.first);
   later : g.S.Source.faults l.initial.src ≤ g.S.Source.faults l.src;
 }

@@ -1,8 +1,9 @@
 use Rattle.std.proofs.Common.{◌∙◌, ◌≡◌, ◌*◌, ap, length}
 use Rattle.std.proofs.lemmas.List.{length-replicate}
 use Rattle.pixel_plane.proofs.Readable.{shape_without_fault}
-use Rattle.pixel_plane.proofs.Storable.{blank_storable}
-use Rattle.pixel_plane.proofs.Planes.{IsEncodingOf, plane_is_read}
+use Rattle.pixel_plane.proofs.HalfRange.{blank_in_half_range}
+use Rattle.pixel_plane.proofs.Planes.{IsEncodingOf, plane_is_read, plane_stopped}
+use Rattle.pixel_plane.proofs.Naming.{pixel_named}
 use Rattle.pixel_plane.proofs.read.read_plane.Goals as goal
 
 pub of-encoding-requires : goal.of-encoding-requires
@@ -17,7 +18,28 @@ returns-in-Ok-read_pixels-clause-told g c = λ x e.
     } in
     let blank : length c.in-Ok.plane.values ≡ c.args.shape.width * c.args.shape.height = ap length c.in-Ok.ensures.undefined ∙ length-replicate _ _ in
     plane_is_read c.args.hdu.now c.args.shape c.of-encoding.result x _ _ encoding (c.in-Ok-read_pixels.ensures.shape ∙ c.in-Ok.ensures.shape)
-    (c.in-Ok-read_pixels.ensures.count ∙ blank) (c.in-Ok-read_pixels.ensures.told x e)
+    (c.in-Ok-read_pixels.ensures.count ∙ blank) c.in-Ok-read_pixels.ensures.half_range (c.in-Ok-read_pixels.ensures.told x e)
 
-pub returns-in-Ok-read_pixels-clause-storable : goal.returns-in-Ok-read_pixels-clause-storable
-returns-in-Ok-read_pixels-clause-storable g c = c.in-Ok-read_pixels.ensures.storable (blank_storable _ _ c.in-Ok.ensures.undefined)
+pub read_pixels-requires : goal.read_pixels-requires
+read_pixels-requires g c = blank_in_half_range _ _ c.in-Ok.ensures.undefined
+
+pub returns-in-Err-clause-told : goal.returns-in-Err-clause-told
+returns-in-Err-clause-told g c = λ x e.
+    let encoding : IsEncodingOf c.args.hdu.now c.of-encoding.result = record {
+      size = c.of-encoding.ensures.size;
+      zero = c.of-encoding.ensures.zero;
+      blank = c.of-encoding.ensures.blank;
+    } in
+    let blank : length c.in-Ok.plane.values ≡ c.args.shape.width * c.args.shape.height = ap length c.in-Ok.ensures.undefined ∙ length-replicate _ _ in
+    plane_stopped c.args.hdu.now c.args.shape c.of-encoding.result x _ _ c.in-Err.fault encoding (shape_without_fault c.args.hdu.now c.args.shape c.requires) blank
+    (c.in-Err.ensures.told x e)
+
+pub returns-in-Err-clause-range : goal.returns-in-Err-clause-range
+returns-in-Err-clause-range g c =
+    let encoding : IsEncodingOf c.args.hdu.now c.of-encoding.result = record {
+      size = c.of-encoding.ensures.size;
+      zero = c.of-encoding.ensures.zero;
+      blank = c.of-encoding.ensures.blank;
+    } in
+    let blank : length c.in-Ok.plane.values ≡ c.args.shape.width * c.args.shape.height = ap length c.in-Ok.ensures.undefined ∙ length-replicate _ _ in
+    pixel_named c.args.hdu.now c.args.shape c.of-encoding.result _ c.in-Err.fault encoding (shape_without_fault c.args.hdu.now c.args.shape c.requires) blank c.in-Err.ensures.range
