@@ -18,7 +18,7 @@ use Rattle.filter_rules.specs.declared.rule.Criterion.{Criterion}
 use Rattle.filter_rules.specs.Criteria.{box_of, is_filled, admits, satisfies}
 use Rattle.filter_rules.specs.Filtered.{keeps, is_kept}
 use Rattle.filter_rules.specs.Laws.{RulesAgreeOnGrowingMeasures}
-use Rattle.filter_rules.proofs.Lists.{same_bool}
+use Rattle.node_sums.proofs.Counting.{same_bool}
 use Rattle.filter_rules.proofs.Around.{IsAbove, within_from_above, min_gives, min_from, IsKeptFor, max_gives, max_from}
 use Rattle.comp_tree.proofs.Nesting.{within_from_test}
 use Rattle.filter_rules.proofs.Boxes.{length_grows, few_in}

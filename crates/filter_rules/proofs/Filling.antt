@@ -1,5 +1,5 @@
 -- The values of nodes and pixels as the code reads and writes them.
-use Rattle.std.proofs.Common.{◌≡◌, ℕ, ◌+◌, ◌<◌, ◌≤◌, zero, suc, Bool, true, false, cond, List, [], ◌∷◌, ◌++◌, length, map, refl, sym, ◌∙◌, ap, subst, arith, ◌⊎◌, inl, inr, lit<}
+use Rattle.std.proofs.Common.{◌≡◌, ℕ, ◌+◌, ◌<◌, ◌≤◌, suc, Bool, true, false, cond, List, [], ◌∷◌, ◌++◌, length, map, refl, sym, ◌∙◌, ap, subst, arith, ◌⊎◌, inl, inr, lit<}
 use Rattle.std.specs.Prelude.{◌==◌, ℤ, pos, ◌≤ℤ◌, ◌+ℤ◌, ◌-ℤ◌, Option, None, slice_index, slice_index_or}
 use Rattle.std.proofs.lemmas.Int.{ints, to_z-of_z}
 use Rattle.std.proofs.lemmas.Bool.{ne_eqb, cases_lt, eq-eqb}
@@ -14,7 +14,7 @@ use Rattle.comp_tree.specs.ComponentTree.{parent_in, no_node}
 use Rattle.comp_tree.specs.Nesting.{level_in}
 use Rattle.node_sums.specs.Merging.{IsUpTo, value_bound}
 use Rattle.node_sums.proofs.Sizes.{up_to-minus}
-use Rattle.node_sums.proofs.Reading.{fits, row-parent}
+use Rattle.node_sums.proofs.Reading.{fits, row-parent, row_level}
 use Rattle.filter_rules.specs.declared.rule.Rule.{Rule}
 use Rattle.filter_rules.specs.declared.rule.Rule.TheVariants.{Subtractive}
 use Rattle.filter_rules.specs.Passes.{HasRisingLevels, flag, filled_pixel, value, value_of_kept, value_of_node, AreValues}
@@ -42,11 +42,6 @@ pub filled_all : (node_of : List ℕ) (values : List ℤ) (pixels : List (Option
 filled_all node_of values pixels p l h = from_places values node_of pixels h.one_each (λ q k. h.done q (omega arith) k)
 
 -- ---- reading rows and values
-
-row_level : (rows : List NodeRow) (n : ℕ) (d : NodeRow) → n < length rows → (slice_index_or rows n d).level ≡ level_in rows n
-row_level [] n d h = absurd (omega arith)
-row_level (x ∷ rows) zero d h = refl
-row_level (x ∷ rows) (suc n) d h = row_level rows n d (omega arith)
 
 fits_range : (z : ℤ) → IsWithinRange z → SFits w64 z
 fits_range z h = fits w64 value_bound z (record { low = h.low; high = h.high }) (lit< tt)

@@ -10,7 +10,7 @@ use Rattle.comp_tree.specs.ComponentTree.{ComponentTree, parent_in, no_node}
 use Rattle.comp_tree.specs.Components.{nodes, tree_of}
 use Rattle.comp_tree.specs.Laws.{IsAncestor, parent, above}
 use Rattle.comp_tree.proofs.Ancestors.{length-rows}
-use Rattle.node_sums.proofs.Counting.{ancestor_up}
+use Rattle.node_sums.proofs.Counting.{ancestor_up, same_bool}
 use Rattle.node_sums.proofs.Reading.{row-parent}
 use Rattle.filter_rules.specs.declared.rule.Rule.{Rule}
 use Rattle.filter_rules.specs.declared.rule.Rule.TheVariants.{Min, Max, Direct, Subtractive}
@@ -18,7 +18,6 @@ use Rattle.filter_rules.specs.declared.rule.Criterion.{Criterion}
 use Rattle.filter_rules.specs.Criteria.{satisfies}
 use Rattle.filter_rules.specs.Filtered.{keeps}
 use Rattle.filter_rules.specs.Passes.{HasRisingLevels, flag, flag_with_parent, AreWithParents, ComesFrom, AreWithChildren, AreKeptBy}
-use Rattle.filter_rules.proofs.Lists.{same_bool}
 use Rattle.filter_rules.proofs.Around.{IsAbove, ancestor_listed, min_gives, min_from, IsKeptFor, max_gives, max_from}
 
 module _ (rows : List NodeRow) (rising : HasRisingLevels rows) (own flags : List Bool) where

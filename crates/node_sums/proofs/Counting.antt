@@ -82,9 +82,9 @@ node_below : (r : Raster) (connect : Connect) (n q : ℕ) → is_in_node r conne
 node_below r connect n q h = omega (arith, length-rows r connect, (Nodes.node_of-is r connect q (in_node-defined r connect n q h)).below)
 
 -- of two nodes that hold a pixel, the one with the smaller number is an ancestor of the other
-pub holders : (r : Raster) (connect : Connect) (j k q : ℕ) → IsPlane r → j < k → k < length (nodes r connect)
+pub holders_are_nested : (r : Raster) (connect : Connect) (j k q : ℕ) → IsPlane r → j < k → k < length (nodes r connect)
     → is_in_node r connect j q ≡ true → is_in_node r connect k q ≡ true → IsAncestor (tree_of r connect).rows j k
-holders r connect j k q plane l hk in_j in_k = go (holds r connect j q plane (omega arith) in_j) (holds r connect k q plane hk in_k)
+holders_are_nested r connect j k q plane l hk in_j in_k = go (holds r connect j q plane (omega arith) in_j) (holds r connect k q plane hk in_k)
   where
     rows : List NodeRow
     rows = (tree_of r connect).rows
@@ -152,7 +152,7 @@ none_between-gives r connect q m (suc k) h j l u = go (cases_lt j k) (λ x. none
     go (inl x) ih = ih x
     go (inr x) ih = last (omega arith)
 
-same_bool : (a b : Bool) → (a ≡ true → b ≡ true) → (b ≡ true → a ≡ true) → a ≡ b
+pub same_bool : (a b : Bool) → (a ≡ true → b ≡ true) → (b ≡ true → a ≡ true) → a ≡ b
 same_bool true b h k = sym (h refl)
 same_bool false b h k = go b refl
   where
@@ -269,7 +269,7 @@ counted-same r connect k m q plane hk other =
             in_rows = omega (arith, length-rows r connect)
 
             at : (parent_in (tree_of r connect).rows k < length (tree_of r connect).rows) × (m ≤ parent_in (tree_of r connect).rows k)
-            at = ancestor_of_parent (tree_of r connect).rows m k (goes_down r connect plane) (holders r connect m k q plane less hk parts.0 both.1)
+            at = ancestor_of_parent (tree_of r connect).rows m k (goes_down r connect plane) (holders_are_nested r connect m k q plane less hk parts.0 both.1)
 
             go : (parent_in (tree_of r connect).rows k ≡ m) ⊎ (parent_in (tree_of r connect).rows k ≡ m → ⊥) → ⊥
             go (inl e) = other e (omega (arith, length-rows r connect, at.0))
@@ -356,5 +356,5 @@ counted-parent r connect k a plane hk e ha = record { apart = apart; rest = rest
             none : (j : ℕ) → a < j → j < k → is_in_node r connect j q ≡ false
             none j l m = false_from_ne_true (is_in_node r connect j q) (λ in_j.
                 let at : (parent_in (tree_of r connect).rows k < length (tree_of r connect).rows) × (j ≤ parent_in (tree_of r connect).rows k) =
-                ancestor_of_parent (tree_of r connect).rows j k (goes_down r connect plane) (holders r connect j k q plane m hk in_j in_k) in
+                ancestor_of_parent (tree_of r connect).rows j k (goes_down r connect plane) (holders_are_nested r connect j k q plane m hk in_j in_k) in
                 absurd (omega arith))

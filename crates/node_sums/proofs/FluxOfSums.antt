@@ -19,7 +19,7 @@ use Rattle.node_sums.specs.declared.entry.Sums.{Sums}
 use Rattle.node_sums.specs.Sums.{sums_over, sums_of, sums_in, AreTheTrees}
 use Rattle.node_sums.specs.Flux.{base_of, flux_of}
 use Rattle.node_sums.specs.Merging.{IsUpTo, HasSizes, value_bound, total_bound}
-use Rattle.node_sums.proofs.Sizes.{sizes, filtered, level_up_to, up_to-times, up_to-minus, up_to_more}
+use Rattle.node_sums.proofs.Sizes.{sizes, filtered_pixels, level_up_to, up_to-times, up_to-minus, up_to_more}
 use Rattle.node_sums.proofs.Reading.{fits}
 use Rattle.node_sums.proofs.Totals.{total-less}
 use Rattle.node_sums.proofs.Fluxes.{BaseCase, at_root, at_child, base-case, never_negative}
@@ -76,7 +76,7 @@ base_up_to r connect n plane range hn = go (base-case r connect n plane hn)
 node_sizes : (r : Raster) (connect : Connect) (n : ℕ) → IsPlane r → HasValuesInRange r.values → HasSizes (sums_of r connect n)
 unfolding sums_of pixels_of pixels
 node_sizes r connect n plane range =
-    sizes r (pixels_of r connect n) plane (filtered r (is_in_node r connect n) (length r.values) plane (omega arith) (λ q _. level_up_to r q range))
+    sizes r (pixels_of r connect n) plane (filtered_pixels r (is_in_node r connect n) (length r.values) plane (omega arith) (λ q _. level_up_to r q range))
 
 -- the numbers from which the flux is computed, and those met on the way, fit
 pub record FluxFits (sum base : ℤ) (area : ℕ) : Type 0 where

@@ -17,7 +17,7 @@ use Rattle.comp_tree.proofs.Nodes
 use Rattle.node_sums.specs.Sums.{total}
 use Rattle.node_sums.specs.Flux.{base_of, flux_of}
 use Rattle.node_sums.specs.Laws.{FluxGrowsWithTheComponent, FluxIsNeverNegative, FluxIsZeroAtFlatRootsAlone, IsFlatRoot}
-use Rattle.node_sums.proofs.Counting.{goes_down, holders}
+use Rattle.node_sums.proofs.Counting.{goes_down, holders_are_nested}
 use Rattle.node_sums.proofs.Totals.{total_not_negative, each_zero, total_zero, total_grows}
 
 -- ---- levels and bases
@@ -113,13 +113,13 @@ base_grows r connect m n plane hm hn w = go (cases_order m n)
     go (inl e) = let s : base_of (tree_of r connect) m ≡ base_of (tree_of r connect) n = ap (base_of (tree_of r connect)) e in omega (arith, ints)
     go (inr (inl l)) =
         let x : level r (top_of r connect m) ≤ℤ base_of (tree_of r connect) n =
-        ancestor_level r connect m n plane hn (holders r connect m n (top_of r connect n) plane l hn top_in_m top_in_n) in
+        ancestor_level r connect m n plane hn (holders_are_nested r connect m n (top_of r connect n) plane l hn top_in_m top_in_n) in
         let y : base_of (tree_of r connect) m ≤ℤ level r (top_of r connect m) = base_at_most r connect m plane hm in
         omega (arith, ints)
     go (inr (inr l)) = refuse (base-case r connect m plane hm)
       where
         a : IsAncestor (tree_of r connect).rows n m
-        a = holders r connect n m (top_of r connect n) plane l hm top_in_n top_in_m
+        a = holders_are_nested r connect n m (top_of r connect n) plane l hm top_in_n top_in_m
 
         x : level r (top_of r connect n) ≤ℤ base_of (tree_of r connect) m
         x = ancestor_level r connect n m plane hm a

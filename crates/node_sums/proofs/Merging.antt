@@ -90,13 +90,13 @@ together_swap a b c =
 abbrev pub sums_at : Raster → ℕ → Sums
 sums_at r p = sums_of_pixel r.shape.width p (level r p)
 
-one_more : (n : ℕ) → suc n ≡ 1 + n
-one_more n = omega arith
+suc-plus : (n : ℕ) → suc n ≡ 1 + n
+suc-plus n = omega arith
 
 pub sums_over-cons : (r : Raster) (p : ℕ) (ps : List ℕ) → sums_over r (p ∷ ps) ≡ together (sums_at r p) (sums_over r ps)
 unfolding sums_over
 sums_over-cons r p ps =
-    let e1 = one_more (length ps) in
+    let e1 = suc-plus (length ps) in
     let e3 = sum_by-cons (x_of r) p ps in
     let e4 = sum_by-cons (y_of r) p ps in
     let e5 = sum_by-cons (λ q. x_of r q * x_of r q) p ps in

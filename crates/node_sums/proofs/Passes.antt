@@ -25,7 +25,7 @@ use Rattle.node_sums.specs.declared.entry.Sums.{Sums}
 use Rattle.node_sums.specs.Sums.{sums_over, sums_of, sums_in, IsTreeOfPlane, AreOfPlane, AreTheTrees}
 use Rattle.node_sums.specs.Merging.{together, sums_of_pixel, IsUpTo, HasSizes, is_own, is_counted, AreCounted, AreOwn, AreOwnTo, sums_at_place, value_bound}
 use Rattle.node_sums.proofs.Merging.{sums_at, sums_over-push, sums_over-union}
-use Rattle.node_sums.proofs.Sizes.{sizes, filtered, level_up_to}
+use Rattle.node_sums.proofs.Sizes.{sizes, filtered_pixels, level_up_to}
 use Rattle.node_sums.proofs.Counting.{GoesDown, goes_down, counted-start, counted-end, counted-same, counted-parent, number-is, IsUnion}
 use Rattle.node_sums.proofs.Reading.{get-written, fits, row-parent}
 
@@ -62,7 +62,7 @@ pub own_size : (r : Raster) (node_of : List ℕ) (sums : List Sums) (n p : ℕ) 
 own_size r node_of sums n p s plane h d e g l small =
     subst HasSizes (sym (own_sum r node_of (range_with_len 0 p) sums n p s h d e g))
     (subst (λ (ps : List ℕ). HasSizes (sums_over r (filter (is_own r node_of n) ps))) (range-push 0 p p (omega arith))
-    (sizes r (filter (is_own r node_of n) (range_with_len 0 (suc p))) plane (filtered r (is_own r node_of n) (suc p) plane (omega arith) small)))
+    (sizes r (filter (is_own r node_of n) (range_with_len 0 (suc p))) plane (filtered_pixels r (is_own r node_of n) (suc p) plane (omega arith) small)))
 
 pub own_yes : (r : Raster) (node_of ps : List ℕ) (sums : List Sums) (n p : ℕ) (s v : Sums) → AreOwn r node_of ps sums → is_defined r p ≡ true → slice_index node_of p ≡ n
     → slice_get sums n ≡ Some s → v ≡ together s (sums_at r p) → AreOwn r node_of (ps ++ p ∷ []) (set sums n v)
@@ -145,7 +145,7 @@ unfolding pixels
 parent_size r tree sums k a s t plane range h (connect, e) hk p ha f g =
     subst HasSizes (sym (parent_sum r connect tree sums k a s t plane h e hk p ha f g))
     (sizes r (filter (is_counted r connect k a) (range_with_len 0 (length r.values))) plane
-    (filtered r (is_counted r connect k a) (length r.values) plane (omega arith) (λ q _. level_up_to r q range)))
+    (filtered_pixels r (is_counted r connect k a) (length r.values) plane (omega arith) (λ q _. level_up_to r q range)))
 
 pub parent_yes : (r : Raster) (tree : ComponentTree) (sums : List Sums) (k a : ℕ) (s t v : Sums) → IsPlane r → AreCounted r tree (suc k) sums
     → k < length tree.rows → parent_in tree.rows k ≡ a → a < length tree.rows → slice_get sums a ≡ Some s → slice_get sums k ≡ Some t

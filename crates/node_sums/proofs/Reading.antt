@@ -1,5 +1,5 @@
 -- Signed numbers as the code computes them, and entries of lists that are read and written.
-use Rattle.std.proofs.Common.{◌≡◌, ℕ, ◌^◌, ◌<◌, zero, suc, List, [], ◌∷◌, length, refl, sym, ◌∙◌, ap, arith, ◌⊎◌, inl, inr, set}
+use Rattle.std.proofs.Common.{◌≡◌, ℕ, ◌^◌, ◌<◌, zero, suc, List, [], ◌∷◌, length, refl, sym, ◌∙◌, ap, subst, arith, ◌⊎◌, inl, inr, set}
 use Rattle.std.specs.Prelude.{ℤ, pos, ◌+ℤ◌, ◌*ℤ◌, Some, slice_get, slice_index_or}
 use Rattle.std.proofs.lemmas.Int.{to_z-of_z, to_z_pos, fits_signed_from_abs}
 use Rattle.std.specs.Int.{int_max}
@@ -7,6 +7,7 @@ use mir.Syntax.{Width, w64, w128}
 use mir.Val.{SFits, of_z, to_z, hbits}
 use Rattle.comp_tree.specs.declared.tree.NodeRow.{NodeRow}
 use Rattle.comp_tree.specs.ComponentTree.{ComponentTree, IsWellFormed, parent_in, no_node}
+use Rattle.comp_tree.specs.Nesting.{level_in}
 use Rattle.node_sums.specs.declared.entry.Sums.{Sums}
 use Rattle.node_sums.specs.Merging.{IsUpTo}
 use Rattle.node_sums.proofs.Sizes.{abs_up_to}
@@ -22,12 +23,22 @@ row-parent [] n d h = absurd (omega arith)
 row-parent (x ∷ rows) zero d h = refl
 row-parent (x ∷ rows) (suc n) d h = row-parent rows n d (omega arith)
 
-pub parent_below : (tree : ComponentTree) (n m : ℕ) → IsWellFormed tree → n < length tree.rows → parent_in tree.rows n ≡ m → (m ≡ no_node → ⊥) → m < n
-parent_below tree n m w h e f = go (w.parents n h)
+pub row_level : (rows : List NodeRow) (n : ℕ) (d : NodeRow) → n < length rows → (slice_index_or rows n d).level ≡ level_in rows n
+row_level [] n d h = absurd (omega arith)
+row_level (x ∷ rows) zero d h = refl
+row_level (x ∷ rows) (suc n) d h = row_level rows n d (omega arith)
+
+-- a parent's number, which is smaller
+pub read_parent_smaller : (tree : ComponentTree) (rows : List NodeRow) (n : ℕ) (d : NodeRow) → IsWellFormed tree → rows ≡ tree.rows → n < length tree.rows
+    → ((slice_index_or rows n d).parent ≡ no_node → ⊥) → (slice_index_or rows n d).parent < n
+read_parent_smaller tree rows n d w f h some = go (w.parents n h)
   where
-    go : (parent_in tree.rows n ≡ no_node) ⊎ (parent_in tree.rows n < n) → m < n
-    go (inl k) = absurd (f (sym e ∙ k))
-    go (inr l) = omega arith
+    read : (slice_index_or rows n d).parent ≡ parent_in tree.rows n
+    read = row-parent rows n d (let l : length rows ≡ length tree.rows = ap length f in omega arith) ∙ ap (λ (xs : List NodeRow). parent_in xs n) f
+
+    go : (parent_in tree.rows n ≡ no_node) ⊎ (parent_in tree.rows n < n) → (slice_index_or rows n d).parent < n
+    go (inl e) = absurd (some (read ∙ e))
+    go (inr l) = subst (λ (x : ℕ). x < n) (sym read) l
 
 -- an entry of a list in which one was written
 pub get-written : {X : Type 0} (xs : List X) (i : ℕ) (v : X) (m : ℕ) (s : X) → slice_get (set xs i v) m ≡ Some s

@@ -112,9 +112,9 @@ pub length-filter-le : (test : ℕ → Bool) (xs : List ℕ) → length (filter 
 length-filter-le test xs = rw (length-filter test xs) (count_by-le-length test xs)
 
 -- the first count pixels, where their values are in the range
-pub filtered : (r : Raster) (test : ℕ → Bool) (count : ℕ) → IsPlane r → count ≤ length r.values → ((q : ℕ) → q < count → IsUpTo value_bound (level r q))
+pub filtered_pixels : (r : Raster) (test : ℕ → Bool) (count : ℕ) → IsPlane r → count ≤ length r.values → ((q : ℕ) → q < count → IsUpTo value_bound (level r q))
     → ArePixels r (filter test (range_with_len 0 count))
-filtered r test count plane few small = record {
+filtered_pixels r test count plane few small = record {
   few = omega (arith, length-filter-le test (range_with_len 0 count), length-range_with_len 0 count, plane, r.shape.within_limits.few_pixels);
   below = λ p m. let h : p < count = inside p m in omega arith;
   small = λ p m. small p (inside p m);

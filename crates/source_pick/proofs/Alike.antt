@@ -19,7 +19,7 @@ use Rattle.comp_tree.proofs.Components.{top-representative}
 use Rattle.comp_tree.proofs.Nodes
 use Rattle.comp_tree.specs.Nesting.{pixels_of}
 use Rattle.source_pick.specs.Locality.{IsNearHigh, AgreeNearHigh}
-use Rattle.source_pick.proofs.Splits.{same_bool}
+use Rattle.node_sums.proofs.Counting.{same_bool}
 
 -- what two such planes share
 pub record Alike (r s : Raster) (connect : Connect) (h : ℤ) : Type 0 where

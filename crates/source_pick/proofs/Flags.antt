@@ -23,7 +23,8 @@ use Rattle.source_pick.specs.Sources.{is_entry, entry_of, is_split, has_strong_s
 use Rattle.source_pick.specs.Segmentation.{AreDisjointNodes}
 use Rattle.source_pick.specs.Passes.{entry_number, AreEntries, AreStrong, IsStrongChild, HasTwoStrongChildren, HasStrongChildren, AreStrongChildCounts, are_several, IsOnWay, IsAboveSplit, AreAboveSplits, AreSources, IsFirstOf, IsNoFirst, StandAtFirst, ArePicked}
 use Rattle.source_pick.proofs.Entries.{IsEntryOf, entry_of-parts, entry_of-self, entry_of-found, entry_of_child}
-use Rattle.source_pick.proofs.Splits.{same_bool, AreTwins, other_way, IsSplitNode, split_parts, split_from, split_entry, sibling_parts, sibling_from, ContainsSplit, contains_parts, contains_from}
+use Rattle.source_pick.proofs.Splits.{AreTwins, other_way, IsSplitNode, split_parts, split_from, split_entry, sibling_parts, sibling_from, ContainsSplit, contains_parts, contains_from}
+use Rattle.node_sums.proofs.Counting.{same_bool}
 use Rattle.source_pick.proofs.Sourcing.{source_from}
 use Rattle.source_pick.proofs.Listing.{sources_at-one, sources_at-none, flat-push, first_below, source_node, sources_apart}
 use Rattle.source_pick.proofs.Readings.{HasTreeAndSums, numbers-length, tree-shape, rows-length, node_inside, filled}

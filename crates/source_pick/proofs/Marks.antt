@@ -22,7 +22,7 @@ use Rattle.source_pick.specs.Segmentation.{source_number_at, segmentation_of, Ar
 use Rattle.source_pick.specs.Passes.{IsOnWay, AreMarked, AreNumbered}
 use Rattle.source_pick.proofs.Within.{within_from_way, way_from_shared, HasParent, way_up, way_of_child}
 use Rattle.source_pick.proofs.Entries.{node_from_row, row_from_node}
-use Rattle.source_pick.proofs.Splits.{same_bool}
+use Rattle.node_sums.proofs.Counting.{same_bool}
 use Rattle.source_pick.proofs.Readings.{numbers-length, rows-length, node_inside, filled}
 
 -- ---- the place of the first number that passes

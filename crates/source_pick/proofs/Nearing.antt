@@ -14,7 +14,7 @@ use Rattle.comp_tree.proofs.Members.{IsAmong, among_from_filter, among_from_rang
 use Rattle.comp_tree.proofs.Reaching.{defined_from_at_least, below_from_defined}
 use Rattle.source_pick.specs.Locality.{is_beside_high, is_near_high, kept}
 use Rattle.source_pick.specs.Clearing.{HasNoneBelow, IsAround, reach, AreSetBetween, AreSetAround, AreMarkedNear, without_unmarked, IsClearedUpTo}
-use Rattle.source_pick.proofs.Splits.{same_bool}
+use Rattle.node_sums.proofs.Counting.{same_bool}
 use Rattle.source_pick.proofs.Keeping.{near_from_own, near_from_neighbour}
 use Rattle.source_pick.proofs.Around.{first_row, last_row, IsPartOfRow, part_around, around_part, around_after, around_before}
 

@@ -1,5 +1,5 @@
 -- What the code reads of a tree and its sums, and signed numbers as it compares them.
-use Rattle.std.proofs.Common.{◌≡◌, ℕ, ◌+◌, ◌*◌, ◌<◌, zero, suc, List, [], ◌∷◌, length, refl, sym, ◌∙◌, ap, subst, arith, ◌⊎◌, inl, inr, get_or, set}
+use Rattle.std.proofs.Common.{◌≡◌, ℕ, ◌+◌, ◌*◌, ◌<◌, List, length, refl, sym, ◌∙◌, ap, arith, ◌⊎◌, inl, inr, get_or, set}
 use Rattle.std.specs.Prelude.{ℤ, int_le, int_lt, slice_index_or}
 use Rattle.std.specs.List.{range_with_len}
 use Rattle.std.proofs.lemmas.Int.{to_z-of_z}
@@ -13,7 +13,7 @@ use Rattle.comp_tree.specs.declared.shape.Shape.{Shape}
 use Rattle.comp_tree.specs.declared.shape.Connect.{Connect}
 use Rattle.comp_tree.specs.declared.tree.NodeRow.{NodeRow}
 use Rattle.comp_tree.specs.Raster.{Raster, IsPlane, pixels}
-use Rattle.comp_tree.specs.ComponentTree.{ComponentTree, IsWellFormed, parent_in, no_node}
+use Rattle.comp_tree.specs.ComponentTree.{ComponentTree, parent_in}
 use Rattle.comp_tree.specs.Components.{nodes, node_of, tree_of}
 use Rattle.comp_tree.specs.Laws.{parent_of_node}
 use Rattle.comp_tree.proofs.Ancestors.{length-rows}
@@ -21,7 +21,7 @@ use Rattle.comp_tree.proofs.Finding.{length-pixels}
 use Rattle.node_sums.specs.declared.entry.Sums.{Sums}
 use Rattle.node_sums.specs.Sums.{sums_of, sums_in, AreTheTrees}
 use Rattle.comp_tree.specs.Nesting.{level_in, level_of_node}
-use Rattle.node_sums.proofs.Reading.{row-parent}
+use Rattle.node_sums.proofs.Reading.{row-parent, row_level}
 
 -- ---- the plane
 
@@ -62,15 +62,10 @@ rows-length r connect tree e = ap (λ (t : ComponentTree). length t.rows) e ∙ 
 pub node_inside : (r : Raster) (connect : Connect) (tree : ComponentTree) (n : ℕ) → tree ≡ tree_of r connect → n < length tree.rows → n < length (nodes r connect)
 node_inside r connect tree n e h = let l : length tree.rows ≡ length (nodes r connect) = rows-length r connect tree e in omega arith
 
-row-level : (rows : List NodeRow) (n : ℕ) (d : NodeRow) → n < length rows → (slice_index_or rows n d).level ≡ level_in rows n
-row-level [] n d h = absurd (omega arith)
-row-level (x ∷ rows) zero d h = refl
-row-level (x ∷ rows) (suc n) d h = row-level rows n d (omega arith)
-
 pub level-read : (r : Raster) (connect : Connect) (tree : ComponentTree) (rows : List NodeRow) (n : ℕ) (d : NodeRow) → tree ≡ tree_of r connect → rows ≡ tree.rows
     → n < length tree.rows → (slice_index_or rows n d).level ≡ level_of_node r connect n
 level-read r connect tree rows n d e f h =
-    row-level rows n d (let l : length rows ≡ length tree.rows = ap length f in omega arith)
+    row_level rows n d (let l : length rows ≡ length tree.rows = ap length f in omega arith)
     ∙ ap (λ (xs : List NodeRow). level_in xs n) f ∙ ap (λ (t : ComponentTree). level_in t.rows n) e
 
 pub parent-read : (r : Raster) (connect : Connect) (tree : ComponentTree) (rows : List NodeRow) (n : ℕ) (d : NodeRow) → tree ≡ tree_of r connect → rows ≡ tree.rows
@@ -78,18 +73,6 @@ pub parent-read : (r : Raster) (connect : Connect) (tree : ComponentTree) (rows 
 parent-read r connect tree rows n d e f h =
     row-parent rows n d (let l : length rows ≡ length tree.rows = ap length f in omega arith)
     ∙ ap (λ (xs : List NodeRow). parent_in xs n) f ∙ ap (λ (t : ComponentTree). parent_in t.rows n) e
-
--- a parent's place, which is smaller
-pub parent_smaller : (tree : ComponentTree) (rows : List NodeRow) (n : ℕ) (d : NodeRow) → IsWellFormed tree → rows ≡ tree.rows → n < length tree.rows
-    → ((slice_index_or rows n d).parent ≡ no_node → ⊥) → (slice_index_or rows n d).parent < n
-parent_smaller tree rows n d w f h some = go (w.parents n h)
-  where
-    read : (slice_index_or rows n d).parent ≡ parent_in tree.rows n
-    read = row-parent rows n d (let l : length rows ≡ length tree.rows = ap length f in omega arith) ∙ ap (λ (xs : List NodeRow). parent_in xs n) f
-
-    go : (parent_in tree.rows n ≡ no_node) ⊎ (parent_in tree.rows n < n) → (slice_index_or rows n d).parent < n
-    go (inl e) = absurd (some (read ∙ e))
-    go (inr l) = subst (λ (x : ℕ). x < n) (sym read) l
 
 -- ---- sums
 

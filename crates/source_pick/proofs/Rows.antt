@@ -20,7 +20,7 @@ use Rattle.comp_tree.proofs.Nesting.{in_node-defined, top_inside}
 use Rattle.node_sums.proofs.Fluxes.{level_at_least, never_negative, BaseCase, at_root, at_child, base-case}
 use Rattle.node_sums.proofs.FluxOfSums.{base_up_to}
 use Rattle.node_sums.proofs.Reading.{fits}
-use Rattle.node_sums.proofs.Sizes.{sizes, filtered, level_up_to, total-up_to, up_to_more, up_to-minus, x_small, y_small}
+use Rattle.node_sums.proofs.Sizes.{sizes, filtered_pixels, level_up_to, total-up_to, up_to_more, up_to-minus, x_small, y_small}
 use Rattle.source_pick.specs.declared.catalogue.CatRow.{CatRow}
 use Rattle.source_pick.specs.Catalogue.{centre_of, measured_row, catalogue_row, FitsColumn, FitsColumns, IsCentred}
 use Rattle.source_pick.specs.Numbers.{IsMoment, IsMean, IsMeasured}
@@ -134,7 +134,7 @@ not_empty (y ∷ ys) x h = omega arith
 module _ (r : Raster) (connect : Connect) (n : ℕ) (plane : IsPlane r) (range : HasValuesInRange r.values) (hn : n < length (nodes r connect)) where
   node_sizes : HasSizes (sums_of r connect n)
   unfolding sums_of pixels_of pixels
-  node_sizes = sizes r (pixels_of r connect n) plane (filtered r (is_in_node r connect n) (length r.values) plane (omega arith) (λ q _. level_up_to r q range))
+  node_sizes = sizes r (pixels_of r connect n) plane (filtered_pixels r (is_in_node r connect n) (length r.values) plane (omega arith) (λ q _. level_up_to r q range))
 
   inside : (p : ℕ) → IsAmong p (pixels_of r connect n) → is_in_node r connect n p ≡ true
   unfolding pixels_of

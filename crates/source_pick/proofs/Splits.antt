@@ -22,14 +22,6 @@ use Rattle.source_pick.proofs.Entries.{row_from_node, IsEntryOf, entry_of-parts,
 
 -- ---- tests over all nodes
 
-pub same_bool : (a b : Bool) → (a ≡ true → b ≡ true) → (b ≡ true → a ≡ true) → a ≡ b
-same_bool true b h k = sym (h refl)
-same_bool false b h k = go b refl
-  where
-    go : (c : Bool) → b ≡ c → false ≡ b
-    go true u = k u ∙ sym u
-    go false u = sym u
-
 pub among_nodes : (r : Raster) (connect : Connect) (n : ℕ) → n < length (nodes r connect) → IsAmong n (node_numbers r connect)
 among_nodes r connect n h = among-range 0 (length (nodes r connect)) n (omega arith) (omega arith)
 

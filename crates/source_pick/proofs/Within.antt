@@ -11,7 +11,7 @@ use Rattle.comp_tree.specs.Nesting.{level_of_node}
 use Rattle.comp_tree.specs.Laws.{IsAncestor, parent, above, top_of, LiesWithin}
 use Rattle.comp_tree.proofs.Nesting.{top_inside}
 use Rattle.comp_tree.proofs.Ancestors.{length-rows, ancestors_are_the_larger_nodes}
-use Rattle.node_sums.proofs.Counting.{goes_down, holders, ancestor_smaller}
+use Rattle.node_sums.proofs.Counting.{goes_down, holders_are_nested, ancestor_smaller}
 use Rattle.node_sums.proofs.Fluxes.{level-of_node, level_at_least}
 use Rattle.source_pick.specs.Passes.{IsOnWay}
 
@@ -29,8 +29,8 @@ way_from_shared r connect m n q plane hm hn in_m in_n = go (cases_order m n)
   where
     go : (m ≡ n) ⊎ ((m < n) ⊎ (n < m)) → IsOnWay (tree_of r connect).rows m n ⊎ IsOnWay (tree_of r connect).rows n m
     go (inl e) = inl (inl (sym e))
-    go (inr (inl l)) = inl (inr (holders r connect m n q plane l hn in_m in_n))
-    go (inr (inr l)) = inr (inr (holders r connect n m q plane l hm in_n in_m))
+    go (inr (inl l)) = inl (inr (holders_are_nested r connect m n q plane l hn in_m in_n))
+    go (inr (inr l)) = inr (inr (holders_are_nested r connect n m q plane l hm in_n in_m))
 
 pub way_from_within : (r : Raster) (connect : Connect) (m n : ℕ) → IsPlane r → m < length (nodes r connect) → n < length (nodes r connect)
     → LiesWithin r connect n m → IsOnWay (tree_of r connect).rows m n
@@ -44,9 +44,9 @@ way_from_within r connect m n plane hm hn w = go (cases_order m n)
 
     go : (m ≡ n) ⊎ ((m < n) ⊎ (n < m)) → IsOnWay (tree_of r connect).rows m n
     go (inl e) = inl (sym e)
-    go (inr (inl l)) = inr (holders r connect m n (top_of r connect n) plane l hn in_m in_n)
+    go (inr (inl l)) = inr (holders_are_nested r connect m n (top_of r connect n) plane l hn in_m in_n)
     go (inr (inr l)) =
-        let more = ((ancestors_are_the_larger_nodes r connect n m plane hn hm).1 (holders r connect n m (top_of r connect n) plane l hm in_n in_m)).1 in
+        let more = ((ancestors_are_the_larger_nodes r connect n m plane hn hm).1 (holders_are_nested r connect n m (top_of r connect n) plane l hm in_n in_m)).1 in
         absurd (true≢false (sym (w more.0 more.1) ∙ more.2))
 
 pub way_trans : (rows : List NodeRow) (a b c : ℕ) → IsOnWay rows a b → IsOnWay rows b c → IsOnWay rows a c

@@ -1,5 +1,6 @@
 use Rattle.std.proofs.Common.{arith, ◌∙◌}
-use Rattle.source_pick.proofs.Readings.{parent-read, parent_smaller}
+use Rattle.source_pick.proofs.Readings.{parent-read}
+use Rattle.node_sums.proofs.Reading.{read_parent_smaller}
 use Rattle.source_pick.proofs.Flags.{IsKnown, several_read, exit_above, exit_entry, exit_weak, exit_root, exit_child}
 use Rattle.source_pick.proofs.picking.passes_as_source.Goals as goal
 
@@ -30,12 +31,12 @@ returns-then-parent c = λ choice sums known_entries known_strong r connect of_t
 
 pub bounds-children-parent : goal.bounds-children-parent
 bounds-children-parent c =
-    let smaller = parent_smaller c.args.tree.now c.rows.result.now c.args.n _ c.shape-shape.ensures.well_formed c.rows.ensures c.requires.node c.if-parent.false in
+    let smaller = read_parent_smaller c.args.tree.now c.rows.result.now c.args.n _ c.shape-shape.ensures.well_formed c.rows.ensures c.requires.node c.if-parent.false in
     omega (arith, smaller, c.requires.node, c.requires.children.one_each)
 
 pub returns : goal.returns
 returns c = λ choice sums known_entries known_strong r connect of_tree of_sums is_plane.
-    let smaller = parent_smaller c.args.tree.now c.rows.result.now c.args.n _ c.shape-shape.ensures.well_formed c.rows.ensures c.requires.node c.if-parent.false in
+    let smaller = read_parent_smaller c.args.tree.now c.rows.result.now c.args.n _ c.shape-shape.ensures.well_formed c.rows.ensures c.requires.node c.if-parent.false in
     let known : IsKnown r connect choice c.args.tree.now sums c.args.entries.now c.args.strong.now c.args.children.now c.args.above.now =
     record { of = record { plane = is_plane; tree_is = of_tree; sums_are = of_sums }; entries_are = known_entries; strong_are = known_strong; children_are = c.requires.children; above_are = c.requires.above } in
     exit_child r connect choice c.args.tree.now sums c.args.entries.now c.args.strong.now c.args.children.now c.args.above.now known

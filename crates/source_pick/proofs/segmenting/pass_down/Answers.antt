@@ -1,7 +1,7 @@
 use Rattle.std.proofs.Common.{◌≡◌, ◌∙◌, ◌+◌, ◌<◌, ℕ, List, sym, ap, subst, refl, arith, length}
 use Rattle.std.specs.Prelude.{slice_index}
 use Rattle.source_pick.specs.Passes.{AreNumbered}
-use Rattle.source_pick.proofs.Readings.{parent_smaller}
+use Rattle.node_sums.proofs.Reading.{read_parent_smaller}
 use Rattle.source_pick.proofs.Counts.{row_parent}
 use Rattle.source_pick.proofs.Marks.{numbered_none, numbered_child, numbered_marked, numbered_root, numbered_up_to, untouched, untouched_yet}
 use Rattle.source_pick.proofs.segmenting.pass_down.Goals.{then-numbers-n-eq0+then-parent, else-numbers-n-eq0, else-numbers-n-eq0-via-then-numbers-n-eq0+else-parent, else-numbers-n-eq0-via-else-numbers-n-eq0}
@@ -12,7 +12,7 @@ loop-n-init c = record { done = λ marked d m. numbered_none c.args.tree.now mar
 
 pub bounds-numbers-parent : goal.bounds-numbers-parent
 bounds-numbers-parent c =
-    let smaller = parent_smaller c.args.tree.now c.rows-rows.result.now c.loop-n.n _ c.shape-shape.ensures.well_formed c.rows-rows.ensures
+    let smaller = read_parent_smaller c.args.tree.now c.rows-rows.result.now c.loop-n.n _ c.shape-shape.ensures.well_formed c.rows-rows.ensures
     (omega (arith, c.loop-n-test.true, ap length c.rows-rows.ensures)) c.if-parent.true in
     omega (arith, smaller, c.loop-n-test.true, ap length c.rows-rows.ensures, c.loop-n.auto.numbers, c.requires)
 
@@ -25,7 +25,7 @@ loop-n-preserved c =
         done = λ marked d known. subst (λ (xs : List ℕ). AreNumbered c.args.tree.now marked (c.loop-n.n + 1) xs) (sym w.numbers-is)
             (numbered_child c.args.tree.now marked c.args.numbers.now c.loop-n.numbers c.loop-n.n _ _ d known (c.loop-n.invariant.done marked d known) inside
             (sym still ∙ w.if-numbers-n-eq0.true) (row_parent c.args.tree.now c.rows-rows.result.now c.loop-n.n _ c.rows-rows.ensures inside)
-            (parent_smaller c.args.tree.now c.rows-rows.result.now c.loop-n.n _ c.shape-shape.ensures.well_formed c.rows-rows.ensures inside w.if-parent.true) refl);
+            (read_parent_smaller c.args.tree.now c.rows-rows.result.now c.loop-n.n _ c.shape-shape.ensures.well_formed c.rows-rows.ensures inside w.if-parent.true) refl);
         rest = λ m l. ap (λ (xs : List ℕ). slice_index xs m) w.numbers-is ∙ untouched c.args.numbers.now c.loop-n.numbers c.loop-n.n _ c.loop-n.invariant.rest m l;
       }
       | else-numbers-n-eq0 w ↦ record {

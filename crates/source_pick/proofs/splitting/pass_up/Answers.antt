@@ -1,7 +1,7 @@
 use Rattle.std.proofs.Common.{arith, ap, length, subst, sym, ◌∙◌, ℕ}
 use Rattle.std.proofs.lemmas.Bool.{true≢false}
 use Rattle.source_pick.specs.Passes.{ArePassed}
-use Rattle.source_pick.proofs.Readings.{parent_smaller}
+use Rattle.node_sums.proofs.Reading.{read_parent_smaller}
 use Rattle.source_pick.proofs.Counts.{passed_none, passed_with, passed_without, passed_all, row_parent, none_outside}
 use Rattle.source_pick.proofs.splitting.pass_up.Goals.{else-flags-n-via-then-flags-n+else-parent, else-flags-n-via-else-flags-n}
 use Rattle.source_pick.proofs.splitting.pass_up.Goals as goal
@@ -12,7 +12,7 @@ loop-n-init c =
 
 pub bounds-flags-parent : goal.bounds-flags-parent
 bounds-flags-parent c =
-    let smaller = parent_smaller c.args.tree.now c.rows-rows.result.now _ _ c.shape-shape.ensures.well_formed c.rows-rows.ensures
+    let smaller = read_parent_smaller c.args.tree.now c.rows-rows.result.now _ _ c.shape-shape.ensures.well_formed c.rows-rows.ensures
     (omega (arith, c.loop-n-test.true, c.loop-n.auto.n, ap length c.rows-rows.ensures)) c.if-parent.true in
     omega (arith, smaller, c.loop-n-test.true, c.loop-n.auto.n, ap length c.rows-rows.ensures, c.loop-n.invariant.one_each)
 
@@ -21,7 +21,7 @@ loop-n-preserved-then-parent c =
     passed_with c.args.tree.now.rows c.args.flags.now c.loop-n.n _ _ c.loop-n.flags c.loop-n.invariant (omega (arith, c.loop-n-test.true))
     (omega (arith, c.loop-n-test.true, c.loop-n.auto.n, ap length c.rows-rows.ensures)) c.if-flags-n.true
     (row_parent c.args.tree.now c.rows-rows.result.now _ _ c.rows-rows.ensures (omega (arith, c.loop-n-test.true, c.loop-n.auto.n, ap length c.rows-rows.ensures)))
-    (parent_smaller c.args.tree.now c.rows-rows.result.now _ _ c.shape-shape.ensures.well_formed c.rows-rows.ensures
+    (read_parent_smaller c.args.tree.now c.rows-rows.result.now _ _ c.shape-shape.ensures.well_formed c.rows-rows.ensures
     (omega (arith, c.loop-n-test.true, c.loop-n.auto.n, ap length c.rows-rows.ensures)) c.if-parent.true)
 
 pub loop-n-preserved : goal.loop-n-preserved
