@@ -10,7 +10,8 @@ use Rattle.comp_tree.specs.Limits.{IsWithinLimits}
 use Rattle.comp_tree.specs.Raster.{Raster, pixels}
 use Rattle.comp_tree.proofs.Nearby.{row-from, filter-skip}
 use Rattle.mesh_background.specs.Laws.{CellsAreSquares}
-use Rattle.mesh_background.specs.Mesh.{cells_along, IsCell, mesh_cell_of, cell_pixels}
+use Rattle.mesh_background.specs.Bounds.{IsCell}
+use Rattle.mesh_background.specs.Mesh.{cells_along, mesh_cell_of, cell_pixels}
 
 -- ---- how many cells lie along a side
 
@@ -174,7 +175,7 @@ range-append a (suc m) n b e = (λ i. range_with_len a (same i)) ∙ ap (λ (xs 
     same : suc m + n ≡ suc (m + n)
     same = omega arith
 
-filter-every : (f : ℕ → Bool) (a n : ℕ) → ((p : ℕ) → a ≤ p → p < a + n → f p ≡ true) → filter f (range_with_len a n) ≡ range_with_len a n
+pub filter-every : (f : ℕ → Bool) (a n : ℕ) → ((p : ℕ) → a ≤ p → p < a + n → f p ≡ true) → filter f (range_with_len a n) ≡ range_with_len a n
 filter-every f a zero h = refl
 filter-every f a (suc n) h =
     ap (λ (b : Bool). cond b (a ∷ filter f (range_with_len (a + 1) n)) (filter f (range_with_len (a + 1) n))) (h a (omega arith) (omega arith))

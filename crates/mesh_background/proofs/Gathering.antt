@@ -8,7 +8,8 @@ use Rattle.std.proofs.lemmas.List.Elements.{filter-append}
 use Rattle.std.proofs.Math.Nat.{mul-le-mul_right}
 use Rattle.comp_tree.specs.Raster.{Raster, IsPlane, pixels, value_at, is_defined, level}
 use Rattle.mesh_background.specs.Medians.{lower_median}
-use Rattle.mesh_background.specs.Mesh.{IsCell, cell_count, defined_values, cell_pixels, image_value, mesh_value, values_of_mesh}
+use Rattle.mesh_background.specs.Bounds.{IsCell}
+use Rattle.mesh_background.specs.Mesh.{cell_count, defined_values, cell_pixels, image_value, mesh_value, values_of_mesh}
 use Rattle.mesh_background.proofs.Extents.{range-append, pixels_before, before-start, before-row, before-end, pixels_of_cell}
 
 pub defined-append : (r : Raster) (ps qs : List ℕ) → defined_values r (ps ++ qs) ≡ defined_values r ps ++ defined_values r qs

@@ -1,5 +1,5 @@
 -- Planes from whose values the numbers of their cells are taken away, some pixels at a time.
-use Rattle.std.proofs.Common.{◌≡◌, ℕ, ◌+◌, ◌-◌, ◌*◌, ◌/◌, ◌%◌, ◌^◌, ◌<◌, ◌≤◌, min, List, length, map, get_or, set, refl, sym, ap, subst, ◌∙◌, arith, ◌⊎◌, inl, inr, get_or-set_other, get_or-set_same, ◌≢◌}
+use Rattle.std.proofs.Common.{◌≡◌, ℕ, ◌+◌, ◌-◌, ◌*◌, ◌/◌, ◌%◌, ◌^◌, ◌<◌, ◌≤◌, min, Bool, true, false, List, length, map, get_or, set, refl, sym, ap, subst, ◌∙◌, arith, ◌⊎◌, inl, inr, get_or-set_other, get_or-set_same, ◌≢◌}
 use Rattle.std.specs.Prelude.{ℤ, pos, ◌-ℤ◌, Option, Some, None, All, IfSome}
 use Rattle.std.specs.Option.{option_map}
 use Rattle.std.specs.List.{range_with_len}
@@ -8,15 +8,18 @@ use Rattle.std.proofs.Math.ListN.{length-set}
 use Rattle.std.proofs.lemmas.List.Elements.{All-map}
 use Rattle.std.proofs.lemmas.List.FromFn.{get_or-map-range_with_len}
 use Rattle.std.proofs.Math.Nat.{mul_comm, mul-le-mul_right}
-use Rattle.std.proofs.lemmas.Nat.{div-add-mod', mod_below, div_below, div-mul-add, mul-add-lt}
+use Rattle.std.proofs.lemmas.Nat.{div-add-mod', mod_below, div_below, div-mul-add, mod-mul-add, mul-add-lt}
 use Rattle.comp_tree.specs.Limits.{IsWithinLimits}
+use Rattle.comp_tree.specs.declared.shape.Shape.{Shape}
 use Rattle.comp_tree.specs.Raster.{Raster, IsPlane, value_at}
 use Rattle.mesh_background.specs.Mesh.{cells_along, cell_count, mesh_cell_of, mesh_value, values_of_mesh}
 use Rattle.comp_tree.specs.Limits.{IsInHalfRange}
 use Rattle.comp_tree.specs.Raster.{HasValuesInHalfRange}
-use Rattle.mesh_background.specs.Residuals.{background, residual_at, residual_of, number_of_cell, IsInHalfRangeFrom, IsLessened, IsWritten}
+use Rattle.mesh_background.specs.Lessened.{number_of_cell, IsInHalfRangeFrom, IsLessened, IsWritten}
+use Rattle.mesh_background.specs.Interpolation.{interpolated}
+use Rattle.mesh_background.specs.Residuals.{filtered_values, pixel_level, background, residual_at, residual_of}
 use Rattle.mesh_background.proofs.Extents.{cell-below, along-above, along-below, cells_few}
-use Rattle.mesh_background.proofs.Residuals.{background-some, cell-number, half-mesh, half-of, residual-all}
+use Rattle.mesh_background.proofs.Residuals.{background-flat, background-smooth, cell-number, half-mesh, half-of, residual-all}
 
 -- ---- one run of pixels after the other
 
@@ -145,6 +148,14 @@ row-end mesh width columns n some c le =
     let more : cells_along mesh width * mesh ≤ n * mesh = mul-le-mul_right mesh (omega arith) in
     omega arith
 
+-- the level at the pixel in column x of row y
+pub level-in : (mesh : ℕ) (shape : Shape) (values : List ℤ) (columns rows x y : ℕ) → columns ≡ cells_along mesh shape.width → rows ≡ cells_along mesh shape.height → x < shape.width
+    → interpolated values columns rows mesh x y ≡ pixel_level mesh shape values (y * shape.width + x)
+unfolding pixel_level
+level-in mesh shape values columns rows x y c r lt =
+    (λ i. interpolated values (c i) (r i) mesh x y)
+    ∙ (λ i. interpolated values (cells_along mesh shape.width) (cells_along mesh shape.height) mesh (sym (mod-mul-add y shape.width x lt) i) (sym (div-mul-add y shape.width x lt) i))
+
 -- ---- all pixels
 
 cell-inside : (mesh width height p : ℕ) → 0 < mesh → 0 < width → p < width * height → mesh_cell_of mesh width p < cells_along mesh width * cells_along mesh height
@@ -153,24 +164,34 @@ cell-inside mesh width height p some wide lt =
     cell-below mesh width height (p % width) (p / width) some (mod_below p width wide) (div_below p width height wide (omega (arith, mul_comm width height)))
 
 lessened-at : (r : Raster) (mesh p : ℕ) (numbers : List ℤ) → 0 < mesh → numbers ≡ values_of_mesh r mesh → mesh_cell_of mesh r.shape.width p < cell_count mesh r.shape
-    → number_of_cell mesh r.shape.width numbers p ≡ background r mesh p
+    → number_of_cell mesh r.shape.width numbers p ≡ background r mesh true p
 unfolding values_of_mesh
 lessened-at r mesh p numbers some is lt =
     ap (λ (vs : List ℤ). get_or vs (mesh_cell_of mesh r.shape.width p) (pos 0)) is
     ∙ get_or-map-range_with_len (mesh_value r mesh) 0 (cell_count mesh r.shape) (mesh_cell_of mesh r.shape.width p) (mesh_cell_of mesh r.shape.width p) (pos 0) lt (omega arith)
-    ∙ sym (background-some r mesh p some)
+    ∙ sym (background-flat r mesh p some)
 
-pub lessened-all : (r new : Raster) (mesh n : ℕ) (numbers : List ℤ) → 0 < mesh → 0 < r.shape.width → IsPlane r → numbers ≡ values_of_mesh r mesh
-    → IsLessened r (number_of_cell mesh r.shape.width numbers) 0 n new → n ≡ length r.values → new ≡ residual_of r mesh
+-- a plane whose pixels are all less by their background
+lessened-all : (r new : Raster) (mesh : ℕ) (flat : Bool) (n : ℕ) (by : ℕ → ℤ) → IsLessened r by 0 n new → n ≡ length r.values
+    → ((p : ℕ) → p < length r.values → by p ≡ background r mesh flat p) → new ≡ residual_of r mesh flat
 unfolding residual_at
-lessened-all r new mesh n numbers some wide plane is h e = residual-all r new mesh n written (omega arith)
+lessened-all r new mesh flat n by h e same = residual-all r new mesh flat n written (omega arith)
   where
-    written : IsWritten r (residual_at r mesh) n new
+    written : IsWritten r (residual_at r mesh flat) n new
     written = record {
       shape_is = h.shape_is;
       one_each = h.one_each;
-      written = λ p lt.
-          let inside : mesh_cell_of mesh r.shape.width p < cell_count mesh r.shape = cell-inside mesh r.shape.width r.shape.height p some wide (omega arith) in
-          h.inside p (omega arith) lt
-          ∙ ap (λ (z : ℤ). option_map (λ v. v -ℤ z) (value_at r.values p)) (lessened-at r mesh p numbers some is inside);
+      written = λ p lt. h.inside p (omega arith) lt ∙ ap (λ (z : ℤ). option_map (λ v. v -ℤ z) (value_at r.values p)) (same p (omega arith));
     }
+
+pub numbers-all : (r new : Raster) (mesh n : ℕ) (numbers : List ℤ) → 0 < mesh → 0 < r.shape.width → IsPlane r → numbers ≡ values_of_mesh r mesh
+    → IsLessened r (number_of_cell mesh r.shape.width numbers) 0 n new → n ≡ length r.values → new ≡ residual_of r mesh true
+numbers-all r new mesh n numbers some wide plane is h e =
+    lessened-all r new mesh true n (number_of_cell mesh r.shape.width numbers) h e
+    (λ p lt. lessened-at r mesh p numbers some is (cell-inside mesh r.shape.width r.shape.height p some wide (omega arith)))
+
+pub levels-all : (r new : Raster) (mesh n : ℕ) (numbers : List ℤ) → 0 < mesh → numbers ≡ filtered_values r mesh
+    → IsLessened r (pixel_level mesh r.shape numbers) 0 n new → n ≡ length r.values → new ≡ residual_of r mesh false
+levels-all r new mesh n numbers some is h e =
+    lessened-all r new mesh false n (pixel_level mesh r.shape numbers) h e
+    (λ p lt. ap (λ (vs : List ℤ). pixel_level mesh r.shape vs p) is ∙ sym (background-smooth r mesh p some))

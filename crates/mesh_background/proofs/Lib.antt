@@ -3,6 +3,10 @@ pub mod Medians
 pub mod Extents
 pub mod Gathering
 pub mod Mapping
+pub mod Scaling
+pub mod Fitting
+pub mod Levels
+pub mod Around
 pub mod Residuals
 pub mod HalfRanges
 pub mod Lessening

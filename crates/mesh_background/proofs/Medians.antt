@@ -1,16 +1,16 @@
 -- The lower median by counts is unique, exists, and is the one that the test finds.
-use Rattle.std.proofs.Common.{◌≡◌, ℕ, ◌+◌, ◌-◌, ◌/◌, ◌<◌, ◌≤◌, zero, suc, Bool, true, false, cond, List, [], ◌∷◌, ◌++◌, length, take, drop, get_or, refl, sym, ap, subst, ◌∙◌, arith, inl, inr, IsPermutation, length-drop, get_or-take, get_or-drop, take-append-drop}
+use Rattle.std.proofs.Common.{◌≡◌, ℕ, ◌+◌, ◌-◌, ◌/◌, ◌<◌, ◌≤◌, zero, suc, Bool, true, false, cond, List, [], ◌∷◌, ◌++◌, length, take, drop, get_or, refl, sym, ap, subst, ◌∙◌, arith, inl, inr, IsPermutation, length-drop, length-append, append_assoc, get_or-take, get_or-drop, take-append-drop}
 use Rattle.std.specs.Prelude.{ℤ, pos, ◌≤ℤ◌, ◌<ℤ◌, int_lt, int_le, nat_lt, nat_le, find, Option, Some, None, Contains, IsSome, IsTrue}
 use Rattle.std.specs.List.{All}
-use Rattle.std.specs.List.Sorted.{IsSorted}
+use Rattle.std.specs.List.Sorted.{IsSplitAround}
 use Rattle.std.specs.Ordering.{int_cmp, is_lt}
 use Rattle.std.specs.declared.cmp.Ordering.TheVariants.{Less, Equal, Greater}
 use Rattle.std.proofs.lemmas.Bool.{true≢false, and_parts, and_from, ltb-true, lt-ltb, leb-true, le-leb}
 use Rattle.std.proofs.lemmas.Int.{ints, by_lt_z}
-use Rattle.std.proofs.lemmas.Cmp.{int_cmp_total}
+use Rattle.std.specs.Int.Signed.{≤ℤ_refl}
 use Rattle.std.proofs.lemmas.List.{length-take-le, get_or_default}
-use Rattle.std.proofs.lemmas.List.Elements.{All-nil, All-cons, All-weaker}
-use Rattle.std.proofs.lemmas.List.Sorted.{sorted_far, ranks_by, IsPermutation-sym, IsPermutation-trans, IsPermutation-cons, IsPermutation-middle, IsPermutation-refl, All-permutation, Contains-permutation, sum_by-IsPermutation, length_permutation}
+use Rattle.std.proofs.lemmas.List.Elements.{All-nil, All-cons, All-append, All-weaker}
+use Rattle.std.proofs.lemmas.List.Sorted.{IsPermutation-sym, IsPermutation-trans, IsPermutation-cons, IsPermutation-middle, IsPermutation-refl, All-permutation, Contains-permutation, sum_by-IsPermutation, length_permutation}
 use Rattle.comp_tree.proofs.Levels.{int_le-true, int_le-from, int_lt-true, int_lt-from, int_lt-false, int_lt-from_not_le}
 use Rattle.comp_tree.proofs.Members.{IsAmong, find_some, find_none}
 use Rattle.mesh_background.specs.Medians.{lower_half, count_less, count_up_to, IsLowerMedian, is_lower_median, lower_median}
@@ -119,32 +119,58 @@ rising-counts xs m v up some place here =
     let upto : count_up_to xs v ≡ count_up_to (take (m + 1) xs ++ drop (m + 1) xs) v = ap (λ (ys : List ℤ). count_up_to ys v) (sym (take-append-drop (m + 1) xs)) in
     record { few = omega arith; enough = omega arith }
 
--- and is the lower median of each list that was put in this order
-pub median_in_order : (xs ys : List ℤ) (m : ℕ) (v : ℤ) → IsPermutation xs ys → IsRising ys → 0 < length ys → m ≡ (length ys - 1) / 2 → ((d : ℤ) → get_or ys m d ≡ v)
-    → lower_median xs ≡ Some v
-median_in_order xs ys m v moved up some place here =
-    let counts : HasCounts ys v = rising-counts ys m v up some place here in
+-- such a member is the lower median of each list that has these members
+counted : (xs ys : List ℤ) (v : ℤ) → IsPermutation xs ys → Contains ys v → HasCounts ys v → lower_median xs ≡ Some v
+counted xs ys v moved member counts =
     let long : length ys ≡ length xs = length_permutation xs ys moved in
     let below : count_less ys v ≡ count_less xs v = sum_by-IsPermutation (λ x. cond (int_lt x v) 1 0) xs ys moved in
     let upto : count_up_to ys v ≡ count_up_to xs v = sum_by-IsPermutation (λ x. cond (int_le x v) 1 0) xs ys moved in
     let few : count_less ys v < lower_half ys = counts.few in
     let enough : lower_half ys ≤ count_up_to ys v = counts.enough in
     found-from xs v (record {
-      member = Contains-permutation ys xs v (IsPermutation-sym xs ys moved) (m, omega arith, here v);
+      member = Contains-permutation ys xs v (IsPermutation-sym xs ys moved) member;
       few_below = omega arith;
       enough = omega arith;
     })
 
--- the order of std's sort
-pub rising_from_sort : (xs : List ℤ) → IsSorted int_cmp xs → IsRising xs
-rising_from_sort xs up = record { rises = λ i j d le lt. go (get_or xs i d) (get_or xs j d) (sorted_far (λ x y. is_lt (int_cmp x y)) (ranks_by int_cmp_total (λ x. x)) xs up i j d le lt) }
+-- and is the lower median of each list that was put in this order
+pub median_in_order : (xs ys : List ℤ) (m : ℕ) (v : ℤ) → IsPermutation xs ys → IsRising ys → 0 < length ys → m ≡ (length ys - 1) / 2 → ((d : ℤ) → get_or ys m d ≡ v)
+    → lower_median xs ≡ Some v
+median_in_order xs ys m v moved up some place here = counted xs ys v moved (m, omega arith, here v) (rising-counts ys m v up some place here)
+
+-- ---- a list that is split around one member
+
+not-less : (x y : ℤ) → is_lt (int_cmp y x) ≡ false → x ≤ℤ y
+not-less x y k = by_lt_z y x (λ lt. absurd (true≢false (sym (test (int_lt y x) (int_lt x y) (int_lt-from y x lt)) ∙ k))) (λ le. le)
   where
     test : (a b : Bool) → a ≡ true → is_lt (cond a Less (cond b Greater Equal)) ≡ true
     test true b e = refl
     test false b e = absurd (true≢false (sym e))
 
-    go : (x y : ℤ) → is_lt (int_cmp y x) ≡ false → x ≤ℤ y
-    go x y k = by_lt_z y x (λ lt. absurd (true≢false (sym (test (int_lt y x) (int_lt x y) (int_lt-from y x lt)) ∙ k))) (λ le. le)
+contains-at : (front back : List ℤ) (v : ℤ) → Contains (front ++ v ∷ back) v
+contains-at [] back v = (0, omega arith, refl)
+contains-at (x ∷ xs) back v = let k : Contains (xs ++ v ∷ back) v = contains-at xs back v in (suc k.0, omega arith, k.2)
+
+-- the member at this place has the counts of the lower median, where those before are at most it and those behind at least it
+split-counts : (front back : List ℤ) (v : ℤ) → IsSplitAround int_cmp front v back → length front ≡ (length (front ++ v ∷ back) - 1) / 2 → HasCounts (front ++ v ∷ back) v
+split-counts front back v h place =
+    let behind : All (λ x. int_lt x v ≡ false) (v ∷ back) = All-cons (λ x. int_lt x v ≡ false) v back (int_lt-false v v (≤ℤ_refl v))
+    (λ k d lt. int_lt-false (get_or back k d) v (not-less v (get_or back k d) (h.1 k d lt))) in
+    let ahead : All (λ x. int_le x v ≡ true) front = λ k d lt. int_le-from (get_or front k d) v (not-less (get_or front k d) v (h.0 k d lt)) in
+    let upto : All (λ x. int_le x v ≡ true) (front ++ v ∷ []) = All-append (λ x. int_le x v ≡ true) front (v ∷ []) ahead
+    (All-cons (λ x. int_le x v ≡ true) v [] (int_le-from v v (≤ℤ_refl v)) (All-nil (λ x. int_le x v ≡ true))) in
+    let most : count_less (front ++ v ∷ back) v ≤ length front = count_most (λ x. int_lt x v) front (v ∷ back) behind in
+    let least : length (front ++ v ∷ []) ≤ count_up_to ((front ++ v ∷ []) ++ back) v = count_least (λ x. int_le x v) (front ++ v ∷ []) back upto in
+    let same : count_up_to ((front ++ v ∷ []) ++ back) v ≡ count_up_to (front ++ v ∷ back) v = ap (λ (ys : List ℤ). count_up_to ys v) (append_assoc front (v ∷ []) back) in
+    let more : length (front ++ v ∷ []) ≡ length front + 1 = length-append front (v ∷ []) in
+    record { few = omega (arith, most, place); enough = omega (arith, least, same, more, place) }
+
+pub median_from_split : (xs front back : List ℤ) (v : ℤ) → IsPermutation xs (front ++ v ∷ back) → IsSplitAround int_cmp front v back → length front ≡ (length xs - 1) / 2 → lower_median xs ≡ Some v
+median_from_split xs front back v moved h place =
+    let ys : List ℤ = front ++ v ∷ back in
+    let long : length ys ≡ length xs = length_permutation xs ys moved in
+    let counts : HasCounts ys v = split-counts front back v h (place ∙ ap (λ (n : ℕ). (n - 1) / 2) (sym long)) in
+    counted xs ys v moved (contains-at front back v) counts
 
 -- ---- each list can be put in order
 

@@ -2,55 +2,59 @@
 use Rattle.std.proofs.Common.{◌≡◌, ℕ, ◌+◌, ◌<◌, ◌≤◌, ◌*◌, ◌/◌, ◌%◌, zero, suc, Bool, true, false, cond, List, [], ◌∷◌, length, map, get_or, set, refl, sym, ap, subst, ◌∙◌, arith, ◌⊎◌, inl, inr, get_or-set_other, get_or-set_same}
 use Rattle.std.specs.Prelude.{◌==◌, ◌^◌, ℤ, pos, negsuc, unsigned_abs, ◌-ℤ◌, filter, slice_get, Option, Some, None, unwrap_or, is_some, All}
 use Rattle.std.specs.Option.{option_map}
-use Rattle.std.specs.List.{range_with_len}
-use Rattle.std.proofs.lemmas.Bool.{true≢false, cases_lt, ne_eqb}
+use Rattle.std.specs.List.{range_with_len, flat_map}
+use Rattle.std.proofs.lemmas.Bool.{true≢false, cases_lt, ne_eqb, eq-eqb}
 use Rattle.std.proofs.Math.ListN.{length-set}
 use Rattle.std.proofs.lemmas.Int.{ints, to_z-of_z, fits_signed_from_abs}
 use mir.Syntax.{w64}
 use mir.Val.{SFits, of_z, to_z}
-use Rattle.std.proofs.lemmas.List.{length-map}
-use Rattle.std.proofs.lemmas.List.Elements.{All-map, All-weaker, All-contains, filter_passes}
+use Rattle.std.proofs.lemmas.List.{length-map, get_or_past}
+use Rattle.std.proofs.lemmas.List.Elements.{All-nil, All-append, All-map, All-weaker, All-contains, filter_passes}
 use Rattle.std.proofs.lemmas.List.FromFn.{fill_by_all, get_or-map-range_with_len, length-map-range_with_len}
 use Rattle.std.proofs.lemmas.Nat.{div-mul-add, mod-mul-add}
-use Rattle.comp_tree.specs.Limits.{IsWithinRange}
+use Rattle.comp_tree.specs.Limits.{IsWithinRange, IsInHalfRange}
+use Rattle.comp_tree.specs.declared.shape.Shape.{Shape}
 use Rattle.comp_tree.specs.Raster.{Raster, pixels, value_at, is_defined, level}
 use Rattle.comp_tree.proofs.Finding.{length-pixels}
 use Rattle.comp_tree.proofs.OneTree.{IsImage, get_from_map, get-pixels}
 use Rattle.mesh_background.specs.Medians.{IsLowerMedian, lower_median}
 use Rattle.mesh_background.specs.Mesh.{cells_along, cell_count, mesh_cell_of, cell_pixels, defined_values, image_value, mesh_value, values_of_mesh}
-use Rattle.comp_tree.specs.Limits.{IsInHalfRange}
 use Rattle.comp_tree.specs.Raster.{HasValuesInHalfRange}
-use Rattle.mesh_background.specs.Residuals.{background, residual_at, residual_of, IsWritten}
+use Rattle.mesh_background.specs.Lessened.{IsWritten}
+use Rattle.mesh_background.specs.Smoothing.{number_in_grid, places_around, numbers_around, filtered_number, filtered_mesh}
+use Rattle.mesh_background.specs.Interpolation.{interpolated}
+use Rattle.mesh_background.specs.Residuals.{filtered_values, pixel_level, background, residual_at, residual_of}
 use Rattle.mesh_background.specs.Laws.{NoMeshLeavesThePlane, ResidualIsPlane, ResidualIsInRange}
 use Rattle.mesh_background.proofs.Medians.{the_one}
+use Rattle.mesh_background.proofs.Levels.{half-zero, half-number, half-interpolated}
 
 -- ---- without a mesh
 
-none-less : (r : Raster) (p : ℕ) → background r 0 p ≡ pos 0
+none-less : (r : Raster) (flat : Bool) (p : ℕ) → background r 0 flat p ≡ pos 0
 unfolding background
-none-less r p = refl
+none-less r flat p = refl
 
 less-nothing : (v b : ℤ) → b ≡ pos 0 → v -ℤ b ≡ v
 less-nothing v b e = omega (arith, ints)
 
-residual-none : (r : Raster) (p : ℕ) → value_at r.values p ≡ residual_at r 0 p
+residual-none : (r : Raster) (flat : Bool) (p : ℕ) → value_at r.values p ≡ residual_at r 0 flat p
 unfolding residual_at
-residual-none r p = go (value_at r.values p)
+residual-none r flat p = go (value_at r.values p)
   where
-    go : (o : Option ℤ) → o ≡ option_map (λ v. v -ℤ background r 0 p) o
+    go : (o : Option ℤ) → o ≡ option_map (λ v. v -ℤ background r 0 flat p) o
     go None = refl
-    go (Some v) = ap Some (sym (less-nothing v (background r 0 p) (none-less r p)))
+    go (Some v) = ap Some (sym (less-nothing v (background r 0 flat p) (none-less r flat p)))
 
 pub no_mesh : NoMeshLeavesThePlane
 unfolding residual_of pixels
-no_mesh r = ap (λ (vs : List (Option ℤ)). let s : Raster = record { shape = r.shape; values = vs } in s)
-    (sym (fill_by_all (residual_at r 0) r.values (length r.values) None refl (λ k lt. residual-none r k)))
+no_mesh r flat = ap (λ (vs : List (Option ℤ)). let s : Raster = record { shape = r.shape; values = vs } in s)
+    (sym (fill_by_all (residual_at r 0 flat) r.values (length r.values) None refl (λ k lt. residual-none r flat k)))
 
 -- ---- its values
 
 pub is_plane : ResidualIsPlane
 unfolding residual_of
-is_plane r mesh h = length-map (pixels r) (residual_at r mesh) ∙ length-pixels r ∙ h
+is_plane r mesh flat h = length-map (pixels r) (residual_at r mesh flat) ∙ length-pixels r ∙ h
 
 get_from_read : (xs : List (Option ℤ)) (p : ℕ) (v : ℤ) → get_or xs p None ≡ Some v → slice_get xs p ≡ Some (Some v)
 get_from_read [] p v e = absurd (no_element e)
@@ -70,9 +74,6 @@ half-level r p h d = go (value_at r.values p) refl d
     go : (o : Option ℤ) → value_at r.values p ≡ o → is_some o ≡ true → IsInHalfRange (unwrap_or o (pos 0))
     go None e d = absurd (true≢false (sym d))
     go (Some v) e d = half-of r p v h e
-
-half-zero : IsInHalfRange (pos 0)
-half-zero = record { low = omega (arith, ints); high = omega (arith, ints) }
 
 half-defined : (r : Raster) (ps : List ℕ) → HasValuesInHalfRange r.values → All IsInHalfRange (defined_values r ps)
 unfolding defined_values
@@ -94,13 +95,47 @@ pub half-mesh : (r : Raster) (mesh k : ℕ) → HasValuesInHalfRange r.values �
 unfolding mesh_value
 half-mesh r mesh k h = half-median (defined_values r (cell_pixels r mesh k)) (image_value r) (half-defined r (cell_pixels r mesh k) h) (half-image r h)
 
-half-background : (r : Raster) (mesh p : ℕ) → HasValuesInHalfRange r.values → IsInHalfRange (background r mesh p)
+-- ---- the filtered numbers and the levels between them
+
+pub half-values : (r : Raster) (mesh : ℕ) → HasValuesInHalfRange r.values → All IsInHalfRange (values_of_mesh r mesh)
+unfolding values_of_mesh
+half-values r mesh h = All-map IsInHalfRange (mesh_value r mesh) (range_with_len 0 (cell_count mesh r.shape)) (λ k d lt. half-mesh r mesh _ h)
+
+All-each : {X : Type 0} (f : X → List ℤ) (xs : List X) → ((x : X) → All IsInHalfRange (f x)) → All IsInHalfRange (flat_map f xs)
+All-each f [] h = All-nil IsInHalfRange
+All-each f (x ∷ xs) h = All-append IsInHalfRange (f x) (flat_map f xs) (h x) (All-each f xs h)
+
+half-filtered : (values : List ℤ) (columns rows n : ℕ) → All IsInHalfRange values → IsInHalfRange (filtered_number values columns rows n)
+unfolding filtered_number numbers_around
+half-filtered values columns rows n all = half-median (numbers_around values columns rows (n % columns) (n / columns)) (pos 0)
+    (All-each (λ l. map (λ k. number_in_grid values columns k l) (places_around columns (n % columns))) (places_around rows (n / columns))
+    (λ l. All-map IsInHalfRange (λ k. number_in_grid values columns k l) (places_around columns (n % columns)) (λ k d lt. half-number values columns _ l all))) half-zero
+
+pub half-smooth : (r : Raster) (mesh : ℕ) → HasValuesInHalfRange r.values → All IsInHalfRange (filtered_values r mesh)
+unfolding filtered_values filtered_mesh
+half-smooth r mesh h =
+    let columns : ℕ = cells_along mesh r.shape.width in
+    let rows : ℕ = cells_along mesh r.shape.height in
+    All-map IsInHalfRange (filtered_number (values_of_mesh r mesh) columns rows) (range_with_len 0 (columns * rows))
+    (λ k d lt. half-filtered (values_of_mesh r mesh) columns rows _ (half-values r mesh h))
+
+pub half-pixel_level : (mesh : ℕ) (shape : Shape) (values : List ℤ) (p : ℕ) → 0 < mesh → All IsInHalfRange values → IsInHalfRange (pixel_level mesh shape values p)
+unfolding pixel_level
+half-pixel_level mesh shape values p some all =
+    half-interpolated values (cells_along mesh shape.width) (cells_along mesh shape.height) mesh (p % shape.width) (p / shape.width) some all
+
+half-background : (r : Raster) (mesh : ℕ) (flat : Bool) (p : ℕ) → HasValuesInHalfRange r.values → IsInHalfRange (background r mesh flat p)
 unfolding background
-half-background r mesh p h = go (mesh == 0)
+half-background r mesh flat p h = go (cases_lt 0 mesh) flat
   where
-    go : (b : Bool) → IsInHalfRange (cond b (pos 0) (mesh_value r mesh (mesh_cell_of mesh r.shape.width p)))
-    go true = half-zero
-    go false = half-mesh r mesh (mesh_cell_of mesh r.shape.width p) h
+    go : (0 < mesh) ⊎ (mesh ≤ 0) → (f : Bool) → IsInHalfRange (cond (mesh == 0) (pos 0) (cond f (mesh_value r mesh (mesh_cell_of mesh r.shape.width p)) (pixel_level mesh r.shape (filtered_values r mesh) p)))
+    go (inr none) f = let e : mesh ≡ 0 = omega arith in
+        subst (λ (b : Bool). IsInHalfRange (cond b (pos 0) (cond f (mesh_value r mesh (mesh_cell_of mesh r.shape.width p)) (pixel_level mesh r.shape (filtered_values r mesh) p)))) (sym (eq-eqb mesh 0 e)) half-zero
+    go (inl some) true =
+        subst (λ (b : Bool). IsInHalfRange (cond b (pos 0) (mesh_value r mesh (mesh_cell_of mesh r.shape.width p)))) (sym (ne_eqb mesh 0 (λ e. absurd (omega arith)))) (half-mesh r mesh (mesh_cell_of mesh r.shape.width p) h)
+    go (inl some) false =
+        subst (λ (b : Bool). IsInHalfRange (cond b (pos 0) (pixel_level mesh r.shape (filtered_values r mesh) p))) (sym (ne_eqb mesh 0 (λ e. absurd (omega arith))))
+        (half-pixel_level mesh r.shape (filtered_values r mesh) p some (half-smooth r mesh h))
 
 -- the difference of two numbers in half of the range is in the range
 pub within_range : (v b : ℤ) → IsInHalfRange v → IsInHalfRange b → IsWithinRange (v -ℤ b)
@@ -111,25 +146,25 @@ within_range v b h k =
     let bh : _ = k.high in
     record { low = omega (arith, ints); high = omega (arith, ints) }
 
-pub in_range-at : (r : Raster) (mesh p : ℕ) (v : ℤ) → HasValuesInHalfRange r.values → residual_at r mesh p ≡ Some v → IsWithinRange v
+in_range-at : (r : Raster) (mesh : ℕ) (flat : Bool) (p : ℕ) (v : ℤ) → HasValuesInHalfRange r.values → residual_at r mesh flat p ≡ Some v → IsWithinRange v
 unfolding residual_at
-in_range-at r mesh p v h e = go (value_at r.values p) refl e
+in_range-at r mesh flat p v h e = go (value_at r.values p) refl e
   where
     no_element : None ≡ Some v → ⊥
     no_element e = cc
 
-    go : (o : Option ℤ) → value_at r.values p ≡ o → option_map (λ w. w -ℤ background r mesh p) o ≡ Some v → IsWithinRange v
+    go : (o : Option ℤ) → value_at r.values p ≡ o → option_map (λ w. w -ℤ background r mesh flat p) o ≡ Some v → IsWithinRange v
     go None u f = absurd (no_element f)
     go (Some w) u f =
-        let same : w -ℤ background r mesh p ≡ v = cc in
-        subst IsWithinRange same (within_range w (background r mesh p) (half-of r p w h u) (half-background r mesh p h))
+        let same : w -ℤ background r mesh flat p ≡ v = cc in
+        subst IsWithinRange same (within_range w (background r mesh flat p) (half-of r p w h u) (half-background r mesh flat p h))
 
 pub in_range : ResidualIsInRange
 unfolding residual_of
-in_range r mesh h p v e =
-    let image : IsImage (residual_at r mesh) (pixels r) p (Some v) = get_from_map (residual_at r mesh) (pixels r) p (Some v) e in
+in_range r mesh flat h p v e =
+    let image : IsImage (residual_at r mesh flat) (pixels r) p (Some v) = get_from_map (residual_at r mesh flat) (pixels r) p (Some v) e in
     let place : image.it ≡ p = get-pixels r p image.it image.at in
-    in_range-at r mesh p v h (subst (λ q. residual_at r mesh q ≡ Some v) place image.gives)
+    in_range-at r mesh flat p v h (subst (λ q. residual_at r mesh flat q ≡ Some v) place image.gives)
 
 -- ---- planes that are written pixel by pixel
 
@@ -165,11 +200,11 @@ copy-all r new n h le = written-all r new (value_at r.values) n h le
     ∙ ap (λ (vs : List (Option ℤ)). let s : Raster = record { shape = r.shape; values = vs } in s)
     (sym (fill_by_all (value_at r.values) r.values (length r.values) None refl (λ k lt. refl)))
 
-pub residual-all : (r new : Raster) (mesh n : ℕ) → IsWritten r (residual_at r mesh) n new → length r.values ≤ n → new ≡ residual_of r mesh
+pub residual-all : (r new : Raster) (mesh : ℕ) (flat : Bool) (n : ℕ) → IsWritten r (residual_at r mesh flat) n new → length r.values ≤ n → new ≡ residual_of r mesh flat
 unfolding residual_of
-residual-all r new mesh n h le = written-all r new (residual_at r mesh) n h le
+residual-all r new mesh flat n h le = written-all r new (residual_at r mesh flat) n h le
 
--- ---- the background of one pixel, as it is read
+-- ---- the background of one pixel
 
 pub cell-number : (mesh width x y : ℕ) → x < width → mesh_cell_of mesh width (y * width + x) ≡ y / mesh * cells_along mesh width + x / mesh
 unfolding mesh_cell_of
@@ -177,32 +212,45 @@ cell-number mesh width x y lt =
     ap (λ (q : ℕ). q / mesh * cells_along mesh width + (y * width + x) % width / mesh) (div-mul-add y width x lt)
     ∙ ap (λ (q : ℕ). y / mesh * cells_along mesh width + q / mesh) (mod-mul-add y width x lt)
 
-pub background-some : (r : Raster) (mesh p : ℕ) → 0 < mesh → background r mesh p ≡ mesh_value r mesh (mesh_cell_of mesh r.shape.width p)
+pub background-flat : (r : Raster) (mesh p : ℕ) → 0 < mesh → background r mesh true p ≡ mesh_value r mesh (mesh_cell_of mesh r.shape.width p)
 unfolding background
-background-some r mesh p some = ap (λ (b : Bool). cond b (pos 0) (mesh_value r mesh (mesh_cell_of mesh r.shape.width p))) (ne_eqb mesh 0 (λ e. absurd (omega arith)))
+background-flat r mesh p some = ap (λ (b : Bool). cond b (pos 0) (mesh_value r mesh (mesh_cell_of mesh r.shape.width p))) (ne_eqb mesh 0 (λ e. absurd (omega arith)))
 
-pub background-read : (r : Raster) (mesh columns x y : ℕ) (values : List ℤ) (d : ℤ) → 0 < mesh → columns ≡ cells_along mesh r.shape.width → values ≡ values_of_mesh r mesh → x < r.shape.width
-    → y / mesh * columns + x / mesh < cell_count mesh r.shape → get_or values (y / mesh * columns + x / mesh) d ≡ background r mesh (y * r.shape.width + x)
-unfolding values_of_mesh
-background-read r mesh columns x y values d some c is xl kl =
-    let k : ℕ = y / mesh * columns + x / mesh in
-    ap (λ (vs : List ℤ). get_or vs k d) is ∙ get_or-map-range_with_len (mesh_value r mesh) 0 (cell_count mesh r.shape) k k d kl (omega arith)
-    ∙ ap (λ (n : ℕ). mesh_value r mesh (y / mesh * n + x / mesh)) c
-    ∙ ap (mesh_value r mesh) (sym (cell-number mesh r.shape.width x y xl)) ∙ sym (background-some r mesh (y * r.shape.width + x) some)
+pub background-smooth : (r : Raster) (mesh p : ℕ) → 0 < mesh → background r mesh false p ≡ pixel_level mesh r.shape (filtered_values r mesh) p
+unfolding background
+background-smooth r mesh p some = ap (λ (b : Bool). cond b (pos 0) (pixel_level mesh r.shape (filtered_values r mesh) p)) (ne_eqb mesh 0 (λ e. absurd (omega arith)))
 
 pub length-values : (r : Raster) (mesh : ℕ) → length (values_of_mesh r mesh) ≡ cell_count mesh r.shape
 unfolding values_of_mesh
 length-values r mesh = length-map-range_with_len (mesh_value r mesh) 0 (cell_count mesh r.shape)
 
-pub residual-none_at : (r : Raster) (mesh p : ℕ) → None ≡ value_at r.values p → None ≡ residual_at r mesh p
-unfolding residual_at
-residual-none_at r mesh p e = ap (option_map (λ v. v -ℤ background r mesh p)) e
+pub length-smooth : (r : Raster) (mesh : ℕ) → length (filtered_values r mesh) ≡ cell_count mesh r.shape
+unfolding filtered_values filtered_mesh
+length-smooth r mesh =
+    let columns : ℕ = cells_along mesh r.shape.width in
+    let rows : ℕ = cells_along mesh r.shape.height in
+    length-map-range_with_len (filtered_number (values_of_mesh r mesh) columns rows) 0 (columns * rows)
 
-pub residual-some_at : (r : Raster) (mesh p : ℕ) (v b : ℤ) → Some v ≡ value_at r.values p → b ≡ background r mesh p → Some (v -ℤ b) ≡ residual_at r mesh p
-unfolding residual_at
-residual-some_at r mesh p v b e f = ap (λ (z : ℤ). Some (v -ℤ z)) f ∙ ap (option_map (λ w. w -ℤ background r mesh p)) e
+-- ---- the grid of the code
 
--- ---- the subtraction, as the code computes it
+-- the numbers of the mesh, with a grid that was made for it
+pub record IsGridOf (r : Raster) (mesh : ℕ) (shape : Shape) (columns rows : ℕ) : Type 0 where
+  pub shape_is : shape ≡ r.shape
+  pub columns_is : columns ≡ cells_along mesh shape.width
+  pub rows_is : rows ≡ cells_along mesh shape.height
+
+pub grid-count : (r : Raster) (mesh : ℕ) (shape : Shape) (columns rows : ℕ) (values : List ℤ) → IsGridOf r mesh shape columns rows → values ≡ values_of_mesh r mesh → length values ≡ columns * rows
+grid-count r mesh shape columns rows values h is =
+    ap (λ (vs : List ℤ). length vs) is ∙ length-values r mesh ∙ (λ i. cell_count mesh (sym h.shape_is i)) ∙ (λ i. sym h.columns_is i * sym h.rows_is i)
+
+pub grid-smooth : (r : Raster) (mesh : ℕ) (shape : Shape) (columns rows : ℕ) (values smooth : List ℤ) → IsGridOf r mesh shape columns rows → values ≡ values_of_mesh r mesh
+    → smooth ≡ filtered_mesh values columns rows → smooth ≡ filtered_values r mesh
+unfolding filtered_values
+grid-smooth r mesh shape columns rows values smooth h is e =
+    e ∙ (λ i. filtered_mesh (is i) (h.columns_is i) (h.rows_is i))
+    ∙ (λ i. filtered_mesh (values_of_mesh r mesh) (cells_along mesh (h.shape_is i).width) (cells_along mesh (h.shape_is i).height))
+
+-- ---- numbers that fit
 
 pub half-fits : (v : ℤ) → IsInHalfRange v → SFits w64 v
 half-fits v h = fits_signed_from_abs w64 v (go v h)
@@ -210,46 +258,3 @@ half-fits v h = fits_signed_from_abs w64 v (go v h)
     go : (z : ℤ) → IsInHalfRange z → unsigned_abs z < 2 ^ 63
     go (pos n) k = let high : _ = k.high in omega (arith, ints)
     go (negsuc n) k = let low : _ = k.low in omega (arith, ints)
-
-range-fits : (v : ℤ) → IsWithinRange v → SFits w64 v
-range-fits v h = fits_signed_from_abs w64 v (go v h)
-  where
-    go : (z : ℤ) → IsWithinRange z → unsigned_abs z < 2 ^ 63
-    go (pos n) k = let high : _ = k.high in omega (arith, ints)
-    go (negsuc n) k = let low : _ = k.low in omega (arith, ints)
-
--- a defined pixel and its background
-pub record IsRead (r : Raster) (mesh p : ℕ) (v b : ℤ) : Type 0 where
-  pub value : Some v ≡ value_at r.values p
-  pub less : b ≡ background r mesh p
-  pub half : HasValuesInHalfRange r.values
-
-read-range : (r : Raster) (mesh p : ℕ) (v b : ℤ) → IsRead r mesh p v b → IsWithinRange (v -ℤ b)
-read-range r mesh p v b h = in_range-at r mesh p (v -ℤ b) h.half (sym (residual-some_at r mesh p v b h.value h.less))
-
-read-operands : (r : Raster) (mesh p : ℕ) (v b : ℤ) → IsRead r mesh p v b → to_z w64 (of_z w64 v) -ℤ to_z w64 (of_z w64 b) ≡ v -ℤ b
-read-operands r mesh p v b h =
-    ap (λ (z : ℤ). z -ℤ to_z w64 (of_z w64 b)) (to_z-of_z w64 v (half-fits v (half-of r p v h.half (sym h.value))))
-    ∙ ap (λ (z : ℤ). v -ℤ z) (to_z-of_z w64 b (half-fits b (subst IsInHalfRange (sym h.less) (half-background r mesh p h.half))))
-
-pub difference-fits : (r : Raster) (mesh p : ℕ) (v b : ℤ) → IsRead r mesh p v b → SFits w64 (to_z w64 (of_z w64 v) -ℤ to_z w64 (of_z w64 b))
-difference-fits r mesh p v b h = subst (λ (z : ℤ). SFits w64 z) (sym (read-operands r mesh p v b h)) (range-fits (v -ℤ b) (read-range r mesh p v b h))
-
-difference-is : (r : Raster) (mesh p : ℕ) (v b : ℤ) → IsRead r mesh p v b → to_z w64 (of_z w64 (to_z w64 (of_z w64 v) -ℤ to_z w64 (of_z w64 b))) ≡ v -ℤ b
-difference-is r mesh p v b h = to_z-of_z w64 (to_z w64 (of_z w64 v) -ℤ to_z w64 (of_z w64 b)) (difference-fits r mesh p v b h) ∙ read-operands r mesh p v b h
-
-pub difference-residual : (r : Raster) (mesh p : ℕ) (v b : ℤ) → IsRead r mesh p v b → Some (to_z w64 (of_z w64 (to_z w64 (of_z w64 v) -ℤ to_z w64 (of_z w64 b)))) ≡ residual_at r mesh p
-difference-residual r mesh p v b h = ap Some (difference-is r mesh p v b h) ∙ residual-some_at r mesh p v b h.value h.less
-
-pub difference-range : (r : Raster) (mesh p : ℕ) (v b : ℤ) → IsRead r mesh p v b → IsWithinRange (to_z w64 (of_z w64 (to_z w64 (of_z w64 v) -ℤ to_z w64 (of_z w64 b))))
-difference-range r mesh p v b h = subst IsWithinRange (sym (difference-is r mesh p v b h)) (read-range r mesh p v b h)
-
--- a pixel whose cell's number was looked up
-pub read-is : (r : Raster) (mesh columns x y k : ℕ) (values : List ℤ) (v d : ℤ) → 0 < mesh → columns ≡ cells_along mesh r.shape.width → values ≡ values_of_mesh r mesh → x < r.shape.width
-    → k ≡ y / mesh * columns + x / mesh → k < cell_count mesh r.shape → HasValuesInHalfRange r.values → Some v ≡ value_at r.values (y * r.shape.width + x)
-    → IsRead r mesh (y * r.shape.width + x) v (get_or values k d)
-read-is r mesh columns x y k values v d some c is xl place lt h e = record {
-  value = e;
-  less = ap (λ (n : ℕ). get_or values n d) place ∙ background-read r mesh columns x y values d some c is xl (subst (λ (n : ℕ). n < cell_count mesh r.shape) place lt);
-  half = h;
-}

@@ -1,8 +1,9 @@
--- The laws of the lower median, of the cells and of the residual.
-use Rattle.std.specs.Prelude.{◌≡◌, ◌↔◌, ℕ, ◌/◌, ◌%◌, ◌<◌, ℤ, List, length, Some, IsSome}
+-- Model: the laws of the lower median, of the cells, of the interpolation and of the residual.
+use Rattle.std.specs.Prelude.{◌≡◌, ◌↔◌, ℕ, ◌+◌, ◌*◌, ◌/◌, ◌%◌, ◌<◌, Bool, ℤ, ◌≤ℤ◌, List, length, Some, IsSome, All}
 use Rattle.comp_tree.specs.Raster.{Raster, IsPlane, HasValuesInRange, HasValuesInHalfRange}
 use Rattle.mesh_background.specs.Medians.{IsLowerMedian, lower_median}
 use Rattle.mesh_background.specs.Mesh.{mesh_cell_of}
+use Rattle.mesh_background.specs.Interpolation.{pixel_centre, cell_centre, next_cell, past_centre, interpolated}
 use Rattle.mesh_background.specs.Residuals.{residual_of}
 
 -- the lower median of a list is the one number that is so by the counts
@@ -18,14 +19,25 @@ abbrev pub CellsAreSquares : Type 0
 CellsAreSquares = (mesh width p q : ℕ) → 0 < mesh → 0 < width
     → (mesh_cell_of mesh width p ≡ mesh_cell_of mesh width q) ↔ ((p % width / mesh ≡ q % width / mesh) × (p / width / mesh ≡ q / width / mesh))
 
+-- the centre of pixel x lies from that of the cell before its next one up to that of the next one
+abbrev pub PixelsLieBetweenCentres : Type 0
+PixelsLieBetweenCentres = (mesh x : ℕ) → 0 < mesh
+    → (cell_centre mesh (next_cell mesh x) + past_centre mesh x ≡ pixel_centre x + 2 * mesh) × (past_centre mesh x < 2 * mesh)
+
+-- where each number of a grid is from low to high, so is each level between them
+abbrev pub LevelsStayBetween : Type 0
+LevelsStayBetween = (values : List ℤ) (columns rows mesh x y : ℕ) (low high : ℤ) → 0 < columns → 0 < rows → length values ≡ columns * rows → 0 < mesh
+    → All (λ v. (low ≤ℤ v) × (v ≤ℤ high)) values
+    → (low ≤ℤ interpolated values columns rows mesh x y) × (interpolated values columns rows mesh x y ≤ℤ high)
+
 -- without a mesh the residual is the plane
 abbrev pub NoMeshLeavesThePlane : Type 0
-NoMeshLeavesThePlane = (r : Raster) → residual_of r 0 ≡ r
+NoMeshLeavesThePlane = (r : Raster) (flat : Bool) → residual_of r 0 flat ≡ r
 
 -- the residual of a plane has one value for each pixel
 abbrev pub ResidualIsPlane : Type 0
-ResidualIsPlane = (r : Raster) (mesh : ℕ) → IsPlane r → IsPlane (residual_of r mesh)
+ResidualIsPlane = (r : Raster) (mesh : ℕ) (flat : Bool) → IsPlane r → IsPlane (residual_of r mesh flat)
 
 -- and values within the range of pixels, where those of the plane are within half of it
 abbrev pub ResidualIsInRange : Type 0
-ResidualIsInRange = (r : Raster) (mesh : ℕ) → HasValuesInHalfRange r.values → HasValuesInRange (residual_of r mesh).values
+ResidualIsInRange = (r : Raster) (mesh : ℕ) (flat : Bool) → HasValuesInHalfRange r.values → HasValuesInRange (residual_of r mesh flat).values

@@ -1,4 +1,4 @@
--- The lower median of whole numbers, by counts of the members that are less than it and of those that are no greater.
+-- Model: the lower median of whole numbers, by counts of the members that are less than it and of those that are no greater.
 use Rattle.std.specs.Prelude.{ℕ, ◌+◌, ◌-◌, ◌/◌, ◌<◌, ◌≤◌, Bool, ◌&&◌, nat_lt, nat_le, ℤ, int_lt, int_le, List, length, count_by, find, Option, Contains}
 
 -- one more than half of the members that are left when one is taken away, where the half is rounded down

@@ -1,4 +1,4 @@
--- A mesh of size M cuts an image from pixel 0 into cells of M by M pixels. The last cells of a row or a column may be short.
+-- Model: a mesh of size M cuts an image from pixel 0 into cells of M by M pixels. The last cells of a row or a column may be short.
 use Rattle.std.specs.Prelude.{◌≡◌, ℕ, ◌+◌, ◌-◌, ◌*◌, ◌/◌, ◌%◌, ◌<◌, min, ◌==◌, ℤ, pos, List, map, filter, unwrap_or}
 use Rattle.std.specs.List.{range_with_len}
 use Rattle.comp_tree.specs.declared.shape.Shape.{Shape}
@@ -16,16 +16,6 @@ cell_count mesh shape = cells_along mesh shape.width * cells_along mesh shape.he
 -- the cell of pixel p. Cells are numbered row by row, from 0
 unfoldable pub mesh_cell_of : ℕ → ℕ → ℕ → ℕ
 mesh_cell_of mesh width p = p / width / mesh * cells_along mesh width + p % width / mesh
-
--- the bounds of cell k in an image of this width and height: it has the columns from left up to right and the rows from top
--- up to bottom, and at least one of each
-pub record IsCell (mesh width height k left right top bottom : ℕ) : Type 0 where
-  pub left_is : left ≡ k % cells_along mesh width * mesh
-  pub right_is : right ≡ min (left + mesh) width
-  pub top_is : top ≡ k / cells_along mesh width * mesh
-  pub bottom_is : bottom ≡ min (top + mesh) height
-  pub some_columns : left < right
-  pub some_rows : top < bottom
 
 -- the pixels of a cell, in rising order
 unfoldable pub cell_pixels : Raster → ℕ → ℕ → List ℕ

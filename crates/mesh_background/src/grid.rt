@@ -1,7 +1,8 @@
 //! The cells of a mesh over an image.
 
 ghost use Rattle.std.specs.Prelude.{◌≡◌, ◌+◌, ◌-◌, ◌*◌, ◌/◌, ◌%◌, ◌<◌, ◌≤◌, ◌^◌};
-ghost use Rattle.mesh_background.specs.Mesh.{cells_along, cell_count, IsCell};
+ghost use Rattle.mesh_background.specs.Bounds.{IsCell};
+ghost use Rattle.mesh_background.specs.Mesh.{cells_along, cell_count};
 
 use comp_tree::Shape;
 
@@ -11,9 +12,11 @@ pub(crate) struct Grid {
     pub(crate) shape: Shape,
     pub(crate) mesh: u32,
     pub(crate) columns: u32,
+    pub(crate) rows: u32,
     pub ghost some: { 0 < mesh },
     pub ghost few: { mesh ≤ 65535 },
     pub ghost columns_is: { columns ≡ cells_along mesh shape.width },
+    pub ghost rows_is: { rows ≡ cells_along mesh shape.height },
 }
 
 /// The pixels of one cell: those in the columns from `left` up to `right` and in the rows from `top` up to `bottom`.
@@ -36,6 +39,7 @@ impl Grid {
             shape,
             mesh,
             columns: cells_over(mesh, shape.width),
+            rows: cells_over(mesh, shape.height),
         }
     }
 
@@ -44,7 +48,7 @@ impl Grid {
         ensures count { result ≡ cell_count self.now.mesh self.now.shape }
         ensures few { result ≤ 2 ^ 24 }
     {
-        self.columns * cells_over(self.mesh, self.shape.height)
+        self.columns * self.rows
     }
 
     /// The pixels of a cell. Those at the right and at the bottom may be short.
@@ -61,17 +65,6 @@ impl Grid {
             top,
             bottom: (top + self.mesh).min(self.shape.height),
         }
-    }
-
-    /// The cell of the pixel in column `x` of row `y`.
-    #[inline]
-    pub(crate) fn cell_at(&self, x: u32, y: u32) -> u32
-        requires column { x < self.now.shape.width }
-        requires row { y < self.now.shape.height }
-        ensures place { result ≡ y / self.now.mesh * self.now.columns + x / self.now.mesh }
-        ensures cell { result < cell_count self.now.mesh self.now.shape }
-    {
-        y / self.mesh * self.columns + x / self.mesh
     }
 }
 

@@ -1,7 +1,7 @@
-//! The laws of the lower median, of the cells and of the residual. Each part is the contract of a function that does nothing, and speaks of
+//! The laws of the lower median, of the cells, of the interpolation and of the residual. Each part is the contract of a function that does nothing, and speaks of
 //! the definitions alone.
 
-ghost use Rattle.mesh_background.specs.Laws.{LowerMedianIsTheOne, SomeMemberIsLowerMedian, CellsAreSquares, NoMeshLeavesThePlane, ResidualIsPlane, ResidualIsInRange};
+ghost use Rattle.mesh_background.specs.Laws.{LowerMedianIsTheOne, SomeMemberIsLowerMedian, CellsAreSquares, PixelsLieBetweenCentres, LevelsStayBetween, NoMeshLeavesThePlane, ResidualIsPlane, ResidualIsInRange};
 
 /// A list that isn't empty has exactly one lower median.
 pub fn each_list_has_one_lower_median()
@@ -14,6 +14,16 @@ pub fn each_list_has_one_lower_median()
 #[tactic(auto, using(crate::proofs::Extents::cells_are_squares))]
 pub fn cells_are_squares()
     ensures { CellsAreSquares }
+{}
+
+/// A pixel's centre lies from the centre of one cell up to that of the next one, however far the grid goes.
+pub fn pixels_lie_between_centres()
+    ensures { PixelsLieBetweenCentres }
+{}
+
+/// A level lies between the least and the greatest number of the grid: the interpolation makes no new extremes.
+pub fn levels_stay_between()
+    ensures { LevelsStayBetween }
 {}
 
 /// Without a mesh the residual is the plane itself.

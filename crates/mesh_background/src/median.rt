@@ -3,14 +3,15 @@
 ghost use Rattle.std.specs.Prelude.{◌≡◌};
 ghost use Rattle.mesh_background.specs.Medians.{lower_median as lower_median_of};
 
-/// The lower median of some numbers, which are put in order, or `None` of no numbers: of `n` the one at place
-/// `(n - 1) / 2`, from 0, in rising order.
+/// The lower median of some numbers, whose order changes, or `None` of no numbers: of `n` the one that would stand at place
+/// `(n - 1) / 2`, from 0, in rising order. To select it costs less than to put all in order.
 pub(crate) fn lower_median(members: &mut [i64]) -> Option<i64>
     ensures { result ≡ lower_median_of members.old }
 {
     if members.is_empty() {
         return None;
     }
-    members.sort_unstable();
-    Some(members[(members.len() - 1) / 2])
+    let middle = (members.len() - 1) / 2;
+    let (_lesser, median, _greater) = members.select_nth_unstable(middle);
+    Some(*median)
 }

@@ -1,10 +1,9 @@
 //! Small planes under meshes with full, short and empty cells.
 
 ghost use Rattle.std.specs.Prelude.{IfOk};
-ghost use Rattle.comp_tree.specs.Raster.{Raster};
-ghost use Rattle.comp_tree.specs.Raster.{HasValuesInHalfRange};
+ghost use Rattle.comp_tree.specs.Raster.{Raster, HasValuesInHalfRange};
 
-use crate::{mesh_values, residual, subtract_background};
+use crate::{level_at, mesh_values, residual, smooth_mesh, subtract_background};
 use comp_tree::{Plane, Shape};
 use std::alloc::Global;
 use std::process::Abort;
@@ -44,12 +43,13 @@ fn try_residual<R: Threads + Sync + Abort>(
     alloc: Global,
     plane: &Plane,
     mesh: u32,
+    flat: bool,
     wanted: &[i64],
 ) -> Result<(), Fail>
     requires { HasValuesInHalfRange plane.now.values }
 {
     assert!(rt; mesh <= 9);
-    let left = residual(rt, alloc, plane, mesh)?;
+    let left = residual(rt, alloc, plane, mesh, flat)?;
     try_values(rt, &left, wanted);
     Ok(())
 }
@@ -81,22 +81,58 @@ fn an_image_without_defined_pixels_has_zeros(rt: HostRuntime) -> Result<(), Fail
     let plane = plane_of(rt.alloc(), 2, 1, &[U, U])?;
     let values = mesh_values(&rt, rt.alloc(), &plane, 1)?;
     assert_eq!(rt; values.as_slice(), [0, 0].as_slice());
-    try_residual(&rt, rt.alloc(), &plane, 1, &[U, U])
+    try_residual(&rt, rt.alloc(), &plane, 1, false, &[U, U])
+}
+
+// The number of a cell is for the whole of it where the background is flat; without a mesh nothing is taken away.
+#[test]
+fn flat_residual_and_none(rt: HostRuntime) -> Result<(), Fail> {
+    let plane = plane_of(rt.alloc(), 5, 2, &[1, 4, U, U, 9, 2, 3, U, U, 7])?;
+    let left = [-1, 2, U, U, 2, 0, 1, U, U, 0];
+    try_residual(&rt, rt.alloc(), &plane, 2, true, &left)?;
+    let same = [1, 4, U, U, 9, 2, 3, U, U, 7];
+    try_residual(&rt, rt.alloc(), &plane, 0, true, &same)?;
+    try_residual(&rt, rt.alloc(), &plane, 0, false, &same)
 }
 
 #[test]
-fn residual_under_a_mesh_and_without(rt: HostRuntime) -> Result<(), Fail> {
+fn numbers_of_three_cells_are_filtered(rt: HostRuntime) -> Result<(), Fail> {
+    let smooth = smooth_mesh(rt.alloc(), &[2, 3, 7], 3, 1)?;
+    assert_eq!(rt; smooth.as_slice(), [2, 3, 3].as_slice());
+    Ok(())
+}
+
+// The background is 2 2 2 3 3 in both rows.
+#[test]
+fn smooth_residual(rt: HostRuntime) -> Result<(), Fail> {
     let plane = plane_of(rt.alloc(), 5, 2, &[1, 4, U, U, 9, 2, 3, U, U, 7])?;
-    let left = [-1, 2, U, U, 2, 0, 1, U, U, 0];
-    try_residual(&rt, rt.alloc(), &plane, 2, &left)?;
-    let same = [1, 4, U, U, 9, 2, 3, U, U, 7];
-    try_residual(&rt, rt.alloc(), &plane, 0, &same)
+    let left = [-1, 2, U, U, 6, 0, 1, U, U, 4];
+    try_residual(&rt, rt.alloc(), &plane, 2, false, &left)
+}
+
+// The background is -20 -18 -13 -10 -10 -10.
+#[test]
+fn smooth_residual_below_zero(rt: HostRuntime) -> Result<(), Fail> {
+    let plane = plane_of(rt.alloc(), 6, 1, &[-20, -20, -10, -10, 0, 0])?;
+    try_residual(&rt, rt.alloc(), &plane, 2, false, &[0, -2, 3, 0, 10, 10])
+}
+
+// Beyond the outer centres a cell's own number stands, or a level on the edge; the last one is -63 / 16, rounded down.
+#[test]
+fn levels_between_four_cells(rt: HostRuntime) -> Result<(), Fail> {
+    let values = [0, 9, -16, 24];
+    assert_eq!(rt; level_at(&values, 2, 2, 2, 0, 0), 0);
+    assert_eq!(rt; level_at(&values, 2, 2, 2, 3, 3), 24);
+    assert_eq!(rt; level_at(&values, 2, 2, 2, 1, 0), 2);
+    assert_eq!(rt; level_at(&values, 2, 2, 2, 0, 2), -12);
+    assert_eq!(rt; level_at(&values, 2, 2, 2, 1, 2), -4);
+    Ok(())
 }
 
 #[test]
 fn background_is_subtracted_in_place(rt: HostRuntime) -> Result<(), Fail> {
     let mut plane = plane_of(rt.alloc(), 5, 2, &[1, 4, U, U, 9, 2, 3, U, U, 7])?;
-    subtract_background(&rt, rt.alloc(), &mut plane, 2)?;
+    subtract_background(&rt, rt.alloc(), &mut plane, 2, true)?;
     try_values(&rt, &plane, &[-1, 2, U, U, 2, 0, 1, U, U, 0]);
     Ok(())
 }

@@ -1,7 +1,7 @@
 use Rattle.std.proofs.Common.{◌≡◌, ◌-◌, ◌*◌, ◌<◌, ◌≤◌, ◌^◌, ap, subst, ◌∙◌, arith}
 use Rattle.comp_tree.specs.declared.shape.Shape.{Shape}
 use Rattle.comp_tree.specs.Raster.{IsPlane}
-use Rattle.mesh_background.specs.Mesh.{IsCell}
+use Rattle.mesh_background.specs.Bounds.{IsCell}
 use Rattle.mesh_background.proofs.Extents.{room-few}
 use Rattle.mesh_background.proofs.Gathering.{gather-start, row-within, gather-row, gather-end}
 use Rattle.mesh_background.proofs.cells.cell_members.Goals as goal

@@ -1,4 +1,4 @@
-use Rattle.mesh_background.specs.Residuals.{IsLessened}
+use Rattle.mesh_background.specs.Lessened.{IsLessened}
 use Rattle.mesh_background.proofs.subtraction.lessen_run.Given as goal
 
 abbrev pub invariant-loop-p : goal.invariant-loop-p

@@ -1,5 +1,5 @@
 use Rattle.std.proofs.Common.{◌≡◌, arith}
-use Rattle.mesh_background.specs.Mesh.{IsCell}
+use Rattle.mesh_background.specs.Bounds.{IsCell}
 use Rattle.mesh_background.proofs.Extents.{cell-is}
 use Rattle.mesh_background.proofs.grid.Grid.cell.Goals as goal
 

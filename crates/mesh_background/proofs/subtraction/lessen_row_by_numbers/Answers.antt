@@ -5,11 +5,11 @@ use mir.Val.{of_z, to_z}
 use Rattle.comp_tree.specs.declared.shape.Shape.{Shape}
 use Rattle.comp_tree.specs.Raster.{Raster}
 use Rattle.mesh_background.specs.Mesh.{cells_along, cell_count}
-use Rattle.mesh_background.specs.Residuals.{number_of_cell, IsInHalfRangeFrom, IsLessened}
+use Rattle.mesh_background.specs.Lessened.{number_of_cell, IsInHalfRangeFrom, IsLessened}
 use Rattle.mesh_background.proofs.Extents.{columns-some}
 use Rattle.mesh_background.proofs.Residuals.{half-fits}
 use Rattle.mesh_background.proofs.Lessening.{place-few, row-next, column-start, half_from-later}
-use Rattle.mesh_background.proofs.subtraction.lessen_row.Goals as goal
+use Rattle.mesh_background.proofs.subtraction.lessen_row_by_numbers.Goals as goal
 
 pub overflow_mul-cells : goal.overflow_mul-cells
 overflow_mul-cells c =

@@ -1,0 +1,128 @@
+-- The levels between the numbers of four cells.
+use Rattle.std.proofs.Common.{◌≡◌, ℕ, ◌+◌, ◌-◌, ◌*◌, ◌/◌, ◌%◌, ◌<◌, ◌≤◌, ◌^◌, zero, suc, min, List, length, get_or, refl, sym, ap, subst, ◌∙◌, arith, ◌⊎◌, inl, inr}
+use Rattle.std.specs.Prelude.{ℤ, pos, negsuc, neg_ℤ, ◌+ℤ◌, ◌*ℤ◌, ◌≤ℤ◌, ◌<ℤ◌, All}
+use Rattle.std.specs.Int.{int_div_euclid}
+use Rattle.std.proofs.lemmas.Bool.{cases_lt}
+use Rattle.std.proofs.lemmas.Int.{ints}
+use Rattle.std.proofs.lemmas.List.{get_or_past}
+use Rattle.std.proofs.lemmas.Nat.{div-add-mod', mod_below, mul-le, mul-add-lt}
+use Rattle.std.proofs.Math.IntN.{pos-*ℤ-pos, pos-*ℤ-negsuc}
+use Rattle.comp_tree.specs.Limits.{IsInHalfRange}
+use Rattle.mesh_background.specs.Laws.{PixelsLieBetweenCentres, LevelsStayBetween}
+use Rattle.mesh_background.specs.Lessened.{IsHalfRangeTimes}
+use Rattle.mesh_background.specs.Smoothing.{number_in_grid}
+use Rattle.mesh_background.specs.Interpolation.{pixel_centre, cell_centre, next_cell, past_centre, cell_before, cell_after, part_way, down_column, interpolated}
+use Rattle.mesh_background.proofs.Scaling.{times-times, IsFloor, floor-is, floor-from, floor-up_to, way-from, way-up_to}
+use Rattle.mesh_background.proofs.Fitting.{IsUpTo, up_to-way, up_to-low, up_to-high}
+
+-- ---- along a side
+
+pub between_centres : PixelsLieBetweenCentres
+unfolding next_cell past_centre
+between_centres mesh x some =
+    let t : ℕ = pixel_centre x + mesh in
+    let whole : t / (2 * mesh) * (2 * mesh) + t % (2 * mesh) ≡ t = div-add-mod' t (2 * mesh) in
+    let rest : t % (2 * mesh) < 2 * mesh = mod_below t (2 * mesh) (omega arith) in
+    let n : ℕ = t / (2 * mesh) in
+    let centre : (2 * n + 1) * mesh ≡ n * (2 * mesh) + mesh = omega arith in
+    (omega (arith, whole, rest, centre), rest)
+
+pub past-below : (mesh x : ℕ) → 0 < mesh → past_centre mesh x < 2 * mesh
+past-below mesh x some = (between_centres mesh x some).1
+
+-- ---- part of the way
+
+pub square : (n : ℕ) → 0 < n → 0 < n * n
+square n some = let more : n * 1 ≤ n * n = mul-le n 1 n n (omega arith) some in omega (arith, more)
+
+-- a level between two numbers that are `whole` times such ones
+pub level-from : (whole part : ℕ) (p q low : ℤ) → 0 < whole → part ≤ whole → (pos whole *ℤ low) ≤ℤ p → (pos whole *ℤ low) ≤ℤ q
+    → low ≤ℤ int_div_euclid (part_way whole part p q) (pos (whole * whole))
+level-from whole part p q low some le a b =
+    let z : ℤ = part_way whole part p q in
+    let e : pos (whole * whole) *ℤ low ≡ pos whole *ℤ (pos whole *ℤ low) = times-times whole whole low in
+    let bound : (pos whole *ℤ (pos whole *ℤ low)) ≤ℤ z = way-from whole part p q (pos whole *ℤ low) le a b in
+    floor-from z (whole * whole) (int_div_euclid z (pos (whole * whole))) low (floor-is z (whole * whole) (square whole some)) (subst (λ (y : ℤ). y ≤ℤ z) (sym e) bound)
+
+pub level-up_to : (whole part : ℕ) (p q high : ℤ) → 0 < whole → part ≤ whole → p ≤ℤ (pos whole *ℤ high) → q ≤ℤ (pos whole *ℤ high)
+    → int_div_euclid (part_way whole part p q) (pos (whole * whole)) ≤ℤ high
+level-up_to whole part p q high some le a b =
+    let z : ℤ = part_way whole part p q in
+    let e : pos (whole * whole) *ℤ high ≡ pos whole *ℤ (pos whole *ℤ high) = times-times whole whole high in
+    let bound : z ≤ℤ (pos whole *ℤ (pos whole *ℤ high)) = way-up_to whole part p q (pos whole *ℤ high) le a b in
+    floor-up_to z (whole * whole) (int_div_euclid z (pos (whole * whole))) high (square whole some) (floor-is z (whole * whole) (square whole some))
+    (subst (λ (y : ℤ). z ≤ℤ y) (sym e) bound)
+
+-- ---- the level at a pixel
+
+-- each number of a grid is so, where those of its list are
+pub each-number : (P : ℤ → Type 0) (values : List ℤ) (columns i j : ℕ) → All P values → j * columns + i < length values → P (number_in_grid values columns i j)
+each-number P values columns i j all lt = all (j * columns + i) (pos 0) lt
+
+-- the four cells lie within the grid
+pub cell-within : (columns rows i j : ℕ) → i < columns → j < rows → j * columns + i < columns * rows
+cell-within columns rows i j il jl = mul-add-lt j columns i rows jl il
+
+down-between : (values : List ℤ) (columns rows mesh y i : ℕ) (low high : ℤ) → i < columns → 0 < rows → length values ≡ columns * rows → 0 < mesh
+    → All (λ v. (low ≤ℤ v) × (v ≤ℤ high)) values
+    → ((pos (2 * mesh) *ℤ low) ≤ℤ down_column values columns rows mesh y i) × (down_column values columns rows mesh y i ≤ℤ (pos (2 * mesh) *ℤ high))
+down-between values columns rows mesh y i low high il some long cells all =
+    let past : past_centre mesh y < 2 * mesh = past-below mesh y cells in
+    let k : cell_before rows mesh y * columns + i < length values = subst (λ (n : ℕ). cell_before rows mesh y * columns + i < n) (sym long) (cell-within columns rows i (cell_before rows mesh y) il (omega arith)) in
+    let l : cell_after rows mesh y * columns + i < length values = subst (λ (n : ℕ). cell_after rows mesh y * columns + i < n) (sym long) (cell-within columns rows i (cell_after rows mesh y) il (omega arith)) in
+    let p : (low ≤ℤ number_in_grid values columns i (cell_before rows mesh y)) × (number_in_grid values columns i (cell_before rows mesh y) ≤ℤ high) = each-number (λ v. (low ≤ℤ v) × (v ≤ℤ high)) values columns i (cell_before rows mesh y) all k in
+    let q : (low ≤ℤ number_in_grid values columns i (cell_after rows mesh y)) × (number_in_grid values columns i (cell_after rows mesh y) ≤ℤ high) = each-number (λ v. (low ≤ℤ v) × (v ≤ℤ high)) values columns i (cell_after rows mesh y) all l in
+    (way-from (2 * mesh) (past_centre mesh y) _ _ low (omega (arith, past)) p.0 q.0, way-up_to (2 * mesh) (past_centre mesh y) _ _ high (omega (arith, past)) p.1 q.1)
+
+pub stay_between : LevelsStayBetween
+unfolding interpolated
+stay_between values columns rows mesh x y low high wide some long cells all =
+    let past : past_centre mesh x < 2 * mesh = past-below mesh x cells in
+    let p = down-between values columns rows mesh y (cell_before columns mesh x) low high (omega arith) some long cells all in
+    let q = down-between values columns rows mesh y (cell_after columns mesh x) low high (omega arith) some long cells all in (
+      level-from (2 * mesh) (past_centre mesh x) _ _ low (omega arith) (omega (arith, past)) p.0 q.0,
+      level-up_to (2 * mesh) (past_centre mesh x) _ _ high (omega arith) (omega (arith, past)) p.1 q.1,
+    )
+
+-- ---- in half of the range
+
+pub half-zero : IsInHalfRange (pos 0)
+half-zero = record { low = omega (arith, ints); high = omega (arith, ints) }
+
+pub half-number : (values : List ℤ) (columns i j : ℕ) → All IsInHalfRange values → IsInHalfRange (number_in_grid values columns i j)
+half-number values columns i j all = go (cases_lt (j * columns + i) (length values))
+  where
+    go : (j * columns + i < length values) ⊎ (length values ≤ j * columns + i) → IsInHalfRange (number_in_grid values columns i j)
+    go (inl lt) = all (j * columns + i) (pos 0) lt
+    go (inr le) = subst IsInHalfRange (sym (get_or_past values (j * columns + i) (pos 0) le)) half-zero
+
+pub half-up_to : (z : ℤ) → IsInHalfRange z → IsUpTo (2 ^ 36) z
+half-up_to z h = record { low = h.low; high = h.high }
+
+pub times-up_to : (whole : ℕ) (z : ℤ) → IsHalfRangeTimes whole z → IsUpTo (whole * 2 ^ 36) z
+times-up_to whole z h = record { low = h.low; high = h.high }
+
+pub half-way : (whole part : ℕ) (p q : ℤ) → part ≤ whole → IsInHalfRange p → IsInHalfRange q → IsHalfRangeTimes whole (part_way whole part p q)
+half-way whole part p q le a b =
+    let k : IsUpTo (whole * 2 ^ 36) (part_way whole part p q) = up_to-way whole part (2 ^ 36) p q le (half-up_to p a) (half-up_to q b) in
+    record { low = k.low; high = k.high }
+
+pub half-level : (whole part : ℕ) (p q : ℤ) → 0 < whole → part ≤ whole → IsHalfRangeTimes whole p → IsHalfRangeTimes whole q
+    → IsInHalfRange (int_div_euclid (part_way whole part p q) (pos (whole * whole)))
+half-level whole part p q some le a b = record {
+  low = level-from whole part p q (neg_ℤ (pos (2 ^ 36))) some le (up_to-low whole (2 ^ 36) p (times-up_to whole p a)) (up_to-low whole (2 ^ 36) q (times-up_to whole q b));
+  high = level-up_to whole part p q (pos (2 ^ 36)) some le (up_to-high whole (2 ^ 36) p (times-up_to whole p a)) (up_to-high whole (2 ^ 36) q (times-up_to whole q b));
+}
+
+pub half-down : (values : List ℤ) (columns rows mesh y i : ℕ) → 0 < mesh → All IsInHalfRange values → IsHalfRangeTimes (2 * mesh) (down_column values columns rows mesh y i)
+half-down values columns rows mesh y i some all =
+    let past : past_centre mesh y < 2 * mesh = past-below mesh y some in
+    half-way (2 * mesh) (past_centre mesh y) _ _ (omega (arith, past))
+    (half-number values columns i (cell_before rows mesh y) all) (half-number values columns i (cell_after rows mesh y) all)
+
+pub half-interpolated : (values : List ℤ) (columns rows mesh x y : ℕ) → 0 < mesh → All IsInHalfRange values → IsInHalfRange (interpolated values columns rows mesh x y)
+unfolding interpolated
+half-interpolated values columns rows mesh x y some all =
+    let past : past_centre mesh x < 2 * mesh = past-below mesh x some in
+    half-level (2 * mesh) (past_centre mesh x) _ _ (omega arith) (omega (arith, past))
+    (half-down values columns rows mesh y (cell_before columns mesh x) some all) (half-down values columns rows mesh y (cell_after columns mesh x) some all)
