@@ -116,8 +116,8 @@ pub record IsFloodedFrom (old new : JobView) : Type 0 where
   pub values : new.values ≡ old.values
 
 -- a job of strip i, flooded or not
-abbrev pub IsJobOf : Plan → ℕ → Bool → JobView → Type 0
-IsJobOf plan i flooded job = IsJobOf plan i job × (job.flooded ≡ flooded)
+abbrev pub IsStripJob : Plan → ℕ → Bool → JobView → Type 0
+IsStripJob plan i flooded job = IsJobOf plan i job × (job.flooded ≡ flooded)
 
 -- what of table's state the last seat knows
 pub record Settled (run : Run) (s : State JobView View) (j : ℕ) (v : View) : Type 0 where

@@ -5,7 +5,7 @@ ghost use Rattle.atomic_table.specs.Table.{rest};
 ghost use Rattle.strip_flood.specs.Jobs.{SuitsStrip};
 ghost use Rattle.strip_crew.specs.Run.{strips};
 ghost use Rattle.strip_crew.specs.Counting.{fresh, passes, gives_back};
-ghost use Rattle.strip_crew.specs.Claims.{view, Took, MayClaim, HasEnded, IsOver, HoldsSlot, IsFloodedFrom, IsJobOf};
+ghost use Rattle.strip_crew.specs.Claims.{view, Took, MayClaim, HasEnded, IsOver, HoldsSlot, IsFloodedFrom, IsStripJob};
 
 use crate::gate::Gate;
 use crate::rule::{Claim, ClaimSeat, ClaimTable, Give};
@@ -57,11 +57,11 @@ fn flood_by<A: Ledger, B: Ledger>(
     requires looked { (looked.name ≡ B.name) × (looked.parts ≡ B.parts) × (0 < looked.parts) }
     requires table { seat.old.table_id ≡ table.now.shared.table_id }
     requires plane { IsOver seat.old.me.0.of plane.now }
-    requires held { HoldsSlot seat.old.me strip (IsJobOf seat.old.me.0.of.plan strip false) }
+    requires held { HoldsSlot seat.old.me strip (IsStripJob seat.old.me.0.of.plan strip false) }
     ensures same { (seat.new.table_id ≡ seat.old.table_id)
         × (seat.new.id ≡ seat.old.id)
         × (seat.new.me.0 ≡ seat.old.me.0) }
-    ensures flooded { HoldsSlot seat.new.me strip (IsJobOf seat.old.me.0.of.plan strip true) }
+    ensures flooded { HoldsSlot seat.new.me strip (IsStripJob seat.old.me.0.of.plan strip true) }
 {
     let mut queued = Steps::<A>::start(queued);
     let mut looked = Steps::<B>::start(looked);
@@ -77,11 +77,11 @@ fn flood_by<A: Ledger, B: Ledger>(
 fn flood(table: &ClaimTable, seat: &mut ClaimSeat, strip: usize, plane: &Plane)
     requires table { seat.old.table_id ≡ table.now.shared.table_id }
     requires plane { IsOver seat.old.me.0.of plane.now }
-    requires held { HoldsSlot seat.old.me strip (IsJobOf seat.old.me.0.of.plan strip false) }
+    requires held { HoldsSlot seat.old.me strip (IsStripJob seat.old.me.0.of.plan strip false) }
     ensures same { (seat.new.table_id ≡ seat.old.table_id)
         × (seat.new.id ≡ seat.old.id)
         × (seat.new.me.0 ≡ seat.old.me.0) }
-    ensures flooded { HoldsSlot seat.new.me strip (IsJobOf seat.old.me.0.of.plan strip true) }
+    ensures flooded { HoldsSlot seat.new.me strip (IsStripJob seat.old.me.0.of.plan strip true) }
 {
     flood_by::<Brand, Brand>(Blank::new(1), Blank::new(1), table, seat, strip, plane);
 }
@@ -92,7 +92,7 @@ fn give(table: &ClaimTable, seat: &mut ClaimSeat, _strip: usize)
     requires words { table.now.shared.table_id.words ≡ 2 }
     requires open { seat.old.me.0.claim.joined ≡ false }
     requires hand { seat.old.me.0.claim.hand ≡ Some _strip }
-    requires held { HoldsSlot seat.old.me _strip (IsJobOf seat.old.me.0.of.plan _strip true) }
+    requires held { HoldsSlot seat.old.me _strip (IsStripJob seat.old.me.0.of.plan _strip true) }
     ensures same { (seat.new.table_id ≡ seat.old.table_id) × (seat.new.id ≡ seat.old.id) }
     ensures given { seat.new.me ≡ (view (gives_back seat.old.me.0.claim) seat.old.me.0.of, []) }
 {

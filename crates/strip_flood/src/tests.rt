@@ -46,7 +46,7 @@ fn try_case<A: Ledger, B: Ledger>(
     let shape = Shape::of(case.width, case.height).ok_or("a shape")?;
     let mut plane = Plane::blank(alloc, shape)?;
     for (pixel, value) in case.values.iter().enumerate() {
-        if *value >= 0 && *value < 1 << 34 && pixel < plane.shape().pixels() as usize {
+        if *value >= 0 && *value < 1 << 37 && pixel < plane.shape().pixels() as usize {
             plane.set(pixel as u32, Some(*value));
         }
     }

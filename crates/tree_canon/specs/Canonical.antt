@@ -1,6 +1,5 @@
 -- Bookkeeping: what canonical numbering reads off the links of a forest, which has one link for each pixel of a plane r.
 use Rattle.std.specs.Prelude.{◌≡◌, ℕ, Bool, ◌&&◌, ◌||◌, ◌==◌, not, IsFalse, List, length, filter, slice_index_or, slice_get, Some}
-use Rattle.comp_tree.specs.declared.shape.Connect.{Connect}
 use Rattle.comp_tree.specs.declared.tree.NodeRow.{NodeRow}
 use Rattle.comp_tree.specs.Raster.{Raster, pixels, is_defined, is_at_least, level}
 use Rattle.comp_tree.specs.Components.{in_order, no_node}

@@ -4,7 +4,8 @@ use Rattle.comp_tree.specs.declared.shape.Shape.{Shape}
 use Rattle.comp_tree.specs.declared.shape.Connect.TheVariants.{Four, Eight}
 use Rattle.comp_tree.specs.Raster.{IsPlane}
 use Rattle.comp_tree.specs.Forest.{IsForest}
-use Rattle.tree_canon.specs.Canonical.{StandsForAll, IsNumbering, with_parent}
+use Rattle.comp_tree.specs.Forest.{StandsForAll}
+use Rattle.tree_canon.specs.Canonical.{IsNumbering, with_parent}
 use Rattle.tree_canon.proofs.Numbering.{rows_by_pixels, pixels_within}
 use Rattle.tree_canon.proofs.Trees.{rows_from, tree_is, well_formed}
 use Rattle.tree_canon.proofs.canon.Goals as goal
