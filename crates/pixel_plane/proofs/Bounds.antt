@@ -51,9 +51,9 @@ not_blank (Some b) number h = go (int_eq number b) refl
     go true e = let k : option_eq int_eq (Some number) (Some number) ≡ false = ap (λ x. option_eq int_eq (Some x) (Some number)) (int_eq-true number b e) ∙ h in
         let r : int_eq number number ≡ true = int_eq_refl number in absurd (cc)
 
-pub value_is : (zero : ℤ) (blank : Option ℤ) (number : ℤ) → option_eq int_eq blank (Some number) ≡ false → value_stored_as zero blank number ≡ Some (zero +ℤ number)
-value_is zero blank number h = rw (not_blank blank number h) refl
+pub unless_blank : (zero : ℤ) (blank : Option ℤ) (number : ℤ) → option_eq int_eq blank (Some number) ≡ false → value_stored_as zero blank number ≡ Some (zero +ℤ number)
+unless_blank zero blank number h = rw (not_blank blank number h) refl
 
 pub far_number : (zero : ℤ) (blank : Option ℤ) (number : ℤ) → option_eq int_eq blank (Some number) ≡ false → is_out_of_range (Some (zero +ℤ number)) ≡ true
     → IsFarNumber zero blank number number
-far_number zero blank number h far = record { same = refl; far = ap is_out_of_range (value_is zero blank number h) ∙ far }
+far_number zero blank number h far = record { same = refl; far = ap is_out_of_range (unless_blank zero blank number h) ∙ far }

@@ -1,5 +1,6 @@
 -- Model: which HDUs are images that can be read.
-use Rattle.std.specs.Prelude.{◌^◌, Bool, true, false, ◌||◌, ◌&&◌, ◌==◌, not, nat_lt, ℤ, pos, neg_ℤ, int_le, List, [], ◌∷◌, Option, Some, None, Result, Ok, Err, if◌then◌else◌}
+use Rattle.std.specs.Prelude.{◌^◌, Bool, true, false, ◌||◌, ◌&&◌, ◌==◌, not, nat_lt, ℤ, pos, neg_ℤ, int_le}
+use Rattle.std.specs.Prelude.{List, [], ◌∷◌, Option, Some, None, Result, Ok, Err, if◌then◌else◌}
 use Rattle.std.specs.Ordering.{int_eq}
 use Rattle.comp_tree.specs.declared.shape.Shape.{Shape}
 use Rattle.comp_tree.specs.Shapes.{is_within, shape_of}

@@ -1,5 +1,6 @@
 -- Model: the numbers that an image stores (FITS Standard 4.0, section 5.2), and the plane of their values (section 4.4.2.5, BZERO and BLANK).
-use Rattle.std.specs.Prelude.{ℕ, ◌*◌, ◌/◌, Bool, false, ◌==◌, ◌&&◌, not, List, drop, map, ℤ, pos, ◌+ℤ◌, int_le, neg_ℤ, ◌^◌, Option, Some, None, unsigned_abs, slice_index, if◌then◌else◌}
+use Rattle.std.specs.Prelude.{ℕ, ◌*◌, ◌/◌, Bool, false, ◌==◌, ◌&&◌, not, List, drop, map, ℤ, pos, ◌+ℤ◌, int_le, neg_ℤ, ◌^◌}
+use Rattle.std.specs.Prelude.{Option, Some, None, unsigned_abs, slice_index, if◌then◌else◌}
 use Rattle.std.specs.List.{range_with_len, position}
 use Rattle.std.specs.Ordering.{int_eq}
 use Rattle.std.specs.Int.{w16, w32, w64, cast_signed}
@@ -63,7 +64,7 @@ abbrev pub is_out_of_range : Option ℤ → Bool
 is_out_of_range None = false
 is_out_of_range (Some value) = not (int_le (neg_ℤ (pos (2 ^ 36))) value && int_le value (pos (2 ^ 36)))
 
--- the least pixel that is out of range, where the image has 64 bits: fewer bits can't be, with a BZERO that is accepted
+-- the least pixel that is out of range, of an image of 64 bits; with fewer bits and a BZERO that is accepted no pixel can be
 unfoldable pub first_out_of_range : Hdu → Shape → List ℕ → Option ℕ
 first_out_of_range hdu shape bytes =
     if int_eq hdu.bitpix (pos 64) then position is_out_of_range (stored_plane hdu shape bytes).values else None

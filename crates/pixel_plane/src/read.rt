@@ -18,8 +18,9 @@ use std::alloc::Global;
 // A block of the file, which holds a whole number of pixels of each size.
 const BLOCK: usize = 2880;
 
-/// The plane of an image whose data are the next bytes. A pixel has the value BZERO and its stored number together, and is undefined where
-/// the stored number is BLANK. All memory is taken before the first byte. A pixel out of range is answered when all bytes of the image were taken.
+/// The plane of an image whose data are the next bytes, row by row. A pixel has the value BZERO and its stored number together, and is
+/// undefined where the stored number is BLANK (FITS Standard 4.0, section 4.4.2.5). All memory is taken before the first byte. A pixel
+/// out of range is answered when all bytes of the image were taken, so that an input which ends before them is `TruncatedData`.
 pub fn read_plane<S: Source>(
     alloc: Global,
     src: &mut S,

@@ -11,8 +11,8 @@ returns-in-Err-clause-decoded c =
     let fits : SFits w64 c.in-Err.stored = search rules in
     let same : to_z w64 (of_z w64 c.in-Err.stored) ≡ c.in-Err.stored = omega (arith, ints) in
     rw same (record {
-      from = c.loop-p.auto.p;
-      inside = c.loop-p-test.true;
+      from = omega arith;
+      inside = omega arith;
       is_far = far_from c.args.encoding.now c.args.bytes.now (c.loop-p.p - c.args.first) c.in-Err.stored c.requires.wide c.in-Err.ensures.value;
       decoded_before = c.loop-p.invariant.decoded;
     })

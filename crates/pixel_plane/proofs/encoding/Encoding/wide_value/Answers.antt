@@ -3,7 +3,7 @@ use Rattle.std.specs.Option.{option_eq}
 use Rattle.std.specs.Ordering.{int_eq}
 use Rattle.std.proofs.lemmas.Int.{ints}
 use Rattle.pixel_plane.specs.Stored.{stored_number, is_out_of_range}
-use Rattle.pixel_plane.proofs.Bounds.{far_number, half_range_of, value_is}
+use Rattle.pixel_plane.proofs.Bounds.{far_number, half_range_of, unless_blank}
 use Rattle.pixel_plane.proofs.encoding.Encoding.wide_value.Goals as goal
 
 pub returns-then-is_far-clause-value : goal.returns-then-is_far-clause-value
@@ -28,7 +28,7 @@ returns-clause-value c =
     let low = range.low in
     let high = range.high in
     let sum : to_z w64 (of_z w64 (zero +ℤ stored)) ≡ zero +ℤ stored = omega (arith, ints) in
-    rw (a, b, sum, number) (sym (value_is zero c.args.self.now.blank stored there))
+    rw (a, b, sum, number) (sym (unless_blank zero c.args.self.now.blank stored there))
 
 pub returns-clause-half_range : goal.returns-clause-half_range
 returns-clause-half_range c =
