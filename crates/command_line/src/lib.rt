@@ -5,6 +5,5 @@
 pub mod lines;
 pub mod notes;
 pub mod numbers;
-
 #[cfg(test)]
 mod tests;

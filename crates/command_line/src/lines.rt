@@ -8,11 +8,7 @@ ghost use Rattle.command_line.specs.Lines.{joined};
 use dev_io::{Block, Failed, Sink};
 
 /// Lets these pieces wait, one behind the other.
-pub fn add_all<O: Sink>(
-    sink: &mut O,
-    block: &mut Block,
-    pieces: &[&[u8]],
-) -> Result<(), Failed>
+pub fn add_all<O: Sink>(sink: &mut O, block: &mut Block, pieces: &[&[u8]]) -> Result<(), Failed>
     requires { length (joined pieces.now) ≤ 2880 }
     ensures ok { OnOk result (Moves (O.written sink.old) (O.written sink.new) (block.old ++ joined pieces.now) block.new) }
     ensures err { OnErr result (AppendsPrefix (O.written sink.old) (O.written sink.new) (block.old ++ joined pieces.now)) }

@@ -21,7 +21,7 @@ pub use crew::flood_all;
 pub use cut::even_cut;
 pub use gate::{Gate, OpenGate};
 pub use group::join_group;
-pub use rule::{Claim, ClaimSeat, ClaimRule, ClaimTable, Dismiss, Give, Key, Recruit};
+pub use rule::{Claim, ClaimRule, ClaimSeat, ClaimTable, Dismiss, Give, Key, Recruit};
 pub use view::View;
 
 #[cfg(test)]
