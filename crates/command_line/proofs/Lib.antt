@@ -1,2 +1,3 @@
-pub mod Numerals
-pub mod LineLemmas
+mod Numerals
+mod LineLemmas
+pub mod Exported

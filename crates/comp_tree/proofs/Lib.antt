@@ -1,27 +1,28 @@
-pub mod Levels
-pub mod Members
-pub mod Order
-pub mod Joining
-pub mod Labels
-pub mod Reaching
-pub mod Marking
-pub mod Finding
-pub mod Nearby
-pub mod Adjacent
-pub mod Ordering
-pub mod Nodes
-pub mod Components
-pub mod Nesting
-pub mod Ancestors
-pub mod OneTree
-pub mod WellFormed
-pub mod Values
-pub mod Ranks
-pub mod Walks
-pub mod Sames
-pub mod Agreeing
-pub mod Hanging
-pub mod Representatives
-pub mod Flooding
-pub mod Canonical
-pub mod Shapes
+mod Levels
+mod Members
+mod Order
+mod Joining
+mod Labels
+mod Reaching
+mod Marking
+mod Finding
+mod Nearby
+mod Adjacent
+mod Ordering
+mod Nodes
+mod Components
+mod Nesting
+mod Ancestors
+mod OneTree
+mod WellFormed
+mod Values
+mod Ranks
+mod Walks
+mod Sames
+mod Agreeing
+mod Hanging
+mod Representatives
+mod Flooding
+mod Canonical
+mod Shapes
+pub mod Exported

@@ -20,7 +20,7 @@ use Rattle.fits_write.specs.Columns.{IsTable, FitsCell, cell_at, number_at}
 use Rattle.source_pick.specs.declared.catalogue.CatRow.{CatRow}
 use Rattle.source_pick.specs.Catalogue.{catalogue_of, catalogue_row, cells_of, FitsColumn, FitsColumns}
 use Rattle.source_pick.specs.Segmentation.{AreDisjointNodes}
-use Rattle.source_pick.proofs.Marks.{few_marked, few_rows}
+use Rattle.source_pick.proofs.Exported.{few_marked, few_rows}
 use Rattle.detect_top.specs.Catalogues.{columns}
 
 -- these are the cells of the first count rows of the catalogue of some nodes

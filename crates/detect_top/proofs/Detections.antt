@@ -18,7 +18,7 @@ use Rattle.source_pick.specs.declared.choice.Choice.{Choice}
 use Rattle.source_pick.specs.Sources.{sources}
 use Rattle.source_pick.specs.Segmentation.{segmentation_of, segmentation}
 use Rattle.source_pick.specs.Catalogue.{catalogue_of, catalogue, cells_of}
-use Rattle.source_pick.proofs.Readings.{numbers-length}
+use Rattle.source_pick.proofs.Exported.{numbers-length}
 use Rattle.detect_top.specs.Catalogues.{columns, hdus, catalogue_cells, detection, IsDetection}
 
 -- the HDUs were put one behind the other

@@ -6,7 +6,7 @@ use Rattle.comp_tree.specs.declared.shape.Connect.{Connect}
 use Rattle.comp_tree.specs.Raster.{Raster}
 use Rattle.comp_tree.specs.ComponentTree.{ComponentTree}
 use Rattle.comp_tree.specs.Components.{tree_of}
-use Rattle.comp_tree.proofs.Ancestors.{length-rows}
+use Rattle.comp_tree.proofs.Exported.{length-rows}
 use Rattle.node_sums.specs.Sums.{sums_in, sums_of}
 use Rattle.node_sums.specs.Areas.{area_of, areas_in}
 

@@ -6,7 +6,7 @@ use Rattle.std.specs.Option.{option_or}
 use Rattle.std.specs.Str.{bytes_eq}
 use Rattle.std.proofs.lemmas.Bool.Decides.{nat_tests}
 use Rattle.std.proofs.lemmas.Slice.Eq.{bytes_eq-Decides}
-use Rattle.comp_tree.proofs.Members.{find_some}
+use Rattle.comp_tree.proofs.Exported.{find_some}
 use Rattle.detect_top.specs.declared.options.Command.{Command}
 use Rattle.detect_top.specs.declared.options.Setting.{Setting}
 use Rattle.detect_top.specs.declared.options.Setting.TheVariants.{Hdu, Connect, Strips, Workers, Mesh, Flat, Rule, MinArea, MaxArea, MinFlux, MinFill, Threshold, Contrast, Seed, Width, Height}

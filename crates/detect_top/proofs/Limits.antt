@@ -3,7 +3,7 @@ use Rattle.std.proofs.Common.{◌≡◌, ℕ, ◌≤◌, Bool, true, false, ◌&
 use Rattle.std.specs.Prelude.{ℤ, pos, int_le, ◌≤ℤ◌, Option, Some, None, unwrap_or, unsigned_abs, option_and_then}
 use Rattle.std.specs.Option.{option_map}
 use Rattle.std.proofs.lemmas.Int.{ints}
-use Rattle.comp_tree.proofs.Levels.{int_le-true}
+use Rattle.comp_tree.proofs.Exported.{int_le-true}
 use Rattle.detect_top.specs.declared.options.Setting.TheVariants.{Strips, Workers, Mesh, Rule, MinFill, Threshold, Contrast, Seed}
 use Rattle.detect_top.specs.declared.options.Command.{Command}
 use Rattle.detect_top.specs.declared.options.Command.TheVariants.{Tree, Filter, Detect, Trial}

@@ -10,7 +10,7 @@ use denote.Ref.{Bor}
 use Rattle.detect_top.specs.declared.options.Command.{Command}
 use Rattle.detect_top.specs.declared.options.Setting.{Setting}
 use Rattle.detect_top.specs.declared.words.Job.{Job}
-use Rattle.command_line.proofs.LineLemmas.{text_at}
+use Rattle.command_line.proofs.Exported.{text_at}
 use Rattle.detect_top.specs.Options.{name_of, option_named, is_value}
 use Rattle.command_line.specs.Lines.{texts}
 use Rattle.detect_top.specs.Words.{word, names, naming, value_given, is_bad_option, is_bad_name, is_bad_value, is_at_fault, first_at_fault, job_given, order_for, order_given, order_unless, order_of, command_of, at_fault}

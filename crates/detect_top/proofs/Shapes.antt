@@ -4,7 +4,7 @@ use Rattle.std.specs.Prelude.{◌↔◌, IsSome, Option, Some, None, option_and_
 use Rattle.comp_tree.specs.declared.shape.Shape.{Shape}
 use Rattle.comp_tree.specs.Limits.{IsWithinLimits}
 use Rattle.comp_tree.specs.Shapes.{is_within, limits_from, shape_if, shape_of}
-use Rattle.comp_tree.proofs.Shapes.{shape_of_sides}
+use Rattle.comp_tree.proofs.Exported.{shape_of_sides}
 use Rattle.detect_top.specs.declared.options.Setting.TheVariants.{Width, Height}
 use Rattle.detect_top.specs.Options.{side_in}
 use Rattle.detect_top.specs.Words.{given, shape_given}

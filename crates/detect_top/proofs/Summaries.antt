@@ -13,7 +13,7 @@ use Rattle.comp_tree.specs.Limits.{IsWithinRange}
 use Rattle.comp_tree.specs.Raster.{Raster, IsPlane, value_at}
 use Rattle.comp_tree.specs.ComponentTree.{ComponentTree, IsWellFormed}
 use Rattle.comp_tree.specs.Components.{tree_of}
-use Rattle.comp_tree.proofs.WellFormed.{tree_of-well_formed}
+use Rattle.comp_tree.proofs.Exported.{tree_of-well_formed}
 use Rattle.node_sums.specs.declared.entry.Sums.{Sums}
 use Rattle.node_sums.specs.Sums.{IsTreeOfPlane, sums_in}
 use Rattle.node_sums.specs.Flux.{base_of, flux_of}

@@ -15,21 +15,17 @@ use Rattle.comp_tree.specs.Raster.{Raster, IsPlane, pixels, value_at, is_defined
 use Rattle.comp_tree.specs.ComponentTree.{ComponentTree}
 use Rattle.comp_tree.specs.Components.{nodes, is_in_node, tree_of}
 use Rattle.comp_tree.specs.Laws.{top_of}
-use Rattle.comp_tree.proofs.Ancestors.{length-rows}
-use Rattle.comp_tree.proofs.Finding.{length-pixels}
-use Rattle.comp_tree.proofs.OneTree.{IsImage, get_from_map, get-pixels}
+use Rattle.comp_tree.proofs.Exported.{length-rows, length-pixels, IsImage, get_from_map, get-pixels}
 use Rattle.comp_tree.specs.Raster.{HasValuesInHalfRange}
 use Rattle.mesh_background.specs.Medians.{IsLowerMedian, lower_median}
 use Rattle.mesh_background.specs.Mesh.{cell_of, cell_pixels, defined_values, image_value, mesh_value}
 use Rattle.mesh_background.specs.Residuals.{background, residual_at, residual_of}
-use Rattle.mesh_background.proofs.Medians.{the_one}
+use Rattle.mesh_background.proofs.Exported.{the_one}
 use Rattle.node_sums.specs.declared.entry.Sums.{Sums}
 use Rattle.node_sums.specs.Sums.{pixels_of, AreOfPlane}
 use Rattle.node_sums.specs.Flux.{base_of, flux_of}
 use Rattle.node_sums.specs.Merging.{IsUpTo}
-use Rattle.node_sums.proofs.Sizes.{up_to-minus, total-up_to}
-use Rattle.node_sums.proofs.Fluxes.{BaseCase, at_root, at_child, base-case}
-use Rattle.node_sums.proofs.FluxOfSums.{flux-is}
+use Rattle.node_sums.proofs.Exported.{up_to-minus, total-up_to, BaseCase, at_root, at_child, base-case, flux-is}
 use Rattle.detect_top.specs.Trials.{next_state, states_behind, value_of_state, trial_image, IsSmall, HasSmallValues, HasSmallFluxes, flux_bound}
 use Rattle.detect_top.proofs.EachArea.{length-sums}
 

@@ -15,11 +15,9 @@ use Rattle.comp_tree.specs.Raster.{Raster, IsPlane, HasValuesInRange, pixels, le
 use Rattle.comp_tree.specs.ComponentTree.{ComponentTree, parent_in, no_node}
 use Rattle.comp_tree.specs.Components.{nodes, is_in_node, tree_of}
 use Rattle.comp_tree.specs.Nesting.{node_numbers, is_root, pixels_of}
-use Rattle.comp_tree.proofs.Ancestors.{length-rows}
+use Rattle.comp_tree.proofs.Exported.{length-rows}
 use Rattle.node_sums.specs.Sums.{total}
-use Rattle.node_sums.proofs.Sizes.{length-filter-le}
-use Rattle.node_sums.proofs.Counting.{parent_holds}
-use Rattle.node_sums.proofs.Passes.{rows_are, parent_is}
+use Rattle.node_sums.proofs.Exported.{length-filter-le, parent_holds, rows_are, parent_is}
 use Rattle.dual_measure.specs.declared.values.Measure.{Measure}
 use Rattle.dual_measure.specs.Measures.{measure_over, measure_of, measures_of, seen_of, floor_mean, mean_of, around_node, back_of, IsSumOf, IsPlanesTree, AreTheTreesMeasures}
 use Rattle.dual_measure.specs.Adding.{combined, measured_so_far}

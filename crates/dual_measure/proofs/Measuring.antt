@@ -10,12 +10,10 @@ use Rattle.std.proofs.lemmas.Bool.Decides.{nat_tests}
 use Rattle.std.proofs.lemmas.List.FromFn.{length-range_with_len}
 use Rattle.comp_tree.specs.Limits.{IsWithinRange}
 use Rattle.comp_tree.specs.Raster.{Raster, IsPlane, HasValuesInRange, is_defined, level, value_at}
-use Rattle.comp_tree.proofs.Members.{IsAmong, among_from_filter, among_from_range}
+use Rattle.comp_tree.proofs.Exported.{IsAmong, among_from_filter, among_from_range}
 use Rattle.node_sums.specs.Sums.{total, highest}
 use Rattle.node_sums.specs.Merging.{IsUpTo}
-use Rattle.node_sums.proofs.Sizes.{total-up_to, value_in_range, length-filter-le}
-use Rattle.node_sums.proofs.Passes.{level-of}
-use Rattle.node_sums.proofs.Reading.{fits}
+use Rattle.node_sums.proofs.Exported.{total-up_to, value_in_range, length-filter-le, level-of, fits}
 use Rattle.dual_measure.specs.declared.values.Measure.{Measure}
 use Rattle.dual_measure.specs.Measures.{measure_over, seen_of, missing_of, least_or_zero, greatest_or_zero, IsSumOf}
 use Rattle.dual_measure.specs.Adding.{blank_measure, measure_at, combined, measured_so_far, lowest_value, settled_measure, HasMeasureSizes}

@@ -7,12 +7,9 @@ use Rattle.comp_tree.specs.Raster.{Raster, IsPlane, is_defined}
 use Rattle.comp_tree.specs.Components.{nodes, node_of, is_in_node, tree_of}
 use Rattle.comp_tree.specs.Nesting.{node_numbers, lies_within}
 use Rattle.comp_tree.specs.Laws.{IsAncestor, parent, above, top_of}
-use Rattle.comp_tree.proofs.Members.{IsAmong, IsWitness, among-filter, among_from_filter, among-range, among_from_range, any_from_among, witness_from_any}
-use Rattle.comp_tree.proofs.Components.{top-representative, top-defined}
-use Rattle.comp_tree.proofs.Ancestors.{length-rows, ancestors_are_the_larger_nodes, pixels_belong_to_their_ancestors}
-use Rattle.comp_tree.proofs.Nesting.{all_gives, all_from, in_node-defined, top_inside, within_from_test, test_from_within}
-use Rattle.comp_tree.proofs.Nodes
-use Rattle.node_sums.proofs.Counting.{goes_down, ancestor_smaller}
+use Rattle.comp_tree.proofs.Exported.{IsAmong, IsWitness, among-filter, among_from_filter, among-range, among_from_range, any_from_among, witness_from_any, top-representative, top-defined, length-rows, ancestors_are_the_larger_nodes, pixels_belong_to_their_ancestors, all_gives, all_from, in_node-defined, top_inside, within_from_test, test_from_within}
+use Rattle.comp_tree.proofs.Exported as Nodes
+use Rattle.node_sums.proofs.Exported.{goes_down, ancestor_smaller}
 use Rattle.filter_rules.specs.declared.rule.Rule.TheVariants.{Min, Max}
 use Rattle.filter_rules.specs.declared.rule.Criterion.{Criterion}
 use Rattle.filter_rules.specs.Criteria.{satisfies}

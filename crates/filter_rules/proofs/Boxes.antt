@@ -9,20 +9,13 @@ use Rattle.comp_tree.specs.Raster.{Raster, IsPlane, HasValuesInRange, pixels, le
 use Rattle.comp_tree.specs.ComponentTree.{ComponentTree, parent_in}
 use Rattle.comp_tree.specs.Components.{nodes, is_in_node, tree_of}
 use Rattle.comp_tree.specs.Laws.{top_of}
-use Rattle.comp_tree.proofs.Members.{IsAmong, among_from_filter}
-use Rattle.comp_tree.proofs.Reaching.{below_from_defined}
-use Rattle.comp_tree.proofs.Finding.{length-pixels}
-use Rattle.comp_tree.proofs.Ancestors.{length-rows, parent-of_node, parent-candidate}
-use Rattle.comp_tree.proofs.Levels.{int_lt-true}
+use Rattle.comp_tree.proofs.Exported.{IsAmong, among_from_filter, below_from_defined, length-pixels, length-rows, parent-of_node, parent-candidate, int_lt-true, in_node-defined, among_pixels, top_inside}
 use Rattle.node_sums.specs.declared.entry.Sums.{Sums}
 use Rattle.node_sums.specs.Sums.{AreTheTrees, sums_of, sums_in, sums_over, x_of, y_of, least, greatest}
 use Rattle.comp_tree.specs.Nesting.{pixels_of, level_in}
-use Rattle.node_sums.proofs.Sizes.{x_small, y_small, level_up_to}
-use Rattle.node_sums.proofs.Fluxes.{level-of_node}
+use Rattle.node_sums.proofs.Exported.{x_small, y_small, level_up_to, level-of_node, goes_down}
 use Rattle.node_sums.specs.Flux.{flux_of}
 use Rattle.node_sums.specs.Merging.{IsUpTo, value_bound}
-use Rattle.node_sums.proofs.Counting.{goes_down}
-use Rattle.comp_tree.proofs.Nesting.{in_node-defined, among_pixels, top_inside}
 use Rattle.filter_rules.specs.declared.rule.Criterion.{Criterion}
 use Rattle.filter_rules.specs.Criteria.{admits, satisfies}
 use Rattle.filter_rules.specs.Passes.{HasRisingLevels, HasBox}

@@ -8,18 +8,15 @@ use Rattle.comp_tree.specs.Raster.{Raster, IsPlane, is_defined}
 use Rattle.comp_tree.specs.ComponentTree.{parent_in, no_node}
 use Rattle.comp_tree.specs.Components.{nodes, node_of, is_in_node, tree_of}
 use Rattle.comp_tree.specs.Laws.{IsAncestor, parent, above, top_of}
-use Rattle.comp_tree.proofs.Members.{IsAmong, among-filter, among_from_filter, among-range, find_some, find_none}
-use Rattle.comp_tree.proofs.Components.{top-defined}
-use Rattle.comp_tree.proofs.Ancestors.{length-rows, below_no_node}
-use Rattle.comp_tree.proofs.Nodes
+use Rattle.comp_tree.proofs.Exported.{IsAmong, among-filter, among_from_filter, among-range, find_some, find_none, top-defined, length-rows, below_no_node, all_gives, all_from}
+use Rattle.comp_tree.proofs.Exported as Nodes
 use Rattle.node_sums.specs.Sums.{total}
-use Rattle.node_sums.proofs.Counting.{goes_down, ancestor_smaller, parent_smaller, same_bool}
+use Rattle.node_sums.proofs.Exported.{goes_down, ancestor_smaller, parent_smaller, same_bool}
 use Rattle.filter_rules.specs.declared.rule.Rule.{Rule}
 use Rattle.filter_rules.specs.declared.rule.Criterion.{Criterion}
 use Rattle.filter_rules.specs.Filtered.{is_kept, holders, smallest, value_from, filtered_value}
 use Rattle.comp_tree.specs.Nesting.{node_numbers, lies_within}
 use Rattle.filter_rules.proofs.Lists.{filter_on, total_split, total_one}
-use Rattle.comp_tree.proofs.Nesting.{all_gives, all_from}
 use Rattle.filter_rules.proofs.Around.{IsAbove, below_from_numbers, above_from_in, in_from_above, above_from_within, within_from_above, above_both, node_of_top}
 
 -- node m is kept and holds p

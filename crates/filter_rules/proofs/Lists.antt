@@ -4,7 +4,7 @@ use Rattle.std.specs.Prelude.{ℤ, pos, ◌+ℤ◌, filter, ◌==◌, ◌≢◌}
 use Rattle.std.specs.List.{range_with_len}
 use Rattle.std.proofs.lemmas.Int.{ints}
 use Rattle.std.proofs.lemmas.Bool.{eqb-true, eqb-false, ne_eqb}
-use Rattle.comp_tree.proofs.Members.{IsAmong}
+use Rattle.comp_tree.proofs.Exported.{IsAmong}
 use Rattle.node_sums.specs.Sums.{total}
 
 pub filter_on : {X : Type 0} (f g : X → Bool) (xs : List X) → ((x : X) → IsAmong x xs → f x ≡ g x) → filter f xs ≡ filter g xs

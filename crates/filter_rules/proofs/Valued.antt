@@ -9,20 +9,17 @@ use Rattle.comp_tree.specs.Raster.{Raster, IsPlane, is_defined}
 use Rattle.comp_tree.specs.ComponentTree.{parent_in, no_node}
 use Rattle.comp_tree.specs.Components.{nodes, node_of, is_in_node, tree_of}
 use Rattle.comp_tree.specs.Laws.{top_of}
-use Rattle.comp_tree.proofs.Members.{IsAmong, among-filter, among-range, find_some}
-use Rattle.comp_tree.proofs.Components.{top-defined}
-use Rattle.comp_tree.proofs.Ancestors.{length-rows, below_no_node}
-use Rattle.comp_tree.proofs.Nodes
+use Rattle.comp_tree.proofs.Exported.{IsAmong, among-filter, among-range, find_some, top-defined, length-rows, below_no_node, all_gives, within_from_test}
+use Rattle.comp_tree.proofs.Exported as Nodes
 use Rattle.node_sums.specs.Sums.{total}
 use Rattle.comp_tree.specs.Nesting.{level_in, is_root, node_numbers, lies_within}
-use Rattle.node_sums.proofs.Counting.{goes_down}
+use Rattle.node_sums.proofs.Exported.{goes_down}
 use Rattle.filter_rules.specs.declared.rule.Rule.{Rule}
 use Rattle.filter_rules.specs.declared.rule.Rule.TheVariants.{Min, Max, Direct, Subtractive}
 use Rattle.filter_rules.specs.declared.rule.Criterion.{Criterion}
 use Rattle.filter_rules.specs.Filtered.{keeps, is_kept, holders, smallest, level_of_smallest, rise_in, value_from, filtered_value}
 use Rattle.filter_rules.specs.Laws.{IsSmallestHolder, EachPixelHasASmallestHolder}
 use Rattle.filter_rules.specs.Passes.{flag, value, value_of_kept, value_of_node, AreValues}
-use Rattle.comp_tree.proofs.Nesting.{all_gives, within_from_test}
 use Rattle.filter_rules.proofs.Around.{node_of_top}
 use Rattle.filter_rules.proofs.Holding.{IsChild, holders_of_dropped, smallest_of_kept, rises_of_root, rises_of_kept, same_value, same_holders, IsHolder, holder_is}
 

@@ -6,10 +6,8 @@ use Rattle.comp_tree.specs.declared.shape.Connect.{Connect}
 use Rattle.comp_tree.specs.Raster.{Raster, IsPlane, pixels, is_defined}
 use Rattle.comp_tree.specs.ComponentTree.{ComponentTree, no_node}
 use Rattle.comp_tree.specs.Components.{nodes, node_of, tree_of}
-use Rattle.comp_tree.proofs.Finding.{node-undefined}
-use Rattle.comp_tree.proofs.Ancestors.{length-rows, below_no_node}
-use Rattle.comp_tree.proofs.WellFormed.{tree_of-well_formed}
-use Rattle.comp_tree.proofs.Nodes
+use Rattle.comp_tree.proofs.Exported.{node-undefined, length-rows, below_no_node, tree_of-well_formed}
+use Rattle.comp_tree.proofs.Exported as Nodes
 use Rattle.filter_rules.specs.declared.rule.Rule.{Rule}
 use Rattle.filter_rules.specs.declared.rule.Criterion.{Criterion}
 use Rattle.filter_rules.specs.Filtered.{keeps, filtered_value, filtered}

@@ -8,7 +8,7 @@ use Rattle.std.proofs.lemmas.Nat.{div-add-mod', div-mul-add, mod-mul-add, mod_be
 use Rattle.std.proofs.Math.Nat.{mul-le-mul_right}
 use Rattle.comp_tree.specs.Limits.{IsWithinLimits}
 use Rattle.comp_tree.specs.Raster.{Raster, pixels}
-use Rattle.comp_tree.proofs.Nearby.{row-from, filter-skip}
+use Rattle.comp_tree.proofs.Exported.{row-from, filter-skip}
 use Rattle.mesh_background.specs.Laws.{CellsAreSquares}
 use Rattle.mesh_background.specs.Bounds.{IsCell}
 use Rattle.mesh_background.specs.Mesh.{cells_along, mesh_cell_of, cell_pixels}

@@ -1,12 +1,13 @@
-pub mod Counts
-pub mod Medians
-pub mod Extents
-pub mod Gathering
-pub mod Mapping
-pub mod Scaling
-pub mod Fitting
-pub mod Levels
-pub mod Around
-pub mod Residuals
-pub mod HalfRanges
-pub mod Lessening
+mod Counts
+mod Medians
+mod Extents
+mod Gathering
+mod Mapping
+mod Scaling
+mod Fitting
+mod Levels
+mod Around
+mod Residuals
+mod HalfRanges
+mod Lessening
+pub mod Exported

@@ -11,8 +11,7 @@ use Rattle.std.specs.Int.Signed.{≤ℤ_refl}
 use Rattle.std.proofs.lemmas.List.{length-take-le, get_or_default}
 use Rattle.std.proofs.lemmas.List.Elements.{All-nil, All-cons, All-append, All-weaker}
 use Rattle.std.proofs.lemmas.List.Sorted.{IsPermutation-sym, IsPermutation-trans, IsPermutation-cons, IsPermutation-middle, IsPermutation-refl, All-permutation, Contains-permutation, sum_by-IsPermutation, length_permutation}
-use Rattle.comp_tree.proofs.Levels.{int_le-true, int_le-from, int_lt-true, int_lt-from, int_lt-false, int_lt-from_not_le}
-use Rattle.comp_tree.proofs.Members.{IsAmong, find_some, find_none}
+use Rattle.comp_tree.proofs.Exported.{int_le-true, int_le-from, int_lt-true, int_lt-from, int_lt-false, int_lt-from_not_le, IsAmong, find_some, find_none}
 use Rattle.mesh_background.specs.Medians.{lower_half, count_less, count_up_to, IsLowerMedian, is_lower_median, lower_median}
 use Rattle.mesh_background.specs.Laws.{LowerMedianIsTheOne, SomeMemberIsLowerMedian}
 use Rattle.mesh_background.proofs.Counts.{count-weaker, count_most, count_least}

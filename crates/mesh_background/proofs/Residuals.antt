@@ -15,8 +15,7 @@ use Rattle.std.proofs.lemmas.Nat.{div-mul-add, mod-mul-add}
 use Rattle.comp_tree.specs.Limits.{IsWithinRange, IsInHalfRange}
 use Rattle.comp_tree.specs.declared.shape.Shape.{Shape}
 use Rattle.comp_tree.specs.Raster.{Raster, pixels, value_at, is_defined, level}
-use Rattle.comp_tree.proofs.Finding.{length-pixels}
-use Rattle.comp_tree.proofs.OneTree.{IsImage, get_from_map, get-pixels}
+use Rattle.comp_tree.proofs.Exported.{length-pixels, IsImage, get_from_map, get-pixels}
 use Rattle.mesh_background.specs.Medians.{IsLowerMedian, lower_median}
 use Rattle.mesh_background.specs.Mesh.{cells_along, cell_count, mesh_cell_of, cell_pixels, defined_values, image_value, mesh_value, values_of_mesh}
 use Rattle.comp_tree.specs.Raster.{HasValuesInHalfRange}

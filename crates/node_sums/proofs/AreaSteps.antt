@@ -11,9 +11,7 @@ use Rattle.comp_tree.specs.Raster.{Raster, IsPlane, pixels, is_defined}
 use Rattle.comp_tree.specs.ComponentTree.{ComponentTree, parent_in, no_node}
 use Rattle.comp_tree.specs.Components.{nodes, is_in_node, tree_of}
 use Rattle.comp_tree.specs.Nesting.{pixels_of}
-use Rattle.comp_tree.proofs.Ancestors.{below_no_node}
-use Rattle.comp_tree.proofs.Finding.{node-undefined}
-use Rattle.comp_tree.proofs.Members.{IsAmong, among_from_range}
+use Rattle.comp_tree.proofs.Exported.{below_no_node, node-undefined, IsAmong, among_from_range}
 use Rattle.node_sums.specs.declared.entry.Sums.{Sums}
 use Rattle.node_sums.specs.Sums.{sums_over, sums_of, sums_in, IsTreeOfPlane}
 use Rattle.node_sums.specs.Merging.{is_counted}

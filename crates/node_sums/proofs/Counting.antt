@@ -8,13 +8,8 @@ use Rattle.comp_tree.specs.Raster.{Raster, IsPlane, pixels, is_defined}
 use Rattle.comp_tree.specs.ComponentTree.{parent_in, no_node}
 use Rattle.comp_tree.specs.Components.{nodes, node_of, is_in_node, tree_of}
 use Rattle.comp_tree.specs.Laws.{IsAncestor, parent, above}
-use Rattle.comp_tree.proofs.Reaching.{below_from_defined}
-use Rattle.comp_tree.proofs.Ancestors.{pixels_belong_to_their_ancestors, length-rows}
-use Rattle.comp_tree.proofs.OneTree.{read-node_of}
-use Rattle.comp_tree.proofs.Finding.{length-nodes-le}
-use Rattle.comp_tree.proofs.Nesting.{in_node-defined}
-use Rattle.comp_tree.proofs.WellFormed.{tree_of-well_formed}
-use Rattle.comp_tree.proofs.Nodes
+use Rattle.comp_tree.proofs.Exported.{below_from_defined, pixels_belong_to_their_ancestors, length-rows, read-node_of, length-nodes-le, in_node-defined, tree_of-well_formed}
+use Rattle.comp_tree.proofs.Exported as Nodes
 use Rattle.node_sums.specs.Merging.{none_between, is_counted}
 
 -- ---- ways upwards

@@ -14,7 +14,7 @@ use Rattle.comp_tree.specs.ComponentTree.{ComponentTree}
 use Rattle.comp_tree.specs.Components.{nodes, is_in_node, tree_of}
 use Rattle.comp_tree.specs.Nesting.{pixels_of}
 use Rattle.comp_tree.specs.Laws.{top_of}
-use Rattle.comp_tree.proofs.Ancestors.{length-rows}
+use Rattle.comp_tree.proofs.Exported.{length-rows}
 use Rattle.node_sums.specs.declared.entry.Sums.{Sums}
 use Rattle.node_sums.specs.Sums.{sums_over, sums_of, sums_in, AreTheTrees}
 use Rattle.node_sums.specs.Flux.{base_of, flux_of}

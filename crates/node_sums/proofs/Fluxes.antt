@@ -9,11 +9,8 @@ use Rattle.comp_tree.specs.ComponentTree.{ComponentTree, parent_in, no_node}
 use Rattle.comp_tree.specs.Components.{nodes, is_in_node, row_of, tree_of}
 use Rattle.comp_tree.specs.Nesting.{level_in, pixels_of}
 use Rattle.comp_tree.specs.Laws.{IsAncestor, parent, above, top_of, LiesWithin}
-use Rattle.comp_tree.proofs.Members.{IsAmong}
-use Rattle.comp_tree.proofs.Levels.{int_le-true, int_lt-true}
-use Rattle.comp_tree.proofs.Nesting.{top_inside, among_pixels, in_node_from_among}
-use Rattle.comp_tree.proofs.Ancestors.{length-rows, parent-of_node, parent-candidate, below_no_node}
-use Rattle.comp_tree.proofs.Nodes
+use Rattle.comp_tree.proofs.Exported.{IsAmong, int_le-true, int_lt-true, top_inside, among_pixels, in_node_from_among, length-rows, parent-of_node, parent-candidate, below_no_node}
+use Rattle.comp_tree.proofs.Exported as Nodes
 use Rattle.node_sums.specs.Sums.{total}
 use Rattle.node_sums.specs.Flux.{base_of, flux_of}
 use Rattle.node_sums.specs.Laws.{FluxGrowsWithTheComponent, FluxIsNeverNegative, FluxIsZeroAtFlatRootsAlone, IsFlatRoot}

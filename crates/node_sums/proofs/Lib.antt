@@ -1,9 +1,10 @@
-pub mod Merging
-pub mod Sizes
-pub mod Counting
-pub mod Reading
-pub mod Passes
-pub mod AreaSteps
-pub mod Totals
-pub mod Fluxes
-pub mod FluxOfSums
+mod Merging
+mod Sizes
+mod Counting
+mod Reading
+mod Passes
+mod AreaSteps
+mod Totals
+mod Fluxes
+mod FluxOfSums
+pub mod Exported

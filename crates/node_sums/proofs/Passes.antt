@@ -18,9 +18,8 @@ use Rattle.comp_tree.specs.Raster.{Raster, IsPlane, HasValuesInRange, pixels, is
 use Rattle.comp_tree.specs.ComponentTree.{ComponentTree, parent_in, no_node}
 use Rattle.comp_tree.specs.Components.{nodes, node_of, is_in_node, tree_of}
 use Rattle.comp_tree.specs.Nesting.{pixels_of}
-use Rattle.comp_tree.proofs.Ancestors.{length-rows, below_no_node}
-use Rattle.comp_tree.proofs.Finding.{length-pixels}
-use Rattle.comp_tree.proofs.Nodes
+use Rattle.comp_tree.proofs.Exported.{length-rows, below_no_node, length-pixels}
+use Rattle.comp_tree.proofs.Exported as Nodes
 use Rattle.node_sums.specs.declared.entry.Sums.{Sums}
 use Rattle.node_sums.specs.Sums.{sums_over, sums_of, sums_in, IsTreeOfPlane, AreOfPlane, AreTheTrees}
 use Rattle.node_sums.specs.Merging.{together, sums_of_pixel, IsUpTo, HasSizes, is_own, is_counted, AreCounted, AreOwn, AreOwnTo, sums_at_place, value_bound}

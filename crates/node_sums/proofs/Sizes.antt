@@ -9,7 +9,7 @@ use Rattle.std.proofs.lemmas.List.FromFn.{length-range_with_len}
 use Rattle.std.proofs.Math.Nat.{mul_comm, mul-suc, div-lt_iff_lt-mul}
 use Rattle.comp_tree.specs.Limits.{IsWithinRange}
 use Rattle.comp_tree.specs.Raster.{Raster, IsPlane, HasValuesInRange, level, value_at}
-use Rattle.comp_tree.proofs.Members.{IsAmong, all_from_among, among_from_filter, among_from_range}
+use Rattle.comp_tree.proofs.Exported.{IsAmong, all_from_among, among_from_filter, among_from_range}
 use Rattle.node_sums.specs.Sums.{sums_over, x_of, y_of, total}
 use Rattle.node_sums.specs.Merging.{IsUpTo, HasSizes, value_bound, moment_bound}
 

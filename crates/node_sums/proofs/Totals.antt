@@ -3,7 +3,7 @@ use Rattle.std.proofs.Common.{◌≡◌, ℕ, suc, Bool, true, false, List, [], 
 use Rattle.std.specs.Prelude.{ℤ, pos, ◌+ℤ◌, ◌-ℤ◌, ◌*ℤ◌, ◌≤ℤ◌, filter}
 use Rattle.std.proofs.lemmas.Int.{ints}
 use Rattle.std.proofs.Math.IntN.{*ℤ_comm, *ℤ-zero, suc_ℤ-*ℤ}
-use Rattle.comp_tree.proofs.Members.{IsAmong}
+use Rattle.comp_tree.proofs.Exported.{IsAmong}
 use Rattle.node_sums.specs.Sums.{total}
 
 times_suc : (b : ℤ) (n : ℕ) → b *ℤ pos (suc n) ≡ b +ℤ b *ℤ pos n

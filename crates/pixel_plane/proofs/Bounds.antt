@@ -5,7 +5,7 @@ use Rattle.std.specs.declared.option.Option.{Option}
 use Rattle.std.specs.Option.{option_eq}
 use Rattle.std.specs.Ordering.{int_eq}
 use Rattle.std.proofs.lemmas.Int.{ints, by_lt_z}
-use Rattle.comp_tree.proofs.Levels.{int_le-from, int_le-true, int_le-false, int_lt-from, int_lt-false, int_eq-true, int_eq_refl}
+use Rattle.comp_tree.proofs.Exported.{int_le-from, int_le-true, int_le-false, int_lt-from, int_lt-false, int_eq-true, int_eq_refl}
 use Rattle.comp_tree.specs.Limits.{IsInHalfRange}
 use Rattle.pixel_plane.specs.Stored.{is_out_of_range, is_blank, value_stored_as}
 use Rattle.pixel_plane.specs.Sizes.{IsFarNumber}

@@ -12,7 +12,7 @@ use Rattle.std.proofs.lemmas.List.Quantifiers.{position-Some}
 use Rattle.std.proofs.lemmas.Bool.Decides.{nat_tests}
 use Rattle.comp_tree.specs.Limits.{IsInHalfRange}
 use Rattle.comp_tree.specs.Raster.{HasValuesInHalfRange, value_at}
-use Rattle.comp_tree.proofs.Levels.{int_le-from}
+use Rattle.comp_tree.proofs.Exported.{int_le-from}
 use Rattle.pixel_plane.specs.Stored.{is_out_of_range}
 
 there : (values : List (Option ℤ)) (p : ℕ) (v : ℤ) → p < length values → get_or values p None ≡ Some v → slice_get values p ≡ Some (Some v)

@@ -4,10 +4,9 @@ use Rattle.std.specs.Prelude.{Result, Ok, Err, IfOk}
 use Rattle.std.specs.Result.{result_err}
 use Rattle.std.proofs.lemmas.Bool.{or_cases, not-false}
 use Rattle.std.specs.Ordering.{int_eq}
-use Rattle.comp_tree.proofs.Levels.{int_eq-true, int_le-true}
+use Rattle.comp_tree.proofs.Exported.{int_eq-true, int_le-true, shape_of_sides}
 use Rattle.comp_tree.specs.declared.shape.Shape.{Shape}
 use Rattle.comp_tree.specs.Shapes.{is_within}
-use Rattle.comp_tree.proofs.Shapes.{shape_of_sides}
 use Rattle.fits_card.specs.declared.number.Whole.{Whole}
 use Rattle.fits_card.specs.declared.number.Whole.TheVariants.{Is, NotWhole, Beyond, Unreadable}
 use Rattle.fits_hdu.specs.declared.answer.Hdu.{Hdu}

@@ -10,16 +10,11 @@ use Rattle.comp_tree.specs.Grid.{are_neighbours, IsAdjacency}
 use Rattle.comp_tree.specs.Joined.{Joined}
 use Rattle.comp_tree.specs.Components.{IsReached, reaches, representative, nodes, node_of, is_in_node}
 use Rattle.comp_tree.specs.Laws.{top_of}
-use Rattle.comp_tree.proofs.Adjacent.{adjacent_ends, adjacent_from}
-use Rattle.comp_tree.proofs.Joining.{joined_wider, joined_within, joined_pair}
-use Rattle.comp_tree.proofs.Reaching.{reaches-is_IsReached, defined_from_at_least}
-use Rattle.comp_tree.proofs.Levels.{int_le_refl}
-use Rattle.comp_tree.proofs.Ordering.{ordered-same_place}
-use Rattle.comp_tree.proofs.Components.{top-representative}
-use Rattle.comp_tree.proofs.Nodes
+use Rattle.comp_tree.proofs.Exported.{adjacent_ends, adjacent_from, joined_wider, joined_within, joined_pair, reaches-is_IsReached, defined_from_at_least, int_le_refl, ordered-same_place, top-representative}
+use Rattle.comp_tree.proofs.Exported as Nodes
 use Rattle.comp_tree.specs.Nesting.{pixels_of}
 use Rattle.source_pick.specs.Locality.{IsNearHigh, AgreeNearHigh}
-use Rattle.node_sums.proofs.Counting.{same_bool}
+use Rattle.node_sums.proofs.Exported.{same_bool}
 
 -- what two such planes share
 pub record Alike (r s : Raster) (connect : Connect) (h : ℤ) : Type 0 where

@@ -8,14 +8,12 @@ use Rattle.comp_tree.specs.Raster.{Raster, IsPlane, level}
 use Rattle.comp_tree.specs.ComponentTree.{no_node}
 use Rattle.comp_tree.specs.Components.{nodes, tree_of}
 use Rattle.comp_tree.specs.Laws.{top_of, parent_of_node, LiesWithin}
-use Rattle.comp_tree.proofs.Levels.{int_le-from, int_le-true}
-use Rattle.comp_tree.proofs.Components.{top-defined}
-use Rattle.comp_tree.proofs.Ancestors.{below_no_node}
-use Rattle.comp_tree.proofs.Nodes
+use Rattle.comp_tree.proofs.Exported.{int_le-from, int_le-true, top-defined, below_no_node}
+use Rattle.comp_tree.proofs.Exported as Nodes
 use Rattle.node_sums.specs.declared.entry.Sums.{Sums}
 use Rattle.node_sums.specs.Sums.{sums_of}
 use Rattle.node_sums.specs.Flux.{flux_of}
-use Rattle.node_sums.proofs.Fluxes.{level-of_node}
+use Rattle.node_sums.proofs.Exported.{level-of_node}
 use Rattle.source_pick.specs.declared.choice.Choice.{Choice}
 use Rattle.source_pick.specs.Sources.{is_large, is_lowest, is_entry, entry_of, has_contrast, is_strong, is_split, has_strong_sibling, contains_split, is_source}
 use Rattle.comp_tree.specs.Nesting.{level_of_node}

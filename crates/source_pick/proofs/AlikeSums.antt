@@ -6,13 +6,12 @@ use Rattle.comp_tree.specs.declared.shape.Connect.{Connect}
 use Rattle.comp_tree.specs.Raster.{Raster, IsPlane, pixels, level, is_at_least}
 use Rattle.comp_tree.specs.Components.{is_in_node, tree_of}
 use Rattle.comp_tree.specs.Laws.{top_of}
-use Rattle.comp_tree.proofs.Members.{IsAmong, among_from_filter}
-use Rattle.comp_tree.proofs.Ancestors.{below_no_node}
+use Rattle.comp_tree.proofs.Exported.{IsAmong, among_from_filter, below_no_node}
 use Rattle.node_sums.specs.declared.entry.Sums.{Sums}
 use Rattle.node_sums.specs.Sums.{x_of, y_of, total, least, greatest, highest, sums_over, sums_of}
 use Rattle.comp_tree.specs.Nesting.{pixels_of, level_in, level_of_node}
 use Rattle.node_sums.specs.Flux.{base_of, flux_of}
-use Rattle.node_sums.proofs.Fluxes.{level-of_node, base-root, base-child}
+use Rattle.node_sums.proofs.Exported.{level-of_node, base-root, base-child}
 use Rattle.source_pick.specs.Catalogue.{measured_row, catalogue_row}
 use Rattle.source_pick.proofs.Alike.{Alike, alike_sym, level_same, high_from_reached, IsCounterpart, counterpart_sym, top_level_low, top_level_same, pixels_same}
 use Rattle.source_pick.proofs.Bordering.{ParentsAgree, roots, children, parents_agree}

@@ -7,7 +7,7 @@ use Rattle.std.proofs.Math.Nat.{mul-le-mul_right, zero-mul}
 use Rattle.comp_tree.specs.declared.shape.Connect.{Connect}
 use Rattle.comp_tree.specs.declared.shape.Connect.TheVariants.{Four, Eight}
 use Rattle.comp_tree.specs.Grid.{distance, are_linked, are_neighbours}
-use Rattle.comp_tree.proofs.Nearby.{row-from, neighbours-at, far_rows_above, far_rows_below}
+use Rattle.comp_tree.proofs.Exported.{row-from, neighbours-at, far_rows_above, far_rows_below}
 use Rattle.source_pick.specs.Clearing.{IsAround, reach}
 
 -- ---- columns and rows

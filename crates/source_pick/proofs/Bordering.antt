@@ -8,13 +8,8 @@ use Rattle.comp_tree.specs.Grid.{are_neighbours, IsAdjacency}
 use Rattle.comp_tree.specs.Joined.{IsPairOf}
 use Rattle.comp_tree.specs.Components.{IsReached, reaches, nodes, node_of, parent_of, is_candidate}
 use Rattle.comp_tree.specs.Laws.{top_of, parent_of_node}
-use Rattle.comp_tree.proofs.Adjacent.{adjacent_ends, adjacent_from, adjacent_turned}
-use Rattle.comp_tree.proofs.Joining.{joined_pair, along_joined}
-use Rattle.comp_tree.proofs.Reaching.{reaches-is_IsReached, defined_from_at_least}
-use Rattle.comp_tree.proofs.Levels.{int_le_trans, int_le_antisym, int_le_from_lt, int_lt_le, cases_int}
-use Rattle.comp_tree.proofs.Components.{top-representative, top-defined}
-use Rattle.comp_tree.proofs.Nodes
-use Rattle.comp_tree.proofs.Ancestors.{IsParent, parent-candidate, parent-of_node, below_no_node}
+use Rattle.comp_tree.proofs.Exported.{adjacent_ends, adjacent_from, adjacent_turned, joined_pair, along_joined, reaches-is_IsReached, defined_from_at_least, int_le_trans, int_le_antisym, int_le_from_lt, int_lt_le, cases_int, top-representative, top-defined, IsParent, parent-candidate, parent-of_node, below_no_node}
+use Rattle.comp_tree.proofs.Exported as Nodes
 use Rattle.source_pick.proofs.Splits.{parent_cases}
 use Rattle.source_pick.proofs.Alike.{Alike, alike_sym, level_same, level_near, high_from_reached, reached_there, IsCounterpart, counterpart_sym, top_level_low, top_level_same}
 

@@ -7,7 +7,7 @@ use Rattle.std.proofs.lemmas.Option.{slice_get_within}
 use Rattle.comp_tree.specs.declared.tree.NodeRow.{NodeRow}
 use Rattle.comp_tree.specs.ComponentTree.{ComponentTree, IsWellFormed, parent_in, no_node}
 use Rattle.comp_tree.specs.Laws.{IsAncestor, parent, above}
-use Rattle.node_sums.proofs.Reading.{get-written, row-parent}
+use Rattle.node_sums.proofs.Exported.{get-written, row-parent}
 use Rattle.source_pick.specs.declared.splitting.StrongChildren.{StrongChildren}
 use Rattle.source_pick.specs.declared.splitting.StrongChildren.TheVariants.{Zero, One, Several}
 use Rattle.source_pick.specs.Passes.{IsStrongChild, HasStrongChildren, AreStrongChildCounts, with_one_more, IsOnWay, IsAboveSplit, ArePassed, AreAboveSplits}

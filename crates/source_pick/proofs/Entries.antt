@@ -8,16 +8,13 @@ use Rattle.comp_tree.specs.Raster.{Raster, IsPlane}
 use Rattle.comp_tree.specs.ComponentTree.{no_node}
 use Rattle.comp_tree.specs.Components.{nodes, is_in_node, tree_of}
 use Rattle.comp_tree.specs.Laws.{IsAncestor, top_of, parent_of_node}
-use Rattle.comp_tree.proofs.Members.{IsAmong, among-range, among_from_range, find_some, find_none}
-use Rattle.comp_tree.proofs.Levels.{int_le-true, int_lt-true}
-use Rattle.comp_tree.proofs.Ancestors.{length-rows, below_no_node}
+use Rattle.comp_tree.proofs.Exported.{IsAmong, among-range, among_from_range, find_some, find_none, int_le-true, int_lt-true, length-rows, below_no_node, within_from_test, test_from_within, top_inside}
 use Rattle.source_pick.specs.declared.choice.Choice.{Choice}
 use Rattle.source_pick.specs.Sources.{is_large, is_lowest, is_entry, entry_of}
 use Rattle.comp_tree.specs.Nesting.{node_numbers, level_of_node, lies_within}
 use Rattle.source_pick.specs.Passes.{IsOnWay}
 use Rattle.source_pick.specs.Laws.{EntriesAreDisjoint}
 use Rattle.source_pick.proofs.Within.{within_from_way, way_from_shared, way_from_within, HasParent, way_up, way_of_child, level_on_way}
-use Rattle.comp_tree.proofs.Nesting.{within_from_test, test_from_within, top_inside}
 
 -- the parts of the definition
 pub record EntryParts (r : Raster) (connect : Connect) (choice : Choice) (n : ℕ) : Type 0 where

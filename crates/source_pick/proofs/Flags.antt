@@ -12,10 +12,10 @@ use Rattle.comp_tree.specs.Raster.{Raster, IsPlane, pixels}
 use Rattle.comp_tree.specs.ComponentTree.{ComponentTree, parent_in, no_node}
 use Rattle.comp_tree.specs.Components.{nodes, tree_of}
 use Rattle.comp_tree.specs.Laws.{parent_of_node}
-use Rattle.comp_tree.proofs.Ancestors.{below_no_node}
+use Rattle.comp_tree.proofs.Exported.{below_no_node}
 use Rattle.node_sums.specs.declared.entry.Sums.{Sums}
 use Rattle.node_sums.specs.Sums.{sums_of, sums_in, AreTheTrees, ForEachPlaneOf}
-use Rattle.node_sums.proofs.Reading.{get-written}
+use Rattle.node_sums.proofs.Exported.{get-written, same_bool}
 use Rattle.source_pick.specs.declared.choice.Choice.{Choice}
 use Rattle.source_pick.specs.declared.splitting.StrongChildren.{StrongChildren}
 use Rattle.source_pick.specs.declared.splitting.StrongChildren.TheVariants.{Zero, One, Several}
@@ -24,7 +24,6 @@ use Rattle.source_pick.specs.Segmentation.{AreDisjointNodes}
 use Rattle.source_pick.specs.Passes.{entry_number, AreEntries, AreStrong, IsStrongChild, HasTwoStrongChildren, HasStrongChildren, AreStrongChildCounts, are_several, IsOnWay, IsAboveSplit, AreAboveSplits, AreSources, IsFirstOf, IsNoFirst, StandAtFirst, ArePicked}
 use Rattle.source_pick.proofs.Entries.{IsEntryOf, entry_of-parts, entry_of-self, entry_of-found, entry_of_child}
 use Rattle.source_pick.proofs.Splits.{AreTwins, other_way, IsSplitNode, split_parts, split_from, split_entry, sibling_parts, sibling_from, ContainsSplit, contains_parts, contains_from}
-use Rattle.node_sums.proofs.Counting.{same_bool}
 use Rattle.source_pick.proofs.Sourcing.{source_from}
 use Rattle.source_pick.proofs.Listing.{sources_at-one, sources_at-none, flat-push, first_below, source_node, sources_apart}
 use Rattle.source_pick.proofs.Readings.{HasTreeAndSums, numbers-length, tree-shape, rows-length, node_inside, filled}

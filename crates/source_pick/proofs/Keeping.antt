@@ -8,9 +8,7 @@ use Rattle.std.proofs.lemmas.List.FromFn.{get_or-map-range_with_len, length-rang
 use Rattle.comp_tree.specs.declared.shape.Connect.{Connect}
 use Rattle.comp_tree.specs.Raster.{Raster, IsPlane, pixels, value_at, at_least, is_at_least}
 use Rattle.comp_tree.specs.Grid.{are_neighbours}
-use Rattle.comp_tree.proofs.Adjacent.{are_neighbours_comm}
-use Rattle.comp_tree.proofs.Members.{among-filter, any_from_among}
-use Rattle.comp_tree.proofs.Reaching.{among_from_defined, defined_from_at_least, below_from_defined}
+use Rattle.comp_tree.proofs.Exported.{are_neighbours_comm, among-filter, any_from_among, among_from_defined, defined_from_at_least, below_from_defined}
 use Rattle.source_pick.specs.declared.choice.Choice.{Choice}
 use Rattle.source_pick.specs.Locality.{HaveSameSources, IsHighInEither, IsNearHigh, AgreeNearHigh, is_beside_high, is_near_high, kept, KeptIsAPlane, KeptHasTheSameSources}
 use Rattle.source_pick.proofs.Local.{sources_are_local}

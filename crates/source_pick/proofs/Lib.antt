@@ -1,20 +1,21 @@
-pub mod Within
-pub mod Entries
-pub mod Splits
-pub mod Sourcing
-pub mod Listing
-pub mod Readings
-pub mod Strong
-pub mod Counts
-pub mod Flags
-pub mod Marks
-pub mod Means
-pub mod Rows
-pub mod Alike
-pub mod Bordering
-pub mod AlikeSums
-pub mod AlikeSources
-pub mod Local
-pub mod Keeping
-pub mod Around
-pub mod Nearing
+mod Within
+mod Entries
+mod Splits
+mod Sourcing
+mod Listing
+mod Readings
+mod Strong
+mod Counts
+mod Flags
+mod Marks
+mod Means
+mod Rows
+mod Alike
+mod Bordering
+mod AlikeSums
+mod AlikeSources
+mod Local
+mod Keeping
+mod Around
+mod Nearing
+pub mod Exported

@@ -10,12 +10,10 @@ use Rattle.comp_tree.specs.declared.shape.Connect.{Connect}
 use Rattle.comp_tree.specs.Raster.{Raster, IsPlane, pixels}
 use Rattle.comp_tree.specs.Components.{nodes, is_in_node}
 use Rattle.comp_tree.specs.Laws.{top_of, AreDisjoint}
-use Rattle.comp_tree.proofs.Members.{IsAmong, among-filter, among_from_filter}
-use Rattle.comp_tree.proofs.Reaching.{among_from_defined, below_from_defined}
+use Rattle.comp_tree.proofs.Exported.{IsAmong, among-filter, among_from_filter, among_from_defined, below_from_defined, in_node-defined, top_inside}
 use Rattle.node_sums.specs.Sums.{least, sums_over, sums_of}
 use Rattle.comp_tree.specs.Nesting.{pixels_of, node_numbers}
-use Rattle.comp_tree.proofs.Nesting.{in_node-defined, top_inside}
-use Rattle.node_sums.proofs.Passes.{range-push}
+use Rattle.node_sums.proofs.Exported.{range-push}
 use Rattle.source_pick.specs.declared.choice.Choice.{Choice}
 use Rattle.source_pick.specs.Sources.{is_source, sources_at, sources}
 use Rattle.source_pick.specs.Laws.{SourcesAreListed, SourcesAreInOrder}

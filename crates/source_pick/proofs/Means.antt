@@ -11,12 +11,10 @@ use Rattle.std.proofs.Math.Nat.{mul_comm, mul_assoc, mul-le-mul_left, div-lt_iff
 use Rattle.std.proofs.Math.IntN.{*ℤ_comm, *ℤ-zero, suc_ℤ-*ℤ, pos-*ℤ-pos}
 use mir.Syntax.{w64, w128}
 use mir.Val.{SFits, of_z, to_z}
-use Rattle.comp_tree.proofs.Members.{IsAmong}
-use Rattle.comp_tree.proofs.Levels.{int_eq-true, int_eq-from}
+use Rattle.comp_tree.proofs.Exported.{IsAmong, int_eq-true, int_eq-from}
 use Rattle.node_sums.specs.Sums.{total, least, greatest}
 use Rattle.node_sums.specs.Merging.{IsUpTo}
-use Rattle.node_sums.proofs.Sizes.{up_to-times, up_to-minus, up_to_more}
-use Rattle.node_sums.proofs.Reading.{fits}
+use Rattle.node_sums.proofs.Exported.{up_to-times, up_to-minus, up_to_more, fits}
 use Rattle.source_pick.specs.Catalogue.{floor_of, centre_of, spread_of}
 use Rattle.source_pick.specs.Numbers.{IsMoment, IsMean, IsSpread}
 

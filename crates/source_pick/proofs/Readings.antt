@@ -16,12 +16,11 @@ use Rattle.comp_tree.specs.Raster.{Raster, IsPlane, pixels}
 use Rattle.comp_tree.specs.ComponentTree.{ComponentTree, parent_in}
 use Rattle.comp_tree.specs.Components.{nodes, node_of, tree_of}
 use Rattle.comp_tree.specs.Laws.{parent_of_node}
-use Rattle.comp_tree.proofs.Ancestors.{length-rows}
-use Rattle.comp_tree.proofs.Finding.{length-pixels}
+use Rattle.comp_tree.proofs.Exported.{length-rows, length-pixels}
 use Rattle.node_sums.specs.declared.entry.Sums.{Sums}
 use Rattle.node_sums.specs.Sums.{sums_of, sums_in, AreTheTrees}
 use Rattle.comp_tree.specs.Nesting.{level_in, level_of_node}
-use Rattle.node_sums.proofs.Reading.{row-parent, row_level}
+use Rattle.node_sums.proofs.Exported.{row-parent, row_level}
 
 -- ---- the plane
 

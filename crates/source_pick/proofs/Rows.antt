@@ -9,18 +9,13 @@ use Rattle.comp_tree.specs.declared.shape.Connect.{Connect}
 use Rattle.comp_tree.specs.Raster.{Raster, IsPlane, HasValuesInRange, pixels, level}
 use Rattle.comp_tree.specs.Components.{nodes, is_in_node, tree_of}
 use Rattle.comp_tree.specs.Laws.{top_of}
-use Rattle.comp_tree.proofs.Members.{IsAmong, among-filter, among_from_filter}
-use Rattle.comp_tree.proofs.Reaching.{among_from_defined, below_from_defined}
+use Rattle.comp_tree.proofs.Exported.{IsAmong, among-filter, among_from_filter, among_from_defined, below_from_defined, in_node-defined, top_inside}
 use Rattle.node_sums.specs.declared.entry.Sums.{Sums}
 use Rattle.node_sums.specs.Sums.{total, least, greatest, x_of, y_of, sums_over, sums_of}
 use Rattle.comp_tree.specs.Nesting.{pixels_of, level_of_node}
 use Rattle.node_sums.specs.Flux.{base_of, flux_of}
 use Rattle.node_sums.specs.Merging.{IsUpTo, HasSizes}
-use Rattle.comp_tree.proofs.Nesting.{in_node-defined, top_inside}
-use Rattle.node_sums.proofs.Fluxes.{level_at_least, never_negative, BaseCase, at_root, at_child, base-case}
-use Rattle.node_sums.proofs.FluxOfSums.{base_up_to}
-use Rattle.node_sums.proofs.Reading.{fits}
-use Rattle.node_sums.proofs.Sizes.{sizes, filtered_pixels, level_up_to, total-up_to, up_to_more, up_to-minus, x_small, y_small}
+use Rattle.node_sums.proofs.Exported.{level_at_least, never_negative, BaseCase, at_root, at_child, base-case, base_up_to, fits, sizes, filtered_pixels, level_up_to, total-up_to, up_to_more, up_to-minus, x_small, y_small}
 use Rattle.source_pick.specs.declared.catalogue.CatRow.{CatRow}
 use Rattle.source_pick.specs.Catalogue.{centre_of, measured_row, catalogue_row, FitsColumn, FitsColumns, IsCentred}
 use Rattle.source_pick.specs.Numbers.{IsMoment, IsMean, IsMeasured}

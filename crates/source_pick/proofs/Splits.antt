@@ -9,15 +9,13 @@ use Rattle.comp_tree.specs.Raster.{Raster, IsPlane}
 use Rattle.comp_tree.specs.ComponentTree.{no_node}
 use Rattle.comp_tree.specs.Components.{nodes, tree_of}
 use Rattle.comp_tree.specs.Laws.{IsAncestor, parent_of_node}
-use Rattle.comp_tree.proofs.Members.{IsAmong, among-range, among_from_range, any_from_among, IsWitness, witness_from_any}
-use Rattle.comp_tree.proofs.Ancestors.{below_no_node}
-use Rattle.node_sums.proofs.Counting.{goes_down}
+use Rattle.comp_tree.proofs.Exported.{IsAmong, among-range, among_from_range, any_from_among, IsWitness, witness_from_any, below_no_node, within_from_test, test_from_within}
+use Rattle.node_sums.proofs.Exported.{goes_down}
 use Rattle.source_pick.specs.declared.choice.Choice.{Choice}
 use Rattle.source_pick.specs.Sources.{is_large, entry_of, has_contrast, is_strong, share_entry, are_strong_children, is_split, has_strong_sibling, contains_split}
 use Rattle.comp_tree.specs.Nesting.{node_numbers, lies_within}
 use Rattle.source_pick.specs.Passes.{IsOnWay}
 use Rattle.source_pick.proofs.Within.{within_from_way, way_from_within, HasParent, way_up}
-use Rattle.comp_tree.proofs.Nesting.{within_from_test, test_from_within}
 use Rattle.source_pick.proofs.Entries.{row_from_node, IsEntryOf, entry_of-parts, entry_of-found, entry_of_child}
 
 -- ---- tests over all nodes

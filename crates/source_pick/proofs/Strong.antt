@@ -12,8 +12,7 @@ use Rattle.comp_tree.specs.Raster.{Raster, IsPlane}
 use Rattle.comp_tree.specs.ComponentTree.{ComponentTree, no_node}
 use Rattle.comp_tree.specs.Components.{nodes}
 use Rattle.comp_tree.specs.Laws.{parent_of_node}
-use Rattle.comp_tree.proofs.Levels.{int_le-false, int_lt-true, int_lt-from_not_le}
-use Rattle.comp_tree.proofs.Ancestors.{below_no_node}
+use Rattle.comp_tree.proofs.Exported.{int_le-false, int_lt-true, int_lt-from_not_le, below_no_node}
 use Rattle.node_sums.specs.declared.entry.Sums.{Sums}
 use Rattle.node_sums.specs.Sums.{sums_of, ForEachPlaneOf}
 use Rattle.node_sums.specs.Flux.{flux_of}

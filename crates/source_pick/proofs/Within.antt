@@ -9,10 +9,8 @@ use Rattle.comp_tree.specs.ComponentTree.{parent_in}
 use Rattle.comp_tree.specs.Components.{nodes, is_in_node, tree_of}
 use Rattle.comp_tree.specs.Nesting.{level_of_node}
 use Rattle.comp_tree.specs.Laws.{IsAncestor, parent, above, top_of, LiesWithin}
-use Rattle.comp_tree.proofs.Nesting.{top_inside}
-use Rattle.comp_tree.proofs.Ancestors.{length-rows, ancestors_are_the_larger_nodes}
-use Rattle.node_sums.proofs.Counting.{goes_down, holders_are_nested, ancestor_smaller}
-use Rattle.node_sums.proofs.Fluxes.{level-of_node, level_at_least}
+use Rattle.comp_tree.proofs.Exported.{top_inside, length-rows, ancestors_are_the_larger_nodes}
+use Rattle.node_sums.proofs.Exported.{goes_down, holders_are_nested, ancestor_smaller, level-of_node, level_at_least}
 use Rattle.source_pick.specs.Passes.{IsOnWay}
 
 -- ---- ways upwards

@@ -14,11 +14,8 @@ use Rattle.tree_join.specs.Cuts.{IsCutBoundary, IsRowOf}
 use Rattle.strip_crew.specs.Run.{Plan}
 use Rattle.strip_crew.specs.Copied.{IsPairBelow, AreCopied, IsPlan}
 use Rattle.strip_crew.specs.Boundaries.{IsAcross, AreRows, AreApart, IsRowsPair}
-use Rattle.comp_tree.proofs.Joining.{along_joined, joined_pair, joined_sym}
-use Rattle.comp_tree.proofs.Levels.{int_le-from}
-use Rattle.comp_tree.proofs.Order.{at_least_up}
-use Rattle.comp_tree.proofs.Sames.{same_trans, same_pairs, stands_gives}
-use Rattle.tree_join.proofs.Cutting.{strip_inside, strip_low}
+use Rattle.comp_tree.proofs.Exported.{along_joined, joined_pair, joined_sym, int_le-from, at_least_up, same_trans, same_pairs, stands_gives}
+use Rattle.tree_join.proofs.Exported.{strip_inside, strip_low}
 use Rattle.strip_crew.proofs.Copying.{row_under, copied_all, all_stand}
 
 -- a level that both pixels of a link reach

@@ -9,9 +9,8 @@ use Rattle.comp_tree.specs.Forest.{no_node, value_at, IsWithin, IsLink, IsForest
 use Rattle.comp_tree.specs.Grid.{are_adjacent, IsAdjacency, IsInner}
 use Rattle.tree_join.specs.Groups.{IsInside}
 use Rattle.tree_join.specs.Cuts.{IsCut, IsCutBoundary, IsRowOf, IsStripPair}
-use Rattle.comp_tree.proofs.Sames.{same_trans, same_or, same_pairs, stands_from, stands_gives}
-use Rattle.tree_join.proofs.Groups.{forest_groups, groups_stand}
-use Rattle.tree_join.proofs.Cutting.{cut_all}
+use Rattle.comp_tree.proofs.Exported.{same_trans, same_or, same_pairs, stands_from, stands_gives}
+use Rattle.tree_join.proofs.Exported.{forest_groups, groups_stand, cut_all}
 use Rattle.strip_flood.specs.Jobs.{JobView, IsStanding, IsStandingWhereFlooded}
 use Rattle.comp_tree.specs.Raster.{Raster, IsPlane}
 use Rattle.strip_crew.specs.Run.{Plan, IsJobOf, row_at, plan_of}

@@ -9,8 +9,8 @@ use Rattle.comp_tree.specs.Joined.{Or}
 use Rattle.comp_tree.specs.Forest.{no_node, link_of, IsWithin, IsLink, IsEarlier, IsForest, IsKept, JoinSame}
 use Rattle.tree_join.specs.Boundary.{IsBoundary}
 use Rattle.strip_crew.specs.Boundaries.{IsAcross, AreRows, AreApart, IsRowsPair, IsGroup, IsGroupJoined}
-use Rattle.comp_tree.proofs.Sames.{same_sym, same_trans, same_or, same_pairs}
-use Rattle.tree_join.proofs.Groups.{link_left, link_right, part_left, part_right, forest_groups, links_groups, link_inside, groups_same}
+use Rattle.comp_tree.proofs.Exported.{same_sym, same_trans, same_or, same_pairs}
+use Rattle.tree_join.proofs.Exported.{link_left, link_right, part_left, part_right, forest_groups, links_groups, link_inside, groups_same}
 
 -- a group of one strip stays as it is
 pub group_none : (plane : Raster) (connect : Connect) (first_row : ℕ) (links rows : List ℕ) → IsGroup plane first_row links rows → length rows ≡ 0 → IsGroupJoined plane connect first_row rows links links

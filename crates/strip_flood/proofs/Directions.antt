@@ -9,7 +9,7 @@ use Rattle.comp_tree.specs.declared.shape.Connect.TheVariants.{Four, Eight}
 use Rattle.comp_tree.specs.Forest.{value_at, IsWithin}
 use Rattle.comp_tree.specs.Grid.{distance, are_neighbours, IsInner}
 use Rattle.strip_flood.specs.Flood.{ends, cell, cell_of, direction, IsAt, IsNeighbour, HasNone, IsInterior}
-use Rattle.comp_tree.proofs.Adjacent.{adjacent_turned, neighbours_four, neighbours_eight}
+use Rattle.comp_tree.proofs.Exported.{adjacent_turned, neighbours_four, neighbours_eight}
 
 pub inner_sym : (values : List (Option ℤ)) (width : ℕ) (connect : Connect) (first count x y : ℕ) → IsInner values width connect first count x y → IsInner values width connect first count y x
 inner_sym values width connect first count x y i = record { adjacent = adjacent_turned values width connect x y i.adjacent; one = i.other; other = i.one }

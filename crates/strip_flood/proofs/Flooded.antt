@@ -8,9 +8,7 @@ use Rattle.comp_tree.specs.Counts.{count_below, count_defined}
 use Rattle.comp_tree.specs.Grid.{are_adjacent, are_neighbours, IsInner}
 use Rattle.strip_flood.specs.Queue.{IsEmpty}
 use Rattle.strip_flood.specs.Flood.{Ground, State, ends, direction, IsOf, rank_of, cursor_of, IsOpen, IsLooked, IsRanked, IsTurning, seen_count, is_looked, looks, inner_count}
-use Rattle.comp_tree.proofs.Flooding.{flooded}
-use Rattle.comp_tree.proofs.Order.{at_least_defined}
-use Rattle.comp_tree.proofs.Sames.{stands_from}
+use Rattle.comp_tree.proofs.Exported.{flooded, at_least_defined, stands_from}
 use Rattle.strip_flood.proofs.Flow.{ends_small}
 use Rattle.strip_flood.proofs.Directions.{inner_direction}
 use Rattle.strip_flood.proofs.Stepping.{High, Adj}

@@ -8,7 +8,7 @@ use Rattle.comp_tree.specs.Joined.{Joined, here, Or}
 use Rattle.comp_tree.specs.Flooding.{Both, With, IsSound, IsComplete}
 use Rattle.comp_tree.specs.Grid.{IsInner}
 use Rattle.strip_flood.specs.Flood.{Ground, ends, direction, IsOf, cursor_of, IsInQueue, IsLooked}
-use Rattle.comp_tree.proofs.Joining.{joined_sym, joined_within, joined_first, joined_second}
+use Rattle.comp_tree.proofs.Exported.{joined_sym, joined_within, joined_first, joined_second}
 
 -- from p, one look in direction k at a neighbour with a value, or none where there is no such neighbour
 pub record IsAround (g : Ground) (p k old new : ℕ) : Type 0 where

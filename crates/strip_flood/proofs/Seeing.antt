@@ -6,10 +6,8 @@ use Rattle.comp_tree.specs.Forest.{no_node, value_at, IsDefined, IsAtLeast}
 use Rattle.comp_tree.specs.Grid.{are_neighbours}
 use Rattle.strip_flood.specs.Queue.{IsNowhere, IsEmpty, IsFront}
 use Rattle.strip_flood.specs.Flood.{Ground, State, state, list_at, ends, direction, IsOf, rank_of, cursor_of, IsInQueue, IsOpen, IsRanked, IsFair, IsTurning, IsTop, IsAtFront, IsNeighbour, HasNone}
-use Rattle.comp_tree.proofs.Joining.{joined_trans, joined_pair}
-use Rattle.comp_tree.proofs.Order.{at_least_cases}
+use Rattle.comp_tree.proofs.Exported.{joined_trans, joined_pair, at_least_cases, adjacent_from}
 use Rattle.strip_flood.proofs.Flow.{IsSeen, IsAround, cursor_new, queued_new, queued_old}
-use Rattle.comp_tree.proofs.Adjacent.{adjacent_from}
 use Rattle.strip_flood.proofs.Directions.{inner_near}
 use Rattle.strip_flood.proofs.Listing.{list_new, list_old}
 use Rattle.strip_flood.proofs.Stepping.{High, Adj, not_none, push_fair, look_fair}

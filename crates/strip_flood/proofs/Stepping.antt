@@ -6,9 +6,7 @@ use Rattle.comp_tree.specs.Flooding.{Both, With, Without, IsSound, IsComplete}
 use Rattle.comp_tree.specs.Forest.{no_node, IsEarlier, IsWithin, IsHigh, link_of, IsLink, IsForest}
 use Rattle.comp_tree.specs.Grid.{IsInner}
 use Rattle.strip_flood.specs.Flood.{Ground, State, state, list_at, ends, direction, IsOf, rank_of, cursor_of, IsInQueue, IsEarliestKept, IsOpen, IsLooked, IsRanked, IsListed, IsKeptAt, IsFair}
-use Rattle.comp_tree.proofs.Joining.{joined_sym, joined_second}
-use Rattle.comp_tree.proofs.Flooding.{close_sound, close_complete, end_complete}
-use Rattle.comp_tree.proofs.Hanging.{links_before, links_after, link_hung, link_set_other, forest_hung}
+use Rattle.comp_tree.proofs.Exported.{joined_sym, joined_second, close_sound, close_complete, end_complete, links_before, links_after, link_hung, link_set_other, forest_hung}
 use Rattle.strip_flood.proofs.Flow.{sound_fewer, complete_more, add_sound, ends_small, cursor_new, cursor_old, cursor_each, queued_new, queued_old, queued_cases, queued_done, looked_cases}
 use Rattle.strip_flood.proofs.Listing.{push_listed, look_listed, pop_listed}
 use Rattle.strip_flood.proofs.Directions.{inner_sym, inner_direction}

@@ -1,14 +1,15 @@
-pub mod TableLemmas
-pub mod PlaceLemmas
-pub mod Wording
-pub mod Searches
-pub mod CatalogueLemmas
-pub mod SumLemmas
-pub mod Keeping
-pub mod Printing
-pub mod RankLemmas
-pub mod Places
-pub mod Stepping
-pub mod Going
-pub mod Ending
-pub mod TableLaws
+mod TableLemmas
+mod PlaceLemmas
+mod Wording
+mod Searches
+mod CatalogueLemmas
+mod SumLemmas
+mod Keeping
+mod Printing
+mod RankLemmas
+mod Places
+mod Stepping
+mod Going
+mod Ending
+mod TableLaws
+pub mod Exported

@@ -24,8 +24,8 @@ use Rattle.sqlite_rules.proofs.ListLemmas.{all_has, all_from, has_contained, con
 use Rattle.sqlite.specs.Effect.{Database, Reads}
 use Rattle.survey_core.specs.Fields.{name_cmp}
 use Rattle.survey_core.specs.Tables.{Table, AreInOrder, Among}
-use Rattle.survey_core.proofs.TableLemmas.{same_name, name_itself, same_tables}
-use Rattle.survey_core.proofs.TableLemmas as core
+use Rattle.survey_core.proofs.Exported.{same_name, name_itself, same_tables}
+use Rattle.survey_core.proofs.Exported as core
 use Rattle.survey_sqlite.specs.Source.{field_in, entry, IsFormed, AreRows, tables_in}
 use Rattle.survey_sqlite.proofs.Compiled.{simple_query, names_command}
 use Rattle.survey_sqlite.proofs.RowLemmas.{tables_ordered, table_from, table_there}

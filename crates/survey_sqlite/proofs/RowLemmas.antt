@@ -11,7 +11,7 @@ use Rattle.sqlite_rules.specs.Lists.{Has}
 use Rattle.sqlite_rules.proofs.ListLemmas.{all_has}
 use Rattle.survey_core.specs.Fields.{is_name, name_cmp}
 use Rattle.survey_core.specs.Tables.{Table, IsTable as IsField, AreTables, AreInOrder, Among, cells_of, put, without, IsNumbered}
-use Rattle.survey_core.proofs.TableLemmas.{put_there, put_keeps, put_from, order_put, all_put, all_from, same_tables, without_from, without_keeps, order_without, cells_found, cells_missing, same_name}
+use Rattle.survey_core.proofs.Exported.{put_there, put_keeps, put_from, order_put, all_put, all_from, same_tables, without_from, without_keeps, order_without, cells_found, cells_missing, same_name}
 use Rattle.survey_sqlite.specs.Blobs.{cells_in}
 use Rattle.survey_sqlite.specs.Source.{field_in, entry, tables_in, IsFormed, AreRows}
 

@@ -41,7 +41,7 @@ use Rattle.sqlite.specs.Rows.{Written, Task, Part, Then, Puts, Clears, Updates, 
 use Rattle.sqlite.specs.declared.error.Error.{Error}
 use Rattle.sqlite.proofs.Callers.{one_step}
 use Rattle.survey_core.specs.Fields.{name_cmp}
-use Rattle.survey_core.proofs.TableLemmas.{same_name, name_itself}
+use Rattle.survey_core.proofs.Exported.{same_name, name_itself}
 use Rattle.survey_sqlite.specs.Texts.{source, source_schema}
 use Rattle.survey_sqlite.specs.Source.{field_in, IsFormed, AreRows}
 use Rattle.survey_sqlite.proofs.Compiled.{alone, update_query, upsert}

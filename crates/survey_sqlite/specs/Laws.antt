@@ -9,7 +9,7 @@ use Rattle.sqlite.specs.Order.{Row}
 use Rattle.sqlite_trees.specs.declared.memory.MemStore.{MemStore}
 use Rattle.sqlite_rules.specs.Lists.{Has}
 use Rattle.survey_core.specs.Tables.{IsTable, AreTables}
-use Rattle.survey_core.proofs.TableLemmas.{order_put, all_put}
+use Rattle.survey_core.proofs.Exported.{order_put, all_put}
 use Rattle.survey_core.specs.Props.{AreTables-prop}
 use Rattle.survey_sqlite.specs.Source.{entry, tables_in, IsFormed}
 use Rattle.survey_sqlite.specs.Keepers.{tables_held, Rests}

@@ -6,7 +6,7 @@ use Rattle.std.proofs.lemmas.Bool.{true≢false, eq-eqb}
 use Rattle.std.proofs.lemmas.List.{get_or_default, append-nil}
 use Rattle.comp_tree.specs.Raster.{Raster, value_at, is_defined, is_at_least, level, pixels}
 use Rattle.comp_tree.specs.Forest.{no_node, IsWithin, IsEarlier, link_of, IsForest}
-use Rattle.comp_tree.proofs.Order.{before_defined}
+use Rattle.comp_tree.proofs.Exported.{before_defined}
 use Rattle.tree_canon.specs.Canonical.{is_canonical}
 
 -- a link, as the code reads it

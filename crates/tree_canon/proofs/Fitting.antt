@@ -12,20 +12,10 @@ use Rattle.comp_tree.specs.declared.shape.Connect.TheVariants.{Four, Eight}
 use Rattle.comp_tree.specs.declared.tree.NodeRow.{NodeRow}
 use Rattle.comp_tree.specs.Components.{reaches, representative, is_representative, nodes, node_of, parent_of, row_of, tree_of, is_candidate, is_in_node}
 use Rattle.comp_tree.specs.Laws.{top_of}
-use Rattle.comp_tree.proofs.Order.{before_is}
-use Rattle.comp_tree.proofs.Levels.{int_le_trans, int_le_antisym, int_lt-true, cases_int}
-use Rattle.comp_tree.proofs.Joining.{joined_wider}
-use Rattle.comp_tree.proofs.Reaching.{reaches-is_IsReached, below_from_defined, defined_from_at_least}
-use Rattle.comp_tree.proofs.Canonical.{value-level}
-use Rattle.comp_tree.proofs.Walks.{last_there}
-use Rattle.comp_tree.proofs.Representatives.{last_start}
-use Rattle.comp_tree.proofs.Components.{each_component_is_a_node, top-representative, top-defined}
-use Rattle.comp_tree.proofs.Ancestors.{below_no_node, rows-are}
-use Rattle.comp_tree.proofs.Finding.{node-undefined}
-use Rattle.comp_tree.proofs.OneTree.{read-node_of, tree_of-is}
+use Rattle.comp_tree.proofs.Exported.{before_is, int_le_trans, int_le_antisym, int_lt-true, cases_int, joined_wider, reaches-is_IsReached, below_from_defined, defined_from_at_least, value-level, last_there, last_start, each_component_is_a_node, top-representative, top-defined, below_no_node, rows-are, node-undefined, read-node_of, tree_of-is}
 use Rattle.tree_canon.proofs.Finding.{read_link}
 use Rattle.tree_canon.proofs.Parents.{blank}
-use Rattle.comp_tree.proofs.Nodes
+use Rattle.comp_tree.proofs.Exported as Nodes
 use Rattle.comp_tree.specs.Forest.{StandsForAll}
 use Rattle.tree_canon.specs.Fitting.{IsFit, outside, root, inside, up, AreFit}
 

@@ -8,13 +8,7 @@ use Rattle.std.proofs.lemmas.Option.{slice_get_within, same_Some, slice_get-get_
 use Rattle.comp_tree.specs.declared.tree.NodeRow.{NodeRow}
 use Rattle.comp_tree.specs.Raster.{Raster, value_at, level, pixels}
 use Rattle.comp_tree.specs.Forest.{no_node, link_of, IsForest}
-use Rattle.comp_tree.proofs.Canonical.{value-level}
-use Rattle.comp_tree.proofs.Representatives.{before_level}
-use Rattle.comp_tree.proofs.Reaching.{below_from_defined, among_from_defined}
-use Rattle.comp_tree.proofs.Members.{IsAmong, among-filter, among_from_filter}
-use Rattle.comp_tree.proofs.Finding.{length-in_order, length-pixels}
-use Rattle.comp_tree.proofs.Ordering.{ordered-same_place, among_at, among_in_order-from}
-use Rattle.comp_tree.proofs.OneTree.{IsImage, get_is, get-map, get_from_map}
+use Rattle.comp_tree.proofs.Exported.{value-level, before_level, below_from_defined, among_from_defined, IsAmong, among-filter, among_from_filter, length-in_order, length-pixels, ordered-same_place, among_at, among_in_order-from, IsImage, get_is, get-map, get_from_map}
 use Rattle.tree_canon.specs.Canonical.{is_canonical, canonical_pixels, loose_row, node_number_at, IsNumbering}
 use Rattle.tree_canon.specs.Numbers.{HaveOwnPixels, HasRowNumbers, LeadBack, HasLinkNumbers}
 use Rattle.tree_canon.proofs.Finding.{IsPixelLink, pixel_link, link_high}

@@ -14,17 +14,8 @@ use Rattle.comp_tree.specs.Forest.{no_node, IsHigh, link_of, IsForest, IsLast, s
 use Rattle.comp_tree.specs.Grid.{IsAdjacency}
 use Rattle.comp_tree.specs.Joined.{Joined}
 use Rattle.comp_tree.specs.Components.{reaches, representative, is_representative, in_order, nodes, node_of, parent_of, row_of, tree_of, is_candidate}
-use Rattle.comp_tree.proofs.Canonical.{value-level, level-value, last_is, last_own, representative_from_link, link_from_representative, parent_from_link}
-use Rattle.comp_tree.proofs.Representatives.{before_level, last_start, last_earlier}
-use Rattle.comp_tree.proofs.Levels.{int_lt_le, int_le_refl}
-use Rattle.comp_tree.proofs.Members.{IsAmong}
-use Rattle.comp_tree.proofs.Ordering.{earlier-level}
-use Rattle.comp_tree.proofs.Finding.{node-undefined}
-use Rattle.comp_tree.proofs.Reaching.{reaches-is_IsReached, below_from_defined, defined_from_at_least}
-use Rattle.comp_tree.proofs.Joining.{joined_wider}
-use Rattle.comp_tree.proofs.OneTree.{get_is, make_tree}
-use Rattle.comp_tree.proofs.WellFormed.{tree_of-well_formed}
-use Rattle.comp_tree.proofs.Nodes
+use Rattle.comp_tree.proofs.Exported.{value-level, level-value, last_is, last_own, representative_from_link, link_from_representative, parent_from_link, before_level, last_start, last_earlier, int_lt_le, int_le_refl, IsAmong, earlier-level, node-undefined, reaches-is_IsReached, below_from_defined, defined_from_at_least, joined_wider, get_is, make_tree, tree_of-well_formed}
+use Rattle.comp_tree.proofs.Exported as Nodes
 use Rattle.comp_tree.specs.Forest.{StandsForAll}
 use Rattle.tree_canon.specs.Canonical.{is_canonical, canonical_pixels, node_number_at, IsNumbering, loose_row, with_parent}
 use Rattle.tree_canon.proofs.Finding.{IsPixelLink, pixel_link, canonical-none, canonical-some, link_high}

@@ -8,10 +8,7 @@ use Rattle.comp_tree.specs.Counts.{rank, count_defined}
 use Rattle.comp_tree.specs.Forest.{no_node, value_at, IsWithin, IsHigh, IsEarlier, link_of, IsLink, IsForest, JoinSame, IsPixel}
 use Rattle.tree_join.specs.Skips.{IsSkip, AreSkips, IsLeft, IsNoted}
 use Rattle.tree_join.proofs.Turns.{IsWalking}
-use Rattle.comp_tree.proofs.Joining.{joined_trans, joined_sym, joined_left, joined_pair, joined_pairs, joined_within, joined_first, joined_second, at_only}
-use Rattle.comp_tree.proofs.Order.{at_least_not_before, before_defined, before_irrefl, before_trans, before_other}
-use Rattle.comp_tree.proofs.Sames.{same_itself, same_trans, same_sym, same_or, same_turned}
-use Rattle.comp_tree.proofs.Walks.{high_up, rank_less, rank_below}
+use Rattle.comp_tree.proofs.Exported.{joined_trans, joined_sym, joined_left, joined_pair, joined_pairs, joined_within, joined_first, joined_second, at_only, at_least_not_before, before_defined, before_irrefl, before_trans, before_other, same_itself, same_trans, same_sym, same_or, same_turned, high_up, rank_less, rank_below}
 
 module _ (values : List (Option ℤ)) (first count : ℕ) where
   -- what E joins, a relation does that joins the same as E and more

@@ -9,12 +9,7 @@ use Rattle.comp_tree.specs.Raster.{Raster, level}
 use Rattle.comp_tree.specs.Counts.{rank}
 use Rattle.comp_tree.specs.Forest.{no_node, value_at, IsAtLeast, IsWithin, IsHigh, IsEarlier, link_of, IsLink, IsForest, JoinSame, IsPixel}
 use Rattle.tree_join.specs.Moves.{IsEnded, IsMoved, furthest}
-use Rattle.comp_tree.proofs.Hanging.{links_before, links_after, link_hung, forest_hung}
-use Rattle.comp_tree.proofs.Joining.{joined_trans, joined_sym, joined_pair, joined_within, at_only}
-use Rattle.comp_tree.proofs.Levels.{int_le-true, int_le-from}
-use Rattle.comp_tree.proofs.Order.{before_defined, before_irrefl, before_trans}
-use Rattle.comp_tree.proofs.Sames.{same_itself, same_trans, same_or}
-use Rattle.comp_tree.proofs.Walks.{high_up, rank_less}
+use Rattle.comp_tree.proofs.Exported.{links_before, links_after, link_hung, forest_hung, joined_trans, joined_sym, joined_pair, joined_within, at_only, int_le-true, int_le-from, before_defined, before_irrefl, before_trans, same_itself, same_trans, same_or, high_up, rank_less}
 
 -- At one level: c is the link of a, and d that of c. L holds before a is linked to d, and M after it.
 module _ (High : ℕ → Type 0) (L M : ℕ → ℕ → Type 0) (a c d : ℕ) where

@@ -1,10 +1,7 @@
 use Rattle.std.proofs.Common.{refl, rules}
 use Rattle.std.proofs.lemmas.List.{get_or_default}
 use Rattle.detect_top.specs.Lines.{lines_of, tree_lines}
-use Rattle.command_line.proofs.LineLemmas.{waiting}
-use Rattle.command_line.proofs.LineLemmas.{waiting_cut}
-use Rattle.command_line.proofs.LineLemmas.{line_flushed}
-use Rattle.command_line.proofs.LineLemmas.{front_empty}
+use Rattle.command_line.proofs.Exported.{waiting, waiting_cut, line_flushed, front_empty}
 use Rattle.detect_top.proofs.NodeLines.{line_is, line_in, all_lines}
 use Rattle.detect_top.proofs.lines.put_nodes.Goals as goal
 

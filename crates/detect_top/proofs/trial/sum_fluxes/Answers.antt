@@ -4,7 +4,7 @@ use mir.Syntax.{w64}
 use mir.Val.{SFits}
 use Rattle.std.proofs.lemmas.Int.{to_z-of_z}
 use Rattle.node_sums.specs.Flux.{flux_of}
-use Rattle.node_sums.proofs.FluxOfSums.{trees_rows}
+use Rattle.node_sums.proofs.Exported.{trees_rows}
 use Rattle.detect_top.specs.Trials.{flux_bound}
 use Rattle.detect_top.proofs.Summaries.{sum_range_more, flux_at_most, total_flux-all}
 use Rattle.detect_top.proofs.trial.sum_fluxes.Goals as goal

@@ -4,9 +4,9 @@ use Rattle.comp_tree.specs.declared.shape.Shape.{Shape}
 use Rattle.comp_tree.specs.declared.tree.NodeRow.{NodeRow}
 use Rattle.comp_tree.specs.Raster.{Raster, IsPlane}
 use Rattle.node_sums.specs.declared.entry.Sums.{Sums}
-use Rattle.node_sums.proofs.FluxOfSums.{trees_rows}
+use Rattle.node_sums.proofs.Exported.{trees_rows}
 use Rattle.source_pick.specs.Segmentation.{segmentation_of}
-use Rattle.source_pick.proofs.Marks.{few_marked, few_rows}
+use Rattle.source_pick.proofs.Exported.{few_marked, few_rows}
 use Rattle.detect_top.specs.Trials.{is_root, is_mapped, HasSmallFluxes}
 use Rattle.detect_top.proofs.Trials.{small_fluxes}
 use Rattle.detect_top.proofs.Summaries.{few-numbers, summary_is}

@@ -2,7 +2,7 @@ use Rattle.std.proofs.Common.{◌<◌, ◌*◌, ◌∙◌, ap, sym, refl, length
 use Rattle.std.specs.Prelude.{None}
 use Rattle.std.proofs.lemmas.List.{length-replicate}
 use Rattle.comp_tree.specs.Raster.{value_at}
-use Rattle.mesh_background.proofs.Residuals.{written-none, written-next, copy-all}
+use Rattle.mesh_background.proofs.Exported.{written-none, written-next, copy-all}
 use Rattle.detect_top.specs.Trials.{trial_image}
 use Rattle.detect_top.proofs.Trials.{trial_length, trial_shape}
 use Rattle.detect_top.proofs.Summaries.{value-read, value-in_range, state_more, value_more}

@@ -5,7 +5,7 @@ use denote.Ref.{Bor}
 use Rattle.detect_top.specs.Options.{option_named, is_value}
 use Rattle.command_line.specs.Lines.{texts}
 use Rattle.detect_top.proofs.FewOptions.{few_read}
-use Rattle.command_line.proofs.LineLemmas.{text_in}
+use Rattle.command_line.proofs.Exported.{text_in}
 use Rattle.detect_top.proofs.Places.{text_of, past, unnamed, named_by, value_missing, value_by, name_at_fault, value_at_fault, pair_read}
 use Rattle.detect_top.proofs.words.judge_pair.Goals as goal
 

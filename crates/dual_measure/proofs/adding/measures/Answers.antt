@@ -1,6 +1,6 @@
 use Rattle.std.proofs.Common.{◌≡◌, ◌∙◌, List, length, sym, ap, subst}
 use Rattle.std.specs.Prelude.{slice_get}
-use Rattle.node_sums.proofs.Passes.{take_front}
+use Rattle.node_sums.proofs.Exported.{take_front}
 use Rattle.dual_measure.specs.declared.values.Measure.{Measure}
 use Rattle.dual_measure.specs.Measures.{AreTheTreesMeasures, IsSumOf}
 use Rattle.dual_measure.specs.Adding.{blank_measure}

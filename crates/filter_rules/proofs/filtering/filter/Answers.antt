@@ -4,7 +4,7 @@ use Rattle.comp_tree.specs.declared.shape.Shape.{Shape}
 use Rattle.comp_tree.specs.declared.tree.NodeRow.{NodeRow}
 use Rattle.comp_tree.specs.Raster.{IsPlane}
 use Rattle.comp_tree.specs.ComponentTree.{no_node}
-use Rattle.node_sums.proofs.Passes.{numbers_for_pixels}
+use Rattle.node_sums.proofs.Exported.{numbers_for_pixels}
 use Rattle.filter_rules.specs.Passes.{HasRisingLevels, AreValues, flag, filled_pixel}
 use Rattle.filter_rules.proofs.Boxes.{trees_rise}
 use Rattle.filter_rules.proofs.Whole.{both_ok, made_is_filtered, numbers_fit}

@@ -1,7 +1,7 @@
 use Rattle.std.proofs.Common.{◌≡◌, ◌-◌, ◌<◌, suc, sym, ◌∙◌, subst, arith, length, ℕ}
 use Rattle.std.proofs.lemmas.Bool.{true≢false}
 use Rattle.comp_tree.specs.ComponentTree.{parent_in, no_node}
-use Rattle.node_sums.proofs.Reading.{row-parent}
+use Rattle.node_sums.proofs.Exported.{row-parent}
 use Rattle.filter_rules.specs.Passes.{AreWithChildren}
 use Rattle.filter_rules.proofs.Flags.{parent_less, parent_gets, parent_stays}
 use Rattle.filter_rules.proofs.keeping.keep_with_children.Goals.{else-parent-via-then-parent+else-kept-n, else-parent-via-else-parent}

@@ -2,7 +2,7 @@ use Rattle.std.proofs.Common.{◌+◌, ◌<◌, Bool, List, sym, ◌∙◌, ap, 
 use Rattle.std.proofs.lemmas.Bool.{or_left, or_right, eq-eqb}
 use Rattle.std.specs.Prelude.{◌==◌}
 use Rattle.comp_tree.specs.ComponentTree.{parent_in, no_node}
-use Rattle.node_sums.proofs.Reading.{row-parent}
+use Rattle.node_sums.proofs.Exported.{row-parent}
 use Rattle.filter_rules.specs.Passes.{AreWithParents, flag}
 use Rattle.filter_rules.proofs.Flags.{parent_less, parent_refuses, parent_allows}
 use Rattle.filter_rules.proofs.keeping.keep_with_parents.Goals.{then-parent+then-not-kept-parent, else-parent, else-parent-via-then-parent+else-not-kept-parent, else-parent-via-else-parent}

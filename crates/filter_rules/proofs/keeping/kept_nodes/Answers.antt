@@ -1,5 +1,5 @@
 use Rattle.std.proofs.Common.{◌∙◌, sym, ap, subst, List, Bool}
-use Rattle.node_sums.proofs.Passes.{take_front}
+use Rattle.node_sums.proofs.Exported.{take_front}
 use Rattle.comp_tree.specs.declared.tree.NodeRow.{NodeRow}
 use Rattle.filter_rules.specs.Passes.{HasRisingLevels, flag}
 use Rattle.filter_rules.proofs.Boxes.{trees_rise}

@@ -2,7 +2,7 @@ use Rattle.std.proofs.Common.{rules, ◌∙◌, arith}
 use Rattle.std.proofs.lemmas.Int.{to_z-of_z}
 use mir.Syntax.{w64}
 use mir.Val.{SFits}
-use Rattle.node_sums.proofs.FluxOfSums.{trees_rows}
+use Rattle.node_sums.proofs.Exported.{trees_rows}
 use Rattle.filter_rules.proofs.Boxes.{trees_box, admitted}
 use Rattle.filter_rules.proofs.keeping.satisfies.Goals as goal
 

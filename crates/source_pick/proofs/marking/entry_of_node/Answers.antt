@@ -1,6 +1,6 @@
 use Rattle.std.proofs.Common.{arith}
 use Rattle.source_pick.proofs.Readings.{node_inside, parent-read}
-use Rattle.node_sums.proofs.Reading.{read_parent_smaller}
+use Rattle.node_sums.proofs.Exported.{read_parent_smaller}
 use Rattle.source_pick.proofs.Strong.{number_of_self, number_of_root, number_of_child}
 use Rattle.source_pick.proofs.marking.entry_of_node.Goals as goal
 

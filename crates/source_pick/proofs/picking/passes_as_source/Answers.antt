@@ -1,6 +1,6 @@
 use Rattle.std.proofs.Common.{arith, ◌∙◌}
 use Rattle.source_pick.proofs.Readings.{parent-read}
-use Rattle.node_sums.proofs.Reading.{read_parent_smaller}
+use Rattle.node_sums.proofs.Exported.{read_parent_smaller}
 use Rattle.source_pick.proofs.Flags.{IsKnown, several_read, exit_above, exit_entry, exit_weak, exit_root, exit_child}
 use Rattle.source_pick.proofs.picking.passes_as_source.Goals as goal
 

@@ -1,5 +1,5 @@
 use Rattle.std.proofs.Common.{◌∙◌, sym, subst, List, Bool, length}
-use Rattle.node_sums.proofs.Passes.{take_front}
+use Rattle.node_sums.proofs.Exported.{take_front}
 use Rattle.source_pick.specs.Passes.{AreSources}
 use Rattle.source_pick.proofs.picking.source_flags.Goals as goal
 

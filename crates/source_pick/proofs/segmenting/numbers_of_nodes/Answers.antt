@@ -1,6 +1,6 @@
 use Rattle.std.proofs.Common.{◌≡◌, ◌∙◌, ◌≤◌, ◌^◌, ℕ, List, sym, ap, subst, arith, length}
 use Rattle.std.proofs.lemmas.List.{length-replicate}
-use Rattle.node_sums.proofs.Passes.{take_front}
+use Rattle.node_sums.proofs.Exported.{take_front}
 use Rattle.source_pick.specs.Passes.{AreMarked, AreNumbered}
 use Rattle.source_pick.proofs.Marks.{few_marked, few_rows, zeros_replicate}
 use Rattle.source_pick.proofs.segmenting.numbers_of_nodes.Goals as goal

@@ -1,5 +1,5 @@
 use Rattle.std.proofs.Common.{◌∙◌, ℕ, List, sym, subst, length}
-use Rattle.node_sums.proofs.Passes.{take_front}
+use Rattle.node_sums.proofs.Exported.{take_front}
 use Rattle.source_pick.specs.Passes.{AreNumbered}
 use Rattle.source_pick.proofs.Marks.{map_bound}
 use Rattle.source_pick.proofs.segmenting.segment_in_parts.Goals as goal

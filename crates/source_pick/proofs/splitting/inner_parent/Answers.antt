@@ -1,5 +1,5 @@
 use Rattle.std.proofs.Common.{arith}
-use Rattle.node_sums.proofs.Reading.{read_parent_smaller}
+use Rattle.node_sums.proofs.Exported.{read_parent_smaller}
 use Rattle.source_pick.proofs.splitting.inner_parent.Goals as goal
 
 pub bounds-entries-parent : goal.bounds-entries-parent

@@ -1,7 +1,7 @@
 use Rattle.std.proofs.Common.{arith, ap, length, subst, sym, ◌∙◌, ℕ}
 use Rattle.std.proofs.lemmas.Bool.{true≢false}
 use Rattle.source_pick.specs.Passes.{ArePassed}
-use Rattle.node_sums.proofs.Reading.{read_parent_smaller}
+use Rattle.node_sums.proofs.Exported.{read_parent_smaller}
 use Rattle.source_pick.proofs.Counts.{passed_none, passed_with, passed_without, passed_all, row_parent, none_outside}
 use Rattle.source_pick.proofs.splitting.pass_up.Goals.{else-flags-n-via-then-flags-n+else-parent, else-flags-n-via-else-flags-n}
 use Rattle.source_pick.proofs.splitting.pass_up.Goals as goal

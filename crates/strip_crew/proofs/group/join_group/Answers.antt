@@ -1,6 +1,6 @@
 use Rattle.std.proofs.Common.{◌*◌, arith}
 use Rattle.comp_tree.specs.Joined.{Has}
-use Rattle.tree_join.proofs.Rows.{stands_more}
+use Rattle.tree_join.proofs.Exported.{stands_more}
 use Rattle.strip_crew.specs.Boundaries.{IsRowsPair}
 use Rattle.strip_crew.proofs.group.join_group.Goals as goal
 

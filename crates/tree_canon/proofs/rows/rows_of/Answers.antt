@@ -1,4 +1,4 @@
-use Rattle.comp_tree.proofs.Reaching.{below_from_defined}
+use Rattle.comp_tree.proofs.Exported.{below_from_defined}
 use Rattle.tree_canon.proofs.Rising.{defined_at}
 use Rattle.tree_canon.proofs.rows.rows_of.Goals as goal
 

@@ -1,7 +1,7 @@
 use Rattle.std.proofs.Common.{◌∙◌, refl, arith, rules}
 use mir.Syntax.{w64}
 use Rattle.std.proofs.lemmas.Int.{to_z-of_z}
-use Rattle.node_sums.proofs.Reading.{plus-read, peak-read}
+use Rattle.node_sums.proofs.Exported.{plus-read, peak-read}
 use Rattle.dual_measure.proofs.Measuring.{same_measure, low-read, sum_fits}
 use Rattle.dual_measure.proofs.values.Measure.combined.Goals as goal
 

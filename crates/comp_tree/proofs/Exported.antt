@@ -1,0 +1,25 @@
+-- The lemmas of this crate that crates above use. Its other modules of lemmas are its own.
+pub use Rattle.comp_tree.proofs.Levels.{cases_int, int_eq-from, int_eq-true, int_eq_refl, int_le-false, int_le-from, int_le-true, int_le_antisym, int_le_from_lt, int_le_refl, int_le_trans, int_lt-false, int_lt-from, int_lt-from_not_le, int_lt-true, int_lt_le}
+pub use Rattle.comp_tree.proofs.Members.{IsAmong, IsWitness, all_from_among, among-filter, among-range, among_from_filter, among_from_range, any_from_among, find_none, find_some, witness_from_any}
+pub use Rattle.comp_tree.proofs.Order.{at_least_cases, at_least_defined, at_least_not_before, at_least_up, before_defined, before_irrefl, before_is, before_other, before_trans, none_is_undefined}
+pub use Rattle.comp_tree.proofs.Joining.{along_joined, at_only, joined_first, joined_left, joined_pair, joined_pairs, joined_second, joined_sym, joined_trans, joined_wider, joined_within, move_down, move_end, move_on}
+pub use Rattle.comp_tree.proofs.Reaching.{among_from_defined, below_from_defined, defined_from_at_least, reaches-is_IsReached}
+pub use Rattle.comp_tree.proofs.Finding.{among-in_order, length-in_order, length-nodes-le, length-pixels, node-undefined}
+pub use Rattle.comp_tree.proofs.Nearby.{far_rows_above, far_rows_below, filter-skip, neighbours-at, row-from}
+pub use Rattle.comp_tree.proofs.Adjacent.{adjacent_ends, adjacent_from, adjacent_near, adjacent_turned, are_neighbours_comm, neighbours_eight, neighbours_four}
+pub use Rattle.comp_tree.proofs.Ordering.{IsOrdered, among_at, among_in_order-from, earlier-level, earlier-parts, earlier_irrefl, earlier_total, earlier_trans, ordered-in_order, ordered-insert_pixel, ordered-same_place}
+pub use Rattle.comp_tree.proofs.Nodes.{IsCandidate, IsPlace, IsRepresentative, ParentCase, at_least-from, at_least-lower, at_least-own, candidate-from, candidate-parts, child, defined_from_reached, is_representative-parts, level_from_at_least, node-unique, node_of-is, nodes-ordered, parent-case, parent-is, reaches_end, reaches_here, reaches_lower, reaches_start, reaches_sym, reaches_trans, representative-is, representative-same, representative-unique, root}
+pub use Rattle.comp_tree.proofs.Components.{each_component_is_a_node, top-defined, top-here, top-representative}
+pub use Rattle.comp_tree.proofs.Nesting.{all_from, all_gives, among_pixels, in_node-defined, in_node_from_among, test_from_within, top_inside, within_from_test}
+pub use Rattle.comp_tree.proofs.Ancestors.{IsParent, ancestors_are_the_larger_nodes, below_no_node, length-rows, parent-candidate, parent-of_node, pixels_belong_to_their_ancestors, rows-are}
+pub use Rattle.comp_tree.proofs.OneTree.{IsImage, get-map, get-pixels, get_from_map, get_is, make_tree, ordered-equal, read-node_of, tree_of-is}
+pub use Rattle.comp_tree.proofs.WellFormed.{tree_of-well_formed}
+pub use Rattle.comp_tree.proofs.Ranks.{count_below_up}
+pub use Rattle.comp_tree.proofs.Walks.{high_up, last_there, rank_below, rank_less}
+pub use Rattle.comp_tree.proofs.Sames.{same_itself, same_none, same_or, same_or_right, same_pairs, same_sym, same_trans, same_turned, same_wider, stands_from, stands_gives}
+pub use Rattle.comp_tree.proofs.Agreeing.{forest_agree, stands_inner_agree}
+pub use Rattle.comp_tree.proofs.Hanging.{forest_hung, link_hung, link_set_other, links_after, links_before}
+pub use Rattle.comp_tree.proofs.Representatives.{before_level, last_earlier, last_start}
+pub use Rattle.comp_tree.proofs.Flooding.{close_complete, close_sound, end_complete, flooded}
+pub use Rattle.comp_tree.proofs.Canonical.{last_is, last_own, level-value, link_from_representative, parent_from_link, representative_from_link, value-level}
+pub use Rattle.comp_tree.proofs.Shapes.{shape_of_sides}
