@@ -1,5 +1,5 @@
 -- The status of an answer: no fault that the bytes show is one of a device.
-use Rattle.std.proofs.Common.{◌≡◌, ℕ, zero, suc, ◌+◌, ◌≤◌, Bool, true, false, List, length, refl, subst, sym, arith}
+use Rattle.std.proofs.Common.{◌≡◌, ℕ, zero, suc, ◌+◌, ◌≤◌, Bool, true, false, List, drop, length, refl, subst, sym, arith}
 use Rattle.std.specs.Prelude.{ℤ, nat_lt, if◌then◌else◌, Result, Ok, Err, Option, Some, None, ◌==◌}
 use Rattle.comp_tree.specs.declared.shape.Shape.{Shape}
 use Rattle.comp_tree.specs.Raster.{Raster}
@@ -7,11 +7,12 @@ use Rattle.fits_hdu.specs.declared.answer.Hdu.{Hdu}
 use Rattle.fits_hdu.specs.declared.answer.HduFault.{HduFault}
 use Rattle.fits_hdu.specs.declared.answer.HduFault.TheVariants.{NotFits, TruncatedHeader, BadKeyword, HeaderTooLong, Groups, DataTooLong, NoSuchHdu, TruncatedSkip, ReadFault}
 use Rattle.fits_hdu.specs.Headers.{Found, found, refused, found_by, judged, header_of, whole_header, header_read_to, header_at, head_after, is_groups, described, most_data, is_missing, is_bad, begins, last_read, card_at, most_cards}
-use Rattle.fits_hdu.specs.Finding.{following, after, find_of, padded}
+use Rattle.fits_hdu.specs.Finding.{following, following_found, find_of, padded}
 use Rattle.pixel_plane.specs.declared.fault.ImageFault.{ImageFault}
 use Rattle.pixel_plane.specs.Images.{checked}
 use Rattle.pixel_plane.specs.Reading.{image_bytes}
-use Rattle.pixel_plane.specs.Verdicts.{Verdict, image, unfound, unreadable, truncated, image_behind, verdict_by, verdict_of, verdict}
+use Rattle.pixel_plane.specs.Stored.{first_out_of_range}
+use Rattle.pixel_plane.specs.Verdicts.{Verdict, image, unfound, unreadable, truncated, out_of_range, image_unless, image_behind, verdict_by, verdict_of, verdict}
 use Rattle.detect_top.specs.declared.words.Order.{Order}
 use Rattle.detect_top.specs.declared.words.Usage.{Usage as AtFault}
 use Rattle.detect_top.specs.Words.{order_of}
@@ -71,7 +72,7 @@ shown-following bytes hdu size head =
     either (nat_lt (length bytes) (head + size)) _ _ tt
     (either (nat_lt (length bytes) (head + padded size)) _ _ tt (shown-header bytes hdu (head + padded size)))
 
-shown-after : (bytes : List ℕ) (hdu : ℕ) (before : Found) → HasShown before → HasShown (after bytes hdu before)
+shown-after : (bytes : List ℕ) (hdu : ℕ) (before : Found) → HasShown before → HasShown (following_found bytes hdu before)
 shown-after bytes hdu (refused fault taken) h = h
 shown-after bytes hdu (found before head) h = shown-following bytes hdu before.data_bytes head
 
@@ -97,11 +98,16 @@ abbrev IsEarly : Order → Verdict → Type 0
 IsEarly order v = status_of (answer_to order v).end ≤ 2
 
 behind : (order : Order) (bytes : List ℕ) (hdu : Hdu) (head : ℕ) (shape : Shape) → IsEarly order (image_behind bytes hdu head shape)
-behind order bytes hdu head shape = go (nat_lt (length bytes) (head + image_bytes hdu shape)) _ _ _ _ _
+behind order bytes hdu head shape =
+    go (nat_lt (length bytes) (head + image_bytes hdu shape)) (length bytes) (drop head bytes) (first_out_of_range hdu shape (drop head bytes))
   where
-    go : (b : Bool) (h t : ℕ) (plane : Raster) (g e : ℕ) → IsEarly order (if b then truncated h t else image plane g e)
-    go true h t plane g e = omega arith
-    go false h t plane g e = omega arith
+    unless : (body : List ℕ) (pixel : Option ℕ) → IsEarly order (image_unless body hdu head shape pixel)
+    unless body None = omega arith
+    unless body (Some pixel) = omega arith
+
+    go : (b : Bool) (t : ℕ) (body : List ℕ) (pixel : Option ℕ) → IsEarly order (if b then truncated head t else image_unless body hdu head shape pixel)
+    go true t body pixel = omega arith
+    go false t body pixel = unless body pixel
 
 by_image : (order : Order) (bytes : List ℕ) (hdu : Hdu) (head : ℕ) (shape : Result Shape ImageFault) → IsEarly order (verdict_by bytes hdu head shape)
 by_image order bytes hdu head (Err fault) = omega arith

@@ -14,7 +14,7 @@ use Rattle.detect_top.specs.declared.words.Usage.{Usage as AtFault}
 use Rattle.detect_top.specs.declared.fault.Fault.{Fault}
 use Rattle.detect_top.specs.declared.top.End.{End}
 use Rattle.detect_top.specs.declared.top.End.TheVariants.{Done, Usage, Refused, ReadFault, WriteFault, NoMemory}
-use Rattle.pixel_plane.specs.Verdicts.{Verdict, image, unfound, unreadable, truncated, verdict, taken_by}
+use Rattle.pixel_plane.specs.Verdicts.{Verdict, image, unfound, unreadable, truncated, out_of_range, verdict, taken_for}
 use Rattle.detect_top.specs.Streams.{ImageRead, ImageStopped, MemoryWanted, stop_of}
 use Rattle.detect_top.specs.declared.image.Stop.{Stop}
 use Rattle.detect_top.specs.declared.image.Stop.TheVariants as at_image
@@ -30,6 +30,7 @@ verdict_may order (image plane head end) bytes left wants = tt
 verdict_may order (unfound fault taken) bytes left wants = absurd wants
 verdict_may order (unreadable fault head) bytes left wants = absurd wants
 verdict_may order (truncated head taken) bytes left wants = tt
+verdict_may order (out_of_range head end pixel stored) bytes left wants = tt
 
 wants_may : (order : Result Order AtFault) (old new : Option (List ℕ)) (bytes : List ℕ) → Tells order old bytes → WantsMemory order bytes old new
     → MayLackMemory (answer_by order bytes).end
@@ -93,18 +94,21 @@ end_is order (image plane head end) = refl
 end_is order (unfound fault taken) = refl
 end_is order (unreadable fault head) = refl
 end_is order (truncated head taken) = refl
+end_is order (out_of_range head end pixel stored) = refl
 
 stop_writes : (order : Order) (found : Verdict) (stop : Stop) → stop_of found ≡ Some stop → (answer_to order found).output ≡ []
 stop_writes order (image plane head end) stop is = absurd (cc)
 stop_writes order (unfound fault taken) stop is = refl
 stop_writes order (unreadable fault head) stop is = refl
 stop_writes order (truncated head taken) stop is = refl
+stop_writes order (out_of_range head end pixel stored) stop is = refl
 
-answer_takes : (order : Order) (found : Verdict) → (answer_to order found).taken ≡ taken_by found
+answer_takes : (order : Order) (found : Verdict) → (answer_to order found).taken ≡ taken_for found
 answer_takes order (image plane head end) = refl
 answer_takes order (unfound fault taken) = refl
 answer_takes order (unreadable fault head) = refl
 answer_takes order (truncated head taken) = refl
+answer_takes order (out_of_range head end pixel stored) = refl
 
 pub refusal_answered : (order : Order) (bytes : List ℕ) (left left' written written' : Option (List ℕ)) (fault : Fault) → image_made order.job ≡ None → left ≡ Some bytes
     → ImageStopped (verdict bytes order.hdu) bytes left' (at_image.Refused fault) → Appends written written' []

@@ -1,6 +1,6 @@
 -- The HDU that was found, judged and read is the verdict's.
-use Rattle.std.proofs.Common.{◌≡◌, ℕ, ◌+◌, ◌≤◌, cond, nat_lt, Bool, true, false, List, length, sym, ap, subst, arith, Result, Ok, Err}
-use Rattle.std.specs.Prelude.{Some, MatchResult}
+use Rattle.std.proofs.Common.{◌≡◌, ℕ, ◌+◌, ◌≤◌, cond, nat_lt, Bool, true, false, List, drop, length, sym, ap, subst, arith, Result, Ok, Err}
+use Rattle.std.specs.Prelude.{Some, None, MatchResult}
 use Rattle.std.specs.declared.option.Option.{Option}
 use Rattle.dev_io.specs.Streams.{Takes, TakesAtMost}
 use Rattle.comp_tree.specs.declared.shape.Shape.{Shape}
@@ -14,7 +14,8 @@ use Rattle.fits_hdu.specs.Streams.{Stopped}
 use Rattle.pixel_plane.specs.declared.fault.ImageFault.{ImageFault}
 use Rattle.pixel_plane.specs.Images.{checked}
 use Rattle.pixel_plane.specs.Reading.{image_bytes}
-use Rattle.pixel_plane.specs.Verdicts.{Verdict, image, truncated, verdict, verdict_by, verdict_of, taken_by}
+use Rattle.pixel_plane.specs.Stored.{first_out_of_range}
+use Rattle.pixel_plane.specs.Verdicts.{Verdict, image, truncated, out_of_range, image_unless, verdict, verdict_by, verdict_of, taken_for}
 use Rattle.detect_top.specs.declared.image.Stop.{Stop}
 use Rattle.detect_top.specs.Faults.{stop_at_hdu}
 use Rattle.detect_top.specs.Streams.{ImageRead, ImageStopped, stop_of}
@@ -32,25 +33,31 @@ pub image_told : (bytes : List ℕ) (number : ℕ) (hdu : Hdu) (head : ℕ) (lef
 image_told bytes number hdu head left result is reads = subst (λ v. Reads v bytes left result) (sym (verdict_is bytes number (found hdu head) is)) reads
 
 refused_as : (bytes : List ℕ) (number : ℕ) (left : Option (List ℕ)) (fault : HduFault) → (taken : ℕ) × (find_of bytes number ≡ refused fault taken) × Takes bytes left taken
-    → (stop_of (verdict bytes number) ≡ Some (stop_at_hdu fault)) × Takes bytes left (taken_by (verdict bytes number))
+    → (stop_of (verdict bytes number) ≡ Some (stop_at_hdu fault)) × Takes bytes left (taken_for (verdict bytes number))
 refused_as bytes number left fault (taken, is, takes) =
     let same = verdict_is bytes number (refused fault taken) is in
-    (ap stop_of same, subst (Takes bytes left) (sym (ap taken_by same)) takes)
+    (ap stop_of same, subst (Takes bytes left) (sym (ap taken_for same)) takes)
 
 -- a search takes no more than its verdict
-cut_most : (head end long n : ℕ) (plane : Raster) (cut : Bool) → n ≤ head → head ≤ end → n ≤ long → n ≤ taken_by (cond cut (truncated head long) (image plane head end))
-cut_most head end long n plane true few more within = within
-cut_most head end long n plane false few more within = omega arith
+end_most : (bytes : List ℕ) (hdu : Hdu) (head n : ℕ) (shape : Shape) (pixel : Option ℕ) → n ≤ head → n ≤ taken_for (image_unless bytes hdu head shape pixel)
+end_most bytes hdu head n shape None few = omega arith
+end_most bytes hdu head n shape (Some pixel) few = omega arith
 
-behind_most : (bytes : List ℕ) (hdu : Hdu) (head n : ℕ) (shape : Result Shape ImageFault) → n ≤ head → n ≤ length bytes → n ≤ taken_by (verdict_by bytes hdu head shape)
+cut_most : (bytes : List ℕ) (hdu : Hdu) (head long n : ℕ) (shape : Shape) (pixel : Option ℕ) (cut : Bool) → n ≤ head → n ≤ long
+    → n ≤ taken_for (cond cut (truncated head long) (image_unless bytes hdu head shape pixel))
+cut_most bytes hdu head long n shape pixel true few within = within
+cut_most bytes hdu head long n shape pixel false few within = end_most bytes hdu head n shape pixel few
+
+behind_most : (bytes : List ℕ) (hdu : Hdu) (head n : ℕ) (shape : Result Shape ImageFault) → n ≤ head → n ≤ length bytes → n ≤ taken_for (verdict_by bytes hdu head shape)
 behind_most bytes hdu head n (Err fault) few within = few
-behind_most bytes hdu head n (Ok shape) few within = cut_most head (head + image_bytes hdu shape) (length bytes) n _ (nat_lt (length bytes) (head + image_bytes hdu shape)) few (omega arith) within
+behind_most bytes hdu head n (Ok shape) few within =
+    cut_most (drop head bytes) hdu head (length bytes) n shape (first_out_of_range hdu shape (drop head bytes)) (nat_lt (length bytes) (head + image_bytes hdu shape)) few within
 
-search_most : (bytes : List ℕ) (n : ℕ) (search : Found) → n ≤ found_taken search → n ≤ length bytes → n ≤ taken_by (verdict_of bytes search)
+search_most : (bytes : List ℕ) (n : ℕ) (search : Found) → n ≤ found_taken search → n ≤ length bytes → n ≤ taken_for (verdict_of bytes search)
 search_most bytes n (found hdu head) few within = behind_most bytes hdu head n (checked hdu) few within
 search_most bytes n (refused fault taken) few within = few
 
-fault_as : (bytes : List ℕ) (number : ℕ) (left : Option (List ℕ)) → TakesAtMost bytes left (found_taken (find_of bytes number)) → TakesAtMost bytes left (taken_by (verdict bytes number))
+fault_as : (bytes : List ℕ) (number : ℕ) (left : Option (List ℕ)) → TakesAtMost bytes left (found_taken (find_of bytes number)) → TakesAtMost bytes left (taken_for (verdict bytes number))
 unfolding verdict
 fault_as bytes number left lost = record { count = lost.count; few = search_most bytes lost.count (find_of bytes number) lost.few lost.takes.within; takes = lost.takes }
 

@@ -1,12 +1,13 @@
 -- The trial's image: its states, its values, and how large what is made of it is.
-use Rattle.std.proofs.Common.{◌≡◌, ℕ, ◌+◌, ◌*◌, ◌/◌, ◌^◌, ◌<◌, ◌≤◌, zero, suc, Bool, true, false, cond, List, [], ◌∷◌, length, map, refl, sym, ap, subst, ◌∙◌, arith}
+use Rattle.std.proofs.Common.{◌≡◌, ℕ, ◌+◌, ◌*◌, ◌/◌, ◌%◌, ◌^◌, ◌<◌, ◌≤◌, ◌⊎◌, inl, inr, get_or, zero, suc, Bool, true, false, cond, List, [], ◌∷◌, length, map, refl, sym, ap, subst, ◌∙◌, arith}
 use Rattle.std.specs.Prelude.{◌==◌, ℤ, pos, ◌-ℤ◌, ◌≤ℤ◌, filter, slice_get, Option, Some, None, unwrap_or, is_some, All}
 use Rattle.std.specs.Option.{option_map}
-use Rattle.std.proofs.lemmas.Bool.{true≢false}
+use Rattle.std.specs.List.{flat_map, range_with_len}
+use Rattle.std.proofs.lemmas.Bool.{true≢false, cases_lt, eq-eqb, ne_eqb}
 use Rattle.std.proofs.lemmas.Int.{ints}
 use Rattle.std.proofs.lemmas.Nat.{mod_below}
-use Rattle.std.proofs.lemmas.List.{length-map}
-use Rattle.std.proofs.lemmas.List.Elements.{All-map, All-weaker, All-contains, filter_passes}
+use Rattle.std.proofs.lemmas.List.{get_or_past, length-map}
+use Rattle.std.proofs.lemmas.List.Elements.{All-nil, All-append, All-map, All-weaker, All-contains, filter_passes}
 use Rattle.std.proofs.lemmas.List.Sums.{length-filter, count_by-le-length}
 use Rattle.std.proofs.lemmas.Option.{slice_get_within}
 use Rattle.comp_tree.specs.declared.shape.Shape.{Shape}
@@ -18,11 +19,13 @@ use Rattle.comp_tree.specs.Laws.{top_of}
 use Rattle.comp_tree.proofs.Exported.{length-rows, length-pixels, IsImage, get_from_map, get-pixels}
 use Rattle.comp_tree.specs.Raster.{HasValuesInHalfRange}
 use Rattle.mesh_background.specs.Medians.{IsLowerMedian, lower_median}
-use Rattle.mesh_background.specs.Mesh.{cell_of, cell_pixels, defined_values, image_value, mesh_value}
-use Rattle.mesh_background.specs.Residuals.{background, residual_at, residual_of}
-use Rattle.mesh_background.proofs.Exported.{the_one}
+use Rattle.mesh_background.specs.Mesh.{cells_along, cell_count, mesh_cell_of, cell_pixels, defined_values, image_value, mesh_value, values_of_mesh}
+use Rattle.mesh_background.specs.Smoothing.{number_in_grid, places_around, numbers_around, filtered_number, filtered_mesh}
+use Rattle.mesh_background.specs.Residuals.{filtered_values, pixel_level, background, residual_at, residual_of}
+use Rattle.mesh_background.proofs.Exported.{the_one, stay_between, columns-some, length-smooth}
 use Rattle.node_sums.specs.declared.entry.Sums.{Sums}
-use Rattle.node_sums.specs.Sums.{pixels_of, AreOfPlane}
+use Rattle.comp_tree.specs.Nesting.{pixels_of}
+use Rattle.node_sums.specs.Sums.{AreOfPlane}
 use Rattle.node_sums.specs.Flux.{base_of, flux_of}
 use Rattle.node_sums.specs.Merging.{IsUpTo}
 use Rattle.node_sums.proofs.Exported.{up_to-minus, total-up_to, BaseCase, at_root, at_child, base-case, flux-is}
@@ -142,39 +145,80 @@ byte-mesh : (r : Raster) (mesh k : ℕ) → HasBytes r → IsByte (mesh_value r 
 unfolding mesh_value
 byte-mesh r mesh k h = byte-median (defined_values r (cell_pixels r mesh k)) (image_value r) (byte-defined r (cell_pixels r mesh k) h) (byte-image r h)
 
-byte-background : (r : Raster) (mesh p : ℕ) → HasBytes r → IsByte (background r mesh p)
-unfolding background
-byte-background r mesh p h = go (mesh == 0)
+byte-values : (r : Raster) (mesh : ℕ) → HasBytes r → All IsByte (values_of_mesh r mesh)
+unfolding values_of_mesh
+byte-values r mesh h = All-map IsByte (mesh_value r mesh) (range_with_len 0 (cell_count mesh r.shape)) (λ k d lt. byte-mesh r mesh _ h)
+
+byte-number : (values : List ℤ) (columns i j : ℕ) → All IsByte values → IsByte (number_in_grid values columns i j)
+byte-number values columns i j all = go (cases_lt (j * columns + i) (length values))
   where
-    go : (b : Bool) → IsByte (cond b (pos 0) (mesh_value r mesh (cell_of mesh r.shape.width p)))
-    go true = byte-zero
-    go false = byte-mesh r mesh (cell_of mesh r.shape.width p) h
+    go : (j * columns + i < length values) ⊎ (length values ≤ j * columns + i) → IsByte (number_in_grid values columns i j)
+    go (inl lt) = all (j * columns + i) (pos 0) lt
+    go (inr le) = subst IsByte (sym (get_or_past values (j * columns + i) (pos 0) le)) byte-zero
+
+byte-each : {X : Type 0} (f : X → List ℤ) (xs : List X) → ((x : X) → All IsByte (f x)) → All IsByte (flat_map f xs)
+byte-each f [] h = All-nil IsByte
+byte-each f (x ∷ xs) h = All-append IsByte (f x) (flat_map f xs) (h x) (byte-each f xs h)
+
+byte-filtered : (values : List ℤ) (columns rows n : ℕ) → All IsByte values → IsByte (filtered_number values columns rows n)
+unfolding filtered_number numbers_around
+byte-filtered values columns rows n all = byte-median (numbers_around values columns rows (n % columns) (n / columns)) (pos 0)
+    (byte-each (λ l. map (λ k. number_in_grid values columns k l) (places_around columns (n % columns))) (places_around rows (n / columns))
+    (λ l. All-map IsByte (λ k. number_in_grid values columns k l) (places_around columns (n % columns)) (λ k d lt. byte-number values columns _ l all))) byte-zero
+
+byte-smooth : (r : Raster) (mesh : ℕ) → HasBytes r → All IsByte (filtered_values r mesh)
+unfolding filtered_values filtered_mesh
+byte-smooth r mesh h =
+    let columns : ℕ = cells_along mesh r.shape.width in
+    let rows : ℕ = cells_along mesh r.shape.height in
+    All-map IsByte (filtered_number (values_of_mesh r mesh) columns rows) (range_with_len 0 (columns * rows))
+    (λ k d lt. byte-filtered (values_of_mesh r mesh) columns rows _ (byte-values r mesh h))
+
+byte-between : (r : Raster) (mesh p : ℕ) → 0 < mesh → HasBytes r → IsByte (pixel_level mesh r.shape (filtered_values r mesh) p)
+unfolding pixel_level
+byte-between r mesh p some h =
+    let between = stay_between (filtered_values r mesh) (cells_along mesh r.shape.width) (cells_along mesh r.shape.height) mesh (p % r.shape.width) (p / r.shape.width) (pos 0) (pos 255)
+        (columns-some mesh r.shape.width some r.shape.within_limits.some_columns) (columns-some mesh r.shape.height some r.shape.within_limits.some_rows)
+        (length-smooth r mesh) some (λ k d lt. let b : IsByte (get_or (filtered_values r mesh) k d) = byte-smooth r mesh h k d lt in (b.low, b.high)) in
+    record { low = between.0; high = between.1 }
+
+byte-background : (r : Raster) (mesh : ℕ) (flat : Bool) (p : ℕ) → HasBytes r → IsByte (background r mesh flat p)
+unfolding background
+byte-background r mesh flat p h = go (cases_lt 0 mesh) flat
+  where
+    go : (0 < mesh) ⊎ (mesh ≤ 0) → (f : Bool) → IsByte (cond (mesh == 0) (pos 0) (cond f (mesh_value r mesh (mesh_cell_of mesh r.shape.width p)) (pixel_level mesh r.shape (filtered_values r mesh) p)))
+    go (inr none) f = let e : mesh ≡ 0 = omega arith in
+        subst (λ (b : Bool). IsByte (cond b (pos 0) (cond f (mesh_value r mesh (mesh_cell_of mesh r.shape.width p)) (pixel_level mesh r.shape (filtered_values r mesh) p)))) (sym (eq-eqb mesh 0 e)) byte-zero
+    go (inl some) true =
+        subst (λ (b : Bool). IsByte (cond b (pos 0) (mesh_value r mesh (mesh_cell_of mesh r.shape.width p)))) (sym (ne_eqb mesh 0 (λ e. absurd (omega arith)))) (byte-mesh r mesh (mesh_cell_of mesh r.shape.width p) h)
+    go (inl some) false =
+        subst (λ (b : Bool). IsByte (cond b (pos 0) (pixel_level mesh r.shape (filtered_values r mesh) p))) (sym (ne_eqb mesh 0 (λ e. absurd (omega arith)))) (byte-between r mesh p some h)
 
 difference_small : (v b : ℤ) → IsByte v → IsByte b → IsSmall (v -ℤ b)
 difference_small v b h k = record { low = omega (arith, ints, h.low, k.high); high = omega (arith, ints, h.high, k.low) }
 
-small-at : (r : Raster) (mesh p : ℕ) (v : ℤ) → HasBytes r → residual_at r mesh p ≡ Some v → IsSmall v
+small-at : (r : Raster) (mesh : ℕ) (flat : Bool) (p : ℕ) (v : ℤ) → HasBytes r → residual_at r mesh flat p ≡ Some v → IsSmall v
 unfolding residual_at
-small-at r mesh p v h e = go (value_at r.values p) refl e
+small-at r mesh flat p v h e = go (value_at r.values p) refl e
   where
     no_element : None ≡ Some v → ⊥
     no_element e = cc
 
-    go : (o : Option ℤ) → value_at r.values p ≡ o → option_map (λ w. w -ℤ background r mesh p) o ≡ Some v → IsSmall v
+    go : (o : Option ℤ) → value_at r.values p ≡ o → option_map (λ w. w -ℤ background r mesh flat p) o ≡ Some v → IsSmall v
     go None u f = absurd (no_element f)
     go (Some w) u f =
-        let same : w -ℤ background r mesh p ≡ v = cc in
-        subst IsSmall same (difference_small w (background r mesh p) (h.each p w (get_from_read r.values p w u)) (byte-background r mesh p h))
+        let same : w -ℤ background r mesh flat p ≡ v = cc in
+        subst IsSmall same (difference_small w (background r mesh flat p) (h.each p w (get_from_read r.values p w u)) (byte-background r mesh flat p h))
 
-small-residual : (r : Raster) (mesh p : ℕ) (v : ℤ) → HasBytes r → slice_get (residual_of r mesh).values p ≡ Some (Some v) → IsSmall v
+small-residual : (r : Raster) (mesh : ℕ) (flat : Bool) (p : ℕ) (v : ℤ) → HasBytes r → slice_get (residual_of r mesh flat).values p ≡ Some (Some v) → IsSmall v
 unfolding residual_of
-small-residual r mesh p v h e =
-    let image : IsImage (residual_at r mesh) (pixels r) p (Some v) = get_from_map (residual_at r mesh) (pixels r) p (Some v) e in
+small-residual r mesh flat p v h e =
+    let image : IsImage (residual_at r mesh flat) (pixels r) p (Some v) = get_from_map (residual_at r mesh flat) (pixels r) p (Some v) e in
     let place : image.it ≡ p = get-pixels r p image.it image.at in
-    small-at r mesh p v h (subst (λ q. residual_at r mesh q ≡ Some v) place image.gives)
+    small-at r mesh flat p v h (subst (λ q. residual_at r mesh flat q ≡ Some v) place image.gives)
 
-pub trial_residual_is_small : (seed : ℕ) (shape : Shape) (mesh : ℕ) → HasSmallValues (residual_of (trial_image seed shape) mesh).values
-trial_residual_is_small seed shape mesh = record { each = λ p v e. small-residual (trial_image seed shape) mesh p v (record { each = trial_bytes seed shape }) e }
+pub trial_residual_is_small : (seed : ℕ) (shape : Shape) (mesh : ℕ) (flat : Bool) → HasSmallValues (residual_of (trial_image seed shape) mesh flat).values
+trial_residual_is_small seed shape mesh flat = record { each = λ p v e. small-residual (trial_image seed shape) mesh flat p v (record { each = trial_bytes seed shape }) e }
 
 -- ---- the fluxes over a plane of small values
 

@@ -6,6 +6,13 @@ use command_line::numbers::number_between;
 use comp_tree::Connect;
 use filter_rules::Rule;
 
+// The greatest number of pixels of an image, the greatest flux of a node, and the greatest distance of a value from 0.
+const MOST_PIXELS: i64 = 1 << 24;
+
+const MOST_FLUX: i64 = 1 << 62;
+
+const MOST_LEVEL: i64 = 1 << 37;
+
 /// The first word.
 #[derive(Clone, Copy, Debug, PartialEq, Eq)]
 pub(crate) enum Command {
@@ -237,18 +244,18 @@ pub(crate) fn rule(text: &str) -> Option<Rule>
 pub(crate) fn area(text: &str) -> Option<u32>
     ensures { result ≡ area_in text.now }
 {
-    match number_between(text, 0, 16777216) {
+    match number_between(text, 0, MOST_PIXELS) {
         Some(number) => Some(number as u32),
         None => None,
     }
 }
 
-/// A flux, at most 2 ^ 59.
+/// A flux, at most 2 ^ 62.
 #[tactic(auto, unfolding(crate::specs::Options::flux_in))]
 pub(crate) fn flux(text: &str) -> Option<i64>
     ensures { result ≡ flux_in text.now }
 {
-    number_between(text, 0, 576460752303423488)
+    number_between(text, 0, MOST_FLUX)
 }
 
 /// A part of a whole, in thousandths.
@@ -262,12 +269,12 @@ pub(crate) fn thousandths(text: &str) -> Option<u32>
     }
 }
 
-/// A level, within 2 ^ 34 on either side of 0.
+/// A level, within 2 ^ 37 on either side of 0.
 #[tactic(auto, unfolding(crate::specs::Options::threshold_in))]
 pub(crate) fn threshold(text: &str) -> Option<i64>
     ensures { result ≡ threshold_in text.now }
 {
-    number_between(text, -17179869184, 17179869184)
+    number_between(text, -MOST_LEVEL, MOST_LEVEL)
 }
 
 /// The number that a trial's image is made from.
