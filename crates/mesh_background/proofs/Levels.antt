@@ -126,3 +126,11 @@ half-interpolated values columns rows mesh x y some all =
     let past : past_centre mesh x < 2 * mesh = past-below mesh x some in
     half-level (2 * mesh) (past_centre mesh x) _ _ (omega arith) (omega (arith, past))
     (half-down values columns rows mesh y (cell_before columns mesh x) some all) (half-down values columns rows mesh y (cell_after columns mesh x) some all)
+
+-- ---- as the code computes it
+
+-- where a pixel lies along a side, as it was computed
+pub record IsPlaced (count mesh pixel before after past : ℕ) : Type 0 where
+  pub before_is : before ≡ cell_before count mesh pixel
+  pub after_is : after ≡ cell_after count mesh pixel
+  pub past_is : past ≡ past_centre mesh pixel

@@ -7,6 +7,7 @@ pub mod Scaling
 pub mod Fitting
 pub mod Levels
 pub mod Around
+pub mod Slopes
 pub mod Residuals
 pub mod HalfRanges
 pub mod Lessening
