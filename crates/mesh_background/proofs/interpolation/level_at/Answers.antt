@@ -4,7 +4,7 @@ use Rattle.std.proofs.lemmas.Int.{to_z-of_z}
 use mir.Syntax.{w64}
 use mir.Val.{SFits}
 use Rattle.mesh_background.specs.Smoothing.{number_in_grid}
-use Rattle.mesh_background.specs.Interpolation.{past_centre, cell_before, cell_after, part_way, interpolated}
+use Rattle.mesh_background.specs.Interpolation.{past_centre, part_way, interpolated}
 use Rattle.mesh_background.proofs.Fitting.{kept}
 use Rattle.mesh_background.proofs.Levels.{IsPlaced}
 use Rattle.mesh_background.proofs.Slopes.{mixed-is}

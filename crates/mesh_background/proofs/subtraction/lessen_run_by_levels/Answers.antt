@@ -1,4 +1,4 @@
-use Rattle.std.proofs.Common.{rules, ◌≡◌, ◌+◌, ◌-◌, ◌*◌, ◌<◌, ◌≤◌, ℕ, ℤ, List, length, sym, ap, subst, ◌∙◌, arith}
+use Rattle.std.proofs.Common.{rules, ◌≡◌, ◌+◌, ◌-◌, ◌*◌, ◌<◌, ℕ, ℤ, List, length, sym, ap, subst, ◌∙◌, arith}
 use Rattle.std.proofs.lemmas.Int.{to_z-of_z}
 use mir.Syntax.{w64}
 use mir.Val.{SFits}
@@ -7,7 +7,7 @@ use Rattle.comp_tree.specs.Limits.{IsInHalfRange}
 use Rattle.comp_tree.specs.Raster.{Raster}
 use Rattle.mesh_background.specs.declared.slope.Mixed.{Mixed}
 use Rattle.mesh_background.specs.Mesh.{cells_along, cell_count}
-use Rattle.mesh_background.specs.Interpolation.{past_centre, cell_before, cell_after}
+use Rattle.mesh_background.specs.Interpolation.{cell_before, cell_after}
 use Rattle.mesh_background.specs.Residuals.{pixel_level}
 use Rattle.mesh_background.specs.Lessened.{IsLessened}
 use Rattle.mesh_background.specs.Slopes.{steps_on, first_before}

@@ -1,11 +1,9 @@
-use Rattle.std.proofs.Common.{rules, ◌≡◌, ◌+◌, ◌-◌, ◌<◌, ◌≤◌, ℕ, ℤ, pos, ◌+ℤ◌, ◌*ℤ◌, refl, sym, ap, subst, ◌∙◌, arith}
-use Rattle.std.proofs.lemmas.Int.{ints, to_z-of_z}
+use Rattle.std.proofs.Common.{◌≡◌, ◌+◌, ◌-◌, ◌<◌, ℕ, ℤ, pos, ◌+ℤ◌, ◌*ℤ◌, sym, ap, subst, ◌∙◌, arith}
+use Rattle.std.proofs.lemmas.Int.{to_z-of_z}
 use mir.Syntax.{w64}
-use mir.Val.{SFits}
 use Rattle.comp_tree.specs.Limits.{IsInHalfRange}
-use Rattle.comp_tree.specs.Raster.{Raster}
 use Rattle.mesh_background.specs.declared.slope.Mixed.{Mixed}
-use Rattle.mesh_background.specs.Lessened.{IsInHalfRangeFrom, IsLessened}
+use Rattle.mesh_background.specs.Lessened.{IsInHalfRangeFrom}
 use Rattle.mesh_background.specs.Slopes.{in_parts, steps_on}
 use Rattle.mesh_background.proofs.Fitting.{kept}
 use Rattle.mesh_background.proofs.Slopes.{mixed-is, steps-more, no-steps}

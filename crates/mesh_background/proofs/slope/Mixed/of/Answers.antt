@@ -1,9 +1,8 @@
-use Rattle.std.proofs.Common.{◌≡◌, ℕ, ◌*◌, ◌<◌, ◌≤◌, ◌^◌, ℤ, pos, ◌+ℤ◌, ◌-ℤ◌, ◌*ℤ◌, T, Fits, sym, ap, subst, ◌∙◌, arith}
-use mir.Syntax.{w64, w128}
+use Rattle.std.proofs.Common.{ℕ, ◌<◌, ◌≤◌, ◌^◌, ℤ, pos, ◌+ℤ◌, ◌*ℤ◌, T, Fits, sym, subst, ◌∙◌, arith}
+use mir.Syntax.{w64}
 use lib.Signed.{non_neg}
 use lib.IntN.{nat_abs}
 use Rattle.mesh_background.specs.Slopes.{IsSmallStep}
-use Rattle.mesh_background.proofs.Fitting.{kept}
 use Rattle.mesh_background.proofs.Slopes.{IsDivided, divided, IsLeft, left-of, small-kept}
 use Rattle.mesh_background.proofs.slope.Mixed.of.Goals as goal
 
