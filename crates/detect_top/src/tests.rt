@@ -532,7 +532,7 @@ fn random_groups_are_refused(rt: HostRuntime) -> Result<(), Fail> {
 
 #[test]
 fn each_wrong_word_is_named(rt: HostRuntime) -> Result<(), Fail> {
-    let cases: [(&[&str], u32); 19] = [
+    let cases: [(&[&str], u32); 20] = [
         (&[], 1),
         (&["draw"], 1),
         (&["tree", "--rows", "1"], 2),

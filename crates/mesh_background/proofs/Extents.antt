@@ -59,13 +59,6 @@ cells-read mesh width height columns rows some h c r =
     let e : columns * rows ≡ cells_along mesh width * cells_along mesh height = ap (λ (n : ℕ). n * rows) c ∙ ap (λ (n : ℕ). cells_along mesh width * n) r in
     omega arith
 
-pub cell-read : (mesh width height columns x y : ℕ) → 0 < mesh → columns ≡ cells_along mesh width → x < width → y < height
-    → y / mesh * columns + x / mesh < cells_along mesh width * cells_along mesh height
-cell-read mesh width height columns x y some c xl yl =
-    let lt : y / mesh * cells_along mesh width + x / mesh < cells_along mesh width * cells_along mesh height = cell-below mesh width height x y some xl yl in
-    let e : y / mesh * columns ≡ y / mesh * cells_along mesh width = ap (λ (n : ℕ). y / mesh * n) c in
-    omega arith
-
 -- ---- the pixels of a cell
 
 pub columns-some : (mesh width : ℕ) → 0 < mesh → 0 < width → 0 < cells_along mesh width

@@ -1,5 +1,5 @@
 -- Numbers of bounded size: that they fit their type, and what the code computes on the way between two of them.
-use Rattle.std.proofs.Common.{◌≡◌, ℕ, ◌+◌, ◌-◌, ◌*◌, ◌<◌, ◌≤◌, ◌^◌, zero, suc, refl, sym, ap, subst, ◌∙◌, arith}
+use Rattle.std.proofs.Common.{◌≡◌, ℕ, ◌-◌, ◌*◌, ◌<◌, ◌≤◌, ◌^◌, zero, suc, sym, ap, subst, ◌∙◌, arith}
 use Rattle.std.specs.Prelude.{ℤ, pos, negsuc, neg_ℤ, ◌+ℤ◌, ◌*ℤ◌, ◌≤ℤ◌, unsigned_abs}
 use Rattle.std.proofs.lemmas.Int.{ints, to_z-of_z, fits_signed_from_abs}
 use Rattle.std.proofs.Math.IntN.{pos-*ℤ-pos, pos-*ℤ-negsuc}
@@ -79,9 +79,3 @@ pub way-computed : (w : Width) (whole part n : ℕ) (m k p q first second : ℤ)
     → kept w (kept w m *ℤ kept w first) +ℤ kept w (kept w k *ℤ kept w second) ≡ part_way whole part p q
 way-computed w whole part n m k p q first second em ek ep eq le a b few small fits =
     (λ i. kept w (kept w (em i) *ℤ kept w (ep i)) +ℤ kept w (kept w (ek i) *ℤ kept w (eq i))) ∙ way-kept w whole part n p q le a b few small fits
-
-pub square-kept : (w : Width) (whole : ℕ) (m : ℤ) → m ≡ pos whole → whole < 2 ^ hbits w → whole * whole < 2 ^ hbits w → kept w (kept w m *ℤ kept w m) ≡ pos (whole * whole)
-square-kept w whole m e few fits =
-    (λ i. kept w (kept w (e i) *ℤ kept w (e i)))
-    ∙ product-kept w whole whole whole (pos whole) (omega arith) (up_to-pos whole whole (omega arith)) few few fits
-    ∙ pos-*ℤ-pos whole whole

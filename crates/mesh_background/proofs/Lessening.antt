@@ -1,5 +1,5 @@
 -- Planes from whose values the numbers of their cells are taken away, some pixels at a time.
-use Rattle.std.proofs.Common.{◌≡◌, ℕ, ◌+◌, ◌-◌, ◌*◌, ◌/◌, ◌%◌, ◌^◌, ◌<◌, ◌≤◌, min, Bool, true, false, List, length, map, get_or, set, refl, sym, ap, subst, ◌∙◌, arith, ◌⊎◌, inl, inr, get_or-set_other, get_or-set_same, ◌≢◌}
+use Rattle.std.proofs.Common.{◌≡◌, ℕ, ◌+◌, ◌-◌, ◌*◌, ◌/◌, ◌%◌, ◌^◌, ◌<◌, ◌≤◌, min, Bool, true, false, List, length, get_or, set, refl, sym, ap, subst, ◌∙◌, arith, ◌⊎◌, inl, inr, get_or-set_other, get_or-set_same, ◌≢◌}
 use Rattle.std.specs.Prelude.{ℤ, pos, ◌-ℤ◌, Option, Some, None, All, IfSome}
 use Rattle.std.specs.Option.{option_map}
 use Rattle.std.specs.List.{range_with_len}
@@ -18,6 +18,9 @@ use Rattle.comp_tree.specs.Raster.{HasValuesInHalfRange}
 use Rattle.mesh_background.specs.Lessened.{number_of_cell, IsInHalfRangeFrom, IsLessened, IsWritten}
 use Rattle.mesh_background.specs.Interpolation.{interpolated}
 use Rattle.mesh_background.specs.Residuals.{filtered_values, pixel_level, background, residual_at, residual_of}
+use Rattle.mesh_background.specs.declared.slope.Mixed.{Mixed}
+use Rattle.mesh_background.specs.Slopes.{steps_on, first_before}
+use Rattle.mesh_background.proofs.Slopes.{IsRun, run-level, run-along, runs-rise}
 use Rattle.mesh_background.proofs.Extents.{cell-below, along-above, along-below, cells_few}
 use Rattle.mesh_background.proofs.Residuals.{background-flat, background-smooth, cell-number, half-mesh, half-of, residual-all}
 
@@ -155,6 +158,26 @@ unfolding pixel_level
 level-in mesh shape values columns rows x y c r lt =
     (λ i. interpolated values (c i) (r i) mesh x y)
     ∙ (λ i. interpolated values (cells_along mesh shape.width) (cells_along mesh shape.height) mesh (sym (mod-mul-add y shape.width x lt) i) (sym (div-mul-add y shape.width x lt) i))
+
+-- the pixels of a run, where the levels rise evenly
+pub run-lessened : (r new : Raster) (mesh columns rows y next left right : ℕ) (numbers : List ℤ) (level step : Mixed) → 0 < mesh → columns ≡ cells_along mesh r.shape.width
+    → rows ≡ cells_along mesh r.shape.height → left ≡ first_before mesh r.shape.width next → right ≡ first_before mesh r.shape.width (next + 1)
+    → IsRun numbers columns rows mesh y left level step
+    → IsLessened r (λ p. steps_on (2 * mesh * (2 * mesh)) level step (p - (y * r.shape.width + left))) (y * r.shape.width + left) (y * r.shape.width + right) new
+    → IsLessened r (pixel_level mesh r.shape numbers) (y * r.shape.width + left) (y * r.shape.width + right) new
+run-lessened r new mesh columns rows y next left right numbers level step some c d l e h k =
+    let width : ℕ = r.shape.width in
+    let first : ℕ = y * width + left in
+    let rise : first_before mesh width next ≤ first_before mesh width (next + 1) = runs-rise mesh width next in
+    lessened-more r r new (pixel_level mesh r.shape numbers) (λ p. steps_on (2 * mesh * (2 * mesh)) level step (p - first)) first first (y * width + right)
+    (lessened-none r (pixel_level mesh r.shape numbers) first) k (omega arith) (omega (arith, rise, l, e))
+    (λ p low high.
+    let n : ℕ = p - first in
+    let inside : n < first_before mesh width (next + 1) - left = omega (arith, low, high, e) in
+    let column : left + n < width = omega (arith, inside, l) in
+    let place : y * width + (left + n) ≡ p = omega (arith, low) in
+    run-level numbers columns rows mesh y left (left + n) n level step h (run-along mesh width next left n some l inside)
+    ∙ level-in mesh r.shape numbers columns rows (left + n) y c d column ∙ ap (pixel_level mesh r.shape numbers) place)
 
 -- ---- all pixels
 

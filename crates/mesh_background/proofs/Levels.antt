@@ -1,18 +1,17 @@
 -- The levels between the numbers of four cells.
-use Rattle.std.proofs.Common.{◌≡◌, ℕ, ◌+◌, ◌-◌, ◌*◌, ◌/◌, ◌%◌, ◌<◌, ◌≤◌, ◌^◌, zero, suc, min, List, length, get_or, refl, sym, ap, subst, ◌∙◌, arith, ◌⊎◌, inl, inr}
-use Rattle.std.specs.Prelude.{ℤ, pos, negsuc, neg_ℤ, ◌+ℤ◌, ◌*ℤ◌, ◌≤ℤ◌, ◌<ℤ◌, All}
+use Rattle.std.proofs.Common.{◌≡◌, ℕ, ◌+◌, ◌*◌, ◌/◌, ◌%◌, ◌<◌, ◌≤◌, ◌^◌, List, length, sym, subst, arith, ◌⊎◌, inl, inr}
+use Rattle.std.specs.Prelude.{ℤ, pos, neg_ℤ, ◌*ℤ◌, ◌≤ℤ◌, All}
 use Rattle.std.specs.Int.{int_div_euclid}
 use Rattle.std.proofs.lemmas.Bool.{cases_lt}
 use Rattle.std.proofs.lemmas.Int.{ints}
 use Rattle.std.proofs.lemmas.List.{get_or_past}
 use Rattle.std.proofs.lemmas.Nat.{div-add-mod', mod_below, mul-le, mul-add-lt}
-use Rattle.std.proofs.Math.IntN.{pos-*ℤ-pos, pos-*ℤ-negsuc}
 use Rattle.comp_tree.specs.Limits.{IsInHalfRange}
 use Rattle.mesh_background.specs.Laws.{PixelsLieBetweenCentres, LevelsStayBetween}
 use Rattle.mesh_background.specs.Lessened.{IsHalfRangeTimes}
 use Rattle.mesh_background.specs.Smoothing.{number_in_grid}
-use Rattle.mesh_background.specs.Interpolation.{pixel_centre, cell_centre, next_cell, past_centre, cell_before, cell_after, part_way, down_column, interpolated}
-use Rattle.mesh_background.proofs.Scaling.{times-times, IsFloor, floor-is, floor-from, floor-up_to, way-from, way-up_to}
+use Rattle.mesh_background.specs.Interpolation.{pixel_centre, next_cell, past_centre, cell_before, cell_after, part_way, down_column, interpolated}
+use Rattle.mesh_background.proofs.Scaling.{times-times, floor-is, floor-from, floor-up_to, way-from, way-up_to}
 use Rattle.mesh_background.proofs.Fitting.{IsUpTo, up_to-way, up_to-low, up_to-high}
 
 -- ---- along a side
@@ -126,3 +125,11 @@ half-interpolated values columns rows mesh x y some all =
     let past : past_centre mesh x < 2 * mesh = past-below mesh x some in
     half-level (2 * mesh) (past_centre mesh x) _ _ (omega arith) (omega (arith, past))
     (half-down values columns rows mesh y (cell_before columns mesh x) some all) (half-down values columns rows mesh y (cell_after columns mesh x) some all)
+
+-- ---- as the code computes it
+
+-- where a pixel lies along a side, as it was computed
+pub record IsPlaced (count mesh pixel before after past : ℕ) : Type 0 where
+  pub before_is : before ≡ cell_before count mesh pixel
+  pub after_is : after ≡ cell_after count mesh pixel
+  pub past_is : past ≡ past_centre mesh pixel

@@ -7,6 +7,7 @@ mod Scaling
 mod Fitting
 mod Levels
 mod Around
+mod Slopes
 mod Residuals
 mod HalfRanges
 mod Lessening

@@ -5,12 +5,12 @@ use Rattle.std.specs.Option.{option_map}
 use Rattle.std.specs.List.{range_with_len, flat_map}
 use Rattle.std.proofs.lemmas.Bool.{true≢false, cases_lt, ne_eqb, eq-eqb}
 use Rattle.std.proofs.Math.ListN.{length-set}
-use Rattle.std.proofs.lemmas.Int.{ints, to_z-of_z, fits_signed_from_abs}
+use Rattle.std.proofs.lemmas.Int.{ints, fits_signed_from_abs}
 use mir.Syntax.{w64}
-use mir.Val.{SFits, of_z, to_z}
-use Rattle.std.proofs.lemmas.List.{length-map, get_or_past}
+use mir.Val.{SFits}
+use Rattle.std.proofs.lemmas.List.{length-map}
 use Rattle.std.proofs.lemmas.List.Elements.{All-nil, All-append, All-map, All-weaker, All-contains, filter_passes}
-use Rattle.std.proofs.lemmas.List.FromFn.{fill_by_all, get_or-map-range_with_len, length-map-range_with_len}
+use Rattle.std.proofs.lemmas.List.FromFn.{fill_by_all, length-map-range_with_len}
 use Rattle.std.proofs.lemmas.Nat.{div-mul-add, mod-mul-add}
 use Rattle.comp_tree.specs.Limits.{IsWithinRange, IsInHalfRange}
 use Rattle.comp_tree.specs.declared.shape.Shape.{Shape}
@@ -21,7 +21,6 @@ use Rattle.mesh_background.specs.Mesh.{cells_along, cell_count, mesh_cell_of, ce
 use Rattle.comp_tree.specs.Raster.{HasValuesInHalfRange}
 use Rattle.mesh_background.specs.Lessened.{IsWritten}
 use Rattle.mesh_background.specs.Smoothing.{number_in_grid, places_around, numbers_around, filtered_number, filtered_mesh}
-use Rattle.mesh_background.specs.Interpolation.{interpolated}
 use Rattle.mesh_background.specs.Residuals.{filtered_values, pixel_level, background, residual_at, residual_of}
 use Rattle.mesh_background.specs.Laws.{NoMeshLeavesThePlane, ResidualIsPlane, ResidualIsInRange}
 use Rattle.mesh_background.proofs.Medians.{the_one}

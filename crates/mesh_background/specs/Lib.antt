@@ -6,3 +6,4 @@ pub mod Residuals
 pub mod Laws
 pub mod Bounds
 pub mod Lessened
+pub mod Slopes

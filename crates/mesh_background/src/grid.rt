@@ -3,6 +3,7 @@
 ghost use Rattle.std.specs.Prelude.{◌≡◌, ◌+◌, ◌-◌, ◌*◌, ◌/◌, ◌%◌, ◌<◌, ◌≤◌, ◌^◌};
 ghost use Rattle.mesh_background.specs.Bounds.{IsCell};
 ghost use Rattle.mesh_background.specs.Mesh.{cells_along, cell_count};
+ghost use Rattle.mesh_background.specs.Slopes.{first_before};
 
 use comp_tree::Shape;
 
@@ -49,6 +50,15 @@ impl Grid {
         ensures few { result ≤ 2 ^ 24 }
     {
         self.columns * self.rows
+    }
+
+    /// The column of pixels from which on `next` is the first column of cells whose centre lies past theirs.
+    pub(crate) fn run_start(&self, next: u32) -> u32
+        requires { next ≤ self.now.columns + 1 }
+        ensures { result ≡ first_before self.now.mesh self.now.shape.width next }
+    {
+        let half = (self.mesh + 1) / 2;
+        ((next * self.mesh).max(half) - half).min(self.shape.width)
     }
 
     /// The pixels of a cell. Those at the right and at the bottom may be short.

@@ -1,11 +1,13 @@
 //! The level of the background at a pixel, between the numbers of the four cells whose centres lie around it.
 
-ghost use Rattle.std.specs.Prelude.{◌≡◌, ◌+◌, ◌-◌, ◌*◌, ◌<◌, ◌≤◌, pos, length, All};
-ghost use Rattle.std.specs.Int.{int_div_euclid};
+ghost use Rattle.std.specs.Prelude.{◌≡◌, ◌+◌, ◌*◌, ◌^◌, ◌<◌, ◌≤◌, pos, ◌-ℤ◌, ◌*ℤ◌, length, All};
 ghost use Rattle.comp_tree.specs.Limits.{IsInHalfRange};
 ghost use Rattle.mesh_background.specs.Interpolation.{past_centre, cell_before, cell_after, part_way, interpolated};
 ghost use Rattle.mesh_background.specs.Smoothing.{number_in_grid};
 ghost use Rattle.mesh_background.specs.Lessened.{IsHalfRangeTimes};
+ghost use Rattle.mesh_background.specs.Slopes.{in_parts, IsSmallStep};
+
+use crate::slope::Mixed;
 
 /// The level at the pixel in column `x` of row `y`, between the numbers of the four cells whose centres lie around it: bilinear, in
 /// whole numbers, rounded towards minus infinity. `values` has one number for each cell, row by row; the centre of a cell is that
@@ -25,7 +27,7 @@ pub fn level_at(values: &[i64], columns: u32, rows: u32, mesh: u32, x: u32, y: u
     let down = Between::cells(rows, mesh, y);
     let before = down_column(values, columns, mesh, &down, across.before);
     let after = down_column(values, columns, mesh, &down, across.after);
-    level_between(mesh, across.past, before, after)
+    level_between(mesh, across.past, before, after).floor
 }
 
 /// Where the centre of a pixel lies along a side: between those of two cells, `past` half pixels behind the first one's.
@@ -94,17 +96,42 @@ fn on_the_way(whole: u32, part: u32, p: i64, q: i64) -> i64
     i64::from(whole - part) * p + i64::from(part) * q
 }
 
-/// The level that lies `part` of twice the mesh on the way from `p` to `q`, which are such numbers of two columns of cells.
-pub(crate) fn level_between(mesh: u32, part: u32, p: i64, q: i64) -> i64
+/// The level that lies `part` of twice the mesh on the way from `p` to `q`, which are such numbers of two columns of cells: a mixed
+/// number of `parts_of(mesh)` parts.
+pub(crate) fn level_between(mesh: u32, part: u32, p: i64, q: i64) -> Mixed
     requires some { 0 < mesh }
     requires few { mesh ≤ 65535 }
     requires part { part ≤ 2 * mesh }
     requires first { IsHalfRangeTimes (2 * mesh) p }
     requires second { IsHalfRangeTimes (2 * mesh) q }
-    ensures level { result ≡ int_div_euclid (part_way (2 * mesh) part p q) (pos (2 * mesh * (2 * mesh))) }
-    ensures in_range { IsInHalfRange result }
+    ensures value { in_parts (2 * mesh * (2 * mesh)) result ≡ part_way (2 * mesh) part p q }
+    ensures rest { result.rest < 2 * mesh * (2 * mesh) }
 {
-    let whole = i128::from(2 * mesh);
     let scaled = i128::from(2 * mesh - part) * i128::from(p) + i128::from(part) * i128::from(q);
-    scaled.div_euclid(whole * whole) as i64
+    Mixed::of(scaled, parts_of(mesh))
+}
+
+/// How much such a level rises from one pixel of a row to the next.
+pub(crate) fn step_between(mesh: u32, p: i64, q: i64) -> Mixed
+    requires some { 0 < mesh }
+    requires few { mesh ≤ 65535 }
+    requires first { IsHalfRangeTimes (2 * mesh) p }
+    requires second { IsHalfRangeTimes (2 * mesh) q }
+    ensures value { in_parts (2 * mesh * (2 * mesh)) result ≡ pos 2 *ℤ (q -ℤ p) }
+    ensures rest { result.rest < 2 * mesh * (2 * mesh) }
+    ensures small { IsSmallStep result.floor }
+{
+    Mixed::of(2 * (i128::from(q) - i128::from(p)), parts_of(mesh))
+}
+
+/// How many parts a unit of these levels has.
+pub(crate) fn parts_of(mesh: u32) -> u64
+    requires some { 0 < mesh }
+    requires few { mesh ≤ 65535 }
+    ensures parts { result ≡ 2 * mesh * (2 * mesh) }
+    ensures some { 0 < result }
+    ensures few { result ≤ 2 ^ 60 }
+{
+    let whole = u64::from(2 * mesh);
+    whole * whole
 }

@@ -7,6 +7,7 @@ mod grid;
 mod interpolation;
 pub mod laws;
 mod median;
+mod slope;
 mod smoothing;
 mod subtraction;
 

@@ -1,15 +1,18 @@
 //! The residual of a plane.
 
-ghost use Rattle.std.specs.Prelude.{◌≡◌, ◌+◌, ◌*◌, ◌<◌, ◌≤◌, true, false, length, All, IfOk, IfSome, OnOk, OnErr};
+ghost use Rattle.std.specs.Prelude.{◌≡◌, ℕ, ◌+◌, ◌-◌, ◌*◌, ◌^◌, ◌<◌, ◌≤◌, true, false, length, All, IfOk, IfSome, OnOk, OnErr};
 ghost use Rattle.comp_tree.specs.Limits.{IsInHalfRange};
 ghost use Rattle.comp_tree.specs.Raster.{IsPlane, HasValuesInHalfRange, value_at};
 ghost use Rattle.mesh_background.specs.Mesh.{cell_count, values_of_mesh};
 ghost use Rattle.mesh_background.specs.Residuals.{filtered_values, pixel_level, residual_of};
+ghost use Rattle.mesh_background.specs.Interpolation.{past_centre, cell_before, cell_after};
 ghost use Rattle.mesh_background.specs.Lessened.{number_of_cell, IsInHalfRangeFrom, IsLessened};
+ghost use Rattle.mesh_background.specs.Slopes.{steps_on, first_before, IsSmallStep};
 
 use crate::cells::mesh_values;
 use crate::grid::Grid;
-use crate::interpolation::level_at;
+use crate::interpolation::{Between, down_column, level_between, parts_of, step_between};
+use crate::slope::Mixed;
 use crate::smoothing::smooth_mesh;
 use comp_tree::Plane;
 use dev_io::OutOfMemory;
@@ -147,10 +150,73 @@ fn lessen_row_by_levels(plane: &mut Plane, grid: &Grid, numbers: &[i64], y: u32)
     ensures { IsLessened plane.old (pixel_level grid.now.mesh plane.old.shape numbers.now)
         (y * plane.old.shape.width) ((y + 1) * plane.old.shape.width) plane.new }
 {
+    let down = Between::cells(grid.rows, grid.mesh, y);
+    for next in 0..grid.columns + 1 {
+        lessen_run_by_levels(plane, grid, numbers, y, &down, next);
+    }
+}
+
+// The same for those pixels of a row that lie between the same two columns of cells, of which the second one is `next`. There the
+// level rises evenly, so there is no division for each pixel.
+fn lessen_run_by_levels(
+    plane: &mut Plane,
+    grid: &Grid,
+    numbers: &[i64],
+    y: u32,
+    down: &Between,
+    next: u32,
+)
+    requires shape { grid.now.shape ≡ plane.old.shape }
+    requires one_each { IsPlane plane.old }
+    requires row { y < plane.old.shape.height }
+    requires before { down.now.before ≡ cell_before grid.now.rows grid.now.mesh y }
+    requires after { down.now.after ≡ cell_after grid.now.rows grid.now.mesh y }
+    requires past { down.now.past ≡ past_centre grid.now.mesh y }
+    requires next { next ≤ grid.now.columns }
+    requires numbers { length numbers.now ≡ cell_count grid.now.mesh plane.old.shape }
+    requires numbers_in_range { All IsInHalfRange numbers.now }
+    requires in_range { IsInHalfRangeFrom (y * plane.old.shape.width + first_before grid.now.mesh plane.old.shape.width next) plane.old.values }
+    ensures { IsLessened plane.old (pixel_level grid.now.mesh plane.old.shape numbers.now)
+        (y * plane.old.shape.width + first_before grid.now.mesh plane.old.shape.width next)
+        (y * plane.old.shape.width + first_before grid.now.mesh plane.old.shape.width (next + 1)) plane.new }
+{
+    let mesh = grid.mesh;
+    let left = grid.run_start(next);
+    let right = grid.run_start(next + 1);
+    let across = Between::cells(grid.columns, mesh, left);
+    let before = down_column(numbers, grid.columns, mesh, down, across.before);
+    let after = down_column(numbers, grid.columns, mesh, down, across.after);
+    let level = level_between(mesh, across.past, before, after);
+    let step = step_between(mesh, before, after);
     let first = y * grid.shape.width;
-    for x in 0..grid.shape.width {
-        let level = level_at(numbers, grid.columns, grid.rows, grid.mesh, x, y);
-        lessen(plane, first + x, level);
+    lessen_slope(
+        plane,
+        first + left,
+        first + right,
+        level,
+        step,
+        parts_of(mesh),
+    );
+}
+
+// Takes levels away from the values of the pixels from `first` up to `end`: from the first one this one, from the next one a step
+// more, and so on.
+fn lessen_slope(plane: &mut Plane, first: u32, end: u32, level: Mixed, step: Mixed, parts: u64)
+    requires order { first ≤ end }
+    requires within { end ≤ length plane.old.values }
+    requires some { 0 < parts }
+    requires few { parts ≤ 2 ^ 60 }
+    requires rest { level.rest < parts }
+    requires step_rest { step.rest < parts }
+    requires step { IsSmallStep step.floor }
+    requires levels { (k : ℕ) → k < end - first → IsInHalfRange (steps_on parts level step k) }
+    requires in_range { IsInHalfRangeFrom first plane.old.values }
+    ensures { IsLessened plane.old (λ p. steps_on parts level step (p - first)) first end plane.new }
+{
+    let mut at = level;
+    for p in first..end {
+        lessen(plane, p, at.floor);
+        at = at.plus(step, parts);
     }
 }
 

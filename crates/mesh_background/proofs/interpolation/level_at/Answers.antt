@@ -4,15 +4,11 @@ use Rattle.std.proofs.lemmas.Int.{to_z-of_z}
 use mir.Syntax.{w64}
 use mir.Val.{SFits}
 use Rattle.mesh_background.specs.Smoothing.{number_in_grid}
-use Rattle.mesh_background.specs.Interpolation.{past_centre, cell_before, cell_after, part_way, interpolated}
+use Rattle.mesh_background.specs.Interpolation.{past_centre, part_way, interpolated}
 use Rattle.mesh_background.proofs.Fitting.{kept}
+use Rattle.mesh_background.proofs.Levels.{IsPlaced}
+use Rattle.mesh_background.proofs.Slopes.{mixed-is}
 use Rattle.mesh_background.proofs.interpolation.level_at.Goals as goal
-
--- where a pixel lies along a side, as it was computed
-record IsPlaced (count mesh pixel before after past : ℕ) : Type 0 where
-  before_is : before ≡ cell_before count mesh pixel
-  after_is : after ≡ cell_after count mesh pixel
-  past_is : past ≡ past_centre mesh pixel
 
 level-is : (values : List ℤ) (columns rows mesh x y a b p c d q : ℕ) (first second result : ℤ) → IsPlaced columns mesh x a b p → IsPlaced rows mesh y c d q
     → first ≡ part_way (2 * mesh) q (number_in_grid values columns a c) (number_in_grid values columns a d)
@@ -28,14 +24,15 @@ level-is values columns rows mesh x y a b p c d q first second result h k one tw
 
 pub returns : goal.returns
 returns c =
-    let fits : SFits w64 c.level_between.result = search rules in
+    let fits : SFits w64 c.level_between.result.floor = search rules in
     let first : SFits w64 c.down_column-before.result = search rules in
     let second : SFits w64 c.down_column-after.result = search rules in
     let across = c.cells-across.ensures in
     let down = c.cells-down.ensures in
-    to_z-of_z w64 c.level_between.result fits
+    let level = c.level_between.ensures in
+    to_z-of_z w64 c.level_between.result.floor fits
     ∙ level-is c.args.values.now c.args.columns c.args.rows c.args.mesh c.args.x c.args.y c.cells-across.result.before c.cells-across.result.after c.cells-across.result.past
-    c.cells-down.result.before c.cells-down.result.after c.cells-down.result.past (kept w64 c.down_column-before.result) (kept w64 c.down_column-after.result) c.level_between.result
+    c.cells-down.result.before c.cells-down.result.after c.cells-down.result.past (kept w64 c.down_column-before.result) (kept w64 c.down_column-after.result) c.level_between.result.floor
     (record { before_is = across.before; after_is = across.after; past_is = across.past }) (record { before_is = down.before; after_is = down.after; past_is = down.past })
     (to_z-of_z w64 c.down_column-before.result first ∙ c.down_column-before.ensures.value) (to_z-of_z w64 c.down_column-after.result second ∙ c.down_column-after.ensures.value)
-    c.level_between.ensures.level
+    (mixed-is (2 * c.args.mesh * (2 * c.args.mesh)) c.level_between.result _ level.rest level.value)

@@ -5,7 +5,7 @@ use mir.Val.{SFits}
 use Rattle.comp_tree.specs.Limits.{IsInHalfRange}
 use Rattle.mesh_background.specs.Interpolation.{part_way}
 use Rattle.mesh_background.specs.Lessened.{IsHalfRangeTimes}
-use Rattle.mesh_background.proofs.Fitting.{IsUpTo, up_to-fits, up_to-way, kept, way-computed}
+use Rattle.mesh_background.proofs.Fitting.{up_to-fits, up_to-way, kept, way-computed}
 use Rattle.mesh_background.proofs.Levels.{half-up_to, half-way}
 use Rattle.mesh_background.proofs.interpolation.on_the_way.Goals as goal
 

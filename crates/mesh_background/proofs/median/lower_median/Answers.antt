@@ -1,7 +1,6 @@
-use Rattle.std.proofs.Common.{rules, ◌≡◌, ◌-◌, ◌/◌, length, get_or, arith, ap, sym, ◌∙◌, pos, ◌≢◌, Some}
-use Rattle.std.proofs.lemmas.Bool.{eqb-true, eqb-false}
+use Rattle.std.proofs.Common.{rules, length, ap, sym, ◌∙◌, Some}
+use Rattle.std.proofs.lemmas.Bool.{eqb-true}
 use Rattle.std.proofs.lemmas.Int.{to_z-of_z}
-use Rattle.std.proofs.lemmas.List.{get_or_default}
 use mir.Syntax.{w64}
 use mir.Val.{SFits}
 use Rattle.mesh_background.proofs.Medians.{median_from_split, none_of_none}

@@ -1,8 +1,8 @@
-use Rattle.std.proofs.Common.{◌≡◌, ◌+◌, ◌*◌, ◌<◌, ℕ, ℤ, List, length, All, refl, ap, sym, subst, ◌∙◌, arith}
+use Rattle.std.proofs.Common.{◌≡◌, ◌+◌, ◌*◌, ℕ, ℤ, List, length, All, refl, ap, sym, subst, ◌∙◌, arith}
 use Rattle.std.proofs.Math.Nat.{mul_comm}
 use Rattle.comp_tree.specs.declared.shape.Shape.{Shape}
 use Rattle.comp_tree.specs.Raster.{Raster, IsPlane}
-use Rattle.mesh_background.specs.Mesh.{cell_count, values_of_mesh}
+use Rattle.mesh_background.specs.Mesh.{cell_count}
 use Rattle.comp_tree.specs.Limits.{IsInHalfRange}
 use Rattle.mesh_background.specs.Lessened.{number_of_cell, IsLessened}
 use Rattle.mesh_background.proofs.Residuals.{length-values}
