@@ -178,8 +178,8 @@ byte-between : (r : Raster) (mesh p : ℕ) → 0 < mesh → HasBytes r → IsByt
 unfolding pixel_level
 byte-between r mesh p some h =
     let between = stay_between (filtered_values r mesh) (cells_along mesh r.shape.width) (cells_along mesh r.shape.height) mesh (p % r.shape.width) (p / r.shape.width) (pos 0) (pos 255)
-        (columns-some mesh r.shape.width some r.shape.within_limits.some_columns) (columns-some mesh r.shape.height some r.shape.within_limits.some_rows)
-        (length-smooth r mesh) some (λ k d lt. let b : IsByte (get_or (filtered_values r mesh) k d) = byte-smooth r mesh h k d lt in (b.low, b.high)) in
+    (columns-some mesh r.shape.width some r.shape.within_limits.some_columns) (columns-some mesh r.shape.height some r.shape.within_limits.some_rows)
+    (length-smooth r mesh) some (λ k d lt. let b : IsByte (get_or (filtered_values r mesh) k d) = byte-smooth r mesh h k d lt in (b.low, b.high)) in
     record { low = between.0; high = between.1 }
 
 byte-background : (r : Raster) (mesh : ℕ) (flat : Bool) (p : ℕ) → HasBytes r → IsByte (background r mesh flat p)

@@ -122,13 +122,14 @@ fn an_image_without_pixels_has_an_empty_catalogue(rt: HostRuntime) -> Result<(),
 
 #[test]
 fn words_of_a_detection_are_read(rt: HostRuntime) -> Result<(), Fail> {
-    let cases: [(&[&str], u32); 6] = [
+    let cases: [(&[&str], u32); 7] = [
         (&["detect"], 2),
         (&["detect", "--threshold"], 3),
         (&["detect", "--contrast", "5"], 4),
         (&["detect", "--rule", "min"], 2),
         (&["detect", "--contrast", "1001"], 3),
-        (&["detect", "--threshold", "17179869185"], 3),
+        (&["detect", "--threshold", "137438953473"], 3),
+        (&["detect", "--min-flux", "4611686018427387905"], 3),
     ];
     for (words, word) in cases {
         assert_eq!(rt; read_words(words), Err(Usage { word }));
@@ -136,7 +137,7 @@ fn words_of_a_detection_are_read(rt: HostRuntime) -> Result<(), Fail> {
     let order = Order {
         job: Job::Detect {
             choice: Choice {
-                threshold: -17179869184,
+                threshold: -137438953472,
                 min_area: 1,
                 min_flux: 0,
                 contrast: 5,
@@ -150,7 +151,7 @@ fn words_of_a_detection_are_read(rt: HostRuntime) -> Result<(), Fail> {
         flat: false,
     };
     assert_eq!(rt;
-        read_words(&["detect", "--threshold", "-17179869184"]),
+        read_words(&["detect", "--threshold", "-137438953472"]),
         Ok(order)
     );
     Ok(())

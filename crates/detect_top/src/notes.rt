@@ -5,20 +5,15 @@ ghost use Rattle.dev_io.specs.Streams.{PutAppends};
 ghost use Rattle.detect_top.specs.Answers.{note_of, line_at_place, refusal_line};
 ghost use Rattle.command_line.specs.Notes.{Noted};
 
+use crate::Fault;
 use crate::fault::Place;
 use crate::top::End;
-use crate::Fault;
 use command_line::lines::put_line;
 use command_line::notes::put_usage;
 use dev_io::{Failed, Sink};
 use itoa::Buffer;
 
-fn put_place<N: Sink>(
-    notes: &mut N,
-    number: &[u8],
-    name: &[u8],
-    place: Place,
-) -> Result<(), Failed>
+fn put_place<N: Sink>(notes: &mut N, number: &[u8], name: &[u8], place: Place) -> Result<(), Failed>
     requires short_number { length number.now ≤ 40 }
     requires short_name { length name.now ≤ 15 }
     ensures bytes { PutAppends (N.written notes.old) (N.written notes.new) result (line_at_place number.now name.now place) }

@@ -40,11 +40,8 @@ impl Command {
     {
         match setting {
             Setting::Hdu => self != Command::Trial,
-            Setting::Connect
-            | Setting::Strips
-            | Setting::Workers
-            | Setting::Mesh
-            | Setting::Flat => true,
+            Setting::Connect | Setting::Strips | Setting::Workers | Setting::Mesh | Setting::Flat =>
+                true,
             Setting::Rule | Setting::MaxArea | Setting::MinFill => self == Command::Filter,
             Setting::MinArea | Setting::MinFlux => {
                 self == Command::Filter || self == Command::Detect

@@ -74,7 +74,8 @@ fn a_trial_leaves_the_input(rt: HostRuntime) -> Result<(), Fail> {
         ),
         (
             &[
-                "trial", "--height", "2", "--width", "3", "--seed", "7", "--mesh", "1", "--flat", "1",
+                "trial", "--height", "2", "--width", "3", "--seed", "7", "--mesh", "1", "--flat",
+                "1",
             ],
             b"pixels 6 nodes 1 roots 1 areas 6 fluxes 0 sources 0 mapped 0\n",
         ),

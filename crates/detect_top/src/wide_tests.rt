@@ -87,13 +87,22 @@ fn values_out_of_range_are_refused(rt: HostRuntime) -> Result<(), Fail> {
 fn a_filtered_plane_is_read_back(rt: HostRuntime) -> Result<(), Fail> {
     let alloc = rt.alloc();
     let words = [
-        "filter", "--rule", "direct", "--min-area", "2", "--max-area", "2",
+        "filter",
+        "--rule",
+        "direct",
+        "--min-area",
+        "2",
+        "--max-area",
+        "2",
     ];
     let header = b"SIMPLE  = T|BITPIX  = 8|NAXIS   = 2|NAXIS1  = 5|NAXIS2  = 1|END|#";
     let image = file(alloc, header, &[0, 1, 3, 2, 0])?;
     let filtered = run_in_memory(&rt, alloc, &words, &image, 5760, NONE_FAILS)?;
     let found = run_in_memory(&rt, alloc, &["tree"], &filtered.output, 99, NONE_FAILS)?;
-    assert_eq!(rt; found.output.as_slice(), b"0 0 0 - 5\n1 2 2 0 2\n".as_slice());
+    assert_eq!(rt;
+        found.output.as_slice(),
+        b"0 0 0 - 5\n1 2 2 0 2\n".as_slice()
+    );
     assert_eq!(rt; found.left, 2840);
     Ok(())
 }
