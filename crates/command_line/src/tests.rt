@@ -22,6 +22,6 @@ fn lines_are_written(rt: HostRuntime) -> Result<(), Fail> {
     let mut sink = MemSink::new(vec![in alloc; 0; 40]?, &[], 0);
     assert!(rt; put_line(&mut sink, &[b"a ", b"b", b"\n"]).is_ok());
     assert!(rt; put_usage(&mut sink, 12).is_ok());
-    assert!(rt; sink.bytes() == b"a b\nusage: word 12\n");
+    assert_eq!(rt; sink.bytes(), b"a b\nusage: word 12\n".as_slice());
     Ok(())
 }

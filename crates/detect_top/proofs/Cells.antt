@@ -47,10 +47,10 @@ length-catalogue : (plane : Raster) (connect : Connect) (picked : List ℕ) → 
 unfolding catalogue_of
 length-catalogue plane connect picked = length-map (enumerate_from 1 picked) (λ e. catalogue_row plane connect e.0 e.1) ∙ length-enumerate_from 1 picked
 
-row_at : (plane : Raster) (connect : Connect) (picked : List ℕ) (place : ℕ) (d : CatRow) → place < length picked
+row_numbered : (plane : Raster) (connect : Connect) (picked : List ℕ) (place : ℕ) (d : CatRow) → place < length picked
     → get_or (catalogue_of plane connect picked) place d ≡ catalogue_row plane connect (place + 1) (get_or picked place 0)
 unfolding catalogue_of
-row_at plane connect picked place d within =
+row_numbered plane connect picked place d within =
     let pair : get_or (enumerate_from 1 picked) place (0, 0) ≡ (1 + place, get_or picked place 0) = get_or-enumerate_from 1 picked place (0, 0) within in
     let number : 1 + place ≡ place + 1 = omega arith in
     get_or-map (λ e. catalogue_row plane connect e.0 e.1) (enumerate_from 1 picked) place (0, 0) d (omega (arith, within, length-enumerate_from 1 picked))
@@ -69,7 +69,7 @@ cells_more tree sums picked count items items' row before within more fits is = 
   exact = λ plane connect tree_is sums_are.
       let all = catalogue_of plane connect picked in
       ap (λ l. l ++ row ∷ []) (before.exact plane connect tree_is sums_are)
-      ∙ ap (λ r. take count all ++ r ∷ []) (is plane connect tree_is sums_are ∙ sym (row_at plane connect picked count row within))
+      ∙ ap (λ r. take count all ++ r ∷ []) (is plane connect tree_is sums_are ∙ sym (row_numbered plane connect picked count row within))
       ∙ sym (take_more all count row (omega (arith, within, length-catalogue plane connect picked)));
 }
 

@@ -22,7 +22,7 @@ use Rattle.detect_top.specs.Lines.{tree_lines, node_list}
 use Rattle.detect_top.specs.Products.{output_of, image_made}
 use Rattle.detect_top.specs.Answers.{Answer, answer_by, answer_to, answer_over, end_at, status_of}
 use Rattle.detect_top.specs.Headline.{MayLackMemory, IsComplete}
-use Rattle.detect_top.specs.Runs.{Tells, TellsFor, Took, TookAtMost, WantsMemory, WantsMemoryFor, EndBytes, EndCause, ProductRead, Answers, Cuts}
+use Rattle.detect_top.specs.Runs.{Tells, TellsFor, Took, TookAtMost, WantsMemory, WantsMemoryFor, InputUse, OutputUse, EndBytes, EndCause, ProductRead, Answers, Cuts}
 
 -- where memory was wanted it may be
 verdict_may : (order : Order) (found : Verdict) (bytes : List ℕ) (left : Option (List ℕ)) → MemoryWanted found bytes left → MayLackMemory (answer_to order found).end
@@ -42,16 +42,14 @@ wants_may (Ok order) old new bytes tells wants = go (image_made order.job) tells
     go None t w = verdict_may order (verdict bytes order.hdu) bytes new (w bytes t)
 
 -- where no count rose, the end is the answer's, or memory was wanted where it may be
-pub completes : (order : Result Order AtFault) (left left' written written' : Option (List ℕ)) (ended' settled' : Bool) (f f' sf sf' : ℕ) (bytes : List ℕ) (end : End)
-    → EndBytes order bytes left left' written written' end → EndCause order ended' f f' written written' settled' sf sf' end
-    → (Rose f f' → ⊥) → (Rose sf sf' → ⊥) → Tells order left bytes → IsComplete (answer_by order bytes) (status_of end)
-completes order left left' written written' ended' settled' f f' sf sf' bytes Done by why read write tells = inl (sym (ap status_of by.end_is))
-completes order left left' written written' ended' settled' f f' sf sf' bytes (Usage usage) by why read write tells = inl (sym (ap status_of by.end_is))
-completes order left left' written written' ended' settled' f f' sf sf' bytes (Refused fault) by why read write tells = inl (sym (ap status_of by.end_is))
-completes order left left' written written' ended' settled' f f' sf sf' bytes ReadFault by why read write tells = absurd (read why.1)
-completes order left left' written written' ended' settled' f f' sf sf' bytes WriteFault by why read write tells = absurd (write why.1)
-completes order left left' written written' ended' settled' f f' sf sf' bytes NoMemory by why read write tells =
-    inr (refl, wants_may order left left' bytes tells by)
+pub completes : (order : Result Order AtFault) (i : InputUse) (o : OutputUse) (bytes : List ℕ) (end : End) → EndBytes order bytes i o end → EndCause order i o end
+    → (Rose i.faults i.faults' → ⊥) → (Rose o.faults o.faults' → ⊥) → Tells order i.left bytes → IsComplete (answer_by order bytes) (status_of end)
+completes order i o bytes Done by why read write tells = inl (sym (ap status_of by.end_is))
+completes order i o bytes (Usage usage) by why read write tells = inl (sym (ap status_of by.end_is))
+completes order i o bytes (Refused fault) by why read write tells = inl (sym (ap status_of by.end_is))
+completes order i o bytes ReadFault by why read write tells = absurd (read why.1)
+completes order i o bytes WriteFault by why read write tells = absurd (write why.1)
+completes order i o bytes NoMemory by why read write tells = inr (refl, wants_may order i.left i.left' bytes tells by)
 
 same_bytes : (a b : List ℕ) (left : Option (List ℕ)) → left ≡ Some a → left ≡ Some b → a ≡ b
 same_bytes a b left p q = cc

@@ -5,17 +5,17 @@ use Rattle.std.proofs.lemmas.List.FromFn.{get_or-map-range_with_len, length-map-
 use Rattle.std.specs.declared.option.Option.{Option}
 use Rattle.dev_io.specs.Blocks.{Moves}
 use Rattle.comp_tree.specs.declared.tree.NodeRow.{NodeRow}
-use Rattle.detect_top.specs.Lines.{line_at, lines_of, node_line, row_at}
+use Rattle.detect_top.specs.Lines.{line_at, lines_of, node_line, row_numbered}
 
 pub length-lines_of : (rows : List NodeRow) (areas : List ℕ) → length (lines_of rows areas) ≡ length rows
 unfolding lines_of
 length-lines_of rows areas = length-map-range_with_len (line_at rows areas) 0 (length rows)
 
-pub line_is : (rows : List NodeRow) (areas : List ℕ) (i : ℕ) (row : NodeRow) (area : ℕ) → i < length rows → row ≡ row_at rows i → area ≡ get_or areas i 0
+pub line_is : (rows : List NodeRow) (areas : List ℕ) (i : ℕ) (row : NodeRow) (area : ℕ) → i < length rows → row ≡ row_numbered rows i → area ≡ get_or areas i 0
     → node_line i row area ≡ get_or (lines_of rows areas) i []
 unfolding lines_of
 line_is rows areas i row area h is here =
-    ap (λ r. node_line i r area) is ∙ ap (λ a. node_line i (row_at rows i) a) here ∙ sym (get_or-map-range_with_len (line_at rows areas) 0 (length rows) i i [] h (zero-add i))
+    ap (λ r. node_line i r area) is ∙ ap (λ a. node_line i (row_numbered rows i) a) here ∙ sym (get_or-map-range_with_len (line_at rows areas) 0 (length rows) i i [] h (zero-add i))
 
 pub line_in : (rows : List NodeRow) (areas : List ℕ) (i : ℕ) → i < length rows → i < length (lines_of rows areas)
 line_in rows areas i h = omega (arith, length-lines_of rows areas)

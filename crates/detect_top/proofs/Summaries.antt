@@ -20,7 +20,7 @@ use Rattle.node_sums.specs.Flux.{base_of, flux_of}
 use Rattle.source_pick.specs.Sources.{sources}
 use Rattle.source_pick.specs.Segmentation.{segmentation, segmentation_of}
 use Rattle.detect_top.specs.declared.trial.Summary.{Summary}
-use Rattle.detect_top.specs.Trials.{next_state, value_of_state, trial_image, trial_choice, is_root, is_mapped, total_area, total_flux, summary_of, HasSmallFluxes, flux_bound}
+use Rattle.detect_top.specs.Trials.{next_state, value_of_state, trial_image, trial_choice, is_root_row, is_mapped, total_area, total_flux, summary_of, HasSmallFluxes, flux_bound}
 use Rattle.detect_top.proofs.Trials.{state_at, state-next, trial_value}
 
 -- ---- the image
@@ -93,7 +93,7 @@ pub record IsTold (r : Raster) (connect : Connect) (tree : ComponentTree) (sums 
   pub numbers_are : numbers ≡ segmentation_of r connect picked
   pub pixels : told.pixels ≡ length r.values
   pub nodes : told.nodes ≡ length tree.rows
-  pub roots : told.roots ≡ count_by is_root tree.rows
+  pub roots : told.roots ≡ count_by is_root_row tree.rows
   pub areas : told.areas ≡ sum_by (λ s. s.area) sums
   pub fluxes : told.fluxes ≡ total_flux r connect
   pub sources_are : told.sources ≡ length picked
@@ -104,7 +104,7 @@ pub summary_is : (r : Raster) (connect : Connect) (tree : ComponentTree) (sums :
 unfolding summary_of total_area segmentation
 summary_is r connect tree sums picked numbers told h =
     let nodes : told.nodes ≡ length (tree_of r connect).rows = h.nodes ∙ ap (λ (t : ComponentTree). length t.rows) h.tree_is in
-    let roots : told.roots ≡ count_by is_root (tree_of r connect).rows = h.roots ∙ ap (λ (t : ComponentTree). count_by is_root t.rows) h.tree_is in
+    let roots : told.roots ≡ count_by is_root_row (tree_of r connect).rows = h.roots ∙ ap (λ (t : ComponentTree). count_by is_root_row t.rows) h.tree_is in
     let areas : told.areas ≡ sum_by (λ s. s.area) (sums_in r connect) = h.areas ∙ ap (sum_by (λ (s : Sums). s.area)) h.sums_are in
     let found : told.sources ≡ length (sources r connect trial_choice) = h.sources_are ∙ ap (λ (xs : List ℕ). length xs) h.picked_are in
     let mapped : told.mapped ≡ count_by is_mapped (segmentation_of r connect (sources r connect trial_choice)) =

@@ -20,11 +20,11 @@ node_line number row area =
     ∷ decimal area ∷ codes "\n" ∷ [])
 
 -- the row of node n
-abbrev pub row_at : List NodeRow → ℕ → NodeRow
-row_at rows n = get_or rows n (record { level = pos 0; rep = 0; parent = 0 })
+abbrev pub row_numbered : List NodeRow → ℕ → NodeRow
+row_numbered rows n = get_or rows n (record { level = pos 0; rep = 0; parent = 0 })
 
 abbrev pub line_at : List NodeRow → List ℕ → ℕ → List ℕ
-line_at rows areas n = node_line n (row_at rows n) (slice_index areas n)
+line_at rows areas n = node_line n (row_numbered rows n) (slice_index areas n)
 
 -- a line for each node, in order
 unfoldable pub lines_of : List NodeRow → List ℕ → List (List ℕ)

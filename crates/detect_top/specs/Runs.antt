@@ -77,22 +77,48 @@ pub record Cuts (order : Result Order AtFault) (bytes : List ℕ) (left left' wr
   pub front : AppendsPrefix written written' (answer_by order bytes).output
   pub taken_is : Took left left' (answer_by order bytes).taken
 
+-- what a run made of its input: the bytes that were left before and behind it, whether their end was seen, and the count of faults
+pub record InputUse : Type 0 where
+  pub left : Option (List ℕ)
+  pub left' : Option (List ℕ)
+  pub ended' : Bool
+  pub faults : ℕ
+  pub faults' : ℕ
+
+-- and of its output: the bytes that were written before and behind it, whether they were handed on, and the count of faults
+pub record OutputUse : Type 0 where
+  pub written : Option (List ℕ)
+  pub written' : Option (List ℕ)
+  pub settled' : Bool
+  pub faults : ℕ
+  pub faults' : ℕ
+
+-- what was made of a source, and of a sink, from one state to another
+abbrev pub input_use : {S : Type 0} → (S → Option (List ℕ)) → (S → Bool) → (S → ℕ) → S → S → InputUse
+input_use left ended faults old new = record { left = left old; left' = left new; ended' = ended new; faults = faults old; faults' = faults new }
+
+abbrev pub output_use : {O : Type 0} → (O → Option (List ℕ)) → (O → Bool) → (O → ℕ) → O → O → OutputUse
+output_use written settled faults old new =
+    record { written = written old; written' = written new; settled' = settled new; faults = faults old; faults' = faults new }
+
+-- an input that nothing was asked of
+abbrev pub no_use : Option (List ℕ) → Bool → ℕ → InputUse
+no_use left ended faults = record { left = left; left' = left; ended' = ended; faults = faults; faults' = faults }
+
 -- what an end says of the bytes
-abbrev pub EndBytes : Result Order AtFault → List ℕ → Option (List ℕ) → Option (List ℕ) → Option (List ℕ) → Option (List ℕ) → End → Type 0
-EndBytes order bytes left left' written written' Done = Answers order bytes left left' written written' Done
-EndBytes order bytes left left' written written' (Usage usage) = Answers order bytes left left' written written' (Usage usage)
-EndBytes order bytes left left' written written' (Refused fault) = Answers order bytes left left' written written' (Refused fault)
-EndBytes order bytes left left' written written' ReadFault = TookAtMost left left' (answer_by order bytes).taken
-EndBytes order bytes left left' written written' WriteFault = Cuts order bytes left left' written written'
-EndBytes order bytes left left' written written' NoMemory = WantsMemory order bytes left left'
+abbrev pub EndBytes : Result Order AtFault → List ℕ → InputUse → OutputUse → End → Type 0
+EndBytes order bytes i o Done = Answers order bytes i.left i.left' o.written o.written' Done
+EndBytes order bytes i o (Usage usage) = Answers order bytes i.left i.left' o.written o.written' (Usage usage)
+EndBytes order bytes i o (Refused fault) = Answers order bytes i.left i.left' o.written o.written' (Refused fault)
+EndBytes order bytes i o ReadFault = TookAtMost i.left i.left' (answer_by order bytes).taken
+EndBytes order bytes i o WriteFault = Cuts order bytes i.left i.left' o.written o.written'
+EndBytes order bytes i o NoMemory = WantsMemory order bytes i.left i.left'
 
 -- what an end says in any case
-abbrev pub EndCause : Result Order AtFault → Bool → ℕ → ℕ → Option (List ℕ) → Option (List ℕ) → Bool → ℕ → ℕ → End → Type 0
-EndCause order ended' faults faults' written written' settled' sink_faults sink_faults' Done = IsOk order × IsTrue settled'
-EndCause order ended' faults faults' written written' settled' sink_faults sink_faults' (Usage usage) = (order ≡ Err usage) × Keeps written written'
-EndCause order ended' faults faults' written written' settled' sink_faults sink_faults' (Refused fault) =
-    IsOk order × (IsCut fault → IsTrue ended') × Keeps written written'
-EndCause order ended' faults faults' written written' settled' sink_faults sink_faults' ReadFault =
-    IsOk order × Rose faults faults' × Keeps written written' × ReadsInput order
-EndCause order ended' faults faults' written written' settled' sink_faults sink_faults' WriteFault = IsOk order × Rose sink_faults sink_faults'
-EndCause order ended' faults faults' written written' settled' sink_faults sink_faults' NoMemory = IsOk order × Keeps written written'
+abbrev pub EndCause : Result Order AtFault → InputUse → OutputUse → End → Type 0
+EndCause order i o Done = IsOk order × IsTrue o.settled'
+EndCause order i o (Usage usage) = (order ≡ Err usage) × Keeps o.written o.written'
+EndCause order i o (Refused fault) = IsOk order × (IsCut fault → IsTrue i.ended') × Keeps o.written o.written'
+EndCause order i o ReadFault = IsOk order × Rose i.faults i.faults' × Keeps o.written o.written' × ReadsInput order
+EndCause order i o WriteFault = IsOk order × Rose o.faults o.faults'
+EndCause order i o NoMemory = IsOk order × Keeps o.written o.written'

@@ -40,8 +40,8 @@ trial_image seed shape = record { shape = shape; values = map value_of_state (st
 abbrev pub trial_choice : Choice
 trial_choice = record { threshold = pos 128; min_area = 1; min_flux = pos 0; contrast = 5 }
 
-abbrev pub is_root : NodeRow → Bool
-is_root row = row.parent == no_node
+abbrev pub is_root_row : NodeRow → Bool
+is_root_row row = row.parent == no_node
 
 -- a pixel's number in the map says that a source holds it
 abbrev pub is_mapped : ℕ → Bool
@@ -59,7 +59,7 @@ unfoldable pub summary_of : Raster → Connect → Summary
 summary_of r connect = record {
   pixels = length r.values;
   nodes = length (tree_of r connect).rows;
-  roots = count_by is_root (tree_of r connect).rows;
+  roots = count_by is_root_row (tree_of r connect).rows;
   areas = total_area r connect;
   fluxes = total_flux r connect;
   sources = length (sources r connect trial_choice);

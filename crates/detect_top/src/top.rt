@@ -12,7 +12,7 @@ ghost use Rattle.detect_top.specs.Trials.{trial_image as image_of};
 ghost use Rattle.detect_top.specs.Streams.{ImageStopped};
 ghost use Rattle.detect_top.specs.Answers.{answer, note_of, status_of};
 ghost use Rattle.command_line.specs.Notes.{Noted, SourceStays};
-ghost use Rattle.detect_top.specs.Runs.{Took, TookAtMost, ProductRead, Tells, EndBytes, EndCause, LeavesInput};
+ghost use Rattle.detect_top.specs.Runs.{Took, TookAtMost, ProductRead, Tells, input_use, output_use, no_use, EndBytes, EndCause, LeavesInput};
 ghost use Rattle.detect_top.specs.Headline.{ForBytes, IsComplete, IsStatus, CutsAnswer, MayWantMemory, ReadFails, TellsEnd};
 
 use crate::image::{Stop, read_image};
@@ -92,9 +92,10 @@ fn carry_out<R: Threads + Sync, S: Source, O: Sink, G: Gate>(
     requires limits { HasLimits order }
     requires reads { image_made order.job ≡ None }
     ensures bytes { (bytes : List ℕ) → Tells (Ok order) (S.left input.old) bytes →
-        EndBytes (Ok order) bytes (S.left input.old) (S.left input.new) (O.written output.old) (O.written output.new) result }
-    ensures cause { EndCause (Ok order) (S.ended input.new) (S.faults input.old) (S.faults input.new)
-        (O.written output.old) (O.written output.new) (O.settled output.new) (O.faults output.old) (O.faults output.new) result }
+        EndBytes (Ok order) bytes (input_use S.left S.ended S.faults input.old input.new)
+        (output_use O.written O.settled O.faults output.old output.new) result }
+    ensures cause { EndCause (Ok order) (input_use S.left S.ended S.faults input.old input.new)
+        (output_use O.written O.settled O.faults output.old output.new) result }
     ensures read_later { S.faults input.old ≤ S.faults input.new }
     ensures write_later { O.faults output.old ≤ O.faults output.new }
 {
@@ -122,10 +123,10 @@ fn try_out<R: Threads + Sync, O: Sink, G: Gate>(
 ) -> End
     requires limits { HasLimits order }
     requires trial { image_made order.job ≡ Some (image_of seed shape) }
-    ensures bytes { (bytes : List ℕ) (left : Option (List ℕ)) →
-        EndBytes (Ok order) bytes left left (O.written output.old) (O.written output.new) result }
-    ensures cause { (ended : Bool) (faults : ℕ) → EndCause (Ok order) ended faults faults
-        (O.written output.old) (O.written output.new) (O.settled output.new) (O.faults output.old) (O.faults output.new) result }
+    ensures bytes { (bytes : List ℕ) (left : Option (List ℕ)) (ended : Bool) (faults : ℕ) →
+        EndBytes (Ok order) bytes (no_use left ended faults) (output_use O.written O.settled O.faults output.old output.new) result }
+    ensures cause { (left : Option (List ℕ)) (ended : Bool) (faults : ℕ) →
+        EndCause (Ok order) (no_use left ended faults) (output_use O.written O.settled O.faults output.old output.new) result }
     ensures write_later { O.faults output.old ≤ O.faults output.new }
 {
     let product = match make_trial(rt, alloc, order, seed, shape, gate) {
@@ -147,10 +148,10 @@ fn work<R: Threads + Sync, S: Source, O: Sink, G: Gate>(
     gate: &G,
 ) -> End
     ensures bytes { (bytes : List ℕ) → Tells (order_of (texts words.now)) (S.left input.old) bytes →
-        EndBytes (order_of (texts words.now)) bytes (S.left input.old) (S.left input.new)
-        (O.written output.old) (O.written output.new) result }
-    ensures cause { EndCause (order_of (texts words.now)) (S.ended input.new) (S.faults input.old) (S.faults input.new)
-        (O.written output.old) (O.written output.new) (O.settled output.new) (O.faults output.old) (O.faults output.new) result }
+        EndBytes (order_of (texts words.now)) bytes (input_use S.left S.ended S.faults input.old input.new)
+        (output_use O.written O.settled O.faults output.old output.new) result }
+    ensures cause { EndCause (order_of (texts words.now)) (input_use S.left S.ended S.faults input.old input.new)
+        (output_use O.written O.settled O.faults output.old output.new) result }
     ensures read_later { S.faults input.old ≤ S.faults input.new }
     ensures write_later { O.faults output.old ≤ O.faults output.new }
     ensures untouched { LeavesInput (order_of (texts words.now)) → SourceStays S.left S.ended S.faults input.old input.new }

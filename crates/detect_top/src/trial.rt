@@ -9,7 +9,7 @@ ghost use Rattle.node_sums.specs.Sums.{sums_in, IsTreeOfPlane, AreTheTrees};
 ghost use Rattle.detect_top.specs.Trials.{
   next_state,
   trial_image as image_of,
-  is_root,
+  is_root_row,
   is_mapped,
   total_flux,
   summary_of,
@@ -88,7 +88,7 @@ fn node_count(tree: &Tree) -> u32
 
 fn count_roots(rows: &[NodeRow]) -> u32
     requires { length rows.now ≤ 2 ^ 24 }
-    ensures { result ≡ count_by is_root rows.now }
+    ensures { result ≡ count_by is_root_row rows.now }
 {
     let mut roots = 0;
     for row in rows {

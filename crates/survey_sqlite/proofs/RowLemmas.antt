@@ -11,7 +11,7 @@ use Rattle.sqlite_rules.specs.Lists.{Has}
 use Rattle.sqlite_rules.proofs.ListLemmas.{all_has}
 use Rattle.survey_core.specs.Fields.{is_name, name_cmp}
 use Rattle.survey_core.specs.Tables.{Table, IsTable as IsField, AreTables, AreInOrder, Among, cells_of, put, without, IsNumbered}
-use Rattle.survey_core.proofs.Exported.{put_there, put_keeps, put_from, order_put, all_put, all_from, same_tables, without_from, without_keeps, order_without, cells_found, cells_missing, same_name}
+use Rattle.survey_core.proofs.Exported.{put_there, put_keeps, put_from, order_put, all_put, all_from, same_tables, name_itself, without_from, without_keeps, order_without, cells_found, cells_missing, same_name}
 use Rattle.survey_sqlite.specs.Blobs.{cells_in}
 use Rattle.survey_sqlite.specs.Source.{field_in, entry, tables_in, IsFormed, AreRows}
 
@@ -118,7 +118,7 @@ find_row [] field = inr (λ r m. absurd m)
 find_row (x ∷ rows) field = go (find_row rows field) (name_cmp (field_in x) field) refl
   where
     apart : (o : Ordering) → name_cmp (field_in x) field ≡ o → (o ≡ Equal → ⊥) → field_in x ≢ field
-    apart o e other same = other (sym e ∙ subst (λ f. name_cmp f field ≡ Equal) (sym same) (Rattle.survey_core.proofs.TableLemmas.name_itself field))
+    apart o e other same = other (sym e ∙ subst (λ f. name_cmp f field ≡ Equal) (sym same) (name_itself field))
 
     step : ((r : Row) × IsRowOf rows field r) ⊎ ((r : Row) → Has rows r → field_in r ≢ field) → field_in x ≢ field → ((r : Row) × IsRowOf (x ∷ rows) field r) ⊎ ((r : Row) → Has (x ∷ rows) r → field_in r ≢ field)
     step (inl k) other = inl (k.0, record { there = inr k.1.there; field_is = k.1.field_is })

@@ -7,7 +7,7 @@ use Rattle.node_sums.specs.declared.entry.Sums.{Sums}
 use Rattle.node_sums.proofs.Exported.{trees_rows}
 use Rattle.source_pick.specs.Segmentation.{segmentation_of}
 use Rattle.source_pick.proofs.Exported.{few_marked, few_rows}
-use Rattle.detect_top.specs.Trials.{is_root, is_mapped, HasSmallFluxes}
+use Rattle.detect_top.specs.Trials.{is_root_row, is_mapped, HasSmallFluxes}
 use Rattle.detect_top.proofs.Trials.{small_fluxes}
 use Rattle.detect_top.proofs.Summaries.{few-numbers, summary_is}
 use Rattle.detect_top.proofs.trial.summarize.Goals as goal
@@ -59,7 +59,7 @@ returns g c = λ connect is.
       numbers_are = c.in_ok-numbers.ensures.exact c.args.plane.now connect is ∙ ap (segmentation_of c.args.plane.now connect) c.deref-2.ensures.value;
       pixels = pixels;
       nodes = c.node_count.ensures.all;
-      roots = c.count_roots.ensures ∙ ap (λ (rows : List NodeRow). count_by is_root rows) c.rows.ensures;
+      roots = c.count_roots.ensures ∙ ap (λ (rows : List NodeRow). count_by is_root_row rows) c.rows.ensures;
       areas = c.sum_areas.ensures ∙ ap (λ (xs : List Sums). sum_by (λ s. s.area) xs) c.deref-3.ensures.value;
       fluxes = c.sum_fluxes.ensures c.args.plane.now connect is (c.deref-4.ensures.value ∙ sums_are);
       sources_are = c.len.ensures ∙ sym c.deref-2.ensures.len ∙ ap (λ (xs : List ℕ). length xs) c.deref-2.ensures.value;
