@@ -40,5 +40,6 @@ down_column values columns rows mesh y i = part_way (2 * mesh) (past_centre mesh
 -- the level at the pixel in column x of row y, rounded down: between the column of cells before it and the one after
 unfoldable pub interpolated : List ℤ → ℕ → ℕ → ℕ → ℕ → ℕ → ℤ
 interpolated values columns rows mesh x y = int_div_euclid
-    (part_way (2 * mesh) (past_centre mesh x) (down_column values columns rows mesh y (cell_before columns mesh x)) (down_column values columns rows mesh y (cell_after columns mesh x)))
+    (part_way (2 * mesh) (past_centre mesh x)
+    (down_column values columns rows mesh y (cell_before columns mesh x)) (down_column values columns rows mesh y (cell_after columns mesh x)))
     (pos (2 * mesh * (2 * mesh)))

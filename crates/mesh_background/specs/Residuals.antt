@@ -17,7 +17,8 @@ pixel_level mesh shape values p = interpolated values (cells_along mesh shape.wi
 
 -- the background of pixel p, and 0 without a mesh: flat, the number of its cell, or smooth, the level between the filtered numbers
 unfoldable pub background : Raster → ℕ → Bool → ℕ → ℤ
-background r mesh flat p = cond (mesh == 0) (pos 0) (cond flat (mesh_value r mesh (mesh_cell_of mesh r.shape.width p)) (pixel_level mesh r.shape (filtered_values r mesh) p))
+background r mesh flat p = cond (mesh == 0) (pos 0)
+    (cond flat (mesh_value r mesh (mesh_cell_of mesh r.shape.width p)) (pixel_level mesh r.shape (filtered_values r mesh) p))
 
 -- the residual of pixel p: its value less its background. An undefined pixel has none
 unfoldable pub residual_at : Raster → ℕ → Bool → ℕ → Option ℤ

@@ -1,5 +1,5 @@
-//! The laws of the lower median, of the cells, of the interpolation and of the residual. Each part is the contract of a function that does nothing, and speaks of
-//! the definitions alone.
+//! The laws of the lower median, of the cells, of the interpolation and of the residual. Each part is the contract of a function
+//! that does nothing, and speaks of the definitions alone.
 
 ghost use Rattle.mesh_background.specs.Laws.{LowerMedianIsTheOne, SomeMemberIsLowerMedian, CellsAreSquares, PixelsLieBetweenCentres, LevelsStayBetween, NoMeshLeavesThePlane, ResidualIsPlane, ResidualIsInRange};
 
