@@ -1,25 +1,23 @@
 -- Entries of measures, and the values around a node.
-use Rattle.std.proofs.Common.{◌≡◌, ℕ, ◌+◌, ◌-◌, ◌*◌, ◌^◌, ◌<◌, ◌≤◌, zero, suc, Bool, true, false, cond, List, [], ◌∷◌, length, map, refl, sym, ◌∙◌, ap, subst, arith, ◌⊎◌, inl, inr, get_or}
+use Rattle.std.proofs.Common.{◌≡◌, ℕ, ◌+◌, ◌-◌, ◌^◌, ◌<◌, ◌≤◌, zero, suc, Bool, true, false, List, [], ◌∷◌, length, map, refl, sym, ◌∙◌, ap, subst, arith, get_or}
 use Rattle.std.specs.Prelude.{◌==◌, ◌&&◌, not, ℤ, pos, ◌+ℤ◌, ◌-ℤ◌, Some, filter, slice_get, slice_index_or}
 use Rattle.std.specs.List.{range_with_len}
-use Rattle.std.proofs.lemmas.Bool.{eq-eqb, ne_eqb, and_from, and_left}
+use Rattle.std.proofs.lemmas.Bool.{eq-eqb, ne_eqb}
 use Rattle.std.proofs.lemmas.List.{length-map}
 use Rattle.std.proofs.lemmas.List.FromFn.{length-range_with_len}
-use Rattle.std.proofs.lemmas.Option.{slice_get-get_or, slice_get_within}
+use Rattle.std.proofs.lemmas.Option.{slice_get-get_or}
 use Rattle.std.proofs.lemmas.Int.{ints, to_z-of_z}
 use mir.Syntax.{w64}
 use mir.Val.{SFits, of_z, to_z}
 use Rattle.comp_tree.specs.declared.shape.Connect.{Connect}
 use Rattle.comp_tree.specs.declared.tree.NodeRow.{NodeRow}
-use Rattle.comp_tree.specs.Raster.{Raster, IsPlane, HasValuesInRange, pixels, level}
+use Rattle.comp_tree.specs.Raster.{Raster, IsPlane, HasValuesInRange, pixels}
 use Rattle.comp_tree.specs.ComponentTree.{ComponentTree, parent_in, no_node}
 use Rattle.comp_tree.specs.Components.{nodes, is_in_node, tree_of}
-use Rattle.comp_tree.specs.Nesting.{node_numbers, is_root, pixels_of}
-use Rattle.comp_tree.proofs.Exported.{length-rows}
-use Rattle.node_sums.specs.Sums.{total}
+use Rattle.comp_tree.specs.Nesting.{node_numbers, pixels_of}
 use Rattle.node_sums.proofs.Exported.{length-filter-le, parent_holds, rows_are, parent_is}
 use Rattle.dual_measure.specs.declared.values.Measure.{Measure}
-use Rattle.dual_measure.specs.Measures.{measure_over, measure_of, measures_of, seen_of, floor_mean, mean_of, around_node, back_of, IsSumOf, IsPlanesTree, AreTheTreesMeasures}
+use Rattle.dual_measure.specs.Measures.{measure_over, measure_of, measures_of, floor_mean, around_node, back_of, IsSumOf, HasMeasureSizes, IsPlanesTree, AreTheTreesMeasures}
 use Rattle.dual_measure.specs.Adding.{combined, measured_so_far}
 use Rattle.dual_measure.proofs.Passing.{parent_read, parent_there}
 use Rattle.dual_measure.proofs.Measuring.{so_far_is, so_far-union, level_in_range, sum_small, all_counted, sum_fits}
@@ -48,11 +46,28 @@ over_sum : (values : Raster) (ps : List ℕ) → HasValuesInRange values.values 
 unfolding measure_over
 over_sum values ps range = sum_small values ps (λ p _. level_in_range values p range)
 
-pub entry_sum : (tree : ComponentTree) (measures : List Measure) (n : ℕ) (entry : Measure) → AreTheTreesMeasures tree measures → slice_get measures n ≡ Some entry → IsSumOf entry.seen entry.v
+few_pixels : (values : Raster) (r : Raster) (connect : Connect) (n : ℕ) → IsPlane r → (measure_of values r connect n).seen + (measure_of values r connect n).missing ≤ 2 ^ 24
+unfolding measure_of measure_over pixels_of pixels
+few_pixels values r connect n plane =
+    omega (
+      arith,
+      all_counted values (filter (is_in_node r connect n) (range_with_len 0 (length r.values))),
+      length-filter-le (is_in_node r connect n) (range_with_len 0 (length r.values)),
+      length-range_with_len 0 (length r.values),
+      plane,
+      r.shape.within_limits.few_pixels,
+    )
+
+node_sum : (values r : Raster) (connect : Connect) (n : ℕ) → HasValuesInRange values.values → IsSumOf (measure_of values r connect n).seen (measure_of values r connect n).v
 unfolding measure_of
-entry_sum tree measures n entry h g =
-    subst (λ (m : Measure). IsSumOf m.seen m.v) (sym (entry_is h.values h.plane h.connect measures n entry h.measures_are g))
-    (over_sum h.values (pixels_of h.plane h.connect n) h.in_range)
+node_sum values r connect n range = over_sum values (pixels_of r connect n) range
+
+pub entry_small : (tree : ComponentTree) (measures : List Measure) (n : ℕ) (entry : Measure) → AreTheTreesMeasures tree measures → slice_get measures n ≡ Some entry → HasMeasureSizes entry
+entry_small tree measures n entry h g =
+    subst HasMeasureSizes (sym (entry_is h.values h.plane h.connect measures n entry h.measures_are g)) (record {
+      few = few_pixels h.values h.plane h.connect n h.one_each;
+      sum = node_sum h.values h.plane h.connect n h.in_range;
+    })
 
 -- ---- the values around a node
 
@@ -140,23 +155,11 @@ pub record IsDifference (whole part : Measure) : Type 0 where
   pub sum : IsSumOf (whole.seen - part.seen) (whole.v -ℤ part.v)
   pub few : whole.seen ≤ 2 ^ 24
 
-around_few : (values : Raster) (r : Raster) (connect : Connect) (n : ℕ) → IsPlane r → (measure_of values r connect n).seen ≤ 2 ^ 24
-unfolding measure_of measure_over pixels_of pixels
-around_few values r connect n plane =
-    omega (
-      arith,
-      all_counted values (filter (is_in_node r connect n) (range_with_len 0 (length r.values))),
-      length-filter-le (is_in_node r connect n) (range_with_len 0 (length r.values)),
-      length-range_with_len 0 (length r.values),
-      plane,
-      r.shape.within_limits.few_pixels,
-    )
-
 pub parts_differ : (tree : ComponentTree) (measures : List Measure) (n : ℕ) (whole part : Measure) → AreTheTreesMeasures tree measures → HasParts tree measures n whole part → IsDifference whole part
 parts_differ tree measures n whole part h p = record {
   less = omega (arith, around.seen);
   sum = subst (IsSumOf (whole.seen - part.seen)) rest (subst (λ (k : ℕ). IsSumOf k (measure_over h.values (around_node h.plane h.connect n)).v) count (over_sum h.values (around_node h.plane h.connect n) h.in_range));
-  few = subst (λ (m : Measure). m.seen ≤ 2 ^ 24) (sym (entry_is h.values h.plane h.connect measures (parent_in tree.rows n) whole h.measures_are p.whole_is)) (around_few h.values h.plane h.connect (parent_in tree.rows n) h.one_each);
+  few = omega (arith, (entry_small tree measures (parent_in tree.rows n) whole h p.whole_is).few);
 }
   where
     around : IsAround whole part (measure_over h.values (around_node h.plane h.connect n))
@@ -232,8 +235,8 @@ parts_read tree measures n a h = record {
 
 entry_fits : (tree : ComponentTree) (measures : List Measure) (n : ℕ) (entry : Measure) → AreTheTreesMeasures tree measures → slice_get measures n ≡ Some entry → SFits w64 entry.v
 entry_fits tree measures n entry h g =
-    sum_fits entry.seen entry.v (entry_sum tree measures n entry h g)
-    (subst (λ (m : Measure). m.seen ≤ 2 ^ 24) (sym (entry_is h.values h.plane h.connect measures n entry h.measures_are g)) (around_few h.values h.plane h.connect n h.one_each))
+    let small : HasMeasureSizes entry = entry_small tree measures n entry h g in
+    sum_fits entry.seen entry.v small.sum (omega (arith, small.few))
 
 pub difference : (tree : ComponentTree) (measures : List Measure) (n a : ℕ) → IsParentRead tree measures n a → IsDifference (get_or measures a no_entry) (get_or measures n no_entry)
 difference tree measures n a h = parts_differ tree measures n _ _ h.trees (parts_read tree measures n a h)
@@ -269,3 +272,7 @@ back_from_code tree measures n a mean values r connect h fits made plane e f =
     to_z-of_z w64 mean fits ∙ made
     ∙ ap (λ (z : ℤ). floor_mean z ((get_or measures a no_entry).seen - (get_or measures n no_entry).seen)) (difference-stored tree measures n a h)
     ∙ back_is tree measures n _ _ values r connect plane e f (parts_read tree measures n a h) (λ k. h.some (sym h.parent ∙ k))
+
+pub same_seven : (a b c d e f g p q r s t u v : ℤ) → a ≡ p → b ≡ q → c ≡ r → d ≡ s → e ≡ t → f ≡ u → g ≡ v
+    → a ∷ b ∷ c ∷ d ∷ e ∷ f ∷ g ∷ [] ≡ p ∷ q ∷ r ∷ s ∷ t ∷ u ∷ v ∷ []
+same_seven a b c d e f g p q r s t u v h1 h2 h3 h4 h5 h6 h7 = cc

@@ -1,6 +1,6 @@
 -- Measures over lists of pixels: one pixel more, two sets of pixels that share none, how large they are, and what they are in the end.
-use Rattle.std.proofs.Common.{◌≡◌, ℕ, ◌+◌, ◌-◌, ◌*◌, ◌^◌, ◌<◌, ◌≤◌, zero, suc, Bool, true, false, cond, List, [], ◌∷◌, ◌++◌, length, map, refl, sym, ◌∙◌, ap, subst, arith, ◌⊎◌, inl, inr, eqb}
-use Rattle.std.specs.Prelude.{ℤ, pos, neg_ℤ, ◌+ℤ◌, ◌≤ℤ◌, Option, Some, None, filter, fold, not, is_some, unwrap_or}
+use Rattle.std.proofs.Common.{◌≡◌, ℕ, ◌+◌, ◌-◌, ◌*◌, ◌^◌, ◌<◌, ◌≤◌, Bool, true, false, List, [], ◌∷◌, ◌++◌, length, map, refl, sym, ◌∙◌, ap, subst, arith, eqb}
+use Rattle.std.specs.Prelude.{ℤ, pos, neg_ℤ, ◌+ℤ◌, ◌≤ℤ◌, Option, Some, None, filter, fold, unwrap_or}
 use Rattle.std.specs.Int.{int_min, int_max}
 use Rattle.std.specs.List.{range_with_len}
 use Rattle.std.proofs.lemmas.Int.{ints, clamps, to_z-of_z}
@@ -15,8 +15,8 @@ use Rattle.node_sums.specs.Sums.{total, highest}
 use Rattle.node_sums.specs.Merging.{IsUpTo}
 use Rattle.node_sums.proofs.Exported.{total-up_to, value_in_range, length-filter-le, level-of, fits}
 use Rattle.dual_measure.specs.declared.values.Measure.{Measure}
-use Rattle.dual_measure.specs.Measures.{measure_over, seen_of, missing_of, least_or_zero, greatest_or_zero, IsSumOf}
-use Rattle.dual_measure.specs.Adding.{blank_measure, measure_at, combined, measured_so_far, lowest_value, settled_measure, HasMeasureSizes}
+use Rattle.dual_measure.specs.Measures.{measure_over, seen_of, missing_of, least_or_zero, greatest_or_zero, IsSumOf, HasMeasureSizes}
+use Rattle.dual_measure.specs.Adding.{blank_measure, measure_at, combined, measured_so_far, lowest_value, settled_measure}
 
 pub same_measure : (a b : Measure) → a.seen ≡ b.seen → a.missing ≡ b.missing → a.v ≡ b.v → a.low ≡ b.low → a.peak ≡ b.peak → a ≡ b
 same_measure a b seen missing v low peak = λ i. record {

@@ -1,5 +1,6 @@
 -- Bookkeeping: measures while pixels and nodes are being added.
-use Rattle.std.specs.Prelude.{◌≡◌, ℕ, zero, suc, ◌+◌, ◌-◌, ◌^◌, ◌≤◌, ◌<◌, ◌==◌, if◌then◌else◌, ℤ, pos, neg_ℤ, ◌+ℤ◌, List, [], ◌∷◌, length, filter, Option, Some, None, slice_get, slice_index}
+use Rattle.std.specs.Prelude.{◌≡◌, ℕ, ◌+◌, ◌-◌, ◌^◌, ◌<◌, ◌==◌, if◌then◌else◌, ℤ, pos, neg_ℤ, ◌+ℤ◌}
+use Rattle.std.specs.Prelude.{List, [], ◌∷◌, length, filter, Option, Some, None, slice_get, slice_index}
 use Rattle.std.specs.Int.{int_min, int_max}
 use Rattle.std.specs.List.{range_with_len}
 use Rattle.comp_tree.specs.declared.shape.Connect.{Connect}
@@ -9,7 +10,6 @@ use Rattle.comp_tree.specs.ComponentTree.{ComponentTree}
 use Rattle.comp_tree.specs.Components.{tree_of}
 use Rattle.node_sums.specs.Merging.{is_counted}
 use Rattle.dual_measure.specs.declared.values.Measure.{Measure}
-use Rattle.dual_measure.specs.Measures.{IsSumOf}
 
 -- before any pixel was added. Until all are, low and peak are these numbers where none is seen
 abbrev pub blank_measure : Measure
@@ -56,14 +56,10 @@ lowest_value f (p ∷ ps) = int_min (f p) (lowest_value f ps)
 unfoldable pub settled_measure : Measure → Measure
 settled_measure m = if m.seen == 0 then record m { low = pos 0; peak = pos 0 } else m
 
--- how large it is over some pixels of a plane
-pub record HasMeasureSizes (m : Measure) : Type 0 where
-  pub few : m.seen + m.missing ≤ 2 ^ 24
-  pub sum : IsSumOf m.seen m.v
-
 -- each entry has those of the first n pixels whose smallest node it is, and the values of these pixels are in the range
 pub record AreOfFront (values : Raster) (node_of : List ℕ) (n : ℕ) (entries : List Measure) : Type 0 where
-  pub own : (m : ℕ) (entry : Measure) → slice_get entries m ≡ Some entry → entry ≡ measured_so_far values (filter (λ q. slice_index node_of q == m) (range_with_len 0 n))
+  pub own : (m : ℕ) (entry : Measure) → slice_get entries m ≡ Some entry
+      → entry ≡ measured_so_far values (filter (λ q. slice_index node_of q == m) (range_with_len 0 n))
   pub small : (q : ℕ) (v : ℤ) → q < n → value_at values.values q ≡ Some v → IsWithinRange v
 
 -- when the nodes numbered from k on have been added to their parents, the entry of node m has the pixels of m

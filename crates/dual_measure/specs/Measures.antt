@@ -1,12 +1,14 @@
 -- Model: what the nodes of one plane's tree are in another plane of the same shape, whose pixels are the values.
-use Rattle.std.specs.Prelude.{◌≡◌, ℕ, ◌*◌, ◌^◌, Bool, not, ◌&&◌, ◌==◌, if◌then◌else◌, ℤ, pos, neg_ℤ, ◌*ℤ◌, ◌≤ℤ◌, List, [], ◌∷◌, length, map, filter, fold}
-use Rattle.std.specs.Int.{int_min, int_max, int_div_euclid}
+use Rattle.std.specs.Prelude.{◌≡◌, ℕ, ◌+◌, ◌*◌, ◌^◌, ◌≤◌, not, ◌&&◌, ◌==◌, if◌then◌else◌, ℤ, pos, neg_ℤ, ◌*ℤ◌, ◌≤ℤ◌}
+use Rattle.std.specs.Prelude.{List, [], ◌∷◌, length, map, filter, fold}
+use Rattle.std.specs.Int.{int_min, int_max}
 use Rattle.comp_tree.specs.declared.shape.Connect.{Connect}
 use Rattle.comp_tree.specs.Raster.{Raster, IsPlane, HasValuesInRange, pixels, is_defined, level}
 use Rattle.comp_tree.specs.ComponentTree.{ComponentTree, parent_in}
 use Rattle.comp_tree.specs.Components.{is_in_node, tree_of}
 use Rattle.comp_tree.specs.Nesting.{node_numbers, is_root, pixels_of}
 use Rattle.node_sums.specs.Sums.{total}
+use Rattle.source_pick.specs.Catalogue.{floor_of}
 use Rattle.dual_measure.specs.declared.values.Measure.{Measure}
 
 -- the least and the greatest of some numbers, or 0 where there are none
@@ -45,7 +47,7 @@ measures_of values r connect = map (measure_of values r connect) (node_numbers r
 
 -- a sum over so many, in thousandths and rounded towards minus infinity; 0 over none
 unfoldable pub floor_mean : ℤ → ℕ → ℤ
-floor_mean sum count = if count == 0 then pos 0 else int_div_euclid (pos 1000 *ℤ sum) (pos count)
+floor_mean sum count = if count == 0 then pos 0 else floor_of (pos 1000 *ℤ sum) (pos count)
 
 abbrev pub mean_of : Measure → ℤ
 mean_of measure = floor_mean measure.v measure.seen
@@ -58,12 +60,17 @@ around_node r connect n = filter (λ p. is_in_node r connect (parent_in (tree_of
 unfoldable pub back_of : Raster → Raster → Connect → ℕ → ℤ
 back_of values r connect n = if is_root (tree_of r connect) n then pos 0 else mean_of (measure_over values (around_node r connect n))
 
--- ---- what is asked of arguments
+-- ---- how large measures are, and what is asked of arguments
 
 -- a sum of so many values, each of which is from -2 ^ 37 to 2 ^ 37
 pub record IsSumOf (count : ℕ) (sum : ℤ) : Type 0 where
   pub low : neg_ℤ (pos (2 ^ 37 * count)) ≤ℤ sum
   pub high : sum ≤ℤ pos (2 ^ 37 * count)
+
+-- how large the measure of a node is: it has at most as many pixels as a plane
+pub record HasMeasureSizes (measure : Measure) : Type 0 where
+  pub few : measure.seen + measure.missing ≤ 2 ^ 24
+  pub sum : IsSumOf measure.seen measure.v
 
 -- the tree is some plane's, for some connectivity
 pub record IsPlanesTree (tree : ComponentTree) : Type 0 where

@@ -4,7 +4,7 @@ ghost use Rattle.comp_tree.specs.declared.shape.Connect.{Connect};
 ghost use Rattle.comp_tree.specs.Raster.{Raster, IsPlane, HasValuesInRange};
 ghost use Rattle.comp_tree.specs.Components.{tree_of};
 ghost use Rattle.dual_measure.specs.declared.values.Measure.{Measure as Entry};
-ghost use Rattle.dual_measure.specs.Measures.{measures_of, IsSumOf, IsPlanesTree, AreTheTreesMeasures};
+ghost use Rattle.dual_measure.specs.Measures.{measures_of, HasMeasureSizes, IsPlanesTree, AreTheTreesMeasures};
 ghost use Rattle.dual_measure.specs.Adding.{blank_measure, settled_measure, AreOfFront, AreDownTo};
 
 use crate::values::Measure;
@@ -12,16 +12,16 @@ use comp_tree::{NONE, Plane, Tree};
 use dev_io::OutOfMemory;
 use std::alloc::Global;
 
-/// The measure of each node of a tree in the values of a second plane, in the order of their numbers: one pass over the
-/// pixels, and one over the nodes from the last to the first. A node's pixels are those that it has in its own plane, also
-/// where they are undefined in the values. The one error is that memory was refused.
+/// The measure of each node of a max-tree (Salembier, Oliveras and Garrido 1998) in the values of a second plane, in the
+/// order of their numbers: one pass over the pixels, and one over the nodes from the last to the first. A node's pixels are
+/// those that it has in its own plane, also where they are undefined in the values. The one error is that memory was refused.
 pub fn measures(alloc: Global, values: &Plane, tree: &Tree) -> Result<Vec<Measure>, OutOfMemory>
     requires shape { values.now.shape ≡ tree.now.shape }
     requires tree { IsPlanesTree tree.now }
     ensures exact { IfOk result (λ measures. (plane : Raster) (connect : Connect) → IsPlane plane → tree.now ≡ tree_of plane connect
         → measures.items ≡ measures_of values.now plane connect) }
     ensures the_trees { IfOk result (λ measures. AreTheTreesMeasures tree.now measures.items) }
-    ensures sums { IfOk result (λ measures. (n : ℕ) (entry : Entry) → slice_get measures.items n ≡ Some entry → IsSumOf entry.seen entry.v) }
+    ensures small { IfOk result (λ measures. (n : ℕ) (entry : Entry) → slice_get measures.items n ≡ Some entry → HasMeasureSizes entry) }
 {
     let mut entries = vec![in alloc; Measure::blank(); tree.rows().len()]?;
     fill(values, tree, &mut entries);
@@ -33,7 +33,8 @@ fn fill(values: &Plane, tree: &Tree, entries: &mut [Measure])
     requires shape { values.now.shape ≡ tree.now.shape }
     requires tree { IsPlanesTree tree.now }
     requires blank { entries.old ≡ replicate (length tree.now.rows) blank_measure }
-    ensures exact { (plane : Raster) (connect : Connect) → IsPlane plane → tree.now ≡ tree_of plane connect → entries.new ≡ measures_of values.now plane connect }
+    ensures exact { (plane : Raster) (connect : Connect) → IsPlane plane → tree.now ≡ tree_of plane connect
+        → entries.new ≡ measures_of values.now plane connect }
     ensures the_trees { AreTheTreesMeasures tree.now entries.new }
 {
     add_pixels(values, tree.node_of(), entries);

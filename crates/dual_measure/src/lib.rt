@@ -3,10 +3,12 @@
 
 mod adding;
 mod around;
+mod columns;
 mod values;
 
 pub use adding::measures;
 pub use around::back;
+pub use columns::measured_cells;
 pub use values::Measure;
 
 #[cfg(test)]

@@ -1,0 +1,131 @@
+ghost use Rattle.std.specs.Prelude.{◌≡◌, IfOk};
+
+use super::*;
+use comp_tree::{Connect, Plane, Shape, plain_tree};
+use dev_io::OutOfMemory;
+use source_pick::CatRow;
+use std::alloc::Global;
+
+// 99 stands for an undefined pixel
+type Row = [i64; 5];
+
+#[derive(Drop)]
+struct Case<'a> {
+    pixels: Row,
+    values: Row,
+    // each node's measure and back
+    nodes: &'a [(Measure, i64)],
+}
+
+fn measure(seen: u32, missing: u32, v: i64, low: i64, peak: i64) -> Measure {
+    Measure {
+        seen,
+        missing,
+        v,
+        low,
+        peak,
+    }
+}
+
+// A plane of this shape, whose first pixels are these.
+fn plane_of(alloc: Global, shape: Shape, row: Row) -> Result<Plane, OutOfMemory>
+    ensures { IfOk result (λ plane. plane.shape ≡ shape) }
+{
+    let mut plane = Plane::blank(alloc, shape)?;
+    for (p, value) in row.iter().enumerate() {
+        if *value > -99 && *value < 99 && p < plane.shape().pixels() as usize {
+            plane.set(p as u32, Some(*value));
+        }
+    }
+    Ok(plane)
+}
+
+#[test]
+fn nodes_are_measured(rt: HostRuntime) {
+    let cases = [
+        Case {
+            pixels: [1, 6, 2, 5, 1],
+            values: [10, 20, 99, 40, 7],
+            nodes: &[
+                (measure(4, 1, 77, 7, 40), 0),
+                (measure(2, 1, 60, 20, 40), 8500),
+                (measure(1, 0, 40, 40, 40), 20000),
+                (measure(1, 0, 20, 20, 20), 40000),
+            ],
+        },
+        Case {
+            pixels: [10, 20, 99, 40, 7],
+            values: [1, 6, 2, 5, 1],
+            nodes: &[
+                (measure(2, 0, 6, 1, 5), 0),
+                (measure(2, 0, 7, 1, 6), 0),
+                (measure(1, 0, 6, 6, 6), 1000),
+                (measure(1, 0, 5, 5, 5), 1000),
+            ],
+        },
+        Case {
+            pixels: [1, 1, 1, 9, 1],
+            values: [-1, 0, 0, 99, 0],
+            nodes: &[
+                (measure(4, 1, -1, -1, 0), 0),
+                (measure(0, 1, 0, 0, 0), -250),
+            ],
+        },
+    ];
+    let shape = Shape::of(5, 1).expect(&rt, "a shape");
+    for (number, case) in cases.iter().enumerate() {
+        let plane = plane_of(rt.alloc(), shape, case.pixels).expect(&rt, "memory");
+        let values = plane_of(rt.alloc(), shape, case.values).expect(&rt, "memory");
+        let tree = plain_tree(rt.alloc(), &plane, Connect::Four).expect(&rt, "memory");
+        assert!(rt; plane.shape() == shape);
+        let found = measures(rt.alloc(), &values, &tree).expect(&rt, "memory");
+        let count = tree.rows().len();
+        assert_eq!(rt; count, case.nodes.len(), "case {number}");
+        assert!(rt; count < 9 && count == found.len());
+        for n in 0..count {
+            assert_eq!(rt;
+                (found[n], back(&tree, &found, n as u32)),
+                case.nodes[n],
+                "node {n} of case {number}"
+            );
+        }
+    }
+}
+
+#[test]
+fn a_row_gets_seven_columns(rt: HostRuntime) {
+    let row = CatRow {
+        number: 1,
+        level: 2,
+        base: 1,
+        area: 3,
+        flux: 10,
+        peak: 6,
+        xmin: 2,
+        xmax: 4,
+        ymin: 1,
+        ymax: 1,
+        xfirst: 2,
+        yfirst: 1,
+        xcen: 2900,
+        ycen: 1000,
+        xvar: 666,
+        yvar: 0,
+        xycov: -1,
+    };
+    let measure = Measure {
+        seen: 3,
+        missing: 1,
+        v: -1,
+        low: -3,
+        peak: 2,
+    };
+    let cells = measured_cells(&row, &measure, 8500);
+    assert_eq!(rt;
+        cells,
+        [
+            1, 2, 1, 3, 10, 6, 2, 4, 1, 1, 2, 1, 2900, 1000, 666, 0, -1, 3, 1, -1, -3, 2, -334,
+            8500
+        ]
+    );
+}

@@ -1,7 +1,8 @@
 // The values of a node's pixels, while they are being added and when all are.
 ghost use Rattle.std.specs.Prelude.{◌≡◌, IfSome};
 ghost use Rattle.comp_tree.specs.Limits.{IsWithinRange};
-ghost use Rattle.dual_measure.specs.Adding.{blank_measure, measure_at, combined, settled_measure, HasMeasureSizes};
+ghost use Rattle.dual_measure.specs.Measures.{HasMeasureSizes};
+ghost use Rattle.dual_measure.specs.Adding.{blank_measure, measure_at, combined, settled_measure};
 
 /// What a second image, the values, holds where a node of the first image's tree lies.
 #[derive(Clone, Copy, Debug, PartialEq, Eq)]
@@ -46,11 +47,8 @@ impl Measure {
                 peak: v,
             },
             None => Measure {
-                seen: 0,
                 missing: 1,
-                v: 0,
-                low: i64::MAX,
-                peak: i64::MIN,
+                ..Measure::blank()
             },
         }
     }
@@ -78,11 +76,9 @@ impl Measure {
             return *self;
         }
         Measure {
-            seen: 0,
-            missing: self.missing,
-            v: self.v,
             low: 0,
             peak: 0,
+            ..*self
         }
     }
 }

@@ -1,4 +1,4 @@
-use Rattle.std.proofs.Common.{◌≡◌, ◌∙◌, ◌<◌, ◌*◌, length, refl, ap, arith}
+use Rattle.std.proofs.Common.{◌∙◌, ◌<◌, ◌*◌, length, refl, ap, arith}
 use Rattle.comp_tree.specs.declared.shape.Shape.{Shape}
 use Rattle.std.proofs.lemmas.Option.{slice_get-get_or}
 use Rattle.dual_measure.proofs.Passing.{turn_from_code, turn_size, turn_yes, turn_no, range_from_front, front_all}

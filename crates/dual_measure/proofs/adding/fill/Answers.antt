@@ -1,6 +1,5 @@
-use Rattle.std.proofs.Common.{◌≡◌, ℕ, ◌∙◌, List, length, sym, ap, subst}
+use Rattle.std.proofs.Common.{ℕ, ◌∙◌, List, length, sym, ap, subst}
 use Rattle.std.proofs.lemmas.List.{length-replicate}
-use Rattle.dual_measure.specs.declared.values.Measure.{Measure}
 use Rattle.dual_measure.specs.Measures.{AreTheTreesMeasures}
 use Rattle.dual_measure.specs.Adding.{blank_measure, AreOfFront}
 use Rattle.dual_measure.proofs.Passing.{front_none, numbers_for_values, down_from_front, measures_from_down, trees_measures}

@@ -1,4 +1,4 @@
-use Rattle.std.proofs.Common.{◌∙◌, sym, ap, arith}
+use Rattle.std.proofs.Common.{◌∙◌, sym, arith}
 use Rattle.dual_measure.specs.Adding.{settled_measure}
 use Rattle.dual_measure.proofs.Passing.{front_unchanged, front_mapped, settle_next}
 use Rattle.dual_measure.proofs.adding.settle.Goals as goal
