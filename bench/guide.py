@@ -319,16 +319,19 @@ def gradient(rng):
 
 
 def gradient_rows():
-    """Stars over a sky that rises, by the side of the mesh."""
+    """Stars over a sky that rises, by the side of the mesh, with a smooth and with a flat background."""
     for mesh in (0, 16, 32, 64, 128):
-        seen, false = [], []
-        for rng in seeds(60, 4):
-            image, true, _ = gradient(rng)
-            found = by_maxdetect(2.25, connect=8, min_area=5, mesh=mesh)(image)[0]
-            own = matches(true, found) >= 0
-            seen.append(numpy.mean(own))
-            false.append(len(found) - own.sum())
-        yield [str(mesh), f"{21 + 4 * numpy.mean(seen):.2f}", few(numpy.mean(false))]
+        row = [str(mesh)]
+        for flat in (False, True):
+            seen, false = [], []
+            for rng in seeds(60, 4):
+                image, true, _ = gradient(rng)
+                found = by_maxdetect(2.25, connect=8, min_area=5, mesh=mesh, flat=flat)(image)[0]
+                own = matches(true, found) >= 0
+                seen.append(numpy.mean(own))
+                false.append(len(found) - own.sum())
+            row += [f"{21 + 4 * numpy.mean(seen):.2f}", few(numpy.mean(false))]
+        yield row
 
 
 def split_rows():
@@ -434,7 +437,7 @@ def main():
     )
     table("Sources by least area and contrast, at 2.25 sigma", ["min-area", "contrast", "crowd", "galaxies"], split_rows())
     table("A threshold of 2.25 sigma where sigma is 3", ["threshold", empty], rounding_rows())
-    table("A sky that rises by half", ["mesh", deep, "false"], gradient_rows())
+    table("A sky that rises by half", ["mesh", deep, "false", f"flat: {deep}", "flat: false"], gradient_rows())
     table(
         "Median part of a star's light, at 2.25 sigma",
         ["magnitude", "FLUX", "FLUX + BASE * AREA", *(["SEP's flux"] if sep else [])],

@@ -5,8 +5,8 @@ one that `program=` names, else the one that the environment's MAXDETECT names, 
 then proved and built first where it isn't there yet.
 
 An image is a two-dimensional array of whole numbers of any integer type, row by row: `image[y, x]`, as astropy reads it. Pixels that are masked (a
-numpy masked array) or have the value `blank` are undefined: they belong to no source. Its values may lie up to 2^32 - 2 apart, and within
--2^33 to 2^33. For an image of floating-point numbers see examples/prepare.py.
+numpy masked array) or have the value `blank` are undefined: they belong to no source. All other values lie from -2^36 to 2^36. For an image of
+floating-point numbers see examples/prepare.py.
 
 >>> import numpy
 >>> image = numpy.array([[1, 6, 2, 5, 1]])
@@ -51,6 +51,7 @@ FAULTS = {
     15: "BZERO isn't a whole number within 2^32",
     16: "BLANK isn't a whole number",
     17: "the input ends within the image",
+    18: "a value of 64 bits lies outside -2^36 to 2^36",
 }
 
 DESCRIPTIONS = {
@@ -155,10 +156,18 @@ def _run(program, words, file):
     return result.stdout
 
 
+def _forms(low):
+    """For each size of stored numbers: how many bits they have, the least of them, and the BZERO that puts the value `low` right above it."""
+    for bits in (8, 16, 32):
+        least = 0 if bits == 8 else -(2 ** (bits - 1))
+        yield bits, least, min(max(low - least - 1, -(2**32)), 2**32)
+    yield 64, -(2**63), 0
+
+
 def _file(image, blank):
     """An image as the bytes of a FITS file, and which of its pixels are undefined.
 
-    The stored numbers are the values less BZERO, in as few bytes as their range needs; the least stored number is BLANK.
+    The stored numbers are the values less BZERO, in as few bytes as their range needs; the least stored number is BLANK. In 64 bits BZERO is 0.
     """
     values = numpy.ma.getdata(image)
     if values.ndim != 2:
@@ -170,12 +179,10 @@ def _file(image, blank):
         undefined = undefined | (values == blank)
     defined = values[~undefined]
     low, high = (int(defined.min()), int(defined.max())) if defined.size else (0, 0)
-    bits = next((bits for bits in (8, 16, 32) if high - low < 2**bits - 1), 32)
-    least = 0 if bits == 8 else -(2 ** (bits - 1))
-    zero = min(max(low - least - 1, -(2**32)), 2**32)
-    if low - zero <= least or high - zero >= least + 2**bits:
-        raise ValueError(f"the values from {low} to {high} lie too far apart or too far from 0")
-    # Values and BZERO fit 64 bits wherever they lie so close together; an undefined pixel may have any value.
+    if low < -(2**36) or high > 2**36:
+        raise ValueError(f"the values from {low} to {high} lie too far from 0")
+    bits, least, zero = next(form for form in _forms(low) if form[0] == 64 or form[1] < low - form[2] and high - form[2] < form[1] + 2 ** form[0])
+    # Values and BZERO fit 64 bits; an undefined pixel may have any value.
     stored = numpy.where(undefined, low, values).astype("i8") - zero
     stored[undefined] = least
     height, width = values.shape
@@ -213,12 +220,12 @@ def read(file):
     return Table(columns, names=names, descriptions=[DESCRIPTIONS.get(name, "") for name in names]), segments
 
 
-def detect(image, threshold, *, min_area=1, min_flux=0, contrast=5, mesh=0, connect=4, strips=1, workers=1, blank=None, program=None):
+def detect(image, threshold, *, min_area=1, min_flux=0, contrast=5, mesh=0, flat=False, connect=4, strips=1, workers=1, blank=None, program=None):
     """The sources of an image: their catalogue, and their segmentation map.
 
     `threshold` is in the image's own units, above the background where `mesh` is not 0. `min_area` is in pixels, `min_flux` in the units of
-    value times pixel, `contrast` in thousandths of the flux of a source's entry, `mesh` in pixels. `strips` and `workers` change nothing but the
-    time. The defaults are the command's; for noisy images docs/GUIDE.md has better ones.
+    value times pixel, `contrast` in thousandths of the flux of a source's entry, `mesh` in pixels; `flat` takes the background in steps. `strips` and
+    `workers` change nothing but the time. The defaults are the command's; for noisy images docs/GUIDE.md has better ones.
 
     The catalogue is an astropy `Table` with a row for each source and the 17 columns of the command, all of them whole numbers: positions count
     pixels from 1, XCEN and YCEN in thousandths of a pixel, XVAR, YVAR and XYCOV in thousandths of a square pixel. The map is an array of
@@ -239,12 +246,12 @@ def detect(image, threshold, *, min_area=1, min_flux=0, contrast=5, mesh=0, conn
     9 10 120 3.0 3.0
     """
     options = dict(threshold=threshold, min_area=min_area, min_flux=min_flux, contrast=contrast)
-    options.update(mesh=mesh, connect=connect, strips=strips, workers=workers)
+    options.update(mesh=mesh, flat=int(flat), connect=connect, strips=strips, workers=workers)
     file, _ = _file(image, blank)
     return read(io.BytesIO(_run(program, _words("detect", options), file)))
 
 
-def filter(image, rule, *, min_area=0, max_area=16777216, min_flux=0, min_fill=0, mesh=0, connect=4, strips=1, workers=1, blank=None, program=None):
+def filter(image, rule, *, min_area=0, max_area=16777216, min_flux=0, min_fill=0, mesh=0, flat=False, connect=4, strips=1, workers=1, blank=None, program=None):
     """The image with some nodes of its tree taken out.
 
     `rule` is "min", "max", "direct" or "subtractive"; a node satisfies where its area is from `min_area` to `max_area` pixels, its flux at least
@@ -259,7 +266,7 @@ def filter(image, rule, *, min_area=0, max_area=16777216, min_flux=0, min_fill=0
     [[0, 1, 2, 2, 0]]
     """
     options = dict(rule=rule, min_area=min_area, max_area=max_area, min_flux=min_flux, min_fill=min_fill)
-    options.update(mesh=mesh, connect=connect, strips=strips, workers=workers)
+    options.update(mesh=mesh, flat=int(flat), connect=connect, strips=strips, workers=workers)
     file, undefined = _file(image, blank)
     output = _run(program, _words("filter", options), file)
     with fits.open(io.BytesIO(output), memmap=False, do_not_scale_image_data=True) as hdus:
@@ -269,7 +276,7 @@ def filter(image, rule, *, min_area=0, max_area=16777216, min_flux=0, min_fill=0
     return numpy.ma.MaskedArray(values, mask=undefined)
 
 
-def tree(image, *, mesh=0, connect=4, strips=1, workers=1, blank=None, program=None):
+def tree(image, *, mesh=0, flat=False, connect=4, strips=1, workers=1, blank=None, program=None):
     """The nodes of an image's max-tree, as a `Table` with the columns NUMBER, LEVEL, REP, PARENT and AREA.
 
     Nodes are numbered from 0, in the order of level and then representative, so the number is the row. REP is the least pixel of the component
@@ -281,7 +288,7 @@ def tree(image, *, mesh=0, connect=4, strips=1, workers=1, blank=None, program=N
     0 1 0 -1 3
     1 2 1 0 1
     """
-    options = dict(mesh=mesh, connect=connect, strips=strips, workers=workers)
+    options = dict(mesh=mesh, flat=int(flat), connect=connect, strips=strips, workers=workers)
     file, _ = _file(image, blank)
     lines = _run(program, _words("tree", options), file).replace(b" - ", b" -1 ")
     numbers = numpy.fromstring(lines, dtype="i8", sep=" ").reshape(-1, 5) if lines else numpy.zeros((0, 5), dtype="i8")

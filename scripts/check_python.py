@@ -107,6 +107,7 @@ def star_field(program):
         (image.filled(0).astype("u4"), {"blank": 0}),
         (numpy.ma.MaskedArray(image.filled(0) + 2**32, mask=blank), {"shift": 2**32}),
         (numpy.ma.MaskedArray(image.filled(0) - 2**32, mask=blank), {"shift": -(2**32)}),
+        (numpy.ma.MaskedArray(image.filled(0) + 2**35, mask=blank), {"shift": 2**35}),
     ]
     for form, options in forms:
         shift = options.pop("shift", 0)
