@@ -15,9 +15,10 @@ use std::sync::ledger::{Blank, Ledger};
 use std::thread::{Threads, join_mut};
 use tree_join::join_row;
 
-// Joins the links at the boundary above `row`, and counts in a new counter.
-fn join_boundary_by<L: Ledger>(
+// Joins the links at the boundary above `row`, and counts in two new counters.
+fn join_boundary_by<L: Ledger, M: Ledger>(
     moves: Blank,
+    looks: Blank,
     parents: &mut [u32],
     plane: &Plane,
     connect: Connect,
@@ -25,6 +26,7 @@ fn join_boundary_by<L: Ledger>(
     row: u32,
 )
     requires moves { (moves.name ≡ L.name) × (moves.parts ≡ L.parts) × (0 < moves.parts) }
+    requires looks { (looks.name ≡ M.name) × (looks.parts ≡ M.parts) × (0 < looks.parts) }
     requires rows { first_row * plane.now.shape.width + length parents.old ≤ length plane.now.values }
     requires below { first_row < row }
     requires inside { (row + 1) * plane.now.shape.width
@@ -37,7 +39,10 @@ fn join_boundary_by<L: Ledger>(
         (IsBoundary plane.now.values plane.now.shape.width connect row)) }
 {
     let mut moves = Steps::<L>::start(moves);
-    join_row(parents, plane, connect, first_row, row, &mut moves);
+    let mut looks = Steps::<M>::start(looks);
+    join_row(
+        parents, plane, connect, first_row, row, &mut moves, &mut looks,
+    );
 }
 
 // Joins the links at the boundary above `row`.
@@ -53,7 +58,15 @@ fn join_boundary(parents: &mut [u32], plane: &Plane, connect: Connect, first_row
         (Or (IsLink (first_row * plane.now.shape.width) parents.old)
         (IsBoundary plane.now.values plane.now.shape.width connect row)) }
 {
-    join_boundary_by::<Brand>(Blank::new(1), parents, plane, connect, first_row, row);
+    join_boundary_by::<Brand, Brand>(
+        Blank::new(1),
+        Blank::new(1),
+        parents,
+        plane,
+        connect,
+        first_row,
+        row,
+    );
 }
 
 // How many pixels there are from the start of `first_row` up to the start of `row`.

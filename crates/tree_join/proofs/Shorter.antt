@@ -9,6 +9,7 @@ use Rattle.comp_tree.specs.Raster.{Raster, level}
 use Rattle.comp_tree.specs.Counts.{rank}
 use Rattle.comp_tree.specs.Forest.{no_node, value_at, IsAtLeast, IsWithin, IsHigh, IsEarlier, link_of, IsLink, IsForest, JoinSame, IsPixel}
 use Rattle.tree_join.specs.Moves.{IsEnded, IsMoved, furthest}
+use Rattle.tree_join.specs.Ways.{IsPast}
 use Rattle.comp_tree.proofs.Exported.{links_before, links_after, link_hung, forest_hung, joined_trans, joined_sym, joined_pair, joined_within, at_only, int_le-true, int_le-from, before_defined, before_irrefl, before_trans, same_itself, same_trans, same_or, high_up, rank_less}
 
 -- At one level: c is the link of a, and d that of c. L holds before a is linked to d, and M after it.
@@ -70,6 +71,9 @@ module _ (values : List (Option ℤ)) (first : ℕ) (links : List ℕ) (forest :
 
   pub past_forest : IsForest values first (set links (a - first) d)
   past_forest = forest_hung first links a d pa.within values forest d_fits.0 past_earlier
+
+  pub past_is : IsPast first links (set links (a - first) d) a d
+  past_is = record { link = c; linked = read_link a pa.within ∙ link; some_link = linked; further = read_link c c_fits.0 ∙ next; some_next = more; new_links = refl }
 
   pub past_same : IsAtLeast (unwrap_or (value_at values c) (pos 0)) (value_at values d)
       → JoinSame values first (length links) (IsLink first (set links (a - first) d)) (IsLink first links)

@@ -12,6 +12,10 @@
 //! met too. So a walk begins with a climb: up to the last pixel on the way of the later of the two that is not earlier than
 //! the other. Some pixels are marks, one of 1,024; from mark to mark a table tells where to skip to. What links join stays
 //! joined, at each level, so its skips stay true while links change.
+//!
+//! For one adjacency the looks at links and skips are at most six for each defined pixel, and four. A step of the climb has
+//! at most four and goes to an earlier pixel. After the climb the ways up from the two pixels pay: each step of the halving
+//! leaves a pixel out of the way of the later one, and each move leaves one behind.
 #![tactic(auto)]
 
 ghost use Rattle.std.specs.Prelude.{◌≡◌, ◌≢◌, ℕ, ◌+◌, ◌-◌, ◌*◌, ◌<◌, ◌≤◌, ◌⊎◌, length, slice_index, List, MatchOption, IfSome};
@@ -20,6 +24,7 @@ ghost use Rattle.comp_tree.specs.Counts.{count_defined, rank};
 ghost use Rattle.comp_tree.specs.Forest.{no_node, StandsFor, IsEarlier, IsForest, IsPixel, IsLink, JoinSame, IsWithin};
 ghost use Rattle.tree_join.specs.Moves.{IsEnded, IsMoved, IsSpan, span_size};
 ghost use Rattle.tree_join.specs.Skips.{IsSkip, AreSkips, IsLeft, IsNoted};
+ghost use Rattle.tree_join.specs.Ways.{IsPast, ArePaid};
 ghost use Rattle.tree_join.specs.Boundary.{IsBoundary, boundary_size, first_column, end_column};
 
 pub mod laws;
@@ -35,7 +40,13 @@ const PLACES: usize = 4096;
 
 // Where the link of `p` leads to a pixel that is linked within its own value, `p` is linked past it: straight to that
 // pixel's link, which is then told. The two pixels lie in the same threshold sets, so nothing comes apart.
-fn link_past(parents: &mut [u32], plane: &Plane, first: u32, p: u32) -> Option<u32>
+fn link_past<M: Ledger>(
+    parents: &mut [u32],
+    plane: &Plane,
+    first: u32,
+    p: u32,
+    looks: &mut Steps<M>,
+) -> Option<u32>
     requires rows { first + length parents.old ≤ length plane.now.values }
     requires small { length plane.now.values ≤ 16777216 }
     requires forest { IsForest plane.now.values first parents.old }
@@ -46,12 +57,19 @@ fn link_past(parents: &mut [u32], plane: &Plane, first: u32, p: u32) -> Option<u
         (IsLink first parents.old) }
     ensures pixel { IfSome result (λ next. IsPixel plane.now.values first (length parents.old) next) }
     ensures earlier { IfSome result (λ next. IsEarlier plane.now.values next p) }
+    ensures past { MatchOption result
+        (parents.new ≡ parents.old)
+        (λ next. IsPast first parents.old parents.new p next) }
+    ensures more { looks.old ≤ looks.new }
+    ensures looks { looks.new ≤ looks.old + 2 }
 {
     let place = (p - first) as usize;
+    looks.tick();
     let link = parents[place];
     if link == NONE {
         return None;
     }
+    looks.tick();
     let next = parents[(link - first) as usize];
     if next == NONE || !plane.is_at_least(plane.level(link), next) {
         return None;
@@ -61,8 +79,9 @@ fn link_past(parents: &mut [u32], plane: &Plane, first: u32, p: u32) -> Option<u
 }
 
 // Shortens the way up from `p`: each pixel met is linked past its link, up to the first whose link is the last pixel of
-// its value. So of a way through one value every second pixel is left out.
-fn shorten(parents: &mut [u32], plane: &Plane, first: u32, p: u32)
+// its value. So of a way through one value every second pixel is left out, and pays for the looks of its step. The last two
+// looks are paid for by none.
+fn shorten<M: Ledger>(parents: &mut [u32], plane: &Plane, first: u32, p: u32, looks: &mut Steps<M>)
     requires rows { first + length parents.old ≤ length plane.now.values }
     requires small { length plane.now.values ≤ 16777216 }
     requires forest { IsForest plane.now.values first parents.old }
@@ -71,16 +90,29 @@ fn shorten(parents: &mut [u32], plane: &Plane, first: u32, p: u32)
     ensures same { JoinSame plane.now.values first (length parents.old)
         (IsLink first parents.new)
         (IsLink first parents.old) }
+    ensures more { looks.old ≤ looks.new }
+    ensures paid { (q budget : ℕ)
+        → IsWithin first (length parents.old) q
+        → ArePaid first parents.old p q looks.old budget
+        → ArePaid first parents.new p q looks.new (budget + 2) }
 {
     let mut at = p;
-    while let Some(next) = link_past(parents, plane, first, at) {
+    while let Some(next) = link_past(parents, plane, first, at, looks) {
         at = next;
     }
 }
 
 // One move of a walk, where `b` is earlier than `a`. It gives the two pixels that are left to join, if any.
-// Where the link of `a` is not earlier than `b`, `a` stays where it is: `b` belongs further up on its way.
-fn move_later(parents: &mut [u32], plane: &Plane, first: u32, a: u32, b: u32) -> Option<(u32, u32)>
+// Where the link of `a` is not earlier than `b`, `a` stays where it is: `b` belongs further up on its way. The pixel that
+// the walk leaves pays for the look at its link and for the last two before the move.
+fn move_later<M: Ledger>(
+    parents: &mut [u32],
+    plane: &Plane,
+    first: u32,
+    a: u32,
+    b: u32,
+    looks: &mut Steps<M>,
+) -> Option<(u32, u32)>
     requires rows { first + length parents.old ≤ length plane.now.values }
     requires small { length plane.now.values ≤ 16777216 }
     requires forest { IsForest plane.now.values first parents.old }
@@ -91,8 +123,15 @@ fn move_later(parents: &mut [u32], plane: &Plane, first: u32, a: u32, b: u32) ->
     ensures moved { MatchOption result
         (IsEnded plane.now.values first parents.old parents.new a b)
         (λ rest. IsMoved plane.now.values first parents.old parents.new a b rest) }
+    ensures look { looks.new ≡ looks.old + 1 }
+    ensures paid { (budget : ℕ)
+        → ArePaid first parents.old a b looks.old (budget + 2)
+        → MatchOption result
+        (looks.new ≤ budget)
+        (λ rest. ArePaid first parents.new rest.0 rest.1 looks.new budget) }
 {
     let place = (a - first) as usize;
+    looks.tick();
     let link = parents[place];
     if link == NONE {
         parents[place] = b;
@@ -107,7 +146,14 @@ fn move_later(parents: &mut [u32], plane: &Plane, first: u32, a: u32, b: u32) ->
 
 // One move of a walk from `a` and `b`, two different pixels, once the way of the later one is shortened. It gives the
 // two pixels that are left to join, if any.
-fn turn(parents: &mut [u32], plane: &Plane, first: u32, a: u32, b: u32) -> Option<(u32, u32)>
+fn turn<M: Ledger>(
+    parents: &mut [u32],
+    plane: &Plane,
+    first: u32,
+    a: u32,
+    b: u32,
+    looks: &mut Steps<M>,
+) -> Option<(u32, u32)>
     requires rows { first + length parents.old ≤ length plane.now.values }
     requires small { length plane.now.values ≤ 16777216 }
     requires forest { IsForest plane.now.values first parents.old }
@@ -118,13 +164,19 @@ fn turn(parents: &mut [u32], plane: &Plane, first: u32, a: u32, b: u32) -> Optio
     ensures moved { MatchOption result
         (IsEnded plane.now.values first parents.old parents.new a b)
         (λ rest. IsMoved plane.now.values first parents.old parents.new a b rest) }
+    ensures more { looks.old + 1 ≤ looks.new }
+    ensures paid { (budget : ℕ)
+        → ArePaid first parents.old a b looks.old budget
+        → MatchOption result
+        (looks.new ≤ budget)
+        (λ rest. ArePaid first parents.new rest.0 rest.1 looks.new budget) }
 {
     if plane.is_earlier(a, b) {
-        shorten(parents, plane, first, b);
-        move_later(parents, plane, first, b, a)
+        shorten(parents, plane, first, b, looks);
+        move_later(parents, plane, first, b, a, looks)
     } else {
-        shorten(parents, plane, first, a);
-        move_later(parents, plane, first, a, b)
+        shorten(parents, plane, first, a, looks);
+        move_later(parents, plane, first, a, b, looks)
     }
 }
 
@@ -156,8 +208,15 @@ fn pass(from: &mut [u32], to: &mut [u32], mark: u32, at: u32) -> u32
     at
 }
 
-// The link of `at`, once its way is shortened, unless it is earlier than `b`.
-fn link_up(parents: &mut [u32], plane: &Plane, first: u32, at: u32, b: u32) -> Option<u32>
+// The link of `at`, once it is linked past it where it can be, unless it is earlier than `b`.
+fn link_up<M: Ledger>(
+    parents: &mut [u32],
+    plane: &Plane,
+    first: u32,
+    at: u32,
+    b: u32,
+    looks: &mut Steps<M>,
+) -> Option<u32>
     requires rows { first + length parents.old ≤ length plane.now.values }
     requires small { length plane.now.values ≤ 16777216 }
     requires forest { IsForest plane.now.values first parents.old }
@@ -170,8 +229,11 @@ fn link_up(parents: &mut [u32], plane: &Plane, first: u32, at: u32, b: u32) -> O
     ensures joined { IfSome result (λ next. IsSkip plane.now.values first (length parents.old) (IsLink first parents.old) at next) }
     ensures earlier { IfSome result (λ next. IsEarlier plane.now.values next at) }
     ensures late { IfSome result (λ next. IsEarlier plane.now.values next b → ⊥) }
+    ensures more { looks.old ≤ looks.new }
+    ensures looks { looks.new ≤ looks.old + 3 }
 {
-    shorten(parents, plane, first, at);
+    link_past(parents, plane, first, at, looks);
+    looks.tick();
     let link = parents[(at - first) as usize];
     if link == NONE || plane.is_earlier(link, b) {
         return None;
@@ -180,7 +242,7 @@ fn link_up(parents: &mut [u32], plane: &Plane, first: u32, at: u32, b: u32) -> O
 }
 
 // The next pixel on the way of `at` that is not earlier than `b`: the one that the table tells, else its link.
-fn next_up(
+fn next_up<M: Ledger>(
     parents: &mut [u32],
     plane: &Plane,
     first: u32,
@@ -188,6 +250,7 @@ fn next_up(
     to: &[u32],
     at: u32,
     b: u32,
+    looks: &mut Steps<M>,
 ) -> Option<u32>
     requires rows { first + length parents.old ≤ length plane.now.values }
     requires small { length plane.now.values ≤ 16777216 }
@@ -202,20 +265,23 @@ fn next_up(
     ensures joined { IfSome result (λ next. IsSkip plane.now.values first (length parents.old) (IsLink first parents.old) at next) }
     ensures earlier { IfSome result (λ next. IsEarlier plane.now.values next at) }
     ensures late { IfSome result (λ next. IsEarlier plane.now.values next b → ⊥) }
+    ensures more { looks.old + 1 ≤ looks.new }
+    ensures looks { looks.new ≤ looks.old + 4 }
 {
+    looks.tick();
     let place = place_of(at, from.len());
     if from[place] != at {
-        return link_up(parents, plane, first, at, b);
+        return link_up(parents, plane, first, at, b, looks);
     }
     let there = to[place];
     if !plane.is_earlier(there, at) || plane.is_earlier(there, b) {
-        return link_up(parents, plane, first, at, b);
+        return link_up(parents, plane, first, at, b, looks);
     }
     Some(there)
 }
 
 // Walks up from `p`, and gives the last pixel met that is not earlier than `b`.
-fn climb<L: Ledger>(
+fn climb<L: Ledger, M: Ledger>(
     parents: &mut [u32],
     plane: &Plane,
     first: u32,
@@ -224,6 +290,7 @@ fn climb<L: Ledger>(
     p: u32,
     b: u32,
     moves: &mut Steps<L>,
+    looks: &mut Steps<M>,
 ) -> u32
     requires rows { first + length parents.old ≤ length plane.now.values }
     requires small { length plane.now.values ≤ 16777216 }
@@ -242,10 +309,13 @@ fn climb<L: Ledger>(
     ensures later { moves.old ≤ moves.new }
     ensures cost { moves.new + rank plane.now.values first (length parents.old) result
         ≤ moves.old + rank plane.now.values first (length parents.old) p }
+    ensures each { moves.new + looks.old ≤ moves.old + looks.new }
+    ensures looks { looks.new + 4 * rank plane.now.values first (length parents.old) result
+        ≤ looks.old + 4 * rank plane.now.values first (length parents.old) p + 4 }
 {
     let mut at = p;
     let mut mark = p;
-    while let Some(next) = next_up(parents, plane, first, from, to, at, b) {
+    while let Some(next) = next_up(parents, plane, first, from, to, at, b, looks) {
         moves.tick();
         mark = pass(from, to, mark, next);
         at = next;
@@ -255,7 +325,7 @@ fn climb<L: Ledger>(
 
 // `join_pair`, where `p` is not earlier than `q`. Between two moves one pair is still to be joined: together with it the
 // links always join what they joined before and `p` with `q`.
-fn join_later<L: Ledger>(
+fn join_later<L: Ledger, M: Ledger>(
     parents: &mut [u32],
     plane: &Plane,
     first: u32,
@@ -264,6 +334,7 @@ fn join_later<L: Ledger>(
     p: u32,
     q: u32,
     moves: &mut Steps<L>,
+    looks: &mut Steps<M>,
 )
     requires rows { first + length parents.old ≤ length plane.now.values }
     requires small { length plane.now.values ≤ 16777216 }
@@ -278,12 +349,14 @@ fn join_later<L: Ledger>(
         (Or (IsLink first parents.old) (Only p q)) }
     ensures skips { AreSkips plane.now.values first (length parents.old) (IsLink first parents.new) from.new to.new }
     ensures cost { moves.new ≤ moves.old + count_defined plane.now.values first (length parents.old) }
+    ensures each { moves.new + looks.old ≤ moves.old + looks.new }
+    ensures looks { looks.new ≤ looks.old + (6 * count_defined plane.now.values first (length parents.old) + 4) }
 {
-    let mut a = climb(parents, plane, first, from, to, p, q, moves);
+    let mut a = climb(parents, plane, first, from, to, p, q, moves, looks);
     let mut b = q;
     while a != b {
         moves.tick();
-        match turn(parents, plane, first, a, b) {
+        match turn(parents, plane, first, a, b, looks) {
             None => return,
             Some((one, other)) => {
                 a = one;
@@ -294,7 +367,7 @@ fn join_later<L: Ledger>(
 }
 
 // Joins the pair of `p` and `q`.
-fn join_pair<L: Ledger>(
+fn join_pair<L: Ledger, M: Ledger>(
     parents: &mut [u32],
     plane: &Plane,
     first: u32,
@@ -303,6 +376,7 @@ fn join_pair<L: Ledger>(
     p: u32,
     q: u32,
     moves: &mut Steps<L>,
+    looks: &mut Steps<M>,
 )
     requires rows { first + length parents.old ≤ length plane.now.values }
     requires small { length plane.now.values ≤ 16777216 }
@@ -316,16 +390,18 @@ fn join_pair<L: Ledger>(
         (Or (IsLink first parents.old) (Only p q)) }
     ensures skips { AreSkips plane.now.values first (length parents.old) (IsLink first parents.new) from.new to.new }
     ensures cost { moves.new ≤ moves.old + count_defined plane.now.values first (length parents.old) }
+    ensures each { moves.new + looks.old ≤ moves.old + looks.new }
+    ensures looks { looks.new ≤ looks.old + (6 * count_defined plane.now.values first (length parents.old) + 4) }
 {
     if plane.is_earlier(p, q) {
-        join_later(parents, plane, first, from, to, q, p, moves);
+        join_later(parents, plane, first, from, to, q, p, moves, looks);
     } else {
-        join_later(parents, plane, first, from, to, p, q, moves);
+        join_later(parents, plane, first, from, to, p, q, moves, looks);
     }
 }
 
 // Joins `p` with each pixel from `low` up to `high`, where both are defined.
-fn join_span<L: Ledger>(
+fn join_span<L: Ledger, M: Ledger>(
     parents: &mut [u32],
     plane: &Plane,
     first: u32,
@@ -335,6 +411,7 @@ fn join_span<L: Ledger>(
     high: u32,
     p: u32,
     moves: &mut Steps<L>,
+    looks: &mut Steps<M>,
 )
     requires rows { first + length parents.old ≤ length plane.now.values }
     requires small { length plane.now.values ≤ 16777216 }
@@ -351,13 +428,17 @@ fn join_span<L: Ledger>(
     ensures skips { AreSkips plane.now.values first (length parents.old) (IsLink first parents.new) from.new to.new }
     ensures cost { moves.new ≤ moves.old
         + span_size plane.now.values low high p * count_defined plane.now.values first (length parents.old) }
+    ensures each { moves.new + looks.old ≤ moves.old + looks.new }
+    ensures looks { looks.new ≤ looks.old
+        + span_size plane.now.values low high p
+        * (6 * count_defined plane.now.values first (length parents.old) + 4) }
 {
     if plane.get(p).is_none() {
         return;
     }
     for u in low..high {
         if plane.get(u).is_some() {
-            join_pair(parents, plane, first, from, to, u, p, moves);
+            join_pair(parents, plane, first, from, to, u, p, moves, looks);
         }
     }
 }
@@ -376,7 +457,7 @@ fn columns(connect: Connect, width: u32, x: u32) -> (u32, u32)
 }
 
 // `join_row` in a plane of this width.
-fn join_rows<L: Ledger>(
+fn join_rows<L: Ledger, M: Ledger>(
     parents: &mut [u32],
     plane: &Plane,
     width: u32,
@@ -386,6 +467,7 @@ fn join_rows<L: Ledger>(
     from: &mut [u32],
     to: &mut [u32],
     moves: &mut Steps<L>,
+    looks: &mut Steps<M>,
 )
     requires width { 0 < width }
     requires rows { first_row * width + length parents.old ≤ length plane.now.values }
@@ -407,6 +489,10 @@ fn join_rows<L: Ledger>(
     ensures cost { moves.new ≤ moves.old
         + boundary_size plane.now.values width connect row
         * count_defined plane.now.values (first_row * width) (length parents.old) }
+    ensures each { moves.new + looks.old ≤ moves.old + looks.new }
+    ensures looks { looks.new ≤ looks.old
+        + boundary_size plane.now.values width connect row
+        * (6 * count_defined plane.now.values (first_row * width) (length parents.old) + 4) }
 {
     let first = first_row * width;
     let start = row * width;
@@ -423,6 +509,7 @@ fn join_rows<L: Ledger>(
             above + high,
             start + x,
             moves,
+            looks,
         );
     }
 }
@@ -432,15 +519,17 @@ fn join_rows<L: Ledger>(
 ///
 /// `parents` holds the links of the pixels of some rows from the start of `first_row` on: pixel p stands at place
 /// `p - first_row * width`. What they joined before stays joined, whether these rows were just flooded or have been
-/// joined with others, so boundaries can be joined in any order. `moves` counts each move of each walk, and not the links
-/// that are shortened before it. It takes no memory from an allocator, and 32 KiB of stack.
-pub fn join_row<L: Ledger>(
+/// joined with others, so boundaries can be joined in any order. `moves` counts each move of each walk, and `looks` each
+/// link and each place of the table of skips that is looked at, also where a way is shortened. It takes no memory from an
+/// allocator, and 32 KiB of stack.
+pub fn join_row<L: Ledger, M: Ledger>(
     parents: &mut [u32],
     plane: &Plane,
     connect: Connect,
     first_row: u32,
     row: u32,
     moves: &mut Steps<L>,
+    looks: &mut Steps<M>,
 )
     requires rows { first_row * plane.now.shape.width + length parents.old ≤ length plane.now.values }
     requires below { first_row < row }
@@ -459,6 +548,10 @@ pub fn join_row<L: Ledger>(
     ensures cost { moves.new ≤ moves.old
         + boundary_size plane.now.values plane.now.shape.width connect row
         * count_defined plane.now.values (first_row * plane.now.shape.width) (length parents.old) }
+    ensures each { moves.new + looks.old ≤ moves.old + looks.new }
+    ensures looks { looks.new ≤ looks.old
+        + boundary_size plane.now.values plane.now.shape.width connect row
+        * (6 * count_defined plane.now.values (first_row * plane.now.shape.width) (length parents.old) + 4) }
 {
     let shape = plane.shape();
     let mut from = [NONE; PLACES];
@@ -473,5 +566,6 @@ pub fn join_row<L: Ledger>(
         &mut from,
         &mut to,
         moves,
+        looks,
     );
 }

@@ -31,18 +31,19 @@ fn plane_of(alloc: Global, shape: Shape, values: &[i64]) -> Result<Plane, OutOfM
     Ok(plane)
 }
 
-fn join_by<L: Ledger>(
-    blank: Blank,
+fn join_by<L: Ledger, M: Ledger>(
+    one: Blank,
+    other: Blank,
     parents: &mut [u32],
     plane: &Plane,
     connect: Connect,
     rows: &[u32],
 ) -> bool
-    requires name { blank.name ≡ L.name }
-    requires parts { blank.parts ≡ L.parts }
-    requires some { 0 < blank.parts }
+    requires one { (one.name ≡ L.name) × (one.parts ≡ L.parts) × (0 < one.parts) }
+    requires other { (other.name ≡ M.name) × (other.parts ≡ M.parts) × (0 < other.parts) }
 {
-    let mut moves = Steps::<L>::start(blank);
+    let mut moves = Steps::<L>::start(one);
+    let mut looks = Steps::<M>::start(other);
     let shape = plane.shape();
     for row in rows {
         let row = *row;
@@ -52,14 +53,14 @@ fn join_by<L: Ledger>(
         if row == 0 || row >= shape.height {
             return false;
         }
-        join_row(parents, plane, connect, 0, row, &mut moves);
+        join_row(parents, plane, connect, 0, row, &mut moves, &mut looks);
     }
     true
 }
 
 // Joins these rows, if the links are a forest.
 fn join(parents: &mut [u32], plane: &Plane, connect: Connect, rows: &[u32]) -> bool {
-    join_by::<Brand>(Blank::new(1), parents, plane, connect, rows)
+    join_by::<Brand, Brand>(Blank::new(1), Blank::new(1), parents, plane, connect, rows)
 }
 
 // The last pixel of at least this value on the walk from `p` along the links.
@@ -213,8 +214,10 @@ fn joined_strips_have_the_plain_tree(rt: HostRuntime) {
     }
 }
 
-// Shortens the way up from `p`, if the links are a forest and `p` is defined.
-fn shorten_from(parents: &mut [u32], plane: &Plane, p: u32) -> bool {
+fn shorten_by<M: Ledger>(blank: Blank, parents: &mut [u32], plane: &Plane, p: u32) -> bool
+    requires blank { (blank.name ≡ M.name) × (blank.parts ≡ M.parts) × (0 < blank.parts) }
+{
+    let mut looks = Steps::<M>::start(blank);
     let shape = plane.shape();
     if parents.len() != shape.pixels() as usize || !is_forest(plane, 0, parents) {
         return false;
@@ -222,8 +225,13 @@ fn shorten_from(parents: &mut [u32], plane: &Plane, p: u32) -> bool {
     if p >= shape.pixels() || !plane.is_defined(p) {
         return false;
     }
-    shorten(parents, plane, 0, p);
+    shorten(parents, plane, 0, p, &mut looks);
     true
+}
+
+// Shortens the way up from `p`, if the links are a forest and `p` is defined.
+fn shorten_from(parents: &mut [u32], plane: &Plane, p: u32) -> bool {
+    shorten_by::<Brand>(Blank::new(1), parents, plane, p)
 }
 
 #[test]

@@ -1,4 +1,4 @@
-use Rattle.std.proofs.Common.{◌+◌, ◌≤◌, length}
+use Rattle.std.proofs.Common.{◌+◌, ◌*◌, ◌≤◌, length}
 use Rattle.comp_tree.specs.Counts.{rank}
 use Rattle.tree_join.proofs.Climbing.{IsClimbing}
 use Rattle.tree_join.proofs.climb.Given as goal
@@ -8,6 +8,8 @@ invariant-loop-next g l = record {
   climbing : IsClimbing l.plane.values l.first l.initial.parents l.parents l.from l.to l.p l.b l.mark l.at;
   later : l.initial.moves ≤ l.moves;
   cost : l.moves + rank l.plane.values l.first (length l.initial.parents) l.at ≤ l.initial.moves + rank l.plane.values l.first (length l.initial.parents) l.p;
+  each : l.moves + l.initial.looks ≤ l.initial.moves + l.looks;
+  looks : l.looks + 4 * rank l.plane.values l.first (length l.initial.parents) l.at ≤ l.initial.looks + 4 * rank l.plane.values l.first (length l.initial.parents) l.p;
 }
 
 abbrev pub decreases-loop-next : goal.decreases-loop-next

@@ -1,4 +1,7 @@
 use Rattle.strip_crew.proofs.group.join_boundary.Given as goal
 
-abbrev pub ghosts-join_boundary_by : goal.ghosts-join_boundary_by
-ghosts-join_boundary_by a = record { name = a.moves.name; parts = a.moves.parts }
+abbrev pub ghosts-join_boundary_by-L-Ledger : goal.ghosts-join_boundary_by-L-Ledger
+ghosts-join_boundary_by-L-Ledger a = record { name = a.moves.name; parts = a.moves.parts }
+
+abbrev pub ghosts-join_boundary_by-M-Ledger : goal.ghosts-join_boundary_by-M-Ledger
+ghosts-join_boundary_by-M-Ledger a = record { name = a.looks.name; parts = a.looks.parts }
