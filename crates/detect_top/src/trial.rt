@@ -73,6 +73,7 @@ pub(crate) fn trial_image(alloc: Global, seed: u32, shape: Shape) -> Result<Plan
     Ok(plane)
 }
 
+// A tree has at most as many nodes as pixels, so the other branch never runs: without it no clause says that the count fits.
 fn node_count(tree: &Tree) -> u32
     ensures all { result ≡ length tree.now.rows }
     ensures few { result ≤ 2 ^ 24 }
