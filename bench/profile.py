@@ -19,7 +19,7 @@ STEPS = [
     ("canonical numbering", r"tree_canon"),
     ("sums and areas", r"node_sums"),
     ("sources and their map", r"source_pick"),
-    ("medians of cells", r"mesh_background|rayon"),
+    ("background", r"mesh_background|rayon"),
     ("making output", r"product::write|dev_io|fits_write|itoa"),
     ("the rest of the pipeline, merged into one function", r"detect_top"),
     ("copying and clearing memory", r"mem(move|set|cpy)"),
