@@ -10,7 +10,7 @@ use Rattle.std.proofs.lemmas.Bool.{and_parts}
 use Rattle.std.proofs.lemmas.Bool.Decides.{nat_tests}
 use Rattle.std.proofs.lemmas.Int.{to_z-of_z}
 use Rattle.std.proofs.lemmas.Str.Parse.{IsNumeralModel, numerals_by_value, tells_all_ascii_digits, digit_at}
-use Rattle.command_line.specs.Numbers.{without_minus, is_numeral, whole_number, within, number_between}
+use Rattle.command_line.specs.Numbers.{without_minus, is_short_numeral, whole_number, within, number_between}
 
 numerals : IsNumeralModel (λ ds. all_ascii_digits ds ≡ true) (digits_value 10)
 numerals = numerals_by_value _ tells_all_ascii_digits
@@ -19,40 +19,40 @@ all_same : (ds : List ℕ) → list_all is_ascii_digit ds ≡ all_ascii_digits d
 all_same [] = refl
 all_same (d ∷ ds) = ap (λ b. is_ascii_digit d && b) (all_same ds)
 
-numeral_parts : (ds : List ℕ) → is_numeral ds ≡ true → IsNumeral 10 ds
+numeral_parts : (ds : List ℕ) → is_short_numeral ds ≡ true → IsNumeral 10 ds
 numeral_parts ds h =
     let parts = and_parts _ (list_all is_ascii_digit ds) h in
     let some : 0 < length ds = grind (arith, nat_tests) in
     (some, numerals.to ds (sym (all_same ds) ∙ parts.1))
 
-no_plus : (first : ℕ) (rest : List ℕ) → is_numeral (first ∷ rest) ≡ true → first == 43 ≡ false
+no_plus : (first : ℕ) (rest : List ℕ) → is_short_numeral (first ∷ rest) ≡ true → first == 43 ≡ false
 no_plus first rest h =
     let range : IsInRange 48 57 first = digit_at (first ∷ rest) 0 (numeral_parts (first ∷ rest) h).1 (omega arith) in
     grind (arith, nat_tests, range.0)
 
-sign_cut : (text : List ℕ) → is_numeral (without_minus text) ≡ true → without_leading_sign text ≡ without_minus text
+sign_cut : (text : List ℕ) → is_short_numeral (without_minus text) ≡ true → without_leading_sign text ≡ without_minus text
 sign_cut [] h = refl
 sign_cut (first ∷ rest) h = by (first == 45) h
   where
-    by : (b : Bool) → is_numeral (cond b rest (first ∷ rest)) ≡ true → cond b rest (drop (cond (first == 43) 1 0) (first ∷ rest)) ≡ cond b rest (first ∷ rest)
+    by : (b : Bool) → is_short_numeral (cond b rest (first ∷ rest)) ≡ true → cond b rest (drop (cond (first == 43) 1 0) (first ∷ rest)) ≡ cond b rest (first ∷ rest)
     by true h = refl
     by false h = ap (λ t. drop (cond t 1 0) (first ∷ rest)) (no_plus first rest h)
 
-numeral_is : (text : List ℕ) → is_numeral (without_minus text) ≡ true → IsNumeral 10 (without_leading_sign text)
+numeral_is : (text : List ℕ) → is_short_numeral (without_minus text) ≡ true → IsNumeral 10 (without_leading_sign text)
 numeral_is text h = subst (IsNumeral 10) (sym (sign_cut text h)) (numeral_parts (without_minus text) h)
 
-number_is : (text : List ℕ) → is_numeral (without_minus text) ≡ true → whole_number text ≡ Some (signed_digits_value 10 text)
+number_is : (text : List ℕ) → is_short_numeral (without_minus text) ≡ true → whole_number text ≡ Some (signed_digits_value 10 text)
 unfolding whole_number
 number_is text h = rw h refl
 
-pub no_number : (text : List ℕ) (least most : ℤ) → is_numeral (without_minus text) ≡ false → None ≡ number_between least most text
+pub no_number : (text : List ℕ) (least most : ℤ) → is_short_numeral (without_minus text) ≡ false → None ≡ number_between least most text
 unfolding whole_number
 no_number text least most h = rw h refl
 
 again : (x : ℤ) → SFits w64 x → to_z w64 (of_z w64 x) ≡ x
 again x fits = to_z-of_z w64 x fits
 
-pub number_read : (text : List ℕ) (least most number : ℤ) → is_numeral (without_minus text) ≡ true → SFits w64 least → SFits w64 most
+pub number_read : (text : List ℕ) (least most number : ℤ) → is_short_numeral (without_minus text) ≡ true → SFits w64 least → SFits w64 most
     → IsNumeral 10 (without_leading_sign text) × SFits w64 (signed_digits_value 10 text) × (number ≡ signed_digits_value 10 text)
     → within (to_z w64 (of_z w64 least)) (to_z w64 (of_z w64 most)) (Some (to_z w64 (of_z w64 number))) ≡ number_between least most text
 number_read text least most number h low high (numeral, fits, is) =
@@ -66,7 +66,7 @@ outside least most v low high misfits = by (int_le least v && int_le v most) ref
     by true h = let parts = and_parts (int_le least v) (int_le v most) h in absurd (misfits (search rules))
     by false h = refl
 
-pub number_unread : (text : List ℕ) (least most : ℤ) → is_numeral (without_minus text) ≡ true → SFits w64 least → SFits w64 most
+pub number_unread : (text : List ℕ) (least most : ℤ) → is_short_numeral (without_minus text) ≡ true → SFits w64 least → SFits w64 most
     → (IsNumeral 10 (without_leading_sign text) × SFits w64 (signed_digits_value 10 text) → ⊥) → None ≡ number_between least most text
 number_unread text least most h low high unread =
     outside least most (signed_digits_value 10 text) low high (λ fits. unread (numeral_is text h, fits)) ∙ ap (within least most) (sym (number_is text h))

@@ -8,5 +8,5 @@ abbrev pub texts : List (Bor (List ℕ)) → List (List ℕ)
 texts pieces = map (λ piece. piece.now) pieces
 
 -- pieces of text, one behind the other
-abbrev pub joined : List (Bor (List ℕ)) → List ℕ
-joined pieces = concat (texts pieces)
+abbrev pub joined_texts : List (Bor (List ℕ)) → List ℕ
+joined_texts pieces = concat (texts pieces)

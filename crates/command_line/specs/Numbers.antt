@@ -10,12 +10,12 @@ without_minus [] = []
 without_minus (first ∷ rest) = if first == 45 then rest else first ∷ rest
 
 -- 1 to 19 digits
-abbrev pub is_numeral : List ℕ → Bool
-is_numeral digits = (nat_lt 0 (length digits) && nat_le (length digits) 19) && list_all is_ascii_digit digits
+abbrev pub is_short_numeral : List ℕ → Bool
+is_short_numeral digits = (nat_lt 0 (length digits) && nat_le (length digits) 19) && list_all is_ascii_digit digits
 
 -- an optional minus and 1 to 19 digits
 unfoldable pub whole_number : List ℕ → Option ℤ
-whole_number text = if is_numeral (without_minus text) then Some (signed_digits_value 10 text) else None
+whole_number text = if is_short_numeral (without_minus text) then Some (signed_digits_value 10 text) else None
 
 abbrev pub within : ℤ → ℤ → Option ℤ → Option ℤ
 within least most None = None

@@ -2,7 +2,7 @@
 ghost use Rattle.std.specs.Prelude.{◌≡◌, ◌≤ℤ◌, Some, IfSome};
 ghost use Rattle.std.specs.List.{list_all};
 ghost use Rattle.std.specs.Char.{is_ascii_digit};
-ghost use Rattle.command_line.specs.Numbers.{without_minus as digits_of, is_numeral, within, number_between as number_in};
+ghost use Rattle.command_line.specs.Numbers.{without_minus as digits_of, is_short_numeral, within, number_between as number_in};
 
 fn without_minus(text: &[u8]) -> &[u8]
     ensures { result.now ≡ digits_of text.now }
@@ -20,7 +20,7 @@ fn are_digits(bytes: &[u8]) -> bool
 }
 
 fn is_numeral(digits: &[u8]) -> bool
-    ensures { result ≡ is_numeral digits.now }
+    ensures { result ≡ is_short_numeral digits.now }
 {
     !digits.is_empty() && digits.len() <= 19 && are_digits(digits)
 }

@@ -21,7 +21,7 @@ use Rattle.detect_top.specs.declared.image.Stop.TheVariants as at_image
 use Rattle.detect_top.specs.Lines.{tree_lines, node_list}
 use Rattle.detect_top.specs.Products.{output_of, image_made}
 use Rattle.detect_top.specs.Answers.{Answer, answer_by, answer_to, answer_over, end_at, status_of}
-use Rattle.detect_top.specs.Headline.{MayLackMemory, IsComplete}
+use Rattle.detect_top.specs.Headline.{MayLackMemory, IsAnswered}
 use Rattle.detect_top.specs.Runs.{Tells, TellsFor, Took, TookAtMost, WantsMemory, WantsMemoryFor, InputUse, OutputUse, EndBytes, EndCause, ProductRead, Answers, Cuts}
 
 -- where memory was wanted it may be
@@ -43,7 +43,7 @@ wants_may (Ok order) old new bytes tells wants = go (image_made order.job) tells
 
 -- where no count rose, the end is the answer's, or memory was wanted where it may be
 pub completes : (order : Result Order AtFault) (i : InputUse) (o : OutputUse) (bytes : List ℕ) (end : End) → EndBytes order bytes i o end → EndCause order i o end
-    → (Rose i.faults i.faults' → ⊥) → (Rose o.faults o.faults' → ⊥) → Tells order i.left bytes → IsComplete (answer_by order bytes) (status_of end)
+    → (Rose i.faults i.faults' → ⊥) → (Rose o.faults o.faults' → ⊥) → Tells order i.left bytes → IsAnswered (answer_by order bytes) (status_of end)
 completes order i o bytes Done by why read write tells = inl (sym (ap status_of by.end_is))
 completes order i o bytes (Usage usage) by why read write tells = inl (sym (ap status_of by.end_is))
 completes order i o bytes (Refused fault) by why read write tells = inl (sym (ap status_of by.end_is))

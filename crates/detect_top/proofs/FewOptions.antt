@@ -10,8 +10,8 @@ use Rattle.comp_tree.proofs.Exported.{find_some}
 use Rattle.detect_top.specs.declared.options.Command.{Command}
 use Rattle.detect_top.specs.declared.options.Setting.{Setting}
 use Rattle.detect_top.specs.declared.options.Setting.TheVariants.{Hdu, Connect, Strips, Workers, Mesh, Flat, Rule, MinArea, MaxArea, MinFlux, MinFill, Threshold, Contrast, Seed, Width, Height}
-use Rattle.detect_top.specs.Options.{settings, name_of, option_named, setting_named, if_taken, takes}
-use Rattle.detect_top.specs.Words.{word, names, naming, is_bad_option, is_bad_name}
+use Rattle.detect_top.specs.Options.{settings, option_name, option_named, setting_named, if_taken, takes}
+use Rattle.detect_top.specs.Words.{word_at, names, naming, is_bad_option, is_bad_name}
 use Rattle.detect_top.specs.Given.{AreRead}
 use Rattle.detect_top.proofs.Places.{last_tried, find_more}
 
@@ -26,7 +26,7 @@ named_among words n (setting ∷ rest) = one_if (is_some (naming words setting n
 -- how many of these options have this name
 unfoldable called : List ℕ → List Setting → ℕ
 called name [] = 0
-called name (setting ∷ rest) = one_if (bytes_eq name (name_of setting)) + called name rest
+called name (setting ∷ rest) = one_if (bytes_eq name (option_name setting)) + called name rest
 
 one_if_le : (b : Bool) → one_if b ≤ 1
 one_if_le true = omega arith
@@ -37,7 +37,7 @@ unfolding named_among
 named_most words n [] = omega arith
 named_most words n (setting ∷ rest) = omega (arith, one_if_le (is_some (naming words setting n)), named_most words n rest)
 
-one_called : (setting : Setting) → 1 ≤ called (name_of setting) settings
+one_called : (setting : Setting) → 1 ≤ called (option_name setting) settings
 unfolding called
 one_called Hdu = omega arith
 one_called Connect = omega arith
@@ -73,9 +73,9 @@ kept_named None p = some_le (is_some p)
     some_le : (b : Bool) → 0 ≤ one_if b
     some_le b = omega arith
 
-same_naming : (words : List (List ℕ)) (a b : Setting) (n : ℕ) → name_of a ≡ name_of b → naming words b n ≡ naming words a n
+same_naming : (words : List (List ℕ)) (a b : Setting) (n : ℕ) → option_name a ≡ option_name b → naming words b n ≡ naming words a n
 unfolding naming
-same_naming words a b n same = ap (λ name. find (λ i. bytes_eq (word words (2 * i)) name) (range_with_len 1 n)) (sym same)
+same_naming words a b n same = ap (λ name. find (λ i. bytes_eq (word_at words (2 * i)) name) (range_with_len 1 n)) (sym same)
 
 newly_named : (words : List (List ℕ)) (setting : Setting) (n : ℕ) → naming words setting n ≡ None → names words setting (n + 1) ≡ true → one_if (is_some (naming words setting (n + 1))) ≡ 1
 unfolding last_tried
@@ -87,27 +87,27 @@ none_yet (Some k) h = absurd (cc)
 none_yet None h = refl
 
 each_named : (words : List (List ℕ)) (setting other : Setting) (n : ℕ) (same : Bool) → is_some (naming words setting n) ≡ false → names words setting (n + 1) ≡ true
-    → bytes_eq (name_of setting) (name_of other) ≡ same → one_if (is_some (naming words other n)) + one_if same ≤ one_if (is_some (naming words other (n + 1)))
+    → bytes_eq (option_name setting) (option_name other) ≡ same → one_if (is_some (naming words other n)) + one_if same ≤ one_if (is_some (naming words other (n + 1)))
 each_named words setting other n true fresh is h =
-    let alike : name_of setting ≡ name_of other = (bytes_eq-Decides (name_of setting) (name_of other)).0 h in
+    let alike : option_name setting ≡ option_name other = (bytes_eq-Decides (option_name setting) (option_name other)).0 h in
     let before : naming words other n ≡ None = same_naming words setting other n alike ∙ none_yet (naming words setting n) fresh in
-    let here : names words other (n + 1) ≡ true = ap (bytes_eq (word words (2 * (n + 1)))) (sym alike) ∙ is in
+    let here : names words other (n + 1) ≡ true = ap (bytes_eq (word_at words (2 * (n + 1)))) (sym alike) ∙ is in
     omega (arith, newly_named words other n before here, ap (λ o. one_if (is_some o)) before)
 each_named words setting other n false fresh is h =
     omega (arith, kept_named (naming words other n) (last_tried (names words other) (n + 1)), ap (λ o. one_if (is_some o)) (naming_more words other n))
 
 one_more_named : (words : List (List ℕ)) (setting : Setting) (n : ℕ) (list : List Setting) → is_some (naming words setting n) ≡ false → names words setting (n + 1) ≡ true
-    → named_among words n list + called (name_of setting) list ≤ named_among words (n + 1) list
+    → named_among words n list + called (option_name setting) list ≤ named_among words (n + 1) list
 unfolding named_among called
 one_more_named words setting n [] fresh is = omega arith
 one_more_named words setting n (other ∷ rest) fresh is =
-    omega (arith, each_named words setting other n (bytes_eq (name_of setting) (name_of other)) fresh is refl, one_more_named words setting n rest fresh is)
+    omega (arith, each_named words setting other n (bytes_eq (option_name setting) (option_name other)) fresh is refl, one_more_named words setting n rest fresh is)
 
 -- ---- a pair that isn't at fault
 
-named_is : (text : List ℕ) (setting : Setting) → setting_named text ≡ Some setting → bytes_eq text (name_of setting) ≡ true
+named_is : (text : List ℕ) (setting : Setting) → setting_named text ≡ Some setting → bytes_eq text (option_name setting) ≡ true
 unfolding setting_named
-named_is text setting is = (find_some (λ (s : Setting). bytes_eq text (name_of s)) settings setting is).1
+named_is text setting is = (find_some (λ (s : Setting). bytes_eq text (option_name s)) settings setting is).1
 
 taken_is : (command : Command) (named : Option Setting) (setting : Setting) → if_taken command named ≡ Some setting → named ≡ Some setting
 taken_is command None setting is = absurd (cc)
@@ -117,24 +117,24 @@ taken_is command (Some other) setting is = by (takes command other) is
     by true is = is
     by false is = absurd (cc)
 
-option_is : (command : Command) (text : List ℕ) (setting : Setting) → option_named command text ≡ Some setting → bytes_eq text (name_of setting) ≡ true
+option_is : (command : Command) (text : List ℕ) (setting : Setting) → option_named command text ≡ Some setting → bytes_eq text (option_name setting) ≡ true
 unfolding option_named
 option_is command text setting is = named_is text setting (taken_is command (setting_named text) setting is)
 
 -- the pair names an option that no earlier pair names
-good_name : (command : Command) (words : List (List ℕ)) (n : ℕ) (named : Option Setting) → 2 * n + 2 ≤ length words → option_named command (word words (2 * (n + 1))) ≡ named
+good_name : (command : Command) (words : List (List ℕ)) (n : ℕ) (named : Option Setting) → 2 * n + 2 ≤ length words → option_named command (word_at words (2 * (n + 1))) ≡ named
     → is_bad_name command words (n + 1) ≡ false → (setting : Setting) × (names words setting (n + 1) ≡ true) × (is_some (naming words setting n) ≡ false)
 unfolding is_bad_name
 good_name command words n named long is good =
     let there : nat_lt (length words) (2 * (n + 1)) ≡ false = grind (arith, nat_tests) in
-    by named is (subst (λ o. is_bad_option words (n + 1) o ≡ false) is (subst (λ b. cond b false (is_bad_option words (n + 1) (option_named command (word words (2 * (n + 1))))) ≡ false) there good))
+    by named is (subst (λ o. is_bad_option words (n + 1) o ≡ false) is (subst (λ b. cond b false (is_bad_option words (n + 1) (option_named command (word_at words (2 * (n + 1))))) ≡ false) there good))
   where
-    by : (o : Option Setting) → option_named command (word words (2 * (n + 1))) ≡ o → is_bad_option words (n + 1) o ≡ false
+    by : (o : Option Setting) → option_named command (word_at words (2 * (n + 1))) ≡ o → is_bad_option words (n + 1) o ≡ false
         → (setting : Setting) × (names words setting (n + 1) ≡ true) × (is_some (naming words setting n) ≡ false)
     by None is h = absurd (cc)
     by (Some setting) is h =
         let one : n + 1 - 1 ≡ n = omega arith in
-        (setting, option_is command (word words (2 * (n + 1))) setting is, subst (λ m. is_some (naming words setting m) ≡ false) one h)
+        (setting, option_is command (word_at words (2 * (n + 1))) setting is, subst (λ m. is_some (naming words setting m) ≡ false) one h)
 
 all_named : (command : Command) (words : List (List ℕ)) (n : ℕ) → 2 * n + 1 ≤ length words → ((i : ℕ) → 1 ≤ i → i ≤ n → is_bad_name command words i ≡ false)
     → n ≤ named_among words n settings

@@ -11,9 +11,9 @@ use Rattle.detect_top.specs.declared.options.Command.{Command}
 use Rattle.detect_top.specs.declared.options.Setting.{Setting}
 use Rattle.detect_top.specs.declared.words.Job.{Job}
 use Rattle.command_line.proofs.Exported.{text_at}
-use Rattle.detect_top.specs.Options.{name_of, option_named, is_value}
+use Rattle.detect_top.specs.Options.{option_name, option_named, is_value}
 use Rattle.command_line.specs.Lines.{texts}
-use Rattle.detect_top.specs.Words.{word, names, naming, value_given, is_bad_option, is_bad_name, is_bad_value, is_at_fault, first_at_fault, job_given, order_for, order_given, order_unless, order_of, command_of, at_fault}
+use Rattle.detect_top.specs.Words.{word_at, names, naming, value_given, is_bad_option, is_bad_name, is_bad_value, is_at_fault, first_at_fault, job_given, order_for, order_given, order_unless, order_of, command_of, at_fault}
 use Rattle.detect_top.specs.Given.{AreRead, IsFirstFault}
 
 -- ---- the first number that passes a test
@@ -62,8 +62,8 @@ find_more test a (suc n) = by (test a) (find_more test (a + 1) n)
     by false rest = let same : a + 1 + n ≡ a + suc n = omega arith in rest ∙ ap (λ k. option_or (find test (range_with_len (a + 1) n)) (last_tried test k)) same
 
 -- word k is the one at place k - 1
-pub text_of : (words : List (Bor (List ℕ))) (k i : ℕ) (d : Bor (List ℕ)) → i < length words → k ≡ i + 1 → (get_or words i d).now ≡ word (texts words) k
-unfolding word
+pub text_of : (words : List (Bor (List ℕ))) (k i : ℕ) (d : Bor (List ℕ)) → i < length words → k ≡ i + 1 → (get_or words i d).now ≡ word_at (texts words) k
+unfolding word_at
 text_of words k i d within is =
     let there : i ≡ k - 1 = omega arith in
     text_at words i d within ∙ ap (λ j. get_or (texts words) j []) there
@@ -72,10 +72,10 @@ pub past : (i long : ℕ) → false ≡ nat_lt i long → long ≤ i
 past i long h = grind (arith, nat_tests)
 
 -- what word 2 * k is compared with
-pub name_at : (words : List (Bor (List ℕ))) (setting : Setting) (k i : ℕ) (d : Bor (List ℕ)) (name : List ℕ) (b : Bool) → i < length words → 2 * k ≡ i + 1 → name ≡ name_of setting
+pub name_at : (words : List (Bor (List ℕ))) (setting : Setting) (k i : ℕ) (d : Bor (List ℕ)) (name : List ℕ) (b : Bool) → i < length words → 2 * k ≡ i + 1 → name ≡ option_name setting
     → bytes_eq (get_or words i d).now name ≡ b → names (texts words) setting k ≡ b
 name_at words setting k i d name b within is named h =
-    ap (λ w. bytes_eq w (name_of setting)) (sym (text_of words (2 * k) i d within is)) ∙ ap (bytes_eq (get_or words i d).now) (sym named) ∙ h
+    ap (λ w. bytes_eq w (option_name setting)) (sym (text_of words (2 * k) i d within is)) ∙ ap (bytes_eq (get_or words i d).now) (sym named) ∙ h
 
 pub one_more_other : (words : List (List ℕ)) (setting : Setting) (n : ℕ) → ((j : ℕ) → 1 ≤ j → j ≤ n → names words setting j ≡ false) → names words setting (n + 1) ≡ false
     → (j : ℕ) → 1 ≤ j → j ≤ n + 1 → names words setting j ≡ false
@@ -105,11 +105,11 @@ pub value_is : (words : List (Bor (List ℕ))) (setting : Setting) (n k : ℕ) (
 unfolding value_given
 value_is words setting n k d is long =
     let range = naming_within (texts words) setting n k is in
-    ap Some (text_of words (2 * k + 1) (2 * k) d (omega (arith, range.1)) refl) ∙ sym (ap (option_map (λ i. word (texts words) (2 * i + 1))) is)
+    ap Some (text_of words (2 * k + 1) (2 * k) d (omega (arith, range.1)) refl) ∙ sym (ap (option_map (λ i. word_at (texts words) (2 * i + 1))) is)
 
 pub no_value : (words : List (List ℕ)) (setting : Setting) (n : ℕ) → naming words setting n ≡ None → None ≡ value_given words n setting
 unfolding value_given
-no_value words setting n is = sym (ap (option_map (λ i. word words (2 * i + 1))) is)
+no_value words setting n is = sym (ap (option_map (λ i. word_at words (2 * i + 1))) is)
 
 -- ---- the places at fault
 
@@ -162,7 +162,7 @@ value_at_fault command words n k is more good bad at =
 
 -- ---- the next pair
 
-name_by : (command : Command) (words : List (List ℕ)) (n : ℕ) (named : Option Setting) → 2 * n + 1 < length words → option_named command (word words (2 * (n + 1))) ≡ named
+name_by : (command : Command) (words : List (List ℕ)) (n : ℕ) (named : Option Setting) → 2 * n + 1 < length words → option_named command (word_at words (2 * (n + 1))) ≡ named
     → is_bad_name command words (n + 1) ≡ is_bad_option words (n + 1) named
 unfolding is_bad_name
 name_by command words n named more is =
@@ -172,11 +172,11 @@ name_by command words n named more is =
 option_by : (words : List (List ℕ)) (n : ℕ) (setting : Setting) → is_bad_option words (n + 1) (Some setting) ≡ is_some (naming words setting n)
 option_by words n setting = let one : n + 1 - 1 ≡ n = omega arith in ap (λ m. is_some (naming words setting m)) one
 
-pub unnamed : (command : Command) (words : List (List ℕ)) (n : ℕ) → 2 * n + 1 < length words → option_named command (word words (2 * (n + 1))) ≡ None → is_bad_name command words (n + 1) ≡ true
+pub unnamed : (command : Command) (words : List (List ℕ)) (n : ℕ) → 2 * n + 1 < length words → option_named command (word_at words (2 * (n + 1))) ≡ None → is_bad_name command words (n + 1) ≡ true
 unnamed command words n more is = name_by command words n None more is
 
 pub named_by : (command : Command) (words : List (List ℕ)) (n : ℕ) (setting : Setting) (b : Bool) → 2 * n + 1 < length words
-    → option_named command (word words (2 * (n + 1))) ≡ Some setting → is_some (naming words setting n) ≡ b → is_bad_name command words (n + 1) ≡ b
+    → option_named command (word_at words (2 * (n + 1))) ≡ Some setting → is_some (naming words setting n) ≡ b → is_bad_name command words (n + 1) ≡ b
 named_by command words n setting b more is known = name_by command words n (Some setting) more is ∙ option_by words n setting ∙ known
 
 pub value_missing : (command : Command) (words : List (List ℕ)) (n : ℕ) → length words < 2 * n + 3 → is_bad_value command words (n + 1) ≡ true
@@ -186,7 +186,7 @@ value_missing command words n short =
     rw there refl
 
 pub value_by : (command : Command) (words : List (List ℕ)) (n : ℕ) (setting : Setting) (b : Bool) → 2 * n + 3 ≤ length words
-    → option_named command (word words (2 * (n + 1))) ≡ Some setting → is_value setting (word words (2 * (n + 1) + 1)) ≡ not b → is_bad_value command words (n + 1) ≡ b
+    → option_named command (word_at words (2 * (n + 1))) ≡ Some setting → is_value setting (word_at words (2 * (n + 1) + 1)) ≡ not b → is_bad_value command words (n + 1) ≡ b
 unfolding is_bad_value
 value_by command words n setting b long is reads =
     let there : nat_lt (length words) (2 * (n + 1) + 1) ≡ false = grind (arith, nat_tests) in

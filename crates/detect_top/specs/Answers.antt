@@ -16,7 +16,7 @@ use Rattle.detect_top.specs.declared.fault.Place.{Place}
 use Rattle.detect_top.specs.declared.fault.Place.TheVariants.{Card, Pixel}
 use Rattle.detect_top.specs.declared.image.Stop.{Stop}
 use Rattle.detect_top.specs.declared.image.Stop.TheVariants as at_image
-use Rattle.detect_top.specs.Faults.{number_of, name_of, place_of, stop_at_hdu, fault_of_image}
+use Rattle.detect_top.specs.Faults.{fault_number, fault_name, place_of, stop_at_hdu, fault_of_image}
 use Rattle.detect_top.specs.Products.{output_of, image_made}
 
 -- the number and the name of a fault, and the card or the pixel at fault
@@ -31,7 +31,7 @@ refusal_by number name None = concat (codes "refused: " ∷ number ∷ codes " "
 refusal_by number name (Some place) = line_at_place number name place
 
 abbrev pub refusal_line : Fault → List ℕ
-refusal_line fault = refusal_by (decimal (number_of fault)) (name_of fault) (place_of fault)
+refusal_line fault = refusal_by (decimal (fault_number fault)) (fault_name fault) (place_of fault)
 
 -- how a run ends, as its status and as its line on the notes
 abbrev pub status_of : End → ℕ

@@ -7,49 +7,51 @@ use Rattle.pixel_plane.specs.declared.fault.ImageFault.TheVariants as at_image
 use Rattle.pixel_plane.specs.declared.fault.PlaneFault.{PlaneFault}
 use Rattle.pixel_plane.specs.declared.fault.PlaneFault.TheVariants as at_plane
 use Rattle.detect_top.specs.declared.fault.Fault.{Fault}
-use Rattle.detect_top.specs.declared.fault.Fault.TheVariants.{NotFits, TruncatedHeader, BadKeyword, HeaderTooLong, Groups, DataTooLong, NoSuchHdu, TruncatedSkip, NotImage, NoImage, ImageTooLarge, Bitpix, Bscale, Bzero, Blank, TruncatedData, PixelRange}
+use Rattle.detect_top.specs.declared.fault.Fault.TheVariants.{NotFits, TruncatedHeader, BadKeyword, HeaderTooLong, Groups, DataTooLong}
+use Rattle.detect_top.specs.declared.fault.Fault.TheVariants.{NoSuchHdu, TruncatedSkip, NotImage, NoImage, ImageTooLarge, Bitpix}
+use Rattle.detect_top.specs.declared.fault.Fault.TheVariants.{Bscale, Bzero, Blank, TruncatedData, PixelRange}
 use Rattle.detect_top.specs.declared.fault.Place.{Place}
 use Rattle.detect_top.specs.declared.fault.Place.TheVariants.{Card, Pixel}
 use Rattle.detect_top.specs.declared.image.Stop.{Stop}
 use Rattle.detect_top.specs.declared.image.Stop.TheVariants.{Refused, ReadFault, NoMemory}
 
-abbrev pub number_of : Fault → ℕ
-number_of NotFits = 1
-number_of TruncatedHeader = 2
-number_of (BadKeyword hdu card) = 3
-number_of HeaderTooLong = 4
-number_of Groups = 5
-number_of DataTooLong = 6
-number_of NoSuchHdu = 7
-number_of TruncatedSkip = 8
-number_of NotImage = 10
-number_of NoImage = 11
-number_of ImageTooLarge = 12
-number_of Bitpix = 13
-number_of Bscale = 14
-number_of Bzero = 15
-number_of Blank = 16
-number_of TruncatedData = 17
-number_of (PixelRange pixel stored) = 18
+abbrev pub fault_number : Fault → ℕ
+fault_number NotFits = 1
+fault_number TruncatedHeader = 2
+fault_number (BadKeyword hdu card) = 3
+fault_number HeaderTooLong = 4
+fault_number Groups = 5
+fault_number DataTooLong = 6
+fault_number NoSuchHdu = 7
+fault_number TruncatedSkip = 8
+fault_number NotImage = 10
+fault_number NoImage = 11
+fault_number ImageTooLarge = 12
+fault_number Bitpix = 13
+fault_number Bscale = 14
+fault_number Bzero = 15
+fault_number Blank = 16
+fault_number TruncatedData = 17
+fault_number (PixelRange pixel stored) = 18
 
-abbrev pub name_of : Fault → List ℕ
-name_of NotFits = codes "NotFits"
-name_of TruncatedHeader = codes "TruncatedHeader"
-name_of (BadKeyword hdu card) = codes "BadKeyword"
-name_of HeaderTooLong = codes "HeaderTooLong"
-name_of Groups = codes "Groups"
-name_of DataTooLong = codes "DataTooLong"
-name_of NoSuchHdu = codes "NoSuchHdu"
-name_of TruncatedSkip = codes "TruncatedSkip"
-name_of NotImage = codes "NotImage"
-name_of NoImage = codes "NoImage"
-name_of ImageTooLarge = codes "ImageTooLarge"
-name_of Bitpix = codes "Bitpix"
-name_of Bscale = codes "Bscale"
-name_of Bzero = codes "Bzero"
-name_of Blank = codes "Blank"
-name_of TruncatedData = codes "TruncatedData"
-name_of (PixelRange pixel stored) = codes "PixelRange"
+abbrev pub fault_name : Fault → List ℕ
+fault_name NotFits = codes "NotFits"
+fault_name TruncatedHeader = codes "TruncatedHeader"
+fault_name (BadKeyword hdu card) = codes "BadKeyword"
+fault_name HeaderTooLong = codes "HeaderTooLong"
+fault_name Groups = codes "Groups"
+fault_name DataTooLong = codes "DataTooLong"
+fault_name NoSuchHdu = codes "NoSuchHdu"
+fault_name TruncatedSkip = codes "TruncatedSkip"
+fault_name NotImage = codes "NotImage"
+fault_name NoImage = codes "NoImage"
+fault_name ImageTooLarge = codes "ImageTooLarge"
+fault_name Bitpix = codes "Bitpix"
+fault_name Bscale = codes "Bscale"
+fault_name Bzero = codes "Bzero"
+fault_name Blank = codes "Blank"
+fault_name TruncatedData = codes "TruncatedData"
+fault_name (PixelRange pixel stored) = codes "PixelRange"
 
 -- the card or the pixel at fault, if it is one's fault
 abbrev pub place_of : Fault → Option Place
@@ -87,11 +89,11 @@ stop_at_plane at_plane.ReadFault = ReadFault
 stop_at_plane at_plane.OutOfMemory = NoMemory
 
 -- a fault that only the end of the input shows
-abbrev pub IsCut : Fault → Type 0
-IsCut TruncatedHeader = Unit {0}
-IsCut TruncatedSkip = Unit {0}
-IsCut TruncatedData = Unit {0}
-IsCut _ = ⊥
+abbrev pub IsCutShort : Fault → Type 0
+IsCutShort TruncatedHeader = Unit {0}
+IsCutShort TruncatedSkip = Unit {0}
+IsCutShort TruncatedData = Unit {0}
+IsCutShort _ = ⊥
 
 -- a fault before which memory may be wanted: that the bytes end within the image, or that a pixel is out of range, shows only
 -- behind its header
@@ -101,5 +103,5 @@ IsBehindHeader (PixelRange pixel stored) = Unit {0}
 IsBehindHeader _ = ⊥
 
 abbrev pub IsCutStop : Stop → Type 0
-IsCutStop (Refused fault) = IsCut fault
+IsCutStop (Refused fault) = IsCutShort fault
 IsCutStop _ = ⊥

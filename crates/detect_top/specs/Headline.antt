@@ -8,7 +8,7 @@ use Rattle.command_line.specs.Notes.{Noted}
 use Rattle.detect_top.specs.declared.top.End.{End}
 use Rattle.detect_top.specs.declared.top.End.TheVariants.{Done, Usage, Refused, ReadFault, WriteFault, NoMemory}
 use Rattle.detect_top.specs.Words.{order_of}
-use Rattle.detect_top.specs.Faults.{IsCut, IsBehindHeader}
+use Rattle.detect_top.specs.Faults.{IsCutShort, IsBehindHeader}
 use Rattle.detect_top.specs.Answers.{Answer, status_of, note_of}
 use Rattle.detect_top.specs.Runs.{Tells, ReadsInput, WantsMemory}
 
@@ -39,7 +39,7 @@ MayWantMemory words bytes old new = WantsMemory (order_of words) bytes old new
 pub record TellsEnd (status : ℕ) (ended' : Bool) (old new : Option (List ℕ)) (settled' : Bool) (faults faults' : ℕ) (end : End) : Type 0 where
   pub status_is : status ≡ status_of end
   pub noted : Noted old new settled' faults faults' (note_of end)
-  pub cut : (fault : _) → end ≡ Refused fault → IsCut fault → IsTrue ended'
+  pub cut : (fault : _) → end ≡ Refused fault → IsCutShort fault → IsTrue ended'
 
 -- memory may be wanted for this answer
 abbrev pub MayLackMemory : End → Type 0
@@ -51,5 +51,5 @@ MayLackMemory WriteFault = ⊥
 MayLackMemory NoMemory = ⊥
 
 -- the answer's status, or want of memory where it may come
-abbrev pub IsComplete : Answer → ℕ → Type 0
-IsComplete answer status = (status ≡ status_of answer.end) ⊎ ((status ≡ 5) × MayLackMemory answer.end)
+abbrev pub IsAnswered : Answer → ℕ → Type 0
+IsAnswered answer status = (status ≡ status_of answer.end) ⊎ ((status ≡ 5) × MayLackMemory answer.end)

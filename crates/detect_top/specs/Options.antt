@@ -1,5 +1,6 @@
 -- Model: the commands, their options, and what the values of these are.
-use Rattle.std.specs.Prelude.{ℕ, ◌^◌, Bool, true, false, List, [], ◌∷◌, find, ◌||◌, ℤ, pos, neg_ℤ, unsigned_abs, Option, Some, None, is_some, codes, if◌then◌else◌, not}
+use Rattle.std.specs.Prelude.{ℕ, ◌^◌, Bool, true, false, List, [], ◌∷◌, find, ◌||◌, ℤ}
+use Rattle.std.specs.Prelude.{pos, neg_ℤ, unsigned_abs, Option, Some, None, is_some, codes, if◌then◌else◌, not}
 use Rattle.std.specs.Str.{bytes_eq}
 use Rattle.std.specs.Option.{option_map}
 use Rattle.std.specs.Ordering.{int_eq}
@@ -11,7 +12,8 @@ use Rattle.detect_top.specs.declared.options.Command.{Command}
 use Rattle.detect_top.specs.declared.options.Command.TheVariants.{Tree, Filter, Detect, Trial}
 use Rattle.detect_top.specs.declared.options.Setting.{Setting}
 use Rattle.detect_top.specs.declared.options.Setting.TheVariants.{Hdu, Connect as Connectivity, Strips, Workers, Mesh, Flat}
-use Rattle.detect_top.specs.declared.options.Setting.TheVariants.{Rule as FilterRule, MinArea, MaxArea, MinFlux, MinFill, Threshold, Contrast, Seed, Width, Height}
+use Rattle.detect_top.specs.declared.options.Setting.TheVariants.{Rule as FilterRule, MinArea, MaxArea, MinFlux, MinFill}
+use Rattle.detect_top.specs.declared.options.Setting.TheVariants.{Threshold, Contrast, Seed, Width, Height}
 use Rattle.command_line.specs.Numbers.{number_between}
 
 -- ---- names
@@ -29,26 +31,26 @@ settings =
     Hdu ∷ Connectivity ∷ Strips ∷ Workers ∷ Mesh ∷ Flat ∷ FilterRule ∷ MinArea ∷ MaxArea ∷ MinFlux ∷ MinFill
     ∷ Threshold ∷ Contrast ∷ Seed ∷ Width ∷ Height ∷ []
 
-abbrev pub name_of : Setting → List ℕ
-name_of Hdu = codes "--hdu"
-name_of Connectivity = codes "--connect"
-name_of Strips = codes "--strips"
-name_of Workers = codes "--workers"
-name_of Mesh = codes "--mesh"
-name_of Flat = codes "--flat"
-name_of FilterRule = codes "--rule"
-name_of MinArea = codes "--min-area"
-name_of MaxArea = codes "--max-area"
-name_of MinFlux = codes "--min-flux"
-name_of MinFill = codes "--min-fill"
-name_of Threshold = codes "--threshold"
-name_of Contrast = codes "--contrast"
-name_of Seed = codes "--seed"
-name_of Width = codes "--width"
-name_of Height = codes "--height"
+abbrev pub option_name : Setting → List ℕ
+option_name Hdu = codes "--hdu"
+option_name Connectivity = codes "--connect"
+option_name Strips = codes "--strips"
+option_name Workers = codes "--workers"
+option_name Mesh = codes "--mesh"
+option_name Flat = codes "--flat"
+option_name FilterRule = codes "--rule"
+option_name MinArea = codes "--min-area"
+option_name MaxArea = codes "--max-area"
+option_name MinFlux = codes "--min-flux"
+option_name MinFill = codes "--min-fill"
+option_name Threshold = codes "--threshold"
+option_name Contrast = codes "--contrast"
+option_name Seed = codes "--seed"
+option_name Width = codes "--width"
+option_name Height = codes "--height"
 
 unfoldable pub setting_named : List ℕ → Option Setting
-setting_named text = find (λ setting. bytes_eq text (name_of setting)) settings
+setting_named text = find (λ setting. bytes_eq text (option_name setting)) settings
 
 -- the command is one of these
 abbrev pub is_filter : Command → Bool

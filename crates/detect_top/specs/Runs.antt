@@ -12,7 +12,7 @@ use Rattle.detect_top.specs.declared.words.Usage.{Usage as AtFault}
 use Rattle.detect_top.specs.declared.top.End.{End}
 use Rattle.detect_top.specs.declared.top.End.TheVariants.{Done, Usage, Refused, ReadFault, WriteFault, NoMemory}
 use Rattle.detect_top.specs.Products.{output_of, image_made}
-use Rattle.detect_top.specs.Faults.{IsCut}
+use Rattle.detect_top.specs.Faults.{IsCutShort}
 use Rattle.detect_top.specs.Answers.{answer_by}
 use Rattle.detect_top.specs.Streams.{MemoryWanted}
 
@@ -118,7 +118,7 @@ EndBytes order bytes i o NoMemory = WantsMemory order bytes i.left i.left'
 abbrev pub EndCause : Result Order AtFault → InputUse → OutputUse → End → Type 0
 EndCause order i o Done = IsOk order × IsTrue o.settled'
 EndCause order i o (Usage usage) = (order ≡ Err usage) × Keeps o.written o.written'
-EndCause order i o (Refused fault) = IsOk order × (IsCut fault → IsTrue i.ended') × Keeps o.written o.written'
+EndCause order i o (Refused fault) = IsOk order × (IsCutShort fault → IsTrue i.ended') × Keeps o.written o.written'
 EndCause order i o ReadFault = IsOk order × Rose i.faults i.faults' × Keeps o.written o.written' × ReadsInput order
 EndCause order i o WriteFault = IsOk order × Rose o.faults o.faults'
 EndCause order i o NoMemory = IsOk order × Keeps o.written o.written'

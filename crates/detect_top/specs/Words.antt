@@ -1,6 +1,7 @@
 -- Model: what the words of the command mean. Words are counted from 1: the first is the command, the even ones behind it name
 -- options, and each odd one is the value of the option that is named before it.
-use Rattle.std.specs.Prelude.{ℕ, ◌<◌, ◌≤◌, ◌+◌, ◌-◌, ◌*◌, ◌/◌, ◌%◌, ◌^◌, Bool, true, false, ◌==◌, ◌||◌, not, nat_lt, List, [], ◌∷◌, length, find, get_or, ℤ, pos, Option, Some, None, is_some, unwrap_or, option_and_then, Result, Ok, Err, if◌then◌else◌}
+use Rattle.std.specs.Prelude.{ℕ, ◌<◌, ◌≤◌, ◌+◌, ◌-◌, ◌*◌, ◌/◌, ◌%◌, ◌^◌, Bool, true, false, ◌==◌, ◌||◌, not, nat_lt, List}
+use Rattle.std.specs.Prelude.{[], ◌∷◌, length, find, get_or, ℤ, pos, Option, Some, None, is_some, unwrap_or, option_and_then, Result, Ok, Err, if◌then◌else◌}
 use Rattle.std.specs.Str.{bytes_eq}
 use Rattle.std.specs.List.{range_with_len}
 use Rattle.std.specs.Option.{option_map}
@@ -12,22 +13,24 @@ use Rattle.source_pick.specs.declared.choice.Choice.{Choice}
 use Rattle.detect_top.specs.declared.options.Command.{Command}
 use Rattle.detect_top.specs.declared.options.Command.TheVariants as command
 use Rattle.detect_top.specs.declared.options.Setting.{Setting}
-use Rattle.detect_top.specs.declared.options.Setting.TheVariants.{Hdu, Connect, Strips, Workers, Mesh, Flat, Rule, MinArea, MaxArea, MinFlux, MinFill, Threshold, Contrast, Seed, Width, Height}
+use Rattle.detect_top.specs.declared.options.Setting.TheVariants.{Hdu, Connect, Strips, Workers, Mesh, Flat, Rule, MinArea}
+use Rattle.detect_top.specs.declared.options.Setting.TheVariants.{MaxArea, MinFlux, MinFill, Threshold, Contrast, Seed, Width, Height}
 use Rattle.detect_top.specs.declared.words.Order.{Order}
 use Rattle.detect_top.specs.declared.words.Job.{Job}
 use Rattle.detect_top.specs.declared.words.Job.TheVariants as job
 use Rattle.detect_top.specs.declared.words.Usage.{Usage}
-use Rattle.detect_top.specs.Options.{command_named, name_of, option_named, is_value, hdu_in, connect_in, strips_in, workers_in, mesh_in, flat_in, rule_in, area_in, flux_in, thousandths_in, threshold_in, seed_in, side_in}
+use Rattle.detect_top.specs.Options.{command_named, option_name, option_named, is_value, hdu_in, connect_in, strips_in, workers_in, mesh_in}
+use Rattle.detect_top.specs.Options.{flat_in, rule_in, area_in, flux_in, thousandths_in, threshold_in, seed_in, side_in}
 
 -- ---- the places
 
 -- word k
-unfoldable pub word : List (List ℕ) → ℕ → List ℕ
-word words k = get_or words (k - 1) []
+unfoldable pub word_at : List (List ℕ) → ℕ → List ℕ
+word_at words k = get_or words (k - 1) []
 
 -- word 2 * i names this option
 abbrev pub names : List (List ℕ) → Setting → ℕ → Bool
-names words setting i = bytes_eq (word words (2 * i)) (name_of setting)
+names words setting i = bytes_eq (word_at words (2 * i)) (option_name setting)
 
 -- the first i, from 1 to n, such that word 2 * i names this option
 unfoldable pub naming : List (List ℕ) → Setting → ℕ → Option ℕ
@@ -40,7 +43,7 @@ is_bad_option words i (Some setting) = is_some (naming words setting (i - 1))
 
 -- word 2 * i, which is to be a name; past the last word nothing need be named
 unfoldable pub is_bad_name : Command → List (List ℕ) → ℕ → Bool
-is_bad_name command words i = if nat_lt (length words) (2 * i) then false else is_bad_option words i (option_named command (word words (2 * i)))
+is_bad_name command words i = if nat_lt (length words) (2 * i) then false else is_bad_option words i (option_named command (word_at words (2 * i)))
 
 abbrev pub is_bad_value_of : Option Setting → List ℕ → Bool
 is_bad_value_of None text = true
@@ -49,7 +52,7 @@ is_bad_value_of (Some setting) text = not (is_value setting text)
 -- word 2 * i + 1, which is to be the value of the option that word 2 * i names: it is missing, can't be read or is out of range
 unfoldable pub is_bad_value : Command → List (List ℕ) → ℕ → Bool
 is_bad_value command words i =
-    nat_lt (length words) (2 * i + 1) || is_bad_value_of (option_named command (word words (2 * i))) (word words (2 * i + 1))
+    nat_lt (length words) (2 * i + 1) || is_bad_value_of (option_named command (word_at words (2 * i))) (word_at words (2 * i + 1))
 
 -- word k behind the command is at fault
 unfoldable pub is_at_fault : Command → List (List ℕ) → ℕ → Bool
@@ -63,7 +66,7 @@ first_at_fault command words = find (is_at_fault command words) (range_with_len 
 
 -- the word behind the first of n names that names this option
 unfoldable pub value_given : List (List ℕ) → ℕ → Setting → Option (List ℕ)
-value_given words n setting = option_map (λ i. word words (2 * i + 1)) (naming words setting n)
+value_given words n setting = option_map (λ i. word_at words (2 * i + 1)) (naming words setting n)
 
 -- what the value of an option means, where it is given
 abbrev pub given : {T : Type 0} → (List ℕ → Option T) → List (List ℕ) → ℕ → Setting → Option T

@@ -15,7 +15,7 @@ use strip_crew::{Gate, even_cut, flood_all};
 use tree_canon::canon;
 
 /// The plane less its background over a mesh, flat or smooth, in the place of the plane. Without a mesh it is the plane itself.
-pub(crate) fn residual_plane<R: Threads + Sync>(
+pub fn residual_plane<R: Threads + Sync>(
     rt: &R,
     alloc: Global,
     mut plane: Plane,
@@ -34,7 +34,7 @@ pub(crate) fn residual_plane<R: Threads + Sync>(
 
 /// The component tree of a plane under the order's connectivity. Its workers flood the strips, and the nodes of the joined forest are numbered: the
 /// tree doesn't depend on how many strips and workers there are.
-pub(crate) fn component_tree<R: Threads + Sync, G: Gate>(
+pub fn component_tree<R: Threads + Sync, G: Gate>(
     rt: &R,
     alloc: Global,
     plane: &Plane,

@@ -34,8 +34,9 @@ fn column(name: &[u8; 8], cell: Cell) -> Column
     Column { name: *name, cell }
 }
 
+/// The columns of the catalogue, in their order.
 #[tactic(auto, unfolding(crate::specs::Catalogues::columns))]
-fn columns() -> [Column; 17]
+pub fn columns() -> [Column; 17]
     ensures { result ≡ columns_of_catalogue }
 {
     [

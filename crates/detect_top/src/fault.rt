@@ -1,6 +1,6 @@
 // Why an input is refused.
 ghost use Rattle.std.specs.Prelude.{◌≡◌, ◌≤◌, length};
-ghost use Rattle.detect_top.specs.Faults.{number_of, name_of, place_of, fault_of_image};
+ghost use Rattle.detect_top.specs.Faults.{fault_number, fault_name, place_of, fault_of_image};
 
 use pixel_plane::ImageFault;
 
@@ -56,7 +56,7 @@ pub(crate) enum Place {
 
 impl Fault {
     /// The fault of an HDU that isn't an image which can be read.
-    pub(crate) fn of_image(fault: ImageFault) -> Fault
+    pub fn of_image(fault: ImageFault) -> Fault
         ensures { result ≡ fault_of_image fault }
     {
         match fault {
@@ -72,7 +72,7 @@ impl Fault {
 
     /// Its number. There is no 9: a read fault has a status of its own.
     pub fn number(self) -> u8
-        ensures { result ≡ number_of self }
+        ensures { result ≡ fault_number self }
     {
         match self {
             Fault::NotFits => 1,
@@ -96,7 +96,7 @@ impl Fault {
     }
 
     pub fn name(self) -> &'static str
-        ensures name { result.now ≡ name_of self }
+        ensures name { result.now ≡ fault_name self }
         ensures short { length result.now ≤ 15 }
     {
         match self {

@@ -16,16 +16,17 @@ use fits_hdu::{Hdu, HduFault, find_hdu};
 use pixel_plane::{PlaneFault, check_image, read_plane};
 use std::alloc::Global;
 
-/// Why there is no image.
+/// Why there is no image: the bytes have a fault, the source failed, or memory was refused.
 #[derive(Clone, Copy, Debug, PartialEq, Eq)]
-pub(crate) enum Stop {
+pub enum Stop {
     Refused(Fault),
     ReadFault,
     NoMemory,
 }
 
 impl Stop {
-    fn at_hdu(fault: HduFault) -> Stop
+    /// Where the HDU isn't found.
+    pub fn at_hdu(fault: HduFault) -> Stop
         ensures { result ≡ stop_at_hdu fault }
     {
         Stop::Refused(match fault {
@@ -41,7 +42,8 @@ impl Stop {
         })
     }
 
-    fn at_plane(fault: PlaneFault) -> Stop
+    /// Where the pixels of an image aren't read.
+    pub fn at_plane(fault: PlaneFault) -> Stop
         ensures { result ≡ stop_at_plane fault }
     {
         match fault {
@@ -55,8 +57,8 @@ impl Stop {
     }
 }
 
-// Reads the image of an HDU whose data are the next bytes.
-fn read_found<S: Source>(alloc: Global, src: &mut S, hdu: &Hdu) -> Result<Plane, Stop>
+/// Judges an HDU whose data are the next bytes, and reads its pixels.
+pub fn read_found<S: Source>(alloc: Global, src: &mut S, hdu: &Hdu) -> Result<Plane, Stop>
     ensures told { (bytes : List ℕ) (head : ℕ) → Takes bytes (S.left src.old) head → MatchResult result
         (λ plane. ImageRead (verdict_by bytes hdu.now head (checked hdu.now)) bytes (S.left src.new) plane)
         (λ stop. ImageStopped (verdict_by bytes hdu.now head (checked hdu.now)) bytes (S.left src.new) stop) }

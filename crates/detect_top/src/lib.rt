@@ -14,9 +14,13 @@ mod top;
 mod trial;
 mod words;
 
+pub use component::{component_tree, residual_plane};
+pub use detection::columns;
 pub use fault::Fault;
 pub use fits_write::WriteFault;
+pub use image::{Stop, read_found};
 pub use lines::put_tree;
+pub use notes::put_refusal;
 pub use top::run;
 pub use trial::{Summary, put_trial};
 pub use words::{Job, Order, Usage, read_words};

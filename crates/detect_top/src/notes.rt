@@ -53,7 +53,8 @@ fn put_place<N: Sink>(notes: &mut N, number: &[u8], name: &[u8], place: Place) -
     }
 }
 
-fn put_refusal<N: Sink>(notes: &mut N, fault: Fault) -> Result<(), Failed>
+/// Puts the line of a fault: its number, its name, and the card or the pixel at fault.
+pub fn put_refusal<N: Sink>(notes: &mut N, fault: Fault) -> Result<(), Failed>
     ensures bytes { PutAppends (N.written notes.old) (N.written notes.new) result (refusal_line fault) }
     ensures cause { HasCause (N.faults notes.old) (N.faults notes.new) result }
 {

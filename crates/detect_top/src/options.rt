@@ -1,6 +1,6 @@
 // The commands and their options.
 ghost use Rattle.std.specs.Prelude.{◌≡◌, ◌≤ℤ◌, ◌<◌, ℕ, Some, IfSome, is_some};
-ghost use Rattle.detect_top.specs.Options.{command_named, setting_named, option_named, takes as takes_option, name_of, is_value, hdu_in, connect_in, strips_in, workers_in, mesh_in, flat_in, rule_in, area_in, flux_in, thousandths_in, threshold_in, seed_in, side_in};
+ghost use Rattle.detect_top.specs.Options.{command_named, setting_named, option_named, takes as takes_option, option_name, is_value, hdu_in, connect_in, strips_in, workers_in, mesh_in, flat_in, rule_in, area_in, flux_in, thousandths_in, threshold_in, seed_in, side_in};
 
 use command_line::numbers::number_between;
 use comp_tree::Connect;
@@ -111,7 +111,7 @@ impl Setting {
     }
 
     pub(crate) fn name(self) -> &'static str
-        ensures { result.now ≡ name_of self }
+        ensures { result.now ≡ option_name self }
     {
         match self {
             Setting::Hdu => "--hdu",

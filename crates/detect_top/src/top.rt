@@ -13,7 +13,7 @@ ghost use Rattle.detect_top.specs.Streams.{ImageStopped};
 ghost use Rattle.detect_top.specs.Answers.{answer, note_of, status_of};
 ghost use Rattle.command_line.specs.Notes.{Noted, SourceStays};
 ghost use Rattle.detect_top.specs.Runs.{Took, TookAtMost, ProductRead, Tells, input_use, output_use, no_use, EndBytes, EndCause, LeavesInput};
-ghost use Rattle.detect_top.specs.Headline.{ForBytes, IsComplete, IsStatus, CutsAnswer, MayWantMemory, ReadFails, TellsEnd};
+ghost use Rattle.detect_top.specs.Headline.{ForBytes, IsAnswered, IsStatus, CutsAnswer, MayWantMemory, ReadFails, TellsEnd};
 
 use crate::image::{Stop, read_image};
 use crate::notes::tell;
@@ -221,7 +221,7 @@ pub fn run<R: Threads + Sync, S: Source, O: Sink, N: Sink, G: Gate>(
 
     // Where no count rose the status is the answer's, or memory is wanted where it may be.
     ensures complete { (Rose (S.faults input.old) (S.faults input.new) → ⊥) → (Rose (O.faults output.old) (O.faults output.new) → ⊥) →
-        ForBytes (texts words.now) (S.left input.old) (λ bytes. IsComplete (answer (texts words.now) bytes) result) }
+        ForBytes (texts words.now) (S.left input.old) (λ bytes. IsAnswered (answer (texts words.now) bytes) result) }
 
     // Words without an order give status 1, and no others do.
     ensures usage { IsErr (order_of (texts words.now)) ↔ (result ≡ 1) }

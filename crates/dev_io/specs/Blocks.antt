@@ -27,7 +27,8 @@ Moves-cut a b c xs ys v p q =
     subst (AppendsPrefix a c) (sym (ap (λ l. l ++ ys) p.split ∙ append_assoc p.sent v ys)) (AppendsPrefix-after a b c p.sent (v ++ ys) p.appended q)
 
 -- what waited last was put or cut short
-pub Moves-flushed : {T E : Type 0} (a b c : Option (List ℕ)) (r : Result T E) (xs v w : List ℕ) → Moves a b xs v → OnOk r (Moves b c v w) → OnOk r (w ≡ []) → OnErr r (AppendsPrefix b c v) → PutAppends a c r xs
+pub Moves-flushed : {T E : Type 0} (a b c : Option (List ℕ)) (r : Result T E) (xs v w : List ℕ) → Moves a b xs v
+    → OnOk r (Moves b c v w) → OnOk r (w ≡ []) → OnErr r (AppendsPrefix b c v) → PutAppends a c r xs
 Moves-flushed a b c (Ok x) xs v w p ok empty err =
     let all : xs ≡ p.sent ++ ok.sent = p.split ∙ ap (λ l. p.sent ++ l) (ok.split ∙ ap (λ l. ok.sent ++ l) empty ∙ append-nil ok.sent) in
     subst (Appends a c) (sym all) (Appends-trans a b c p.sent ok.sent p.appended ok.appended)

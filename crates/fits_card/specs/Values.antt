@@ -1,10 +1,12 @@
 -- Model: the value of a card, by the grammar of its value field, on exact numbers.
-use Rattle.std.specs.Prelude.{ℕ, suc, ◌^◌, ◌%◌, Bool, true, false, List, [], ◌∷◌, ◌++◌, ◌==◌, ◌||◌, ◌&&◌, length, drop, Option, Some, None, codes, if◌then◌else◌, ℤ, pos, negsuc, neg_ℤ, ◌*ℤ◌, ◌-ℤ◌, nat_lt, unsigned_abs, int_div, slice_index}
+use Rattle.std.specs.Prelude.{ℕ, suc, ◌^◌, ◌%◌, Bool, true, false, List, [], ◌∷◌, ◌++◌, ◌==◌, ◌||◌, ◌&&◌, length, drop}
+use Rattle.std.specs.Prelude.{Option, Some, None, codes, if◌then◌else◌, ℤ, pos, negsuc, neg_ℤ, ◌*ℤ◌, ◌-ℤ◌, nat_lt, unsigned_abs, int_div, slice_index}
 use Rattle.std.specs.Str.{all_ascii_digits}
 use Rattle.std.specs.Str.Parse.{digits_value}
 use Rattle.fits_card.specs.declared.number.Whole.{Whole}
 use Rattle.fits_card.specs.declared.number.Whole.TheVariants.{Is, NotWhole, Beyond, Unreadable}
-use Rattle.fits_card.specs.Pieces.{space, quote, slash, equals, plus, minus, without_leading_spaces, without_trailing_spaces, before_any, from_any, is_over, Closed, closed}
+use Rattle.fits_card.specs.Pieces.{space, quote, slash, equals, plus, minus, without_leading_spaces}
+use Rattle.fits_card.specs.Pieces.{without_trailing_spaces, before_any, from_any, is_over, Closed, closed}
 
 -- what stands in a value field
 pub data Content : Type 0 where

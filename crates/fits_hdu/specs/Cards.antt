@@ -1,5 +1,6 @@
 -- Model: what one card of a header says (FITS Standard 4.0, section 4.4).
-use Rattle.std.specs.Prelude.{ℕ, ◌-◌, Bool, true, false, List, [], ◌∷◌, ◌==◌, ◌&&◌, take, Option, Some, None, codes, if◌then◌else◌, ℤ, pos, negsuc, nat_le, is_some, unwrap_or}
+use Rattle.std.specs.Prelude.{ℕ, ◌-◌, Bool, true, false, List, [], ◌∷◌, ◌==◌, ◌&&◌, take}
+use Rattle.std.specs.Prelude.{Option, Some, None, codes, if◌then◌else◌, ℤ, pos, negsuc, nat_le, is_some, unwrap_or}
 use Rattle.std.specs.Str.{bytes_eq}
 use Rattle.std.specs.List.{list_any}
 use Rattle.std.specs.Ordering.{int_eq}

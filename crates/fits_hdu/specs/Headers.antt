@@ -1,5 +1,7 @@
 -- Model: the header that starts at a place in a list of bytes (FITS Standard 4.0, sections 3.3 and 4.4).
-use Rattle.std.specs.Prelude.{ℕ, zero, suc, ◌+◌, ◌-◌, ◌*◌, ◌/◌, ◌^◌, Bool, true, false, not, List, [], ◌∷◌, ◌++◌, ◌==◌, ◌&&◌, ◌||◌, length, take, drop, min, map, Option, Result, Ok, Err, codes, if◌then◌else◌, ℤ, pos, nat_lt, is_none, unwrap_or, slice_index, find}
+use Rattle.std.specs.Prelude.{ℕ, zero, suc, ◌+◌, ◌-◌, ◌*◌, ◌/◌, ◌^◌, Bool, true, false, not, List}
+use Rattle.std.specs.Prelude.{[], ◌∷◌, ◌++◌, ◌==◌, ◌&&◌, ◌||◌, length, take, drop, min, map, Option, Result}
+use Rattle.std.specs.Prelude.{Ok, Err, codes, if◌then◌else◌, ℤ, pos, nat_lt, is_none, unwrap_or, slice_index, find}
 use Rattle.std.specs.List.{list_all}
 use Rattle.std.specs.Str.{bytes_eq}
 use Rattle.std.specs.Option.{option_map}
@@ -87,6 +89,12 @@ is_beginning primary bytes = bytes_eq (take 8 bytes) (beginning primary)
 -- an HDU begins at this place
 abbrev pub begins : ℕ → List ℕ → ℕ → Bool
 begins hdu bytes start = is_beginning (hdu == 0) (drop start bytes)
+
+-- it is neither the primary HDU nor an image extension
+abbrev pub is_other : Kind → Bool
+is_other Primary = false
+is_other Image = false
+is_other Other = true
 
 -- What a header says.
 

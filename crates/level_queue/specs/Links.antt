@@ -1,5 +1,6 @@
 -- Bookkeeping: how the lists lie in the arrays.
-use Rattle.std.specs.Prelude.{◌≡◌, ℕ, zero, suc, ◌-◌, ◌^◌, ◌<◌, ◌≤◌, Bool, List, [], ◌∷◌, length, map, get_or, slice_get, Option, Some, None, is_some, option_map}
+use Rattle.std.specs.Prelude.{◌≡◌, ℕ, zero, suc, ◌-◌, ◌^◌, ◌<◌, ◌≤◌, Bool, List, []}
+use Rattle.std.specs.Prelude.{◌∷◌, length, map, get_or, slice_get, Option, Some, None, is_some, option_map}
 use Rattle.level_queue.specs.Queue.{Queue}
 use Rattle.level_queue.specs.declared.queue.Ends.{Ends}
 

@@ -12,7 +12,8 @@ use Rattle.fits_card.specs.declared.number.Whole.TheVariants.{Is, NotWhole, Beyo
 use Rattle.fits_hdu.specs.declared.answer.Hdu.{Hdu}
 use Rattle.pixel_plane.specs.declared.fault.ImageFault.{ImageFault}
 use Rattle.pixel_plane.specs.declared.fault.ImageFault.TheVariants.{NotImage, NoImage, ImageTooLarge, Bitpix, Bscale, Bzero, Blank}
-use Rattle.pixel_plane.specs.Images.{checked, image_fault, first_fault, is_other, has_no_pixels, is_stored_size, is_one, is_zero_point, is_blank_or_none}
+use Rattle.fits_hdu.specs.Headers.{is_other}
+use Rattle.pixel_plane.specs.Images.{checked, image_fault, first_fault, has_no_pixels, is_stored_size, is_one, is_zero_point, is_blank_or_none}
 use Rattle.pixel_plane.specs.Stored.{size_of, whole_or_zero}
 use Rattle.pixel_plane.specs.Sizes.{is_number_size}
 

@@ -6,15 +6,10 @@ use Rattle.comp_tree.specs.declared.shape.Shape.{Shape}
 use Rattle.comp_tree.specs.Shapes.{is_within, shape_of}
 use Rattle.fits_card.specs.declared.number.Whole.{Whole}
 use Rattle.fits_card.specs.declared.number.Whole.TheVariants.{Is}
-use Rattle.fits_hdu.specs.declared.answer.Kind.{Kind}
-use Rattle.fits_hdu.specs.declared.answer.Kind.TheVariants.{Other}
 use Rattle.fits_hdu.specs.declared.answer.Hdu.{Hdu}
+use Rattle.fits_hdu.specs.Headers.{is_other}
 use Rattle.pixel_plane.specs.declared.fault.ImageFault.{ImageFault}
 use Rattle.pixel_plane.specs.declared.fault.ImageFault.TheVariants.{NotImage, NoImage, ImageTooLarge, Bitpix, Bscale, Bzero, Blank}
-
-abbrev pub is_other : Kind → Bool
-is_other Other = true
-is_other _ = false
 
 -- it has fewer than two axes, an empty one, or a further one that is longer than 1
 abbrev pub has_no_pixels : Hdu → Bool

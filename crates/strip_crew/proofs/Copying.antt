@@ -91,7 +91,7 @@ module _ (plan : Plan) (is_plan : IsPlan plan) where
   row_mono : (a b : ℕ) → a ≤ b → a * width ≤ b * width
   row_mono a b h = mul-le-mul_right width h
 
-  top_small : (r : ℕ) → r ≤ plan.plane.shape.height → r * width ≤ 16777216
+  top_small : (r : ℕ) → r ≤ plan.plane.shape.height → r * width ≤ 2 ^ 24
   top_small r h = let a = row_mono r plan.plane.shape.height h in let b = mul_comm plan.plane.shape.height width in let e = plan.plane.shape.within_limits.few_pixels in omega arith
 
   -- an adjacent pixel lies in the plane
@@ -226,7 +226,7 @@ module _ (plan : Plan) (is_plan : IsPlan plan) where
       → StandsFor values 0 new (IsAdjacency values width connect)
   all_stand links new copied forest long joined =
       let top : row_at plan (length cut) ≡ plan.plane.shape.height = past_or cut (length cut) plan.plane.shape.height (omega arith) in
-      let small : length links ≤ 16777216 = (let c = copied.count in let b = top_small (row_at plan (length cut)) (row_top (length cut)) in omega arith) in
+      let small : length links ≤ 2 ^ 24 = (let c = copied.count in let b = top_small (row_at plan (length cut)) (row_top (length cut)) in omega arith) in
       let n : ℕ = length links in
       let B : ℕ → ℕ → Type 0 = IsCutBoundary values width connect cut (length cut) in let S : ℕ → ℕ → Type 0 = IsStripPair values width connect cut in let L : ℕ → ℕ → Type 0 = IsPairBelow values width connect cut (length cut) in
       let strips : JoinSame values 0 n (IsLink 0 links) S = same_trans values 0 n (IsLink 0 links) L S (stands_gives values 0 links copied.forest (omega arith) L copied.stands)

@@ -6,8 +6,8 @@ use mathlib.Core.Option.{some, some-injective, some-ne-none}
 use lib.ListN.{get_elem?}
 use Rattle.atomic_table.proofs.Lists.{set_else, at_index}
 use Rattle.comp_tree.specs.Counts.{sum_below}
-use Rattle.strip_crew.specs.Counting.{SeatClaims, fresh, spent, claims, passes, gives_back, splits, joins, total, count_of, holds_of, one_if_is, Counts}
-use Rattle.strip_crew.specs.Core.{Waiting, Out, Flooded, Core, Event, Claims, Passes, Gives, Splits, Joins, seat_at, start, Needs, after, Leads, Keeps, is_claim, is_give, Lawful, CoreLaw, IsLast, CoreEnds}
+use Rattle.strip_crew.specs.Counting.{SeatClaims, fresh, spent, claims, passes, gives_back, splits, joins, total_weight, count_of, holds_of, one_if_is, Counts}
+use Rattle.strip_crew.specs.Core.{Waiting, Out, Flooded, Core, Event, Claims, Passes, Gives, Splits, Joins, seat_at, start, Needs, after, Leads, Keeps, is_claim, is_give, Lawful, CoreLaw, IsLastToLeave, CoreEnds}
 use Rattle.strip_crew.proofs.Lists.{total_append, total_set, only, only_same, only_other, below_only, below_next}
 use Rattle.strip_crew.proofs.Counting.{hand_inside, claims_counts, passes_counts, gives_counts, splits_counts, joins_counts, no_hand, held_by_none, word0_is}
 
@@ -65,7 +65,7 @@ starts_keeps n k = record {
 record Adds (n k i : ℕ) (c : Core) (e : Event) : Type 0 where
   keeps : Keeps n k (after c e)
   claimed : is_claim i e + sum_below (only i) (min c.word0 n) ≡ sum_below (only i) (min (after c e).word0 n)
-  given : is_give i e + total (holds_of i) (after c e).seats + sum_below (only i) (min c.word0 n) ≡ total (holds_of i) c.seats + sum_below (only i) (min (after c e).word0 n)
+  given : is_give i e + total_weight (holds_of i) (after c e).seats + sum_below (only i) (min c.word0 n) ≡ total_weight (holds_of i) c.seats + sum_below (only i) (min (after c e).word0 n)
 
 module _ (n k r : ℕ) (c : Core) (o : Keeps n k c) where
   adds : (e : Event) → Needs n c e → Adds n k r c e
@@ -74,7 +74,7 @@ module _ (n k r : ℕ) (c : Core) (o : Keeps n k c) where
       let at : get_elem? c.seats j ≡ some s = seat_there c.seats j t.0 in
       let w : ℕ = c.word0 in
       let near : w < n = omega (arith, t.3, t.4) in
-      let moved : (x : ℕ) → total (holds_of x) (set c.seats j d) ≡ total (holds_of x) c.seats + only x i = λ x. omega (arith, total_set (holds_of x) c.seats j s d at, ap (one_if_is x) t.1) in
+      let moved : (x : ℕ) → total_weight (holds_of x) (set c.seats j d) ≡ total_weight (holds_of x) c.seats + only x i = λ x. omega (arith, total_set (holds_of x) c.seats j s d at, ap (one_if_is x) t.1) in
       let here : min (w + 1) n ≡ min w n + 1 = omega arith in let top : min w n ≡ i = omega (arith, t.3) in
       let more : sum_below (only r) (min (w + 1) n) ≡ sum_below (only r) (min w n) + only r i = ap (sum_below (only r)) here ∙ (below_next (only r) (min w n) ∙ ap (λ (x : ℕ). sum_below (only r) (min w n) + only r x) top) in
       record {
@@ -93,7 +93,7 @@ module _ (n k r : ℕ) (c : Core) (o : Keeps n k c) where
       let s : SeatClaims = seat_at c j in let d : SeatClaims = passes s in
       let at : get_elem? c.seats j ≡ some s = seat_there c.seats j t.0 in
       let w : ℕ = c.word0 in
-      let moved : (x : ℕ) → total (holds_of x) (set c.seats j d) ≡ total (holds_of x) c.seats = λ x. omega (arith, total_set (holds_of x) c.seats j s d at) in
+      let moved : (x : ℕ) → total_weight (holds_of x) (set c.seats j d) ≡ total_weight (holds_of x) c.seats = λ x. omega (arith, total_set (holds_of x) c.seats j s d at) in
       let same : sum_below (only r) (min (w + 1) n) ≡ sum_below (only r) (min w n) = let l : min (w + 1) n ≡ min w n = omega (arith, t.3) in ap (sum_below (only r)) l in
       record {
         keeps = record {
@@ -110,7 +110,7 @@ module _ (n k r : ℕ) (c : Core) (o : Keeps n k c) where
       let at : get_elem? c.seats j ≡ some s = seat_there c.seats j t.0 in
       let w : ℕ = c.word0 in
       let mine = hand_inside n k w c.word1 c.seats o.counts j s i at t.1 in
-      let moved : (x : ℕ) → total (holds_of x) (set c.seats j d) + only x i ≡ total (holds_of x) c.seats = λ x. omega (arith, total_set (holds_of x) c.seats j s d at, ap (one_if_is x) t.1) in
+      let moved : (x : ℕ) → total_weight (holds_of x) (set c.seats j d) + only x i ≡ total_weight (holds_of x) c.seats = λ x. omega (arith, total_set (holds_of x) c.seats j s d at, ap (one_if_is x) t.1) in
       record {
         keeps = record {
           counts = gives_counts n k w c.word1 c.seats o.counts j s at i t.1;
@@ -126,7 +126,7 @@ module _ (n k r : ℕ) (c : Core) (o : Keeps n k c) where
   adds (Splits j l) t =
       let s : SeatClaims = seat_at c j in let d : SeatClaims = splits s in let ds : List SeatClaims = set c.seats j d in
       let at : get_elem? c.seats j ≡ some s = seat_there c.seats j t.0 in
-      let moved : (x : ℕ) → total (holds_of x) (ds ++ fresh 1 ∷ []) ≡ total (holds_of x) c.seats = λ x. omega (arith, total_append (holds_of x) ds (fresh 1 ∷ []), total_set (holds_of x) c.seats j s d at) in
+      let moved : (x : ℕ) → total_weight (holds_of x) (ds ++ fresh 1 ∷ []) ≡ total_weight (holds_of x) c.seats = λ x. omega (arith, total_append (holds_of x) ds (fresh 1 ∷ []), total_set (holds_of x) c.seats j s d at) in
       record {
         keeps = record {
           counts = splits_counts n k c.word0 c.word1 c.seats o.counts j s at t.1 t.2;
@@ -142,7 +142,7 @@ module _ (n k r : ℕ) (c : Core) (o : Keeps n k c) where
       let at : get_elem? c.seats j ≡ some s = seat_there c.seats j t.1 in
       let apart : l ≢ j = λ z. t.0 (sym z) in
       let there : get_elem? ds l ≡ some b = set_else c.seats j l d apart ∙ seat_there c.seats l t.2 in
-      let moved : (x : ℕ) → total (holds_of x) (set ds l spent) ≡ total (holds_of x) c.seats = λ x. omega (arith, total_set (holds_of x) c.seats j s d at, total_set (holds_of x) ds l b spent there, ap (one_if_is x) t.3, ap (one_if_is x) t.4) in
+      let moved : (x : ℕ) → total_weight (holds_of x) (set ds l spent) ≡ total_weight (holds_of x) c.seats = λ x. omega (arith, total_set (holds_of x) c.seats j s d at, total_set (holds_of x) ds l b spent there, ap (one_if_is x) t.3, ap (one_if_is x) t.4) in
       record {
         keeps = record {
           counts = joins_counts n k c.word0 c.word1 c.seats o.counts j s at l b there apart t.3 t.4;
@@ -157,8 +157,8 @@ module _ (n k r : ℕ) (c : Core) (o : Keeps n k c) where
 -- what a list of events adds
 record AddsAll (n k i : ℕ) (c : Core) (es : List Event) (d : Core) : Type 0 where
   keeps : Keeps n k d
-  claimed : total (is_claim i) es + sum_below (only i) (min c.word0 n) ≡ sum_below (only i) (min d.word0 n)
-  given : total (is_give i) es + total (holds_of i) d.seats + sum_below (only i) (min c.word0 n) ≡ total (holds_of i) c.seats + sum_below (only i) (min d.word0 n)
+  claimed : total_weight (is_claim i) es + sum_below (only i) (min c.word0 n) ≡ sum_below (only i) (min d.word0 n)
+  given : total_weight (is_give i) es + total_weight (holds_of i) d.seats + sum_below (only i) (min c.word0 n) ≡ total_weight (holds_of i) c.seats + sum_below (only i) (min d.word0 n)
 
 adds_all : (n k i : ℕ) (c : Core) (es : List Event) (d : Core) → Keeps n k c → Leads n c es d → AddsAll n k i c es d
 adds_all n k i c [] d o t = subst (AddsAll n k i c []) t (record { keeps = o; claimed = omega arith; given = omega arith })
@@ -182,7 +182,7 @@ module _ (n k : ℕ) (es : List Event) (c : Core) (t : Leads n (start n k) es c)
     none_past = λ i far. (let none = (below_only i (min c.word0 n)).1 (omega arith) in (omega (arith, (all_adds i).claimed, none), omega (arith, (all_adds i).given, none_below i, none)));
   }
 
-  pub ended : (j : ℕ) → 0 < k → IsLast k c j → (i : ℕ) → i < n → (total (is_claim i) es ≡ 1) × (total (is_give i) es ≡ 1)
+  pub ended : (j : ℕ) → 0 < k → IsLastToLeave k c j → (i : ℕ) → i < n → (total_weight (is_claim i) es ≡ 1) × (total_weight (is_give i) es ≡ 1)
   ended j some_worker is i inside =
       let s : SeatClaims = seat_at c j in let at : get_elem? c.seats j ≡ some s = at_index c.seats j s is.0 refl_or in
       let o = lawful.keeps.counts in

@@ -6,7 +6,7 @@ use mathlib.Core.Option.{some}
 use lib.ListN.{get_elem?}
 use Rattle.atomic_table.proofs.Lists.{at_set, set_else, at_snoc}
 use Rattle.comp_tree.specs.Counts.{sum_below}
-use Rattle.strip_crew.specs.Counting.{SeatClaims, fresh, spent, claims, passes, gives_back, splits, joins, total, weight_of, count_of, past_of, due_of, hands_of, holds_of, one_if_some, one_if_is, Counts}
+use Rattle.strip_crew.specs.Counting.{SeatClaims, fresh, spent, claims, passes, gives_back, splits, joins, total_weight, weight_of, count_of, past_of, due_of, hands_of, holds_of, one_if_some, one_if_is, Counts}
 use Rattle.strip_crew.proofs.Lists.{no_items, total_alone, total_same, total_append, total_set, term_le, terms_le, total_one, below_one, below_next, only, only_same, below_only}
 
 abbrev value_or : Option ℕ → ℕ
@@ -37,16 +37,16 @@ Owes c = 0 < length c.claimed → 0 < c.due + c.past
 
 module _ (n k w0 w1 : ℕ) (cs : List SeatClaims) (o : Counts n k w0 w1 cs) where
   -- a strip that a seat has claimed lies below word 0 and is one of the strips
-  pub inside : (j : ℕ) (c : SeatClaims) (i : ℕ) → get_elem? cs j ≡ some c → 0 < total (only i) c.claimed → (i < w0) × (i < n)
+  pub inside : (j : ℕ) (c : SeatClaims) (i : ℕ) → get_elem? cs j ≡ some c → 0 < total_weight (only i) c.claimed → (i < w0) × (i < n)
   inside j c i at has = dite (dec_le (min w0 n) i)
       (λ out. absurd (omega (arith, o.once (only i), term_le (weight_of (only i)) cs j c at, (below_only i (min w0 n)).1 out)))
       (λ near. let near' : i < min w0 n = omega arith in (omega arith, omega arith))
 
   pub hand_inside : (j : ℕ) (c : SeatClaims) (i : ℕ) → get_elem? cs j ≡ some c → c.hand ≡ Some i → (i < w0) × (i < n)
   hand_inside j c i at is = let t = o.last j c i at is in
-      inside j c i at (omega (arith, ap (total (only i)) t.1, total_append (only i) t.0 (i ∷ []), only_same i))
+      inside j c i at (omega (arith, ap (total_weight (only i)) t.1, total_append (only i) t.0 (i ∷ []), only_same i))
 
-  claimed_in_all : total count_of cs ≡ min w0 n
+  claimed_in_all : total_weight count_of cs ≡ min w0 n
   claimed_in_all = sym (total_same (weight_of (λ _. 1)) count_of cs (λ u. total_one u.claimed)) ∙ (o.once (λ _. 1) ∙ below_one (min w0 n))
 
   pub word0_le : w0 ≤ n + k
@@ -100,7 +100,7 @@ module _ (n k w0 w1 : ℕ) (cs : List SeatClaims) (o : Counts n k w0 w1 cs) wher
     pub joins_counts : (l : ℕ) (b : SeatClaims) → get_elem? (set cs j (joins c b)) l ≡ some b → l ≢ j → c.hand ≡ None → b.hand ≡ None → Counts n k w0 w1 (set (set cs j (joins c b)) l spent)
     joins_counts l b there apart empty free = let d : SeatClaims = joins c b in let ds : List SeatClaims = set cs j d in
         let was : get_elem? cs l ≡ some b = sym (set_else cs j l d apart) ∙ there in
-        let both : (g : SeatClaims → ℕ) → total g (set ds l spent) + g b + g c ≡ total g cs + g d + g spent = λ g. omega (arith, total_set g cs j c d at, total_set g ds l b spent there) in record {
+        let both : (g : SeatClaims → ℕ) → total_weight g (set ds l spent) + g b + g c ≡ total_weight g cs + g d + g spent = λ g. omega (arith, total_set g cs j c d at, total_set g ds l b spent there) in record {
           once = λ h. omega (arith, both (weight_of h), total_append h c.claimed b.claimed, o.once h);
           counted = omega (arith, o.counted, both count_of, both past_of, length-append c.claimed b.claimed);
           last = λ i e r. each_set (Lasts r) ds l spent (λ is. absurd (no_hand r is)) (each_set (Lasts r) cs j d (λ is. absurd (no_hand r is)) (λ i' e' found is. o.last i' e' r found is)) i e;
@@ -129,13 +129,13 @@ module _ (n k w0 w1 : ℕ) (cs : List SeatClaims) (o : Counts n k w0 w1 cs) wher
       pub free_hands : (i : ℕ) (d : SeatClaims) → i ≢ j → get_elem? cs i ≡ some d → d.hand ≡ None
       free_hands i d ne found = free_hand d d.hand refl (others i d ne found) (λ r is. o.last i d r found is)
 
-      pub alone : (h : ℕ → ℕ) → total (weight_of h) cs ≡ total h c.claimed
-      alone h = total_alone (weight_of h) cs j c at (λ i d ne found. ap (total h) (nothing i d ne found))
+      pub alone : (h : ℕ → ℕ) → total_weight (weight_of h) cs ≡ total_weight h c.claimed
+      alone h = total_alone (weight_of h) cs j c at (λ i d ne found. ap (total_weight h) (nothing i d ne found))
 
-      count_alone : total count_of cs ≡ length c.claimed
+      count_alone : total_weight count_of cs ≡ length c.claimed
       count_alone = total_alone count_of cs j c at (λ i d ne found. others i d ne found)
 
-      past_all : total past_of cs ≡ k
+      past_all : total_weight past_of cs ≡ k
       past_all = omega (arith, o.ends, all, term_le past_of cs j c at)
 
       whole : 0 < k → length c.claimed ≡ n
@@ -144,7 +144,7 @@ module _ (n k w0 w1 : ℕ) (cs : List SeatClaims) (o : Counts n k w0 w1 cs) wher
       pub word0_is : 0 < k → w0 ≡ n + k
       word0_is some_worker = omega (arith, whole some_worker, o.counted, count_alone, past_all)
 
-      pub each_once : 0 < k → (h : ℕ → ℕ) → total h c.claimed ≡ sum_below h n
+      pub each_once : 0 < k → (h : ℕ → ℕ) → total_weight h c.claimed ≡ sum_below h n
       each_once some_worker h = let all_below : min w0 n ≡ n = omega (arith, word0_is some_worker) in sym (alone h) ∙ (o.once h ∙ ap (sum_below h) all_below)
 
       module _ (empty : c.hand ≡ None) where
@@ -158,5 +158,5 @@ module _ (n k w0 w1 : ℕ) (cs : List SeatClaims) (o : Counts n k w0 w1 cs) wher
           ap one_if_some empty,
         )
 
-        pub held_by_none : (r : ℕ) → total (holds_of r) cs ≡ 0
+        pub held_by_none : (r : ℕ) → total_weight (holds_of r) cs ≡ 0
         held_by_none r = total_alone (holds_of r) cs j c at (λ i d ne found. ap (one_if_is r) (free_hands i d ne found)) ∙ ap (one_if_is r) empty

@@ -9,7 +9,7 @@ use Rattle.atomic_table.specs.Table.{State, step, Act, keeps, takes, gives, Vali
 use Rattle.atomic_table.proofs.Lists.{at_set, set_here, set_else, at_snoc, at_map}
 use Rattle.strip_flood.specs.Jobs.{JobView}
 use Rattle.strip_crew.specs.Run.{Run, strips, IsSized, IsJobOf}
-use Rattle.strip_crew.specs.Counting.{SeatClaims, fresh, spent, claims, passes, gives_back, splits, joins, total, holds_of, one_if_is, Counts}
+use Rattle.strip_crew.specs.Counting.{SeatClaims, fresh, spent, claims, passes, gives_back, splits, joins, total_weight, holds_of, one_if_is, Counts}
 use Rattle.strip_crew.specs.Core.{Waiting, Core, seat_at, Reached}
 use Rattle.strip_crew.specs.Claims.{view, claim_of, Seated, IsHome, RuleHolds, opening_view, top, claimed, gave, split_left, split_right, joined, spent_view, SettleLaw, HasSettled, AreReady, AreFlooded}
 use Rattle.strip_crew.specs.declared.view.View.{View}
@@ -29,7 +29,7 @@ abbrev Read : Run → List (Option JobView) → ℕ → ℕ → List SeatClaims 
 Read run hs w0 w1 cs =
     Counts (strips run) run.workers w0 w1 cs
     × ((i : ℕ) → w0 ≤ i → i < strips run → IsHome run hs i false)
-    × ((i : ℕ) → i < w0 → i < strips run → total (holds_of i) cs ≡ 0 → IsHome run hs i true)
+    × ((i : ℕ) → i < w0 → i < strips run → total_weight (holds_of i) cs ≡ 0 → IsHome run hs i true)
     × Reached (strips run) run.workers w0 w1 cs
 
 abbrev Same : Run → List View → Type 0
@@ -55,7 +55,7 @@ same_snoc run vs w is same i u at free = ⊎_elim (λ (t : get_elem? vs i ≡ so
 still_home : (run : Run) (hs : List (Option JobView)) (i r : ℕ) (h : Option JobView) (b : Bool) → r ≢ i → IsHome run hs r b → IsHome run (set hs i h) r b
 still_home run hs i r h b ne t = (t.0, set_else hs i r h ne ∙ t.1, t.2, t.3)
 
-top_le : (xs : List ℕ) (w : ℕ) → ((x : ℕ) → 0 < total (only x) xs → x < w) → top xs ≤ w
+top_le : (xs : List ℕ) (w : ℕ) → ((x : ℕ) → 0 < total_weight (only x) xs → x < w) → top xs ≤ w
 top_le [] w each = omega arith
 top_le (x ∷ xs) w each = let here = each x (omega (arith, only_same x)) in let further = top_le xs w (λ y some_there. each y (omega arith)) in omega arith
 
@@ -102,7 +102,7 @@ module _ (run : Run) (s : St) (o : RuleHolds run s) (id : ℕ) (m : Seated) (at 
   claims_goes empty due near =
       let t = o.waiting w0 (omega arith) near in let job : JobView = t.0 in
       let w : View = view (claims c w0) m.0.of in
-      let moved : (x : ℕ) → total (holds_of x) (set cs id (claims c w0)) ≡ total (holds_of x) cs + only x w0 = λ x. omega (arith, total_set (holds_of x) cs id c (claims c w0) there, ap (one_if_is x) empty) in (
+      let moved : (x : ℕ) → total_weight (holds_of x) (set cs id (claims c w0)) ≡ total_weight (holds_of x) cs + only x w0 = λ x. omega (arith, total_set (holds_of x) cs id c (claims c w0) there, ap (one_if_is x) empty) in (
         w,
         takes w0 job,
         t.1,
@@ -127,7 +127,7 @@ module _ (run : Run) (s : St) (o : RuleHolds run s) (id : ℕ) (m : Seated) (at 
   passes_goes : c.hand ≡ None → 0 < c.due → n ≤ w0 → Goes run s 0 ((w0 + 1) % 2 ^ 64) id m (claimed (step n 0 1 0 none) m)
   passes_goes empty due far =
       let w : View = view (passes c) m.0.of in
-      let moved : (x : ℕ) → total (holds_of x) (set cs id (passes c)) ≡ total (holds_of x) cs = λ x. omega (arith, total_set (holds_of x) cs id c (passes c) there) in (
+      let moved : (x : ℕ) → total_weight (holds_of x) (set cs id (passes c)) ≡ total_weight (holds_of x) cs = λ x. omega (arith, total_set (holds_of x) cs id c (passes c) there) in (
         w,
         keeps,
         tt,
@@ -147,7 +147,7 @@ module _ (run : Run) (s : St) (o : RuleHolds run s) (id : ℕ) (m : Seated) (at 
   gives_goes i job more held has its flooded =
       let mine = hand_inside n k w0 w1 cs o.counts id c i there has in
       let w : View = view (gives_back c) m.0.of in let hs : List (Option JobView) = set s.homes i (some job) in
-      let moved : (x : ℕ) → total (holds_of x) (set cs id (gives_back c)) + only x i ≡ total (holds_of x) cs = λ x. omega (arith, total_set (holds_of x) cs id c (gives_back c) there, ap (one_if_is x) has) in (
+      let moved : (x : ℕ) → total_weight (holds_of x) (set cs id (gives_back c)) + only x i ≡ total_weight (holds_of x) cs = λ x. omega (arith, total_set (holds_of x) cs id c (gives_back c) there, ap (one_if_is x) has) in (
         w,
         gives,
         tt,
@@ -183,7 +183,7 @@ splits_allowed run id v free empty due s o at =
     let is : v.of ≡ run = o.same_run id v at free in let there : get_elem? cs id ≡ some c = at_map claim_of s.views id v at in
     let l : View = split_left v in let r : View = split_right v in let vs : List View = set s.views id l in let ds : List SeatClaims = set cs id (splits c) in
     let are : map claim_of (vs ++ r ∷ []) ≡ ds ++ fresh 1 ∷ [] = map_append claim_of vs (r ∷ []) ∙ ap (λ (x : List SeatClaims). x ++ fresh 1 ∷ []) (map_set claim_of s.views id l) in
-    let moved : (x : ℕ) → total (holds_of x) (ds ++ fresh 1 ∷ []) ≡ total (holds_of x) cs = λ x. omega (arith, total_append (holds_of x) ds (fresh 1 ∷ []), total_set (holds_of x) cs id c (splits c) there) in
+    let moved : (x : ℕ) → total_weight (holds_of x) (ds ++ fresh 1 ∷ []) ≡ total_weight (holds_of x) cs = λ x. omega (arith, total_append (holds_of x) ds (fresh 1 ∷ []), total_set (holds_of x) cs id c (splits c) there) in
     made run s.words s.homes (vs ++ r ∷ []) w0 w1 (ds ++ fresh 1 ∷ []) o.sized o.wide o.deep refl refl are
     (splits_counts n k w0 w1 cs o.counts id c there empty due, o.waiting, (λ i low in_strips none_holds. o.done i low in_strips (omega (arith, moved i))), splits_reached n k w0 w1 cs o.history id c there free empty due)
     (same_snoc run vs r (λ _. is) (same_set run s.views id l (λ _. is) o.same_run))
@@ -197,7 +197,7 @@ joins_allowed run id v other u free free' empty empty' s o at apart them =
     let them' : get_elem? ds other ≡ some b = subst (λ (x : List SeatClaims). get_elem? x other ≡ some b) are (at_map claim_of vs other u them) in
     let was : get_elem? cs other ≡ some b = sym (set_else cs id other d apart) ∙ them' in
     let all : map claim_of (set vs other spent_view) ≡ set ds other spent = map_set claim_of vs other spent_view ∙ ap (λ (x : List SeatClaims). set x other spent) are in
-    let moved : (x : ℕ) → total (holds_of x) (set ds other spent) ≡ total (holds_of x) cs = λ x. omega (arith, total_set (holds_of x) cs id c d there, total_set (holds_of x) ds other b spent them', ap (one_if_is x) empty, ap (one_if_is x) empty') in
+    let moved : (x : ℕ) → total_weight (holds_of x) (set ds other spent) ≡ total_weight (holds_of x) cs = λ x. omega (arith, total_set (holds_of x) cs id c d there, total_set (holds_of x) ds other b spent them', ap (one_if_is x) empty, ap (one_if_is x) empty') in
     made run s.words s.homes (set vs other spent_view) w0 w1 (set ds other spent) o.sized o.wide o.deep refl refl all
     (joins_counts n k w0 w1 cs o.counts id c there other b them' apart empty empty', o.waiting, (λ i low in_strips none_holds. o.done i low in_strips (omega (arith, moved i))), joins_reached n k w0 w1 cs o.history id c there free other b was free' apart empty empty')
     (same_set run vs other spent_view (λ h. absurd (true≢false h)) (same_set run s.views id w (λ _. is) o.same_run))

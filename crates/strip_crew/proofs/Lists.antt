@@ -6,7 +6,7 @@ use mathlib.Core.Option.{some, some-injective, some-ne-none}
 use lib.ListN.{get_elem?}
 use Rattle.atomic_table.proofs.Lists.{set_here}
 use Rattle.comp_tree.specs.Counts.{sum_below}
-use Rattle.strip_crew.specs.Counting.{total}
+use Rattle.strip_crew.specs.Counting.{total_weight}
 
 module _ {A : Type 0} where
   pub in_range : (l : List A) (j : ℕ) (v : A) → get_elem? l j ≡ some v → j < length l
@@ -57,36 +57,36 @@ module _ {A : Type 0} where
   -- ---- weights
 
   module _ (g : A → ℕ) where
-    pub total_append : (l m : List A) → total g (l ++ m) ≡ total g l + total g m
+    pub total_append : (l m : List A) → total_weight g (l ++ m) ≡ total_weight g l + total_weight g m
     total_append [] m = omega arith
     total_append (x ∷ xs) m = omega (arith, total_append xs m)
 
-    total_omit : (l : List A) (j : ℕ) (v : A) → get_elem? l j ≡ some v → total g l ≡ g v + total g (omit l j)
+    total_omit : (l : List A) (j : ℕ) (v : A) → get_elem? l j ≡ some v → total_weight g l ≡ g v + total_weight g (omit l j)
     total_omit [] j v e = absurd (some-ne-none v (sym e))
     total_omit (x ∷ xs) zero v e = omega (arith, ap g (some-injective x v e))
     total_omit (x ∷ xs) (suc j) v e = omega (arith, total_omit xs j v e)
 
-    pub total_set : (l : List A) (j : ℕ) (v w : A) → get_elem? l j ≡ some v → total g (set l j w) + g v ≡ total g l + g w
-    total_set l j v w e = omega (arith, total_omit l j v e, total_omit (set l j w) j w (set_here l j w (in_range l j v e)), ap (total g) (omit_set l j w))
+    pub total_set : (l : List A) (j : ℕ) (v w : A) → get_elem? l j ≡ some v → total_weight g (set l j w) + g v ≡ total_weight g l + g w
+    total_set l j v w e = omega (arith, total_omit l j v e, total_omit (set l j w) j w (set_here l j w (in_range l j v e)), ap (total_weight g) (omit_set l j w))
 
-    pub term_le : (l : List A) (j : ℕ) (v : A) → get_elem? l j ≡ some v → g v ≤ total g l
+    pub term_le : (l : List A) (j : ℕ) (v : A) → get_elem? l j ≡ some v → g v ≤ total_weight g l
     term_le l j v e = omega (arith, total_omit l j v e)
 
-    pub terms_le : (l : List A) (j k : ℕ) (v u : A) → k ≢ j → get_elem? l j ≡ some v → get_elem? l k ≡ some u → g v + g u ≤ total g l
+    pub terms_le : (l : List A) (j k : ℕ) (v u : A) → k ≢ j → get_elem? l j ≡ some v → get_elem? l k ≡ some u → g v + g u ≤ total_weight g l
     terms_le l j k v u ne e d = let t = still_there l j k u ne d in omega (arith, total_omit l j v e, term_le (omit l j) t.0 u t.1)
 
-    pub total_none : (l : List A) → ((i : ℕ) (u : A) → get_elem? l i ≡ some u → g u ≡ 0) → total g l ≡ 0
+    pub total_none : (l : List A) → ((i : ℕ) (u : A) → get_elem? l i ≡ some u → g u ≡ 0) → total_weight g l ≡ 0
     total_none [] weightless = refl
     total_none (x ∷ xs) weightless = omega (arith, weightless 0 x refl, total_none xs (λ i u e. weightless (suc i) u e))
 
-    pub total_alone : (l : List A) (j : ℕ) (v : A) → get_elem? l j ≡ some v → ((i : ℕ) (u : A) → i ≢ j → get_elem? l i ≡ some u → g u ≡ 0) → total g l ≡ g v
+    pub total_alone : (l : List A) (j : ℕ) (v : A) → get_elem? l j ≡ some v → ((i : ℕ) (u : A) → i ≢ j → get_elem? l i ≡ some u → g u ≡ 0) → total_weight g l ≡ g v
     total_alone l j v e weightless = omega (arith, total_omit l j v e, total_none (omit l j) (λ i u d. let t = was_there l j i u d in weightless t.0 u t.1 t.2))
 
-  pub total_same : (f g : A → ℕ) (l : List A) → ((u : A) → f u ≡ g u) → total f l ≡ total g l
+  pub total_same : (f g : A → ℕ) (l : List A) → ((u : A) → f u ≡ g u) → total_weight f l ≡ total_weight g l
   total_same f g [] e = refl
   total_same f g (x ∷ xs) e = omega (arith, e x, total_same f g xs e)
 
-  pub total_one : (l : List A) → total (λ _. 1) l ≡ length l
+  pub total_one : (l : List A) → total_weight (λ _. 1) l ≡ length l
   total_one [] = refl
   total_one (x ∷ xs) = let t = total_one xs in omega arith
 

@@ -1,5 +1,6 @@
 -- Model: the rule of the claims table, and what each of its steps tells.
-use Rattle.std.specs.Prelude.{◌≡◌, ◌≢◌, ℕ, ◌+◌, ◌<◌, ◌≤◌, Bool, true, false, List, [], ◌∷◌, ◌++◌, map, length, max, slice_index, Some, None, IsSomeAnd, ◌*◌, min, Result, IfOk}
+use Rattle.std.specs.Prelude.{◌≡◌, ◌≢◌, ℕ, ◌+◌, ◌<◌, ◌≤◌, Bool, true, false, List, [], ◌∷◌}
+use Rattle.std.specs.Prelude.{◌++◌, map, length, max, slice_index, Some, None, IsSomeAnd, ◌*◌, min, Result, IfOk}
 use mathlib.Core.Option.{Option, some}
 use lib.ListN.{get_elem?}
 use Rattle.atomic_table.specs.Table.{State, Me, Step, rest}
@@ -9,7 +10,7 @@ use Rattle.comp_tree.specs.Counts.{sum_below}
 use Rattle.strip_flood.specs.Jobs.{JobView}
 use Rattle.comp_tree.specs.Raster.{Raster}
 use Rattle.strip_crew.specs.Run.{Plan, Run, run_with, no_run, strips, IsSized, IsJobOf}
-use Rattle.strip_crew.specs.Counting.{SeatClaims, claim, fresh, spent, claims, passes, gives_back, splits, joins, total, holds_of, Counts}
+use Rattle.strip_crew.specs.Counting.{SeatClaims, claim, fresh, spent, claims, passes, gives_back, splits, joins, total_weight, holds_of, Counts}
 use Rattle.strip_crew.specs.Core.{Reached, Ends}
 use Rattle.strip_crew.specs.declared.view.View.{View}
 use Rattle.strip_crew.specs.declared.rule.Key.{Key}
@@ -41,7 +42,7 @@ pub record RuleHolds (run : Run) (s : State JobView View) : Type 0 where
   -- nobody claimed these strips yet: each waits in its slot, unflooded
   pub waiting : (i : ℕ) → slice_index s.words 0 ≤ i → i < strips run → IsHome run s.homes i false
   -- these were claimed and came back: each lies in its slot, flooded
-  pub done : (i : ℕ) → i < slice_index s.words 0 → i < strips run → total (holds_of i) (map claim_of s.views) ≡ 0 → IsHome run s.homes i true
+  pub done : (i : ℕ) → i < slice_index s.words 0 → i < strips run → total_weight (holds_of i) (map claim_of s.views) ≡ 0 → IsHome run s.homes i true
   -- each seat that wasn't joined away knows this run
   pub same_run : (j : ℕ) (v : View) → get_elem? s.views j ≡ some v → v.claim.joined ≡ false → v.of ≡ run
   -- the words and the views are those of the machine after some events
@@ -57,8 +58,8 @@ top [] = 0
 top (x ∷ xs) = max (x + 1) (top xs)
 
 -- the seat claimed strip i, which is greater than all that it had claimed, and holds its job, which isn't flooded
-abbrev pub Took : Seated → ℕ → Seated → Type 0
-Took m i n =
+abbrev pub TakesStrip : Seated → ℕ → Seated → Type 0
+TakesStrip m i n =
     (job : JobView) × (n ≡ (view (claims m.0.claim i) m.0.of, (i, job) ∷ m.1)) × IsJobOf m.0.of.plan i job × (job.flooded ≡ false) × (top m.0.claim.claimed ≤ i)
 
 -- a claim finds a strip, or it lies past the end
@@ -66,7 +67,7 @@ abbrev pub claimed : Step JobView → Seated → ℕ → Seated → Type 0
 claimed st m r n =
     (st.slots ≡ strips m.0.of)
     × (strips m.0.of ≤ 65535)
-    × (r < strips m.0.of → Took m r n)
+    × (r < strips m.0.of → TakesStrip m r n)
     × (strips m.0.of ≤ r → n ≡ (view (passes m.0.claim) m.0.of, m.1))
 
 -- the strip in hand was given back
@@ -126,7 +127,7 @@ pub record Settled (run : Run) (s : State JobView View) (j : ℕ) (v : View) : T
   pub word0 : slice_index s.words 0 ≡ strips run + run.workers
   pub word1 : slice_index s.words 1 ≡ strips run
   -- this seat's list holds each strip once, and nothing else
-  pub once : (h : ℕ → ℕ) → total h v.claim.claimed ≡ sum_below h (strips run)
+  pub once : (h : ℕ → ℕ) → total_weight h v.claim.claimed ≡ sum_below h (strips run)
   -- every job is home and flooded
   pub home : (i : ℕ) → i < strips run → IsHome run s.homes i true
   -- the events that led here have one claim and one give-back of each strip

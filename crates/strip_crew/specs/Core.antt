@@ -1,6 +1,6 @@
 -- Model: the claims of a run as a machine without threads.
 use Rattle.std.specs.Prelude.{◌≡◌, ◌≢◌, ℕ, ◌+◌, ◌<◌, ◌≤◌, ◌==◌, cond, false, List, [], ◌∷◌, ◌++◌, length, replicate, Some, None, slice_set, slice_index_or}
-use Rattle.strip_crew.specs.Counting.{SeatClaims, fresh, spent, claims, passes, gives_back, splits, joins, total, holds_of, Counts}
+use Rattle.strip_crew.specs.Counting.{SeatClaims, fresh, spent, claims, passes, gives_back, splits, joins, total_weight, holds_of, Counts}
 
 -- what a strip is: not yet claimed, in a hand, or given back flooded
 pub data Status : Type 0 where
@@ -95,7 +95,7 @@ pub record Keeps (n k : ℕ) (c : Core) : Type 0 where
   -- a strip from word 0 on is waiting
   pub waiting : (i : ℕ) → c.word0 ≤ i → i < n → status_of c i ≡ Waiting
   -- a strip below word 0 that is in no hand is flooded
-  pub flooded : (i : ℕ) → i < c.word0 → i < n → total (holds_of i) c.seats ≡ 0 → status_of c i ≡ Flooded
+  pub flooded : (i : ℕ) → i < c.word0 → i < n → total_weight (holds_of i) c.seats ≡ 0 → status_of c i ≡ Flooded
 
 -- 1 where the event is the claim of strip i
 abbrev pub is_claim : ℕ → Event → ℕ
@@ -116,10 +116,10 @@ is_give i (Joins j o) = 0
 -- whatever the machine did, its rule holds, and each strip was claimed at most once and given back at most once
 pub record Lawful (n k : ℕ) (events : List Event) (c : Core) : Type 0 where
   pub keeps : Keeps n k c
-  pub claimed_once : (i : ℕ) → total (is_claim i) events ≤ 1
-  pub given_once : (i : ℕ) → total (is_give i) events ≤ 1
+  pub claimed_once : (i : ℕ) → total_weight (is_claim i) events ≤ 1
+  pub given_once : (i : ℕ) → total_weight (is_give i) events ≤ 1
   -- a number that is no strip was neither claimed nor given back
-  pub none_past : (i : ℕ) → n ≤ i → (total (is_claim i) events ≡ 0) × (total (is_give i) events ≡ 0)
+  pub none_past : (i : ℕ) → n ≤ i → (total_weight (is_claim i) events ≡ 0) × (total_weight (is_give i) events ≡ 0)
 
 -- these words and seats are those of the machine after some events
 pub record Reached (n k word0 word1 : ℕ) (cs : List SeatClaims) : Type 0 where
@@ -132,17 +132,17 @@ abbrev pub CoreLaw : Type 0
 CoreLaw = (n k : ℕ) (events : List Event) (c : Core) → Leads n (start n k) events c → Lawful n k events c
 
 -- one seat made all claims past the end and has no strip in hand
-abbrev pub IsLast : ℕ → Core → ℕ → Type 0
-IsLast k c j = (j < length c.seats) × ((seat_at c j).past ≡ k) × ((seat_at c j).hand ≡ None)
+abbrev pub IsLastToLeave : ℕ → Core → ℕ → Type 0
+IsLastToLeave k c j = (j < length c.seats) × ((seat_at c j).past ≡ k) × ((seat_at c j).hand ≡ None)
 
 -- at the end, each strip was claimed once and given back once
 abbrev pub CoreEnds : Type 0
 CoreEnds =
-    (n k : ℕ) (events : List Event) (c : Core) (j : ℕ) → 0 < k → Leads n (start n k) events c → IsLast k c j
-    → (i : ℕ) → i < n → (total (is_claim i) events ≡ 1) × (total (is_give i) events ≡ 1)
+    (n k : ℕ) (events : List Event) (c : Core) (j : ℕ) → 0 < k → Leads n (start n k) events c → IsLastToLeave k c j
+    → (i : ℕ) → i < n → (total_weight (is_claim i) events ≡ 1) × (total_weight (is_give i) events ≡ 1)
 
 -- these words and seats are those of the machine after some events, among which each strip was claimed once and given back once
 pub record Ends (n k word0 word1 : ℕ) (cs : List SeatClaims) : Type 0 where
   pub reached : Reached n k word0 word1 cs
-  pub claimed_once : (i : ℕ) → i < n → total (is_claim i) reached.events ≡ 1
-  pub given_once : (i : ℕ) → i < n → total (is_give i) reached.events ≡ 1
+  pub claimed_once : (i : ℕ) → i < n → total_weight (is_claim i) reached.events ≡ 1
+  pub given_once : (i : ℕ) → i < n → total_weight (is_give i) reached.events ≡ 1

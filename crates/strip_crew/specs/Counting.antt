@@ -41,12 +41,12 @@ abbrev pub joins : SeatClaims → SeatClaims → SeatClaims
 joins c d = claim (c.claimed ++ d.claimed) None (c.past + d.past) (c.due + d.due)
 
 -- what the items weigh together
-abbrev pub total : {A : Type 0} → (A → ℕ) → List A → ℕ
-total weight [] = 0
-total weight (item ∷ items) = weight item + total weight items
+abbrev pub total_weight : {A : Type 0} → (A → ℕ) → List A → ℕ
+total_weight weight [] = 0
+total_weight weight (item ∷ items) = weight item + total_weight weight items
 
 abbrev pub weight_of : (ℕ → ℕ) → SeatClaims → ℕ
-weight_of h c = total h c.claimed
+weight_of h c = total_weight h c.claimed
 
 abbrev pub count_of : SeatClaims → ℕ
 count_of c = length c.claimed
@@ -76,14 +76,14 @@ holds_of r c = one_if_is r c.hand
 -- n strips, k workers, the two words, and the seats
 pub record Counts (n k word0 word1 : ℕ) (cs : List SeatClaims) : Type 0 where
   -- the lists of all seats hold each strip below the smaller of word 0 and n once, and no other number
-  pub once : (h : ℕ → ℕ) → total (weight_of h) cs ≡ sum_below h (min word0 n)
+  pub once : (h : ℕ → ℕ) → total_weight (weight_of h) cs ≡ sum_below h (min word0 n)
   -- word 0 is the length of all lists and the number of claims past the end
-  pub counted : word0 ≡ total count_of cs + total past_of cs
+  pub counted : word0 ≡ total_weight count_of cs + total_weight past_of cs
   -- a strip in hand is the last of its seat's list
   pub last : (j : ℕ) (c : SeatClaims) (i : ℕ) → get_elem? cs j ≡ some c → c.hand ≡ Some i → (before : List ℕ) × (c.claimed ≡ before ++ i ∷ [])
   -- word 1 and the number of strips in hand are the length of all lists
-  pub given : word1 + total hands_of cs ≡ total count_of cs
+  pub given : word1 + total_weight hands_of cs ≡ total_weight count_of cs
   -- the claims past the end, made and due, are as many as the workers
-  pub ends : total due_of cs + total past_of cs ≡ k
+  pub ends : total_weight due_of cs + total_weight past_of cs ≡ k
   -- a seat that claimed a strip made a claim past the end or has one due
   pub owing : (j : ℕ) (c : SeatClaims) → get_elem? cs j ≡ some c → 0 < length c.claimed → 0 < c.due + c.past

@@ -5,7 +5,7 @@ ghost use Rattle.atomic_table.specs.Table.{rest};
 ghost use Rattle.strip_flood.specs.Jobs.{SuitsStrip};
 ghost use Rattle.strip_crew.specs.Run.{strips};
 ghost use Rattle.strip_crew.specs.Counting.{fresh, passes, gives_back};
-ghost use Rattle.strip_crew.specs.Claims.{view, Took, MayClaim, HasEnded, IsOver, HoldsSlot, IsFloodedFrom, IsStripJob};
+ghost use Rattle.strip_crew.specs.Claims.{view, TakesStrip, MayClaim, HasEnded, IsOver, HoldsSlot, IsFloodedFrom, IsStripJob};
 
 use crate::gate::Gate;
 use crate::rule::{Claim, ClaimSeat, ClaimTable, Give};
@@ -23,7 +23,7 @@ fn claim(table: &ClaimTable, seat: &mut ClaimSeat) -> u64
     ensures same { (seat.new.table_id ≡ seat.old.table_id) × (seat.new.id ≡ seat.old.id) }
     ensures slots { table.now.shared.table_id.slots ≡ strips seat.old.me.0.of }
     ensures few { strips seat.old.me.0.of ≤ 65535 }
-    ensures strip { result < strips seat.old.me.0.of → Took seat.old.me result seat.new.me }
+    ensures strip { result < strips seat.old.me.0.of → TakesStrip seat.old.me result seat.new.me }
     ensures end { strips seat.old.me.0.of ≤ result →
         seat.new.me ≡ (view (passes seat.old.me.0.claim) seat.old.me.0.of, seat.old.me.1) }
 {

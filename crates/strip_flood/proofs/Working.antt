@@ -181,18 +181,18 @@ inner_agree v w width connect first count a = sum_same (λ i. count_below (λ j.
           ∙ ap (λ o. is_some (value_at w (first + i)) && is_some o && are_neighbours connect width (first + i) (first + j)) y
 
 -- the strip lies in the plane
-pub strip_small : (width height first_row end_row count : ℕ) → IsWithinLimits width height → first_row < end_row → end_row ≤ height → count ≡ (end_row - first_row) * width → first_row * width + count ≤ 16777216
+pub strip_small : (width height first_row end_row count : ℕ) → IsWithinLimits width height → first_row < end_row → end_row ≤ height → count ≡ (end_row - first_row) * width → first_row * width + count ≤ 2 ^ 24
 strip_small width height first_row end_row count limits l h e = by (end_row - first_row) (omega arith) e where
-  by : (n : ℕ) → first_row + n ≡ end_row → count ≡ n * width → first_row * width + count ≤ 16777216
+  by : (n : ℕ) → first_row + n ≡ end_row → count ≡ n * width → first_row * width + count ≤ 2 ^ 24
   by n at c = let whole : (first_row + n) * width ≤ height * width = mul-le-mul_right width (omega arith) in
-      let limit : width * height ≤ 16777216 = limits.few_pixels in omega arith
+      let limit : width * height ≤ 2 ^ 24 = limits.few_pixels in omega arith
 
 -- the strip of a job that is prepared
 pub strip_known : (connect : Connect) (width height first_row end_row : ℕ) (ranks : Vec ℕ Global) (levels : Vec ℤ Global) (offsets : List ℕ) → IsWithinLimits width height → first_row < end_row → end_row ≤ height
     → length ranks.items ≡ (end_row - first_row) * width → IsRising levels.items → HasOffsets connect width offsets
     → IsStrip (record { connect = connect; width = width; first = first_row * width; ranks = ranks; levels = levels; offsets = offsets })
 strip_known connect width height first_row end_row ranks levels offsets limits rows inside count rising far =
-    let small : first_row * width + length ranks.items ≤ 16777216 = strip_small width height first_row end_row (length ranks.items) limits rows inside count in
+    let small : first_row * width + length ranks.items ≤ 2 ^ 24 = strip_small width height first_row end_row (length ranks.items) limits rows inside count in
     record {
       ranked = job_ranked (plane_values (first_row * width) levels.items ranks.items) width connect (first_row * width) ranks.items levels.items limits.some_columns (omega arith) rising (λ i l. plane_at (first_row * width) levels.items ranks.items i);
       narrow = limits.few_columns;

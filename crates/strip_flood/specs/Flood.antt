@@ -1,5 +1,6 @@
 -- Bookkeeping: the flooding of one strip: what does not change, the state, and what holds between two turns.
-use Rattle.std.specs.Prelude.{◌≡◌, ℕ, ◌+◌, ◌-◌, ◌*◌, ◌/◌, ◌%◌, ◌<◌, ◌≤◌, nat_lt, cond, Bool, ◌&&◌, IsTrue, List, [], length, slice_index, Contains, Option, ℤ, ◌⊎◌}
+use Rattle.std.specs.Prelude.{◌≡◌, ℕ, ◌+◌, ◌-◌, ◌*◌, ◌/◌, ◌%◌, ◌<◌, ◌≤◌, nat_lt, cond}
+use Rattle.std.specs.Prelude.{Bool, ◌&&◌, IsTrue, List, [], length, slice_index, Contains, Option, ℤ, ◌⊎◌}
 use Rattle.comp_tree.specs.declared.shape.Connect.{Connect}
 use Rattle.comp_tree.specs.declared.shape.Connect.TheVariants.{Four, Eight}
 use Rattle.comp_tree.specs.Forest.{no_node, value_at, IsDefined, IsAtLeast, IsEarlier, IsWithin, IsHigh, link_of, IsLink, IsForest}
@@ -85,7 +86,8 @@ pub record IsRanked (g : Ground) : Type 0 where
   pub small : g.first + length g.ranks ≤ no_node
   pub there : (p : ℕ) → IsOf g p → IsDefined (value_at g.values p) → rank_of g p < g.size
   pub value : (p : ℕ) → IsOf g p → rank_of g p < g.size → IsDefined (value_at g.values p)
-  pub up : (h : ℤ) (p q : ℕ) → IsOf g p → IsOf g q → rank_of g p ≤ rank_of g q → rank_of g q < g.size → IsAtLeast h (value_at g.values p) → IsAtLeast h (value_at g.values q)
+  pub up : (h : ℤ) (p q : ℕ) → IsOf g p → IsOf g q → rank_of g p ≤ rank_of g q → rank_of g q < g.size
+      → IsAtLeast h (value_at g.values p) → IsAtLeast h (value_at g.values q)
   pub less : (p q : ℕ) → IsOf g p → IsOf g q → rank_of g p < rank_of g q → rank_of g q < g.size → IsEarlier g.values p q
   pub same : (p q : ℕ) → IsOf g p → IsOf g q → rank_of g p ≡ rank_of g q → rank_of g q < g.size → p < q → IsEarlier g.values p q
 
@@ -101,8 +103,10 @@ pub record IsKeptAt (g : Ground) (cursors : List ℕ) (r e : ℕ) : Type 0 where
 
 -- at each level, links and open pixels are joined, and join what was looked at
 pub record IsJoining (g : Ground) (s : State) : Type 0 where
-  pub sound : (h : ℤ) → IsSound (IsHigh g.values g.first (length g.ranks) h) (IsInner g.values g.width g.connect g.first (length g.ranks)) (IsLink g.first s.links) (IsOpen g s.cursors s.earliest)
-  pub complete : (h : ℤ) → IsComplete (IsHigh g.values g.first (length g.ranks) h) (IsLooked g s.cursors) (IsLink g.first s.links) (IsOpen g s.cursors s.earliest)
+  pub sound : (h : ℤ) → IsSound (IsHigh g.values g.first (length g.ranks) h) (IsInner g.values g.width g.connect g.first (length g.ranks))
+      (IsLink g.first s.links) (IsOpen g s.cursors s.earliest)
+  pub complete : (h : ℤ) → IsComplete (IsHigh g.values g.first (length g.ranks) h) (IsLooked g s.cursors) (IsLink g.first s.links)
+      (IsOpen g s.cursors s.earliest)
 
 -- what holds between two turns, and while a pixel is finished
 pub record IsFair (g : Ground) (s : State) : Type 0 where
@@ -167,7 +171,8 @@ seen_count cursors = count_below (λ i. nat_lt 0 (slice_index cursors i)) (lengt
 
 -- the pixels at the places i and j are adjacent, and i looked at j
 abbrev pub is_looked : Ground → List ℕ → ℕ → ℕ → Bool
-is_looked g cursors i j = are_adjacent g.values g.width g.connect (g.first + i) (g.first + j) && nat_lt (direction g.connect g.width (g.first + i) (g.first + j) + 1) (slice_index cursors i)
+is_looked g cursors i j = are_adjacent g.values g.width g.connect (g.first + i) (g.first + j)
+    && nat_lt (direction g.connect g.width (g.first + i) (g.first + j) + 1) (slice_index cursors i)
 
 -- how many ordered adjacencies of the strip were looked at
 abbrev pub looks : Ground → List ℕ → ℕ

@@ -1,5 +1,6 @@
 -- Model: what contracts see of a strip's job.
-use Rattle.std.specs.Prelude.{◌≡◌, ℕ, ◌+◌, ◌-◌, ◌*◌, ◌<◌, ◌≤◌, Bool, true, false, List, length, slice_index_or, slice_get, slice_index, Contains, Option, Some, None, ℤ, pos, ◌<ℤ◌}
+use Rattle.std.specs.Prelude.{◌≡◌, ℕ, ◌+◌, ◌-◌, ◌*◌, ◌<◌, ◌≤◌, Bool, true, false, List}
+use Rattle.std.specs.Prelude.{length, slice_index_or, slice_get, slice_index, Contains, Option, Some, None, ℤ, pos, ◌<ℤ◌}
 use Rattle.comp_tree.specs.declared.shape.Connect.{Connect}
 use Rattle.comp_tree.specs.Counts.{count_defined}
 use Rattle.comp_tree.specs.Forest.{value_at, IsForest, StandsFor}
@@ -51,7 +52,16 @@ pub record IsStandingWhereFlooded (j : JobView) : Type 0 where
 
 -- what contracts see of these fields
 abbrev pub view_of : ℕ → ℕ → ℕ → ℕ → Strip → Flood → Bool → JobView
-view_of width height first_row end_row strip flood flooded = record { width = width; height = height; connect = strip.connect; first_row = first_row; end_row = end_row; values = ranked_values strip.levels.items strip.ranks.items; flooded = flooded; links = flood.links.items }
+view_of width height first_row end_row strip flood flooded = record {
+  width = width;
+  height = height;
+  connect = strip.connect;
+  first_row = first_row;
+  end_row = end_row;
+  values = ranked_values strip.levels.items strip.ranks.items;
+  flooded = flooded;
+  links = flood.links.items;
+}
 
 -- what is true of the fields of each job
 pub record HasJobFields (width height first_row end_row : ℕ) (strip : Strip) (flood : Flood) (flooded : Bool) : Type 0 where

@@ -31,7 +31,7 @@ state_of f = state f.queue.lists f.cursors.items f.earliest.items f.links.items
 pub record IsStrip (s : Strip) : Type 0 where
   pub ranked : IsRanked (ground_of s)
   pub narrow : s.width ≤ 65535
-  pub few : s.first + length s.ranks.items ≤ 16777216
+  pub few : s.first + length s.ranks.items ≤ 2 ^ 24
   pub offsets : HasOffsets s.connect s.width s.offsets
 
 -- what holds between two turns of the flooding
@@ -49,7 +49,8 @@ IsCurrent s f rank pixel = IsAtFront (ground_of s) (state_of f) rank pixel
 
 -- what some steps did with the cursors and the two counters
 abbrev pub IsStepOf : Strip → Flood → Flood → ℕ → ℕ → ℕ → ℕ → Type 0
-IsStepOf s old new queued_old queued_new looked_old looked_new = IsStep (ground_of s) old.cursors.items new.cursors.items queued_old queued_new looked_old looked_new
+IsStepOf s old new queued_old queued_new looked_old looked_new =
+    IsStep (ground_of s) old.cursors.items new.cursors.items queued_old queued_new looked_old looked_new
 
 -- the current pixel has no direction left
 pub record IsTurned (s : Strip) (f : Flood) (rank pixel : ℕ) : Type 0 where

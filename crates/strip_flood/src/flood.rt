@@ -45,8 +45,8 @@ struct Current {
 impl Flood {
     /// The memory for a strip of so many pixels and ranks. No other call takes any.
     pub(crate) fn new(alloc: Global, count: u32, ranks: u32) -> Result<Flood, OutOfMemory>
-        requires count { count ≤ 16777216 }
-        requires ranks { ranks ≤ 16777216 }
+        requires count { count ≤ 2 ^ 24 }
+        requires ranks { ranks ≤ 2 ^ 24 }
         ensures fresh { IfOk result (λ flood. IsFresh count ranks flood) }
     {
         let queue = LevelQueue::new(alloc, count, ranks)?;

@@ -18,9 +18,9 @@ use Rattle.survey_core.specs.declared.fault.Stop.{Stop}
 use Rattle.survey_core.specs.declared.fault.Stop.TheVariants.{Refused, ReadFault, WriteFault, NoMemory, KeeperFault}
 use Rattle.survey_core.specs.declared.fault.Fault.TheVariants.{TruncatedTable, RowNumber, NotCatalogue, TooManyRows}
 use Rattle.survey_core.specs.Tables.{IsNumbered}
-use Rattle.survey_core.specs.Faults.{stop_at_hdu}
-use Rattle.survey_core.specs.Catalogues.{Reading, accepted, rejected, taken_of, cells_in, row_bytes, table_cells, is_misnumbered, first_misnumbered, numbered, table_of, beyond, is_catalogue, most_rows, reading_by, catalogue_of}
-use Rattle.survey_core.specs.Reads.{Short, IsRow, AreRows, IsAccepted, IsRejected, MayLackIn}
+use Rattle.survey_core.specs.Faults.{survey_stop_at_hdu}
+use Rattle.survey_core.specs.Catalogues.{Reading, accepted, rejected, taken_of, row_cells, row_bytes, table_cells, is_misnumbered, first_misnumbered, numbered, table_of, beyond, is_catalogue, most_rows, reading_by, catalogue_in}
+use Rattle.survey_core.specs.Reads.{Short, IsRow, AreTableRows, IsAccepted, IsRejected, MayLackIn}
 
 -- ---- bytes that are gone
 
@@ -39,18 +39,18 @@ pads_to size = omega arith
 
 -- ---- rows
 
-pub table_more : (bytes : List ℕ) (n : ℕ) → table_cells bytes (n + 1) ≡ table_cells bytes n ++ cells_in (row_bytes bytes n)
+pub table_more : (bytes : List ℕ) (n : ℕ) → table_cells bytes (n + 1) ≡ table_cells bytes n ++ row_cells (row_bytes bytes n)
 unfolding table_cells
 table_more bytes n = rw add-one refl
 
-pub no_rows : (bytes : List ℕ) (left : Option (List ℕ)) (cells : List ℤ) → left ≡ Some bytes → cells ≡ [] → AreRows bytes 0 left cells
+pub no_rows : (bytes : List ℕ) (left : Option (List ℕ)) (cells : List ℤ) → left ≡ Some bytes → cells ≡ [] → AreTableRows bytes 0 left cells
 unfolding table_cells
 no_rows bytes left cells is none = record { cells_are = none; takes = record { within = omega arith; rest = is } }
 
-pub rows_more : (bytes : List ℕ) (k : ℕ) (a b : Option (List ℕ)) (row : List ℕ) (cells cells' more : List ℤ) → AreRows bytes k a cells → IsRow (drop (96 * k) bytes) b row → more ≡ cells_in row → cells' ≡ cells ++ more
-    → AreRows bytes (k + 1) b cells'
+pub rows_more : (bytes : List ℕ) (k : ℕ) (a b : Option (List ℕ)) (row : List ℕ) (cells cells' more : List ℤ) → AreTableRows bytes k a cells → IsRow (drop (96 * k) bytes) b row → more ≡ row_cells row → cells' ≡ cells ++ more
+    → AreTableRows bytes (k + 1) b cells'
 rows_more bytes k a b row cells cells' more rows here is all = record {
-  cells_are = all ∙ ap₂ ◌++◌ rows.cells_are (is ∙ ap cells_in here.row_is) ∙ sym (table_more bytes k);
+  cells_are = all ∙ ap₂ ◌++◌ rows.cells_are (is ∙ ap row_cells here.row_is) ∙ sym (table_more bytes k);
   takes = subst (Takes bytes b) (omega arith) (Takes-after bytes a b (96 * k) 96 rows.takes here.takes);
 }
 
@@ -61,7 +61,7 @@ row_read bytes left n buf fills is long = record {
   takes = subst (Takes bytes left) is fills.takes;
 }
 
-pub rows_short : (bytes : List ℕ) (k count : ℕ) (a b : Option (List ℕ)) (cells : List ℤ) (stop : Stop) → AreRows bytes k a cells → k < count → Short (drop (96 * k) bytes) 96 b stop → Short bytes (96 * count) b stop
+pub rows_short : (bytes : List ℕ) (k count : ℕ) (a b : Option (List ℕ)) (cells : List ℤ) (stop : Stop) → AreTableRows bytes k a cells → k < count → Short (drop (96 * k) bytes) 96 b stop → Short bytes (96 * count) b stop
 rows_short bytes k count a b cells (Refused fault) rows h short =
     let long = length-drop (96 * k) bytes in
     let all : 96 * k + length (drop (96 * k) bytes) ≡ length bytes = omega (arith, long, rows.takes.within) in
@@ -71,7 +71,7 @@ rows_short bytes k count a b cells WriteFault rows h short = short
 rows_short bytes k count a b cells NoMemory rows h short = at_most bytes b (96 * k + 96) (96 * count) (TakesAtMost-after bytes a b (96 * k) 96 rows.takes short) (omega arith)
 rows_short bytes k count a b cells KeeperFault rows h short = short
 
-pub rows_wanted : (bytes : List ℕ) (k count : ℕ) (a b : Option (List ℕ)) (row : List ℕ) (cells : List ℤ) → AreRows bytes k a cells → k < count → IsRow (drop (96 * k) bytes) b row → TakesAtMost bytes b (96 * count)
+pub rows_wanted : (bytes : List ℕ) (k count : ℕ) (a b : Option (List ℕ)) (row : List ℕ) (cells : List ℤ) → AreTableRows bytes k a cells → k < count → IsRow (drop (96 * k) bytes) b row → TakesAtMost bytes b (96 * count)
 rows_wanted bytes k count a b row cells rows h here =
     taken_at_most bytes b (96 * k + 96) (96 * count) (Takes-after bytes a b (96 * k) 96 rows.takes here.takes) (omega arith)
 
@@ -125,7 +125,7 @@ table_cut bytes rows left WriteFault short = short
 table_cut bytes rows left NoMemory short = (table_wants bytes rows, lost_within bytes left (96 * rows) _ short (table_takes bytes rows))
 table_cut bytes rows left KeeperFault short = short
 
-pub table_misnumbered : (bytes : List ℕ) (rows i row : ℕ) (left : Option (List ℕ)) (cells : List ℤ) → AreRows bytes rows left cells → Some i ≡ first_misnumbered cells → row ≡ i + 1
+pub table_misnumbered : (bytes : List ℕ) (rows i row : ℕ) (left : Option (List ℕ)) (cells : List ℤ) → AreTableRows bytes rows left cells → Some i ≡ first_misnumbered cells → row ≡ i + 1
     → IsRejected (table_of bytes rows) bytes left (Refused (RowNumber row))
 table_misnumbered bytes rows i row left cells all first is = (
   96 * rows,
@@ -134,7 +134,7 @@ table_misnumbered bytes rows i row left cells all first is = (
   all.takes,
 )
 
-module _ (bytes : List ℕ) (rows : ℕ) (a : Option (List ℕ)) (cells : List ℤ) (all : AreRows bytes rows a cells) (first : None ≡ first_misnumbered cells) (pad : ℕ) (pad_is : pad ≡ (2880 - 96 * rows % 2880) % 2880) where
+module _ (bytes : List ℕ) (rows : ℕ) (a : Option (List ℕ)) (cells : List ℤ) (all : AreTableRows bytes rows a cells) (first : None ≡ first_misnumbered cells) (pad : ℕ) (pad_is : pad ≡ (2880 - 96 * rows % 2880) % 2880) where
   whole : table_of bytes rows ≡ accepted cells (min (padded (96 * rows)) (length bytes))
   whole = table_whole bytes rows all.takes.within ∙ ap (numbered bytes (96 * rows) (table_cells bytes rows)) (ap first_misnumbered (sym all.cells_are) ∙ sym first)
       ∙ ap (λ c. accepted c (min (padded (96 * rows)) (length bytes))) (sym all.cells_are)
@@ -191,18 +191,18 @@ hdu_takes bytes (found hdu head) = by (is_catalogue hdu) (nat_lt most_rows hdu.h
     by true false = beyond_takes head (table_of (drop head bytes) hdu.height)
     by false b = omega arith
 
-is_refused : (bytes : List ℕ) (fault : HduFault) (taken : ℕ) → find_of bytes 2 ≡ refused fault taken → catalogue_of bytes ≡ rejected (stop_at_hdu fault) taken
-unfolding catalogue_of reading_by
+is_refused : (bytes : List ℕ) (fault : HduFault) (taken : ℕ) → find_of bytes 2 ≡ refused fault taken → catalogue_in bytes ≡ rejected (survey_stop_at_hdu fault) taken
+unfolding catalogue_in reading_by
 is_refused bytes fault taken is = rw is refl
 
-gone_within : (bytes : List ℕ) (left : Option (List ℕ)) → TakesAtMost bytes left (taken_by (find_of bytes 2)) → TakesAtMost bytes left (taken_of (catalogue_of bytes))
-unfolding catalogue_of
+gone_within : (bytes : List ℕ) (left : Option (List ℕ)) → TakesAtMost bytes left (taken_by (find_of bytes 2)) → TakesAtMost bytes left (taken_of (catalogue_in bytes))
+unfolding catalogue_in
 gone_within bytes left gone = at_most bytes left _ _ gone (hdu_takes bytes (find_of bytes 2))
 
-pub no_hdu : (bytes : List ℕ) (left : Option (List ℕ)) (fault : HduFault) (stop : Stop) → stop ≡ stop_at_hdu fault → Stopped (find_of bytes 2) bytes left fault → IsRejected (catalogue_of bytes) bytes left stop
-no_hdu bytes left fault stop is stopped = subst (IsRejected (catalogue_of bytes) bytes left) (sym is) (by fault stopped)
+pub no_hdu : (bytes : List ℕ) (left : Option (List ℕ)) (fault : HduFault) (stop : Stop) → stop ≡ survey_stop_at_hdu fault → Stopped (find_of bytes 2) bytes left fault → IsRejected (catalogue_in bytes) bytes left stop
+no_hdu bytes left fault stop is stopped = subst (IsRejected (catalogue_in bytes) bytes left) (sym is) (by fault stopped)
   where
-    by : (fault : HduFault) → Stopped (find_of bytes 2) bytes left fault → IsRejected (catalogue_of bytes) bytes left (stop_at_hdu fault)
+    by : (fault : HduFault) → Stopped (find_of bytes 2) bytes left fault → IsRejected (catalogue_in bytes) bytes left (survey_stop_at_hdu fault)
     by hdu.NotFits s = (s.0, is_refused bytes hdu.NotFits s.0 s.1, s.2)
     by hdu.TruncatedHeader s = (s.0, is_refused bytes hdu.TruncatedHeader s.0 s.1, s.2)
     by (hdu.BadKeyword h k) s = (s.0, is_refused bytes (hdu.BadKeyword h k) s.0 s.1, s.2)
@@ -214,17 +214,17 @@ no_hdu bytes left fault stop is stopped = subst (IsRejected (catalogue_of bytes)
     by hdu.ReadFault s = gone_within bytes left s
 
 pub no_table : (bytes : List ℕ) (head : ℕ) (hdu : Hdu) (left : Option (List ℕ)) → find_of bytes 2 ≡ found hdu head → Takes bytes left head → is_catalogue hdu ≡ false
-    → (x : ℕ) × (catalogue_of bytes ≡ rejected (Refused NotCatalogue) x) × Takes bytes left x
-unfolding catalogue_of reading_by
+    → (x : ℕ) × (catalogue_in bytes ≡ rejected (Refused NotCatalogue) x) × Takes bytes left x
+unfolding catalogue_in reading_by
 no_table bytes head hdu left is takes none = (head, rw (is, none) refl, takes)
 
 pub too_many : (bytes : List ℕ) (head : ℕ) (hdu : Hdu) (left : Option (List ℕ)) → find_of bytes 2 ≡ found hdu head → Takes bytes left head → is_catalogue hdu ≡ true → most_rows < hdu.height
-    → (x : ℕ) × (catalogue_of bytes ≡ rejected (Refused TooManyRows) x) × Takes bytes left x
-unfolding catalogue_of reading_by
+    → (x : ℕ) × (catalogue_in bytes ≡ rejected (Refused TooManyRows) x) × Takes bytes left x
+unfolding catalogue_in reading_by
 too_many bytes head hdu left is takes some many = (head, rw (is, some, lt_true most_rows hdu.height many) refl, takes)
 
-table_there : (bytes : List ℕ) (head : ℕ) (hdu : Hdu) → find_of bytes 2 ≡ found hdu head → is_catalogue hdu ≡ true → hdu.height ≤ most_rows → catalogue_of bytes ≡ beyond head (table_of (drop head bytes) hdu.height)
-unfolding catalogue_of reading_by
+table_there : (bytes : List ℕ) (head : ℕ) (hdu : Hdu) → find_of bytes 2 ≡ found hdu head → is_catalogue hdu ≡ true → hdu.height ≤ most_rows → catalogue_in bytes ≡ beyond head (table_of (drop head bytes) hdu.height)
+unfolding catalogue_in reading_by
 table_there bytes head hdu is some few = rw (is, some, lt_false most_rows hdu.height few) refl
 
 beyond_wants : (head : ℕ) (reading : Reading) → MayLackIn reading → MayLackIn (beyond head reading)
@@ -252,7 +252,7 @@ beyond_cut bytes head a b reading KeeperFault takes cut = cut
 -- the table behind its header
 pub behind_header : {C : Type 0} (items : C → List ℤ) (bytes : List ℕ) (head : ℕ) (hdu : Hdu) (a b : Option (List ℕ)) (r : Result C Stop) → find_of bytes 2 ≡ found hdu head → Takes bytes a head → is_catalogue hdu ≡ true → hdu.height ≤ most_rows
     → MatchResult r (λ cells. IsAccepted (table_of (drop head bytes) hdu.height) (drop head bytes) b (items cells)) (IsRejected (table_of (drop head bytes) hdu.height) (drop head bytes) b)
-    → MatchResult r (λ cells. IsAccepted (catalogue_of bytes) bytes b (items cells)) (IsRejected (catalogue_of bytes) bytes b)
+    → MatchResult r (λ cells. IsAccepted (catalogue_in bytes) bytes b (items cells)) (IsRejected (catalogue_in bytes) bytes b)
 behind_header items bytes head hdu a b (Ok cells) is takes some few read =
     rw (table_there bytes head hdu is some few) (beyond_read bytes head a b (table_of (drop head bytes) hdu.height) (items cells) takes read)
 behind_header items bytes head hdu a b (Err stop) is takes some few cut =

@@ -10,13 +10,13 @@ use Rattle.survey_core.specs.declared.top.End.TheVariants.{Done, Usage, Stopped}
 use Rattle.survey_core.specs.Tables.{Table}
 use Rattle.survey_core.specs.Commands.{read, some_commands, file_words, further, commands_of}
 use Rattle.command_line.specs.Notes.{usage_line}
-use Rattle.survey_core.specs.Answers.{answer_by, answer, status_of, note_of}
-use Rattle.survey_core.specs.Runs.{Answers, EndTells, EndCause}
+use Rattle.survey_core.specs.Answers.{session_answer_by, session_answer, session_status, session_note}
+use Rattle.survey_core.specs.Runs.{SessionAnswers, EndTells, SessionEndCause}
 use Rattle.survey_core.specs.Headline.{IsCutWith}
 
 -- a word is at fault
 pub at_fault : (commands : Result (List Command) ℕ) (usage : AtFault) (bytes : List ℕ) (ts : List Table) (a : Option (List ℕ)) (k : Option (List Table)) (w : Option (List ℕ)) (settled : Bool) → commands ≡ Err (usage.word - 1) → 0 < usage.word
-    → a ≡ Some bytes → k ≡ Some ts → Answers (answer_by commands bytes ts) bytes a k w w settled (Usage usage)
+    → a ≡ Some bytes → k ≡ Some ts → SessionAnswers (session_answer_by commands bytes ts) bytes a k w w settled (Usage usage)
 at_fault commands usage bytes ts a k w settled is some e t = rw is (record {
   end_is = ap (λ n. Usage (record { word = n })) (omega (arith, some));
   takes = record { within = omega arith; rest = e };
@@ -40,7 +40,7 @@ with_commands words P is_read h = by (some_commands (drop (file_words words) wor
 
 module _ (words : List (List ℕ)) (bytes : List ℕ) (ts : List Table) (b : Option (List ℕ)) (m : Option (List Table)) (w u : Option (List ℕ)) (settled : Bool) (status : ℕ) where
   -- a status from 3 on comes where a command was cut short
-  pub cut_with : (end : End) → EndTells (commands_of words) bytes ts b m w u settled end → status ≡ status_of end → 3 ≤ status → IsCutWith words bytes ts b m w u status
+  pub cut_with : (end : End) → EndTells (commands_of words) bytes ts b m w u settled end → status ≡ session_status end → 3 ≤ status → IsCutWith words bytes ts b m w u status
   cut_with Done tells is high = absurd (omega (arith, is, high))
   cut_with (Usage usage) tells is high = absurd (omega (arith, is, high))
   cut_with (Stopped (Refused fault)) tells is high = absurd (omega (arith, is, high))
@@ -50,7 +50,7 @@ module _ (words : List (List ℕ)) (bytes : List ℕ) (ts : List Table) (b : Opt
   cut_with (Stopped KeeperFault) tells is high = record { stop = KeeperFault; status_is = is; cut = tells }
 
   -- a lesser one is the answer's
-  pub answers_end : (end : End) → EndTells (commands_of words) bytes ts b m w u settled end → status ≡ status_of end → status < 3 → (answer words bytes ts).end ≡ end
+  pub answers_end : (end : End) → EndTells (commands_of words) bytes ts b m w u settled end → status ≡ session_status end → status < 3 → (session_answer words bytes ts).end ≡ end
   answers_end Done tells is low = tells.end_is
   answers_end (Usage usage) tells is low = tells.end_is
   answers_end (Stopped (Refused fault)) tells is low = tells.end_is
@@ -60,12 +60,12 @@ module _ (words : List (List ℕ)) (bytes : List ℕ) (ts : List Table) (b : Opt
   answers_end (Stopped KeeperFault) tells is low = absurd (omega (arith, is, low))
 
 -- the line of a word at fault
-pub word_noted : (commands : Result (List Command) ℕ) (at : ℕ) (settled : Bool) (source source' sink sink' keeper keeper' : ℕ) (end : End) → commands ≡ Err at → EndCause commands settled source source' sink sink' keeper keeper' end
-    → note_of end ≡ usage_line (at + 1)
+pub word_noted : (commands : Result (List Command) ℕ) (at : ℕ) (settled : Bool) (source source' sink sink' keeper keeper' : ℕ) (end : End) → commands ≡ Err at → SessionEndCause commands settled source source' sink sink' keeper keeper' end
+    → session_note end ≡ usage_line (at + 1)
 word_noted commands at settled source source' sink sink' keeper keeper' end is cause =
-    by end (subst (λ (r : Result (List Command) ℕ). EndCause r settled source source' sink sink' keeper keeper' end) is cause)
+    by end (subst (λ (r : Result (List Command) ℕ). SessionEndCause r settled source source' sink sink' keeper keeper' end) is cause)
   where
-    by : (end : End) → EndCause (Err at) settled source source' sink sink' keeper keeper' end → note_of end ≡ usage_line (at + 1)
+    by : (end : End) → SessionEndCause (Err at) settled source source' sink sink' keeper keeper' end → session_note end ≡ usage_line (at + 1)
     by Done cause = absurd cause
     by (Usage usage) cause = ap usage_line cause
     by (Stopped stop) cause = absurd cause

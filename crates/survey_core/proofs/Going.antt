@@ -13,13 +13,13 @@ use Rattle.survey_core.specs.declared.fault.Stop.TheVariants.{Refused, ReadFault
 use Rattle.survey_core.specs.declared.fault.Fault.{Fault}
 use Rattle.survey_core.specs.declared.fault.Fault.TheVariants.{NoSuchField}
 use Rattle.survey_core.specs.declared.top.End.TheVariants.{Done, Stopped}
-use Rattle.survey_core.specs.Tables.{Table, cells_of, without}
+use Rattle.survey_core.specs.Tables.{Table, cells_of_field, without}
 use Rattle.survey_core.specs.Commands.{read, front, width}
-use Rattle.survey_core.specs.Catalogues.{Reading, accepted, rejected, catalogue_of}
-use Rattle.survey_core.specs.Sessions.{Outcome, nothing, added, changes, fails, effect, joined, joined_unless, followed_by, session}
-use Rattle.survey_core.specs.Steps.{Does, IsCut, Step, SettledBy, Cause, is_printing}
-use Rattle.survey_core.specs.Answers.{answer_to, end_at}
-use Rattle.survey_core.specs.Runs.{Answers, IsCutIn, StopTells, StopsIn}
+use Rattle.survey_core.specs.Catalogues.{Reading, accepted, rejected, catalogue_in}
+use Rattle.survey_core.specs.Sessions.{Outcome, nothing, added, changes, fails, effect, joined_outcomes, joined_unless, followed_by, session}
+use Rattle.survey_core.specs.Steps.{Does, IsCutCommand, Step, SettledBy, Cause, is_printing}
+use Rattle.survey_core.specs.Answers.{answer_to_outcome, session_end}
+use Rattle.survey_core.specs.Runs.{SessionAnswers, IsCutIn, StopTells, StopsIn}
 use Rattle.survey_core.proofs.Wording.{read_front, no_front, behind_ok}
 
 -- ---- outcomes one after the other
@@ -35,31 +35,31 @@ or_assoc : (a b d : Bool) → a || (b || d) ≡ (a || b) || d
 or_assoc true b d = refl
 or_assoc false b d = refl
 
-nothing_first : (ts : List Table) (o : Outcome) → joined (nothing ts) o ≡ o
-nothing_first ts o = same_outcome (joined (nothing ts) o) o refl refl (zero-add o.taken) refl refl
+nothing_first : (ts : List Table) (o : Outcome) → joined_outcomes (nothing ts) o ≡ o
+nothing_first ts o = same_outcome (joined_outcomes (nothing ts) o) o refl refl (zero-add o.taken) refl refl
 
-nothing_last : (o : Outcome) → o.stop ≡ None → joined o (nothing o.tables) ≡ o
-nothing_last o e = same_outcome (joined o (nothing o.tables)) o (sym e) (append-nil o.output) (omega arith) refl (or_false o.printed)
+nothing_last : (o : Outcome) → o.stop ≡ None → joined_outcomes o (nothing o.tables) ≡ o
+nothing_last o e = same_outcome (joined_outcomes o (nothing o.tables)) o (sym e) (append-nil o.output) (omega arith) refl (or_false o.printed)
 
-joined_assoc : (a b d : Outcome) → joined a (joined b d) ≡ joined (joined a b) d
+joined_assoc : (a b d : Outcome) → joined_outcomes a (joined_outcomes b d) ≡ joined_outcomes (joined_outcomes a b) d
 joined_assoc a b d = same_outcome _ _ refl (sym (append_assoc a.output b.output d.output)) (omega arith) refl (or_assoc a.printed b.printed d.printed)
 
 pub session_app : (bytes : List ℕ) (ts : List Table) (xs ys : List Command) → (session bytes ts xs).stop ≡ None
-    → session bytes ts (xs ++ ys) ≡ joined (session bytes ts xs) (session (drop (session bytes ts xs).taken bytes) (session bytes ts xs).tables ys)
+    → session bytes ts (xs ++ ys) ≡ joined_outcomes (session bytes ts xs) (session (drop (session bytes ts xs).taken bytes) (session bytes ts xs).tables ys)
 unfolding session
 session_app bytes ts [] ys passed = sym (nothing_first ts (session bytes ts ys))
 session_app bytes ts (x ∷ xs) ys passed =
     go (effect bytes ts x) (session (drop (effect bytes ts x).taken bytes) (effect bytes ts x).tables xs) passed (session_app (drop (effect bytes ts x).taken bytes) (effect bytes ts x).tables xs ys)
   where
     go : (e s : Outcome) → (followed_by e s).stop ≡ None
-        → (s.stop ≡ None → session (drop e.taken bytes) e.tables (xs ++ ys) ≡ joined s (session (drop s.taken (drop e.taken bytes)) s.tables ys))
-        → followed_by e (session (drop e.taken bytes) e.tables (xs ++ ys)) ≡ joined (followed_by e s) (session (drop (followed_by e s).taken bytes) (followed_by e s).tables ys)
+        → (s.stop ≡ None → session (drop e.taken bytes) e.tables (xs ++ ys) ≡ joined_outcomes s (session (drop s.taken (drop e.taken bytes)) s.tables ys))
+        → followed_by e (session (drop e.taken bytes) e.tables (xs ++ ys)) ≡ joined_outcomes (followed_by e s) (session (drop (followed_by e s).taken bytes) (followed_by e s).tables ys)
     go e s passed more = by e.stop refl passed
       where
         by : (o : Option Stop) → e.stop ≡ o → (joined_unless o e s).stop ≡ None
-            → joined_unless o e (session (drop e.taken bytes) e.tables (xs ++ ys)) ≡ joined (joined_unless o e s) (session (drop (joined_unless o e s).taken bytes) (joined_unless o e s).tables ys)
+            → joined_unless o e (session (drop e.taken bytes) e.tables (xs ++ ys)) ≡ joined_outcomes (joined_unless o e s) (session (drop (joined_unless o e s).taken bytes) (joined_unless o e s).tables ys)
         by (Some stop) h p = absurd (let bad : Some stop ≡ None = sym h ∙ p in cc)
-        by None h p = ap (joined e) (more p) ∙ joined_assoc e s _ ∙ ap (λ b. joined (joined e s) (session b s.tables ys)) (drop-drop s.taken e.taken bytes)
+        by None h p = ap (joined_outcomes e) (more p) ∙ joined_assoc e s _ ∙ ap (λ b. joined_outcomes (joined_outcomes e s) (session b s.tables ys)) (drop-drop s.taken e.taken bytes)
 
 alone : (bytes : List ℕ) (ts : List Table) (x : Command) → (effect bytes ts x).stop ≡ None → session bytes ts (x ∷ []) ≡ effect bytes ts x
 unfolding session
@@ -72,16 +72,16 @@ stopped bytes ts x ys stop h = ap (λ o. joined_unless o (effect bytes ts x) (se
 -- one command more
 pub session_more : (bytes : List ℕ) (ts : List Table) (xs : List Command) (x : Command) → (session bytes ts xs).stop ≡ None
     → (effect (drop (session bytes ts xs).taken bytes) (session bytes ts xs).tables x).stop ≡ None
-    → session bytes ts (xs ++ x ∷ []) ≡ joined (session bytes ts xs) (effect (drop (session bytes ts xs).taken bytes) (session bytes ts xs).tables x)
+    → session bytes ts (xs ++ x ∷ []) ≡ joined_outcomes (session bytes ts xs) (effect (drop (session bytes ts xs).taken bytes) (session bytes ts xs).tables x)
 session_more bytes ts xs x passed here =
-    session_app bytes ts xs (x ∷ []) passed ∙ ap (joined (session bytes ts xs)) (alone (drop (session bytes ts xs).taken bytes) (session bytes ts xs).tables x here)
+    session_app bytes ts xs (x ∷ []) passed ∙ ap (joined_outcomes (session bytes ts xs)) (alone (drop (session bytes ts xs).taken bytes) (session bytes ts xs).tables x here)
 
 -- one that has a fault
 pub session_stops : (bytes : List ℕ) (ts : List Table) (xs : List Command) (x : Command) (ys : List Command) (stop : Stop) → (session bytes ts xs).stop ≡ None
     → (effect (drop (session bytes ts xs).taken bytes) (session bytes ts xs).tables x).stop ≡ Some stop
-    → session bytes ts (xs ++ x ∷ ys) ≡ joined (session bytes ts xs) (effect (drop (session bytes ts xs).taken bytes) (session bytes ts xs).tables x)
+    → session bytes ts (xs ++ x ∷ ys) ≡ joined_outcomes (session bytes ts xs) (effect (drop (session bytes ts xs).taken bytes) (session bytes ts xs).tables x)
 session_stops bytes ts xs x ys stop passed here =
-    session_app bytes ts xs (x ∷ ys) passed ∙ ap (joined (session bytes ts xs)) (stopped (drop (session bytes ts xs).taken bytes) (session bytes ts xs).tables x ys stop here)
+    session_app bytes ts xs (x ∷ ys) passed ∙ ap (joined_outcomes (session bytes ts xs)) (stopped (drop (session bytes ts xs).taken bytes) (session bytes ts xs).tables x ys stop here)
 
 -- ---- so far
 
@@ -123,12 +123,12 @@ any-snoc (y ∷ xs) x = ap (λ b. is_printing y || b) (any-snoc xs x) ∙ or_ass
 
 -- a command that is done prints if it is one of those that print
 prints_as : (bytes : List ℕ) (ts : List Table) (x : Command) → (effect bytes ts x).stop ≡ None → (effect bytes ts x).printed ≡ is_printing x
-prints_as bytes ts (Add field) h = by (catalogue_of bytes)
+prints_as bytes ts (Add field) h = by (catalogue_in bytes)
   where
     by : (reading : Reading) → (added field ts reading).printed ≡ false
     by (accepted cells taken) = refl
     by (rejected stop taken) = refl
-prints_as bytes ts (Drop field) h = by (is_some (cells_of field ts))
+prints_as bytes ts (Drop field) h = by (is_some (cells_of_field field ts))
   where
     by : (b : Bool) → (cond b (changes 0 (without field ts)) (fails (Refused NoSuchField) 0 ts)).printed ≡ false
     by true = refl
@@ -138,12 +138,12 @@ prints_as bytes ts (Brightest k) h = refl
 
 -- one with a fault prints nothing
 prints_none : (bytes : List ℕ) (ts : List Table) (x : Command) (stop : Stop) → (effect bytes ts x).stop ≡ Some stop → (effect bytes ts x).printed ≡ false
-prints_none bytes ts (Add field) stop h = by (catalogue_of bytes)
+prints_none bytes ts (Add field) stop h = by (catalogue_in bytes)
   where
     by : (reading : Reading) → (added field ts reading).printed ≡ false
     by (accepted cells taken) = refl
     by (rejected stop taken) = refl
-prints_none bytes ts (Drop field) stop h = by (is_some (cells_of field ts))
+prints_none bytes ts (Drop field) stop h = by (is_some (cells_of_field field ts))
   where
     by : (b : Bool) → (cond b (changes 0 (without field ts)) (fails (Refused NoSuchField) 0 ts)).printed ≡ false
     by true = refl
@@ -194,15 +194,15 @@ module _ (commands : List Command) (words : List (List ℕ)) (at : ℕ) (left a 
   -- it has a fault
   pub faulty : (fault : Fault) (bytes : List ℕ) → left ≡ Some bytes → (ts : List Table) → tables ≡ Some ts
       → ((bytes : List ℕ) → a ≡ Some bytes → (ts : List Table) → k ≡ Some ts → Does (effect bytes ts x) bytes b m v u (Some (Refused fault))) → settled' ≡ settled
-      → Answers (answer_to (session bytes ts commands)) bytes b m w u settled' (Stopped (Refused fault))
+      → SessionAnswers (answer_to_outcome (session bytes ts commands)) bytes b m w u settled' (Stopped (Refused fault))
   faulty fault bytes e ts t bytes_do settles =
       let far = going.told bytes e ts t in
       let s = session bytes ts going.before in
       let does = bytes_do (drop s.taken bytes) far.does.takes.rest s.tables far.does.tables_are in
       let o = effect (drop s.taken bytes) s.tables x in
-      subst (λ (r : Outcome). Answers (answer_to r) bytes b m w u settled' (Stopped (Refused fault)))
+      subst (λ (r : Outcome). SessionAnswers (answer_to_outcome r) bytes b m w u settled' (Stopped (Refused fault)))
       (sym (ap (session bytes ts) commands_are ∙ session_stops bytes ts going.before x next.0 (Refused fault) far.does.stop_is does.stop_is)) (record {
-        end_is = ap end_at does.stop_is;
+        end_is = ap session_end does.stop_is;
         takes = Takes-after bytes a b s.taken o.taken far.does.takes does.takes;
         tables_are = does.tables_are;
         appended = Appends-trans w v u s.output o.output far.does.appended does.appended;
@@ -211,7 +211,7 @@ module _ (commands : List Command) (words : List (List ℕ)) (at : ℕ) (left a 
 
   -- it was cut short
   pub cut_here : (stop : Stop) (bytes : List ℕ) → left ≡ Some bytes → (ts : List Table) → tables ≡ Some ts
-      → ((bytes : List ℕ) → a ≡ Some bytes → (ts : List Table) → k ≡ Some ts → IsCut (effect bytes ts x) x bytes ts b m v u stop) → IsCutIn commands bytes ts b m w u stop
+      → ((bytes : List ℕ) → a ≡ Some bytes → (ts : List Table) → k ≡ Some ts → IsCutCommand (effect bytes ts x) x bytes ts b m v u stop) → IsCutIn commands bytes ts b m w u stop
   cut_here stop bytes e ts t bytes_cut =
       let far = going.told bytes e ts t in
       let s = session bytes ts going.before in
@@ -254,11 +254,11 @@ module _ (commands : List Command) (words : List (List ℕ)) (at : ℕ) (left a 
   all_before : commands ≡ going.before
   all_before = going.split ∙ ap (λ l. going.before ++ l) (no_front (drop at words) at_fault going.rest none going.rest_is) ∙ append-nil going.before
 
-  pub finished : (bytes : List ℕ) → left ≡ Some bytes → (ts : List Table) → tables ≡ Some ts → Answers (answer_to (session bytes ts commands)) bytes a k w v settled Done
+  pub finished : (bytes : List ℕ) → left ≡ Some bytes → (ts : List Table) → tables ≡ Some ts → SessionAnswers (answer_to_outcome (session bytes ts commands)) bytes a k w v settled Done
   finished bytes e ts t =
       let far = going.told bytes e ts t in
-      subst (λ (l : List Command). Answers (answer_to (session bytes ts l)) bytes a k w v settled Done) (sym all_before) (record {
-        end_is = ap end_at far.does.stop_is;
+      subst (λ (l : List Command). SessionAnswers (answer_to_outcome (session bytes ts l)) bytes a k w v settled Done) (sym all_before) (record {
+        end_is = ap session_end far.does.stop_is;
         takes = far.does.takes;
         tables_are = far.does.tables_are;
         appended = far.does.appended;

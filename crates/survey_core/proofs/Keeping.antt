@@ -5,9 +5,9 @@ use Rattle.std.specs.Option.{ForSome}
 use Rattle.std.specs.List.{flat_map}
 use Rattle.std.proofs.lemmas.List.{take_more, map-append, get_or-map, length-map}
 use Rattle.survey_core.specs.declared.listing.Summary.{Summary}
-use Rattle.survey_core.specs.Tables.{Table, AreInOrder, Among, cells_of, names_of}
+use Rattle.survey_core.specs.Tables.{Table, AreInOrder, Among, cells_of_field, names_of}
 use Rattle.survey_core.specs.Clauses.{Stays}
-use Rattle.survey_core.specs.Listings.{summary_of}
+use Rattle.survey_core.specs.Listings.{table_summary}
 use Rattle.survey_core.specs.Ranking.{rows_of, all_rows}
 use Rattle.survey_core.proofs.TableLemmas.{cells_found}
 
@@ -39,10 +39,10 @@ among_at [] i d h = absurd (omega arith)
 among_at (x ∷ xs) zero d h = inl refl
 among_at (x ∷ xs) (suc i) d h = inr (among_at xs i d (omega arith))
 
-pub table_at : (ts : List Table) (i : ℕ) (d name : List ℕ) (cells : List ℤ) (t : Table) → AreInOrder ts → i < length ts → name ≡ get_or (names_of ts) i d → cells ≡ unwrap_or (cells_of name ts) [] → (name, cells) ≡ get_or ts i t
+pub table_at : (ts : List Table) (i : ℕ) (d name : List ℕ) (cells : List ℤ) (t : Table) → AreInOrder ts → i < length ts → name ≡ get_or (names_of ts) i d → cells ≡ unwrap_or (cells_of_field name ts) [] → (name, cells) ≡ get_or ts i t
 table_at ts i d name cells t up h named is =
     let name_is : name ≡ (get_or ts i t).0 = named ∙ get_or-map (λ (u : Table). u.0) ts i t d h in
-    let cells_are : cells ≡ (get_or ts i t).1 = is ∙ ap (λ f. unwrap_or (cells_of f ts) []) name_is ∙ ap (λ o. unwrap_or o []) (cells_found ts (get_or ts i t) up (among_at ts i t h)) in
+    let cells_are : cells ≡ (get_or ts i t).1 = is ∙ ap (λ f. unwrap_or (cells_of_field f ts) []) name_is ∙ ap (λ o. unwrap_or o []) (cells_found ts (get_or ts i t) up (among_at ts i t h)) in
     ap₂ (λ a b. (a, b)) name_is cells_are
 
 pub names_long : (ts : List Table) → length (names_of ts) ≡ length ts
@@ -53,10 +53,10 @@ name_at ts names got i name copy is same are copied = copied ∙ is ∙ ap (λ l
 
 -- ---- one field more
 
-pub summaries_more : (ts : List Table) (i : ℕ) (t : Table) (items items' : List Summary) (s : Summary) → i < length ts → items ≡ map summary_of (take i ts) → items' ≡ items ++ s ∷ [] → s ≡ summary_of (get_or ts i t)
-    → items' ≡ map summary_of (take (i + 1) ts)
+pub summaries_more : (ts : List Table) (i : ℕ) (t : Table) (items items' : List Summary) (s : Summary) → i < length ts → items ≡ map table_summary (take i ts) → items' ≡ items ++ s ∷ [] → s ≡ table_summary (get_or ts i t)
+    → items' ≡ map table_summary (take (i + 1) ts)
 summaries_more ts i t items items' s h so_far more is =
-    more ∙ ap₂ (λ a b. a ++ b ∷ []) so_far is ∙ sym (map-append summary_of (take i ts) (get_or ts i t ∷ [])) ∙ sym (ap (map summary_of) (take_more ts i t h))
+    more ∙ ap₂ (λ a b. a ++ b ∷ []) so_far is ∙ sym (map-append table_summary (take i ts) (get_or ts i t ∷ [])) ∙ sym (ap (map table_summary) (take_more ts i t h))
 
 flat_map-append : {X A : Type 0} (f : X → List A) (xs ys : List X) → flat_map f (xs ++ ys) ≡ flat_map f xs ++ flat_map f ys
 flat_map-append f [] ys = refl

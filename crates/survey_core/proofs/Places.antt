@@ -11,7 +11,7 @@ use Rattle.survey_core.specs.declared.ranking.Row.{Row}
 use Rattle.survey_core.specs.Fields.{name_cmp}
 use Rattle.survey_core.specs.Tables.{Table, AreTables, IsNumbered, Among}
 use Rattle.survey_core.specs.Listings.{rows_in}
-use Rattle.survey_core.specs.Ranking.{row_cmp, comes_before, place_in, at_place, ranked, row_of, rows_of, all_rows}
+use Rattle.survey_core.specs.Ranking.{row_cmp, comes_before, place_in, at_place, ranked, ranking_row, rows_of, all_rows}
 use Rattle.survey_core.specs.Ranks.{with_row, with_rows}
 use Rattle.survey_core.proofs.TableLemmas.{same_name, never_before}
 use Rattle.survey_core.proofs.RankLemmas.{order, never_itself, not_both, before_later}
@@ -277,21 +277,21 @@ equal_parts a b h =
 pos_same : (m n : ℕ) → pos m ≡ pos n → m ≡ n
 pos_same m n e = ap unsigned_abs e
 
-number_at : (field : List ℕ) (cells : List ℤ) (i : ℕ) → IsNumbered cells → i < rows_in cells → (row_of field cells i).number ≡ pos (i + 1)
-unfolding row_of
+number_at : (field : List ℕ) (cells : List ℤ) (i : ℕ) → IsNumbered cells → i < rows_in cells → (ranking_row field cells i).number ≡ pos (i + 1)
+unfolding ranking_row
 number_at field cells i numbered h =
     let place : 17 * i + 0 ≡ 17 * i = omega arith in
     ap (λ k. get_or cells k (pos 0)) place ∙ get_or_from_slice_get cells (17 * i) (pos (i + 1)) (pos 0) (numbered.numbers i (omega (arith, h)))
 
 module _ (field : List ℕ) (cells : List ℤ) (numbered : IsNumbered cells) where
-  later_differ : (i a n : ℕ) → i < a → a + n ≤ rows_in cells → AllByRecursion (Differs (row_of field cells i)) (map (row_of field cells) (range_with_len a n))
+  later_differ : (i a n : ℕ) → i < a → a + n ≤ rows_in cells → AllByRecursion (Differs (ranking_row field cells i)) (map (ranking_row field cells) (range_with_len a n))
   later_differ i a zero less fits = tt
   later_differ i a (suc n) less fits = (
-    λ e. let same = sym (number_at field cells i numbered (omega (arith, less, fits))) ∙ (equal_parts (row_of field cells i) (row_of field cells a) e).1 ∙ number_at field cells a numbered (omega (arith, fits)) in absurd (let bad = pos_same (i + 1) (a + 1) same in omega (arith, bad, less)),
+    λ e. let same = sym (number_at field cells i numbered (omega (arith, less, fits))) ∙ (equal_parts (ranking_row field cells i) (ranking_row field cells a) e).1 ∙ number_at field cells a numbered (omega (arith, fits)) in absurd (let bad = pos_same (i + 1) (a + 1) same in omega (arith, bad, less)),
     later_differ i (a + 1) n (omega (arith, less)) (omega (arith, fits)),
   )
 
-  rows_from : (a n : ℕ) → a + n ≤ rows_in cells → Distinct (map (row_of field cells) (range_with_len a n))
+  rows_from : (a n : ℕ) → a + n ≤ rows_in cells → Distinct (map (ranking_row field cells) (range_with_len a n))
   rows_from a zero fits = tt
   rows_from a (suc n) fits = (later_differ a (a + 1) n (omega arith) (omega (arith, fits)), rows_from (a + 1) n (omega (arith, fits)))
 
@@ -307,8 +307,8 @@ distinct_append : (xs ys : List Row) → Distinct xs → Distinct ys → Apart x
 distinct_append [] ys a b apart = b
 distinct_append (x ∷ xs) ys a b apart = (all_append (Differs x) xs ys a.0 apart.0, distinct_append xs ys a.1 b apart.1)
 
-fields_from : (P : List ℕ → Type 0) (field : List ℕ) (cells : List ℤ) (a n : ℕ) → P field → AllByRecursion (λ r. P r.field) (map (row_of field cells) (range_with_len a n))
-unfolding row_of
+fields_from : (P : List ℕ → Type 0) (field : List ℕ) (cells : List ℤ) (a n : ℕ) → P field → AllByRecursion (λ r. P r.field) (map (ranking_row field cells) (range_with_len a n))
+unfolding ranking_row
 fields_from P field cells a zero h = tt
 fields_from P field cells a (suc n) h = (h, fields_from P field cells (a + 1) n h)
 

@@ -7,7 +7,7 @@ use Rattle.survey_core.specs.declared.words.Command.{Command}
 use Rattle.survey_core.specs.declared.fault.Stop.TheVariants.{WriteFault}
 use Rattle.survey_core.specs.Tables.{Table}
 use Rattle.survey_core.specs.Sessions.{prints}
-use Rattle.survey_core.specs.Steps.{Does, IsCut, is_printing}
+use Rattle.survey_core.specs.Steps.{Does, IsCutCommand, is_printing}
 
 pub none_taken : (bytes : List ℕ) → Takes bytes (Some bytes) 0
 none_taken bytes = record { within = omega arith; rest = refl }
@@ -22,7 +22,7 @@ pub printed : (bytes lines : List ℕ) (ts : List Table) (k : Option (List Table
 printed bytes lines ts k a b c is put kept = record { stop_is = refl; takes = none_taken bytes; tables_are = is; appended = appends_kept a b c lines put kept }
 
 pub cut_short : (bytes lines : List ℕ) (ts : List Table) (k : Option (List Table)) (command : Command) (a b : Option (List ℕ)) → is_printing command ≡ true → k ≡ Some ts → AppendsPrefix a b lines
-    → IsCut (prints lines ts) command bytes ts (Some bytes) k a b WriteFault
+    → IsCutCommand (prints lines ts) command bytes ts (Some bytes) k a b WriteFault
 cut_short bytes lines ts k command a b prints_it is put = record {
   may_come = prints_it;
   lost = record { count = 0; few = omega arith; takes = none_taken bytes };
@@ -35,6 +35,6 @@ cut_short bytes lines ts k command a b prints_it is put = record {
 }
 
 pub not_done : (bytes lines : List ℕ) (ts : List Table) (k : Option (List Table)) (command : Command) (a b c : Option (List ℕ)) → is_printing command ≡ true → k ≡ Some ts → Appends a b lines → Keeps b c
-    → IsCut (prints lines ts) command bytes ts (Some bytes) k a c WriteFault
+    → IsCutCommand (prints lines ts) command bytes ts (Some bytes) k a c WriteFault
 not_done bytes lines ts k command a b c prints_it is put kept =
     cut_short bytes lines ts k command a c prints_it is (record { front = lines; rest = []; split = sym (append-nil lines); appended = appends_kept a b c lines put kept })

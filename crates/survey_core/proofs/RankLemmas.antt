@@ -9,7 +9,7 @@ use Rattle.std.specs.Cmp.Rules.{comparing}
 use Rattle.std.proofs.lemmas.List.{take_more}
 use Rattle.std.proofs.lemmas.List.FromFn.{get_or-map-range_with_len, length-map-range_with_len}
 use Rattle.survey_core.specs.declared.ranking.Row.{Row}
-use Rattle.survey_core.specs.Ranking.{row_cmp, comes_before, row_of, rows_of, all_rows}
+use Rattle.survey_core.specs.Ranking.{row_cmp, comes_before, ranking_row, rows_of, all_rows}
 use Rattle.survey_core.specs.Listings.{rows_in}
 use Rattle.survey_core.specs.Ranks.{AreRanked, with_row, with_rows}
 
@@ -193,11 +193,11 @@ with_all xs1 xs2 xs = sym (with_rows-append xs1 xs2 xs)
 
 pub rows_long : (field : List ℕ) (cells : List ℤ) → length (rows_of (field, cells)) ≡ rows_in cells
 unfolding rows_of
-rows_long field cells = length-map-range_with_len (row_of field cells) 0 (rows_in cells)
+rows_long field cells = length-map-range_with_len (ranking_row field cells) 0 (rows_in cells)
 
-pub row_at : (field : List ℕ) (cells : List ℤ) (i : ℕ) (d : Row) → i < rows_in cells → row_of field cells i ≡ get_or (rows_of (field, cells)) i d
+pub row_at : (field : List ℕ) (cells : List ℤ) (i : ℕ) (d : Row) → i < rows_in cells → ranking_row field cells i ≡ get_or (rows_of (field, cells)) i d
 unfolding rows_of
-row_at field cells i d h = sym (get_or-map-range_with_len (row_of field cells) 0 (rows_in cells) i i d h (zero-add i))
+row_at field cells i d h = sym (get_or-map-range_with_len (ranking_row field cells) 0 (rows_in cells) i i d h (zero-add i))
 
 pub none_ranked : (most : ℕ) (items : List Row) → items ≡ [] → items ≡ take most (with_rows (all_rows []) [])
 unfolding all_rows

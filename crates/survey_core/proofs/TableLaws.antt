@@ -10,8 +10,8 @@ use Rattle.survey_core.specs.declared.fault.Stop.{Stop}
 use Rattle.survey_core.specs.declared.fault.Stop.TheVariants.{Refused}
 use Rattle.survey_core.specs.declared.fault.Fault.TheVariants.{NoSuchField}
 use Rattle.survey_core.specs.Fields.{name_cmp}
-use Rattle.survey_core.specs.Tables.{Table, cells_of, put, without}
-use Rattle.survey_core.specs.Catalogues.{Reading, accepted, rejected, catalogue_of}
+use Rattle.survey_core.specs.Tables.{Table, cells_of_field, put, without}
+use Rattle.survey_core.specs.Catalogues.{Reading, accepted, rejected, catalogue_in}
 use Rattle.survey_core.specs.Sessions.{Outcome, effect, added, changes, fails, followed_by, joined_unless, session}
 use Rattle.survey_core.specs.Laws.{is_on, NoneIsOn, UnnamedFieldsStay, LastAddIsKept, LastDropIsKept}
 use Rattle.survey_core.proofs.TableLemmas.{same_name, name_itself}
@@ -27,22 +27,22 @@ not_same a b other = by (name_cmp a b) refl
     by Equal e = absurd (other (same_name a b e))
     by Greater e = refl
 
-put_here : (field : List ℕ) (cells : List ℤ) (ts : List Table) → cells_of field (put field cells ts) ≡ Some cells
+put_here : (field : List ℕ) (cells : List ℤ) (ts : List Table) → cells_of_field field (put field cells ts) ≡ Some cells
 put_here field cells [] = rw (name_itself field) refl
 put_here field cells (t ∷ ts) = by (name_cmp t.0 field) refl (put_here field cells ts)
   where
-    by : (o : Ordering) → name_cmp t.0 field ≡ o → cells_of field (put field cells ts) ≡ Some cells
-        → cells_of field (match_ordering o (t ∷ put field cells ts) ((field, cells) ∷ ts) ((field, cells) ∷ t ∷ ts)) ≡ Some cells
+    by : (o : Ordering) → name_cmp t.0 field ≡ o → cells_of_field field (put field cells ts) ≡ Some cells
+        → cells_of_field field (match_ordering o (t ∷ put field cells ts) ((field, cells) ∷ ts) ((field, cells) ∷ t ∷ ts)) ≡ Some cells
     by Less e more = rw e more
     by Equal e more = rw (name_itself field) refl
     by Greater e more = rw (name_itself field) refl
 
-put_other : (field other : List ℕ) (cells : List ℤ) (ts : List Table) → field ≢ other → cells_of other (put field cells ts) ≡ cells_of other ts
+put_other : (field other : List ℕ) (cells : List ℤ) (ts : List Table) → field ≢ other → cells_of_field other (put field cells ts) ≡ cells_of_field other ts
 put_other field other cells [] differs = rw (not_same field other differs) refl
 put_other field other cells (t ∷ ts) differs = by (name_cmp t.0 field) refl (put_other field other cells ts differs)
   where
-    by : (o : Ordering) → name_cmp t.0 field ≡ o → cells_of other (put field cells ts) ≡ cells_of other ts
-        → cells_of other (match_ordering o (t ∷ put field cells ts) ((field, cells) ∷ ts) ((field, cells) ∷ t ∷ ts)) ≡ cells_of other (t ∷ ts)
+    by : (o : Ordering) → name_cmp t.0 field ≡ o → cells_of_field other (put field cells ts) ≡ cells_of_field other ts
+        → cells_of_field other (match_ordering o (t ∷ put field cells ts) ((field, cells) ∷ ts) ((field, cells) ∷ t ∷ ts)) ≡ cells_of_field other (t ∷ ts)
     by Less e more = ap (λ o. cond (is_eq (name_cmp t.0 other)) (Some t.1) o) more
     by Equal e more =
         let same = same_name t.0 field e in
@@ -50,20 +50,20 @@ put_other field other cells (t ∷ ts) differs = by (name_cmp t.0 field) refl (p
         rw (not_same field other differs, first) refl
     by Greater e more = rw (not_same field other differs) refl
 
-gone : (field : List ℕ) (ts : List Table) → cells_of field (without field ts) ≡ None
+gone : (field : List ℕ) (ts : List Table) → cells_of_field field (without field ts) ≡ None
 gone field [] = refl
 gone field (t ∷ ts) = by (name_cmp t.0 field) refl (gone field ts)
   where
-    by : (o : Ordering) → name_cmp t.0 field ≡ o → cells_of field (without field ts) ≡ None → cells_of field (cond (not (is_eq o)) (t ∷ without field ts) (without field ts)) ≡ None
+    by : (o : Ordering) → name_cmp t.0 field ≡ o → cells_of_field field (without field ts) ≡ None → cells_of_field field (cond (not (is_eq o)) (t ∷ without field ts) (without field ts)) ≡ None
     by Less e more = rw e more
     by Equal e more = more
     by Greater e more = rw e more
 
-without_other : (field other : List ℕ) (ts : List Table) → field ≢ other → cells_of other (without field ts) ≡ cells_of other ts
+without_other : (field other : List ℕ) (ts : List Table) → field ≢ other → cells_of_field other (without field ts) ≡ cells_of_field other ts
 without_other field other [] differs = refl
 without_other field other (t ∷ ts) differs = by (name_cmp t.0 field) refl (without_other field other ts differs)
   where
-    by : (o : Ordering) → name_cmp t.0 field ≡ o → cells_of other (without field ts) ≡ cells_of other ts → cells_of other (cond (not (is_eq o)) (t ∷ without field ts) (without field ts)) ≡ cells_of other (t ∷ ts)
+    by : (o : Ordering) → name_cmp t.0 field ≡ o → cells_of_field other (without field ts) ≡ cells_of_field other ts → cells_of_field other (cond (not (is_eq o)) (t ∷ without field ts) (without field ts)) ≡ cells_of_field other (t ∷ ts)
     by Less e more = ap (λ o. cond (is_eq (name_cmp t.0 other)) (Some t.1) o) more
     by Equal e more =
         let same = same_name t.0 field e in
@@ -79,15 +79,15 @@ itself a = search rules
 other_name : (a b : List ℕ) → bytes_eq a b ≡ false → a ≢ b
 other_name a b h e = let bad : bytes_eq b b ≡ false = subst (λ x. bytes_eq x b ≡ false) e h in let good = itself b in absurd (cc)
 
-unnamed : (bytes : List ℕ) (ts : List Table) (x : Command) (field : List ℕ) → is_on field x ≡ false → cells_of field (effect bytes ts x).tables ≡ cells_of field ts
-unnamed bytes ts (Add other) field h = by (catalogue_of bytes)
+unnamed : (bytes : List ℕ) (ts : List Table) (x : Command) (field : List ℕ) → is_on field x ≡ false → cells_of_field field (effect bytes ts x).tables ≡ cells_of_field field ts
+unnamed bytes ts (Add other) field h = by (catalogue_in bytes)
   where
-    by : (reading : Reading) → cells_of field (added other ts reading).tables ≡ cells_of field ts
+    by : (reading : Reading) → cells_of_field field (added other ts reading).tables ≡ cells_of_field field ts
     by (accepted cells taken) = put_other other field cells ts (other_name other field h)
     by (rejected stop taken) = refl
-unnamed bytes ts (Drop other) field h = by (is_some (cells_of other ts))
+unnamed bytes ts (Drop other) field h = by (is_some (cells_of_field other ts))
   where
-    by : (b : Bool) → cells_of field (cond b (changes 0 (without other ts)) (fails (Refused NoSuchField) 0 ts)).tables ≡ cells_of field ts
+    by : (b : Bool) → cells_of_field field (cond b (changes 0 (without other ts)) (fails (Refused NoSuchField) 0 ts)).tables ≡ cells_of_field field ts
     by true = without_other other field ts (other_name other field h)
     by false = refl
 unnamed bytes ts Listing field h = refl
@@ -114,7 +114,7 @@ unnamed_stay bytes ts (x ∷ xs) field none passed =
     let s = session (drop e.taken bytes) e.tables xs in
     let parts = or_parts (is_on field x) (list_any (is_on field) xs) none in
     let stop = stop_parts e s passed in
-    ap (λ (o : Outcome). cells_of field o.tables) stop.1
+    ap (λ (o : Outcome). cells_of_field field o.tables) stop.1
     ∙ unnamed_stay (drop e.taken bytes) e.tables xs field parts.1 (ap (λ (o : Outcome). o.stop) (sym stop.1) ∙ passed)
     ∙ unnamed bytes ts x field parts.0
 
@@ -127,12 +127,12 @@ front_passed bytes ts (x ∷ xs) ys passed =
     let more = front_passed (drop e.taken bytes) e.tables xs ys (ap (λ (o : Outcome). o.stop) (sym stop.1) ∙ passed) in
     ap (λ o. (joined_unless o e (session (drop e.taken bytes) e.tables xs)).stop) stop.0 ∙ more
 
-first_then : (b : List ℕ) (t : List Table) (x : Command) (ys : List Command) (field : List ℕ) → NoneIsOn field ys → (session b t (x ∷ ys)).stop ≡ None → cells_of field (session b t (x ∷ ys)).tables ≡ cells_of field (effect b t x).tables
+first_then : (b : List ℕ) (t : List Table) (x : Command) (ys : List Command) (field : List ℕ) → NoneIsOn field ys → (session b t (x ∷ ys)).stop ≡ None → cells_of_field field (session b t (x ∷ ys)).tables ≡ cells_of_field field (effect b t x).tables
 unfolding session
 first_then b t x ys field none rest =
     let e = effect b t x in
     let stop = stop_parts e (session (drop e.taken b) e.tables ys) rest in
-    ap (λ (o : Outcome). cells_of field o.tables) stop.1 ∙ unnamed_stay (drop e.taken b) e.tables ys field none (ap (λ (o : Outcome). o.stop) (sym stop.1) ∙ rest)
+    ap (λ (o : Outcome). cells_of_field field o.tables) stop.1 ∙ unnamed_stay (drop e.taken b) e.tables ys field none (ap (λ (o : Outcome). o.stop) (sym stop.1) ∙ rest)
 
 nothing_there : (o : Option (List ℤ)) → is_some o ≡ false → o ≡ None
 nothing_there None h = refl
@@ -140,27 +140,27 @@ nothing_there (Some x) h = absurd (cc)
 
 -- what the commands after a prefix give
 after_front : (bytes : List ℕ) (ts : List Table) (xs : List Command) (x : Command) (ys : List Command) (field : List ℕ) → NoneIsOn field ys → (session bytes ts (xs ++ x ∷ ys)).stop ≡ None
-    → cells_of field (session bytes ts (xs ++ x ∷ ys)).tables ≡ cells_of field (effect (drop (session bytes ts xs).taken bytes) (session bytes ts xs).tables x).tables
+    → cells_of_field field (session bytes ts (xs ++ x ∷ ys)).tables ≡ cells_of_field field (effect (drop (session bytes ts xs).taken bytes) (session bytes ts xs).tables x).tables
 after_front bytes ts xs x ys field none passed =
     let front = front_passed bytes ts xs (x ∷ ys) passed in
     let all = session_app bytes ts xs (x ∷ ys) front in
     let b = drop (session bytes ts xs).taken bytes in
     let t = (session bytes ts xs).tables in
     let rest : (session b t (x ∷ ys)).stop ≡ None = sym (ap (λ (o : Outcome). o.stop) all) ∙ passed in
-    ap (λ (o : Outcome). cells_of field o.tables) all ∙ first_then b t x ys field none rest
+    ap (λ (o : Outcome). cells_of_field field o.tables) all ∙ first_then b t x ys field none rest
 
 pub last_add : LastAddIsKept
 last_add bytes ts before after field cells taken none passed is =
     after_front bytes ts before (Add field) after field none passed
-    ∙ ap (λ (r : Reading). cells_of field (added field (session bytes ts before).tables r).tables) is ∙ put_here field cells (session bytes ts before).tables
+    ∙ ap (λ (r : Reading). cells_of_field field (added field (session bytes ts before).tables r).tables) is ∙ put_here field cells (session bytes ts before).tables
 
 pub last_drop : LastDropIsKept
 last_drop bytes ts before after field none passed =
-    after_front bytes ts before (Drop field) after field none passed ∙ by (is_some (cells_of field t)) refl
+    after_front bytes ts before (Drop field) after field none passed ∙ by (is_some (cells_of_field field t)) refl
   where
     t : List Table
     t = (session bytes ts before).tables
 
-    by : (b : Bool) → is_some (cells_of field t) ≡ b → cells_of field (cond b (changes 0 (without field t)) (fails (Refused NoSuchField) 0 t)).tables ≡ None
+    by : (b : Bool) → is_some (cells_of_field field t) ≡ b → cells_of_field field (cond b (changes 0 (without field t)) (fails (Refused NoSuchField) 0 t)).tables ≡ None
     by true e = gone field t
-    by false e = nothing_there (cells_of field t) e
+    by false e = nothing_there (cells_of_field field t) e

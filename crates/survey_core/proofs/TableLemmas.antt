@@ -6,7 +6,7 @@ use Rattle.std.proofs.lemmas.Cmp.{tied_itself, nat_list_cmp_total}
 use Rattle.std.proofs.lemmas.Bool.{cases_Bool}
 use Rattle.std.proofs.lemmas.Bool.Decides.{nat_tests}
 use Rattle.survey_core.specs.Fields.{name_cmp, is_name}
-use Rattle.survey_core.specs.Tables.{Table, IsTable, IsNumbered, AreTables, AreInOrder, Among, cells_of, put, without}
+use Rattle.survey_core.specs.Tables.{Table, IsFieldTable, IsNumbered, AreTables, AreInOrder, Among, cells_of_field, put, without}
 
 -- ---- names
 
@@ -109,16 +109,16 @@ same_field (x ∷ ts) t u up (inl p) (inr n) e = absurd (never_before x.0 u.0 (a
 same_field (x ∷ ts) t u up (inr m) (inl q) e = absurd (never_before x.0 t.0 (ap (λ (v : Table). v.0) (sym q) ∙ sym e) (above_first x ts t up m))
 same_field (x ∷ ts) t u up (inr m) (inr n) e = same_field ts t u up.1 m n e
 
-pub cells_found : (ts : List Table) (t : Table) → AreInOrder ts → Among ts t → cells_of t.0 ts ≡ Some t.1
+pub cells_found : (ts : List Table) (t : Table) → AreInOrder ts → Among ts t → cells_of_field t.0 ts ≡ Some t.1
 cells_found [] t up m = absurd m
 cells_found (x ∷ ts) t up (inl e) = rw (ap (λ (v : Table). v.0) (sym e), name_itself t.0) (ap (λ (v : Table). Some v.1) (sym e))
 cells_found (x ∷ ts) t up (inr m) = rw (above_first x ts t up m) (cells_found ts t up.1 m)
 
-pub cells_missing : (ts : List Table) (field : List ℕ) → ((t : Table) → Among ts t → t.0 ≢ field) → cells_of field ts ≡ None
+pub cells_missing : (ts : List Table) (field : List ℕ) → ((t : Table) → Among ts t → t.0 ≢ field) → cells_of_field field ts ≡ None
 cells_missing [] field none = refl
 cells_missing (x ∷ ts) field none = go (cells_missing ts field (λ t m. none t (inr m))) (name_cmp x.0 field) refl
   where
-    go : cells_of field ts ≡ None → (o : Ordering) → name_cmp x.0 field ≡ o → cells_of field (x ∷ ts) ≡ None
+    go : cells_of_field field ts ≡ None → (o : Ordering) → name_cmp x.0 field ≡ o → cells_of_field field (x ∷ ts) ≡ None
     go more Less e = rw e more
     go more Equal e = absurd (none x (inl refl) (same_name x.0 field e))
     go more Greater e = rw e more
@@ -221,14 +221,14 @@ all_without P field ts all = all_from P _ (λ x m. all_among P ts x all (without
 -- ---- tables stay tables
 
 pub put_are : (field : List ℕ) (cells : List ℤ) (ts us : List Table) → us ≡ put field cells ts → AreTables ts → is_name field ≡ true → IsNumbered cells → AreTables us
-put_are field cells ts us is are named numbered = subst AreTables (sym is) (order_put field cells ts are.0, all_put field cells IsTable ts (named, numbered) are.1)
+put_are field cells ts us is are named numbered = subst AreTables (sym is) (order_put field cells ts are.0, all_put field cells IsFieldTable ts (named, numbered) are.1)
 
 pub without_are : (field : List ℕ) (ts us : List Table) → us ≡ without field ts → AreTables ts → AreTables us
-without_are field ts us is are = subst AreTables (sym is) (order_without field ts are.0, all_without IsTable field ts are.1)
+without_are field ts us is are = subst AreTables (sym is) (order_without field ts are.0, all_without IsFieldTable field ts are.1)
 
 pub put_are_if : {X E : Type 0} (field : List ℕ) (cells : List ℤ) (ts us : List Table) (r : Result X E) → OnOk r (us ≡ put field cells ts) → OnErr r (us ≡ ts) → AreTables ts → is_name field ≡ true → IsNumbered cells → AreTables us
 put_are_if field cells ts us (Ok x) done kept are named numbered = put_are field cells ts us done are named numbered
 put_are_if field cells ts us (Err e) done kept are named numbered = subst AreTables (sym kept) are
 
-pub cells_put : (field : List ℕ) (cells : List ℤ) (ts : List Table) → AreInOrder ts → cells_of field (put field cells ts) ≡ Some cells
+pub cells_put : (field : List ℕ) (cells : List ℤ) (ts : List Table) → AreInOrder ts → cells_of_field field (put field cells ts) ≡ Some cells
 cells_put field cells ts up = cells_found (put field cells ts) (field, cells) (order_put field cells ts up) (put_there field cells ts)

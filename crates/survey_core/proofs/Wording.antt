@@ -10,7 +10,7 @@ use denote.Ref.{Bor}
 use Rattle.survey_core.specs.declared.words.Command.{Command}
 use Rattle.survey_core.specs.declared.words.Command.TheVariants.{Add, Drop, List as Listing, Brightest}
 use Rattle.command_line.specs.Lines.{texts}
-use Rattle.survey_core.specs.Commands.{read, front, width, behind, command_of, some_commands, file_words, further, commands_of}
+use Rattle.survey_core.specs.Commands.{read, front, width, behind, session_command, some_commands, file_words, further, commands_of}
 
 -- these commands of so many words, and what the words behind them mean
 abbrev pub onward : List Command → ℕ → Result (List Command) ℕ → Result (List Command) ℕ
@@ -66,16 +66,16 @@ all_read [] before at some h so_far = absurd (omega arith)
 all_read (w ∷ words) before at some h so_far = rw (so_far ∙ ap (λ ws. onward before at (read ws)) (drop_all at (w ∷ words) h)) refl
 
 -- the command at a place
-front_here : (words : List (List ℕ)) (at : ℕ) (d : List ℕ) → at < length words → front (drop at words) ≡ command_of (get_or words at d) (slice_get words (at + 1))
+front_here : (words : List (List ℕ)) (at : ℕ) (d : List ℕ) → at < length words → front (drop at words) ≡ session_command (get_or words at d) (slice_get words (at + 1))
 front_here [] at d h = absurd (omega arith)
 front_here (v ∷ []) zero d h = refl
 front_here (v ∷ u ∷ rest) zero d h = refl
 front_here (v ∷ rest) (suc at) d h = let here = simp unary_clauses at (front_here rest at d (omega arith)) in simp unary_clauses here
 
 pub front_at : (words : List (Bor (List ℕ))) (at : ℕ) (d : Bor (List ℕ)) (next : Option (List ℕ)) (r : Result Command ℕ) → at < length words → next ≡ slice_get (texts words) (at + 1)
-    → r ≡ command_of (get_or words at d).now next → r ≡ front (drop at (texts words))
+    → r ≡ session_command (get_or words at d).now next → r ≡ front (drop at (texts words))
 front_at words at d next r h next_is is =
-    is ∙ ap₂ command_of (sym (get_or-map (λ (word : Bor (List ℕ)). word.now) words at d [] h)) next_is
+    is ∙ ap₂ session_command (sym (get_or-map (λ (word : Bor (List ℕ)). word.now) words at d [] h)) next_is
     ∙ sym (front_here (texts words) at [] (omega (arith, length-map words (λ (word : Bor (List ℕ)). word.now))))
 
 -- a command has as many words as there are

@@ -10,32 +10,32 @@ use Rattle.survey_core.specs.declared.fault.Stop.TheVariants.{Refused, ReadFault
 use Rattle.survey_core.specs.declared.top.End.{End}
 use Rattle.survey_core.specs.declared.top.End.TheVariants.{Done, Usage, Stopped}
 use Rattle.survey_core.specs.Tables.{Table}
-use Rattle.survey_core.specs.Faults.{number_of, name_of}
+use Rattle.survey_core.specs.Faults.{survey_fault_number, survey_fault_name}
 use Rattle.survey_core.specs.Sessions.{Outcome, nothing, session}
 use Rattle.survey_core.specs.Commands.{commands_of}
 
 -- ---- the notes
 
 -- the number and the name of a fault, and the places that it names
-abbrev pub refusal_line : Fault → List ℕ
-refusal_line (BadKeyword hdu card) =
-    concat (codes "refused: " ∷ decimal (number_of (BadKeyword hdu card)) ∷ codes " " ∷ name_of (BadKeyword hdu card) ∷ codes " hdu " ∷ decimal hdu
+abbrev pub survey_refusal_line : Fault → List ℕ
+survey_refusal_line (BadKeyword hdu card) =
+    concat (codes "refused: " ∷ decimal (survey_fault_number (BadKeyword hdu card)) ∷ codes " " ∷ survey_fault_name (BadKeyword hdu card) ∷ codes " hdu " ∷ decimal hdu
     ∷ codes " card " ∷ decimal card ∷ codes "\n" ∷ [])
-refusal_line (RowNumber row) =
-    concat (codes "refused: " ∷ decimal (number_of (RowNumber row)) ∷ codes " " ∷ name_of (RowNumber row) ∷ codes " row " ∷ decimal row ∷ codes "\n" ∷ [])
-refusal_line fault = concat (codes "refused: " ∷ decimal (number_of fault) ∷ codes " " ∷ name_of fault ∷ codes "\n" ∷ [])
+survey_refusal_line (RowNumber row) =
+    concat (codes "refused: " ∷ decimal (survey_fault_number (RowNumber row)) ∷ codes " " ∷ survey_fault_name (RowNumber row) ∷ codes " row " ∷ decimal row ∷ codes "\n" ∷ [])
+survey_refusal_line fault = concat (codes "refused: " ∷ decimal (survey_fault_number fault) ∷ codes " " ∷ survey_fault_name fault ∷ codes "\n" ∷ [])
 
 abbrev pub stop_line : Stop → List ℕ
-stop_line (Refused fault) = refusal_line fault
+stop_line (Refused fault) = survey_refusal_line fault
 stop_line ReadFault = codes "read fault\n"
 stop_line WriteFault = codes "write fault\n"
 stop_line NoMemory = codes "out of memory\n"
 stop_line KeeperFault = codes "keeper fault\n"
 
-abbrev pub note_of : End → List ℕ
-note_of Done = []
-note_of (Usage usage) = usage_line usage.word
-note_of (Stopped stop) = stop_line stop
+abbrev pub session_note : End → List ℕ
+session_note Done = []
+session_note (Usage usage) = usage_line usage.word
+session_note (Stopped stop) = stop_line stop
 
 -- ---- the status
 
@@ -46,29 +46,29 @@ status_at WriteFault = 4
 status_at NoMemory = 5
 status_at KeeperFault = 6
 
-abbrev pub status_of : End → ℕ
-status_of Done = 0
-status_of (Usage usage) = 1
-status_of (Stopped stop) = status_at stop
+abbrev pub session_status : End → ℕ
+session_status Done = 0
+session_status (Usage usage) = 1
+session_status (Stopped stop) = status_at stop
 
 -- ---- the answer
 
 -- how a session ends, with its status and its line on the notes; and what it does
-pub record Answer : Type 0 where
+pub record SessionAnswer : Type 0 where
   pub end : End
   pub does : Outcome
 
-abbrev pub end_at : Option Stop → End
-end_at None = Done
-end_at (Some stop) = Stopped stop
+abbrev pub session_end : Option Stop → End
+session_end None = Done
+session_end (Some stop) = Stopped stop
 
-abbrev pub answer_to : Outcome → Answer
-answer_to outcome = record { end = end_at outcome.stop; does = outcome }
+abbrev pub answer_to_outcome : Outcome → SessionAnswer
+answer_to_outcome outcome = record { end = session_end outcome.stop; does = outcome }
 
 -- where a word is at fault nothing is done
-abbrev pub answer_by : Result (List Command) ℕ → List ℕ → List Table → Answer
-answer_by (Err at) bytes tables = record { end = Usage (record { word = at + 1 }); does = nothing tables }
-answer_by (Ok commands) bytes tables = answer_to (session bytes tables commands)
+abbrev pub session_answer_by : Result (List Command) ℕ → List ℕ → List Table → SessionAnswer
+session_answer_by (Err at) bytes tables = record { end = Usage (record { word = at + 1 }); does = nothing tables }
+session_answer_by (Ok commands) bytes tables = answer_to_outcome (session bytes tables commands)
 
-abbrev pub answer : List (List ℕ) → List ℕ → List Table → Answer
-answer words bytes tables = answer_by (commands_of words) bytes tables
+abbrev pub session_answer : List (List ℕ) → List ℕ → List Table → SessionAnswer
+session_answer words bytes tables = session_answer_by (commands_of words) bytes tables

@@ -15,9 +15,9 @@ width Listing = 1
 width (Brightest count) = 2
 
 -- the field that an argument names
-abbrev pub field_in : Option (List ℕ) → Result (List ℕ) ℕ
-field_in None = Err 1
-field_in (Some text) = if is_name text then Ok text else Err 1
+abbrev pub field_read : Option (List ℕ) → Result (List ℕ) ℕ
+field_read None = Err 1
+field_read (Some text) = if is_name text then Ok text else Err 1
 
 abbrev pub with_field : (List ℕ → Command) → Result (List ℕ) ℕ → Result Command ℕ
 with_field make (Ok field) = Ok (make field)
@@ -41,10 +41,10 @@ with_number (Ok count) = Ok (Brightest count)
 with_number (Err at) = Err at
 
 -- the command that a word names, with the word behind it; or how far behind the first of them the word at fault stands
-unfoldable pub command_of : List ℕ → Option (List ℕ) → Result Command ℕ
-command_of word next =
-    if bytes_eq word (codes "add") then with_field Add (field_in next)
-    else (if bytes_eq word (codes "drop") then with_field Drop (field_in next)
+unfoldable pub session_command : List ℕ → Option (List ℕ) → Result Command ℕ
+session_command word next =
+    if bytes_eq word (codes "add") then with_field Add (field_read next)
+    else (if bytes_eq word (codes "drop") then with_field Drop (field_read next)
     else (if bytes_eq word (codes "list") then Ok Listing
     else (if bytes_eq word (codes "brightest") then with_number (number_in next) else Err 0)))
 
@@ -60,8 +60,8 @@ with_rest (Ok command) after_one after_two = behind command (if width command ==
 -- the commands, or the place of the first word at fault, from 0; a word that is missing stands behind the last
 unfoldable pub read : List (List ℕ) → Result (List Command) ℕ
 read [] = Ok []
-read (word ∷ []) = with_rest (command_of word None) (Ok []) (Ok [])
-read (word ∷ next ∷ rest) = with_rest (command_of word (Some next)) (read (next ∷ rest)) (read rest)
+read (word ∷ []) = with_rest (session_command word None) (Ok []) (Ok [])
+read (word ∷ next ∷ rest) = with_rest (session_command word (Some next)) (read (next ∷ rest)) (read rest)
 
 -- the same, where there must be one
 abbrev pub some_commands : List (List ℕ) → Result (List Command) ℕ
@@ -91,5 +91,5 @@ commands_of words = further (file_words words) (some_commands (drop (file_words 
 -- the command at the front
 abbrev pub front : List (List ℕ) → Result Command ℕ
 front [] = Err 0
-front (word ∷ []) = command_of word None
-front (word ∷ next ∷ rest) = command_of word (Some next)
+front (word ∷ []) = session_command word None
+front (word ∷ next ∷ rest) = session_command word (Some next)

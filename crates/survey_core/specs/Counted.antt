@@ -3,12 +3,13 @@ use Rattle.std.specs.Prelude.{◌≡◌, ℕ, Bool, true, false, List, Result, O
 use Rattle.survey_core.specs.declared.keeper.Refused.{Refused}
 use Rattle.survey_core.specs.declared.keeper.Refused.TheVariants.{Fault, OutOfMemory}
 use Rattle.survey_core.specs.declared.mem_keeper.MemKeeper.{MemKeeper}
-use Rattle.survey_core.specs.Mem.{one_more, fails_next, tables_in}
+use Rattle.dev_io.specs.Fakes.{one_more, fails_next}
+use Rattle.survey_core.specs.Mem.{tables_kept}
 use Rattle.survey_core.specs.Tables.{Table}
 
 -- the cells of each field that it has, in the order of the fields
 abbrev pub kept_tables : MemKeeper → List Table
-kept_tables k = tables_in k.entries.items
+kept_tables k = tables_kept k.entries.items
 
 -- how many calls it has had
 abbrev pub keeper_calls : MemKeeper → ℕ

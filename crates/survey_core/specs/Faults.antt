@@ -5,51 +5,52 @@ use Rattle.fits_hdu.specs.declared.answer.HduFault.TheVariants as hdu
 use Rattle.survey_core.specs.declared.keeper.Refused.{Refused as Why}
 use Rattle.survey_core.specs.declared.keeper.Refused.TheVariants as why
 use Rattle.survey_core.specs.declared.fault.Fault.{Fault}
-use Rattle.survey_core.specs.declared.fault.Fault.TheVariants.{NotFits, TruncatedHeader, BadKeyword, HeaderTooLong, Groups, DataTooLong, NoSuchHdu, TruncatedSkip, NotCatalogue, TooManyRows, TruncatedTable, RowNumber, NoSuchField}
+use Rattle.survey_core.specs.declared.fault.Fault.TheVariants.{NotFits, TruncatedHeader, BadKeyword, HeaderTooLong, Groups, DataTooLong, NoSuchHdu}
+use Rattle.survey_core.specs.declared.fault.Fault.TheVariants.{TruncatedSkip, NotCatalogue, TooManyRows, TruncatedTable, RowNumber, NoSuchField}
 use Rattle.survey_core.specs.declared.fault.Stop.{Stop}
 use Rattle.survey_core.specs.declared.fault.Stop.TheVariants.{Refused, ReadFault, NoMemory, KeeperFault}
 
-abbrev pub number_of : Fault → ℕ
-number_of NotFits = 1
-number_of TruncatedHeader = 2
-number_of (BadKeyword hdu card) = 3
-number_of HeaderTooLong = 4
-number_of Groups = 5
-number_of DataTooLong = 6
-number_of NoSuchHdu = 7
-number_of TruncatedSkip = 8
-number_of NotCatalogue = 20
-number_of TooManyRows = 21
-number_of TruncatedTable = 22
-number_of (RowNumber row) = 23
-number_of NoSuchField = 24
+abbrev pub survey_fault_number : Fault → ℕ
+survey_fault_number NotFits = 1
+survey_fault_number TruncatedHeader = 2
+survey_fault_number (BadKeyword hdu card) = 3
+survey_fault_number HeaderTooLong = 4
+survey_fault_number Groups = 5
+survey_fault_number DataTooLong = 6
+survey_fault_number NoSuchHdu = 7
+survey_fault_number TruncatedSkip = 8
+survey_fault_number NotCatalogue = 20
+survey_fault_number TooManyRows = 21
+survey_fault_number TruncatedTable = 22
+survey_fault_number (RowNumber row) = 23
+survey_fault_number NoSuchField = 24
 
-abbrev pub name_of : Fault → List ℕ
-name_of NotFits = codes "NotFits"
-name_of TruncatedHeader = codes "TruncatedHeader"
-name_of (BadKeyword hdu card) = codes "BadKeyword"
-name_of HeaderTooLong = codes "HeaderTooLong"
-name_of Groups = codes "Groups"
-name_of DataTooLong = codes "DataTooLong"
-name_of NoSuchHdu = codes "NoSuchHdu"
-name_of TruncatedSkip = codes "TruncatedSkip"
-name_of NotCatalogue = codes "NotCatalogue"
-name_of TooManyRows = codes "TooManyRows"
-name_of TruncatedTable = codes "TruncatedTable"
-name_of (RowNumber row) = codes "RowNumber"
-name_of NoSuchField = codes "NoSuchField"
+abbrev pub survey_fault_name : Fault → List ℕ
+survey_fault_name NotFits = codes "NotFits"
+survey_fault_name TruncatedHeader = codes "TruncatedHeader"
+survey_fault_name (BadKeyword hdu card) = codes "BadKeyword"
+survey_fault_name HeaderTooLong = codes "HeaderTooLong"
+survey_fault_name Groups = codes "Groups"
+survey_fault_name DataTooLong = codes "DataTooLong"
+survey_fault_name NoSuchHdu = codes "NoSuchHdu"
+survey_fault_name TruncatedSkip = codes "TruncatedSkip"
+survey_fault_name NotCatalogue = codes "NotCatalogue"
+survey_fault_name TooManyRows = codes "TooManyRows"
+survey_fault_name TruncatedTable = codes "TruncatedTable"
+survey_fault_name (RowNumber row) = codes "RowNumber"
+survey_fault_name NoSuchField = codes "NoSuchField"
 
 -- what stops a command: where the HDU of a table isn't found
-abbrev pub stop_at_hdu : HduFault → Stop
-stop_at_hdu hdu.NotFits = Refused NotFits
-stop_at_hdu hdu.TruncatedHeader = Refused TruncatedHeader
-stop_at_hdu (hdu.BadKeyword number card) = Refused (BadKeyword number card)
-stop_at_hdu hdu.HeaderTooLong = Refused HeaderTooLong
-stop_at_hdu hdu.Groups = Refused Groups
-stop_at_hdu hdu.DataTooLong = Refused DataTooLong
-stop_at_hdu hdu.NoSuchHdu = Refused NoSuchHdu
-stop_at_hdu hdu.TruncatedSkip = Refused TruncatedSkip
-stop_at_hdu hdu.ReadFault = ReadFault
+abbrev pub survey_stop_at_hdu : HduFault → Stop
+survey_stop_at_hdu hdu.NotFits = Refused NotFits
+survey_stop_at_hdu hdu.TruncatedHeader = Refused TruncatedHeader
+survey_stop_at_hdu (hdu.BadKeyword number card) = Refused (BadKeyword number card)
+survey_stop_at_hdu hdu.HeaderTooLong = Refused HeaderTooLong
+survey_stop_at_hdu hdu.Groups = Refused Groups
+survey_stop_at_hdu hdu.DataTooLong = Refused DataTooLong
+survey_stop_at_hdu hdu.NoSuchHdu = Refused NoSuchHdu
+survey_stop_at_hdu hdu.TruncatedSkip = Refused TruncatedSkip
+survey_stop_at_hdu hdu.ReadFault = ReadFault
 
 -- and where the keeper of the tables refuses
 abbrev pub stop_at_keeper : Why → Stop

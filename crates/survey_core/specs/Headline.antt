@@ -8,16 +8,16 @@ use Rattle.survey_core.specs.declared.fault.Stop.{Stop}
 use Rattle.survey_core.specs.declared.top.End.{End}
 use Rattle.survey_core.specs.Tables.{Table}
 use Rattle.survey_core.specs.Commands.{commands_of}
-use Rattle.survey_core.specs.Answers.{Answer, answer, status_at, status_of, note_of}
+use Rattle.survey_core.specs.Answers.{SessionAnswer, session_answer, status_at, session_status, session_note}
 use Rattle.survey_core.specs.Runs.{IsCutFor, StopsIn}
 
 -- P holds of the answer to the bytes and the tables that are told
-abbrev pub ForAnswer : List (List ℕ) → Option (List ℕ) → Option (List Table) → (Answer → Type 0) → Type 0
-ForAnswer words left tables P = ForSome left (λ bytes. ForSome tables (λ ts. P (answer words bytes ts)))
+abbrev pub ForAnswer : List (List ℕ) → Option (List ℕ) → Option (List Table) → (SessionAnswer → Type 0) → Type 0
+ForAnswer words left tables P = ForSome left (λ bytes. ForSome tables (λ ts. P (session_answer words bytes ts)))
 
 -- the answer's status, or that of a fault of the input, the output or the keeper, or of want of memory
-abbrev pub IsStatus : ℕ → Answer → Type 0
-IsStatus status answer = (status ≡ status_of answer.end) ⊎ ((3 ≤ status) × (status ≤ 6))
+abbrev pub IsSessionStatus : ℕ → SessionAnswer → Type 0
+IsSessionStatus status answer = (status ≡ session_status answer.end) ⊎ ((3 ≤ status) × (status ≤ 6))
 
 -- the session was cut short with this status
 pub record IsCutWith (words : List (List ℕ)) (bytes : List ℕ) (tables : List Table) (left' : Option (List ℕ)) (tables' : Option (List Table))
@@ -35,13 +35,13 @@ pub record StopsWith (words : List (List ℕ)) (source source' sink sink' keeper
   pub stops : StopsIn commands source source' sink sink' keeper keeper' stop
 
 -- how the session ended, and its line on the notes
-pub record TellsEnd (status : ℕ) (old new : Option (List ℕ)) (settled' : Bool) (faults faults' : ℕ) (end : End) : Type 0 where
-  pub status_is : status ≡ status_of end
-  pub noted : Noted old new settled' faults faults' (note_of end)
+pub record TellsSessionEnd (status : ℕ) (old new : Option (List ℕ)) (settled' : Bool) (faults faults' : ℕ) (end : End) : Type 0 where
+  pub status_is : status ≡ session_status end
+  pub noted : Noted old new settled' faults faults' (session_note end)
 
 -- the answer's status, or want of memory
-abbrev pub IsComplete : ℕ → Answer → Type 0
-IsComplete status answer = (status ≡ status_of answer.end) ⊎ (status ≡ 5)
+abbrev pub IsSessionAnswered : ℕ → SessionAnswer → Type 0
+IsSessionAnswered status answer = (status ≡ session_status answer.end) ⊎ (status ≡ 5)
 
 -- nothing was asked of a keeper
 pub record KeeperStays {K : Type 0} (tables : K → Option (List Table)) (faults : K → ℕ) (old new : K) : Type 0 where

@@ -6,27 +6,27 @@ use Rattle.survey_core.specs.declared.listing.Summary.{Summary}
 use Rattle.survey_core.specs.Tables.{Table}
 
 -- cell c, from 0, of row i, from 0
-abbrev pub cell : List ℤ → ℕ → ℕ → ℤ
-cell cells i c = get_or cells (17 * i + c) (pos 0)
+abbrev pub table_cell : List ℤ → ℕ → ℕ → ℤ
+table_cell cells i c = get_or cells (17 * i + c) (pos 0)
 
 -- how many rows
 abbrev pub rows_in : List ℤ → ℕ
 rows_in cells = length cells / 17
 
 abbrev pub flux_at : List ℤ → ℕ → ℤ
-flux_at cells i = cell cells i 4
+flux_at cells i = table_cell cells i 4
 
 -- the sum of the fluxes of the first n rows
 unfoldable pub flux_total : List ℤ → ℕ → ℤ
 flux_total cells zero = pos 0
 flux_total cells (suc n) = flux_total cells n +ℤ flux_at cells n
 
-unfoldable pub summary_of : Table → Summary
-summary_of t = record { field = t.0; rows = rows_in t.1; flux = flux_total t.1 (rows_in t.1) }
+unfoldable pub table_summary : Table → Summary
+table_summary t = record { field = t.0; rows = rows_in t.1; flux = flux_total t.1 (rows_in t.1) }
 
 abbrev pub summary_line : Summary → List ℕ
 summary_line s = concat (s.field ∷ codes " " ∷ decimal s.rows ∷ codes " " ∷ signed_decimal s.flux ∷ codes "\n" ∷ [])
 
 -- a line for each field, in order
 unfoldable pub list_lines : List Table → List ℕ
-list_lines tables = concat (map summary_line (map summary_of tables))
+list_lines tables = concat (map summary_line (map table_summary tables))

@@ -7,7 +7,7 @@ use Rattle.std.proofs.Props.{props}
 use base.Stored.{Coded-set}
 use mathlib.Core.Bool.{Bool-set}
 use mathlib.Core.HLevel.{×_prop, Unit-prop}
-use Rattle.survey_core.specs.Tables.{Table, IsNumbered, IsTable, AreInOrder, AreTables}
+use Rattle.survey_core.specs.Tables.{Table, IsNumbered, IsFieldTable, AreInOrder, AreTables}
 
 pub tables_set : IsSet (List Table)
 tables_set = Coded-set (coded_list (coded× (coded_list coded_ℕ) (coded_list coded_ℤ)))
@@ -33,4 +33,4 @@ AreInOrder-prop [] = Unit-prop
 AreInOrder-prop (t ∷ ts) = ×_prop (all_prop _ (λ u. Ordering-set _ Less) ts) (AreInOrder-prop ts)
 
 pub AreTables-prop : (ts : List Table) → IsProp (AreTables ts)
-AreTables-prop ts = ×_prop (AreInOrder-prop ts) (all_prop IsTable (λ t. ×_prop (Bool-set _ _) (IsNumbered-prop t.1)) ts)
+AreTables-prop ts = ×_prop (AreInOrder-prop ts) (all_prop IsFieldTable (λ t. ×_prop (Bool-set _ _) (IsNumbered-prop t.1)) ts)

@@ -8,15 +8,15 @@ use Rattle.std.specs.Ordering.{int_cmp, then_cmp, flip_args, on, is_lt}
 use Rattle.survey_core.specs.declared.ranking.Row.{Row}
 use Rattle.survey_core.specs.Fields.{name_cmp}
 use Rattle.survey_core.specs.Tables.{Table}
-use Rattle.survey_core.specs.Listings.{cell, rows_in}
+use Rattle.survey_core.specs.Listings.{table_cell, rows_in}
 
 -- what is printed of row i, from 0, of a field
-unfoldable pub row_of : List ℕ → List ℤ → ℕ → Row
-row_of field cells i =
-    record { field = field; number = cell cells i 0; flux = cell cells i 4; xcen = cell cells i 12; ycen = cell cells i 13 }
+unfoldable pub ranking_row : List ℕ → List ℤ → ℕ → Row
+ranking_row field cells i =
+    record { field = field; number = table_cell cells i 0; flux = table_cell cells i 4; xcen = table_cell cells i 12; ycen = table_cell cells i 13 }
 
 unfoldable pub rows_of : Table → List Row
-rows_of t = map (row_of t.0 t.1) (range_with_len 0 (rows_in t.1))
+rows_of t = map (ranking_row t.0 t.1) (range_with_len 0 (rows_in t.1))
 
 -- the rows of all fields
 unfoldable pub all_rows : List Table → List Row

@@ -31,7 +31,7 @@ pub record IsRow (bytes : List ℕ) (left : Option (List ℕ)) (row : List ℕ) 
   pub takes : Takes bytes left 96
 
 -- so many rows were read
-pub record AreRows (bytes : List ℕ) (count : ℕ) (left : Option (List ℕ)) (cells : List ℤ) : Type 0 where
+pub record AreTableRows (bytes : List ℕ) (count : ℕ) (left : Option (List ℕ)) (cells : List ℤ) : Type 0 where
   pub cells_are : cells ≡ table_cells bytes count
   pub takes : Takes bytes left (96 * count)
 

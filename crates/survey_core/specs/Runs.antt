@@ -11,10 +11,10 @@ use Rattle.survey_core.specs.declared.top.End.TheVariants.{Done, Usage, Stopped}
 use Rattle.survey_core.specs.Tables.{Table}
 use Rattle.survey_core.specs.Sessions.{Outcome, effect, session}
 use Rattle.survey_core.specs.Steps.{IsFrontAt, MayCome, Cause, is_printing}
-use Rattle.survey_core.specs.Answers.{Answer, answer_by}
+use Rattle.survey_core.specs.Answers.{SessionAnswer, session_answer_by}
 
 -- what the answer says was done; and if anything was to be printed, it was handed on
-pub record Answers (answer : Answer) (bytes : List ℕ) (left' : Option (List ℕ)) (tables' : Option (List Table)) (written written' : Option (List ℕ))
+pub record SessionAnswers (answer : SessionAnswer) (bytes : List ℕ) (left' : Option (List ℕ)) (tables' : Option (List Table)) (written written' : Option (List ℕ))
     (settled' : Bool) (end : End) : Type 0 where
   pub end_is : answer.end ≡ end
   pub takes : Takes bytes left' answer.does.taken
@@ -55,7 +55,7 @@ IsCutFor (Ok commands) bytes tables left' tables' written written' stop = IsCutI
 abbrev pub StopTells : Result (List Command) ℕ → List ℕ → List Table → Option (List ℕ) → Option (List Table) → Option (List ℕ) → Option (List ℕ)
     → Bool → Stop → Type 0
 StopTells commands bytes tables left' tables' written written' settled' (Refused fault) =
-    Answers (answer_by commands bytes tables) bytes left' tables' written written' settled' (Stopped (Refused fault))
+    SessionAnswers (session_answer_by commands bytes tables) bytes left' tables' written written' settled' (Stopped (Refused fault))
 StopTells commands bytes tables left' tables' written written' settled' ReadFault = IsCutFor commands bytes tables left' tables' written written' ReadFault
 StopTells commands bytes tables left' tables' written written' settled' WriteFault = IsCutFor commands bytes tables left' tables' written written' WriteFault
 StopTells commands bytes tables left' tables' written written' settled' NoMemory = IsCutFor commands bytes tables left' tables' written written' NoMemory
@@ -65,9 +65,9 @@ StopTells commands bytes tables left' tables' written written' settled' KeeperFa
 abbrev pub EndTells : Result (List Command) ℕ → List ℕ → List Table → Option (List ℕ) → Option (List Table) → Option (List ℕ) → Option (List ℕ)
     → Bool → End → Type 0
 EndTells commands bytes tables left' tables' written written' settled' Done =
-    Answers (answer_by commands bytes tables) bytes left' tables' written written' settled' Done
+    SessionAnswers (session_answer_by commands bytes tables) bytes left' tables' written written' settled' Done
 EndTells commands bytes tables left' tables' written written' settled' (Usage usage) =
-    Answers (answer_by commands bytes tables) bytes left' tables' written written' settled' (Usage usage)
+    SessionAnswers (session_answer_by commands bytes tables) bytes left' tables' written written' settled' (Usage usage)
 EndTells commands bytes tables left' tables' written written' settled' (Stopped stop) =
     StopTells commands bytes tables left' tables' written written' settled' stop
 
@@ -80,10 +80,10 @@ pub record StopsIn (commands : List Command) (source source' sink sink' keeper k
   pub cause : Cause command source source' sink sink' keeper keeper' stop
 
 -- what stands behind an end in any case
-abbrev pub EndCause : Result (List Command) ℕ → Bool → ℕ → ℕ → ℕ → ℕ → ℕ → ℕ → End → Type 0
-EndCause (Ok commands) settled' source source' sink sink' keeper keeper' Done = IsTrue (list_any is_printing commands) → IsTrue settled'
-EndCause (Ok commands) settled' source source' sink sink' keeper keeper' (Usage usage) = ⊥
-EndCause (Ok commands) settled' source source' sink sink' keeper keeper' (Stopped stop) = StopsIn commands source source' sink sink' keeper keeper' stop
-EndCause (Err at) settled' source source' sink sink' keeper keeper' Done = ⊥
-EndCause (Err at) settled' source source' sink sink' keeper keeper' (Usage usage) = usage.word ≡ at + 1
-EndCause (Err at) settled' source source' sink sink' keeper keeper' (Stopped stop) = ⊥
+abbrev pub SessionEndCause : Result (List Command) ℕ → Bool → ℕ → ℕ → ℕ → ℕ → ℕ → ℕ → End → Type 0
+SessionEndCause (Ok commands) settled' source source' sink sink' keeper keeper' Done = IsTrue (list_any is_printing commands) → IsTrue settled'
+SessionEndCause (Ok commands) settled' source source' sink sink' keeper keeper' (Usage usage) = ⊥
+SessionEndCause (Ok commands) settled' source source' sink sink' keeper keeper' (Stopped stop) = StopsIn commands source source' sink sink' keeper keeper' stop
+SessionEndCause (Err at) settled' source source' sink sink' keeper keeper' Done = ⊥
+SessionEndCause (Err at) settled' source source' sink sink' keeper keeper' (Usage usage) = usage.word ≡ at + 1
+SessionEndCause (Err at) settled' source source' sink sink' keeper keeper' (Stopped stop) = ⊥

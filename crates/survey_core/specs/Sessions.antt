@@ -5,8 +5,8 @@ use Rattle.survey_core.specs.declared.words.Command.TheVariants.{Add, Drop, List
 use Rattle.survey_core.specs.declared.fault.Stop.{Stop}
 use Rattle.survey_core.specs.declared.fault.Stop.TheVariants.{Refused}
 use Rattle.survey_core.specs.declared.fault.Fault.TheVariants.{NoSuchField}
-use Rattle.survey_core.specs.Tables.{Table, cells_of, put, without}
-use Rattle.survey_core.specs.Catalogues.{Reading, accepted, rejected, catalogue_of}
+use Rattle.survey_core.specs.Tables.{Table, cells_of_field, put, without}
+use Rattle.survey_core.specs.Catalogues.{Reading, accepted, rejected, catalogue_in}
 use Rattle.survey_core.specs.Listings.{list_lines}
 use Rattle.survey_core.specs.Ranking.{brightest_lines}
 
@@ -39,13 +39,13 @@ added field tables (rejected stop taken) = fails stop taken tables
 
 -- what one command does
 abbrev pub effect : List ℕ → List Table → Command → Outcome
-effect bytes tables (Add field) = added field tables (catalogue_of bytes)
-effect bytes tables (Drop field) = if is_some (cells_of field tables) then changes 0 (without field tables) else fails (Refused NoSuchField) 0 tables
+effect bytes tables (Add field) = added field tables (catalogue_in bytes)
+effect bytes tables (Drop field) = if is_some (cells_of_field field tables) then changes 0 (without field tables) else fails (Refused NoSuchField) 0 tables
 effect bytes tables Listing = prints (list_lines tables) tables
 effect bytes tables (Brightest count) = prints (brightest_lines tables count) tables
 
-abbrev pub joined : Outcome → Outcome → Outcome
-joined first second = record {
+abbrev pub joined_outcomes : Outcome → Outcome → Outcome
+joined_outcomes first second = record {
   stop = second.stop;
   output = first.output ++ second.output;
   taken = first.taken + second.taken;
@@ -54,7 +54,7 @@ joined first second = record {
 }
 
 abbrev pub joined_unless : Option Stop → Outcome → Outcome → Outcome
-joined_unless None first second = joined first second
+joined_unless None first second = joined_outcomes first second
 joined_unless (Some stop) first second = first
 
 -- the first, and then the second, unless the first has a fault

@@ -72,7 +72,7 @@ pub record Does (outcome : Outcome) (bytes : List ℕ) (left' : Option (List ℕ
   pub appended : Appends written written' outcome.output
 
 -- a command with this outcome was cut short: the tables are as before, and some of its bytes and of its output are gone
-pub record IsCut (outcome : Outcome) (command : Command) (bytes : List ℕ) (tables : List Table) (left' : Option (List ℕ))
+pub record IsCutCommand (outcome : Outcome) (command : Command) (bytes : List ℕ) (tables : List Table) (left' : Option (List ℕ))
     (tables' : Option (List Table)) (written written' : Option (List ℕ)) (stop : Stop) : Type 0 where
   pub may_come : MayCome stop command outcome
   pub lost : TakesAtMost bytes left' outcome.taken
@@ -89,11 +89,11 @@ abbrev pub Step : Outcome → Command → List ℕ → List Table → Option (Li
 Step outcome command bytes tables left' tables' written written' (Ok done) = Does outcome bytes left' tables' written written' None
 Step outcome command bytes tables left' tables' written written' (Err (Refused fault)) =
     Does outcome bytes left' tables' written written' (Some (Refused fault))
-Step outcome command bytes tables left' tables' written written' (Err ReadFault) = IsCut outcome command bytes tables left' tables' written written' ReadFault
-Step outcome command bytes tables left' tables' written written' (Err WriteFault) = IsCut outcome command bytes tables left' tables' written written' WriteFault
-Step outcome command bytes tables left' tables' written written' (Err NoMemory) = IsCut outcome command bytes tables left' tables' written written' NoMemory
+Step outcome command bytes tables left' tables' written written' (Err ReadFault) = IsCutCommand outcome command bytes tables left' tables' written written' ReadFault
+Step outcome command bytes tables left' tables' written written' (Err WriteFault) = IsCutCommand outcome command bytes tables left' tables' written written' WriteFault
+Step outcome command bytes tables left' tables' written written' (Err NoMemory) = IsCutCommand outcome command bytes tables left' tables' written written' NoMemory
 Step outcome command bytes tables left' tables' written written' (Err KeeperFault) =
-    IsCut outcome command bytes tables left' tables' written written' KeeperFault
+    IsCutCommand outcome command bytes tables left' tables' written written' KeeperFault
 
 -- what stands behind a stop, in any case: which command it is, and which count rose
 abbrev pub Cause : Command → ℕ → ℕ → ℕ → ℕ → ℕ → ℕ → Stop → Type 0

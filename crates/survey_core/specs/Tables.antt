@@ -1,5 +1,6 @@
 -- Model: the tables of a survey: a finite map from fields to the cells of their catalogues, as the list of its entries in the order of their fields.
-use Rattle.std.specs.Prelude.{ℕ, ◌*◌, ◌+◌, ◌%◌, ◌<◌, ◌≡◌, ◌⊎◌, ℤ, pos, true, not, if◌then◌else◌, List, [], ◌∷◌, length, map, filter, slice_get, Option, Some, None, ⊤}
+use Rattle.std.specs.Prelude.{ℕ, ◌*◌, ◌+◌, ◌%◌, ◌<◌, ◌≡◌, ◌⊎◌, ℤ, pos, true, not, if◌then◌else◌}
+use Rattle.std.specs.Prelude.{List, [], ◌∷◌, length, map, filter, slice_get, Option, Some, None, ⊤}
 use Rattle.std.specs.declared.cmp.Ordering.TheVariants.{Less}
 use Rattle.std.specs.List.{AllByRecursion}
 use Rattle.std.specs.Ordering.{is_eq, match_ordering}
@@ -14,8 +15,8 @@ pub record IsNumbered (cells : List ℤ) : Type 0 where
   pub whole : length cells % 17 ≡ 0
   pub numbers : (i : ℕ) → 17 * i < length cells → slice_get cells (17 * i) ≡ Some (pos (i + 1))
 
-abbrev pub IsTable : Table → Type 0
-IsTable t = (is_name t.0 ≡ true) × IsNumbered t.1
+abbrev pub IsFieldTable : Table → Type 0
+IsFieldTable t = (is_name t.0 ≡ true) × IsNumbered t.1
 
 -- the fields rise, so none comes twice
 abbrev pub AreInOrder : List Table → Type 0
@@ -23,12 +24,12 @@ AreInOrder [] = ⊤
 AreInOrder (t ∷ ts) = AllByRecursion (λ u. name_cmp t.0 u.0 ≡ Less) ts × AreInOrder ts
 
 abbrev pub AreTables : List Table → Type 0
-AreTables ts = AreInOrder ts × AllByRecursion IsTable ts
+AreTables ts = AreInOrder ts × AllByRecursion IsFieldTable ts
 
 -- the cells of a field, if it is there
-abbrev pub cells_of : List ℕ → List Table → Option (List ℤ)
-cells_of field [] = None
-cells_of field (t ∷ ts) = if is_eq (name_cmp t.0 field) then Some t.1 else cells_of field ts
+abbrev pub cells_of_field : List ℕ → List Table → Option (List ℤ)
+cells_of_field field [] = None
+cells_of_field field (t ∷ ts) = if is_eq (name_cmp t.0 field) then Some t.1 else cells_of_field field ts
 
 -- the tables, in which this field has these cells
 abbrev pub put : List ℕ → List ℤ → List Table → List Table

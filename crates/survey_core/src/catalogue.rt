@@ -4,9 +4,10 @@ ghost use Rattle.std.specs.Option.{ForSome};
 ghost use Rattle.dev_io.specs.Causes.{HasCause};
 ghost use Rattle.dev_io.specs.Streams.{Takes, TakesAtMost};
 ghost use Rattle.survey_core.specs.Tables.{IsNumbered};
-ghost use Rattle.survey_core.specs.Catalogues.{is_other, is_catalogue, short as short_at, long as long_at, cells_in, is_misnumbered, table_of, first_misnumbered, catalogue_of};
-ghost use Rattle.survey_core.specs.Listings.{cell};
-ghost use Rattle.survey_core.specs.Reads.{IsRow, AreRows, IsAccepted, IsRejected, Short, ReadCause};
+ghost use Rattle.fits_hdu.specs.Headers.{is_other};
+ghost use Rattle.survey_core.specs.Catalogues.{is_catalogue, short as short_at, long as long_at, row_cells, is_misnumbered, table_of, first_misnumbered, catalogue_in};
+ghost use Rattle.survey_core.specs.Listings.{table_cell};
+ghost use Rattle.survey_core.specs.Reads.{IsRow, AreTableRows, IsAccepted, IsRejected, Short, ReadCause};
 
 use crate::Fault;
 use crate::fault::Stop;
@@ -88,9 +89,9 @@ fn long(row: &[u8; ROW], at: usize) -> i64
 }
 
 // The cells of a row, from NUMBER to XYCOV.
-#[tactic(auto, unfolding(crate::specs::Catalogues::cells_in))]
+#[tactic(auto, unfolding(crate::specs::Catalogues::row_cells))]
 fn cells_in(row: &[u8; ROW]) -> [i64; COLUMNS]
-    ensures { result ≡ cells_in row.now }
+    ensures { result ≡ row_cells row.now }
 {
     [
         short(row, 0),
@@ -129,7 +130,7 @@ fn read_row<S: Source>(src: &mut S, row: &mut [u8; ROW]) -> Result<(), Stop>
 // The cells of so many rows, one behind the other.
 fn read_rows<S: Source>(alloc: Global, src: &mut S, count: u64) -> Result<Vec<i64>, Stop>
     ensures told { ForSome (S.left src.old) (λ bytes. MatchResult result
-        (λ cells. AreRows bytes count (S.left src.new) cells.items)
+        (λ cells. AreTableRows bytes count (S.left src.new) cells.items)
         (Short bytes (96 * count) (S.left src.new))) }
     ensures length { IfOk result (λ cells. length cells.items ≡ 17 * count) }
     ensures cause { IfErr result (ReadCause (S.faults src.old) (S.faults src.new)) }
@@ -152,7 +153,7 @@ fn read_rows<S: Source>(alloc: Global, src: &mut S, count: u64) -> Result<Vec<i6
 pub(crate) fn cell(cells: &[i64], row: usize, column: usize) -> i64
     requires column { column < 17 }
     requires row { 17 * row + 17 ≤ length cells.now }
-    ensures { result ≡ cell cells.now row column }
+    ensures { result ≡ table_cell cells.now row column }
 {
     cells[COLUMNS * row + column]
 }
@@ -238,8 +239,8 @@ fn read_table<S: Source>(alloc: Global, src: &mut S, rows: u64) -> Result<Vec<i6
 /// The cells of the catalogue that comes next, and its padding as far as there is any.
 pub(crate) fn read_catalogue<S: Source>(alloc: Global, src: &mut S) -> Result<Vec<i64>, Stop>
     ensures told { ForSome (S.left src.old) (λ bytes. MatchResult result
-        (λ cells. IsAccepted (catalogue_of bytes) bytes (S.left src.new) cells.items)
-        (IsRejected (catalogue_of bytes) bytes (S.left src.new))) }
+        (λ cells. IsAccepted (catalogue_in bytes) bytes (S.left src.new) cells.items)
+        (IsRejected (catalogue_in bytes) bytes (S.left src.new))) }
     ensures numbered { IfOk result (λ cells. IsNumbered cells.items) }
     ensures few { IfOk result (λ cells. length cells.items ≤ 17 * 2 ^ 20) }
     ensures cause { IfErr result (ReadCause (S.faults src.old) (S.faults src.new)) }

@@ -1,6 +1,6 @@
 // Why a command stops.
 ghost use Rattle.std.specs.Prelude.{◌≡◌, ◌≤◌, length};
-ghost use Rattle.survey_core.specs.Faults.{number_of, name_of, stop_at_hdu, stop_at_keeper};
+ghost use Rattle.survey_core.specs.Faults.{survey_fault_number, survey_fault_name, survey_stop_at_hdu, stop_at_keeper};
 
 use crate::Refused;
 use fits_hdu::HduFault;
@@ -40,7 +40,7 @@ pub enum Fault {
 impl Fault {
     /// Its number. A search for an HDU has 1 to 8, and what only a survey finds begins at 20.
     pub fn number(self) -> u8
-        ensures { result ≡ number_of self }
+        ensures { result ≡ survey_fault_number self }
     {
         match self {
             Fault::NotFits => 1,
@@ -60,7 +60,7 @@ impl Fault {
     }
 
     pub fn name(self) -> &'static str
-        ensures name { result.now ≡ name_of self }
+        ensures name { result.now ≡ survey_fault_name self }
         ensures short { length result.now ≤ 15 }
     {
         match self {
@@ -94,7 +94,7 @@ pub(crate) enum Stop {
 impl Stop {
     /// The HDU of a table isn't found.
     pub(crate) fn at_hdu(fault: HduFault) -> Stop
-        ensures { result ≡ stop_at_hdu fault }
+        ensures { result ≡ survey_stop_at_hdu fault }
     {
         match fault {
             HduFault::NotFits => Stop::Refused(Fault::NotFits),

@@ -2,7 +2,7 @@
 ghost use Rattle.std.specs.Prelude.{◌≡◌, ◌≤◌, ◌*◌, ◌^◌, ℕ, List, length, map, IfOk, OnOk, OnErr, IfSome, is_some};
 ghost use Rattle.std.specs.declared.option.Option.{Option};
 ghost use Rattle.std.specs.Option.{option_map};
-ghost use Rattle.survey_core.specs.Tables.{Table, IsNumbered, AreTables, cells_of, put, without, names_of};
+ghost use Rattle.survey_core.specs.Tables.{Table, IsNumbered, AreTables, cells_of_field, put, without, names_of};
 ghost use Rattle.survey_core.specs.Clauses.{Becomes, Stays, HasFault};
 
 use crate::Field;
@@ -35,7 +35,7 @@ pub trait Keeper {
     /// Takes the field out, and answers whether it was there.
     fn remove(&mut self, alloc: Global, field: Field) -> Result<bool, Refused>
         ensures done { OnOk result (Becomes (tables self.old) (tables self.new) (without field)) }
-        ensures found { IfOk result (λ found. IfSome (tables self.old) (λ tables. found ≡ is_some (cells_of field tables))) }
+        ensures found { IfOk result (λ found. IfSome (tables self.old) (λ tables. found ≡ is_some (cells_of_field field tables))) }
         ensures kept { OnErr result (Stays (tables self.old) (tables self.new)) }
         ensures cause { HasFault (faults self.old) (faults self.new) result };
 
@@ -47,7 +47,7 @@ pub trait Keeper {
 
     /// The cells of the field, if it is there.
     fn rows(&mut self, alloc: Global, field: Field) -> Result<Option<Vec<i64>>, Refused>
-        ensures rows { IfOk result (λ rows. IfSome (tables self.old) (λ tables. option_map (λ cells. cells.items) rows ≡ cells_of field tables)) }
+        ensures rows { IfOk result (λ rows. IfSome (tables self.old) (λ tables. option_map (λ cells. cells.items) rows ≡ cells_of_field field tables)) }
         ensures kept { Stays (tables self.old) (tables self.new) }
         ensures cause { HasFault (faults self.old) (faults self.new) result };
 

@@ -5,10 +5,10 @@ ghost use Rattle.std.specs.List.{concat};
 ghost use Rattle.dev_io.specs.Causes.{HasCause};
 ghost use Rattle.dev_io.specs.Streams.{PutAppends, AppendsPrefix};
 ghost use Rattle.dev_io.specs.Blocks.{Moves};
-ghost use Rattle.survey_core.specs.Tables.{Table, names_of, cells_of};
+ghost use Rattle.survey_core.specs.Tables.{Table, names_of, cells_of_field};
 ghost use Rattle.survey_core.specs.Clauses.{Stays};
 ghost use Rattle.survey_core.specs.KeeperCalls.{KeeperCause};
-ghost use Rattle.survey_core.specs.Listings.{rows_in, flux_total, summary_of, summary_line};
+ghost use Rattle.survey_core.specs.Listings.{rows_in, flux_total, table_summary, summary_line};
 ghost use Rattle.survey_core.specs.Sessions.{effect};
 ghost use Rattle.survey_core.specs.Steps.{Step, Cause, SettledBy};
 
@@ -42,9 +42,9 @@ fn flux_total(cells: &[i64]) -> i128
     total
 }
 
-#[tactic(auto, unfolding(crate::specs::Listings::summary_of))]
+#[tactic(auto, unfolding(crate::specs::Listings::table_summary))]
 fn summary_of(field: Field, cells: &[i64]) -> Summary
-    ensures { result ≡ summary_of (field, cells.now) }
+    ensures { result ≡ table_summary (field, cells.now) }
 {
     Summary {
         field,
@@ -72,7 +72,7 @@ pub(crate) fn cells_of<K: Keeper>(
     keeper: &mut K,
     field: Field,
 ) -> Result<Vec<i64>, Stop>
-    ensures told { IfOk result (λ cells. IfSome (K.tables keeper.old) (λ tables. cells.items ≡ unwrap_or (cells_of field tables) [])) }
+    ensures told { IfOk result (λ cells. IfSome (K.tables keeper.old) (λ tables. cells.items ≡ unwrap_or (cells_of_field field tables) [])) }
     ensures kept { Stays (K.tables keeper.old) (K.tables keeper.new) }
     ensures cause { IfErr result (KeeperCause (K.faults keeper.old) (K.faults keeper.new)) }
     ensures later { K.faults keeper.old ≤ K.faults keeper.new }
@@ -85,7 +85,7 @@ pub(crate) fn cells_of<K: Keeper>(
 }
 
 fn summarize<K: Keeper>(alloc: Global, keeper: &mut K) -> Result<Vec<Summary>, Stop>
-    ensures told { IfOk result (λ summaries. IfSome (K.tables keeper.old) (λ tables. summaries.items ≡ map summary_of tables)) }
+    ensures told { IfOk result (λ summaries. IfSome (K.tables keeper.old) (λ tables. summaries.items ≡ map table_summary tables)) }
     ensures kept { Stays (K.tables keeper.old) (K.tables keeper.new) }
     ensures cause { IfErr result (KeeperCause (K.faults keeper.old) (K.faults keeper.new)) }
     ensures later { K.faults keeper.old ≤ K.faults keeper.new }

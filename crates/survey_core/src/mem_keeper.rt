@@ -3,11 +3,12 @@ ghost use Rattle.std.specs.Prelude.{◌≡◌, ◌<◌, ◌≤◌, ◌+◌, ◌*
 ghost use Rattle.std.specs.List.{AllByRecursion, list_any};
 ghost use Rattle.std.specs.Option.{option_map};
 ghost use Rattle.survey_core.specs.Fields.{name_cmp, is_name};
-ghost use Rattle.survey_core.specs.Tables.{AreTables, AreInOrder, IsNumbered, put, without, cells_of, names_of};
+ghost use Rattle.survey_core.specs.Tables.{AreTables, AreInOrder, IsNumbered, put, without, cells_of_field, names_of};
 ghost use Rattle.survey_core.specs.Clauses.{Becomes, Stays, HasFault};
 ghost use Rattle.survey_core.specs.Props.{AreTables-prop};
 ghost use Rattle.survey_core.specs.Places.{IsPlace};
-ghost use Rattle.survey_core.specs.Mem.{tables_in, fails_next, one_more};
+ghost use Rattle.dev_io.specs.Fakes.{fails_next, one_more};
+ghost use Rattle.survey_core.specs.Mem.{tables_kept};
 ghost use Rattle.dev_io.specs.Causes.{Rose};
 ghost use Rattle.survey_core.specs.declared.mem_keeper.Entry.{Entry};
 
@@ -43,8 +44,8 @@ fn place(entries: &[Entry], field: &Field) -> (usize, bool)
 /// Gives the field these cells.
 fn put_entry(entries: &mut Vec<Entry>, field: Field, cells: Vec<i64>) -> Result<(), OutOfMemory>
     ensures named { is_name field ≡ true }
-    ensures done { OnOk result (tables_in entries.new.items ≡ put field cells.items (tables_in entries.old.items)) }
-    ensures kept { OnErr result (tables_in entries.new.items ≡ tables_in entries.old.items) }
+    ensures done { OnOk result (tables_kept entries.new.items ≡ put field cells.items (tables_kept entries.old.items)) }
+    ensures kept { OnErr result (tables_kept entries.new.items ≡ tables_kept entries.old.items) }
 {
     let (at, found) = place(entries.as_slice(), &field);
     if found {
@@ -66,9 +67,9 @@ fn set_cells(entries: &mut [Entry], at: usize, cells: Vec<i64>)
 
 /// Takes the field out, and answers whether it was there.
 fn drop_entry(entries: &mut Vec<Entry>, field: &Field) -> bool
-    requires { AreInOrder (tables_in entries.old.items) }
-    ensures done { tables_in entries.new.items ≡ without field.now (tables_in entries.old.items) }
-    ensures found { result ≡ is_some (cells_of field.now (tables_in entries.old.items)) }
+    requires { AreInOrder (tables_kept entries.old.items) }
+    ensures done { tables_kept entries.new.items ≡ without field.now (tables_kept entries.old.items) }
+    ensures found { result ≡ is_some (cells_of_field field.now (tables_kept entries.old.items)) }
 {
     let (at, found) = place(entries, field);
     if found {
@@ -79,8 +80,8 @@ fn drop_entry(entries: &mut Vec<Entry>, field: &Field) -> bool
 
 /// The cells of the field, if it is there.
 fn find_cells<'e>(entries: &'e [Entry], field: &Field) -> Option<&'e [i64]>
-    requires { AreInOrder (tables_in entries.now) }
-    ensures { option_map (λ cells. cells.now) result ≡ cells_of field.now (tables_in entries.now) }
+    requires { AreInOrder (tables_kept entries.now) }
+    ensures { option_map (λ cells. cells.now) result ≡ cells_of_field field.now (tables_kept entries.now) }
 {
     let (at, found) = place(entries, field);
     if found {
@@ -97,7 +98,7 @@ pub struct MemKeeper<'a> {
     fails: &'a [u32],
     calls: u64,
     faults: u64,
-    ghost tables_are: { AreTables (tables_in entries.items) } by { AreTables-prop (tables_in entries.items) },
+    ghost tables_are: { AreTables (tables_kept entries.items) } by { AreTables-prop (tables_kept entries.items) },
 }
 
 impl<'a> MemKeeper<'a> {
@@ -176,7 +177,7 @@ impl Keeper for MemKeeper<'_> {
 
     fn remove(&mut self, _alloc: Global, field: Field) -> Result<bool, Refused>
         ensures done { OnOk result (Becomes (Some (kept_tables self.old)) (Some (kept_tables self.new)) (without field)) }
-        ensures found { IfOk result (λ found. IfSome (Some (kept_tables self.old)) (λ tables. found ≡ is_some (cells_of field tables))) }
+        ensures found { IfOk result (λ found. IfSome (Some (kept_tables self.old)) (λ tables. found ≡ is_some (cells_of_field field tables))) }
         ensures kept { OnErr result (Stays (Some (kept_tables self.old)) (Some (kept_tables self.new))) }
         ensures cause { HasFault (keeper_faults self.old) (keeper_faults self.new) result }
         // It fails where its number is one of those, and at no other call.
@@ -208,7 +209,7 @@ impl Keeper for MemKeeper<'_> {
     }
 
     fn rows(&mut self, alloc: Global, field: Field) -> Result<Option<Vec<i64>>, Refused>
-        ensures rows { IfOk result (λ rows. IfSome (Some (kept_tables self.old)) (λ tables. option_map (λ cells. cells.items) rows ≡ cells_of field tables)) }
+        ensures rows { IfOk result (λ rows. IfSome (Some (kept_tables self.old)) (λ tables. option_map (λ cells. cells.items) rows ≡ cells_of_field field tables)) }
         ensures kept { Stays (Some (kept_tables self.old)) (Some (kept_tables self.new)) }
         ensures cause { HasFault (keeper_faults self.old) (keeper_faults self.new) result }
         // It fails where its number is one of those, and at no other call.

@@ -2,7 +2,7 @@
 ghost use Rattle.std.specs.Prelude.{◌≡◌, ◌≤◌, length};
 ghost use Rattle.dev_io.specs.Causes.{HasCause};
 ghost use Rattle.dev_io.specs.Streams.{PutAppends};
-ghost use Rattle.survey_core.specs.Answers.{note_of, stop_line, refusal_line};
+ghost use Rattle.survey_core.specs.Answers.{session_note, stop_line, survey_refusal_line};
 ghost use Rattle.command_line.specs.Notes.{Noted};
 
 use crate::Fault;
@@ -15,7 +15,7 @@ use itoa::Buffer;
 
 // The places that the fault names, of which there are at most two, stand behind its number and its name.
 fn put_refusal<N: Sink>(notes: &mut N, fault: Fault) -> Result<(), Failed>
-    ensures bytes { PutAppends (N.written notes.old) (N.written notes.new) result (refusal_line fault) }
+    ensures bytes { PutAppends (N.written notes.old) (N.written notes.new) result (survey_refusal_line fault) }
     ensures cause { HasCause (N.faults notes.old) (N.faults notes.new) result }
 {
     let mut number = Buffer::new();
@@ -68,7 +68,7 @@ fn put_stop<N: Sink>(notes: &mut N, stop: Stop) -> Result<(), Failed>
 }
 
 fn put_note<N: Sink>(notes: &mut N, end: End) -> Result<(), Failed>
-    ensures bytes { PutAppends (N.written notes.old) (N.written notes.new) result (note_of end) }
+    ensures bytes { PutAppends (N.written notes.old) (N.written notes.new) result (session_note end) }
     ensures cause { HasCause (N.faults notes.old) (N.faults notes.new) result }
 {
     match end {
@@ -80,7 +80,7 @@ fn put_note<N: Sink>(notes: &mut N, end: End) -> Result<(), Failed>
 
 /// Tells how the session ended. What the notes answer changes nothing.
 pub(crate) fn tell<N: Sink>(notes: &mut N, end: End)
-    ensures { Noted (N.written notes.old) (N.written notes.new) (N.settled notes.new) (N.faults notes.old) (N.faults notes.new) (note_of end) }
+    ensures { Noted (N.written notes.old) (N.written notes.new) (N.settled notes.new) (N.faults notes.old) (N.faults notes.new) (session_note end) }
 {
     if matches!(end, End::Done) {
         return;

@@ -8,7 +8,7 @@ ghost use Rattle.dev_io.specs.Blocks.{Moves};
 ghost use Rattle.survey_core.specs.Tables.{Table};
 ghost use Rattle.survey_core.specs.Clauses.{Stays};
 ghost use Rattle.survey_core.specs.KeeperCalls.{KeeperCause};
-ghost use Rattle.survey_core.specs.Ranking.{row_of, rows_of, all_rows, comes_before, ranked, row_line};
+ghost use Rattle.survey_core.specs.Ranking.{ranking_row, rows_of, all_rows, comes_before, ranked, row_line};
 ghost use Rattle.survey_core.specs.Ranks.{AreRanked, with_row, with_rows};
 ghost use Rattle.survey_core.specs.Sessions.{effect};
 ghost use Rattle.survey_core.specs.Steps.{Step, Cause, SettledBy};
@@ -46,10 +46,10 @@ fn comes_before(a: &Row, b: &Row) -> bool
     order == Ordering::Less
 }
 
-#[tactic(auto, unfolding(crate::specs::Ranking::row_of))]
+#[tactic(auto, unfolding(crate::specs::Ranking::ranking_row))]
 fn row_of(field: &Field, cells: &[i64], row: usize) -> Row
     requires { 17 * row + 17 ≤ length cells.now }
-    ensures { result ≡ row_of field.now cells.now row }
+    ensures { result ≡ ranking_row field.now cells.now row }
 {
     Row {
         field: field.copy(),

@@ -10,10 +10,10 @@ ghost use Rattle.survey_core.specs.Commands.{read, commands_of};
 ghost use Rattle.survey_core.specs.Sessions.{effect};
 ghost use Rattle.survey_core.specs.Steps.{Step, Cause, SettledBy, HasCount, is_printing};
 ghost use Rattle.command_line.specs.Notes.{usage_line};
-ghost use Rattle.survey_core.specs.Answers.{answer, status_of, note_of};
-ghost use Rattle.survey_core.specs.Runs.{EndTells, EndCause};
+ghost use Rattle.survey_core.specs.Answers.{session_answer, session_status, session_note};
+ghost use Rattle.survey_core.specs.Runs.{EndTells, SessionEndCause};
 ghost use Rattle.command_line.specs.Notes.{Noted, SourceStays};
-ghost use Rattle.survey_core.specs.Headline.{ForAnswer, IsStatus, IsComplete, IsCutWith, StopsWith, TellsEnd, KeeperStays, SinkStays};
+ghost use Rattle.survey_core.specs.Headline.{ForAnswer, IsSessionStatus, IsSessionAnswered, IsCutWith, StopsWith, TellsSessionEnd, KeeperStays, SinkStays};
 
 use crate::catalogue::read_catalogue;
 use crate::fault::{Fault, Stop};
@@ -35,7 +35,7 @@ pub(crate) enum End {
 
 impl End {
     fn status(self) -> u8
-        ensures { result ≡ status_of self }
+        ensures { result ≡ session_status self }
     {
         match self {
             End::Done => 0,
@@ -129,7 +129,7 @@ fn session<S: Source, K: Keeper, O: Sink>(
         EndTells (Ok commands) bytes tables (S.left input.new) (K.tables keeper.new)
         (O.written output.old) (O.written output.new) (O.settled output.new) result)) }
     ensures cause { (commands : List Command) → read (texts words.now) ≡ Ok commands →
-        EndCause (Ok commands) (O.settled output.new) (S.faults input.old) (S.faults input.new)
+        SessionEndCause (Ok commands) (O.settled output.new) (S.faults input.old) (S.faults input.new)
         (O.faults output.old) (O.faults output.new) (K.faults keeper.old) (K.faults keeper.new) result }
     ensures read_later { S.faults input.old ≤ S.faults input.new }
     ensures write_later { O.faults output.old ≤ O.faults output.new }
@@ -156,7 +156,7 @@ fn work<S: Source, K: Keeper, O: Sink>(
     ensures told { ForSome (S.left input.old) (λ bytes. ForSome (K.tables keeper.old) (λ tables.
         EndTells (commands_of (texts words.now)) bytes tables (S.left input.new) (K.tables keeper.new)
         (O.written output.old) (O.written output.new) (O.settled output.new) result)) }
-    ensures cause { EndCause (commands_of (texts words.now)) (O.settled output.new) (S.faults input.old) (S.faults input.new)
+    ensures cause { SessionEndCause (commands_of (texts words.now)) (O.settled output.new) (S.faults input.old) (S.faults input.new)
         (O.faults output.old) (O.faults output.new) (K.faults keeper.old) (K.faults keeper.new) result }
     ensures input_stays { IsErr (commands_of (texts words.now)) → SourceStays S.left S.ended S.faults input.old input.new }
     ensures keeper_stays { IsErr (commands_of (texts words.now)) → KeeperStays K.tables K.faults keeper.old keeper.new }
@@ -187,13 +187,13 @@ pub fn run_survey<S: Source, K: Keeper, O: Sink, N: Sink>(
     notes: &mut N,
 ) -> u8
     // The status is the answer's, or a fault of a device or want of memory came between.
-    ensures status { ForAnswer (texts words.now) (S.left input.old) (K.tables keeper.old) (IsStatus result) }
+    ensures status { ForAnswer (texts words.now) (S.left input.old) (K.tables keeper.old) (IsSessionStatus result) }
 
     // At the answer's own status all of it was done, up to the first fault.
     ensures writes { result < 3 → ForAnswer (texts words.now) (S.left input.old) (K.tables keeper.old) (λ answer.
         Appends (O.written output.old) (O.written output.new) answer.does.output) }
     ensures takes { result < 3 → ForSome (S.left input.old) (λ bytes. ForSome (K.tables keeper.old) (λ tables.
-        Takes bytes (S.left input.new) (answer (texts words.now) bytes tables).does.taken)) }
+        Takes bytes (S.left input.new) (session_answer (texts words.now) bytes tables).does.taken)) }
     ensures tables { result < 3 → ForAnswer (texts words.now) (S.left input.old) (K.tables keeper.old) (λ answer.
         K.tables keeper.new ≡ Some answer.does.tables) }
     ensures settled { result < 3 → ForAnswer (texts words.now) (S.left input.old) (K.tables keeper.old) (λ answer.
@@ -209,10 +209,10 @@ pub fn run_survey<S: Source, K: Keeper, O: Sink, N: Sink>(
         IsTrue (list_any is_printing commands) → IsTrue (O.settled output.new) }
 
     // The notes get one line, and change nothing.
-    ensures noted { (end : End) × TellsEnd result (N.written notes.old) (N.written notes.new) (N.settled notes.new)
+    ensures noted { (end : End) × TellsSessionEnd result (N.written notes.old) (N.written notes.new) (N.settled notes.new)
         (N.faults notes.old) (N.faults notes.new) end }
     ensures notes { result < 3 → ForAnswer (texts words.now) (S.left input.old) (K.tables keeper.old) (λ answer.
-        Noted (N.written notes.old) (N.written notes.new) (N.settled notes.new) (N.faults notes.old) (N.faults notes.new) (note_of answer.end)) }
+        Noted (N.written notes.old) (N.written notes.new) (N.settled notes.new) (N.faults notes.old) (N.faults notes.new) (session_note answer.end)) }
 
     // A word at fault, and nothing else, gives status 1; then nothing is asked of the input, the keeper and the output.
     ensures usage { IsErr (commands_of (texts words.now)) ↔ (result ≡ 1) }
@@ -224,7 +224,7 @@ pub fn run_survey<S: Source, K: Keeper, O: Sink, N: Sink>(
 
     // Where no count rose the status is the answer's, or memory is wanted.
     ensures complete { (Rose (S.faults input.old) (S.faults input.new) → ⊥) → (Rose (O.faults output.old) (O.faults output.new) → ⊥) →
-        (Rose (K.faults keeper.old) (K.faults keeper.new) → ⊥) → ForAnswer (texts words.now) (S.left input.old) (K.tables keeper.old) (IsComplete result) }
+        (Rose (K.faults keeper.old) (K.faults keeper.new) → ⊥) → ForAnswer (texts words.now) (S.left input.old) (K.tables keeper.old) (IsSessionAnswered result) }
 {
     let end = work(alloc, words, input, keeper, output);
     tell(notes, end);

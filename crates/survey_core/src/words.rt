@@ -3,7 +3,7 @@ ghost use Rattle.std.specs.Prelude.{◌≡◌, ◌+◌, ◌-◌, ◌≤◌, ◌<
 ghost use Rattle.std.specs.Str.{bytes_eq};
 ghost use Rattle.std.specs.Option.{option_map, option_to_list};
 ghost use Rattle.command_line.specs.Lines.{texts};
-ghost use Rattle.survey_core.specs.Commands.{width, field_in, count_in, number_in, command_of, front, some_commands, path_of, file_words, commands_of};
+ghost use Rattle.survey_core.specs.Commands.{width, field_read, count_in, number_in, session_command, front, some_commands, path_of, file_words, commands_of};
 ghost use Rattle.survey_core.specs.Steps.{HasCount};
 
 use crate::Field;
@@ -38,7 +38,7 @@ impl Command {
 
 // The field that the argument names; else how far behind its command the word at fault stands.
 fn field(next: Option<&str>) -> Result<Field, usize>
-    ensures field { result ≡ field_in (option_map (λ word. word.now) next.entry) }
+    ensures field { result ≡ field_read (option_map (λ word. word.now) next.entry) }
     ensures near { IfErr result (λ behind. behind ≤ 1) }
 {
     match next {
@@ -77,9 +77,9 @@ fn count(next: Option<&str>) -> Result<usize, usize>
 }
 
 // The command that the word names, with the word behind it; else how far behind it the word at fault stands.
-#[tactic(auto, unfolding(crate::specs::Commands::command_of))]
+#[tactic(auto, unfolding(crate::specs::Commands::session_command))]
 fn command_of(word: &str, next: Option<&str>) -> Result<Command, usize>
-    ensures command { result ≡ command_of word.now (option_map (λ word. word.now) next.entry) }
+    ensures command { result ≡ session_command word.now (option_map (λ word. word.now) next.entry) }
     ensures some { IfOk result HasCount }
     ensures present { IfOk result (λ command. width command ≤ 1 + length (option_to_list (option_map (λ word. word.now) next.entry))) }
     ensures near { IfErr result (λ behind. behind ≤ 1) }

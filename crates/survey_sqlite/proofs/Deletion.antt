@@ -21,33 +21,33 @@ use Rattle.sqlite.specs.Rows.{Written, Task, Then, Edited, Gives, Deletes}
 use Rattle.sqlite.proofs.Callers.{one_step}
 use Rattle.survey_core.specs.Fields.{name_cmp}
 use Rattle.survey_sqlite.specs.Texts.{source, source_schema}
-use Rattle.survey_sqlite.specs.Source.{field_in, IsFormed, AreRows}
+use Rattle.survey_sqlite.specs.Source.{row_field, IsFormed, AreFieldRows}
 use Rattle.survey_sqlite.proofs.Compiled.{simple_query, alone, has_field}
 use Rattle.survey_sqlite.proofs.RowLemmas.{Removes, IsRowOf, find_row}
 use Rattle.survey_sqlite.proofs.TestLemmas.{equal_texts, answers_one, answers_none}
 use Rattle.survey_sqlite.proofs.StatementLemmas.{went, same_value, filter_one, filter_nothing, same_from_test, test_from_same, keeps_rowid, drops_rowid, same_row}
 
-module _ (rows : List Row) (are : AreRows rows) (field : List ℕ) where
+module _ (rows : List Row) (are : AreFieldRows rows) (field : List ℕ) where
   abbrev pub tests : Row → Bool
   tests r = list_all (holds ((Text field ∷ []) ∷ r ∷ [])) (has_field ∷ [])
 
-  test_is : (r : Row) → IsFormed r → tests r ≡ (is_eq (name_cmp (field_in r) field) && true)
-  test_is r f = subst (λ x. tests x ≡ (is_eq (name_cmp (field_in x) field) && true)) (sym f.is) (ap (λ b. b && true) (equal_texts f.field field))
+  test_is : (r : Row) → IsFormed r → tests r ≡ (is_eq (name_cmp (row_field r) field) && true)
+  test_is r f = subst (λ x. tests x ≡ (is_eq (name_cmp (row_field x) field) && true)) (sym f.is) (ap (λ b. b && true) (equal_texts f.field field))
 
-  passes : (r : Row) → IsFormed r → field_in r ≡ field → tests r ≡ true
-  passes r f same = test_is r f ∙ rw (test_from_same (field_in r) field same) refl
+  passes : (r : Row) → IsFormed r → row_field r ≡ field → tests r ≡ true
+  passes r f same = test_is r f ∙ rw (test_from_same (row_field r) field same) refl
 
-  passed : (r : Row) → IsFormed r → tests r ≡ true → field_in r ≡ field
-  passed r f t = same_from_test (field_in r) field (and_parts _ _ (sym (test_is r f) ∙ t)).0
+  passed : (r : Row) → IsFormed r → tests r ≡ true → row_field r ≡ field
+  passed r f t = same_from_test (row_field r) field (and_parts _ _ (sym (test_is r f) ∙ t)).0
 
   pub found_row : (r : Row) → IsRowOf rows field r → filter tests rows ≡ r ∷ []
   found_row r it = filter_one tests rows are.ordered r it.there (passes r (are.formed r it.there) it.field_is)
       (λ x m t. are.once x r m it.there (passed x (are.formed x m) t ∙ sym it.field_is))
 
-  pub found_none : ((r : Row) → Has rows r → field_in r ≢ field) → filter tests rows ≡ []
+  pub found_none : ((r : Row) → Has rows r → row_field r ≢ field) → filter tests rows ≡ []
   found_none none = filter_nothing tests rows (λ x m. false_from_ne_true (tests x) (λ t. none x m (passed x (are.formed x m) t)))
 
-module _ (limit : Option ℕ) (db : Trees) (are : AreRows (db 0)) (field : List ℕ) where
+module _ (limit : Option ℕ) (db : Trees) (are : AreFieldRows (db 0)) (field : List ℕ) where
   abbrev pub task : Task
   task = record { limit = limit; keys = Enforced; schema = source_schema; table = source; params = Text field ∷ [] }
 
@@ -56,7 +56,7 @@ module _ (limit : Option ℕ) (db : Trees) (are : AreRows (db 0)) (field : List 
 
   -- it changed one row exactly where the field was there
   abbrev pub Counts : Written → Type 0
-  Counts w = ((r : Row) × IsRowOf (db 0) field r × (length w.rows ≡ 1)) ⊎ (((r : Row) → Has (db 0) r → field_in r ≢ field) × (length w.rows ≡ 0))
+  Counts w = ((r : Row) × IsRowOf (db 0) field r × (length w.rows ≡ 1)) ⊎ (((r : Row) → Has (db 0) r → row_field r ≢ field) × (length w.rows ≡ 0))
 
   step : (ids : List ℤ) (read : List Row) → ids_of read ≡ ids → (w : Written) → Then (Edited source_schema Enforced db (edit_of db source (ids_of read) Given 0 []))
       (λ n. Gives (record { trees = n; rows = taken_by db (edit_of db source (ids_of read) Given 0 []); last = None })) (Ok w)
@@ -79,7 +79,7 @@ module _ (limit : Option ℕ) (db : Trees) (are : AreRows (db 0)) (field : List 
               subst (Removes (db 0) field) (sym out.0) (record {
                 ordered = ascending-filter _ _ (db 0) are.ordered;
                 keeps = λ x m other. has_kept (λ y. not (has_rowid f.id y)) (db 0) x m
-                    (drops_rowid limit db are field [] f.id x (are.formed x m) (λ e. other (ap field_in (same_row limit db are field [] f.id x r m it.1.there e at) ∙ it.1.field_is)));
+                    (drops_rowid limit db are field [] f.id x (are.formed x m) (λ e. other (ap row_field (same_row limit db are field [] f.id x r m it.1.there e at) ∙ it.1.field_is)));
                 from = λ x m. let both = has_filtered (λ y. not (has_rowid f.id y)) (db 0) x m in
                     (both.0, λ same. keeps_rowid limit db are field [] f.id x both.0 both.1 (ap (λ (y : Row). column y 0) (are.once x r both.0 it.1.there (same ∙ sym it.1.field_is)) ∙ at));
               }),

@@ -26,7 +26,7 @@ use Rattle.survey_core.specs.Fields.{name_cmp}
 use Rattle.survey_core.specs.Tables.{Table, AreInOrder, Among}
 use Rattle.survey_core.proofs.Exported.{same_name, name_itself, same_tables}
 use Rattle.survey_core.proofs.Exported as core
-use Rattle.survey_sqlite.specs.Source.{field_in, entry, IsFormed, AreRows, tables_in}
+use Rattle.survey_sqlite.specs.Source.{row_field, entry, IsFormed, AreFieldRows, tables_in}
 use Rattle.survey_sqlite.proofs.Compiled.{simple_query, names_command}
 use Rattle.survey_sqlite.proofs.RowLemmas.{tables_ordered, table_from, table_there}
 use Rattle.survey_sqlite.proofs.TestLemmas.{scanned}
@@ -73,24 +73,24 @@ uncounted f [] none o m = absurd m
 uncounted f (x ∷ os) none o (inl e) = λ same. absurd (omega (arith, none, hits f x os (ap name_of (sym e) ∙ same)))
 uncounted f (x ∷ os) none o (inr m) = uncounted f os (omega (arith, none, more f x os)) o m
 
-not_counted : (f : List ℕ) (rows : List Row) → ((r : Row) → Has rows r → field_in r ≢ f) → count f (map out_of rows) ≡ 0
+not_counted : (f : List ℕ) (rows : List Row) → ((r : Row) → Has rows r → row_field r ≢ f) → count f (map out_of rows) ≡ 0
 not_counted f [] none = refl
 not_counted f (r ∷ rows) none = misses f (out_of r) (map out_of rows) (none r (inl refl)) ∙ not_counted f rows (λ x m. none x (inr m))
 
 below_itself : (r : Row) → value_cmp (rowid r) (rowid r) ≡ Less → ⊥
 below_itself r h = let itself = Rattle.std.proofs.lemmas.Cmp.tied_itself value_cmp_total (rowid r) in let bad : Less ≡ Equal = sym h ∙ itself in cc
 
-counted_once : (f : List ℕ) (rows : List Row) → IsTable rows → ((a b : Row) → Has rows a → Has rows b → field_in a ≡ field_in b → a ≡ b) → count f (map out_of rows) ≤ 1
+counted_once : (f : List ℕ) (rows : List Row) → IsTable rows → ((a b : Row) → Has rows a → Has rows b → row_field a ≡ row_field b → a ≡ b) → count f (map out_of rows) ≤ 1
 counted_once f [] up once = omega arith
-counted_once f (r ∷ rows) up once = go (name_cmp (field_in r) f) refl (counted_once f rows up.1 (λ a b p q. once a b (inr p) (inr q)))
+counted_once f (r ∷ rows) up once = go (name_cmp (row_field r) f) refl (counted_once f rows up.1 (λ a b p q. once a b (inr p) (inr q)))
   where
-    apart : (o : Ordering) → name_cmp (field_in r) f ≡ o → (o ≡ Equal → ⊥) → field_in r ≢ f
+    apart : (o : Ordering) → name_cmp (row_field r) f ≡ o → (o ≡ Equal → ⊥) → row_field r ≢ f
     apart o e other same = other (sym e ∙ subst (λ n. name_cmp n f ≡ Equal) (sym same) (name_itself f))
 
-    go : (o : Ordering) → name_cmp (field_in r) f ≡ o → count f (map out_of rows) ≤ 1 → count f (map out_of (r ∷ rows)) ≤ 1
+    go : (o : Ordering) → name_cmp (row_field r) f ≡ o → count f (map out_of rows) ≤ 1 → count f (map out_of (r ∷ rows)) ≤ 1
     go Less e low = omega (arith, low, misses f (out_of r) (map out_of rows) (apart Less e (λ bad. cc)))
     go Equal e low =
-        let same : field_in r ≡ f = same_name (field_in r) f e in
+        let same : row_field r ≡ f = same_name (row_field r) f e in
         let none : count f (map out_of rows) ≡ 0 = not_counted f rows (λ x m is.
         let alike : x ≡ r = once x r (inr m) (inl refl) (is ∙ sym same) in
         below_itself r (subst (λ y. value_cmp (rowid r) (rowid y) ≡ Less) alike (all_has (λ y. value_cmp (rowid r) (rowid y) ≡ Less) rows x up.0 m))) in
@@ -125,9 +125,9 @@ rises (o ∷ os) are up once = (above os (λ y m. m) up.0, rises os (λ y m. are
       above ys (λ z m. inside z (inr m)) low.1,
     )
 
-module _ (rows : List Row) (are : AreRows rows) (os : List Output) (same : IsPermutation (map out_of rows) os) (up : IsAscending AtMost os) where
-  out_named : (r : Row) → IsFormed r → out_of r ≡ named (field_in r)
-  out_named r f = subst (λ x. out_of x ≡ named (field_in x)) (sym f.is) refl
+module _ (rows : List Row) (are : AreFieldRows rows) (os : List Output) (same : IsPermutation (map out_of rows) os) (up : IsAscending AtMost os) where
+  out_named : (r : Row) → IsFormed r → out_of r ≡ named (row_field r)
+  out_named r f = subst (λ x. out_of x ≡ named (row_field x)) (sym f.is) refl
 
   from_row : (xs : List Row) (o : Output) → Has (map out_of xs) o → (r : Row) × Has xs r × (o ≡ out_of r)
   from_row [] o m = absurd m
@@ -139,16 +139,16 @@ module _ (rows : List Row) (are : AreRows rows) (os : List Output) (same : IsPer
   to_row (x ∷ xs) r (inl e) = inl (ap out_of e)
   to_row (x ∷ xs) r (inr m) = inr (to_row xs r m)
 
-  row_of : (o : Output) → Has os o → (r : Row) × Has rows r × (o ≡ out_of r)
-  row_of o m = from_row rows o (has_contained (map out_of rows) o (Contains-permutation os (map out_of rows) o (IsPermutation-sym (map out_of rows) os same) (contains_had os o m)))
+  ranking_row : (o : Output) → Has os o → (r : Row) × Has rows r × (o ≡ out_of r)
+  ranking_row o m = from_row rows o (has_contained (map out_of rows) o (Contains-permutation os (map out_of rows) o (IsPermutation-sym (map out_of rows) os same) (contains_had os o m)))
 
   of_row : (r : Row) → Has rows r → Has os (out_of r)
   of_row r m = has_contained os (out_of r) (Contains-permutation (map out_of rows) os (out_of r) same (contains_had (map out_of rows) (out_of r) (to_row rows r m)))
 
   are_named : (o : Output) → Has os o → o ≡ named (name_of o)
   are_named o m =
-      let r = row_of o m in
-      let n : out_of r.0 ≡ named (field_in r.0) = out_named r.0 (are.formed r.0 r.1) in
+      let r = ranking_row o m in
+      let n : out_of r.0 ≡ named (row_field r.0) = out_named r.0 (are.formed r.0 r.1) in
       r.2 ∙ n ∙ ap named (sym (ap name_of r.2))
 
   ordered_names : AreInOrder (map strip os)
@@ -188,7 +188,7 @@ module _ (rows : List Row) (are : AreRows rows) (os : List Output) (same : IsPer
 
   listed : map strip os ≡ map bare (tables_in rows)
   listed = same_tables _ _ ordered_names (bare_order (tables_in rows) (tables_ordered rows))
-      (λ t m. let o = among_outputs os t m in let r = row_of o.0 o.1 in
+      (λ t m. let o = among_outputs os t m in let r = ranking_row o.0 o.1 in
       subst (Among (map bare (tables_in rows))) (sym (o.2 ∙ ap strip r.2)) (bare_among (tables_in rows) (entry r.0) (table_there rows are r.0 r.1)))
       (λ t m. let u = among_bare (tables_in rows) t m in let r = table_from rows u.0 u.1 in
       subst (Among (map strip os)) (sym (u.2 ∙ ap bare r.2)) (outputs_among os (out_of r.0) (of_row r.0 r.1)))
@@ -203,7 +203,7 @@ module _ (rows : List Row) (are : AreRows rows) (os : List Output) (same : IsPer
   pub listed_names : map (λ (o : Output). o.1) os ≡ map (λ (t : Table). Text t.0 ∷ []) (tables_in rows)
   listed_names = shows os are_named ∙ ap (map name_row) listed ∙ map-map name_row bare (tables_in rows)
 
-pub reads_names : (db : Database) (are : AreRows (db.trees 0)) (rows : List Row) → Reads names_command db [] rows → rows ≡ map (λ (t : Table). Text t.0 ∷ []) (tables_in (db.trees 0))
+pub reads_names : (db : Database) (are : AreFieldRows (db.trees 0)) (rows : List Row) → Reads names_command db [] rows → rows ≡ map (λ (t : Table). Text t.0 ∷ []) (tables_in (db.trees 0))
 reads_names db are rows h =
     let a : IsAnswer by_name (overlay db.trees []) [] rows = h.answer Null in
     let source = db.trees 0 in

@@ -37,13 +37,13 @@ use Rattle.sqlite_rules.proofs.PlaceLemmas.{tied_same}
 use Rattle.sqlite_schema.specs.declared.schema.Keys.TheVariants.{Enforced}
 use Rattle.sqlite_schema.specs.declared.command.Conflict.TheVariants.{Abort}
 use Rattle.sqlite.specs.Source.TheVariants.{Values}
-use Rattle.sqlite.specs.Rows.{Written, Task, Part, Then, Puts, Clears, Updates, Meets, Upserts, Judged, Tries, TriesEach, InsertsOr, count_of, nothing, joined}
+use Rattle.sqlite.specs.Rows.{Written, Task, Part, Then, Puts, Clears, Updates, Meets, Upserts, Judged, Tries, TriesEach, InsertsOr, count_of, nothing, joined_outcomes}
 use Rattle.sqlite.specs.declared.error.Error.{Error}
 use Rattle.sqlite.proofs.Callers.{one_step}
 use Rattle.survey_core.specs.Fields.{name_cmp}
 use Rattle.survey_core.proofs.Exported.{same_name, name_itself}
 use Rattle.survey_sqlite.specs.Texts.{source, source_schema}
-use Rattle.survey_sqlite.specs.Source.{field_in, IsFormed, AreRows}
+use Rattle.survey_sqlite.specs.Source.{row_field, IsFormed, AreFieldRows}
 use Rattle.survey_sqlite.proofs.Compiled.{alone, update_query, upsert}
 use Rattle.survey_sqlite.proofs.RowLemmas.{Replaces}
 use Rattle.survey_sqlite.proofs.TestLemmas.{cast_null, cast_int, equal_texts, equal_ints, answers_one}
@@ -103,7 +103,7 @@ test_from_same g f e = rw e (ap is_eq (name_itself f))
 
 -- ---- INSERT and its UPDATE, of one row
 
-module _ (limit : Option ℕ) (db : Trees) (are : AreRows (db 0)) (field blob : List ℕ) where
+module _ (limit : Option ℕ) (db : Trees) (are : AreFieldRows (db 0)) (field blob : List ℕ) where
   abbrev params : Row
   params = Text field ∷ Blob blob ∷ []
 
@@ -114,7 +114,7 @@ module _ (limit : Option ℕ) (db : Trees) (are : AreRows (db 0)) (field blob : 
   new_row id = Int id ∷ Text field ∷ Blob blob ∷ []
 
   -- a row that is put where no row has its field
-  pub puts : (id : ℤ) (w : Written) → ((r : Row) → Has (db 0) r → field_in r ≢ field) → Puts task (new_row id) db (Ok w) → Replaces (db 0) field blob (w.trees 0)
+  pub puts : (id : ℤ) (w : Written) → ((r : Row) → Has (db 0) r → row_field r ≢ field) → Puts task (new_row id) db (Ok w) → Replaces (db 0) field blob (w.trees 0)
   puts id w none h =
       let done = went h in
       let edit = edit_of db source [] Given 0 (new_row id ∷ []) in
@@ -191,7 +191,7 @@ module _ (limit : Option ℕ) (db : Trees) (are : AreRows (db 0)) (field blob : 
         id = id;
         there = put_all_adds (new_row id ∷ []) left (new_row id) fresh (inl refl);
         keeps = λ r k other. put_all_keeps (new_row id ∷ []) left r fresh (has_kept (λ x. not (has_rowid id x)) (db 0) r k
-            (drops_rowid id r (are.formed r k) (λ e. other (ap field_in (same_row id r there k m e refl)))));
+            (drops_rowid id r (are.formed r k) (λ e. other (ap row_field (same_row id r there k m e refl)))));
         from = λ r k. elim (put_all_has (new_row id ∷ []) left r k) [
           | inl e ↦ elim e [ inl same ↦ inl same | inr bad ↦ absurd bad ]
           | inr n ↦ let both = has_filtered (λ x. not (has_rowid id x)) (db 0) r n in
@@ -201,12 +201,12 @@ module _ (limit : Option ℕ) (db : Trees) (are : AreRows (db 0)) (field blob : 
 
   -- ---- the whole INSERT
 
-  clears : (id : ℤ) (w : Written) (found : List Row) → ((r : Row) → Has (db 0) r → field_in r ≢ field) → Clears task Abort (new_row id) db found (Ok w) → Replaces (db 0) field blob (w.trees 0)
+  clears : (id : ℤ) (w : Written) (found : List Row) → ((r : Row) → Has (db 0) r → row_field r ≢ field) → Clears task Abort (new_row id) db found (Ok w) → Replaces (db 0) field blob (w.trees 0)
   clears id w [] none h = puts id w none h
   clears id w (x ∷ found) none h = puts id w none h
 
-  conflict_of : (id : ℤ) (r : Row) → IsFormed r → conflicts (Some (1 ∷ [])) source_schema.indexes source (new_row id) r ≡ is_eq (name_cmp (field_in r) field)
-  conflict_of id r f = subst (λ x. conflicts (Some (1 ∷ [])) source_schema.indexes source (new_row id) x ≡ is_eq (name_cmp (field_in x) field)) (sym f.is) (conflict_is f.field field (Int f.id) (Int id) f.blob blob)
+  conflict_of : (id : ℤ) (r : Row) → IsFormed r → conflicts (Some (1 ∷ [])) source_schema.indexes source (new_row id) r ≡ is_eq (name_cmp (row_field r) field)
+  conflict_of id r f = subst (λ x. conflicts (Some (1 ∷ [])) source_schema.indexes source (new_row id) x ≡ is_eq (name_cmp (row_field x) field)) (sym f.is) (conflict_is f.field field (Int f.id) (Int id) f.blob blob)
 
   upserts : (id : ℤ) (w : Written) → Upserts task Abort (new_row id) db (upsert ∷ []) (Ok w) → Replaces (db 0) field blob (w.trees 0)
   upserts id w h = go h.0 h.1 h.2
@@ -214,11 +214,11 @@ module _ (limit : Option ℕ) (db : Trees) (are : AreRows (db 0)) (field blob : 
       go : (found : List Row) → AreConflicts (Some (1 ∷ [])) source_schema.indexes source (db 0) (new_row id) found → Meets task (Upserts task Abort (new_row id) db []) (new_row id) db upsert found (Ok w)
           → Replaces (db 0) field blob (w.trees 0)
       go [] are_they met =
-          clears id w met.0 (λ r m same. are_they.complete r m (conflict_of id r (are.formed r m) ∙ test_from_same (field_in r) field same)) met.2
+          clears id w met.0 (λ r m same. are_they.complete r m (conflict_of id r (are.formed r m) ∙ test_from_same (row_field r) field same)) met.2
       go (x ∷ more) are_they met =
           let it = are_they.sound x (inl refl) in
           let f = are.formed it.0 it.1 in
-          let same : f.field ≡ field = sym (ap field_in f.is) ∙ same_from_test (field_in it.0) field (sym (conflict_of id it.0 f) ∙ it.2) in
+          let same : f.field ≡ field = sym (ap row_field f.is) ∙ same_from_test (row_field it.0) field (sym (conflict_of id it.0 f) ∙ it.2) in
           let row : it.0 ≡ Int f.id ∷ Text field ∷ Blob f.blob ∷ [] = f.is ∙ ap (λ g. Int f.id ∷ Text g ∷ Blob f.blob ∷ []) same in
           let key : x ≡ Int f.id ∷ [] = it.3 ∙ ap (λ (r : Row). column r 0 ∷ []) row in
           updates f.id id f.blob w (subst (Has (db 0)) row it.1)
@@ -243,6 +243,6 @@ module _ (limit : Option ℕ) (db : Trees) (are : AreRows (db 0)) (field blob : 
       let first = went (subst (λ rs. TriesEach task Abort (upsert ∷ []) rs top (nothing db) (Ok each.0)) given.1.1 each.1) in
       let new : with_rowid Chosen (db 0) (cast_row source one_row) ≡ new_row (next_rowid (db 0)) = rw cast_null refl in
       let done : Replaces (db 0) field blob (first.0.trees 0) = tried (next_rowid (db 0)) first.0 (subst (λ r. Tries task Abort (upsert ∷ []) r db (Ok first.0)) new first.1) in
-      let written : each.0.0 ≡ joined (nothing db) first.0 = ap (λ (p : Written × ℤ). p.0) (same_value first.2) in
+      let written : each.0.0 ≡ joined_outcomes (nothing db) first.0 = ap (λ (p : Written × ℤ). p.0) (same_value first.2) in
       let trees : w.trees ≡ first.0.trees = ap (λ (x : Written). x.trees) (same_value counted.2) ∙ same_value counted.1 ∙ ap (λ (x : Written). x.trees) written in
       subst (λ (t : Trees). Replaces (db 0) field blob (t 0)) (sym trees) done

@@ -15,10 +15,10 @@ use Rattle.sqlite.specs.Does.{Tally, Does, lacks_sequence}
 use Rattle.sqlite.specs.State.{State, mode_of, Writes, Executes, ExecutesIn, RunsAlone, RunsCommand, Shown, FailsToQuery, FailsToShow, ShowsRows, IsNotRun, IsUnchanged, IsRolledBack, HasCleanDisk, shows_rows, Opens}
 use Rattle.sqlite.proofs.Callers.{IsPlain, runs_as, reads_as, statement_of}
 use Rattle.survey_core.specs.Fields.{is_name}
-use Rattle.survey_core.specs.Tables.{IsNumbered, put, without, cells_of}
+use Rattle.survey_core.specs.Tables.{IsNumbered, put, without, cells_of_field}
 use Rattle.survey_sqlite.specs.Texts.{create_text, replace_text, remove_text, rows_text, names_text, no_schema, source, source_schema}
-use Rattle.survey_sqlite.specs.Blobs.{cells_in}
-use Rattle.survey_sqlite.specs.Source.{AreRows, IsAtRest, tables_in}
+use Rattle.survey_sqlite.specs.Blobs.{blob_cells}
+use Rattle.survey_sqlite.specs.Source.{AreFieldRows, IsAtRest, tables_in}
 use Rattle.survey_sqlite.specs.Steps.{Turns, CountsFound, AnswersCells, AnswersNames}
 use Rattle.survey_sqlite.proofs.Compiled.{create_is, created_is, create_plain, replace_is, replace_plain, replace_command, remove_is, remove_plain, remove_command, rows_is, rows_plain, rows_command, names_is, names_plain, names_command}
 use Rattle.survey_sqlite.proofs.RowLemmas.{Replaces, Removes, replaced_rows, replaced_tables, removed_rows, removed_tables, cells_there, cells_not_there}
@@ -59,7 +59,7 @@ kept_at_rest old new rest still (inl h) =
         settled = same ∙ rest.settled ∙ sym h.0.committed_is;
         autocommit = h.0.mode ∙ rest.autocommit;
         schema = ap (λ (d : Database). d.schema) same ∙ rest.schema;
-        rows = subst (λ (d : Database). AreRows (d.trees 0)) (sym same) rest.rows;
+        rows = subst (λ (d : Database). AreFieldRows (d.trees 0)) (sym same) rest.rows;
       },
       same,
     )
@@ -71,7 +71,7 @@ kept_at_rest old new rest still (inr h) =
         settled = both.0 ∙ sym both.1;
         autocommit = h.autocommit;
         schema = ap (λ (d : Database). d.schema) same ∙ rest.schema;
-        rows = subst (λ (d : Database). AreRows (d.trees 0)) (sym same) rest.rows;
+        rows = subst (λ (d : Database). AreFieldRows (d.trees 0)) (sym same) rest.rows;
       },
       same,
     )
@@ -95,15 +95,15 @@ creates old new count fresh has h =
         settled = sym (w.shown.committed_is ∙ rw fresh.autocommit refl);
         autocommit = w.shown.mode ∙ fresh.autocommit;
         schema = ap (λ (d : Database). d.schema) now ∙ schema;
-        rows = subst AreRows (sym empty) (record { ordered = tt; formed = λ r m. absurd m; once = λ a b p q e. absurd p });
+        rows = subst AreFieldRows (sym empty) (record { ordered = tt; formed = λ r m. absurd m; once = λ a b p q e. absurd p });
       },
       ap tables_in empty,
     )
 
 -- ---- replace
 
-pub replaces : (old new : State) (field blob : List ℕ) (count : ℕ) → IsAtRest old → is_name field ≡ true → IsNumbered (cells_in blob) → Executes replace_text (Text field ∷ Blob blob ∷ []) old new (Ok count)
-    → IsAtRest new × (tables_in (new.now.trees 0) ≡ put field (cells_in blob) (tables_in (old.now.trees 0)))
+pub replaces : (old new : State) (field blob : List ℕ) (count : ℕ) → IsAtRest old → is_name field ≡ true → IsNumbered (blob_cells blob) → Executes replace_text (Text field ∷ Blob blob ∷ []) old new (Ok count)
+    → IsAtRest new × (tables_in (new.now.trees 0) ≡ put field (blob_cells blob) (tables_in (old.now.trees 0)))
 replaces old new field blob count rest named numbered h =
     let params = Text field ∷ Blob blob ∷ [] in
     let db = old.now.trees in
@@ -132,15 +132,15 @@ turned_err old new sql params e h clean still rest =
     let kept = kept_at_rest old new rest still (execute_kept sql params old new e (h clean)) in
     (kept.0, ap (λ (d : Database). tables_in (d.trees 0)) kept.1)
 
-pub replace_turns : (old new : State) (field blob : List ℕ) (r : Result ℕ Error) → is_name field ≡ true → IsNumbered (cells_in blob) → (HasCleanDisk new → Executes replace_text (Text field ∷ Blob blob ∷ []) old new r)
-    → OnOk r (Turns old new (put field (cells_in blob))) × OnErr r (Turns old new (λ tables. tables))
+pub replace_turns : (old new : State) (field blob : List ℕ) (r : Result ℕ Error) → is_name field ≡ true → IsNumbered (blob_cells blob) → (HasCleanDisk new → Executes replace_text (Text field ∷ Blob blob ∷ []) old new r)
+    → OnOk r (Turns old new (put field (blob_cells blob))) × OnErr r (Turns old new (λ tables. tables))
 replace_turns old new field blob (Ok count) named numbered h = (λ clean still rest. replaces old new field blob count rest named numbered (h clean), tt)
 replace_turns old new field blob (Err e) named numbered h = (tt, turned_err old new replace_text _ e h)
 
 -- ---- remove
 
 pub removes : (old new : State) (field : List ℕ) (count : ℕ) → IsAtRest old → Executes remove_text (Text field ∷ []) old new (Ok count)
-    → IsAtRest new × (tables_in (new.now.trees 0) ≡ without field (tables_in (old.now.trees 0))) × ((count == 1) ≡ is_some (cells_of field (tables_in (old.now.trees 0))))
+    → IsAtRest new × (tables_in (new.now.trees 0) ≡ without field (tables_in (old.now.trees 0))) × ((count == 1) ≡ is_some (cells_of_field field (tables_in (old.now.trees 0))))
 removes old new field count rest h =
     let params = Text field ∷ [] in
     let db = old.now.trees in

@@ -2,12 +2,12 @@
 use Rattle.std.specs.Prelude.{◌≡◌, ◌⊎◌, ◌==◌, ◌<◌, ◌+◌, ℕ, List, [], length, get_or, ◌∷◌, None, Some, is_some, map, IsTrue}
 use Rattle.sqlite.specs.declared.types.Value.TheVariants.{Text, Blob}
 use Rattle.sqlite.specs.Order.{Row, column, bytes}
-use Rattle.survey_sqlite.specs.Blobs.{cells_in}
+use Rattle.survey_sqlite.specs.Blobs.{blob_cells}
 use Rattle.sqlite.specs.Disk.{MoreFaults}
 use Rattle.sqlite.specs.State.{State, HasCleanDisk}
 use Rattle.std.specs.declared.cmp.Ordering.TheVariants.{Less}
 use Rattle.survey_core.specs.Fields.{name_cmp}
-use Rattle.survey_core.specs.Tables.{Table, cells_of}
+use Rattle.survey_core.specs.Tables.{Table, cells_of_field}
 use Rattle.survey_sqlite.specs.Source.{IsAtRest, tables_in}
 
 abbrev pub tables_of : State → List Table
@@ -23,13 +23,13 @@ StaysOpen old new = HasCleanDisk new → IsTrue old.is_open → IsTrue new.is_op
 
 -- how many rows were deleted, where it was at rest
 abbrev pub CountsFound : State → State → List ℕ → ℕ → Type 0
-CountsFound old new field count = HasCleanDisk new → IsAtRest old → (count == 1) ≡ is_some (cells_of field (tables_of old))
+CountsFound old new field count = HasCleanDisk new → IsAtRest old → (count == 1) ≡ is_some (cells_of_field field (tables_of old))
 
 -- no row, and then the field is not there, or one, which has its blob alone
 abbrev pub IsCellsOf : List Table → List ℕ → List Row → Type 0
 IsCellsOf tables field rows =
-    ((rows ≡ []) × (cells_of field tables ≡ None))
-    ⊎ ((blob : List ℕ) × (rows ≡ (Blob blob ∷ []) ∷ []) × (cells_of field tables ≡ Some (cells_in blob)))
+    ((rows ≡ []) × (cells_of_field field tables ≡ None))
+    ⊎ ((blob : List ℕ) × (rows ≡ (Blob blob ∷ []) ∷ []) × (cells_of_field field tables ≡ Some (blob_cells blob)))
 
 abbrev pub AnswersCells : State → State → List ℕ → List Row → Type 0
 AnswersCells old new field rows = HasCleanDisk new → IsAtRest old → IsCellsOf (tables_of old) field rows

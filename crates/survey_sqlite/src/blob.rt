@@ -1,7 +1,7 @@
 //! Cells as bytes: 64 bits each, the most significant byte first.
 ghost use Rattle.std.specs.Prelude.{◌≡◌, ◌≢◌, ◌%◌, length, IfOk, MatchOption};
 ghost use Rattle.survey_core.specs.Tables.{IsNumbered};
-ghost use Rattle.survey_sqlite.specs.Blobs.{blob_of, cells_in, IsBlob};
+ghost use Rattle.survey_sqlite.specs.Blobs.{blob_of, blob_cells, IsBlob};
 
 use dev_io::OutOfMemory;
 use std::alloc::Global;
@@ -10,7 +10,7 @@ use survey_core::are_numbered;
 /// The bytes of the cells.
 pub fn blob_of(alloc: Global, cells: &[i64]) -> Result<Vec<u8>, OutOfMemory>
     ensures bytes { IfOk result (λ blob. blob.items ≡ blob_of cells.now) }
-    ensures back { IfOk result (λ blob. cells_in blob.items ≡ cells.now) }
+    ensures back { IfOk result (λ blob. blob_cells blob.items ≡ cells.now) }
 {
     let mut blob = Vec::new(alloc);
     for cell in cells {
@@ -21,7 +21,7 @@ pub fn blob_of(alloc: Global, cells: &[i64]) -> Result<Vec<u8>, OutOfMemory>
 
 // The cells of the bytes, where these are whole cells.
 fn whole_cells(alloc: Global, blob: &[u8]) -> Result<Option<Vec<i64>>, OutOfMemory>
-    ensures { IfOk result (λ some. MatchOption some (length blob.now % 8 ≢ 0) (λ cells. cells.items ≡ cells_in blob.now)) }
+    ensures { IfOk result (λ some. MatchOption some (length blob.now % 8 ≢ 0) (λ cells. cells.items ≡ blob_cells blob.now)) }
 {
     let mut cells = Vec::new(alloc);
     let mut rest = blob;
@@ -38,7 +38,7 @@ fn whole_cells(alloc: Global, blob: &[u8]) -> Result<Option<Vec<i64>>, OutOfMemo
 
 /// The cells of the bytes, where these are whole rows, each with the number of its place. Only another program writes others.
 pub fn cells_of(alloc: Global, blob: &[u8]) -> Result<Option<Vec<i64>>, OutOfMemory>
-    ensures { IfOk result (λ some. MatchOption some (IsBlob blob.now → ⊥) (λ cells. (cells.items ≡ cells_in blob.now) × IsNumbered cells.items)) }
+    ensures { IfOk result (λ some. MatchOption some (IsBlob blob.now → ⊥) (λ cells. (cells.items ≡ blob_cells blob.now) × IsNumbered cells.items)) }
 {
     let Some(cells) = whole_cells(alloc, blob)? else {
         return Ok(None);

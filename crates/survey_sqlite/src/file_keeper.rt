@@ -1,7 +1,7 @@
 //! Tables in a database file.
 ghost use Rattle.std.specs.Prelude.{◌≡◌, ◌≤◌, IfOk, IfErr, IfSome};
 ghost use Rattle.std.specs.Option.{option_map};
-ghost use Rattle.survey_core.specs.Tables.{IsNumbered, cells_of, names_of};
+ghost use Rattle.survey_core.specs.Tables.{IsNumbered, cells_of_field, names_of};
 ghost use Rattle.survey_core.specs.Clauses.{Stays, HasFault};
 ghost use Rattle.survey_sqlite.specs.Steps.{AreRising};
 ghost use Rattle.dev_io.specs.Causes.{Rose};
@@ -158,7 +158,7 @@ impl Keeper for FileKeeper<'_> {
     }
 
     fn rows(&mut self, alloc: Global, field: Field) -> Result<Option<Vec<i64>>, Refused>
-        ensures rows { IfOk result (λ rows. IfSome (file_tables self.old) (λ tables. option_map (λ cells. cells.items) rows ≡ cells_of field tables)) }
+        ensures rows { IfOk result (λ rows. IfSome (file_tables self.old) (λ tables. option_map (λ cells. cells.items) rows ≡ cells_of_field field tables)) }
         ensures kept { Stays (file_tables self.old) (file_tables self.new) }
         ensures cause { HasFault (file_faults self.old) (file_faults self.new) result }
         // Whatever the file holds, what comes of it is whole rows, each with the number of its place.

@@ -1,7 +1,7 @@
 //! The statements over memory, which is always clean and open.
 ghost use Rattle.std.specs.Prelude.{◌≡◌, ◌==◌, true, List, OnOk, OnErr, IfOk, Some, is_some, map, []};
-ghost use Rattle.survey_core.specs.Tables.{IsNumbered, put, without, cells_of};
-ghost use Rattle.survey_sqlite.specs.Blobs.{cells_in};
+ghost use Rattle.survey_core.specs.Tables.{IsNumbered, put, without, cells_of_field};
+ghost use Rattle.survey_sqlite.specs.Blobs.{blob_cells};
 ghost use Rattle.survey_sqlite.specs.Steps.{IsCellsOf, are_names};
 ghost use Rattle.survey_sqlite.specs.Keepers.{tables_held, Rests};
 
@@ -25,9 +25,9 @@ pub(crate) fn put(
     blob: &[u8],
 ) -> Result<usize, Error>
     requires rests { ∥ Rests conn.old ∥₁ }
-    requires numbered { IsNumbered (cells_in blob.now) }
+    requires numbered { IsNumbered (blob_cells blob.now) }
     ensures rests { ∥ Rests conn.new ∥₁ }
-    ensures done { OnOk result (tables_held (Some conn.new) ≡ put field.now (cells_in blob.now) (tables_held (Some conn.old))) }
+    ensures done { OnOk result (tables_held (Some conn.new) ≡ put field.now (blob_cells blob.now) (tables_held (Some conn.old))) }
     ensures kept { OnErr result (tables_held (Some conn.new) ≡ tables_held (Some conn.old)) }
 {
     put_row(conn, field, blob)
@@ -37,7 +37,7 @@ pub(crate) fn remove(conn: &mut Connection<MemStore>, field: &Field) -> Result<u
     requires { ∥ Rests conn.old ∥₁ }
     ensures rests { ∥ Rests conn.new ∥₁ }
     ensures done { OnOk result (tables_held (Some conn.new) ≡ without field.now (tables_held (Some conn.old))) }
-    ensures found { IfOk result (λ count. (count == 1) ≡ is_some (cells_of field.now (tables_held (Some conn.old)))) }
+    ensures found { IfOk result (λ count. (count == 1) ≡ is_some (cells_of_field field.now (tables_held (Some conn.old)))) }
     ensures kept { OnErr result (tables_held (Some conn.new) ≡ tables_held (Some conn.old)) }
 {
     remove_row(conn, field)

@@ -1,8 +1,8 @@
 //! The rows that a query answers, read as fields and cells.
 ghost use Rattle.std.specs.Prelude.{◌≡◌, ℕ, List, IfOk, IfSome, IsTrue, map, Some};
-ghost use Rattle.survey_sqlite.specs.Blobs.{cells_in};
+ghost use Rattle.survey_sqlite.specs.Blobs.{blob_cells};
 ghost use Rattle.std.specs.Option.{option_map};
-ghost use Rattle.survey_core.specs.Tables.{Table, IsNumbered, cells_of};
+ghost use Rattle.survey_core.specs.Tables.{Table, IsNumbered, cells_of_field};
 ghost use Rattle.survey_core.specs.Fields.{name_cmp};
 ghost use Rattle.survey_sqlite.specs.Steps.{IsCellsOf, AreRising, text_in};
 
@@ -23,7 +23,7 @@ pub(crate) enum Unread {
 
 /// The cells of the one row, if there is one: its blob holds whole rows, each with the number of its place.
 pub(crate) fn read_cells(alloc: Global, rows: &[Row]) -> Result<Option<Vec<i64>>, Unread>
-    ensures cells { (tables : List Table) (field : List ℕ) → IsCellsOf tables field rows.now → IfOk result (λ cells. option_map (λ c. c.items) cells ≡ cells_of field tables) }
+    ensures cells { (tables : List Table) (field : List ℕ) → IsCellsOf tables field rows.now → IfOk result (λ cells. option_map (λ c. c.items) cells ≡ cells_of_field field tables) }
     ensures numbered { IfOk result (λ cells. IfSome cells (λ cells. IsNumbered cells.items)) }
 {
     if rows.is_empty() {
@@ -39,7 +39,7 @@ pub(crate) fn read_cells(alloc: Global, rows: &[Row]) -> Result<Option<Vec<i64>>
 }
 
 fn read_blob(alloc: Global, blob: &[u8]) -> Result<Option<Vec<i64>>, Unread>
-    ensures cells { IfOk result (λ cells. option_map (λ c. c.items) cells ≡ Some (cells_in blob.now)) }
+    ensures cells { IfOk result (λ cells. option_map (λ c. c.items) cells ≡ Some (blob_cells blob.now)) }
     ensures numbered { IfOk result (λ cells. IfSome cells (λ cells. IsNumbered cells.items)) }
 {
     match cells_of(alloc, blob) {

@@ -1,12 +1,12 @@
 //! The statements on the table `source`, over any store.
 ghost use Rattle.std.specs.Prelude.{◌≡◌, true, List, OnOk, OnErr, IfOk, IfSome, is_some, []};
 ghost use Rattle.std.specs.Option.{option_map};
-ghost use Rattle.survey_core.specs.Tables.{IsNumbered, put, without, cells_of};
+ghost use Rattle.survey_core.specs.Tables.{IsNumbered, put, without, cells_of_field};
 ghost use Rattle.sqlite.specs.Held.{state};
 ghost use Rattle.sqlite.specs.State.{HasCleanDisk, Opens};
 ghost use Rattle.survey_sqlite.specs.Texts.{no_schema};
 ghost use Rattle.survey_sqlite.specs.Source.{IsAtRest};
-ghost use Rattle.survey_sqlite.specs.Blobs.{cells_in};
+ghost use Rattle.survey_sqlite.specs.Blobs.{blob_cells};
 ghost use Rattle.survey_sqlite.specs.Steps.{Turns, StaysOpen, AnswersCells, CountsFound, AnswersNames, tables_of};
 
 use sqlite::{Alter, Connection, Error, Row};
@@ -29,8 +29,8 @@ pub(crate) fn put_row<S: Alter>(
     field: &Field,
     blob: &[u8],
 ) -> Result<usize, Error>
-    requires { IsNumbered (cells_in blob.now) }
-    ensures done { OnOk result (Turns (state S.Store conn.old) (state S.Store conn.new) (put field.now (cells_in blob.now))) }
+    requires { IsNumbered (blob_cells blob.now) }
+    ensures done { OnOk result (Turns (state S.Store conn.old) (state S.Store conn.new) (put field.now (blob_cells blob.now))) }
     ensures kept { OnErr result (Turns (state S.Store conn.old) (state S.Store conn.new) (λ tables. tables)) }
     ensures still { StaysOpen (state S.Store conn.old) (state S.Store conn.new) }
 {

@@ -9,8 +9,10 @@ use Rattle.comp_tree.specs.Forest.{no_node, link_of}
 pub data IsFit (r : Raster) (connect : Connect) (links : List ℕ) (p : ℕ) : Type 0 where
   outside : IsFalse (is_defined r p) → link_of 0 links p ≡ no_node → IsFit r connect links p
   root : IsTrue (is_defined r p) → representative r connect p ≡ p → parent_of r connect p ≡ no_node → link_of 0 links p ≡ no_node → IsFit r connect links p
-  inside : IsTrue (is_defined r p) → IsTrue (is_defined r (link_of 0 links p)) → node_of r connect (link_of 0 links p) ≡ node_of r connect p → link_of 0 links p < p → IsFit r connect links p
-  up : IsTrue (is_defined r p) → representative r connect p ≡ p → IsTrue (is_defined r (link_of 0 links p)) → node_of r connect (link_of 0 links p) ≡ parent_of r connect p → IsFit r connect links p
+  inside : IsTrue (is_defined r p) → IsTrue (is_defined r (link_of 0 links p)) → node_of r connect (link_of 0 links p) ≡ node_of r connect p
+      → link_of 0 links p < p → IsFit r connect links p
+  up : IsTrue (is_defined r p) → representative r connect p ≡ p → IsTrue (is_defined r (link_of 0 links p))
+      → node_of r connect (link_of 0 links p) ≡ parent_of r connect p → IsFit r connect links p
 
 -- those of the first n pixels fit
 abbrev pub AreFit : Raster → Connect → List ℕ → ℕ → Type 0

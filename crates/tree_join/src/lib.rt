@@ -48,7 +48,7 @@ fn link_past<M: Ledger>(
     looks: &mut Steps<M>,
 ) -> Option<u32>
     requires rows { first + length parents.old ≤ length plane.now.values }
-    requires small { length plane.now.values ≤ 16777216 }
+    requires small { length plane.now.values ≤ 2 ^ 24 }
     requires forest { IsForest plane.now.values first parents.old }
     requires p_in { IsPixel plane.now.values first (length parents.old) p }
     ensures forest { IsForest plane.now.values first parents.new }
@@ -83,7 +83,7 @@ fn link_past<M: Ledger>(
 // looks are paid for by none.
 fn shorten<M: Ledger>(parents: &mut [u32], plane: &Plane, first: u32, p: u32, looks: &mut Steps<M>)
     requires rows { first + length parents.old ≤ length plane.now.values }
-    requires small { length plane.now.values ≤ 16777216 }
+    requires small { length plane.now.values ≤ 2 ^ 24 }
     requires forest { IsForest plane.now.values first parents.old }
     requires p_in { IsPixel plane.now.values first (length parents.old) p }
     ensures forest { IsForest plane.now.values first parents.new }
@@ -114,7 +114,7 @@ fn move_later<M: Ledger>(
     looks: &mut Steps<M>,
 ) -> Option<(u32, u32)>
     requires rows { first + length parents.old ≤ length plane.now.values }
-    requires small { length plane.now.values ≤ 16777216 }
+    requires small { length plane.now.values ≤ 2 ^ 24 }
     requires forest { IsForest plane.now.values first parents.old }
     requires a_in { IsPixel plane.now.values first (length parents.old) a }
     requires b_in { IsPixel plane.now.values first (length parents.old) b }
@@ -155,7 +155,7 @@ fn turn<M: Ledger>(
     looks: &mut Steps<M>,
 ) -> Option<(u32, u32)>
     requires rows { first + length parents.old ≤ length plane.now.values }
-    requires small { length plane.now.values ≤ 16777216 }
+    requires small { length plane.now.values ≤ 2 ^ 24 }
     requires forest { IsForest plane.now.values first parents.old }
     requires a_in { IsPixel plane.now.values first (length parents.old) a }
     requires b_in { IsPixel plane.now.values first (length parents.old) b }
@@ -218,7 +218,7 @@ fn link_up<M: Ledger>(
     looks: &mut Steps<M>,
 ) -> Option<u32>
     requires rows { first + length parents.old ≤ length plane.now.values }
-    requires small { length plane.now.values ≤ 16777216 }
+    requires small { length plane.now.values ≤ 2 ^ 24 }
     requires forest { IsForest plane.now.values first parents.old }
     requires at_in { IsPixel plane.now.values first (length parents.old) at }
     requires b_in { IsPixel plane.now.values first (length parents.old) b }
@@ -253,7 +253,7 @@ fn next_up<M: Ledger>(
     looks: &mut Steps<M>,
 ) -> Option<u32>
     requires rows { first + length parents.old ≤ length plane.now.values }
-    requires small { length plane.now.values ≤ 16777216 }
+    requires small { length plane.now.values ≤ 2 ^ 24 }
     requires forest { IsForest plane.now.values first parents.old }
     requires at_in { IsPixel plane.now.values first (length parents.old) at }
     requires b_in { IsPixel plane.now.values first (length parents.old) b }
@@ -293,7 +293,7 @@ fn climb<L: Ledger, M: Ledger>(
     looks: &mut Steps<M>,
 ) -> u32
     requires rows { first + length parents.old ≤ length plane.now.values }
-    requires small { length plane.now.values ≤ 16777216 }
+    requires small { length plane.now.values ≤ 2 ^ 24 }
     requires forest { IsForest plane.now.values first parents.old }
     requires p_in { IsPixel plane.now.values first (length parents.old) p }
     requires b_in { IsPixel plane.now.values first (length parents.old) b }
@@ -337,7 +337,7 @@ fn join_later<L: Ledger, M: Ledger>(
     looks: &mut Steps<M>,
 )
     requires rows { first + length parents.old ≤ length plane.now.values }
-    requires small { length plane.now.values ≤ 16777216 }
+    requires small { length plane.now.values ≤ 2 ^ 24 }
     requires forest { IsForest plane.now.values first parents.old }
     requires p_in { IsPixel plane.now.values first (length parents.old) p }
     requires q_in { IsPixel plane.now.values first (length parents.old) q }
@@ -379,7 +379,7 @@ fn join_pair<L: Ledger, M: Ledger>(
     looks: &mut Steps<M>,
 )
     requires rows { first + length parents.old ≤ length plane.now.values }
-    requires small { length plane.now.values ≤ 16777216 }
+    requires small { length plane.now.values ≤ 2 ^ 24 }
     requires forest { IsForest plane.now.values first parents.old }
     requires p_in { IsPixel plane.now.values first (length parents.old) p }
     requires q_in { IsPixel plane.now.values first (length parents.old) q }
@@ -414,7 +414,7 @@ fn join_span<L: Ledger, M: Ledger>(
     looks: &mut Steps<M>,
 )
     requires rows { first + length parents.old ≤ length plane.now.values }
-    requires small { length plane.now.values ≤ 16777216 }
+    requires small { length plane.now.values ≤ 2 ^ 24 }
     requires forest { IsForest plane.now.values first parents.old }
     requires low { first ≤ low }
     requires span { low ≤ high }
@@ -446,7 +446,7 @@ fn join_span<L: Ledger, M: Ledger>(
 // The columns from and up to which a pixel of column `x` has neighbours in the next row.
 fn columns(connect: Connect, width: u32, x: u32) -> (u32, u32)
     requires inside { x < width }
-    requires small { width ≤ 16777216 }
+    requires small { width ≤ 2 ^ 24 }
     ensures first { result.0 ≡ first_column connect x }
     ensures end { result.1 ≡ end_column connect width x }
 {
@@ -471,7 +471,7 @@ fn join_rows<L: Ledger, M: Ledger>(
 )
     requires width { 0 < width }
     requires rows { first_row * width + length parents.old ≤ length plane.now.values }
-    requires small { length plane.now.values ≤ 16777216 }
+    requires small { length plane.now.values ≤ 2 ^ 24 }
     requires below { first_row < row }
     requires inside { (row + 1) * width ≤ first_row * width + length parents.old }
     requires forest { IsForest plane.now.values (first_row * width) parents.old }

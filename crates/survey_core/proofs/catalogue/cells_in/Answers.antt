@@ -1,13 +1,13 @@
 use Rattle.std.proofs.Common.{◌≡◌, ◌∙◌, ◌∷◌, ap₂, refl, rules, ℤ, to_z, of_z, w64, SFits}
 use Rattle.std.proofs.lemmas.Int.{to_z-of_z}
-use Rattle.survey_core.specs.Catalogues.{cells_in}
+use Rattle.survey_core.specs.Catalogues.{row_cells}
 use Rattle.survey_core.proofs.catalogue.cells_in.Goals as goal
 
 again : (x y : ℤ) → SFits w64 x → x ≡ y → to_z w64 (of_z w64 x) ≡ y
 again x y fits is = to_z-of_z w64 x fits ∙ is
 
 pub returns : goal.returns
-unfolding cells_in
+unfolding row_cells
 returns c =
     ap₂ ◌∷◌ (again _ _ (search rules) c.short.ensures)
     (ap₂ ◌∷◌ (again _ _ (search rules) c.long.ensures)

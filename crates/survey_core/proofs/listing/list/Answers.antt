@@ -5,12 +5,12 @@ use Rattle.dev_io.specs.Streams.{AppendsPrefix}
 use Rattle.survey_core.specs.declared.words.Command.TheVariants.{List as Listing}
 use Rattle.survey_core.specs.Tables.{Table}
 use Rattle.survey_core.specs.declared.listing.Summary.{Summary}
-use Rattle.survey_core.specs.Listings.{list_lines, summary_line, summary_of}
+use Rattle.survey_core.specs.Listings.{list_lines, summary_line, table_summary}
 use Rattle.survey_core.proofs.Keeping.{at_some, stays_at}
 use Rattle.survey_core.proofs.Printing.{printed, cut_short, not_done}
 use Rattle.survey_core.proofs.listing.list.Goals as goal
 
-lines_are : (ts : List Table) (got items : List Summary) → got ≡ items → items ≡ map summary_of ts → concat (map summary_line got) ≡ list_lines ts
+lines_are : (ts : List Table) (got items : List Summary) → got ≡ items → items ≡ map table_summary ts → concat (map summary_line got) ≡ list_lines ts
 unfolding list_lines
 lines_are ts got items same are = ap (λ l. concat (map summary_line l)) (same ∙ are)
 

@@ -1,7 +1,7 @@
 use Rattle.std.proofs.Common.{sym, ap, subst, List, ℕ}
 use Rattle.command_line.specs.Lines.{texts}
 use Rattle.survey_core.specs.Commands.{commands_of}
-use Rattle.survey_core.specs.Answers.{note_of}
+use Rattle.survey_core.specs.Answers.{session_note}
 use Rattle.command_line.specs.Notes.{Noted}
 use Rattle.survey_core.proofs.Ending.{cut_with, answers_end, word_noted}
 use Rattle.survey_core.proofs.top.run_survey.Goals as goal
@@ -12,7 +12,7 @@ returns-clause-cut g c = λ high bytes e ts t. cut_with (texts c.args.words.now)
 pub returns-clause-notes : goal.returns-clause-notes
 returns-clause-notes g c = λ low bytes e ts t.
     subst (λ (l : List ℕ). Noted (g.N.Sink.written c.args.notes.now) (g.N.Sink.written c.tell.new.notes) (g.N.Sink.settled c.tell.new.notes) (g.N.Sink.faults c.args.notes.now) (g.N.Sink.faults c.tell.new.notes) l)
-    (sym (ap note_of (answers_end (texts c.args.words.now) bytes ts _ _ _ _ _ c.status.result c.work-end.result (c.work-end.ensures.told bytes e ts t) c.status.ensures low))) c.tell.ensures
+    (sym (ap session_note (answers_end (texts c.args.words.now) bytes ts _ _ _ _ _ c.status.result c.work-end.result (c.work-end.ensures.told bytes e ts t) c.status.ensures low))) c.tell.ensures
 
 pub returns-clause-word : goal.returns-clause-word
 returns-clause-word g c = λ at is.

@@ -2,7 +2,7 @@ use Rattle.std.proofs.Common.{List, ℕ, Result}
 use Rattle.survey_core.specs.declared.words.Command.{Command}
 use Rattle.command_line.specs.Lines.{texts}
 use Rattle.survey_core.specs.Commands.{commands_of}
-use Rattle.survey_core.specs.Runs.{EndTells, EndCause}
+use Rattle.survey_core.specs.Runs.{EndTells, SessionEndCause}
 use Rattle.survey_core.proofs.Ending.{at_fault, with_commands}
 use Rattle.survey_core.proofs.Wording.{read_behind}
 use Rattle.survey_core.proofs.top.work.Goals as goal
@@ -19,6 +19,6 @@ returns-in-None-clause-told g c = λ bytes e ts t.
 pub returns-in-None-clause-cause : goal.returns-in-None-clause-cause
 returns-in-None-clause-cause g c =
     with_commands (texts c.args.words.now)
-    (λ (r : Result (List Command) ℕ). EndCause r (g.O.Sink.settled c.session.new.output) (g.S.Source.faults c.args.input.now) (g.S.Source.faults c.session.new.input)
+    (λ (r : Result (List Command) ℕ). SessionEndCause r (g.O.Sink.settled c.session.new.output) (g.S.Source.faults c.args.input.now) (g.S.Source.faults c.session.new.input)
     (g.O.Sink.faults c.args.output.now) (g.O.Sink.faults c.session.new.output) (g.K.Keeper.faults c.args.keeper.now) (g.K.Keeper.faults c.session.new.keeper) c.session.result)
     c.in-None.ensures (λ commands is. c.session.ensures.cause commands (read_behind c.args.words.now _ commands c.command_words.ensures is))

@@ -1,6 +1,6 @@
 use Rattle.std.proofs.Common.{◌≡◌, ◌==◌, is_some}
 use mathlib.Core.Bool.{Bool-set}
-use Rattle.survey_core.specs.Tables.{without, cells_of}
+use Rattle.survey_core.specs.Tables.{without, cells_of_field}
 use Rattle.survey_sqlite.specs.Keepers.{tables_held}
 use Rattle.std.specs.declared.option.Option.TheVariants.{Some}
 use Rattle.survey_sqlite.proofs.Memory.{write_after, told}
@@ -16,7 +16,7 @@ returns-clause-done c =
 
 pub returns-clause-found : goal.returns-clause-found
 returns-clause-found c =
-    told c.args.conn.now c.remove_row.new.conn (λ count. (count == 1) ≡ is_some (cells_of c.args.field.now (tables_held (Some c.args.conn.now)))) (λ count. Bool-set _ _) c.remove_row.result c.remove_row.ensures.found c.requires
+    told c.args.conn.now c.remove_row.new.conn (λ count. (count == 1) ≡ is_some (cells_of_field c.args.field.now (tables_held (Some c.args.conn.now)))) (λ count. Bool-set _ _) c.remove_row.result c.remove_row.ensures.found c.requires
 
 pub returns-clause-kept : goal.returns-clause-kept
 returns-clause-kept c =

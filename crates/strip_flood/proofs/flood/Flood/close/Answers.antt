@@ -17,7 +17,7 @@ pub overflow_add-pixel : goal.overflow_add-pixel
 overflow_add-pixel c =
     let q : IsInQueue (ground_of c.args.strip.now) c.args.self.now.cursors.items (c.args.strip.now.first + c.in-Some-front.item) = front_queued (ground_of c.args.strip.now) (state_of c.args.self.now) c.requires.fair c.in-Some.next c.in-Some-front.item c.in-Some-front.ensures in
     let l : c.args.strip.now.first + c.in-Some-front.item < c.args.strip.now.first + length c.args.strip.now.ranks.items = q.inside.high in
-    let few : c.args.strip.now.first + length c.args.strip.now.ranks.items ≤ 16777216 = c.requires.strip.few in omega arith
+    let few : c.args.strip.now.first + length c.args.strip.now.ranks.items ≤ 2 ^ 24 = c.requires.strip.few in omega arith
 
 pub returns-clause-between : goal.returns-clause-between
 returns-clause-between c =

@@ -2,10 +2,10 @@ use Rattle.std.proofs.Common.{◌≡◌, List, [], ◌∷◌, ℕ, map, ap, ap�
 use Rattle.std.proofs.lemmas.List.{take_all}
 use Rattle.survey_core.specs.declared.mem_keeper.Entry.{Entry}
 use Rattle.survey_core.specs.Tables.{names_of}
-use Rattle.survey_core.specs.Mem.{tables_in}
+use Rattle.survey_core.specs.Mem.{tables_kept}
 use Rattle.survey_core.proofs.mem_keeper.MemKeeperKeeper.names.Goals as goal
 
-fields_are : (es : List Entry) → map (λ (e : Entry). e.field) es ≡ names_of (tables_in es)
+fields_are : (es : List Entry) → map (λ (e : Entry). e.field) es ≡ names_of (tables_kept es)
 fields_are [] = refl
 fields_are (e ∷ es) = ap₂ ◌∷◌ refl (fields_are es)
 
