@@ -3,7 +3,7 @@
 ghost use Rattle.std.specs.Prelude.{◌≡◌, ℕ, ◌*◌, ◌<◌, length, None, replicate, slice_set, IfOk, IfSome};
 ghost use Rattle.comp_tree.specs.Limits.{IsWithinRange};
 ghost use Rattle.comp_tree.specs.Stored.{pixel_of as pixel_kept_as};
-ghost use Rattle.comp_tree.specs.Raster.{Raster, value_at, is_defined, level, is_at_least, is_earlier};
+ghost use Rattle.comp_tree.specs.Raster.{Raster, HasValuesInRange, value_at, is_defined, level, is_at_least, is_earlier};
 
 use crate::shape::Shape;
 use dev_io::OutOfMemory;
@@ -52,6 +52,7 @@ impl Plane {
     pub fn shape(&self) -> Shape
         ensures same { result ≡ self.now.shape }
         ensures pixels { length self.now.values ≡ result.width * result.height }
+        ensures in_range { HasValuesInRange self.now.values }
     {
         self.shape
     }

@@ -18,7 +18,7 @@ use Rattle.detect_top.specs.declared.words.Usage.{Usage as AtFault}
 use Rattle.detect_top.specs.Words.{order_of}
 use Rattle.detect_top.specs.Products.{image_made}
 use Rattle.detect_top.specs.Faults.{stop_at_hdu}
-use Rattle.detect_top.specs.Answers.{status_of, end_at, answer_to, answer_over, answer_by, answer}
+use Rattle.detect_top.specs.Answers.{end_status, end_at, answer_to, answer_over, answer_by, answer}
 use Rattle.detect_top.specs.Laws.{AnswersAreOfWordsAndBytes}
 
 -- ---- an HDU that isn't found
@@ -83,7 +83,7 @@ shown-find bytes (suc n) = shown-after bytes (suc n) (find_of bytes n) (shown-fi
 
 -- ---- the status
 
-at_hdu : (fault : HduFault) → IsShown fault → status_of (end_at (stop_at_hdu fault)) ≤ 2
+at_hdu : (fault : HduFault) → IsShown fault → end_status (end_at (stop_at_hdu fault)) ≤ 2
 at_hdu NotFits h = omega arith
 at_hdu TruncatedHeader h = omega arith
 at_hdu (BadKeyword hdu card) h = omega arith
@@ -95,7 +95,7 @@ at_hdu TruncatedSkip h = omega arith
 at_hdu ReadFault h = absurd h
 
 abbrev IsEarly : Order → Verdict → Type 0
-IsEarly order v = status_of (answer_to order v).end ≤ 2
+IsEarly order v = end_status (answer_to order v).end ≤ 2
 
 behind : (order : Order) (bytes : List ℕ) (hdu : Hdu) (head : ℕ) (shape : Shape) → IsEarly order (image_behind bytes hdu head shape)
 behind order bytes hdu head shape =
@@ -121,11 +121,11 @@ by_bytes : (order : Order) (bytes : List ℕ) → IsEarly order (verdict bytes o
 unfolding verdict
 by_bytes order bytes = by_hdu order bytes (find_of bytes order.hdu) (shown-find bytes order.hdu)
 
-by_job : (order : Order) (bytes : List ℕ) (made : Option Raster) → status_of (answer_over order bytes made).end ≤ 2
+by_job : (order : Order) (bytes : List ℕ) (made : Option Raster) → end_status (answer_over order bytes made).end ≤ 2
 by_job order bytes (Some plane) = omega arith
 by_job order bytes None = by_bytes order bytes
 
-by_order : (order : Result Order AtFault) (bytes : List ℕ) → status_of (answer_by order bytes).end ≤ 2
+by_order : (order : Result Order AtFault) (bytes : List ℕ) → end_status (answer_by order bytes).end ≤ 2
 by_order (Err usage) bytes = omega arith
 by_order (Ok order) bytes = by_job order bytes (image_made order.job)
 

@@ -20,7 +20,7 @@ use Rattle.detect_top.specs.declared.image.Stop.{Stop}
 use Rattle.detect_top.specs.declared.image.Stop.TheVariants as at_image
 use Rattle.detect_top.specs.Lines.{tree_lines, node_list}
 use Rattle.detect_top.specs.Products.{output_of, image_made}
-use Rattle.detect_top.specs.Answers.{Answer, answer_by, answer_to, answer_over, end_at, status_of}
+use Rattle.detect_top.specs.Answers.{Answer, answer_by, answer_to, answer_over, end_at, end_status}
 use Rattle.detect_top.specs.Headline.{MayLackMemory, IsAnswered}
 use Rattle.detect_top.specs.Runs.{Tells, TellsFor, Took, TookAtMost, WantsMemory, WantsMemoryFor, InputUse, OutputUse, EndBytes, EndCause, ProductRead, Answers, Cuts}
 
@@ -43,10 +43,10 @@ wants_may (Ok order) old new bytes tells wants = go (image_made order.job) tells
 
 -- where no count rose, the end is the answer's, or memory was wanted where it may be
 pub completes : (order : Result Order AtFault) (i : InputUse) (o : OutputUse) (bytes : List ℕ) (end : End) → EndBytes order bytes i o end → EndCause order i o end
-    → (Rose i.faults i.faults' → ⊥) → (Rose o.faults o.faults' → ⊥) → Tells order i.left bytes → IsAnswered (answer_by order bytes) (status_of end)
-completes order i o bytes Done by why read write tells = inl (sym (ap status_of by.end_is))
-completes order i o bytes (Usage usage) by why read write tells = inl (sym (ap status_of by.end_is))
-completes order i o bytes (Refused fault) by why read write tells = inl (sym (ap status_of by.end_is))
+    → (Rose i.faults i.faults' → ⊥) → (Rose o.faults o.faults' → ⊥) → Tells order i.left bytes → IsAnswered (answer_by order bytes) (end_status end)
+completes order i o bytes Done by why read write tells = inl (sym (ap end_status by.end_is))
+completes order i o bytes (Usage usage) by why read write tells = inl (sym (ap end_status by.end_is))
+completes order i o bytes (Refused fault) by why read write tells = inl (sym (ap end_status by.end_is))
 completes order i o bytes ReadFault by why read write tells = absurd (read why.1)
 completes order i o bytes WriteFault by why read write tells = absurd (write why.1)
 completes order i o bytes NoMemory by why read write tells = inr (refl, wants_may order i.left i.left' bytes tells by)

@@ -34,13 +34,13 @@ abbrev pub refusal_line : Fault → List ℕ
 refusal_line fault = refusal_by (decimal (fault_number fault)) (fault_name fault) (place_of fault)
 
 -- how a run ends, as its status and as its line on the notes
-abbrev pub status_of : End → ℕ
-status_of Done = 0
-status_of (Usage usage) = 1
-status_of (Refused fault) = 2
-status_of ReadFault = 3
-status_of WriteFault = 4
-status_of NoMemory = 5
+abbrev pub end_status : End → ℕ
+end_status Done = 0
+end_status (Usage usage) = 1
+end_status (Refused fault) = 2
+end_status ReadFault = 3
+end_status WriteFault = 4
+end_status NoMemory = 5
 
 abbrev pub note_of : End → List ℕ
 note_of Done = []

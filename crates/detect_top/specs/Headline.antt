@@ -9,7 +9,7 @@ use Rattle.detect_top.specs.declared.top.End.{End}
 use Rattle.detect_top.specs.declared.top.End.TheVariants.{Done, Usage, Refused, ReadFault, WriteFault, NoMemory}
 use Rattle.detect_top.specs.Words.{order_of}
 use Rattle.detect_top.specs.Faults.{IsCutShort, IsBehindHeader}
-use Rattle.detect_top.specs.Answers.{Answer, status_of, note_of}
+use Rattle.detect_top.specs.Answers.{Answer, end_status, note_of}
 use Rattle.detect_top.specs.Runs.{Tells, ReadsInput, WantsMemory}
 
 -- P holds of the bytes that the source tells. Where the words give no order that reads them, it need not tell them.
@@ -18,7 +18,7 @@ ForBytes words left P = (bytes : List ℕ) → Tells (order_of words) left bytes
 
 -- the answer's status, or that of a device's fault or of want of memory
 abbrev pub IsStatus : Answer → ℕ → Type 0
-IsStatus answer status = (status ≡ status_of answer.end) ⊎ ((3 ≤ status) × (status ≤ 5))
+IsStatus answer status = (status ≡ end_status answer.end) ⊎ ((3 ≤ status) × (status ≤ 5))
 
 -- the answer has status 0, and a front of its output was written
 pub record CutsAnswer (answer : Answer) (old new : Option (List ℕ)) : Type 0 where
@@ -37,7 +37,7 @@ MayWantMemory words bytes old new = WantsMemory (order_of words) bytes old new
 
 -- how the run ended, and its line on the notes; a fault that only the end of the input shows comes only there
 pub record TellsEnd (status : ℕ) (ended' : Bool) (old new : Option (List ℕ)) (settled' : Bool) (faults faults' : ℕ) (end : End) : Type 0 where
-  pub status_is : status ≡ status_of end
+  pub status_is : status ≡ end_status end
   pub noted : Noted old new settled' faults faults' (note_of end)
   pub cut : (fault : _) → end ≡ Refused fault → IsCutShort fault → IsTrue ended'
 
@@ -52,4 +52,4 @@ MayLackMemory NoMemory = ⊥
 
 -- the answer's status, or want of memory where it may come
 abbrev pub IsAnswered : Answer → ℕ → Type 0
-IsAnswered answer status = (status ≡ status_of answer.end) ⊎ ((status ≡ 5) × MayLackMemory answer.end)
+IsAnswered answer status = (status ≡ end_status answer.end) ⊎ ((status ≡ 5) × MayLackMemory answer.end)

@@ -10,7 +10,7 @@ ghost use Rattle.detect_top.specs.Faults.{IsCutStop};
 ghost use Rattle.detect_top.specs.Products.{bytes_of, image_made, IsWritable};
 ghost use Rattle.detect_top.specs.Trials.{trial_image as image_of};
 ghost use Rattle.detect_top.specs.Streams.{ImageStopped};
-ghost use Rattle.detect_top.specs.Answers.{answer, note_of, status_of};
+ghost use Rattle.detect_top.specs.Answers.{answer, note_of, end_status};
 ghost use Rattle.command_line.specs.Notes.{Noted, SourceStays};
 ghost use Rattle.detect_top.specs.Runs.{Took, TookAtMost, ProductRead, Tells, input_use, output_use, no_use, EndBytes, EndCause, LeavesInput};
 ghost use Rattle.detect_top.specs.Headline.{ForBytes, IsAnswered, IsStatus, CutsAnswer, MayWantMemory, ReadFails, TellsEnd};
@@ -39,7 +39,7 @@ pub(crate) enum End {
 
 impl End {
     fn status(self) -> u8
-        ensures { result ≡ status_of self }
+        ensures { result ≡ end_status self }
     {
         match self {
             End::Done => 0,

@@ -3,7 +3,7 @@ ghost use Rattle.comp_tree.specs.declared.shape.Connect.{Connect};
 ghost use Rattle.comp_tree.specs.Limits.{IsWithinRange};
 ghost use Rattle.comp_tree.specs.Components.{tree_of, no_node};
 ghost use Rattle.comp_tree.specs.Nesting.{level_in};
-ghost use Rattle.node_sums.specs.Sums.{sums_in, AreOfPlane, AreTheTrees};
+ghost use Rattle.node_sums.specs.Sums.{sums_in, AreOfPlane};
 ghost use Rattle.filter_rules.specs.Filtered.{filtered};
 ghost use Rattle.filter_rules.specs.Passes.{HasRisingLevels, AreValues, value_of_node, filled_pixel as filled_pixel_of, value};
 
@@ -27,14 +27,14 @@ pub fn filter(
     criterion: &Criterion,
 ) -> Result<Plane, OutOfMemory>
     requires of_plane { AreOfPlane plane.now tree.now sums.now }
-    requires the_trees { AreTheTrees tree.now sums.now }
     requires fill { criterion.now.min_fill ≤ 1000 }
     ensures { IfOk result (λ left. (connect : Connect) → tree.now ≡ tree_of plane.now connect → sums.now ≡ sums_in plane.now connect
         → left ≡ filtered plane.now connect rule criterion.now) }
 {
+    let shape = plane.shape();
     let kept = kept_nodes(alloc, tree, sums, rule, criterion)?;
     let values = node_values(alloc, tree.rows(), rule, &kept)?;
-    fill(alloc, plane.shape(), tree.node_of(), &values)
+    fill(alloc, shape, tree.node_of(), &values)
 }
 
 // The value of the pixels whose smallest node it is, for each node: its own level, or what its parent, whose number is

@@ -4,22 +4,33 @@ use Rattle.comp_tree.specs.declared.shape.Shape.{Shape}
 use Rattle.comp_tree.specs.declared.tree.NodeRow.{NodeRow}
 use Rattle.comp_tree.specs.Raster.{IsPlane}
 use Rattle.comp_tree.specs.ComponentTree.{no_node}
+use Rattle.node_sums.specs.Sums.{AreTheTrees}
 use Rattle.node_sums.proofs.Exported.{numbers_for_pixels}
 use Rattle.filter_rules.specs.Passes.{HasRisingLevels, AreValues, flag, filled_pixel}
 use Rattle.filter_rules.proofs.Boxes.{trees_rise}
 use Rattle.filter_rules.proofs.Whole.{both_ok, made_is_filtered, numbers_fit}
 use Rattle.filter_rules.proofs.filtering.filter.Goals as goal
 
+pub kept_nodes-requires-clause-sums : goal.kept_nodes-requires-clause-sums
+kept_nodes-requires-clause-sums c = record {
+  plane = c.args.plane.now;
+  one_each = c.shape-shape.ensures.pixels ∙ ap (λ (s : Shape). s.width * s.height) c.shape-shape.ensures.same;
+  in_range = c.shape-shape.ensures.in_range;
+  of_plane = c.requires.of_plane;
+}
+
 pub node_values-requires-clause-rows : goal.node_values-requires-clause-rows
-node_values-requires-clause-rows c = subst (λ (rows : List NodeRow). HasRisingLevels rows) (sym c.rows.ensures) (trees_rise c.args.tree.now c.args.sums.now c.requires.the_trees)
+node_values-requires-clause-rows c =
+    let trees : AreTheTrees c.args.tree.now c.args.sums.now = kept_nodes-requires-clause-sums c in
+    subst (λ (rows : List NodeRow). HasRisingLevels rows) (sym c.rows.ensures) (trees_rise c.args.tree.now c.args.sums.now trees)
 
 pub fill-requires-clause-pixels : goal.fill-requires-clause-pixels
 fill-requires-clause-pixels c =
-    ap length c.node_of.ensures ∙ numbers_for_pixels c.args.plane.now c.args.tree.now (c.requires.of_plane.connect, c.requires.of_plane.tree_is) ∙ c.shape.ensures.pixels
+    ap length c.node_of.ensures ∙ numbers_for_pixels c.args.plane.now c.args.tree.now (c.requires.of_plane.connect, c.requires.of_plane.tree_is) ∙ c.shape-shape.ensures.pixels
 
 pub fill-requires-clause-nodes : goal.fill-requires-clause-nodes
 fill-requires-clause-nodes c =
-    let plane : IsPlane c.args.plane.now = c.shape.ensures.pixels ∙ ap (λ (s : Shape). s.width * s.height) c.shape.ensures.same in
+    let plane : IsPlane c.args.plane.now = c.shape-shape.ensures.pixels ∙ ap (λ (s : Shape). s.width * s.height) c.shape-shape.ensures.same in
     let count : length c.deref-2.result.now ≡ length c.args.tree.now.rows = ap length c.deref-2.ensures.value ∙ c.in_ok-values.ensures.one_each ∙ ap length c.rows.ensures in
     subst (λ (numbers : List ℕ). (p : ℕ) → p < length numbers → (slice_index numbers p ≡ no_node) ⊎ (slice_index numbers p < length c.deref-2.result.now)) (sym c.node_of.ensures)
     (subst (λ (k : ℕ). (p : ℕ) → p < length c.args.tree.now.node_of → (slice_index c.args.tree.now.node_of p ≡ no_node) ⊎ (slice_index c.args.tree.now.node_of p < k)) (sym count)
@@ -27,8 +38,8 @@ fill-requires-clause-nodes c =
 
 pub returns : goal.returns
 returns c =
-    let plane : IsPlane c.args.plane.now = c.shape.ensures.pixels ∙ ap (λ (s : Shape). s.width * s.height) c.shape.ensures.same in
-    both_ok c.fill.result (λ left. left.shape ≡ c.shape.result) (λ left. left.values ≡ map (filled_pixel c.deref-2.result.now) c.node_of.result.now) _
+    let plane : IsPlane c.args.plane.now = c.shape-shape.ensures.pixels ∙ ap (λ (s : Shape). s.width * s.height) c.shape-shape.ensures.same in
+    both_ok c.fill.result (λ left. left.shape ≡ c.shape-shape.result) (λ left. left.values ≡ map (filled_pixel c.deref-2.result.now) c.node_of.result.now) _
     c.fill.ensures.shape c.fill.ensures.values (λ left s v connect e f.
     made_is_filtered c.args.plane.now left connect c.args.tree.now c.args.rule c.args.criterion.now c.deref.result.now c.deref-2.result.now plane (record {
       tree_is = e;
@@ -36,6 +47,6 @@ returns c =
       one_each = ap length c.deref-2.ensures.value ∙ c.in_ok-values.ensures.one_each ∙ ap length c.rows.ensures;
       made = subst (λ (values : List ℤ). AreValues c.args.tree.now.rows c.args.rule c.deref.result.now values) (sym c.deref-2.ensures.value)
           (subst (λ (rows : List NodeRow). AreValues rows c.args.rule c.deref.result.now c.in_ok-values.values.items) c.rows.ensures c.in_ok-values.ensures.values);
-      same_shape = s ∙ c.shape.ensures.same;
+      same_shape = s ∙ c.shape-shape.ensures.same;
       filled = v ∙ ap (map (filled_pixel c.deref-2.result.now)) c.node_of.ensures;
     }))
