@@ -19,7 +19,7 @@ fn are_digits(bytes: &[u8]) -> bool
     bytes.iter().all(|byte| byte.is_ascii_digit())
 }
 
-fn is_numeral(digits: &[u8]) -> bool
+fn is_short_numeral(digits: &[u8]) -> bool
     ensures { result ≡ is_short_numeral digits.now }
 {
     !digits.is_empty() && digits.len() <= 19 && are_digits(digits)
@@ -43,7 +43,7 @@ pub fn number_between(text: &str, least: i64, most: i64) -> Option<i64>
     ensures low { IfSome result (λ n. least ≤ℤ n) }
     ensures high { IfSome result (λ n. n ≤ℤ most) }
 {
-    if !is_numeral(without_minus(text.as_bytes())) {
+    if !is_short_numeral(without_minus(text.as_bytes())) {
         return None;
     }
     match text.parse::<i64>() {

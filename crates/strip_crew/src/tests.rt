@@ -141,6 +141,32 @@ fn two_workers_are_in_two_strips_at_once(rt: HostRuntime) -> Result<(), Fail> {
     Ok(())
 }
 
+// Counts the strips that come to the gate.
+#[derive(Drop)]
+struct Counter {
+    entered: AtomicU64,
+}
+
+impl Gate for Counter {
+    fn enter(&self, _strip: u32) {
+        self.entered.fetch_add(1, SeqCst);
+    }
+}
+
+// `scripts/growths.py` runs this with each growth of memory refused in turn.
+#[test]
+fn no_strip_comes_to_the_gate_where_memory_is_refused(rt: HostRuntime) -> Result<(), Fail> {
+    let plane = two_hills(rt.alloc())?;
+    let cut = even_cut(rt.alloc(), plane.shape().height, 3)?;
+    let gate = Counter {
+        entered: AtomicU64::new(0),
+    };
+    let flooded = flood_all(&rt, rt.alloc(), &plane, Connect::Four, &cut, 2, &gate);
+    let wanted = if flooded.is_ok() { 3 } else { 0 };
+    assert_eq!(rt; gate.entered.load(SeqCst), wanted);
+    Ok(())
+}
+
 // A plane of one column, whose values rise from row to row.
 fn column(alloc: Global, rows: u32) -> Result<Plane, Fail> {
     let shape = Shape::of(1, rows).ok_or("a shape")?;

@@ -7,5 +7,5 @@ use Rattle.survey_sqlite.proofs.blob.blob_of.Goals as goal
 
 pub returns-clause-back : goal.returns-clause-back
 returns-clause-back c =
-    let all = take_all c.loop-table_cell.cell-index c.args.cells.now c.loop-table_cell-test.false in
-    ap blob_cells (c.loop-table_cell.invariant.0 ∙ ap blob_of all) ∙ cells_back c.args.cells.now (subst (AllByRecursion (FitsSigned w64)) all c.loop-table_cell.invariant.1)
+    let all = take_all c.loop-cell.cell-index c.args.cells.now c.loop-cell-test.false in
+    ap blob_cells (c.loop-cell.invariant.0 ∙ ap blob_of all) ∙ cells_back c.args.cells.now (subst (AllByRecursion (FitsSigned w64)) all c.loop-cell.invariant.1)
