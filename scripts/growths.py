@@ -1,10 +1,11 @@
 """Refuses each growth of memory in turn, in small runs of the built program.
 
-usage: python3 scripts/growths.py MAXDETECT      (MAXDETECT is the built program)
+usage: python3 scripts/growths.py MAXDETECT [TESTS]      (the built program, and the built tests of `strip_crew`)
 
 Each such run has status 5, has written nothing and says `out of memory`, or has status 0 and the whole output: a growth may be one that the run
 can do without. A run of three rows asks for memory more often in two strips than in one, and more often in three than in two, since each strip is
-prepared by itself. It wants gcc, and takes some seconds. Exit status 1 where a run does otherwise.
+prepared by itself. One of the tests counts the strips that come to the gate: none does where memory was refused, and else each. It wants gcc, and takes
+some seconds. Exit status 1 where a run does otherwise.
 """
 import os
 import pathlib
@@ -37,36 +38,55 @@ RUNS = {
     "detect": (["detect", "--threshold", "2", "--contrast", "300"], HILLS),
 }
 
+GATE_TEST = "tests::no_strip_comes_to_the_gate_where_memory_is_refused"
+
 
 class Refuser:
     """Runs a program with one of its growths refused."""
 
-    def __init__(self, program, folder):
-        self.program, self.folder = program, folder
+    def __init__(self, folder):
+        self.folder = folder
         self.library = folder / "refuse_growth.so"
         source = TOP / "scripts" / "refuse_growth.c"
         subprocess.run(["gcc", "-O2", "-shared", "-fPIC", "-o", self.library, source, "-ldl"], check=True)
 
-    def run(self, words, data, number):
+    def run(self, command, data, number):
         """The finished run, and how many growths it asked for."""
         count = self.folder / "count"
         count.write_bytes(bytes(8))
         env = dict(os.environ, LD_PRELOAD=str(self.library), REFUSE=str(number), COUNT=str(count))
-        done = subprocess.run([self.program, *words], input=data, capture_output=True, env=env, timeout=60)
+        done = subprocess.run(command, input=data, capture_output=True, env=env, timeout=60)
         return done, int.from_bytes(count.read_bytes(), sys.byteorder)
 
 
-def trials(refuser, name, words, data):
+def trials(refuser, name, command, data):
     """The number of growths of a run, and a line for each refusal that ends otherwise than it may."""
-    whole, count = refuser.run(words, data, 0)
+    whole, count = refuser.run(command, data, 0)
     wrong = []
     if whole.returncode != 0 or not 0 < count < MANY:
         return count, [f"{name}: with ample memory it ends with {whole.returncode} after {count} growths"]
     for number in range(1, count + 1):
-        done, _ = refuser.run(words, data, number)
+        done, _ = refuser.run(command, data, number)
         ended = (done.returncode, done.stdout, done.stderr)
         if ended not in [(5, b"", b"out of memory\n"), (5, b"", b""), (0, whole.stdout, b"")]:
             wrong.append(f"{name}: with growth {number} refused it ends with {done.returncode}, {len(done.stdout)} bytes written, {done.stderr!r}")
+    return count, wrong
+
+
+def gate_trials(refuser, tests):
+    """The same of the test that counts at the gate. It may itself want memory, for its plane or its cut; then it says so."""
+    whole, count = refuser.run([tests, GATE_TEST], b"", 0)
+    if whole.returncode != 0 or not 0 < count < MANY:
+        return count, [f"the gate: with ample memory its test ends with {whole.returncode} after {count} growths"]
+    wrong, passed = [], 0
+    for number in range(1, count + 1):
+        done, _ = refuser.run([tests, GATE_TEST], b"", number)
+        said = done.stdout + done.stderr
+        passed += done.returncode == 0
+        if done.returncode != 0 and b"OutOfMemory" not in said:
+            wrong.append(f"the gate: with growth {number} refused its test ends with {done.returncode}, {said!r}")
+    if not 0 < passed:
+        wrong.append("the gate: its test passes with no growth refused")
     return count, wrong
 
 
@@ -77,11 +97,15 @@ def main():
     program = pathlib.Path(sys.argv[1]).resolve()
     counts, wrong = {}, []
     with tempfile.TemporaryDirectory() as folder:
-        refuser = Refuser(program, pathlib.Path(folder))
+        refuser = Refuser(pathlib.Path(folder))
         for name, (words, data) in RUNS.items():
-            counts[name], found = trials(refuser, name, words, data)
+            counts[name], found = trials(refuser, name, [program, *words], data)
             wrong += found
             print(f"{name}: {counts[name]} growths, {len(found)} end otherwise than they may")
+        if len(sys.argv) > 2:
+            count, found = gate_trials(refuser, pathlib.Path(sys.argv[2]).resolve())
+            wrong += found
+            print(f"the gate's count: {count} growths, {len(found)} end otherwise than they may")
     if not counts["tree in one strip"] < counts["tree in two strips"] < counts["tree in three strips"]:
         wrong.append("more strips don't ask for memory more often")
     print("\n".join(wrong), end="\n" if wrong else "")

@@ -6,7 +6,7 @@
 // earliest is kept, and the others are linked to it. When the rank runs empty, its kept pixel is linked to the front of the next
 // rank. Only then is the queue asked for its highest rank: else the pixel to go on from is known.
 
-ghost use Rattle.std.specs.Prelude.{◌≡◌, ◌≢◌, ℕ, ◌+◌, ◌-◌, ◌%◌, ◌<◌, ◌≤◌, length, IfOk, IfSome, MatchOption, slice_set, slice_index, [], true, false};
+ghost use Rattle.std.specs.Prelude.{◌^◌, ◌≡◌, ◌≢◌, ℕ, ◌+◌, ◌-◌, ◌%◌, ◌<◌, ◌≤◌, length, IfOk, IfSome, MatchOption, slice_set, slice_index, [], true, false};
 ghost use Rattle.comp_tree.specs.Forest.{no_node, IsForest};
 ghost use Rattle.strip_flood.specs.Queue.{IsEmpty};
 ghost use Rattle.strip_flood.specs.Flood.{list_at, ends, rank_of, IsOf, IsNeighbour, IsInterior, IsFair, IsBusyBut, work, seen_count, looks};

@@ -18,7 +18,7 @@
 //! leaves a pixel out of the way of the later one, and each move leaves one behind.
 #![tactic(auto)]
 
-ghost use Rattle.std.specs.Prelude.{◌≡◌, ◌≢◌, ℕ, ◌+◌, ◌-◌, ◌*◌, ◌<◌, ◌≤◌, ◌⊎◌, length, slice_index, List, MatchOption, IfSome};
+ghost use Rattle.std.specs.Prelude.{◌^◌, ◌≡◌, ◌≢◌, ℕ, ◌+◌, ◌-◌, ◌*◌, ◌<◌, ◌≤◌, ◌⊎◌, length, slice_index, List, MatchOption, IfSome};
 ghost use Rattle.comp_tree.specs.Joined.{Or, Only, Has};
 ghost use Rattle.comp_tree.specs.Counts.{count_defined, rank};
 ghost use Rattle.comp_tree.specs.Forest.{no_node, StandsFor, IsEarlier, IsForest, IsPixel, IsLink, JoinSame, IsWithin};

@@ -1,4 +1,4 @@
-use Rattle.std.proofs.Common.{◌≡◌, ◌+◌, ◌-◌, ◌<◌, ◌≤◌, set, slice_index, length, subst, arith}
+use Rattle.std.proofs.Common.{◌^◌, ◌≡◌, ◌+◌, ◌-◌, ◌<◌, ◌≤◌, set, slice_index, length, subst, arith}
 use Rattle.comp_tree.specs.Forest.{no_node}
 use Rattle.strip_flood.specs.Flood.{state, IsInQueue, IsTurning}
 use Rattle.strip_flood.specs.Strips.{ground_of, state_of}

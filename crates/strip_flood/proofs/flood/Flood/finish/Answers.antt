@@ -1,4 +1,4 @@
-use Rattle.std.proofs.Common.{◌+◌, ◌<◌, ◌≤◌, length, arith, ◌∙◌}
+use Rattle.std.proofs.Common.{◌^◌, ◌+◌, ◌<◌, ◌≤◌, length, arith, ◌∙◌}
 use Rattle.strip_flood.specs.Flood.{IsInQueue}
 use Rattle.strip_flood.specs.Strips.{ground_of, state_of}
 use Rattle.strip_flood.proofs.Retiring.{still_turning, front_queued}
