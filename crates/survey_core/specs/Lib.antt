@@ -13,7 +13,7 @@ pub mod Commands
 pub mod Sessions
 pub mod Steps
 pub mod Reads
-pub mod SessionAnswers
+pub mod Answers
 pub mod Runs
 pub mod KeeperCalls
 pub mod Ranks
