@@ -10,3 +10,5 @@ mod Judging
 mod Skipping
 mod Heads
 mod Searching
+mod ImageData
+pub mod Exported

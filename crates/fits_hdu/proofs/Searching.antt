@@ -11,7 +11,7 @@ use Rattle.fits_hdu.specs.Finding.{padded, padding, following, following_found, 
 use Rattle.fits_hdu.specs.Streams.{Stopped, Finds, OtherBytes, IsOther, IsOtherAfter}
 use Rattle.fits_hdu.specs.Reading.{Caused, OtherBehind, OtherPastPadding, OtherLater}
 use Rattle.fits_hdu.specs.Laws.{HasData, SearchGoesOn, OtherBytesAreMet}
-use Rattle.fits_hdu.proofs.Heads.{following_takes, follows_data}
+use Rattle.fits_hdu.proofs.Heads.{following_takes, follows_data, past_padding_takes}
 
 find_first : (bytes : List ℕ) → find_of bytes 0 ≡ header_at bytes 0 0
 unfolding find_of
@@ -314,3 +314,19 @@ other_bytes_are_met bytes n number passed head there low (inl other) = record {
     place : (head size : ℕ) → head + size + padding size ≡ head + padded size
     place head size = omega arith
 other_bytes_are_met bytes n number passed head there low (inr other) = other_from_start bytes number (n + 1) _ (next_is bytes n passed head there) other
+
+-- The search for a later HDU takes all data of this one.
+pub data_taken : (bytes : List ℕ) (n number : ℕ) (passed : Hdu) (head : ℕ) → HasData bytes n passed head → n < number → head + passed.data_bytes ≤ taken_by (find_of bytes number)
+data_taken bytes n number passed head there low =
+    let next = past_padding bytes (n + 1) passed.data_bytes (head + passed.data_bytes) in
+    let none : n + 1 - (n + 1) ≡ 0 = omega arith in
+    let is : find_of bytes number ≡ find_on_of bytes (n + 1) next number = find_on_is bytes (n + 1) number next (omega arith) (next_is bytes n passed head there) in
+    let here : find_on_of bytes (n + 1) next (n + 1) ≡ next = ap (counted_on bytes (n + 1) next) none ∙ counted_first bytes (n + 1) next in
+    let grows : taken_by (find_on_of bytes (n + 1) next (n + 1)) ≤ taken_by (find_on_of bytes (n + 1) next number) =
+    takes_to bytes (n + 1) next (n + 1) number (past_within bytes (n + 1) passed.data_bytes (head + passed.data_bytes)) (omega arith) (omega arith) in
+    let first : min (head + passed.data_bytes + padding passed.data_bytes) (length bytes) ≤ taken_by next = past_padding_takes bytes (n + 1) passed.data_bytes (head + passed.data_bytes) in
+    let whole : head + passed.data_bytes ≤ length bytes = there.whole in
+    rw is (least head passed.data_bytes (padding passed.data_bytes) (length bytes) (taken_by next) _ _ (ap taken_by here) grows first whole)
+  where
+    least : (start size more long next all a : ℕ) → a ≡ next → a ≤ all → min (start + size + more) long ≤ next → start + size ≤ long → start + size ≤ all
+    least start size more long next all a e grows first whole = omega arith

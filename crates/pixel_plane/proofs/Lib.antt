@@ -4,3 +4,5 @@ pub mod Bounds
 pub mod Decoding
 pub mod Planes
 pub mod Naming
+pub mod ImageData
+pub mod Exported

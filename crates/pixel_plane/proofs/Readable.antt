@@ -18,17 +18,19 @@ use Rattle.pixel_plane.specs.Stored.{size_of, whole_or_zero}
 use Rattle.pixel_plane.specs.Sizes.{is_number_size}
 
 none_passed : (a b c d e f g : Bool) → first_fault ((a, NotImage) ∷ (b, NoImage) ∷ (c, ImageTooLarge) ∷ (d, Bitpix) ∷ (e, Bscale) ∷ (f, Bzero) ∷ (g, Blank) ∷ []) ≡ None
-    → (d ≡ false) × (f ≡ false)
+    → (a ≡ false) × (b ≡ false) × (d ≡ false) × (f ≡ false)
 none_passed true b c d e f g h = absurd (cc)
 none_passed false true c d e f g h = absurd (cc)
 none_passed false false true d e f g h = absurd (cc)
 none_passed false false false true e f g h = absurd (cc)
 none_passed false false false false true f g h = absurd (cc)
 none_passed false false false false false true g h = absurd (cc)
-none_passed false false false false false false g h = (refl, refl)
+none_passed false false false false false false g h = (refl, refl, refl, refl)
 
 -- the tests that a readable image passes
 pub record IsReadable (hdu : Hdu) : Type 0 where
+  pub kind : is_other hdu.kind ≡ false
+  pub pixels : has_no_pixels hdu ≡ false
   pub size : is_stored_size hdu.bitpix ≡ true
   pub zero : is_zero_point hdu.bzero ≡ true
 
@@ -44,7 +46,7 @@ pub readable : (hdu : Hdu) → image_fault hdu ≡ None → IsReadable hdu
 unfolding image_fault
 readable hdu h =
     let tests = none_passed (is_other hdu.kind) (has_no_pixels hdu) (not (is_within hdu.width hdu.height)) (not (is_stored_size hdu.bitpix)) (not (is_one hdu.bscale)) (not (is_zero_point hdu.bzero)) (not (is_blank_or_none hdu.blank)) h in
-    record { size = not-false _ tests.0; zero = not-false _ tests.1 }
+    record { kind = tests.0; pixels = tests.1; size = not-false _ tests.2; zero = not-false _ tests.3 }
 
 bits_from : (bitpix : ℤ) → is_stored_size bitpix ≡ true → bitpix ≡ pos 8 ⊎ (bitpix ≡ pos 16 ⊎ (bitpix ≡ pos 32 ⊎ bitpix ≡ pos 64))
 bits_from bitpix h =
