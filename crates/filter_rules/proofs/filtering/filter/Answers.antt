@@ -2,26 +2,32 @@ use Rattle.std.proofs.Common.{◌≡◌, ℕ, ◌*◌, ◌<◌, ◌∙◌, sym, 
 use Rattle.std.specs.Prelude.{slice_index}
 use Rattle.comp_tree.specs.declared.shape.Shape.{Shape}
 use Rattle.comp_tree.specs.declared.tree.NodeRow.{NodeRow}
-use Rattle.comp_tree.specs.Raster.{IsPlane}
-use Rattle.comp_tree.specs.ComponentTree.{no_node}
-use Rattle.node_sums.specs.Sums.{AreTheTrees}
+use Rattle.comp_tree.specs.Raster.{Raster, IsPlane, HasValuesInRange}
+use Rattle.comp_tree.specs.ComponentTree.{ComponentTree, no_node}
+use Rattle.node_sums.specs.declared.entry.Sums.{Sums}
+use Rattle.node_sums.specs.Sums.{AreOfPlane, AreTheTrees}
 use Rattle.node_sums.proofs.Exported.{numbers_for_pixels}
 use Rattle.filter_rules.specs.Passes.{HasRisingLevels, AreValues, flag, filled_pixel}
 use Rattle.filter_rules.proofs.Boxes.{trees_rise}
 use Rattle.filter_rules.proofs.Whole.{both_ok, made_is_filtered, numbers_fit}
 use Rattle.filter_rules.proofs.filtering.filter.Goals as goal
 
-pub kept_nodes-requires-clause-sums : goal.kept_nodes-requires-clause-sums
-kept_nodes-requires-clause-sums c = record {
-  plane = c.args.plane.now;
-  one_each = c.shape-shape.ensures.pixels ∙ ap (λ (s : Shape). s.width * s.height) c.shape-shape.ensures.same;
-  in_range = c.shape-shape.ensures.in_range;
-  of_plane = c.requires.of_plane;
+the_trees : (plane : Raster) (tree : ComponentTree) (sums : List Sums) (shape : Shape) → length plane.values ≡ shape.width * shape.height → shape ≡ plane.shape
+    → HasValuesInRange plane.values → AreOfPlane plane tree sums → AreTheTrees tree sums
+the_trees plane tree sums shape pixels same in_range of_plane = record {
+  plane = plane;
+  one_each = pixels ∙ ap (λ (s : Shape). s.width * s.height) same;
+  in_range = in_range;
+  of_plane = of_plane;
 }
+
+pub kept_nodes-requires-clause-sums : goal.kept_nodes-requires-clause-sums
+kept_nodes-requires-clause-sums c =
+    the_trees c.args.plane.now _ _ c.shape-shape.result c.shape-shape.ensures.pixels c.shape-shape.ensures.same c.shape-shape.ensures.in_range c.requires.of_plane
 
 pub node_values-requires-clause-rows : goal.node_values-requires-clause-rows
 node_values-requires-clause-rows c =
-    let trees : AreTheTrees c.args.tree.now c.args.sums.now = kept_nodes-requires-clause-sums c in
+    let trees = the_trees c.args.plane.now _ _ c.shape-shape.result c.shape-shape.ensures.pixels c.shape-shape.ensures.same c.shape-shape.ensures.in_range c.requires.of_plane in
     subst (λ (rows : List NodeRow). HasRisingLevels rows) (sym c.rows.ensures) (trees_rise c.args.tree.now c.args.sums.now trees)
 
 pub fill-requires-clause-pixels : goal.fill-requires-clause-pixels
