@@ -31,6 +31,7 @@ pub fn read_plane<S: Source>(
     ensures told { ForSome (S.left src.old) (λ bytes. MatchResult result
         (λ plane. PlaneRead hdu.now shape bytes (S.left src.new) plane)
         (λ fault. PlaneStopped hdu.now shape bytes (S.left src.new) fault)) }
+    ensures shape { IfOk result (λ plane. plane.shape ≡ shape) }
     ensures range { IfErr result (NamesPixel hdu.now shape) }
     ensures half_range { IfOk result (λ plane. HasValuesInHalfRange plane.values) }
     ensures truncated { IsErrOf result PlaneFault.TruncatedData → IsTrue (S.ended src.new) }
