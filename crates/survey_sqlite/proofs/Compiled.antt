@@ -15,7 +15,7 @@ use Rattle.sqlite.specs.Compile.{table_defined_by}
 use Rattle.sqlite.specs.Change.{created}
 use Rattle.sqlite.specs.Command.{Command}
 use Rattle.sqlite.specs.Listing.{understood, reads_listing}
-use Rattle.sqlite.proofs.Callers.{IsPlain, session_command, statement_of}
+use Rattle.sqlite.proofs.Callers.{IsPlain, command_of, statement_of}
 use Rattle.sqlite_tied.specs.Compute.{everything}
 use Rattle.survey_sqlite.specs.Texts.{create_text, replace_text, remove_text, names_text, rows_text, no_schema, source, source_schema}
 
@@ -49,7 +49,7 @@ rows_command = Select (alone (simple_query (has_field ∷ []) (col 1 2 ∷ [])))
 abbrev pub names_command : Command
 names_command = Select (alone (record (simple_query [] (col 1 1 ∷ [])) { order = (col 1 1, record { collation = Binary; descending = false }) ∷ [] })) (codes "field" ∷ [])
 
-pub create_is : (session_command (understood no_schema create_text) ≡ CreateTable) × (statement_of create_text (understood no_schema create_text) ≡ create_text) × (table_defined_by create_text ≡ Ok source)
+pub create_is : (command_of (understood no_schema create_text) ≡ CreateTable) × (statement_of create_text (understood no_schema create_text) ≡ create_text) × (table_defined_by create_text ≡ Ok source)
 unfolding understood everything
 create_is = (refl, refl, refl)
 
@@ -57,19 +57,19 @@ pub created_is : created no_schema source ≡ source_schema
 unfolding everything
 created_is = refl
 
-pub replace_is : session_command (understood source_schema replace_text) ≡ replace_command
+pub replace_is : command_of (understood source_schema replace_text) ≡ replace_command
 unfolding understood everything
 replace_is = refl
 
-pub remove_is : session_command (understood source_schema remove_text) ≡ remove_command
+pub remove_is : command_of (understood source_schema remove_text) ≡ remove_command
 unfolding understood everything
 remove_is = refl
 
-pub rows_is : (session_command (understood source_schema rows_text) ≡ rows_command) × (reads_listing source_schema rows_text ≡ false)
+pub rows_is : (command_of (understood source_schema rows_text) ≡ rows_command) × (reads_listing source_schema rows_text ≡ false)
 unfolding understood everything
 rows_is = (refl, refl)
 
-pub names_is : (session_command (understood source_schema names_text) ≡ names_command) × (reads_listing source_schema names_text ≡ false)
+pub names_is : (command_of (understood source_schema names_text) ≡ names_command) × (reads_listing source_schema names_text ≡ false)
 unfolding understood everything
 names_is = (refl, refl)
 

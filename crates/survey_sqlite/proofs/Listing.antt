@@ -139,15 +139,15 @@ module _ (rows : List Row) (are : AreFieldRows rows) (os : List Output) (same : 
   to_row (x ∷ xs) r (inl e) = inl (ap out_of e)
   to_row (x ∷ xs) r (inr m) = inr (to_row xs r m)
 
-  ranking_row : (o : Output) → Has os o → (r : Row) × Has rows r × (o ≡ out_of r)
-  ranking_row o m = from_row rows o (has_contained (map out_of rows) o (Contains-permutation os (map out_of rows) o (IsPermutation-sym (map out_of rows) os same) (contains_had os o m)))
+  row_of : (o : Output) → Has os o → (r : Row) × Has rows r × (o ≡ out_of r)
+  row_of o m = from_row rows o (has_contained (map out_of rows) o (Contains-permutation os (map out_of rows) o (IsPermutation-sym (map out_of rows) os same) (contains_had os o m)))
 
   of_row : (r : Row) → Has rows r → Has os (out_of r)
   of_row r m = has_contained os (out_of r) (Contains-permutation (map out_of rows) os (out_of r) same (contains_had (map out_of rows) (out_of r) (to_row rows r m)))
 
   are_named : (o : Output) → Has os o → o ≡ named (name_of o)
   are_named o m =
-      let r = ranking_row o m in
+      let r = row_of o m in
       let n : out_of r.0 ≡ named (row_field r.0) = out_named r.0 (are.formed r.0 r.1) in
       r.2 ∙ n ∙ ap named (sym (ap name_of r.2))
 
@@ -188,7 +188,7 @@ module _ (rows : List Row) (are : AreFieldRows rows) (os : List Output) (same : 
 
   listed : map strip os ≡ map bare (tables_in rows)
   listed = same_tables _ _ ordered_names (bare_order (tables_in rows) (tables_ordered rows))
-      (λ t m. let o = among_outputs os t m in let r = ranking_row o.0 o.1 in
+      (λ t m. let o = among_outputs os t m in let r = row_of o.0 o.1 in
       subst (Among (map bare (tables_in rows))) (sym (o.2 ∙ ap strip r.2)) (bare_among (tables_in rows) (entry r.0) (table_there rows are r.0 r.1)))
       (λ t m. let u = among_bare (tables_in rows) t m in let r = table_from rows u.0 u.1 in
       subst (Among (map strip os)) (sym (u.2 ∙ ap bare r.2)) (outputs_among os (out_of r.0) (of_row r.0 r.1)))

@@ -37,7 +37,7 @@ use Rattle.sqlite_rules.proofs.PlaceLemmas.{tied_same}
 use Rattle.sqlite_schema.specs.declared.schema.Keys.TheVariants.{Enforced}
 use Rattle.sqlite_schema.specs.declared.command.Conflict.TheVariants.{Abort}
 use Rattle.sqlite.specs.Source.TheVariants.{Values}
-use Rattle.sqlite.specs.Rows.{Written, Task, Part, Then, Puts, Clears, Updates, Meets, Upserts, Judged, Tries, TriesEach, InsertsOr, count_of, nothing, joined_outcomes}
+use Rattle.sqlite.specs.Rows.{Written, Task, Part, Then, Puts, Clears, Updates, Meets, Upserts, Judged, Tries, TriesEach, InsertsOr, count_of, nothing, joined}
 use Rattle.sqlite.specs.declared.error.Error.{Error}
 use Rattle.sqlite.proofs.Callers.{one_step}
 use Rattle.survey_core.specs.Fields.{name_cmp}
@@ -243,6 +243,6 @@ module _ (limit : Option ℕ) (db : Trees) (are : AreFieldRows (db 0)) (field bl
       let first = went (subst (λ rs. TriesEach task Abort (upsert ∷ []) rs top (nothing db) (Ok each.0)) given.1.1 each.1) in
       let new : with_rowid Chosen (db 0) (cast_row source one_row) ≡ new_row (next_rowid (db 0)) = rw cast_null refl in
       let done : Replaces (db 0) field blob (first.0.trees 0) = tried (next_rowid (db 0)) first.0 (subst (λ r. Tries task Abort (upsert ∷ []) r db (Ok first.0)) new first.1) in
-      let written : each.0.0 ≡ joined_outcomes (nothing db) first.0 = ap (λ (p : Written × ℤ). p.0) (same_value first.2) in
+      let written : each.0.0 ≡ joined (nothing db) first.0 = ap (λ (p : Written × ℤ). p.0) (same_value first.2) in
       let trees : w.trees ≡ first.0.trees = ap (λ (x : Written). x.trees) (same_value counted.2) ∙ same_value counted.1 ∙ ap (λ (x : Written). x.trees) written in
       subst (λ (t : Trees). Replaces (db 0) field blob (t 0)) (sym trees) done
