@@ -1,4 +1,4 @@
-"""Reads what `maxdetect filter` and `maxdetect detect` write with other FITS readers, and compares each pixel and cell.
+"""Reads what `maxdetect filter`, `detect` and `measure` write with other FITS readers, and compares each pixel and cell.
 
 usage: /usr/bin/python3 scripts/interop.py MAXDETECT      (MAXDETECT is the built program)
 
@@ -131,9 +131,36 @@ def detection(program, folder, stars):
         return len(sources)
 
 
+def measurement(program, folder, bands):
+    """The first 17 columns are those of `detect`, and the others are what the map's pixels have in the second band."""
+    words = ["--threshold", "1100", "--min-area", "5", "--connect", "8"]
+    with fits.open(verified(folder, "found.fits", run(program, ["detect", *words], bands))) as hdus:
+        found = hdus["SOURCES"].data.copy()
+    with fits.open(verified(folder, "bands.fits", bands), do_not_scale_image_data=True) as hdus:
+        band, blank, zero = hdus["RED"].data.astype("i8"), hdus["RED"].header["BLANK"], int(hdus["RED"].header["BZERO"])
+    with fits.open(verified(folder, "measured.fits", run(program, ["measure", "--values", "1", *words], bands))) as hdus:
+        hdus.verify("exception")
+        segments, measured = hdus["SEGMENT"].data, hdus["SOURCES"].data
+        if len(measured.names) != 24 or len(measured) == 0:
+            fail("measure writes other columns, or no rows")
+        if not all((found[name] == measured[name]).all() for name in found.names):
+            fail("measure finds other sources than detect")
+        for row in measured:
+            pixels = band[segments == row["NUMBER"]]
+            seen = pixels[pixels != blank] + zero
+            least, greatest, mean = (seen.min(), seen.max(), 1000 * seen.sum() // len(seen)) if len(seen) else (0, 0, 0)
+            wanted = (len(seen), len(pixels) - len(seen), seen.sum(), least, greatest, mean)
+            told = tuple(int(row[name]) for name in ("SEEN", "MISSING", "VSUM", "VLOW", "VPEAK", "VMEAN"))
+            if tuple(map(int, wanted)) != told:
+                fail(f"source {row['NUMBER']} measures {told}, and its pixels {wanted}")
+        return len(measured)
+
+
 def main():
     program = pathlib.Path(sys.argv[1]).resolve()
-    stars = subprocess.run([sys.executable, TOP / "examples" / "star_field.py", str(SIDE), str(SIDE)], capture_output=True, check=True).stdout
+    field = [sys.executable, TOP / "examples" / "star_field.py"]
+    stars = subprocess.run([*field, str(SIDE), str(SIDE)], capture_output=True, check=True).stdout
+    bands = subprocess.run([*field, "512", "512", "1", "2"], capture_output=True, check=True).stdout
     if not shutil.which("fitsverify"):
         print("skipped: fitsverify (Debian: fitsverify)")
     with tempfile.TemporaryDirectory() as name:
@@ -141,7 +168,8 @@ def main():
         small_filters(program, folder)
         star_filter(program, folder, stars)
         count = detection(program, folder, stars)
-    print(f"interop: all outputs are read without a warning; {count} sources agree with the map")
+        measures = measurement(program, folder, bands)
+    print(f"interop: all outputs are read without a warning; {count} sources agree with the map, {measures} with the second band")
 
 
 main()

@@ -9,7 +9,7 @@ use Rattle.std.proofs.lemmas.Slice.Eq.{bytes_eq-Decides}
 use Rattle.comp_tree.proofs.Exported.{find_some}
 use Rattle.detect_top.specs.declared.options.Command.{Command}
 use Rattle.detect_top.specs.declared.options.Setting.{Setting}
-use Rattle.detect_top.specs.declared.options.Setting.TheVariants.{Hdu, Connect, Strips, Workers, Mesh, Flat, Rule, MinArea, MaxArea, MinFlux, MinFill, Threshold, Contrast, Seed, Width, Height}
+use Rattle.detect_top.specs.declared.options.Setting.TheVariants.{Hdu, Connect, Strips, Workers, Mesh, Flat, Rule, MinArea, MaxArea, MinFlux, MinFill, Threshold, Contrast, Seed, Width, Height, Values}
 use Rattle.detect_top.specs.Options.{settings, option_name, option_named, setting_named, if_taken, takes}
 use Rattle.detect_top.specs.Words.{word_at, names, naming, is_bad_option, is_bad_name}
 use Rattle.detect_top.specs.Given.{AreRead}
@@ -55,6 +55,7 @@ one_called Contrast = omega arith
 one_called Seed = omega arith
 one_called Width = omega arith
 one_called Height = omega arith
+one_called Values = omega arith
 
 -- ---- one pair more
 

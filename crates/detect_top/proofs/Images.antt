@@ -20,7 +20,7 @@ use Rattle.detect_top.specs.declared.image.Stop.{Stop}
 use Rattle.detect_top.specs.Faults.{stop_at_hdu}
 use Rattle.detect_top.specs.Streams.{ImageRead, ImageStopped, stop_of}
 
-verdict_is : (bytes : List ℕ) (number : ℕ) (search : Found) → find_of bytes number ≡ search → verdict bytes number ≡ verdict_of bytes search
+pub verdict_is : (bytes : List ℕ) (number : ℕ) (search : Found) → find_of bytes number ≡ search → verdict bytes number ≡ verdict_of bytes search
 unfolding verdict
 verdict_is bytes number search is = ap (verdict_of bytes) is
 

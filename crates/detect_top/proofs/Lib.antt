@@ -14,3 +14,4 @@ pub mod Summaries
 pub mod Shapes
 pub mod NearPixels
 pub mod AnswerStatus
+pub mod Exported

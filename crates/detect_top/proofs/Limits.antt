@@ -1,17 +1,19 @@
 -- The numbers of an order are within their limits.
-use Rattle.std.proofs.Common.{◌≡◌, ℕ, ◌≤◌, Bool, true, false, ◌&&◌, List, refl, subst, arith, if◌then◌else◌}
+use Rattle.std.proofs.Common.{◌≡◌, ◌∙◌, ℕ, ◌≤◌, ◌≢◌, Bool, true, false, ◌&&◌, List, refl, sym, ap, subst, arith, if◌then◌else◌}
 use Rattle.std.specs.Prelude.{ℤ, pos, int_le, ◌≤ℤ◌, Option, Some, None, unwrap_or, unsigned_abs, option_and_then}
 use Rattle.std.specs.Option.{option_map}
 use Rattle.std.proofs.lemmas.Int.{ints}
 use Rattle.comp_tree.proofs.Exported.{int_le-true}
 use Rattle.detect_top.specs.declared.options.Setting.TheVariants.{Strips, Workers, Mesh, Rule, MinFill, Threshold, Contrast, Seed}
 use Rattle.detect_top.specs.declared.options.Command.{Command}
-use Rattle.detect_top.specs.declared.options.Command.TheVariants.{Tree, Filter, Detect, Trial}
+use Rattle.detect_top.specs.declared.options.Command.TheVariants.{Tree, Filter, Detect, Trial, Measure}
+use Rattle.source_pick.specs.declared.choice.Choice.{Choice}
+use Rattle.detect_top.specs.declared.words.Order.{Order}
 use Rattle.detect_top.specs.declared.words.Job.{Job}
 use Rattle.detect_top.specs.declared.words.Job.TheVariants as the_job
 use Rattle.command_line.specs.Numbers.{within, whole_number}
 use Rattle.detect_top.specs.Options.{count_between, strips_in, workers_in, mesh_in, rule_in, thousandths_in, threshold_in, seed_in}
-use Rattle.detect_top.specs.Words.{criterion_given, choice_given, job_given, order_for, value_given, given, HasJobLimits, HasLimits, shape_given}
+use Rattle.detect_top.specs.Words.{criterion_given, choice_given, job_given, order_for, value_given, given, HasJobLimits, HasLimits, shape_given, IsMeasureOrder}
 
 record IsBetween (least most n : ℕ) : Type 0 where
   low : least ≤ n
@@ -79,6 +81,7 @@ unfolding job_given
 job_limits Tree words n job is = let same : the_job.Tree ≡ job = cc in subst HasJobLimits same tt
 job_limits Filter words n job is = some_job (given rule_in words n Rule) _ job is (λ rule. criterion_limits words n)
 job_limits Detect words n job is = some_job (given threshold_in words n Threshold) _ job is (λ threshold. choice_limits words n threshold)
+job_limits Measure words n job is = some_job (given threshold_in words n Threshold) _ job is (λ threshold. choice_limits words n threshold)
 job_limits Trial words n job is = some_trial (given seed_in words n Seed) (shape_given words n) the_job.Trial job is (λ seed shape. tt)
 
 pub given_limits : (command : Command) (words : List (List ℕ)) (n : ℕ) (job : Job) → job_given command words n ≡ Some job → HasLimits (order_for words n job)
@@ -94,4 +97,30 @@ given_limits command words n job is =
       most_workers = workers.high;
       most_mesh = mesh.high;
       job = job_limits command words n job is;
+    }
+
+-- ---- an order to measure
+
+picks : (words : List (List ℕ)) (n : ℕ) (o : Option ℤ) (job : Job) → option_map (λ threshold. the_job.Detect (choice_given words n threshold)) o ≡ Some job
+    → (choice : Choice) × (job ≡ the_job.Detect choice)
+picks words n (Some threshold) job is = let same : job ≡ the_job.Detect (choice_given words n threshold) = cc in (choice_given words n threshold, same)
+picks words n None job is = absurd (cc)
+
+detects : (words : List (List ℕ)) (n : ℕ) (job : Job) → job_given Measure words n ≡ Some job → (choice : Choice) × (job ≡ the_job.Detect choice)
+unfolding job_given
+detects words n job is = picks words n (given threshold_in words n Threshold) job is
+
+job_is : (words : List (List ℕ)) (n : ℕ) (job : Job) → (order_for words n job).job ≡ job
+unfolding order_for
+job_is words n job = refl
+
+-- the order of what is given to measure is one to measure, where the HDU of the values is another
+pub measure_limits : (words : List (List ℕ)) (n : ℕ) (job : Job) (order : Order) (values : ℕ) → job_given Measure words n ≡ Some job → order ≡ order_for words n job → values ≢ order.hdu
+    → IsMeasureOrder (record { order = order; values = values })
+measure_limits words n job order values is same apart =
+    let choice = detects words n job is in
+    record {
+      limits = subst HasLimits (sym same) (given_limits Measure words n job is);
+      detects = (choice.0, ap (λ (o : Order). o.job) same ∙ job_is words n job ∙ choice.1);
+      apart = apart;
     }

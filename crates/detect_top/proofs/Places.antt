@@ -1,20 +1,24 @@
 -- The words at fault in so many pairs of a name and a value.
-use Rattle.std.proofs.Common.{◌≡◌, ◌∙◌, ℕ, zero, suc, ◌+◌, ◌-◌, ◌*◌, ◌/◌, ◌%◌, ◌<◌, ◌≤◌, ◌==◌, inl, inr, Bool, true, false, not, cond, nat_lt, List, [], ◌∷◌, length, get_or, refl, sym, ap, arith}
-use Rattle.std.specs.Prelude.{Option, Some, None, find, is_some}
+use Rattle.std.proofs.Common.{◌≡◌, ◌∙◌, ℕ, zero, suc, ◌+◌, ◌-◌, ◌*◌, ◌/◌, ◌%◌, ◌<◌, ◌≤◌, ◌==◌, ◌≢◌, inl, inr, Bool, true, false, not, cond, nat_lt, List, [], ◌∷◌, length, get_or, refl, sym, ap, subst, eq-eqb, arith}
+use Rattle.std.specs.Prelude.{Option, Some, None, find, is_some, option_and_then}
 use Rattle.std.specs.List.{range_with_len}
 use Rattle.std.specs.Option.{option_or, option_map}
 use Rattle.std.specs.Str.{bytes_eq}
 use Rattle.std.proofs.lemmas.Bool.{cases_lt}
 use Rattle.std.proofs.lemmas.Bool.Decides.{nat_tests}
+use Rattle.std.proofs.lemmas.List.{length-map}
 use denote.Ref.{Bor}
 use Rattle.detect_top.specs.declared.options.Command.{Command}
+use Rattle.detect_top.specs.declared.options.Command.TheVariants.{Measure}
 use Rattle.detect_top.specs.declared.options.Setting.{Setting}
+use Rattle.detect_top.specs.declared.options.Setting.TheVariants.{Values}
+use Rattle.detect_top.specs.declared.words.Order.{Order}
 use Rattle.detect_top.specs.declared.words.Job.{Job}
 use Rattle.command_line.proofs.Exported.{text_at}
-use Rattle.detect_top.specs.Options.{option_name, option_named, is_value}
+use Rattle.detect_top.specs.Options.{option_name, option_named, is_value, hdu_in}
 use Rattle.command_line.specs.Lines.{texts}
-use Rattle.detect_top.specs.Words.{word_at, names, naming, value_given, is_bad_option, is_bad_name, is_bad_value, is_at_fault, first_at_fault, job_given, order_for, order_given, order_unless, order_of, command_of, at_fault}
-use Rattle.detect_top.specs.Given.{AreRead, IsFirstFault}
+use Rattle.detect_top.specs.Words.{word_at, names, naming, value_given, is_bad_option, is_bad_name, is_bad_value, is_at_fault, first_at_fault, job_given, order_for, order_given, order_unless, order_of, command_of, at_fault, given, asks_measure, measure_apart, measure_given, measure_order_of}
+use Rattle.detect_top.specs.Given.{AreRead, AreAllRead, IsFirstFault}
 
 -- ---- the first number that passes a test
 
@@ -209,22 +213,38 @@ pair_read command words n is long name value = record {
 
 -- ---- all words
 
-pub nothing_read : (command : Command) (words : List (List ℕ)) → command_of words ≡ Some command → AreRead command words 0
-nothing_read command words is = record {
-  whole = some_words words is;
+some_words : (words : List (List ℕ)) (command : Command) → command_of words ≡ Some command → 0 < length words
+some_words [] command h = absurd (cc)
+some_words (first ∷ rest) command h = omega arith
+
+some_measure_words : (words : List (List ℕ)) → asks_measure words ≡ true → 0 < length words
+some_measure_words [] h = absurd (cc)
+some_measure_words (first ∷ rest) h = omega arith
+
+-- words that name a command are not none
+pub command_there : (words : List (Bor (List ℕ))) (command : Command) → command_of (texts words) ≡ Some command → 0 < length words
+command_there words command is = omega (arith, some_words (texts words) command is, length-map words (λ (w : Bor (List ℕ)). w.now))
+
+pub measure_there : (words : List (Bor (List ℕ))) → asks_measure (texts words) ≡ true → 0 < length words
+measure_there words asks = omega (arith, some_measure_words (texts words) asks, length-map words (λ (w : Bor (List ℕ)). w.now))
+
+pub nothing_read : (command : Command) (words : List (Bor (List ℕ))) → 0 < length words → AreRead command (texts words) 0
+nothing_read command words some = record {
+  whole = omega (arith, length-map words (λ (w : Bor (List ℕ)). w.now));
   names = λ i low high. absurd (omega arith);
   values = λ i low high. absurd (omega arith);
 }
-  where
-    some_words : (words : List (List ℕ)) → command_of words ≡ Some command → 2 * 0 + 1 ≤ length words
-    some_words [] h = absurd (cc)
-    some_words (first ∷ rest) h = omega arith
 
-pub refused_at : (command : Command) (words : List (List ℕ)) (k : ℕ) → command_of words ≡ Some command → IsFirstFault command words k → order_of words ≡ at_fault k
-unfolding order_of first_at_fault
-refused_at command words k is fault =
-    let first = find_first (is_at_fault command words) 2 (length words) k fault.behind (omega (arith, fault.within)) fault.is fault.none_before in
-    rw (is, first) refl
+pub all_read : (command : Command) (words : List (Bor (List ℕ))) (n : ℕ) → AreRead command (texts words) n → length words ≤ 2 * n + 1 → AreAllRead command (texts words) n
+all_read command words n is all = record { read = is; all = omega (arith, all, length-map words (λ (w : Bor (List ℕ)). w.now)) }
+
+-- the pairs that are read stand in the words
+pub pairs_there : (command : Command) (words : List (Bor (List ℕ))) (n : ℕ) → AreAllRead command (texts words) n → 2 * n + 1 ≤ length words
+pairs_there command words n is = omega (arith, is.read.whole, length-map words (λ (w : Bor (List ℕ)). w.now))
+
+fault_found : (command : Command) (words : List (List ℕ)) (k : ℕ) → IsFirstFault command words k → first_at_fault command words ≡ Some k
+unfolding first_at_fault
+fault_found command words k fault = find_first (is_at_fault command words) 2 (length words) k fault.behind (omega (arith, fault.within)) fault.is fault.none_before
 
 end_passed : (command : Command) (words : List (List ℕ)) (n : ℕ) → length words ≤ 2 * n + 1 → is_bad_name command words (n + 1) ≡ false
 unfolding is_bad_name
@@ -239,17 +259,55 @@ all_passed command words n is all j low high = elim (cases_lt j (2 * n + 2)) [
   | inr more ↦ let there : j ≡ 2 * (n + 1) = omega arith in ap (is_at_fault command words) there ∙ name_place command words (n + 1) ∙ end_passed command words n all
 ]
 
+no_fault : (command : Command) (words : List (List ℕ)) (n : ℕ) → AreAllRead command words n → first_at_fault command words ≡ None
+unfolding first_at_fault
+no_fault command words n is = find_nothing (is_at_fault command words) 2 (length words) (all_passed command words n is.read is.all)
+
+half_is : (command : Command) (words : List (List ℕ)) (n : ℕ) → AreAllRead command words n → length words / 2 ≡ n
+half_is command words n is = omega (arith, is.read.whole, is.all)
+
+end_is : (command : Command) (words : List (List ℕ)) (n : ℕ) → AreAllRead command words n → length words + 1 ≡ 2 * n + 2
+end_is command words n is = omega (arith, is.read.whole, is.all)
+
+-- ---- the order
+
+pub refused_at : (command : Command) (words : List (List ℕ)) (k : ℕ) → command_of words ≡ Some command → IsFirstFault command words k → order_of words ≡ at_fault k
+unfolding order_of
+refused_at command words k is fault = let first = fault_found command words k fault in rw (is, first) refl
+
 -- all words are read: the order is the one that is given, if nothing is missing
-pub ordered : (command : Command) (words : List (List ℕ)) (n : ℕ) (job : Option Job) → command_of words ≡ Some command → AreRead command words n → length words ≤ 2 * n + 1
+pub ordered : (command : Command) (words : List (List ℕ)) (n : ℕ) (job : Option Job) → command_of words ≡ Some command → AreAllRead command words n
     → job_given command words n ≡ job → order_of words ≡ order_unless None (2 * n + 2) (option_map (order_for words n) job)
-unfolding order_of first_at_fault
-ordered command words n job is_command is all given =
-    let none = find_nothing (is_at_fault command words) 2 (length words) (all_passed command words n is all) in
-    let half : length words / 2 ≡ n = omega (arith, is.whole) in
-    let end : length words + 1 ≡ 2 * n + 2 = omega (arith, is.whole) in
-    rw (is_command, none) (ap (λ m. order_unless None (length words + 1) (order_given command words m)) half
-    ∙ ap (λ k. order_unless None k (order_given command words n)) end ∙ ap (λ j. order_unless None (2 * n + 2) (option_map (order_for words n) j)) given)
+unfolding order_of
+ordered command words n job is_command is given =
+    let none = no_fault command words n is in
+    rw (is_command, none) (ap (λ m. order_unless None (length words + 1) (order_given command words m)) (half_is command words n is)
+    ∙ ap (λ k. order_unless None k (order_given command words n)) (end_is command words n is) ∙ ap (λ j. order_unless None (2 * n + 2) (option_map (order_for words n) j)) given)
 
 pub no_command : (words : List (List ℕ)) → command_of words ≡ None → order_of words ≡ at_fault 1
 unfolding order_of
 no_command words none = rw none refl
+
+-- ---- measuring
+
+pub measure_refused_at : (words : List (List ℕ)) (k : ℕ) → IsFirstFault Measure words k → measure_order_of words ≡ at_fault k
+unfolding measure_order_of
+measure_refused_at words k fault = let first = fault_found Measure words k fault in rw first refl
+
+-- all words are read: the order to measure by the job and the HDU of the values that are given
+pub measured : (words : List (List ℕ)) (n : ℕ) (job : Option Job) (values : Option ℕ) → AreAllRead Measure words n → job ≡ job_given Measure words n → values ≡ given hdu_in words n Values
+    → measure_order_of words ≡ order_unless None (2 * n + 2) (option_and_then (λ order. option_and_then (measure_apart order) values) (option_map (order_for words n) job))
+unfolding measure_order_of measure_given
+measured words n job values is p q =
+    let none = no_fault Measure words n is in
+    rw none (ap (λ m. order_unless None (length words + 1) (measure_given words m)) (half_is Measure words n is)
+    ∙ ap (λ k. order_unless None k (measure_given words n)) (end_is Measure words n is)
+    ∙ sym (λ i. order_unless None (2 * n + 2) (option_and_then (λ order. option_and_then (measure_apart order) (q i)) (option_map (order_for words n) (p i)))))
+
+pub one_hdu : (order order' : Order) (values : ℕ) → order ≡ order' → values ≡ order.hdu → measure_apart order' values ≡ None
+one_hdu order order' values same both = let test = eq-eqb values order'.hdu (both ∙ ap (λ (o : Order). o.hdu) same) in rw test refl
+
+pub two_hdus : (order order' : Order) (values : ℕ) → order ≡ order' → values ≢ order.hdu → measure_apart order' values ≡ Some (record { order = order; values = values })
+two_hdus order order' values same apart =
+    let test : (values == order.hdu) ≡ false = grind (arith, nat_tests) in
+    subst (λ (o : Order). measure_apart o values ≡ Some (record { order = order; values = values })) same (rw test refl)

@@ -9,6 +9,11 @@ pub record AreRead (command : Command) (words : List (List ℕ)) (n : ℕ) : Typ
   pub names : (i : ℕ) → 1 ≤ i → i ≤ n → is_bad_name command words i ≡ false
   pub values : (i : ℕ) → 1 ≤ i → i ≤ n → is_bad_value command words i ≡ false
 
+-- the first n pairs are read, and no word is left
+pub record AreAllRead (command : Command) (words : List (List ℕ)) (n : ℕ) : Type 0 where
+  pub read : AreRead command words n
+  pub all : length words ≤ 2 * n + 1
+
 -- word k is the first at fault behind the command
 pub record IsFirstFault (command : Command) (words : List (List ℕ)) (k : ℕ) : Type 0 where
   pub behind : 2 ≤ k

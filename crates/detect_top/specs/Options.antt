@@ -9,15 +9,16 @@ use Rattle.comp_tree.specs.declared.shape.Connect.TheVariants as connectivity
 use Rattle.filter_rules.specs.declared.rule.Rule.{Rule}
 use Rattle.filter_rules.specs.declared.rule.Rule.TheVariants as rule
 use Rattle.detect_top.specs.declared.options.Command.{Command}
-use Rattle.detect_top.specs.declared.options.Command.TheVariants.{Tree, Filter, Detect, Trial}
+use Rattle.detect_top.specs.declared.options.Command.TheVariants.{Tree, Filter, Detect, Trial, Measure}
 use Rattle.detect_top.specs.declared.options.Setting.{Setting}
 use Rattle.detect_top.specs.declared.options.Setting.TheVariants.{Hdu, Connect as Connectivity, Strips, Workers, Mesh, Flat}
 use Rattle.detect_top.specs.declared.options.Setting.TheVariants.{Rule as FilterRule, MinArea, MaxArea, MinFlux, MinFill}
-use Rattle.detect_top.specs.declared.options.Setting.TheVariants.{Threshold, Contrast, Seed, Width, Height}
+use Rattle.detect_top.specs.declared.options.Setting.TheVariants.{Threshold, Contrast, Seed, Width, Height, Values}
 use Rattle.command_line.specs.Numbers.{number_between}
 
 -- ---- names
 
+-- the command that a run knows by this name; it knows none of measuring
 abbrev pub command_named : List ℕ → Option Command
 command_named text =
     if bytes_eq text (codes "tree") then Some Tree
@@ -29,7 +30,7 @@ command_named text =
 abbrev pub settings : List Setting
 settings =
     Hdu ∷ Connectivity ∷ Strips ∷ Workers ∷ Mesh ∷ Flat ∷ FilterRule ∷ MinArea ∷ MaxArea ∷ MinFlux ∷ MinFill
-    ∷ Threshold ∷ Contrast ∷ Seed ∷ Width ∷ Height ∷ []
+    ∷ Threshold ∷ Contrast ∷ Seed ∷ Width ∷ Height ∷ Values ∷ []
 
 abbrev pub option_name : Setting → List ℕ
 option_name Hdu = codes "--hdu"
@@ -48,6 +49,7 @@ option_name Contrast = codes "--contrast"
 option_name Seed = codes "--seed"
 option_name Width = codes "--width"
 option_name Height = codes "--height"
+option_name Values = codes "--values"
 
 unfoldable pub setting_named : List ℕ → Option Setting
 setting_named text = find (λ setting. bytes_eq text (option_name setting)) settings
@@ -58,18 +60,32 @@ is_filter Tree = false
 is_filter Filter = true
 is_filter Detect = false
 is_filter Trial = false
+is_filter Measure = false
 
 abbrev pub is_detect : Command → Bool
 is_detect Tree = false
 is_detect Filter = false
 is_detect Detect = true
 is_detect Trial = false
+is_detect Measure = false
 
 abbrev pub is_trial : Command → Bool
 is_trial Tree = false
 is_trial Filter = false
 is_trial Detect = false
 is_trial Trial = true
+is_trial Measure = false
+
+abbrev pub is_measure : Command → Bool
+is_measure Tree = false
+is_measure Filter = false
+is_measure Detect = false
+is_measure Trial = false
+is_measure Measure = true
+
+-- the command picks sources, as detecting and measuring do
+abbrev pub picks_sources : Command → Bool
+picks_sources command = is_detect command || is_measure command
 
 -- the command has this option
 abbrev pub takes : Command → Setting → Bool
@@ -80,15 +96,16 @@ takes command Workers = true
 takes command Mesh = true
 takes command Flat = true
 takes command FilterRule = is_filter command
-takes command MinArea = is_filter command || is_detect command
+takes command MinArea = is_filter command || picks_sources command
 takes command MaxArea = is_filter command
-takes command MinFlux = is_filter command || is_detect command
+takes command MinFlux = is_filter command || picks_sources command
 takes command MinFill = is_filter command
-takes command Threshold = is_detect command
-takes command Contrast = is_detect command
+takes command Threshold = picks_sources command
+takes command Contrast = picks_sources command
 takes command Seed = is_trial command
 takes command Width = is_trial command
 takes command Height = is_trial command
+takes command Values = is_measure command
 
 abbrev pub if_taken : Command → Option Setting → Option Setting
 if_taken command None = None
@@ -186,3 +203,4 @@ is_value Contrast text = is_some (thousandths_in text)
 is_value Seed text = is_some (seed_in text)
 is_value Width text = is_some (side_in text)
 is_value Height text = is_some (side_in text)
+is_value Values text = is_some (hdu_in text)

@@ -1,7 +1,8 @@
 -- Model: what the words of the command mean. Words are counted from 1: the first is the command, the even ones behind it name
 -- options, and each odd one is the value of the option that is named before it.
-use Rattle.std.specs.Prelude.{ℕ, ◌<◌, ◌≤◌, ◌+◌, ◌-◌, ◌*◌, ◌/◌, ◌%◌, ◌^◌, Bool, true, false, ◌==◌, ◌||◌, not, nat_lt, List}
-use Rattle.std.specs.Prelude.{[], ◌∷◌, length, find, get_or, ℤ, pos, Option, Some, None, is_some, unwrap_or, option_and_then, Result, Ok, Err, if◌then◌else◌}
+use Rattle.std.specs.Prelude.{ℕ, ◌<◌, ◌≤◌, ◌+◌, ◌-◌, ◌*◌, ◌/◌, ◌%◌, ◌^◌, Bool, true, false, ◌==◌, ◌≡◌, ◌≢◌, ◌||◌, not, nat_lt, List}
+use Rattle.std.specs.Prelude.{[], ◌∷◌, length, find, get_or, ℤ, pos, Option, Some, None, is_some, unwrap_or, option_and_then, Result, Ok, Err}
+use Rattle.std.specs.Prelude.{codes, if◌then◌else◌}
 use Rattle.std.specs.Str.{bytes_eq}
 use Rattle.std.specs.List.{range_with_len}
 use Rattle.std.specs.Option.{option_map}
@@ -14,8 +15,9 @@ use Rattle.detect_top.specs.declared.options.Command.{Command}
 use Rattle.detect_top.specs.declared.options.Command.TheVariants as command
 use Rattle.detect_top.specs.declared.options.Setting.{Setting}
 use Rattle.detect_top.specs.declared.options.Setting.TheVariants.{Hdu, Connect, Strips, Workers, Mesh, Flat, Rule, MinArea}
-use Rattle.detect_top.specs.declared.options.Setting.TheVariants.{MaxArea, MinFlux, MinFill, Threshold, Contrast, Seed, Width, Height}
+use Rattle.detect_top.specs.declared.options.Setting.TheVariants.{MaxArea, MinFlux, MinFill, Threshold, Contrast, Seed, Width, Height, Values}
 use Rattle.detect_top.specs.declared.words.Order.{Order}
+use Rattle.detect_top.specs.declared.words.MeasureOrder.{MeasureOrder}
 use Rattle.detect_top.specs.declared.words.Job.{Job}
 use Rattle.detect_top.specs.declared.words.Job.TheVariants as job
 use Rattle.detect_top.specs.declared.words.Usage.{Usage}
@@ -92,12 +94,17 @@ choice_given words n threshold = record {
 unfoldable pub shape_given : List (List ℕ) → ℕ → Option Shape
 shape_given words n = option_and_then (λ width. option_and_then (shape_of width) (given side_in words n Height)) (given side_in words n Width)
 
+-- sources are to be picked, if a threshold is given
+abbrev pub detection_given : List (List ℕ) → ℕ → Option Job
+detection_given words n = option_map (λ threshold. job.Detect (choice_given words n threshold)) (given threshold_in words n Threshold)
+
 -- what is to be done, unless something is missing for it
 unfoldable pub job_given : Command → List (List ℕ) → ℕ → Option Job
 job_given command.Tree words n = Some job.Tree
 job_given command.Filter words n = option_map (λ rule. job.Filter rule (criterion_given words n)) (given rule_in words n Rule)
-job_given command.Detect words n = option_map (λ threshold. job.Detect (choice_given words n threshold)) (given threshold_in words n Threshold)
+job_given command.Detect words n = detection_given words n
 job_given command.Trial words n = option_and_then (λ seed. option_map (job.Trial seed) (shape_given words n)) (given seed_in words n Seed)
+job_given command.Measure words n = detection_given words n
 
 unfoldable pub order_for : List (List ℕ) → ℕ → Job → Order
 order_for words n job = record {
@@ -115,10 +122,10 @@ abbrev pub order_given : Command → List (List ℕ) → ℕ → Option Order
 order_given command words n = option_map (order_for words n) (job_given command words n)
 
 -- there is no order, and this word is at fault
-abbrev pub at_fault : ℕ → Result Order Usage
+abbrev pub at_fault : {T : Type 0} → ℕ → Result T Usage
 at_fault k = Err (record { word = k })
 
-abbrev pub order_unless : Option ℕ → ℕ → Option Order → Result Order Usage
+abbrev pub order_unless : {T : Type 0} → Option ℕ → ℕ → Option T → Result T Usage
 order_unless (Some k) end order = at_fault k
 order_unless None end (Some order) = Ok order
 order_unless None end None = at_fault end
@@ -150,3 +157,31 @@ pub record HasLimits (order : Order) : Type 0 where
   pub most_workers : order.workers ≤ 64
   pub most_mesh : order.mesh ≤ 65535
   pub job : HasJobLimits order.job
+
+-- ---- measuring
+
+-- the first word asks for measuring
+abbrev pub asks_measure : List (List ℕ) → Bool
+asks_measure [] = false
+asks_measure (first ∷ rest) = bytes_eq first (codes "measure")
+
+-- detection and values stand in two HDUs
+abbrev pub measure_apart : Order → ℕ → Option MeasureOrder
+measure_apart order values = if values == order.hdu then None else Some (record { order = order; values = values })
+
+-- the order to measure that n pairs of a name and a value give, none of which is at fault
+unfoldable pub measure_given : List (List ℕ) → ℕ → Option MeasureOrder
+measure_given words n =
+    option_and_then (λ order. option_and_then (measure_apart order) (given hdu_in words n Values)) (order_given command.Measure words n)
+
+-- the order of words that ask for measuring, or the first word at fault; where something is missing at the end, or one HDU is to be both,
+-- that is the one behind the last
+unfoldable pub measure_order_of : List (List ℕ) → Result MeasureOrder Usage
+measure_order_of words =
+    order_unless (first_at_fault command.Measure words) (length words + 1) (measure_given words (length words / 2))
+
+-- sources are to be detected in one HDU, and measured in another
+pub record IsMeasureOrder (found : MeasureOrder) : Type 0 where
+  pub limits : HasLimits found.order
+  pub detects : (choice : Choice) × (found.order.job ≡ job.Detect choice)
+  pub apart : found.values ≢ found.order.hdu

@@ -1,5 +1,5 @@
 // The image: its HDU is found and judged, and its pixels are read.
-ghost use Rattle.std.specs.Prelude.{◌≡◌, ◌≤◌, ℕ, List, IfOk, IfErr, IsErrOf, IsTrue, MatchResult};
+ghost use Rattle.std.specs.Prelude.{◌≡◌, ◌≤◌, ℕ, List, Ok, IfOk, IfErr, IsErrOf, IsTrue, MatchResult};
 ghost use Rattle.std.specs.Option.{ForSome};
 ghost use Rattle.dev_io.specs.Causes.{Rose};
 ghost use Rattle.dev_io.specs.Streams.{Takes};
@@ -62,6 +62,7 @@ pub fn read_found<S: Source>(alloc: Global, src: &mut S, hdu: &Hdu) -> Result<Pl
     ensures told { (bytes : List ℕ) (head : ℕ) → Takes bytes (S.left src.old) head → MatchResult result
         (λ plane. ImageRead (verdict_by bytes hdu.now head (checked hdu.now)) bytes (S.left src.new) plane)
         (λ stop. ImageStopped (verdict_by bytes hdu.now head (checked hdu.now)) bytes (S.left src.new) stop) }
+    ensures shape { IfOk result (λ plane. checked hdu.now ≡ Ok plane.shape) }
     ensures storable { IfOk result (λ plane. HasValuesInHalfRange plane.values) }
     ensures ended { IfErr result (λ stop. IsCutStop stop → IsTrue (S.ended src.new)) }
     ensures later { S.faults src.old ≤ S.faults src.new }

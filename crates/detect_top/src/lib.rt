@@ -21,9 +21,9 @@ pub use fits_write::WriteFault;
 pub use image::{Stop, read_found};
 pub use lines::put_tree;
 pub use notes::put_refusal;
-pub use top::run;
+pub use top::{End, run};
 pub use trial::{Summary, put_trial};
-pub use words::{Job, Order, Usage, read_words};
+pub use words::{Job, MeasureOrder, Order, Usage, is_measure, read_measure, read_words};
 
 #[cfg(test)]
 mod detection_tests;
@@ -35,6 +35,8 @@ mod filter_tests;
 mod header_tests;
 #[cfg(test)]
 mod in_memory;
+#[cfg(test)]
+mod measure_words_tests;
 #[cfg(test)]
 mod strips_tests;
 #[cfg(test)]

@@ -1,6 +1,6 @@
 // The commands and their options.
 ghost use Rattle.std.specs.Prelude.{◌≡◌, ◌≤ℤ◌, ◌<◌, ℕ, Some, IfSome, is_some};
-ghost use Rattle.detect_top.specs.Options.{command_named, setting_named, option_named, takes as takes_option, option_name, is_value, hdu_in, connect_in, strips_in, workers_in, mesh_in, flat_in, rule_in, area_in, flux_in, thousandths_in, threshold_in, seed_in, side_in};
+ghost use Rattle.detect_top.specs.Options.{command_named, setting_named, option_named, takes as takes_option, picks_sources as picks_some, option_name, is_value, hdu_in, connect_in, strips_in, workers_in, mesh_in, flat_in, rule_in, area_in, flux_in, thousandths_in, threshold_in, seed_in, side_in};
 
 use command_line::numbers::number_between;
 use comp_tree::Connect;
@@ -20,6 +20,8 @@ pub(crate) enum Command {
     Filter,
     Detect,
     Trial,
+    /// Not known to `named`: `read_measure` reads its words.
+    Measure,
 }
 
 impl Command {
@@ -35,6 +37,12 @@ impl Command {
         }
     }
 
+    fn picks_sources(self) -> bool
+        ensures { result ≡ picks_some self }
+    {
+        self == Command::Detect || self == Command::Measure
+    }
+
     fn takes(self, setting: Setting) -> bool
         ensures { result ≡ takes_option self setting }
     {
@@ -44,10 +52,11 @@ impl Command {
                 true,
             Setting::Rule | Setting::MaxArea | Setting::MinFill => self == Command::Filter,
             Setting::MinArea | Setting::MinFlux => {
-                self == Command::Filter || self == Command::Detect
+                self == Command::Filter || self.picks_sources()
             }
-            Setting::Threshold | Setting::Contrast => self == Command::Detect,
+            Setting::Threshold | Setting::Contrast => self.picks_sources(),
             Setting::Seed | Setting::Width | Setting::Height => self == Command::Trial,
+            Setting::Values => self == Command::Measure,
         }
     }
 
@@ -82,6 +91,7 @@ pub(crate) enum Setting {
     Seed,
     Width,
     Height,
+    Values,
 }
 
 impl Setting {
@@ -106,6 +116,7 @@ impl Setting {
             "--seed" => Some(Setting::Seed),
             "--width" => Some(Setting::Width),
             "--height" => Some(Setting::Height),
+            "--values" => Some(Setting::Values),
             _ => None,
         }
     }
@@ -130,6 +141,7 @@ impl Setting {
             Setting::Seed => "--seed",
             Setting::Width => "--width",
             Setting::Height => "--height",
+            Setting::Values => "--values",
         }
     }
 
@@ -138,7 +150,7 @@ impl Setting {
         ensures { result ≡ is_value self text.now }
     {
         match self {
-            Setting::Hdu => hdu(text).is_some(),
+            Setting::Hdu | Setting::Values => hdu(text).is_some(),
             Setting::Connect => connect(text).is_some(),
             Setting::Strips => strips(text).is_some(),
             Setting::Workers => workers(text).is_some(),

@@ -28,7 +28,7 @@ use strip_crew::Gate;
 
 /// How a run ends.
 #[derive(Clone, Copy, Debug, PartialEq, Eq)]
-pub(crate) enum End {
+pub enum End {
     Done,
     Usage(Usage),
     Refused(Fault),

@@ -1,9 +1,9 @@
 // The words of the command.
-ghost use Rattle.std.specs.Prelude.{◌≡◌, ◌≤◌, ◌<◌, ◌+◌, ◌*◌, ℕ, IfOk, IfSome, MatchResult, length, is_some};
+ghost use Rattle.std.specs.Prelude.{◌≡◌, ◌≤◌, ◌<◌, ◌+◌, ◌*◌, ℕ, IfOk, IfSome, IsTrue, MatchResult, length, is_some};
 ghost use Rattle.std.specs.Option.{option_map};
 ghost use Rattle.command_line.specs.Lines.{texts};
-ghost use Rattle.detect_top.specs.Words.{order_of, HasLimits, command_of, naming as naming_of, value_given, criterion_given, choice_given, job_given, order_for, order_given, shape_given};
-ghost use Rattle.detect_top.specs.Given.{AreRead, IsFirstFault};
+ghost use Rattle.detect_top.specs.Words.{order_of, measure_order_of, asks_measure, HasLimits, IsMeasureOrder, command_of, naming as naming_of, value_given, criterion_given, choice_given, job_given, order_for, order_given, shape_given};
+ghost use Rattle.detect_top.specs.Given.{AreRead, AreAllRead, IsFirstFault};
 
 use crate::options::{
     Command, Setting, area, connect, flat, flux, hdu, mesh, rule, seed, side, strips, thousandths,
@@ -43,6 +43,14 @@ pub enum Job {
     Detect { choice: Choice },
     /// The line that tells of the image of this shape that is made from this seed.
     Trial { seed: u32, shape: Shape },
+}
+
+/// An order to detect in one HDU and to measure in another of the same file.
+#[derive(Clone, Copy, Debug, PartialEq, Eq)]
+pub struct MeasureOrder {
+    pub order: Order,
+    /// The number of the HDU that holds the values, from 0.
+    pub values: u16,
 }
 
 /// The words give no order: this one, counted from 1, is the first at fault.
@@ -179,7 +187,7 @@ fn job_for(command: Command, words: &[&str], pairs: u32) -> Option<Job>
                 None => None,
             }
         }
-        Command::Detect => {
+        Command::Detect | Command::Measure => {
             match value(words, Setting::Threshold, pairs).and_then(threshold) {
                 Some(threshold) => Some(Job::Detect {
                     choice: choice_for(words, pairs, threshold),
@@ -225,6 +233,23 @@ fn order_of_job(words: &[&str], pairs: u32, job: Job) -> Order
     }
 }
 
+// How many pairs of a name and a value stand behind the command, unless one is at fault.
+fn pairs_read(command: Command, words: &[&str]) -> Result<u32, Usage>
+    requires { 0 < length words.now }
+    ensures { MatchResult result
+        (λ pairs. AreAllRead command (texts words.now) pairs)
+        (λ usage. IsFirstFault command (texts words.now) usage.word) }
+{
+    let mut pairs = 0;
+    while 2 * pairs as usize + 1 < words.len() {
+        if let Err(usage) = judge_pair(command, words, pairs) {
+            return Err(usage);
+        }
+        pairs += 1;
+    }
+    Ok(pairs)
+}
+
 /// Reads the words of the command, without the program's name: the command, and behind it options with their values, in
 /// any order and each at most once. It takes no memory.
 pub fn read_words(words: &[&str]) -> Result<Order, Usage>
@@ -234,17 +259,53 @@ pub fn read_words(words: &[&str]) -> Result<Order, Usage>
     let Some(command) = command(words) else {
         return Err(Usage { word: 1 });
     };
-    let mut pairs = 0;
-    while 2 * pairs as usize + 1 < words.len() {
-        if let Err(usage) = judge_pair(command, words, pairs) {
-            return Err(usage);
-        }
-        pairs += 1;
-    }
+    let pairs = match pairs_read(command, words) {
+        Ok(pairs) => pairs,
+        Err(usage) => return Err(usage),
+    };
     match job_for(command, words, pairs) {
         Some(job) => Ok(order_of_job(words, pairs, job)),
         None => Err(Usage {
             word: 2 * pairs + 2,
         }),
+    }
+}
+
+/// The words, without the program's name, ask for measuring: the first is `measure`. Then `read_measure` reads them, and else
+/// `read_words`.
+pub fn is_measure(words: &[&str]) -> bool
+    ensures { result ≡ asks_measure (texts words.now) }
+{
+    match words.first() {
+        Some(word) => *word == "measure",
+        None => false,
+    }
+}
+
+/// Reads words that ask for measuring: the options are those of detection and the HDU of the values, which isn't that of
+/// detection. It takes no memory.
+pub fn read_measure(words: &[&str]) -> Result<MeasureOrder, Usage>
+    requires { IsTrue (asks_measure (texts words.now)) }
+    ensures order { result ≡ measure_order_of (texts words.now) }
+    ensures limits { IfOk result IsMeasureOrder }
+{
+    let pairs = match pairs_read(Command::Measure, words) {
+        Ok(pairs) => pairs,
+        Err(usage) => return Err(usage),
+    };
+    let behind = Usage {
+        word: 2 * pairs + 2,
+    };
+    let order = match job_for(Command::Measure, words, pairs) {
+        Some(job) => order_of_job(words, pairs, job),
+        None => return Err(behind),
+    };
+    let Some(values) = value(words, Setting::Values, pairs).and_then(hdu) else {
+        return Err(behind);
+    };
+    if values == order.hdu {
+        Err(behind)
+    } else {
+        Ok(MeasureOrder { order, values })
     }
 }

@@ -1,8 +1,8 @@
-//! The program: hands its words and its streams to `run`, and exits with its status.
+//! The program: hands its words and its streams to `run_all`, and exits with its status.
 #![tactic(auto)]
 
-use detect_top::run;
 use dev_io::{OutOfMemory, ReadSource, WriteSink};
+use measure_top::run_all;
 use std::env;
 use std::io::ErrorKind;
 use std::process::ExitCode;
@@ -45,7 +45,7 @@ fn main(rt: HostRuntime) -> ExitCode {
     let mut input = ReadSource::new(rt.stdin());
     let mut output = WriteSink::new(rt.stdout());
     let mut notes = WriteSink::new(rt.stderr());
-    let status = run(
+    let status = run_all(
         &rt,
         alloc,
         &texts,

@@ -2,7 +2,7 @@
 use Rattle.std.proofs.Common.{◌-◌, ◌*◌, ◌+◌, length}
 use Rattle.command_line.specs.Lines.{texts}
 use Rattle.detect_top.specs.Given.{AreRead}
-use Rattle.detect_top.proofs.words.read_words.Given as goal
+use Rattle.detect_top.proofs.words.pairs_read.Given as goal
 
 abbrev pub invariant-loop-pairs : goal.invariant-loop-pairs
 invariant-loop-pairs l = AreRead l.command (texts l.words) l.pairs

@@ -1,0 +1,6 @@
+pub mod TwoImages
+pub mod FirstImages
+pub mod MeasuredCatalogues
+pub mod MeasureAnswers
+pub mod MeasureRuns
+pub mod MeasureEnds

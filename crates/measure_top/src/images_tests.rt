@@ -1,0 +1,149 @@
+// Two images of one small file.
+use crate::images::{TwoPlanes, TwoStop, read_two};
+use comp_tree::Plane;
+use detect_top::{Fault, Stop};
+use dev_io::MemSource;
+use std::alloc::Global;
+use std::process::Abort;
+use std::test::Fail;
+
+const BLOCK: usize = 2880;
+
+// The primary HDU, with one row of five pixels.
+const PRIMARY: &[u8] = b"SIMPLE  = T|BITPIX  = 8|NAXIS   = 2|NAXIS1  = 5|NAXIS2  = 1|END|#";
+
+const FIRST: &[u8] = &[1, 6, 2, 5, 1];
+
+// An image extension of the same shape, behind the padding of the primary HDU's data.
+const EXTENSION: &[u8] =
+    b"#XTENSION= 'IMAGE   '|BITPIX  = 8|NAXIS   = 2|NAXIS1  = 5|NAXIS2  = 1|PCOUNT  = 0|GCOUNT  = 1|BLANK   = 255|END|#";
+
+// Fills the last piece of this size with spaces.
+fn fill(bytes: &mut Vec<u8>, size: usize) -> Result<(), Fail> {
+    for _ in 0..BLOCK {
+        if size == 0 || bytes.len() % size == 0 {
+            return Ok(());
+        }
+        bytes.push(b' ')?;
+    }
+    Ok(())
+}
+
+// Appends the bytes of this text, in which a bar ends a card and a number sign a block, and the data behind them.
+fn append(bytes: &mut Vec<u8>, header: &[u8], data: &[u8]) -> Result<(), Fail> {
+    for byte in header {
+        match *byte {
+            b'|' => fill(bytes, 80)?,
+            b'#' => fill(bytes, BLOCK)?,
+            other => bytes.push(other)?,
+        }
+    }
+    bytes.extend_from_slice(data)?;
+    Ok(())
+}
+
+// What was read, and how many bytes were taken for it.
+#[derive(Drop)]
+struct Outcome {
+    result: Result<TwoPlanes, TwoStop>,
+    taken: usize,
+}
+
+// Reads both images of a file with these pixels in the primary HDU and with this extension. The takes with these numbers, from 1, fail.
+fn read(
+    alloc: Global,
+    first: &[u8],
+    header: &[u8],
+    data: &[u8],
+    fails: &[u32],
+) -> Result<Outcome, Fail> {
+    let mut bytes = Vec::new(alloc);
+    append(&mut bytes, PRIMARY, first)?;
+    append(&mut bytes, header, data)?;
+    let mut src = MemSource::new(&bytes, 1000, fails);
+    let result = read_two(alloc, &mut src, 0, 1);
+    let taken = bytes.len() - src.rest().len().min(bytes.len());
+    Ok(Outcome { result, taken })
+}
+
+fn has_values<R: Abort>(rt: &R, plane: &Plane, values: [Option<i64>; 5]) {
+    for p in 0..5u32 {
+        if p < plane.shape().pixels() {
+            assert_eq!(*rt; plane.get(p), values[p as usize]);
+        }
+    }
+}
+
+#[test]
+fn both_images_are_read(rt: HostRuntime) -> Result<(), Fail> {
+    let outcome = read(rt.alloc(), FIRST, EXTENSION, &[10, 20, 255, 40, 7], &[])?;
+    assert_eq!(rt; outcome.taken, 8645);
+    match outcome.result {
+        Ok(planes) => {
+            assert_eq!(rt; planes.first.shape().pixels(), 5);
+            assert_eq!(rt; planes.second.shape().pixels(), 5);
+            has_values(
+                &rt,
+                &planes.first,
+                [Some(1), Some(6), Some(2), Some(5), Some(1)],
+            );
+            has_values(
+                &rt,
+                &planes.second,
+                [Some(10), Some(20), None, Some(40), Some(7)],
+            );
+        }
+        Err(stop) => assert_eq!(rt; Some(stop), None),
+    }
+    Ok(())
+}
+
+#[test]
+fn images_of_two_shapes_are_refused(rt: HostRuntime) -> Result<(), Fail> {
+    let narrow =
+        b"#XTENSION= 'IMAGE   '|BITPIX  = 8|NAXIS   = 2|NAXIS1  = 4|NAXIS2  = 1|PCOUNT  = 0|GCOUNT  = 1|END|#";
+    let outcome = read(rt.alloc(), FIRST, narrow, &[10, 20, 30, 40], &[])?;
+    assert_eq!(rt; outcome.taken, 8640);
+    assert_eq!(rt; outcome.result.err(), Some(TwoStop::ShapesDiffer));
+    // Also where the data of the later one are cut.
+    let outcome = read(rt.alloc(), FIRST, narrow, &[10], &[])?;
+    assert_eq!(rt; outcome.taken, 8640);
+    assert_eq!(rt; outcome.result.err(), Some(TwoStop::ShapesDiffer));
+    Ok(())
+}
+
+#[test]
+fn cut_data_are_refused(rt: HostRuntime) -> Result<(), Fail> {
+    let outcome = read(rt.alloc(), FIRST, EXTENSION, &[10, 20], &[])?;
+    assert_eq!(rt; outcome.taken, 8642);
+    assert_eq!(rt;
+        outcome.result.err(),
+        Some(TwoStop::At(Stop::Refused(Fault::TruncatedData)))
+    );
+    Ok(())
+}
+
+#[test]
+fn the_earlier_hdu_is_judged_first(rt: HostRuntime) -> Result<(), Fail> {
+    let outcome = read(rt.alloc(), &[1, 6], b"", &[], &[])?;
+    assert_eq!(rt; outcome.taken, 2882);
+    assert_eq!(rt;
+        outcome.result.err(),
+        Some(TwoStop::At(Stop::Refused(Fault::TruncatedData)))
+    );
+    let outcome = read(rt.alloc(), FIRST, b"", &[], &[])?;
+    assert_eq!(rt; outcome.taken, 2885);
+    assert_eq!(rt;
+        outcome.result.err(),
+        Some(TwoStop::At(Stop::Refused(Fault::NoSuchHdu)))
+    );
+    Ok(())
+}
+
+#[test]
+fn a_take_that_fails_behind_the_earlier_image_is_a_read_fault(rt: HostRuntime) -> Result<(), Fail> {
+    let outcome = read(rt.alloc(), FIRST, EXTENSION, &[10, 20, 255, 40, 7], &[11])?;
+    assert_eq!(rt; outcome.taken, 2885);
+    assert_eq!(rt; outcome.result.err(), Some(TwoStop::At(Stop::ReadFault)));
+    Ok(())
+}

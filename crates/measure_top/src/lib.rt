@@ -1,0 +1,19 @@
+//! The sources of one image, measured in a second image of the same file, and the runs of all commands.
+#![tactic(auto)]
+
+mod images;
+mod measuring;
+mod notes;
+mod top;
+
+pub use detect_top::{MeasureOrder, read_measure};
+pub use top::run_all;
+
+#[cfg(test)]
+mod images_tests;
+#[cfg(test)]
+mod in_memory;
+#[cfg(test)]
+mod measuring_tests;
+#[cfg(test)]
+mod tests;
