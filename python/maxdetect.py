@@ -31,7 +31,7 @@ import numpy
 from astropy.io import fits
 from astropy.table import Table
 
-__all__ = ["Refusal", "detect", "filter", "find_program", "load", "read", "tree"]
+__all__ = ["Refusal", "detect", "filter", "find_program", "load", "measure", "read", "tree"]
 
 # What each refusal of an input means, by its number.
 FAULTS = {
@@ -52,6 +52,7 @@ FAULTS = {
     16: "BLANK isn't a whole number",
     17: "the input ends within the image",
     18: "a value of 64 bits lies outside -2^36 to 2^36",
+    19: "the two images differ in width or height",
 }
 
 DESCRIPTIONS = {
@@ -72,6 +73,13 @@ DESCRIPTIONS = {
     "XVAR": "variance of the columns, in thousandths of a square pixel",
     "YVAR": "variance of the rows, in thousandths of a square pixel",
     "XYCOV": "covariance of columns and rows, in thousandths of a square pixel",
+    "SEEN": "pixels with a value in the second image",
+    "MISSING": "pixels without one",
+    "VSUM": "sum of the values in the second image",
+    "VLOW": "least value there",
+    "VPEAK": "greatest value there",
+    "VMEAN": "mean of the values there, in thousandths",
+    "VBACK": "mean of the values around the source there, in thousandths",
 }
 
 
@@ -164,8 +172,8 @@ def _forms(low):
     yield 64, -(2**63), 0
 
 
-def _file(image, blank):
-    """An image as the bytes of a FITS file, and which of its pixels are undefined.
+def _file(image, blank, extension=False):
+    """An image as the bytes of a FITS file, or of an extension behind one, and which of its pixels are undefined.
 
     The stored numbers are the values less BZERO, in as few bytes as their range needs; the least stored number is BLANK. In 64 bits BZERO is 0.
     """
@@ -186,7 +194,8 @@ def _file(image, blank):
     stored = numpy.where(undefined, low, values).astype("i8") - zero
     stored[undefined] = least
     height, width = values.shape
-    cards = [("SIMPLE", True), ("BITPIX", bits), ("NAXIS", 2), ("NAXIS1", width), ("NAXIS2", height)]
+    cards = [("XTENSION", "IMAGE") if extension else ("SIMPLE", True), ("BITPIX", bits), ("NAXIS", 2), ("NAXIS1", width), ("NAXIS2", height)]
+    cards += [("PCOUNT", 0), ("GCOUNT", 1)] if extension else []
     cards += [("BSCALE", 1), ("BZERO", zero), ("BLANK", least)]
     data = stored.astype("u1" if bits == 8 else f">i{bits // 8}").tobytes()
     return fits.Header(cards).tostring().encode("ascii") + data + bytes(-len(data) % 2880), undefined
@@ -212,7 +221,7 @@ def load(file, hdu=0):
 
 
 def read(file):
-    """The catalogue and the segmentation map of what `maxdetect detect` wrote: a path, or a file that is open for reading bytes."""
+    """The catalogue and the segmentation map of what `maxdetect detect` or `measure` wrote: a path, or a file that is open for reading bytes."""
     with fits.open(file, memmap=False) as hdus:
         rows, names = hdus["SOURCES"].data, hdus["SOURCES"].columns.names
         columns = [_native(rows[name]) for name in names]
@@ -249,6 +258,33 @@ def detect(image, threshold, *, min_area=1, min_flux=0, contrast=5, mesh=0, flat
     options.update(mesh=mesh, flat=int(flat), connect=connect, strips=strips, workers=workers)
     file, _ = _file(image, blank)
     return read(io.BytesIO(_run(program, _words("detect", options), file)))
+
+
+def measure(
+    image, values, threshold, *, min_area=1, min_flux=0, contrast=5, mesh=0, flat=False, connect=4, strips=1, workers=1, blank=None, program=None
+):
+    """The sources of an image, measured in `values`, a second image of the same shape: another band of the same pixels.
+
+    All is as in `detect`, with seven columns more: SEEN and MISSING count the source's pixels that have a value in the second image and that have
+    none; VSUM, VLOW and VPEAK are the sum, the least and the greatest of these values; VMEAN is their mean, and VBACK that around the source, both in
+    thousandths. `mesh`, `flat` and `blank` hold for both images.
+
+    >>> import numpy
+    >>> image = numpy.array([[1, 6, 2, 5, 1]])
+    >>> values = numpy.ma.masked_equal([[10, 20, 255, 40, 7]], 255)
+    >>> catalogue, segments = measure(image, values, 2, contrast=301)
+    >>> for name in ["SEEN", "MISSING", "VSUM", "VMEAN", "VBACK"]:
+    ...     print(name, catalogue[name][0])
+    SEEN 2
+    MISSING 1
+    VSUM 60
+    VMEAN 30000
+    VBACK 8500
+    """
+    options = dict(values=1, threshold=threshold, min_area=min_area, min_flux=min_flux, contrast=contrast)
+    options.update(mesh=mesh, flat=int(flat), connect=connect, strips=strips, workers=workers)
+    bands = _file(image, blank)[0] + _file(values, blank, extension=True)[0]
+    return read(io.BytesIO(_run(program, _words("measure", options), bands)))
 
 
 def filter(image, rule, *, min_area=0, max_area=16777216, min_flux=0, min_fill=0, mesh=0, flat=False, connect=4, strips=1, workers=1, blank=None, program=None):

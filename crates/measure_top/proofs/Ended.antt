@@ -18,7 +18,7 @@ use Rattle.measure_top.specs.declared.top.MeasureEnd.TheVariants as at_end
 use Rattle.measure_top.specs.TwoImages.{TwoVerdict, two_images, earlier_fault, later_fault, shapes_differ, taken_for_two, MemoryWantedForTwo, TwoRead, TwoStopped, stop_of_two}
 use Rattle.measure_top.specs.MeasureAnswers.{measure_end, measure_output, verdict_for, measure_answer_by, measure_status}
 use Rattle.measure_top.specs.MeasureRuns.{MeasureTells, MeasureWantsMemory, MayLackMemoryForTwo, MayLackMeasureMemory}
-use Rattle.measure_top.specs.MeasureEnds.{BothRead, IsMeasured, IsCutThere, MeasureEndBytes, MeasureEndCause}
+use Rattle.measure_top.specs.MeasureEnds.{BothRead, AnswersMeasure, IsCutThere, MeasureEndBytes, MeasureEndCause}
 
 same_bytes : (a b : List ℕ) (left : Option (List ℕ)) → left ≡ Some a → left ≡ Some b → a ≡ b
 same_bytes a b left p q = cc
@@ -33,7 +33,7 @@ stop_writes order (shapes_differ head end head') stop is = refl
 
 stop_measured : (order : MeasureOrder) (bytes : List ℕ) (i : InputUse) (o : OutputUse) (stop : TwoStop) → i.left ≡ Some bytes
     → stop_of_two (verdict_for order bytes) ≡ Some stop → Takes bytes i.left' (taken_for_two (verdict_for order bytes)) → Appends o.written o.written' []
-    → IsMeasured (Ok order) bytes i o (measure_end (Some stop))
+    → AnswersMeasure (Ok order) bytes i o (measure_end (Some stop))
 stop_measured order bytes i o stop told is takes none = record {
   end_is = ap measure_end is;
   written_is = subst (Appends o.written o.written') (sym (stop_writes order (verdict_for order bytes) stop is)) none;
@@ -42,12 +42,12 @@ stop_measured order bytes i o stop told is takes none = record {
 
 pub refusal_measured : (order : MeasureOrder) (bytes : List ℕ) (i : InputUse) (o : OutputUse) (fault : Fault) → i.left ≡ Some bytes
     → TwoStopped (verdict_for order bytes) bytes i.left' (At (at_image.Refused fault)) → Appends o.written o.written' []
-    → IsMeasured (Ok order) bytes i o (at_end.Refused fault)
+    → AnswersMeasure (Ok order) bytes i o (at_end.Refused fault)
 refusal_measured order bytes i o fault told stopped none = stop_measured order bytes i o (At (at_image.Refused fault)) told stopped.0 stopped.1 none
 
 pub shapes_measured : (order : MeasureOrder) (bytes : List ℕ) (i : InputUse) (o : OutputUse) → i.left ≡ Some bytes
     → TwoStopped (verdict_for order bytes) bytes i.left' ShapesDiffer → Appends o.written o.written' []
-    → IsMeasured (Ok order) bytes i o at_end.ShapesDiffer
+    → AnswersMeasure (Ok order) bytes i o at_end.ShapesDiffer
 shapes_measured order bytes i o told stopped none = stop_measured order bytes i o ShapesDiffer told stopped.0 stopped.1 none
 
 pub fault_measured : (order : MeasureOrder) (bytes : List ℕ) (left left' : Option (List ℕ)) → left ≡ Some bytes
@@ -82,7 +82,7 @@ ends_done : (order : MeasureOrder) (bytes : List ℕ) (left' : Option (List ℕ)
 ends_done order bytes left' output read = ap (λ v. measure_end (stop_of_two v)) read.are_images
 
 pub both_measured : (order : MeasureOrder) (bytes : List ℕ) (i : InputUse) (o : OutputUse) (output : List ℕ) → i.left ≡ Some bytes
-    → BothRead order bytes i.left' output → Appends o.written o.written' output → IsMeasured (Ok order) bytes i o at_end.Done
+    → BothRead order bytes i.left' output → Appends o.written o.written' output → AnswersMeasure (Ok order) bytes i o at_end.Done
 both_measured order bytes i o output told read all = record {
   end_is = ends_done order bytes i.left' output read;
   written_is = subst (Appends o.written o.written') (output_is order bytes i.left' output read) all;
@@ -99,7 +99,7 @@ both_cut order bytes i o output told read front = record {
 
 -- words without an order
 pub usage_measured : (usage : AtFault) (bytes : List ℕ) (i : InputUse) (o : OutputUse) → i.left' ≡ i.left → Appends o.written o.written' []
-    → IsMeasured (Err usage) bytes i o (at_end.Usage usage)
+    → AnswersMeasure (Err usage) bytes i o (at_end.Usage usage)
 usage_measured usage bytes i o same none = record {
   end_is = refl;
   written_is = none;

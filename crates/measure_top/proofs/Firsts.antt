@@ -30,7 +30,7 @@ use Rattle.measure_top.specs.declared.images.FirstImage.{FirstImage}
 use Rattle.measure_top.specs.declared.images.TwoPlanes.{TwoPlanes}
 use Rattle.measure_top.specs.declared.images.TwoStop.{TwoStop}
 use Rattle.measure_top.specs.declared.images.TwoStop.TheVariants.{At}
-use Rattle.measure_top.specs.FirstImages.{FirstRead}
+use Rattle.measure_top.specs.FirstImages.{FirstImageRead}
 use Rattle.measure_top.specs.TwoImages.{TwoVerdict, header_shape, is_other_shape, verdict_beside, verdict_on_both, verdict_on_two, taken_for_two, TwoRead, TwoStopped, MemoryWantedForTwo}
 use Rattle.measure_top.proofs.Besides.{two_is, search_most, search_beside}
 
@@ -81,7 +81,7 @@ image_at bytes number hdu at plane head end is v =
     }
 
 pub first_read : (bytes : List ℕ) (number : ℕ) (head : ℕ) (left : Option (List ℕ)) (first : FirstImage) → find_of bytes number ≡ found first.hdu head
-    → ImageRead (verdict_by bytes first.hdu head (checked first.hdu)) bytes left first.plane → FirstRead bytes number left first
+    → ImageRead (verdict_by bytes first.hdu head (checked first.hdu)) bytes left first.plane → FirstImageRead bytes number left first
 first_read bytes number head left first is read =
     let place : IsAt bytes number first.hdu read.head read.end = image_at bytes number first.hdu head first.plane read.head read.end is read.is_image in
     record {
@@ -157,7 +157,7 @@ first_stopped bytes at number left stop low h = stopped_by (verdict bytes at) (v
 
 -- The search went on behind the earlier image.
 
-on_from_first : (bytes : List ℕ) (at number : ℕ) (before : Option (List ℕ)) (first : FirstImage) (read : FirstRead bytes at before first) → at < number
+on_from_first : (bytes : List ℕ) (at number : ℕ) (before : Option (List ℕ)) (first : FirstImage) (read : FirstImageRead bytes at before first) → at < number
     → find_after_of bytes at first.hdu.data_bytes (read.head + first.hdu.data_bytes) number ≡ find_of bytes number
 on_from_first bytes at number before first read low =
     let there : HasData bytes at first.hdu read.head = record { is = read.is; whole = read.takes.within } in
@@ -165,7 +165,7 @@ on_from_first bytes at number before first read low =
 
 pub second_stopped : (bytes : List ℕ) (at number : ℕ) (before left : Option (List ℕ)) (first : FirstImage) (fault : HduFault) → at < number
     → ((bytes : List ℕ) (start : ℕ) → Takes bytes before start → Stopped (find_after_of bytes at first.hdu.data_bytes start number) bytes left fault)
-    → FirstRead bytes at before first → TwoStopped (verdict_on_two bytes at number) bytes left (At (stop_at_hdu fault))
+    → FirstImageRead bytes at before first → TwoStopped (verdict_on_two bytes at number) bytes left (At (stop_at_hdu fault))
 second_stopped bytes at number before left first fault low says read =
     let end = read.head + first.hdu.data_bytes in
     let search : Stopped (find_of bytes number) bytes left fault = subst (λ s. Stopped s bytes left fault) (on_from_first bytes at number before first read low) (says bytes end read.takes) in
@@ -180,7 +180,7 @@ pub second_read : (bytes : List ℕ) (at number : ℕ) (before after left : Opti
     → ((bytes : List ℕ) (head end head' : ℕ) → Takes bytes after head' → MatchResult result
     (λ planes. TwoRead (verdict_beside first.plane head end (verdict_by bytes hdu head' (checked hdu)) (result_ok (checked hdu))) bytes left planes)
     (λ stop. TwoStopped (verdict_beside first.plane head end (verdict_by bytes hdu head' (checked hdu)) (result_ok (checked hdu))) bytes left stop))
-    → FirstRead bytes at before first
+    → FirstImageRead bytes at before first
     → MatchResult result (λ planes. TwoRead (verdict_on_two bytes at number) bytes left planes) (λ stop. TwoStopped (verdict_on_two bytes at number) bytes left stop)
 second_read bytes at number before after left first hdu result low finds says read = by (finds bytes (read.head + first.hdu.data_bytes) read.takes)
   where

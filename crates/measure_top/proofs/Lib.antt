@@ -1,5 +1,11 @@
 mod Besides
+mod Copying
 mod Firsts
+mod InCut
+mod PickedRows
+mod PickedSources
+pub mod CutAlike
+pub mod CutNodes
 pub mod Ended
 pub mod MeasuredRows
 pub mod MeasuredSources

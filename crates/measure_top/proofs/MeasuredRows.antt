@@ -1,88 +1,74 @@
 -- The rows of a catalogue with measures, put one behind the other.
 use Rattle.std.proofs.Common.{◌≡◌, ◌∙◌, ap, sym, subst, arith, ℕ, ◌+◌, ◌*◌, ◌^◌, ◌<◌, ◌≤◌, List, [], ◌∷◌, ◌++◌, length, take, get_or, append-nil, length-append, ℤ}
 use Rattle.std.specs.Prelude.{Some, slice_get}
-use Rattle.std.specs.List.{flat_map, enumerate_from}
+use Rattle.std.specs.List.{flat_map}
 use Rattle.std.proofs.lemmas.Grind.{flat_map-append}
 use Rattle.std.proofs.lemmas.List.{take_more, take_all}
-use Rattle.std.proofs.lemmas.List.FromFn.{length-enumerate_from, get_or-enumerate_from, length-map-range_with_len, get_or-map-range_with_len}
+use Rattle.std.proofs.lemmas.List.FromFn.{length-map-range_with_len, get_or-map-range_with_len}
 use Rattle.std.proofs.lemmas.Option.{slice_get-get_or}
 use Rattle.comp_tree.specs.declared.shape.Connect.{Connect}
 use Rattle.comp_tree.specs.Raster.{Raster, IsPlane}
 use Rattle.comp_tree.specs.ComponentTree.{ComponentTree}
-use Rattle.comp_tree.specs.Components.{nodes, tree_of}
-use Rattle.node_sums.specs.declared.entry.Sums.{Sums}
-use Rattle.node_sums.specs.Sums.{sums_in}
+use Rattle.comp_tree.specs.Components.{nodes, node_of, tree_of}
+use Rattle.comp_tree.proofs.Exported.{read-node_of}
 use Rattle.node_sums.proofs.Exported.{rows_are}
 use Rattle.fits_write.specs.Columns.{IsTable}
 use Rattle.source_pick.specs.declared.catalogue.CatRow.{CatRow}
-use Rattle.source_pick.specs.Catalogue.{catalogue_row}
-use Rattle.source_pick.specs.Segmentation.{AreDisjointNodes}
-use Rattle.source_pick.proofs.Exported.{few_marked, few_rows}
+use Rattle.source_pick.proofs.Exported.{numbers-length}
 use Rattle.dual_measure.specs.declared.values.Measure.{Measure}
 use Rattle.dual_measure.specs.Measures.{measure_of, measures_of, back_of, HasMeasureSizes, AreTheTreesMeasures}
 use Rattle.dual_measure.specs.Columns.{measured_cells_of}
-use Rattle.measure_top.specs.MeasuredCatalogues.{measured_columns, row_with_measure, rows_with_measures}
+use Rattle.measure_top.specs.declared.picking_near.PickedNode.{PickedNode}
+use Rattle.measure_top.specs.MeasuredCatalogues.{measured_columns}
+use Rattle.measure_top.specs.Picks.{cells_at, all_cells}
 use Rattle.measure_top.proofs.MeasuredTables.{no_rows, tables_joined}
 
--- the first count of these nodes, with their numbers from 1
-abbrev numbered : ℕ → List ℕ → List (ℕ × ℕ)
-numbered count picked = take count (enumerate_from 1 picked)
-
--- the rows of such nodes
-abbrev rows_of : (plane values : Raster) → Connect → List (ℕ × ℕ) → List ℤ
-rows_of plane values connect pairs = flat_map (λ e. row_with_measure plane values connect e.0 e.1) pairs
-
 -- these are the cells of the first count of some nodes
-pub record AreMeasuredRows (tree : ComponentTree) (sums : List Sums) (measures : List Measure) (picked : List ℕ) (count : ℕ) (items : List ℤ) : Type 0 where
+pub record AreMeasuredRows (tree : ComponentTree) (measures : List Measure) (picked : List PickedNode) (count : ℕ) (items : List ℤ) : Type 0 where
   pub table : IsTable measured_columns items
   pub many : length items ≡ 24 * count
-  pub exact : (plane values : Raster) (connect : Connect) → IsPlane plane → tree ≡ tree_of plane connect → sums ≡ sums_in plane connect → measures ≡ measures_of values plane connect
-      → items ≡ rows_of plane values connect (numbered count picked)
+  pub exact : (plane values : Raster) (connect : Connect) → IsPlane plane → tree ≡ tree_of plane connect → measures ≡ measures_of values plane connect
+      → items ≡ all_cells plane values connect (take count picked)
 
-pub few_sources : (tree : ComponentTree) (picked : List ℕ) → AreDisjointNodes tree picked → length picked ≤ 2 ^ 24
-few_sources tree picked d = omega (arith, few_marked tree picked d, few_rows tree picked d)
-
-pub before_rows : (tree : ComponentTree) (sums : List Sums) (measures : List Measure) (picked : List ℕ) (items : List ℤ) → items ≡ [] → AreMeasuredRows tree sums measures picked 0 items
-before_rows tree sums measures picked items empty = record {
+pub before_rows : (tree : ComponentTree) (measures : List Measure) (picked : List PickedNode) (items : List ℤ) → items ≡ [] → AreMeasuredRows tree measures picked 0 items
+unfolding all_cells
+before_rows tree measures picked items empty = record {
   table = subst (IsTable measured_columns) (sym empty) no_rows;
   many = ap (λ (l : List ℤ). length l) empty;
-  exact = λ plane values connect one is are these. empty;
+  exact = λ plane values connect one is these. empty;
 }
 
-one_more : (plane values : Raster) (connect : Connect) (picked : List ℕ) (count : ℕ) → count < length picked
-    → rows_of plane values connect (numbered (count + 1) picked) ≡ rows_of plane values connect (numbered count picked) ++ row_with_measure plane values connect (count + 1) (get_or picked count 0)
-one_more plane values connect picked count within =
-    let row : ℕ × ℕ → List ℤ = λ e. row_with_measure plane values connect e.0 e.1 in
-    let pair : get_or (enumerate_from 1 picked) count (0, 0) ≡ (count + 1, get_or picked count 0) = get_or-enumerate_from 1 picked count (0, 0) within ∙ ap (λ n. (n, get_or picked count 0)) (omega arith) in
-    ap (flat_map row) (take_more (enumerate_from 1 picked) count (0, 0) (omega (arith, within, length-enumerate_from 1 picked)) ∙ ap (λ e. numbered count picked ++ e ∷ []) pair)
-    ∙ flat_map-append row (numbered count picked) ((count + 1, get_or picked count 0) ∷ [])
-    ∙ ap (λ l. rows_of plane values connect (numbered count picked) ++ l) (append-nil _)
+one_more : (plane values : Raster) (connect : Connect) (picked : List PickedNode) (count : ℕ) (d : PickedNode) → count < length picked
+    → all_cells plane values connect (take (count + 1) picked) ≡ all_cells plane values connect (take count picked) ++ cells_at plane values connect (get_or picked count d)
+unfolding all_cells
+one_more plane values connect picked count d within =
+    let cells : PickedNode → List ℤ = cells_at plane values connect in
+    ap (flat_map cells) (take_more picked count d within)
+    ∙ flat_map-append cells (take count picked) (get_or picked count d ∷ [])
+    ∙ ap (λ l. flat_map cells (take count picked) ++ l) (append-nil _)
 
-pub rows_more : (tree : ComponentTree) (sums : List Sums) (measures : List Measure) (picked : List ℕ) (count : ℕ) (items items' row : List ℤ)
-    → AreMeasuredRows tree sums measures picked count items → AreDisjointNodes tree picked → count < length picked → items' ≡ items ++ row → length row ≡ 24 → IsTable measured_columns row
-    → ((plane values : Raster) (connect : Connect) → IsPlane plane → tree ≡ tree_of plane connect → sums ≡ sums_in plane connect → measures ≡ measures_of values plane connect
-    → row ≡ row_with_measure plane values connect (count + 1) (get_or picked count 0))
-    → AreMeasuredRows tree sums measures picked (count + 1) items'
-rows_more tree sums measures picked count items items' row before disjoint within more cells table is =
-    let few = few_sources tree picked disjoint in
+pub rows_more : (tree : ComponentTree) (measures : List Measure) (picked : List PickedNode) (count : ℕ) (d : PickedNode) (items items' row : List ℤ)
+    → AreMeasuredRows tree measures picked count items → length picked ≤ 2 ^ 24 → count < length picked → items' ≡ items ++ row → length row ≡ 24 → IsTable measured_columns row
+    → ((plane values : Raster) (connect : Connect) → IsPlane plane → tree ≡ tree_of plane connect → measures ≡ measures_of values plane connect
+    → row ≡ cells_at plane values connect (get_or picked count d))
+    → AreMeasuredRows tree measures picked (count + 1) items'
+rows_more tree measures picked count d items items' row before few within more cells table is =
     let many = before.many in
     record {
       table = subst (IsTable measured_columns) (sym more) (tables_joined items row count 1 before.table table many cells (omega (arith, few, within)));
       many = ap (λ (l : List ℤ). length l) more ∙ length-append items row ∙ omega (arith, many, cells);
-      exact = λ plane values connect one tree_is sums_are measures_are.
+      exact = λ plane values connect one tree_is measures_are.
           more
-          ∙ ap (λ l. l ++ row) (before.exact plane values connect one tree_is sums_are measures_are)
-          ∙ ap (λ l. rows_of plane values connect (numbered count picked) ++ l) (is plane values connect one tree_is sums_are measures_are)
-          ∙ sym (one_more plane values connect picked count within);
+          ∙ ap (λ l. l ++ row) (before.exact plane values connect one tree_is measures_are)
+          ∙ ap (λ l. all_cells plane values connect (take count picked) ++ l) (is plane values connect one tree_is measures_are)
+          ∙ sym (one_more plane values connect picked count d within);
     }
 
-pub all_rows : (tree : ComponentTree) (sums : List Sums) (measures : List Measure) (picked : List ℕ) (count : ℕ) (items : List ℤ) → AreMeasuredRows tree sums measures picked count items
-    → length picked ≤ count → (plane values : Raster) (connect : Connect) → IsPlane plane → tree ≡ tree_of plane connect → sums ≡ sums_in plane connect
-    → measures ≡ measures_of values plane connect → items ≡ rows_with_measures plane values connect picked
-unfolding rows_with_measures
-all_rows tree sums measures picked count items are whole plane values connect one tree_is sums_are measures_are =
-    are.exact plane values connect one tree_is sums_are measures_are
-    ∙ ap (rows_of plane values connect) (take_all count (enumerate_from 1 picked) (omega (arith, whole, length-enumerate_from 1 picked)))
+pub all_rows : (tree : ComponentTree) (measures : List Measure) (picked : List PickedNode) (count : ℕ) (items : List ℤ) → AreMeasuredRows tree measures picked count items
+    → length picked ≤ count → (plane values : Raster) (connect : Connect) → IsPlane plane → tree ≡ tree_of plane connect
+    → measures ≡ measures_of values plane connect → items ≡ all_cells plane values connect picked
+all_rows tree measures picked count items are whole plane values connect one tree_is measures_are =
+    are.exact plane values connect one tree_is measures_are ∙ ap (all_cells plane values connect) (take_all count picked whole)
 
 -- ---- the row of a node
 
@@ -104,7 +90,22 @@ pub size_read : (tree : ComponentTree) (measures : List Measure) (n : ℕ) (d : 
     → ((m : ℕ) (entry : Measure) → slice_get measures m ≡ Some entry → HasMeasureSizes entry) → n < length tree.rows → HasMeasureSizes (get_or measures n d)
 size_read tree measures n d are small within = small n (get_or measures n d) (slice_get-get_or measures n d (omega (arith, within, one_measure_each tree measures are)))
 
-pub row_is : (plane values : Raster) (connect : Connect) (number n : ℕ) (row : CatRow) (measure : Measure) (back : ℤ) → row ≡ catalogue_row plane connect number n
-    → measure ≡ measure_of values plane connect n → back ≡ back_of values plane connect n → measured_cells_of row measure back ≡ row_with_measure plane values connect number n
-unfolding row_with_measure
-row_is plane values connect number n row measure back a b c = λ i. measured_cells_of (a i) (b i) (c i)
+pub cells_are : (row : CatRow) (measure measure' : Measure) (back back' : ℤ) → measure ≡ measure' → back ≡ back' → measured_cells_of row measure back ≡ measured_cells_of row measure' back'
+cells_are row measure measure' back back' a b = λ i. measured_cells_of row (a i) (b i)
+
+-- ---- the node of a pixel
+
+-- the number that is read for it is that of its node
+pub node_read : (plane values : Raster) (connect : Connect) (tree : ComponentTree) (numbers : List ℕ) (node : PickedNode) (row : List ℤ) → tree ≡ tree_of plane connect → numbers ≡ tree.node_of
+    → node.rep < length tree.node_of
+    → row ≡ measured_cells_of node.row (measure_of values plane connect (get_or numbers node.rep 0)) (back_of values plane connect (get_or numbers node.rep 0))
+    → row ≡ cells_at plane values connect node
+unfolding cells_at tree_of
+node_read plane values connect tree numbers node row is same within cells =
+    cells ∙ ap (λ m. measured_cells_of node.row (measure_of values plane connect m) (back_of values plane connect m)) read
+  where
+    inside : node.rep < length plane.values
+    inside = omega (arith, within, numbers-length plane connect tree is)
+
+    read : get_or numbers node.rep 0 ≡ node_of plane connect node.rep
+    read = ap (λ (l : List ℕ). get_or l node.rep 0) (same ∙ ap (λ (t : ComponentTree). t.node_of) is) ∙ read-node_of plane connect node.rep inside

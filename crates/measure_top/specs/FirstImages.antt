@@ -9,7 +9,7 @@ use Rattle.pixel_plane.specs.Verdicts.{image, verdict}
 use Rattle.measure_top.specs.declared.images.FirstImage.{FirstImage}
 
 -- the HDU with this number was found and is this image, and all its data were taken
-pub record FirstRead (bytes : List ℕ) (number : ℕ) (left : Option (List ℕ)) (first : FirstImage) : Type 0 where
+pub record FirstImageRead (bytes : List ℕ) (number : ℕ) (left : Option (List ℕ)) (first : FirstImage) : Type 0 where
   pub head : ℕ
   pub is : find_of bytes number ≡ found first.hdu head
   pub is_image : verdict bytes number ≡ image first.plane head (head + first.hdu.data_bytes)

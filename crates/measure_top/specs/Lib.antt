@@ -4,3 +4,5 @@ pub mod MeasuredCatalogues
 pub mod MeasureAnswers
 pub mod MeasureRuns
 pub mod MeasureEnds
+pub mod Cuts
+pub mod Picks

@@ -28,7 +28,7 @@ pub record BothRead (order : MeasureOrder) (bytes : List ℕ) (left : Option (Li
   pub takes : Takes bytes left end'
 
 -- what an end of its own says of the bytes: it is the answer's, the output was written, and the bytes were taken
-pub record IsMeasured (order : Result MeasureOrder AtFault) (bytes : List ℕ) (i : InputUse) (o : OutputUse) (end : MeasureEnd) : Type 0 where
+pub record AnswersMeasure (order : Result MeasureOrder AtFault) (bytes : List ℕ) (i : InputUse) (o : OutputUse) (end : MeasureEnd) : Type 0 where
   pub end_is : (measure_answer_by order bytes).end ≡ end
   pub written_is : Appends o.written o.written' (measure_answer_by order bytes).output
   pub taken_is : Took i.left i.left' (measure_answer_by order bytes).taken
@@ -41,10 +41,10 @@ pub record IsCutThere (order : Result MeasureOrder AtFault) (bytes : List ℕ) (
 
 -- what an end says of the bytes
 abbrev pub MeasureEndBytes : Result MeasureOrder AtFault → List ℕ → InputUse → OutputUse → MeasureEnd → Type 0
-MeasureEndBytes order bytes i o Done = IsMeasured order bytes i o Done
-MeasureEndBytes order bytes i o (Usage usage) = IsMeasured order bytes i o (Usage usage)
-MeasureEndBytes order bytes i o (Refused fault) = IsMeasured order bytes i o (Refused fault)
-MeasureEndBytes order bytes i o ShapesDiffer = IsMeasured order bytes i o ShapesDiffer
+MeasureEndBytes order bytes i o Done = AnswersMeasure order bytes i o Done
+MeasureEndBytes order bytes i o (Usage usage) = AnswersMeasure order bytes i o (Usage usage)
+MeasureEndBytes order bytes i o (Refused fault) = AnswersMeasure order bytes i o (Refused fault)
+MeasureEndBytes order bytes i o ShapesDiffer = AnswersMeasure order bytes i o ShapesDiffer
 MeasureEndBytes order bytes i o ReadFault = TookAtMost i.left i.left' (measure_answer_by order bytes).taken
 MeasureEndBytes order bytes i o WriteFault = IsCutThere order bytes i o
 MeasureEndBytes order bytes i o NoMemory = MeasureWantsMemory order bytes i.left i.left'

@@ -10,7 +10,7 @@ ghost use Rattle.pixel_plane.specs.Verdicts.{verdict, verdict_by};
 ghost use Rattle.detect_top.specs.Faults.{IsCutStop};
 ghost use Rattle.detect_top.specs.Streams.{ImageStopped};
 ghost use Rattle.measure_top.specs.TwoImages.{is_other_shape, verdict_beside, verdict_on_two, TwoRead, TwoStopped, IsCutTwo};
-ghost use Rattle.measure_top.specs.FirstImages.{FirstRead};
+ghost use Rattle.measure_top.specs.FirstImages.{FirstImageRead};
 
 use comp_tree::{Plane, Shape};
 use detect_top::{Stop, read_found};
@@ -53,7 +53,7 @@ fn has_other_shape(hdu: &Hdu, shape: Shape) -> bool
 // Finds the HDU with this number, judges it and reads its pixels.
 fn read_first<S: Source>(alloc: Global, src: &mut S, number: u16) -> Result<FirstImage, Stop>
     ensures told { ForSome (S.left src.old) (λ bytes. MatchResult result
-        (λ first. FirstRead bytes number (S.left src.new) first)
+        (λ first. FirstImageRead bytes number (S.left src.new) first)
         (λ stop. ImageStopped (verdict bytes number) bytes (S.left src.new) stop)) }
     ensures storable { IfOk result (λ first. HasValuesInHalfRange first.plane.values) }
     ensures ended { IfErr result (λ stop. IsCutStop stop → IsTrue (S.ended src.new)) }
@@ -105,7 +105,7 @@ fn read_second<S: Source>(
     number: u16,
 ) -> Result<TwoPlanes, TwoStop>
     requires { at < number }
-    ensures told { (bytes : List ℕ) → FirstRead bytes at (S.left src.old) first → MatchResult result
+    ensures told { (bytes : List ℕ) → FirstImageRead bytes at (S.left src.old) first → MatchResult result
         (λ planes. TwoRead (verdict_on_two bytes at number) bytes (S.left src.new) planes)
         (λ stop. TwoStopped (verdict_on_two bytes at number) bytes (S.left src.new) stop) }
     ensures same { IfOk result (λ planes. planes.first ≡ first.plane) }

@@ -1,9 +1,11 @@
 //! The sources of one image, measured in a second image of the same file, and the runs of all commands.
 #![tactic(auto)]
 
+mod cutting;
 mod images;
 mod measuring;
 mod notes;
+mod picking_near;
 mod top;
 
 pub use detect_top::{MeasureOrder, read_measure};

@@ -5,30 +5,30 @@ ghost use Rattle.dev_io.specs.Streams.{PutAppends};
 ghost use Rattle.comp_tree.specs.declared.shape.Connect.{Connect};
 ghost use Rattle.comp_tree.specs.Raster.{Raster, IsPlane, HasValuesInHalfRange};
 ghost use Rattle.comp_tree.specs.Components.{tree_of};
-ghost use Rattle.node_sums.specs.Sums.{sums_in, IsTreeOfPlane, AreTheTrees};
 ghost use Rattle.fits_write.specs.Columns.{IsTable};
-ghost use Rattle.source_pick.specs.Segmentation.{AreDisjointNodes};
+ghost use Rattle.source_pick.specs.Catalogue.{FitsColumns};
 ghost use Rattle.dual_measure.specs.declared.values.Measure.{Measure as Entry};
-ghost use Rattle.dual_measure.specs.Measures.{measures_of, HasMeasureSizes, AreTheTreesMeasures};
+ghost use Rattle.dual_measure.specs.Measures.{measure_of, measures_of, back_of, HasMeasureSizes, IsPlanesTree, AreTheTreesMeasures};
+ghost use Rattle.dual_measure.specs.Columns.{measured_cells_of};
 ghost use Rattle.detect_top.specs.Words.{HasLimits};
 ghost use Rattle.detect_top.specs.Catalogues.{column as column_of};
 ghost use Rattle.measure_top.specs.MeasuredCatalogues.{
   measured_columns,
   measured_hdus,
-  row_with_measure,
-  rows_with_measures,
   measured_sources,
   measured_output,
   IsMeasuredDetection,
 };
+ghost use Rattle.measure_top.specs.Picks.{HaveFittingRows, StandIn, all_cells};
 
+use crate::cutting::cut_below;
+use crate::picking_near::{PickedNode, lowest_base, pick_near};
 use comp_tree::{Plane, Shape, Tree};
 use detect_top::{Order, columns, component_tree, residual_plane};
 use dev_io::{OutOfMemory, Sink};
 use dual_measure::{Measure, back, measured_cells, measures};
 use fits_write::{Cell, Column, WriteFault, put_empty_primary, put_map, put_table};
-use node_sums::{Sums, sums};
-use source_pick::{Choice, pick, row, segment_in_parts};
+use source_pick::{CatRow, Choice};
 use std::alloc::Global;
 use std::thread::Threads;
 use strip_crew::Gate;
@@ -66,21 +66,18 @@ fn measured_columns() -> [Column; 24]
     all
 }
 
-// The cells of the row of node `n`, as source with this number. They are a table of one row.
-fn row_cells(tree: &Tree, sums: &[Sums], measures: &[Measure], number: u32, n: u32) -> [i64; 24]
-    requires sums { AreTheTrees tree.now sums.now }
+// The cells of a row, of which `n` is the node in this tree. They are a table of one row.
+fn row_cells(tree: &Tree, measures: &[Measure], row: &CatRow, n: u32) -> [i64; 24]
     requires measures { AreTheTreesMeasures tree.now measures.now }
     requires small { (m : ℕ) (entry : Entry) → slice_get measures.now m ≡ Some entry → HasMeasureSizes entry }
     requires node { n < length tree.now.rows }
-    requires from_one { 1 ≤ number }
-    requires few { number ≤ 2 ^ 24 }
-    ensures exact { (plane values : Raster) (connect : Connect) → IsPlane plane → tree.now ≡ tree_of plane connect → sums.now ≡ sums_in plane connect
-        → measures.now ≡ measures_of values plane connect → result ≡ row_with_measure plane values connect number n }
+    requires columns { FitsColumns row.now }
+    ensures exact { (plane values : Raster) (connect : Connect) → IsPlane plane → tree.now ≡ tree_of plane connect → measures.now ≡ measures_of values plane connect
+        → result ≡ measured_cells_of row.now (measure_of values plane connect n) (back_of values plane connect n) }
     ensures table { IsTable measured_columns result }
 {
-    let row = row(tree, sums, number, n);
     let around = back(tree, measures, n);
-    measured_cells(&row, &measures[n as usize], around)
+    measured_cells(row, &measures[n as usize], around)
 }
 
 // Puts a row behind those before it.
@@ -93,64 +90,89 @@ fn add_row(table: &mut Vec<i64>, row: &[i64; 24]) -> Result<(), OutOfMemory>
     }
 }
 
-// The cells of the catalogue of these nodes, which are numbered from 1.
+// The cells of the catalogue of some nodes, each of which is found in this tree by the pixel that represents it.
 fn table_cells(
     alloc: Global,
     tree: &Tree,
-    sums: &[Sums],
     measures: &[Measure],
-    picked: &[u32],
+    nodes: &[PickedNode],
 ) -> Result<Vec<i64>, OutOfMemory>
-    requires sums { AreTheTrees tree.now sums.now }
     requires measures { AreTheTreesMeasures tree.now measures.now }
     requires small { (m : ℕ) (entry : Entry) → slice_get measures.now m ≡ Some entry → HasMeasureSizes entry }
-    requires disjoint { AreDisjointNodes tree.now picked.now }
+    requires there { StandIn tree.now nodes.now }
+    requires few { length nodes.now ≤ 2 ^ 24 }
+    requires fits { HaveFittingRows nodes.now }
     ensures exact { IfOk result (λ table. (plane values : Raster) (connect : Connect) → IsPlane plane → tree.now ≡ tree_of plane connect
-        → sums.now ≡ sums_in plane connect → measures.now ≡ measures_of values plane connect
-        → table.items ≡ rows_with_measures plane values connect picked.now) }
+        → measures.now ≡ measures_of values plane connect → table.items ≡ all_cells plane values connect nodes.now) }
     ensures table { IfOk result (λ table. IsTable measured_columns table.items) }
 {
-    let mut table = match Vec::with_capacity(alloc, 24 * picked.len()) {
+    let mut table = match Vec::with_capacity(alloc, 24 * nodes.len()) {
         Ok(table) => table,
         Err(_) => return Err(OutOfMemory),
     };
-    for (place, node) in picked.iter().enumerate() {
-        let row = row_cells(tree, sums, measures, place as u32 + 1, *node);
-        if let Err(error) = add_row(&mut table, &row) {
+    let node_of = tree.node_of();
+    for node in nodes {
+        let cells = row_cells(tree, measures, &node.row, node_of[node.rep as usize]);
+        if let Err(error) = add_row(&mut table, &cells) {
             return Err(error);
         }
     }
     Ok(table)
 }
 
-// The sources of a plane, with its tree, measured in the values. So many workers fill the map.
-fn measure_nodes<R: Threads + Sync>(
-    rt: &R,
+// The same with the measures, for a tree that has the nodes.
+fn cells_in_tree(
     alloc: Global,
-    plane: &Plane,
-    values: &Plane,
     tree: &Tree,
-    choice: &Choice,
-    workers: u32,
-) -> Result<Measured, OutOfMemory>
-    requires of_plane { IsTreeOfPlane plane.now tree.now }
-    requires shape { plane.now.shape ≡ values.now.shape }
-    requires contrast { choice.now.contrast ≤ 1000 }
-    ensures writable { IfOk result (λ found. IsMeasuredDetection found.shape found.map.items found.cells.items) }
-    ensures bytes { IfOk result (λ found. (connect : Connect) → tree.now ≡ tree_of plane.now connect
-        → measured_hdus found.shape found.map.items found.cells.items ≡ measured_sources plane.now values.now connect choice.now) }
+    values: &Plane,
+    nodes: &[PickedNode],
+) -> Result<Vec<i64>, OutOfMemory>
+    requires shape { values.now.shape ≡ tree.now.shape }
+    requires tree { IsPlanesTree tree.now }
+    requires there { StandIn tree.now nodes.now }
+    requires few { length nodes.now ≤ 2 ^ 24 }
+    requires fits { HaveFittingRows nodes.now }
+    ensures exact { IfOk result (λ cells. (plane : Raster) (connect : Connect) → IsPlane plane → tree.now ≡ tree_of plane connect
+        → cells.items ≡ all_cells plane values.now connect nodes.now) }
+    ensures table { IfOk result (λ cells. IsTable measured_columns cells.items) }
 {
-    let shape = plane.shape();
-    let sums = sums(alloc, plane, tree)?;
-    let picked = pick(alloc, tree, &sums, choice)?;
-    let map = segment_in_parts(rt, alloc, tree, &picked, workers)?;
     let measures = measures(alloc, values, tree)?;
-    let cells = table_cells(alloc, tree, &sums, &measures, &picked)?;
-    Ok(Measured { shape, map, cells })
+    table_cells(alloc, tree, &measures, nodes)
 }
 
-/// The sources of an image, measured in a second image, the values. The tree has all nodes, also those below the threshold: the
-/// values around a source are those that its parent has besides.
+// The sources of a plane, measured in the values. What is around a source lies at least as high as the lowest base of all, so the second tree is that
+// of the pixels of at least this level alone. It is made in the place of the plane, when the first tree is gone.
+fn measure_residuals<R: Threads + Sync, G: Gate>(
+    rt: &R,
+    alloc: Global,
+    mut plane: Plane,
+    values: &Plane,
+    order: Order,
+    choice: &Choice,
+    gate: &G,
+) -> Result<Measured, OutOfMemory>
+    requires limits { HasLimits order }
+    requires contrast { choice.now.contrast ≤ 1000 }
+    requires shape { plane.shape ≡ values.now.shape }
+    ensures writable { IfOk result (λ found. IsMeasuredDetection found.shape found.map.items found.cells.items) }
+    ensures bytes { IfOk result (λ found. measured_hdus found.shape found.map.items found.cells.items ≡ measured_sources plane values.now order.connect choice.now) }
+{
+    let shape = plane.shape();
+    let picked = pick_near(rt, alloc, &plane, order, choice, gate)?;
+    cut_below(&mut plane, lowest_base(&picked.nodes, choice.threshold));
+    let tree = component_tree(rt, alloc, &plane, order, gate)?;
+    let cells = cells_in_tree(alloc, &tree, values, &picked.nodes)?;
+    Ok(Measured {
+        shape,
+        map: picked.map,
+        cells,
+    })
+}
+
+/// The sources of an image, measured in a second image, the values.
+///
+/// The sources are found in the tree of the pixels near those of at least the threshold. The values around a source are those that its parent has
+/// besides, which may lie below the threshold: so they are measured over a second tree, which reaches down to the lowest parent of a source.
 pub(crate) fn measure_sources<R: Threads + Sync, G: Gate>(
     rt: &R,
     alloc: Global,
@@ -176,11 +198,7 @@ pub(crate) fn measure_sources<R: Threads + Sync, G: Gate>(
         Ok(values) => values,
         Err(error) => return Err(error),
     };
-    let tree = match component_tree(rt, alloc, &plane, order, gate) {
-        Ok(tree) => tree,
-        Err(error) => return Err(error),
-    };
-    measure_nodes(rt, alloc, &plane, &values, &tree, &choice, order.workers)
+    measure_residuals(rt, alloc, plane, &values, order, &choice, gate)
 }
 
 fn put_hdus<O: Sink>(output: &mut O, found: &Measured) -> Result<(), WriteFault>

@@ -104,7 +104,7 @@ fn sources_are_measured(rt: HostRuntime) {
     }
 }
 
-// The pixels around a source reach farther than its neighbours. A catalogue without rows ends with its header.
+// The pixels around a source reach farther than its neighbours, and no farther than its parent. A catalogue without rows ends with its header.
 #[test]
 fn sources_without_values_and_no_source(rt: HostRuntime) {
     let cases = [
@@ -114,6 +114,15 @@ fn sources_without_values_and_no_source(rt: HostRuntime) {
             map: &[0, 0, 0, 1, 0],
             cells: &[
                 1, 9, 1, 1, 8, 9, 4, 4, 1, 1, 4, 1, 4000, 1000, 0, 0, 0, 0, 1, 0, 0, 0, 0, -250,
+            ],
+            size: 17_280,
+        },
+        Case {
+            pixels: [0, 1, 1, 9, 99],
+            values: [50, 7, 9, 3, 2],
+            map: &[0, 0, 0, 1, 0],
+            cells: &[
+                1, 9, 1, 1, 8, 9, 4, 4, 1, 1, 4, 1, 4000, 1000, 0, 0, 0, 1, 0, 3, 3, 3, 3000, 8000,
             ],
             size: 17_280,
         },

@@ -5,7 +5,7 @@ use Rattle.fits_write.specs.Columns.{IsTable}
 use Rattle.dual_measure.specs.declared.values.Measure.{Measure}
 use Rattle.measure_top.specs.MeasuredCatalogues.{measured_columns}
 use Rattle.measure_top.proofs.MeasuredTables.{row_table}
-use Rattle.measure_top.proofs.MeasuredRows.{one_measure_each, measure_read, size_read, row_is}
+use Rattle.measure_top.proofs.MeasuredRows.{one_measure_each, measure_read, size_read, cells_are}
 use Rattle.measure_top.proofs.measuring.row_cells.Goals as goal
 
 -- what is read behind the end of a list
@@ -25,14 +25,13 @@ pub measured_cells-requires : goal.measured_cells-requires
 measured_cells-requires c = let size = size_read c.args.tree.now c.args.measures.now c.args.n nothing c.requires.measures c.requires.small c.requires.node in size.sum
 
 pub returns-clause-exact : goal.returns-clause-exact
-returns-clause-exact c = λ plane values connect one tree_is sums_are measures_are.
+returns-clause-exact c = λ plane values connect one tree_is measures_are.
     let fits : SFits w64 c.back-around.result = search rules in
     c.measured_cells.ensures
-    ∙ row_is plane values connect c.args.number c.args.n c.row-row.result _ _ (c.row-row.ensures.exact plane connect tree_is sums_are)
-    (measure_read values plane connect c.args.tree.now c.args.measures.now c.args.n nothing tree_is measures_are c.requires.node)
+    ∙ cells_are c.args.row.now _ _ _ _ (measure_read values plane connect c.args.tree.now c.args.measures.now c.args.n nothing tree_is measures_are c.requires.node)
     (to_z-of_z w64 c.back-around.result fits ∙ c.back-around.ensures values plane connect one tree_is measures_are)
 
 pub returns-clause-table : goal.returns-clause-table
 returns-clause-table c =
     let size = size_read c.args.tree.now c.args.measures.now c.args.n nothing c.requires.measures c.requires.small c.requires.node in
-    subst (IsTable measured_columns) (sym c.measured_cells.ensures) (row_table c.row-row.result _ _ c.row-row.ensures.columns size)
+    subst (IsTable measured_columns) (sym c.measured_cells.ensures) (row_table c.args.row.now _ _ c.requires.columns size)

@@ -1,28 +1,41 @@
-use Rattle.std.proofs.Common.{◌≡◌, length, arith, rules}
+use Rattle.std.proofs.Common.{◌≡◌, ◌<◌, length, get_or, arith, rules, subst, sym, List, ℕ}
+use Rattle.std.specs.Prelude.{slice_index}
 use Rattle.std.proofs.lemmas.Option.{slice_get-get_or}
-use Rattle.measure_top.proofs.MeasuredRows.{few_sources, before_rows, rows_more, all_rows}
+use Rattle.measure_top.proofs.PickedRows.{nobody}
+use Rattle.measure_top.proofs.MeasuredRows.{before_rows, rows_more, all_rows, node_read}
 use Rattle.measure_top.proofs.measuring.table_cells.Goals as goal
 
-pub overflow_mul-picked : goal.overflow_mul-picked
-overflow_mul-picked c = let few = few_sources c.args.tree.now c.args.picked.now c.requires.disjoint in record { fits = omega (arith, few) }
+pub overflow_mul-nodes : goal.overflow_mul-nodes
+overflow_mul-nodes c = record { fits = omega (arith, c.requires.few) }
 
-pub loop-place-init : goal.loop-place-init
-loop-place-init c = before_rows c.args.tree.now c.args.sums.now c.args.measures.now c.args.picked.now _ c.in-Ok.ensures.items
+pub loop-node-init : goal.loop-node-init
+loop-node-init c = before_rows c.args.tree.now c.args.measures.now c.args.nodes.now _ c.in-Ok.ensures.items
 
-pub row_cells-row-requires-clause-node : goal.row_cells-row-requires-clause-node
-row_cells-row-requires-clause-node c =
-    c.requires.disjoint.nodes c.loop-place.place _ (slice_get-get_or c.args.picked.now c.loop-place.place 0 c.loop-place-test.true)
+pub bounds-node_of-node : goal.bounds-node_of-node
+bounds-node_of-node c =
+    let there = c.requires.there c.loop-node.node-index _ (slice_get-get_or c.args.nodes.now c.loop-node.node-index nobody c.loop-node-test.true) in
+    subst (λ (l : List ℕ). (get_or c.args.nodes.now c.loop-node.node-index nobody).rep < length l) (sym c.node_of-node_of.ensures) there.0
 
-pub row_cells-row-requires-clause-few : goal.row_cells-row-requires-clause-few
-row_cells-row-requires-clause-few c = let few = few_sources c.args.tree.now c.args.picked.now c.requires.disjoint in omega (arith, few, c.loop-place-test.true)
+pub row_cells-cells-requires-clause-node : goal.row_cells-cells-requires-clause-node
+row_cells-cells-requires-clause-node c =
+    let there = c.requires.there c.loop-node.node-index _ (slice_get-get_or c.args.nodes.now c.loop-node.node-index nobody c.loop-node-test.true) in
+    subst (λ (l : List ℕ). slice_index l (get_or c.args.nodes.now c.loop-node.node-index nobody).rep < length c.args.tree.now.rows) (sym c.node_of-node_of.ensures) there.1
 
-pub loop-place-preserved : goal.loop-place-preserved
-loop-place-preserved c =
-    let many : length c.row_cells-row.result ≡ 24 = search rules in
-    rows_more c.args.tree.now c.args.sums.now c.args.measures.now c.args.picked.now c.loop-place.place _ _ c.row_cells-row.result c.loop-place.invariant c.requires.disjoint
-    c.loop-place-test.true c.in_default.ensures many c.row_cells-row.ensures.table c.row_cells-row.ensures.exact
+pub row_cells-cells-requires-clause-columns : goal.row_cells-cells-requires-clause-columns
+row_cells-cells-requires-clause-columns c =
+    c.requires.fits c.loop-node.node-index _ (slice_get-get_or c.args.nodes.now c.loop-node.node-index nobody c.loop-node-test.true)
+
+pub loop-node-preserved : goal.loop-node-preserved
+loop-node-preserved c =
+    let many : length c.row_cells-cells.result ≡ 24 = search rules in
+    let there = c.requires.there c.loop-node.node-index _ (slice_get-get_or c.args.nodes.now c.loop-node.node-index nobody c.loop-node-test.true) in
+    rows_more c.args.tree.now c.args.measures.now c.args.nodes.now c.loop-node.node-index nobody _ _ c.row_cells-cells.result c.loop-node.invariant c.requires.few
+    c.loop-node-test.true c.in_default.ensures many c.row_cells-cells.ensures.table
+    (λ plane values connect one tree_is measures_are.
+    node_read plane values connect c.args.tree.now c.node_of-node_of.result.now (get_or c.args.nodes.now c.loop-node.node-index nobody) c.row_cells-cells.result tree_is
+    c.node_of-node_of.ensures there.0 (c.row_cells-cells.ensures.exact plane values connect one tree_is measures_are))
 
 pub returns-clause-exact : goal.returns-clause-exact
-returns-clause-exact c = λ plane values connect one tree_is sums_are measures_are.
-    all_rows c.args.tree.now c.args.sums.now c.args.measures.now c.args.picked.now c.loop-place.place _ c.loop-place.invariant (omega (arith, c.loop-place-test.false))
-    plane values connect one tree_is sums_are measures_are
+returns-clause-exact c = λ plane values connect one tree_is measures_are.
+    all_rows c.args.tree.now c.args.measures.now c.args.nodes.now c.loop-node.node-index _ c.loop-node.invariant (omega (arith, c.loop-node-test.false))
+    plane values connect one tree_is measures_are

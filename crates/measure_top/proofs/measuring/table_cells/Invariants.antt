@@ -2,5 +2,5 @@
 use Rattle.measure_top.proofs.MeasuredRows.{AreMeasuredRows}
 use Rattle.measure_top.proofs.measuring.table_cells.Given as goal
 
-abbrev pub invariant-loop-place : goal.invariant-loop-place
-invariant-loop-place l = AreMeasuredRows l.tree l.sums l.measures l.picked l.place l.table.items
+abbrev pub invariant-loop-node : goal.invariant-loop-node
+invariant-loop-node l = AreMeasuredRows l.tree l.measures l.nodes l.node-index l.table.items

@@ -1,0 +1,185 @@
+-- The nodes of a cut plane: their measures and their backs are those of the whole plane.
+use Rattle.std.proofs.Common.{◌≡◌, ℕ, ◌<◌, Bool, true, false, ◌&&◌, not, length, refl, sym, ◌∙◌, ap, subst, arith, ◌⊎◌, inl, inr}
+use Rattle.std.specs.Prelude.{IsTrue, ℤ, pos, ◌≤ℤ◌, int_le, int_lt, filter, if◌then◌else◌}
+use Rattle.std.proofs.lemmas.Bool.{eq-eqb, ne_eqb}
+use Rattle.comp_tree.specs.declared.shape.Connect.{Connect}
+use Rattle.comp_tree.specs.Raster.{Raster, IsPlane, pixels, level, is_at_least}
+use Rattle.comp_tree.specs.ComponentTree.{no_node}
+use Rattle.comp_tree.specs.Components.{reaches, nodes, node_of, is_candidate, is_in_node, tree_of}
+use Rattle.comp_tree.specs.Nesting.{is_root, level_of_node}
+use Rattle.comp_tree.specs.Laws.{top_of, parent_of_node}
+use Rattle.comp_tree.proofs.Exported.{int_le-from, int_le_trans, int_le_from_lt, cases_int, top-representative, top-defined, length-rows, IsParent, parent-candidate, parent-of_node, below_no_node}
+use Rattle.comp_tree.proofs.Exported as Nodes
+use Rattle.node_sums.proofs.Exported.{goes_down, level-of_node}
+use Rattle.dual_measure.specs.Measures.{measure_over, measure_of, mean_of, around_node, back_of}
+use Rattle.measure_top.specs.Cuts.{cut, node_in_cut}
+use Rattle.measure_top.proofs.CutAlike.{AlikeAbove, alike_sym, cut_alike, high_in_cut, level_same, high_from_reached, reached_there, IsCounterpart, counterpart, counterpart_sym, test_same, all_pixels_same, pixels_same}
+pub use Rattle.measure_top.proofs.CutAlike.{cut_is_a_plane}
+
+-- ---- parents
+
+parent_cases : (r : Raster) (connect : Connect) (n : ℕ) → IsPlane r → n < length (nodes r connect)
+    → (parent_of_node r connect n ≡ no_node) ⊎ (parent_of_node r connect n < length (nodes r connect))
+parent_cases r connect n plane hn = go ((goes_down r connect plane).parents n (omega (arith, length-rows r connect)))
+  where
+    go : (parent_of_node r connect n ≡ no_node) ⊎ (parent_of_node r connect n < n) → (parent_of_node r connect n ≡ no_node) ⊎ (parent_of_node r connect n < length (nodes r connect))
+    go (inl e) = inl e
+    go (inr l) = inr (omega arith)
+
+-- what is below a pixel, and has at least h, is below it in the other plane
+candidate_there : (r s : Raster) (connect : Connect) (h : ℤ) (p q : ℕ) → AlikeAbove r s h → IsTrue (is_at_least r h q) → Nodes.IsCandidate r connect p q → Nodes.IsCandidate s connect p q
+candidate_there r s connect h p q a k c = record {
+  lower = subst (λ (z : ℤ). int_lt z (level s p) ≡ true) same_q (subst (λ (z : ℤ). int_lt (level r q) z ≡ true) same_p c.lower);
+  reaches_it = subst (λ (z : ℤ). IsTrue (reaches s connect z q p)) same_q (reached_there r s connect h (level r q) q p a low c.reaches_it);
+}
+  where
+    low : int_le h (level r q) ≡ true
+    low = Nodes.level_from_at_least r h q k
+
+    same_q : level r q ≡ level s q
+    same_q = level_same r s h q a k
+
+    same_p : level r p ≡ level s p
+    same_p = level_same r s h p a (high_from_reached r connect h (level r q) q p low c.reaches_it)
+
+-- a parent of at least h has the counterpart's parent for its counterpart
+parent_there : (r s : Raster) (connect : Connect) (h : ℤ) (n m k j : ℕ) → IsPlane r → AlikeAbove r s h → IsCounterpart r s connect h n m → IsCounterpart r s connect h k j
+    → parent_of_node r connect n ≡ k → parent_of_node s connect m ≡ j
+parent_there r s connect h n m k j plane a c d e =
+    parent-of_node s connect m c.other
+    ∙ Nodes.parent-is s connect (top_of s connect m) (top_of s connect j) (Nodes.candidate-from s connect (top_of s connect m) (top_of s connect j) there) highest
+    ∙ Nodes.node-unique s connect (top_of s connect j) j (top-defined s connect j d.other)
+    (record { below = d.other; it_is = sym (Nodes.is_representative-parts s connect (top_of s connect j) (top-representative s connect j d.other)).1 })
+  where
+    p : IsParent r connect k n
+    p = parent-candidate r connect k n plane c.one d.one (sym (parent-of_node r connect n c.one) ∙ e)
+
+    level_k : level r (top_of r connect k) ≡ level s (top_of s connect j)
+    level_k = level_same r s h (top_of r connect k) a d.high ∙ ap (level s) d.top
+
+    there : Nodes.IsCandidate s connect (top_of s connect m) (top_of s connect j)
+    there = subst (λ (x : ℕ). Nodes.IsCandidate s connect x (top_of s connect j)) c.top
+        (subst (λ (x : ℕ). Nodes.IsCandidate s connect (top_of r connect n) x) d.top (candidate_there r s connect h (top_of r connect n) (top_of r connect k) a d.high p.candidate))
+
+    highest : (t : ℕ) → IsTrue (is_candidate s connect (top_of s connect m) t) → int_le (level s t) (level s (top_of s connect j)) ≡ true
+    highest t k_t = go (cases_int (level s t) h)
+      where
+        below : Nodes.IsCandidate s connect (top_of r connect n) t
+        below = subst (λ (x : ℕ). Nodes.IsCandidate s connect x t) (sym c.top) (Nodes.candidate-parts s connect (top_of s connect m) t k_t)
+
+        go : (int_lt (level s t) h ≡ true) ⊎ (int_le h (level s t) ≡ true) → int_le (level s t) (level s (top_of s connect j)) ≡ true
+        go (inl l) =
+            subst (λ (z : ℤ). int_le (level s t) z ≡ true) level_k
+            (int_le_trans (level s t) h (level r (top_of r connect k)) (int_le_from_lt (level s t) h l) (Nodes.level_from_at_least r h (top_of r connect k) d.high))
+        go (inr l) =
+            let high : IsTrue (is_at_least s h t) = Nodes.at_least-lower s h (level s t) t l (Nodes.reaches_start s connect (level s t) t (top_of r connect n) below.reaches_it) in
+            subst (λ (z : ℤ). int_le (level s t) z ≡ true) level_k
+            (subst (λ (z : ℤ). int_le z (level r (top_of r connect k)) ≡ true) (sym (level_same s r h t (alike_sym r s h a) high))
+            (p.highest t (candidate_there s r connect h (top_of r connect n) t (alike_sym r s h a) high below)))
+
+-- a root is a root in the cut plane: each parent there has at least h
+root_in_cut : (r : Raster) (connect : Connect) (h : ℤ) (n m : ℕ) → IsPlane r → IsPlane (cut r h) → IsCounterpart r (cut r h) connect h n m → parent_of_node r connect n ≡ no_node
+    → parent_of_node (cut r h) connect m ≡ no_node
+root_in_cut r connect h n m plane plane_cut c e = go (parent_cases (cut r h) connect m plane_cut c.other)
+  where
+    go : (parent_of_node (cut r h) connect m ≡ no_node) ⊎ (parent_of_node (cut r h) connect m < length (nodes (cut r h) connect)) → parent_of_node (cut r h) connect m ≡ no_node
+    go (inl f) = f
+    go (inr l) = absurd (below_no_node r connect (node_of r connect (top_of (cut r h) connect up)) plane d.other (sym named ∙ e))
+      where
+        up : ℕ
+        up = parent_of_node (cut r h) connect m
+
+        back : AlikeAbove (cut r h) r h
+        back = alike_sym r (cut r h) h (cut_alike r h)
+
+        d : IsCounterpart (cut r h) r connect h up (node_of r connect (top_of (cut r h) connect up))
+        d = counterpart (cut r h) r connect h up back l (high_in_cut r h (top_of (cut r h) connect up) (top-defined (cut r h) connect up l))
+
+        named : parent_of_node r connect n ≡ node_of r connect (top_of (cut r h) connect up)
+        named = parent_there (cut r h) r connect h m n up (node_of r connect (top_of (cut r h) connect up)) plane_cut back (counterpart_sym r (cut r h) connect h n m (cut_alike r h) c) d refl
+
+-- ---- the values around a node
+
+back-root : (values r : Raster) (connect : Connect) (n : ℕ) → parent_of_node r connect n ≡ no_node → back_of values r connect n ≡ pos 0
+unfolding back_of
+back-root values r connect n e =
+    ap (λ (b : Bool). if b then pos 0 else mean_of (measure_over values (around_node r connect n))) (eq-eqb (parent_of_node r connect n) no_node e)
+
+not_root : (r : Raster) (connect : Connect) (n : ℕ) → IsPlane r → parent_of_node r connect n < length (nodes r connect) → is_root (tree_of r connect) n ≡ false
+not_root r connect n plane l = ne_eqb (parent_of_node r connect n) no_node (below_no_node r connect (parent_of_node r connect n) plane l)
+
+back-child : (values r : Raster) (connect : Connect) (n : ℕ) → is_root (tree_of r connect) n ≡ false
+    → back_of values r connect n ≡ mean_of (measure_over values (around_node r connect n))
+unfolding back_of
+back-child values r connect n e = ap (λ (b : Bool). if b then pos 0 else mean_of (measure_over values (around_node r connect n))) e
+
+-- the pixels that one node holds and another doesn't
+abbrev held_around : Raster → Connect → ℕ → ℕ → ℕ → Bool
+held_around r connect k n p = is_in_node r connect k p && not (is_in_node r connect n p)
+
+around_same : (r s : Raster) (connect : Connect) (h : ℤ) (n m k j : ℕ) → AlikeAbove r s h → IsCounterpart r s connect h n m → IsCounterpart r s connect h k j
+    → parent_of_node r connect n ≡ k → parent_of_node s connect m ≡ j → around_node r connect n ≡ around_node s connect m
+unfolding around_node
+around_same r s connect h n m k j a c d e f =
+    ap (λ (x : ℕ). filter (held_around r connect x n) (pixels r)) e
+    ∙ ap (λ (g : ℕ → Bool). filter (λ p. g p && not (is_in_node r connect n p)) (pixels r)) (test_same r s connect h k j a d)
+    ∙ ap (λ (g : ℕ → Bool). filter (λ p. is_in_node s connect j p && not (g p)) (pixels r)) (test_same r s connect h n m a c)
+    ∙ ap (filter (held_around s connect j m)) (all_pixels_same r s h a)
+    ∙ ap (λ (x : ℕ). filter (held_around s connect x m) (pixels s)) (sym f)
+
+-- ---- a node and the one that the same pixel represents in the cut plane
+
+high_top : (r : Raster) (connect : Connect) (h : ℤ) (n : ℕ) → n < length (nodes r connect) → h ≤ℤ level_of_node r connect n → IsTrue (is_at_least r h (top_of r connect n))
+high_top r connect h n hn l =
+    Nodes.at_least-from r h (top_of r connect n) (top-defined r connect n hn)
+    (int_le-from h (level r (top_of r connect n)) (subst (λ (z : ℤ). h ≤ℤ z) (level-of_node r connect n hn) l))
+
+in_cut : (r : Raster) (connect : Connect) (h : ℤ) (n : ℕ) → n < length (nodes r connect) → h ≤ℤ level_of_node r connect n
+    → IsCounterpart r (cut r h) connect h n (node_in_cut r connect h (top_of r connect n))
+in_cut r connect h n hn l = counterpart r (cut r h) connect h n (cut_alike r h) hn (high_top r connect h n hn l)
+
+-- there is one
+pub node_there : (r : Raster) (connect : Connect) (h : ℤ) (n : ℕ) → IsPlane r → n < length (nodes r connect) → h ≤ℤ level_of_node r connect n
+    → node_in_cut r connect h (top_of r connect n) < length (nodes (cut r h) connect)
+node_there r connect h n plane hn l = (in_cut r connect h n hn l).other
+
+-- it has the same measure
+pub same_measure : (r values : Raster) (connect : Connect) (h : ℤ) (n : ℕ) → IsPlane r → n < length (nodes r connect) → h ≤ℤ level_of_node r connect n
+    → measure_of values (cut r h) connect (node_in_cut r connect h (top_of r connect n)) ≡ measure_of values r connect n
+unfolding measure_of
+same_measure r values connect h n plane hn l =
+    ap (measure_over values) (sym (pixels_same r (cut r h) connect h n (node_in_cut r connect h (top_of r connect n)) (cut_alike r h) (in_cut r connect h n hn l)))
+
+-- and the same back, where its parent is left too
+pub same_back : (r values : Raster) (connect : Connect) (h : ℤ) (n : ℕ) → IsPlane r → n < length (nodes r connect) → h ≤ℤ level_of_node r connect n
+    → ((is_root (tree_of r connect) n ≡ false) → h ≤ℤ level_of_node r connect (parent_of_node r connect n))
+    → back_of values (cut r h) connect (node_in_cut r connect h (top_of r connect n)) ≡ back_of values r connect n
+same_back r values connect h n plane hn l left = go (parent_cases r connect n plane hn)
+  where
+    m : ℕ
+    m = node_in_cut r connect h (top_of r connect n)
+
+    c : IsCounterpart r (cut r h) connect h n m
+    c = in_cut r connect h n hn l
+
+    plane_cut : IsPlane (cut r h)
+    plane_cut = cut_is_a_plane r h plane
+
+    go : (parent_of_node r connect n ≡ no_node) ⊎ (parent_of_node r connect n < length (nodes r connect)) → back_of values (cut r h) connect m ≡ back_of values r connect n
+    go (inl e) = back-root values (cut r h) connect m (root_in_cut r connect h n m plane plane_cut c e) ∙ sym (back-root values r connect n e)
+    go (inr hk) =
+        back-child values (cut r h) connect m (not_root (cut r h) connect m plane_cut (subst (λ (x : ℕ). x < length (nodes (cut r h) connect)) (sym there) d.other))
+        ∙ ap (λ ps. mean_of (measure_over values ps)) (sym (around_same r (cut r h) connect h n m k j (cut_alike r h) c d refl there))
+        ∙ sym (back-child values r connect n (not_root r connect n plane hk))
+      where
+        k : ℕ
+        k = parent_of_node r connect n
+
+        j : ℕ
+        j = node_in_cut r connect h (top_of r connect k)
+
+        d : IsCounterpart r (cut r h) connect h k j
+        d = in_cut r connect h k hk (left (not_root r connect n plane hk))
+
+        there : parent_of_node (cut r h) connect m ≡ j
+        there = parent_there r (cut r h) connect h n m k j plane (cut_alike r h) c d refl

@@ -1,0 +1,63 @@
+-- The sources of a plane, found in the plane of its pixels near those of at least the threshold.
+use Rattle.std.proofs.Common.{◌≡◌, ◌∙◌, ap, sym, subst, ℕ, ◌^◌, ◌≤◌, List, length, Result, Ok, Err, IfOk, ℤ}
+use Rattle.std.specs.Prelude.{slice_index}
+use Rattle.std.proofs.lemmas.List.{get_or_default}
+use Rattle.comp_tree.specs.declared.shape.Shape.{Shape}
+use Rattle.comp_tree.specs.declared.shape.Connect.{Connect}
+use Rattle.comp_tree.specs.Raster.{Raster, IsPlane}
+use Rattle.comp_tree.specs.ComponentTree.{ComponentTree}
+use Rattle.comp_tree.specs.Components.{tree_of}
+use Rattle.node_sums.specs.Sums.{IsTreeOfPlane}
+use Rattle.source_pick.specs.declared.choice.Choice.{Choice}
+use Rattle.source_pick.specs.Sources.{sources}
+use Rattle.source_pick.specs.Segmentation.{segmentation_of, segmentation}
+use Rattle.source_pick.specs.Catalogue.{catalogue}
+use Rattle.source_pick.specs.Locality.{kept, HaveSameSources}
+use Rattle.source_pick.proofs.Exported.{numbers-length, shape-kept}
+use Rattle.measure_top.specs.declared.picking_near.PickedNode.{PickedNode}
+use Rattle.measure_top.specs.declared.picking_near.Picked.{Picked}
+use Rattle.measure_top.specs.Picks.{AreNodesOf, AreSourcesOf, HaveFittingRows, CanBeListed}
+
+pub are_sources_of : (plane : Raster) (connect : Connect) (choice : Choice) (picked marked listed : List ℕ) (numbers : List ℕ) (found : List PickedNode)
+    → picked ≡ sources plane connect choice → marked ≡ picked → numbers ≡ segmentation_of plane connect marked → listed ≡ picked → AreNodesOf plane connect listed found
+    → AreSourcesOf plane connect choice numbers found
+unfolding segmentation
+are_sources_of plane connect choice picked marked listed numbers found are same_marked mapped same_listed are_nodes = record {
+  numbers_are = mapped ∙ ap (segmentation_of plane connect) (same_marked ∙ are);
+  nodes_are = subst (λ (l : List ℕ). AreNodesOf plane connect l found) (same_listed ∙ are) are_nodes;
+}
+
+pub can_be_listed : (plane : Raster) (tree : ComponentTree) (numbers : List ℕ) (found : List PickedNode) → IsTreeOfPlane plane tree → IsPlane plane
+    → length numbers ≡ length tree.node_of → ((p : ℕ) → slice_index numbers p ≤ 2 ^ 24) → length found ≤ 2 ^ 24 → HaveFittingRows found → CanBeListed plane.shape numbers found
+can_be_listed plane tree numbers found of_plane whole one_each small few fits = record {
+  one_each = one_each ∙ numbers-length plane of_plane.0 tree of_plane.1 ∙ whole;
+  small = λ k d within. subst (λ n. n ≤ 2 ^ 24) (get_or_default numbers k 0 d within) (small k);
+  few = few;
+  fits = fits;
+}
+
+same_sources : (r s : Raster) (connect : Connect) (choice : Choice) (numbers : List ℕ) (found : List PickedNode) → HaveSameSources r s connect choice
+    → AreSourcesOf s connect choice numbers found → AreSourcesOf r connect choice numbers found
+unfolding catalogue
+same_sources r s connect choice numbers found same are = record {
+  numbers_are = are.numbers_are ∙ sym same.numbers;
+  nodes_are = record {
+    rows = are.nodes_are.rows ∙ sym same.rows;
+    representatives = are.nodes_are.representatives ∙ sym same.representatives;
+  };
+}
+
+-- the sources of a plane that has the same are those of the plane
+pub sources_kept : {E : Type 0} (plane copy near : Raster) (connect : Connect) (choice : Choice) (tree : ComponentTree) (made : Result Picked E) → copy ≡ plane
+    → HaveSameSources copy near connect choice → tree ≡ tree_of near connect
+    → IfOk made (λ picked. (connect' : Connect) → tree ≡ tree_of near connect' → AreSourcesOf near connect' choice picked.map.items picked.nodes.items)
+    → IfOk made (λ picked. AreSourcesOf plane connect choice picked.map.items picked.nodes.items)
+sources_kept plane copy near connect choice tree (Ok picked) is same tree_is are =
+    same_sources plane near connect choice picked.map.items picked.nodes.items (subst (λ (r : Raster). HaveSameSources r near connect choice) is same) (are connect tree_is)
+sources_kept plane copy near connect choice tree (Err e) is same tree_is are = tt
+
+pub listed_kept : {E : Type 0} (plane copy near : Raster) (connect : Connect) (h : ℤ) (made : Result Picked E) → copy ≡ plane → near ≡ kept copy connect h
+    → IfOk made (λ picked. CanBeListed near.shape picked.map.items picked.nodes.items) → IfOk made (λ picked. CanBeListed plane.shape picked.map.items picked.nodes.items)
+listed_kept plane copy near connect h (Ok picked) is kept_is can =
+    subst (λ (s : Shape). CanBeListed s picked.map.items picked.nodes.items) (ap (λ (r : Raster). r.shape) kept_is ∙ shape-kept copy connect h ∙ ap (λ (r : Raster). r.shape) is) can
+listed_kept plane copy near connect h (Err e) is kept_is can = tt

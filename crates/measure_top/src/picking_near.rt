@@ -1,0 +1,147 @@
+//! The sources of a plane, found in the tree of its pixels near those of at least the threshold: this tree is small.
+ghost use Rattle.std.specs.Prelude.{◌≡◌, ◌^◌, ◌<◌, ◌≤◌, ℕ, Some, length, slice_get, IfOk, ◌≤ℤ◌};
+ghost use Rattle.comp_tree.specs.declared.shape.Connect.{Connect};
+ghost use Rattle.comp_tree.specs.Raster.{Raster};
+ghost use Rattle.comp_tree.specs.Components.{tree_of};
+ghost use Rattle.comp_tree.specs.Laws.{top_of};
+ghost use Rattle.node_sums.specs.Sums.{IsTreeOfPlane, AreTheTrees, ForEachPlaneOf};
+ghost use Rattle.source_pick.specs.Catalogue.{catalogue_row, FitsColumns};
+ghost use Rattle.source_pick.specs.Segmentation.{AreDisjointNodes};
+ghost use Rattle.detect_top.specs.Words.{HasLimits};
+ghost use Rattle.measure_top.specs.Picks.{AreNodesOf, AreSourcesOf, HaveFittingRows, CanBeListed, HaveBasesFrom};
+
+use crate::cutting::copy_of;
+use comp_tree::{Plane, Tree};
+use detect_top::{Order, component_tree};
+use dev_io::OutOfMemory;
+use node_sums::{Sums, sums};
+use source_pick::{CatRow, Choice, clear_far, pick, row, segment_in_parts};
+use std::alloc::Global;
+use std::thread::Threads;
+use strip_crew::Gate;
+
+/// A node that was picked: its row in the catalogue, and the pixel that represents it in any plane that has the node.
+#[derive(Clone, Copy)]
+pub(crate) struct PickedNode {
+    pub(crate) row: CatRow,
+    pub(crate) rep: u32,
+}
+
+/// The map over the sources, and the sources in the order of their numbers.
+#[derive(Drop)]
+pub(crate) struct Picked {
+    pub(crate) map: Vec<u32>,
+    pub(crate) nodes: Vec<PickedNode>,
+}
+
+// Node `n`, as source with this number.
+fn picked_node(tree: &Tree, sums: &[Sums], number: u32, n: u32) -> PickedNode
+    requires sums { AreTheTrees tree.now sums.now }
+    requires node { n < length tree.now.rows }
+    requires from_one { 1 ≤ number }
+    requires few { number ≤ 2 ^ 24 }
+    ensures row { ForEachPlaneOf tree.now sums.now (λ plane connect. result.row ≡ catalogue_row plane connect number n) }
+    ensures rep { (plane : Raster) (connect : Connect) → tree.now ≡ tree_of plane connect → result.rep ≡ top_of plane connect n }
+    ensures columns { FitsColumns result.row }
+{
+    PickedNode {
+        row: row(tree, sums, number, n),
+        rep: tree.rows()[n as usize].rep,
+    }
+}
+
+// These nodes, which are numbered from 1.
+fn picked_nodes(
+    alloc: Global,
+    tree: &Tree,
+    sums: &[Sums],
+    picked: &[u32],
+) -> Result<Vec<PickedNode>, OutOfMemory>
+    requires sums { AreTheTrees tree.now sums.now }
+    requires disjoint { AreDisjointNodes tree.now picked.now }
+    ensures exact { IfOk result (λ nodes. ForEachPlaneOf tree.now sums.now (λ plane connect. AreNodesOf plane connect picked.now nodes.items)) }
+    ensures few { IfOk result (λ nodes. length nodes.items ≤ 2 ^ 24) }
+    ensures fits { IfOk result (λ nodes. HaveFittingRows nodes.items) }
+{
+    let mut nodes = match Vec::with_capacity(alloc, picked.len()) {
+        Ok(nodes) => nodes,
+        Err(_) => return Err(OutOfMemory),
+    };
+    for (place, n) in picked.iter().enumerate() {
+        let node = picked_node(tree, sums, place as u32 + 1, *n);
+        match nodes.push(node) {
+            Ok(_) => {}
+            Err(_) => return Err(OutOfMemory),
+        }
+    }
+    Ok(nodes)
+}
+
+// The sources of a plane, with its tree. So many workers fill the map.
+fn pick_of_tree<R: Threads + Sync>(
+    rt: &R,
+    alloc: Global,
+    plane: &Plane,
+    tree: &Tree,
+    choice: &Choice,
+    workers: u32,
+) -> Result<Picked, OutOfMemory>
+    requires of_plane { IsTreeOfPlane plane.now tree.now }
+    requires contrast { choice.now.contrast ≤ 1000 }
+    ensures exact { IfOk result (λ picked. (connect : Connect) → tree.now ≡ tree_of plane.now connect
+        → AreSourcesOf plane.now connect choice.now picked.map.items picked.nodes.items) }
+    ensures listed { IfOk result (λ picked. CanBeListed plane.now.shape picked.map.items picked.nodes.items) }
+{
+    let _shape = plane.shape();
+    let sums = sums(alloc, plane, tree)?;
+    let picked = pick(alloc, tree, &sums, choice)?;
+    let map = segment_in_parts(rt, alloc, tree, &picked, workers)?;
+    let nodes = picked_nodes(alloc, tree, &sums, &picked)?;
+    Ok(Picked { map, nodes })
+}
+
+/// The sources of a plane. A copy of it and the tree of the copy are gone when this returns. The one error is that memory was refused.
+pub(crate) fn pick_near<R: Threads + Sync, G: Gate>(
+    rt: &R,
+    alloc: Global,
+    plane: &Plane,
+    order: Order,
+    choice: &Choice,
+    gate: &G,
+) -> Result<Picked, OutOfMemory>
+    requires limits { HasLimits order }
+    requires contrast { choice.now.contrast ≤ 1000 }
+    ensures exact { IfOk result (λ picked. AreSourcesOf plane.now order.connect choice.now picked.map.items picked.nodes.items) }
+    ensures listed { IfOk result (λ picked. CanBeListed plane.now.shape picked.map.items picked.nodes.items) }
+{
+    let mut near = copy_of(alloc, plane)?;
+    clear_far(
+        rt,
+        alloc,
+        &mut near,
+        order.connect,
+        choice.threshold,
+        order.workers,
+    )?;
+    let tree = component_tree(rt, alloc, &near, order, gate)?;
+    pick_of_tree(rt, alloc, &near, &tree, choice, order.workers)
+}
+
+fn base(node: &PickedNode) -> i64
+    ensures { result ≡ node.now.row.base }
+{
+    node.row.base
+}
+
+/// The least of a level and of the bases of these nodes.
+pub(crate) fn lowest_base(nodes: &[PickedNode], level: i64) -> i64
+    ensures level { result ≤ℤ level }
+    ensures bases { HaveBasesFrom result nodes.now }
+{
+    let mut lowest = level;
+    for node in nodes {
+        let low = base(node);
+        lowest = lowest.min(low);
+    }
+    lowest
+}
