@@ -19,15 +19,17 @@ TOP = pathlib.Path(__file__).resolve().parent.parent
 MANY = 1000
 
 
-def image(width, height, pixels):
-    """A primary image of unsigned bytes."""
-    cards = [("SIMPLE", "T"), ("BITPIX", 8), ("NAXIS", 2), ("NAXIS1", width), ("NAXIS2", height)]
+def image(width, height, pixels, extension=False):
+    """A primary image of unsigned bytes, or an image extension."""
+    cards = [("XTENSION", "'IMAGE   '") if extension else ("SIMPLE", "T"), ("BITPIX", 8), ("NAXIS", 2), ("NAXIS1", width), ("NAXIS2", height)]
+    cards += [("PCOUNT", 0), ("GCOUNT", 1)] if extension else []
     header = "".join(f"{keyword:<8}= {value:>20}".ljust(80) for keyword, value in cards) + "END".ljust(80)
     return header.ljust(2880).encode("ascii") + bytes(pixels)
 
 
 HILLS = image(5, 1, [1, 6, 2, 5, 1])
 SQUARE = image(3, 3, [5, 0, 6, 5, 2, 6, 3, 3, 3])
+BANDS = HILLS + bytes(-len(HILLS) % 2880) + image(5, 1, [10, 20, 30, 40, 7], extension=True)
 RUNS = {
     "tree in one strip": (["tree", "--strips", "1"], SQUARE),
     "tree in two strips": (["tree", "--strips", "2"], SQUARE),
@@ -36,6 +38,7 @@ RUNS = {
     "filter": (["filter", "--rule", "direct", "--min-area", "2", "--max-area", "2"], HILLS),
     "filter over a mesh": (["filter", "--rule", "min", "--mesh", "2"], HILLS),
     "detect": (["detect", "--threshold", "2", "--contrast", "300"], HILLS),
+    "measure": (["measure", "--values", "1", "--threshold", "2", "--contrast", "300"], BANDS),
 }
 
 GATE_TEST = "tests::no_strip_comes_to_the_gate_where_memory_is_refused"
