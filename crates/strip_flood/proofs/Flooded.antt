@@ -7,7 +7,8 @@ use Rattle.comp_tree.specs.Forest.{no_node, value_at, IsDefined, IsLink, JoinSam
 use Rattle.comp_tree.specs.Counts.{count_below, count_defined}
 use Rattle.comp_tree.specs.Grid.{are_adjacent, are_neighbours, IsInner}
 use Rattle.strip_flood.specs.Queue.{IsEmpty}
-use Rattle.strip_flood.specs.Flood.{Ground, State, ends, direction, IsOf, rank_of, cursor_of, IsOpen, IsLooked, IsRanked, IsTurning, seen_count, is_looked, looks, inner_count}
+use Rattle.strip_flood.specs.Flood.{Ground, State, ends, direction, IsOf, rank_of, cursor_of, IsOpen, IsLooked, IsRanked, IsTurning, seen_count, is_looked, looks}
+use Rattle.strip_flood.specs.Jobs.{inner_count}
 use Rattle.comp_tree.proofs.Exported.{flooded, at_least_defined, stands_from}
 use Rattle.strip_flood.proofs.Flow.{ends_small}
 use Rattle.strip_flood.proofs.Directions.{inner_direction}

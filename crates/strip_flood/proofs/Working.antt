@@ -17,9 +17,13 @@ use Rattle.comp_tree.specs.Grid.{are_adjacent, are_neighbours, IsInner}
 use Rattle.comp_tree.proofs.Exported.{before_is, int_le-true, int_le-from, stands_inner_agree, forest_agree}
 use Rattle.strip_flood.specs.declared.strip.Strip.{Strip}
 use Rattle.strip_flood.specs.declared.flood.Flood.{Flood}
-use Rattle.strip_flood.specs.Flood.{Ground, as_ground, list_at, direction, IsOf, rank_of, cursor_of, IsInQueue, IsEarliestKept, IsOpen, IsRanked, IsFair, IsTurning, HasOffsets, seen_count, is_looked, looks, inner_count}
-use Rattle.strip_flood.specs.Jobs.{SuitsStrip, IsStanding, view_of, IsRising, HasJobFields, AreRanks}
-use Rattle.strip_flood.specs.Strips.{ranked_values, plane_values, values_of, ground_of, state_of, IsStrip, IsBetweenTurns, IsAll, IsFresh}
+use Rattle.strip_flood.specs.Flood.{Ground, as_ground, list_at, direction, IsOf, rank_of, cursor_of, IsInQueue, IsEarliestKept, IsOpen, IsRanked, IsFair, IsTurning, HasOffsets, seen_count, is_looked, looks}
+use Rattle.strip_flood.specs.Jobs.{inner_count}
+use Rattle.strip_flood.specs.Jobs.{SuitsStrip, IsStanding}
+use Rattle.strip_flood.specs.JobFields.{view_of, HasJobFields}
+use Rattle.strip_flood.specs.Ranking.{IsRising, AreRanks}
+use Rattle.strip_flood.specs.Strips.{ranked_values, plane_values, values_of, ground_of, state_of, IsStrip, IsBetweenTurns, IsFresh}
+use Rattle.strip_flood.specs.Jobs.{IsAll}
 use Rattle.strip_flood.proofs.Stepping.{not_none}
 use Rattle.strip_flood.proofs.Retiring.{contains_some}
 use Rattle.strip_flood.proofs.Counting.{le_false, true_lt, count_same, sum_same}

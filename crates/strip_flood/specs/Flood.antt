@@ -178,10 +178,6 @@ is_looked g cursors i j = are_adjacent g.values g.width g.connect (g.first + i) 
 abbrev pub looks : Ground → List ℕ → ℕ
 looks g cursors = sum_below (λ i. count_below (is_looked g cursors i) (length g.ranks)) (length g.ranks)
 
--- how many ordered adjacencies the strip has
-abbrev pub inner_count : List (Option ℤ) → ℕ → Connect → ℕ → ℕ → ℕ
-inner_count values width connect first count = sum_below (λ i. count_below (λ j. are_adjacent values width connect (first + i) (first + j)) count) count
-
 -- What some steps did with the cursors and the two counters: what was seen still is, and each count rose as the cursors did.
 pub record IsStep (g : Ground) (old new : List ℕ) (queued_old queued_new looked_old looked_new : ℕ) : Type 0 where
   pub seen : (p : ℕ) → IsOf g p → 0 < cursor_of g old p → 0 < cursor_of g new p

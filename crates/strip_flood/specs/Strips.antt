@@ -5,8 +5,9 @@ use Rattle.comp_tree.specs.Forest.{no_node, StandsFor}
 use Rattle.comp_tree.specs.Grid.{IsInner}
 use Rattle.strip_flood.specs.declared.strip.Strip.{Strip}
 use Rattle.strip_flood.specs.declared.flood.Flood.{Flood}
+use Rattle.strip_flood.specs.Jobs.{inner_count, IsAll}
 use Rattle.strip_flood.specs.Queue.{IsEmpty}
-use Rattle.strip_flood.specs.Flood.{Ground, State, as_ground, state, ends, cursor_of, work, inner_count, HasOffsets, IsRanked, IsTurning, IsAtFront, IsStep}
+use Rattle.strip_flood.specs.Flood.{Ground, State, as_ground, state, ends, cursor_of, work, HasOffsets, IsRanked, IsTurning, IsAtFront, IsStep}
 
 -- the values of pixels by their ranks
 abbrev pub ranked_values : List ℤ → List ℕ → List (Option ℤ)
@@ -88,10 +89,6 @@ defined_in s = count_defined (values_of s) s.first (length s.ranks.items)
 -- how many ordered adjacencies the strip has
 abbrev pub adjacencies_in : Strip → ℕ
 adjacencies_in s = inner_count (values_of s) s.width s.connect s.first (length s.ranks.items)
-
--- each is x
-pub record IsAll (xs : List ℕ) (x : ℕ) : Type 0 where
-  pub each : (i : ℕ) → i < length xs → slice_index xs i ≡ x
 
 -- what a flooding is like before its first turn
 pub record IsFresh (count size : ℕ) (f : Flood) : Type 0 where

@@ -3,7 +3,7 @@
 ghost use Rattle.std.specs.Prelude.{◌≡◌, ◌+◌, ◌-◌, ◌*◌, ◌<◌, ◌≤◌, length, true, false, IfOk};
 ghost use Rattle.comp_tree.specs.Forest.{no_node};
 ghost use Rattle.strip_flood.specs.Jobs.{SuitsStrip, IsStanding, IsStandingWhereFlooded, defined_count, adjacency_count};
-ghost use Rattle.strip_flood.specs.Strips.{IsAll};
+ghost use Rattle.strip_flood.specs.Jobs.{IsAll};
 
 use crate::flood::Flood;
 use crate::levels::rank_pixels;
@@ -27,7 +27,8 @@ pub struct StripJob {
 }
 
 impl Model for StripJob {
-    ghost use Rattle.strip_flood.specs.Jobs.{JobView, view_of, HasJobFields};
+    ghost use Rattle.strip_flood.specs.Jobs.{JobView};
+    ghost use Rattle.strip_flood.specs.JobFields.{view_of, HasJobFields};
 
     ghost Value = { JobView };
 

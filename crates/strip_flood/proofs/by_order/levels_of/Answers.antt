@@ -2,7 +2,7 @@ use Rattle.std.proofs.Common.{◌≡◌, sym, subst}
 use Rattle.std.specs.List.{dedup}
 use Rattle.std.specs.Ordering.{int_eq}
 use Rattle.std.proofs.lemmas.List.Filters.{dedup_is}
-use Rattle.strip_flood.specs.Jobs.{IsRising, HasValues}
+use Rattle.strip_flood.specs.Ranking.{IsRising, HasValues}
 use Rattle.strip_flood.proofs.Sorting.{dedup_rising, dedup_has}
 use Rattle.strip_flood.proofs.by_order.levels_of.Goals as goal
 

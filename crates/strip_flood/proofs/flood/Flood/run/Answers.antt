@@ -1,7 +1,8 @@
 use Rattle.std.proofs.Common.{◌≡◌, ◌+◌, ◌<◌, length, sym, subst, arith, ⊎_elim}
 use Rattle.std.proofs.lemmas.Bool.{cases_eq}
 use Rattle.comp_tree.specs.Counts.{count_defined}
-use Rattle.strip_flood.specs.Flood.{cursor_of, rank_of, seen_count, looks, inner_count}
+use Rattle.strip_flood.specs.Flood.{cursor_of, rank_of, seen_count, looks}
+use Rattle.strip_flood.specs.Jobs.{inner_count}
 use Rattle.strip_flood.specs.Strips.{ground_of, state_of, values_of}
 use Rattle.strip_flood.proofs.Counting.{step_trans}
 use Rattle.strip_flood.proofs.Flooded.{flooded_stands, seen_all, looks_all}

@@ -1,6 +1,7 @@
 use Rattle.std.proofs.Common.{◌≡◌, ◌+◌, ◌*◌, length, false, true, sym, subst, ap, ◌∙◌, arith}
-use Rattle.strip_flood.specs.Jobs.{SuitsStrip, HasJobFields}
-use Rattle.strip_flood.specs.Flood.{inner_count}
+use Rattle.strip_flood.specs.Jobs.{SuitsStrip}
+use Rattle.strip_flood.specs.JobFields.{HasJobFields}
+use Rattle.strip_flood.specs.Jobs.{inner_count}
 use Rattle.strip_flood.specs.Strips.{values_of}
 use Rattle.strip_flood.proofs.Working.{fresh_between, fresh_unseen, fresh_unlooked, job_flooded, fit_after, fit_defined, fit_inner, fit_standing}
 use Rattle.strip_flood.proofs.job.StripJob.flood.Goals as goal
