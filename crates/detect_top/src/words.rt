@@ -129,7 +129,7 @@ fn criterion_for(words: &[&str], pairs: u32) -> Criterion
             .unwrap_or(0),
         max_area: value(words, Setting::MaxArea, pairs)
             .and_then(area)
-            .unwrap_or(16777216),
+            .unwrap_or(1 << 24),
         min_flux: value(words, Setting::MinFlux, pairs)
             .and_then(flux)
             .unwrap_or(0),
