@@ -20,6 +20,6 @@ pub use Rattle.comp_tree.proofs.Sames.{same_itself, same_none, same_or, same_or_
 pub use Rattle.comp_tree.proofs.Agreeing.{forest_agree, stands_inner_agree}
 pub use Rattle.comp_tree.proofs.Hanging.{forest_hung, link_hung, link_set_other, links_after, links_before}
 pub use Rattle.comp_tree.proofs.Representatives.{before_level, last_earlier, last_start}
-pub use Rattle.comp_tree.proofs.Flooding.{close_complete, close_sound, end_complete, flooded}
 pub use Rattle.comp_tree.proofs.Canonical.{last_is, last_own, level-value, link_from_representative, parent_from_link, representative_from_link, value-level}
 pub use Rattle.comp_tree.proofs.Shapes.{shape_of_sides}
+pub use Rattle.comp_tree.proofs.Writing.{written_all, written_itself, written_next, written_none}

@@ -22,7 +22,7 @@ mod Sames
 mod Agreeing
 mod Hanging
 mod Representatives
-mod Flooding
 mod Canonical
 mod Shapes
+mod Writing
 pub mod Exported

@@ -13,4 +13,4 @@ pub mod Nesting
 pub mod Marks
 pub mod Laws
 pub mod TreeFacts
-pub mod Flooding
+pub mod Writing

@@ -48,6 +48,14 @@ impl Plane {
         Ok(Plane { shape, numbers })
     }
 
+    /// A second plane with the same pixels. The one error is that memory was refused.
+    pub fn copied(&self) -> Result<Plane, OutOfMemory>
+        ensures { IfOk result (λ copy. copy ≡ self.now) }
+    {
+        let numbers = self.numbers.clone()?;
+        Ok(Plane { shape: self.shape, numbers })
+    }
+
     /// The width and the height. They never change.
     pub fn shape(&self) -> Shape
         ensures same { result ≡ self.now.shape }

@@ -27,7 +27,7 @@ use Rattle.node_sums.specs.declared.entry.Sums.{Sums}
 use Rattle.comp_tree.specs.Nesting.{pixels_of}
 use Rattle.node_sums.specs.Sums.{AreOfPlane}
 use Rattle.node_sums.specs.Flux.{base_of, flux_of}
-use Rattle.node_sums.specs.Merging.{IsUpTo}
+use Rattle.node_sums.specs.Sizes.{IsUpTo}
 use Rattle.node_sums.proofs.Exported.{up_to-minus, total-up_to, BaseCase, at_root, at_child, base-case, flux-is}
 use Rattle.detect_top.specs.Trials.{next_state, states_behind, value_of_state, trial_image, IsSmall, HasSmallValues, HasSmallFluxes, flux_bound}
 use Rattle.detect_top.proofs.EachArea.{length-sums}

@@ -12,7 +12,7 @@ use Rattle.comp_tree.specs.Limits.{IsWithinRange}
 use Rattle.comp_tree.specs.Raster.{Raster, IsPlane, HasValuesInRange, is_defined, level, value_at}
 use Rattle.comp_tree.proofs.Exported.{IsAmong, among_from_filter, among_from_range}
 use Rattle.node_sums.specs.Sums.{total, highest}
-use Rattle.node_sums.specs.Merging.{IsUpTo}
+use Rattle.node_sums.specs.Sizes.{IsUpTo}
 use Rattle.node_sums.proofs.Exported.{total-up_to, value_in_range, length-filter-le, level-of, fits}
 use Rattle.dual_measure.specs.declared.values.Measure.{Measure}
 use Rattle.dual_measure.specs.Measures.{measure_over, seen_of, missing_of, least_or_zero, greatest_or_zero, IsSumOf, HasMeasureSizes}

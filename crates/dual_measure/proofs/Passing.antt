@@ -14,7 +14,7 @@ use Rattle.comp_tree.specs.ComponentTree.{ComponentTree, parent_in, no_node}
 use Rattle.comp_tree.specs.Components.{nodes, is_in_node, tree_of}
 use Rattle.comp_tree.specs.Nesting.{pixels_of}
 use Rattle.comp_tree.proofs.Exported.{below_no_node, node-undefined, IsAmong, among_from_range}
-use Rattle.node_sums.specs.Merging.{is_counted}
+use Rattle.node_sums.specs.Counted.{is_counted}
 use Rattle.node_sums.proofs.Exported.{value_in_range, counted-start, counted-end, counted-same, counted-parent, number-within, IsUnion, range-push, filter_yes, filter_no, filter_same, rows_are, parent_is, parent_inside, numbers_for_pixels, get-written, row-parent}
 use Rattle.dual_measure.specs.declared.values.Measure.{Measure}
 use Rattle.dual_measure.specs.Measures.{measure_over, measure_of, measures_of, HasMeasureSizes, IsPlanesTree, AreTheTreesMeasures}

@@ -8,7 +8,7 @@ use Rattle.comp_tree.specs.Limits.{IsWithinRange}
 use Rattle.comp_tree.specs.Raster.{Raster, IsPlane, pixels, value_at}
 use Rattle.comp_tree.specs.ComponentTree.{ComponentTree}
 use Rattle.comp_tree.specs.Components.{tree_of}
-use Rattle.node_sums.specs.Merging.{is_counted}
+use Rattle.node_sums.specs.Counted.{is_counted}
 use Rattle.dual_measure.specs.declared.values.Measure.{Measure}
 
 -- before any pixel was added. Until all are, low and peak are these numbers where none is seen

@@ -15,7 +15,7 @@ use Rattle.node_sums.specs.Sums.{AreTheTrees, sums_of, sums_in, sums_over, x_of,
 use Rattle.comp_tree.specs.Nesting.{pixels_of, level_in}
 use Rattle.node_sums.proofs.Exported.{x_small, y_small, level_up_to, level-of_node, goes_down}
 use Rattle.node_sums.specs.Flux.{flux_of}
-use Rattle.node_sums.specs.Merging.{IsUpTo, value_bound}
+use Rattle.node_sums.specs.Sizes.{IsUpTo, value_bound}
 use Rattle.filter_rules.specs.declared.rule.Criterion.{Criterion}
 use Rattle.filter_rules.specs.Criteria.{admits, satisfies}
 use Rattle.filter_rules.specs.Passes.{HasRisingLevels, HasBox}

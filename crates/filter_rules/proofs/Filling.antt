@@ -12,7 +12,7 @@ use Rattle.comp_tree.specs.declared.tree.NodeRow.{NodeRow}
 use Rattle.comp_tree.specs.Limits.{IsWithinRange}
 use Rattle.comp_tree.specs.ComponentTree.{parent_in, no_node}
 use Rattle.comp_tree.specs.Nesting.{level_in}
-use Rattle.node_sums.specs.Merging.{IsUpTo, value_bound}
+use Rattle.node_sums.specs.Sizes.{IsUpTo, value_bound}
 use Rattle.node_sums.proofs.Exported.{up_to-minus, fits, row-parent, row_level}
 use Rattle.filter_rules.specs.declared.rule.Rule.{Rule}
 use Rattle.filter_rules.specs.declared.rule.Rule.TheVariants.{Subtractive}

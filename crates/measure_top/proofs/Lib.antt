@@ -1,5 +1,5 @@
 mod Besides
-mod Copying
+mod CutPlanes
 mod Firsts
 mod InCut
 mod PickedRows

@@ -1,4 +1,4 @@
--- Bookkeeping: how far a plane has been copied or cut, and what is kept of the sources between the two trees.
+-- Bookkeeping: how far a plane has been cut, and what is kept of the sources between the two trees.
 use Rattle.std.specs.Prelude.{◌≡◌, ℕ, ◌*◌, ◌^◌, ◌<◌, ◌≤◌, cond, ℤ, ◌≤ℤ◌, List, length, map, Some, None, slice_get, slice_index}
 use Rattle.std.specs.List.{All, flat_map}
 use Rattle.comp_tree.specs.declared.shape.Shape.{Shape}
@@ -16,12 +16,6 @@ use Rattle.dual_measure.specs.Columns.{measured_cells_of}
 use Rattle.measure_top.specs.declared.picking_near.PickedNode.{PickedNode}
 
 -- ---- planes
-
--- the first count pixels have been copied
-pub record IsCopiedUpTo (r : Raster) (count : ℕ) (plane : Raster) : Type 0 where
-  pub same_shape : plane.shape ≡ r.shape
-  pub one_each : length plane.values ≡ length r.values
-  pub done : (p : ℕ) → p < count → value_at plane.values p ≡ value_at r.values p
 
 -- the first count pixels are undefined where they are below h, and all others are as they were
 pub record IsCutUpTo (r : Raster) (h : ℤ) (count : ℕ) (plane : Raster) : Type 0 where

@@ -10,7 +10,6 @@ ghost use Rattle.source_pick.specs.Segmentation.{AreDisjointNodes};
 ghost use Rattle.detect_top.specs.Words.{HasLimits};
 ghost use Rattle.measure_top.specs.Picks.{AreNodesOf, AreSourcesOf, HaveFittingRows, CanBeListed, HaveBasesFrom};
 
-use crate::cutting::copy_of;
 use comp_tree::{Plane, Tree};
 use detect_top::{Order, component_tree};
 use dev_io::OutOfMemory;
@@ -114,7 +113,7 @@ pub(crate) fn pick_near<R: Threads + Sync, G: Gate>(
     ensures exact { IfOk result (λ picked. AreSourcesOf plane.now order.connect choice.now picked.map.items picked.nodes.items) }
     ensures listed { IfOk result (λ picked. CanBeListed plane.now.shape picked.map.items picked.nodes.items) }
 {
-    let mut near = copy_of(alloc, plane)?;
+    let mut near = plane.copied()?;
     clear_far(
         rt,
         alloc,

@@ -2,4 +2,4 @@
 pub use Rattle.mesh_background.proofs.Medians.{the_one}
 pub use Rattle.mesh_background.proofs.Extents.{columns-some}
 pub use Rattle.mesh_background.proofs.Levels.{stay_between}
-pub use Rattle.mesh_background.proofs.Residuals.{copy-all, length-smooth, written-next, written-none}
+pub use Rattle.mesh_background.proofs.Residuals.{length-smooth}

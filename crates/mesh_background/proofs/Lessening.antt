@@ -15,7 +15,8 @@ use Rattle.comp_tree.specs.Raster.{Raster, IsPlane, value_at}
 use Rattle.mesh_background.specs.Mesh.{cells_along, cell_count, mesh_cell_of, mesh_value, values_of_mesh}
 use Rattle.comp_tree.specs.Limits.{IsInHalfRange}
 use Rattle.comp_tree.specs.Raster.{HasValuesInHalfRange}
-use Rattle.mesh_background.specs.Lessened.{number_of_cell, IsInHalfRangeFrom, IsLessened, IsWritten}
+use Rattle.comp_tree.specs.Writing.{IsWritten}
+use Rattle.mesh_background.specs.Lessened.{number_of_cell, IsInHalfRangeFrom, IsLessened}
 use Rattle.mesh_background.specs.Interpolation.{interpolated}
 use Rattle.mesh_background.specs.Residuals.{filtered_values, pixel_level, background, residual_at, residual_of}
 use Rattle.mesh_background.specs.declared.slope.Mixed.{Mixed}

@@ -15,11 +15,11 @@ use Rattle.std.proofs.lemmas.Nat.{div-mul-add, mod-mul-add}
 use Rattle.comp_tree.specs.Limits.{IsWithinRange, IsInHalfRange}
 use Rattle.comp_tree.specs.declared.shape.Shape.{Shape}
 use Rattle.comp_tree.specs.Raster.{Raster, pixels, value_at, is_defined, level}
-use Rattle.comp_tree.proofs.Exported.{length-pixels, IsImage, get_from_map, get-pixels}
+use Rattle.comp_tree.proofs.Exported.{length-pixels, IsImage, get_from_map, get-pixels, written_all}
 use Rattle.mesh_background.specs.Medians.{IsLowerMedian, lower_median}
 use Rattle.mesh_background.specs.Mesh.{cells_along, cell_count, mesh_cell_of, cell_pixels, defined_values, image_value, mesh_value, values_of_mesh}
 use Rattle.comp_tree.specs.Raster.{HasValuesInHalfRange}
-use Rattle.mesh_background.specs.Lessened.{IsWritten}
+use Rattle.comp_tree.specs.Writing.{IsWritten}
 use Rattle.mesh_background.specs.Smoothing.{number_in_grid, places_around, numbers_around, filtered_number, filtered_mesh}
 use Rattle.mesh_background.specs.Residuals.{filtered_values, pixel_level, background, residual_at, residual_of}
 use Rattle.mesh_background.specs.Laws.{NoMeshLeavesThePlane, ResidualIsPlane, ResidualIsInRange}
@@ -164,43 +164,11 @@ in_range r mesh flat h p v e =
     let place : image.it ≡ p = get-pixels r p image.it image.at in
     in_range-at r mesh flat p v h (subst (λ q. residual_at r mesh flat q ≡ Some v) place image.gives)
 
--- ---- planes that are written pixel by pixel
-
-pub written-none : (r new : Raster) (f : ℕ → Option ℤ) → new.shape ≡ r.shape → length new.values ≡ length r.values → IsWritten r f 0 new
-written-none r new f s l = record { shape_is = s; one_each = l; written = λ p lt. absurd (omega arith) }
-
-pub written-next : (r old new : Raster) (f : ℕ → Option ℤ) (n m : ℕ) (v : Option ℤ) → IsWritten r f n old → n < length r.values → v ≡ f n
-    → new ≡ record { shape = old.shape; values = set old.values n v } → m ≡ n + 1 → IsWritten r f m new
-written-next r old new f n m v h lt e is next = record {
-  shape_is = ap (λ (q : Raster). q.shape) is ∙ h.shape_is;
-  one_each = ap (λ (q : Raster). length q.values) is ∙ length-set old.values n v ∙ h.one_each;
-  written = λ p low. ap (λ (q : Raster). value_at q.values p) is ∙ go p (cases_lt p n) (omega arith);
-}
-  where
-    long : length old.values ≡ length r.values
-    long = h.one_each
-
-    go : (p : ℕ) → (p < n) ⊎ (n ≤ p) → p ≤ n → get_or (set old.values n v) p None ≡ f p
-    go p (inl below) le = get_or-set_other old.values n p v None (omega arith) ∙ h.written p below
-    go p (inr here) le =
-        let same : p ≡ n = omega arith in
-        ap (λ (q : ℕ). get_or (set old.values n v) q None) same ∙ get_or-set_same old.values n v None (omega arith) ∙ e ∙ ap f (sym same)
-
-pub written-all : (r new : Raster) (f : ℕ → Option ℤ) (n : ℕ) → IsWritten r f n new → length r.values ≤ n → new ≡ record { shape = r.shape; values = map f (pixels r) }
-unfolding pixels
-written-all r new f n h le =
-    let vs : new.values ≡ map f (range_with_len 0 (length r.values)) = fill_by_all f new.values (length r.values) None h.one_each (λ k lt. h.written k (omega arith)) in
-    λ i. record { shape = h.shape_is i; values = vs i }
-
-pub copy-all : (r new : Raster) (n : ℕ) → IsWritten r (value_at r.values) n new → length r.values ≤ n → new ≡ r
-unfolding pixels
-copy-all r new n h le = written-all r new (value_at r.values) n h le
-    ∙ ap (λ (vs : List (Option ℤ)). let s : Raster = record { shape = r.shape; values = vs } in s)
-    (sym (fill_by_all (value_at r.values) r.values (length r.values) None refl (λ k lt. refl)))
+-- ---- a plane that is written pixel by pixel
 
 pub residual-all : (r new : Raster) (mesh : ℕ) (flat : Bool) (n : ℕ) → IsWritten r (residual_at r mesh flat) n new → length r.values ≤ n → new ≡ residual_of r mesh flat
 unfolding residual_of
-residual-all r new mesh flat n h le = written-all r new (residual_at r mesh flat) n h le
+residual-all r new mesh flat n h le = written_all r new (residual_at r mesh flat) n h le
 
 -- ---- the background of one pixel
 

@@ -1,15 +1,9 @@
--- Bookkeeping: planes that are written, or lessened by a background, some pixels at a time.
+-- Bookkeeping: planes that are lessened by a background, some pixels at a time.
 use Rattle.std.specs.Prelude.{◌≡◌, ℕ, ◌*◌, ◌^◌, ◌<◌, ◌≤◌, ℤ, pos, neg_ℤ, ◌-ℤ◌, ◌≤ℤ◌, List, length, slice_index_or, Option, Some}
 use Rattle.std.specs.Option.{option_map}
 use Rattle.comp_tree.specs.Limits.{IsInHalfRange}
 use Rattle.comp_tree.specs.Raster.{Raster, value_at}
 use Rattle.mesh_background.specs.Mesh.{mesh_cell_of}
-
--- a plane of the shape of r, in which the first n pixels are those that f gives
-pub record IsWritten (r : Raster) (f : ℕ → Option ℤ) (n : ℕ) (new : Raster) : Type 0 where
-  pub shape_is : new.shape ≡ r.shape
-  pub one_each : length new.values ≡ length r.values
-  pub written : (p : ℕ) → p < n → value_at new.values p ≡ f p
 
 -- a number is `whole` times one in half of the range, or between two such
 pub record IsHalfRangeTimes (whole : ℕ) (value : ℤ) : Type 0 where

@@ -38,7 +38,7 @@ pub fn residual<R: Threads + Sync>(
     requires in_range { HasValuesInHalfRange plane.now.values }
     ensures { IfOk result (λ residual. residual ≡ residual_of plane.now mesh flat) }
 {
-    let mut copy = copied(alloc, plane)?;
+    let mut copy = plane.copied()?;
     match subtract_background(rt, alloc, &mut copy, mesh, flat) {
         Ok(()) => Ok(copy),
         Err(error) => Err(error),
@@ -78,18 +78,6 @@ pub fn subtract_background<R: Threads + Sync>(
     };
     subtract_levels(plane, &grid, &smooth);
     Ok(())
-}
-
-// The same plane once more.
-fn copied(alloc: Global, plane: &Plane) -> Result<Plane, OutOfMemory>
-    ensures { IfOk result (λ copy. copy ≡ plane.now) }
-{
-    let shape = plane.shape();
-    let mut copy = Plane::blank(alloc, shape)?;
-    for p in 0..shape.pixels() {
-        copy.set(p, plane.get(p));
-    }
-    Ok(copy)
 }
 
 // Takes the numbers of the cells away from the values of their pixels.

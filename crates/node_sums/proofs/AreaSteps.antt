@@ -14,7 +14,7 @@ use Rattle.comp_tree.specs.Nesting.{pixels_of}
 use Rattle.comp_tree.proofs.Exported.{below_no_node, node-undefined, IsAmong, among_from_range}
 use Rattle.node_sums.specs.declared.entry.Sums.{Sums}
 use Rattle.node_sums.specs.Sums.{sums_over, sums_of, sums_in, IsTreeOfPlane}
-use Rattle.node_sums.specs.Merging.{is_counted}
+use Rattle.node_sums.specs.Counted.{is_counted}
 use Rattle.node_sums.specs.Areas.{area_of, areas_in}
 use Rattle.node_sums.specs.AreaPasses.{times_among, AreCounts, AreSoFar}
 use Rattle.node_sums.proofs.Merging.{sums_over-union}

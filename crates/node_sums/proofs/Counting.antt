@@ -10,7 +10,7 @@ use Rattle.comp_tree.specs.Components.{nodes, node_of, is_in_node, tree_of}
 use Rattle.comp_tree.specs.Laws.{IsAncestor, parent, above}
 use Rattle.comp_tree.proofs.Exported.{below_from_defined, pixels_belong_to_their_ancestors, length-rows, read-node_of, length-nodes-le, in_node-defined, tree_of-well_formed}
 use Rattle.comp_tree.proofs.Exported as Nodes
-use Rattle.node_sums.specs.Merging.{none_between, is_counted}
+use Rattle.node_sums.specs.Counted.{none_between, is_counted}
 
 -- ---- ways upwards
 

@@ -18,7 +18,7 @@ use Rattle.comp_tree.proofs.Exported.{length-rows}
 use Rattle.node_sums.specs.declared.entry.Sums.{Sums}
 use Rattle.node_sums.specs.Sums.{sums_over, sums_of, sums_in, AreTheTrees}
 use Rattle.node_sums.specs.Flux.{base_of, flux_of}
-use Rattle.node_sums.specs.Merging.{IsUpTo, HasSizes, value_bound, total_bound}
+use Rattle.node_sums.specs.Sizes.{IsUpTo, HasSizes, value_bound, total_bound}
 use Rattle.node_sums.proofs.Sizes.{sizes, filtered_pixels, level_up_to, up_to-times, up_to-minus, up_to_more}
 use Rattle.node_sums.proofs.Reading.{fits}
 use Rattle.node_sums.proofs.Totals.{total-less}

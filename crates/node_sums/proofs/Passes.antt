@@ -22,7 +22,9 @@ use Rattle.comp_tree.proofs.Exported.{length-rows, below_no_node, length-pixels}
 use Rattle.comp_tree.proofs.Exported as Nodes
 use Rattle.node_sums.specs.declared.entry.Sums.{Sums}
 use Rattle.node_sums.specs.Sums.{sums_over, sums_of, sums_in, IsTreeOfPlane, AreOfPlane, AreTheTrees}
-use Rattle.node_sums.specs.Merging.{together, sums_of_pixel, IsUpTo, HasSizes, is_own, is_counted, AreCounted, AreOwn, AreOwnTo, sums_at_place, value_bound}
+use Rattle.node_sums.specs.Sizes.{IsUpTo, HasSizes, value_bound}
+use Rattle.node_sums.specs.Counted.{is_counted}
+use Rattle.node_sums.specs.Merging.{together, sums_of_pixel, is_own, AreCounted, AreOwn, AreOwnTo, sums_at_place}
 use Rattle.node_sums.proofs.Merging.{sums_at, sums_over-push, sums_over-union}
 use Rattle.node_sums.proofs.Sizes.{sizes, filtered_pixels, level_up_to}
 use Rattle.node_sums.proofs.Counting.{GoesDown, goes_down, counted-start, counted-end, counted-same, counted-parent, number-is, IsUnion}

@@ -9,7 +9,7 @@ use Rattle.comp_tree.specs.declared.tree.NodeRow.{NodeRow}
 use Rattle.comp_tree.specs.ComponentTree.{ComponentTree, IsWellFormed, parent_in, no_node}
 use Rattle.comp_tree.specs.Nesting.{level_in}
 use Rattle.node_sums.specs.declared.entry.Sums.{Sums}
-use Rattle.node_sums.specs.Merging.{IsUpTo}
+use Rattle.node_sums.specs.Sizes.{IsUpTo}
 use Rattle.node_sums.proofs.Sizes.{abs_up_to}
 
 pub fits : (w : Width) (m : ℕ) (z : ℤ) → IsUpTo m z → m < 2 ^ hbits w → SFits w z

@@ -11,7 +11,7 @@ use Rattle.comp_tree.specs.Limits.{IsWithinRange}
 use Rattle.comp_tree.specs.Raster.{Raster, IsPlane, HasValuesInRange, level, value_at}
 use Rattle.comp_tree.proofs.Exported.{IsAmong, all_from_among, among_from_filter, among_from_range}
 use Rattle.node_sums.specs.Sums.{sums_over, x_of, y_of, total}
-use Rattle.node_sums.specs.Merging.{IsUpTo, HasSizes, value_bound, moment_bound}
+use Rattle.node_sums.specs.Sizes.{IsUpTo, HasSizes, value_bound, moment_bound}
 
 -- ---- whole numbers between -m and m
 

@@ -5,7 +5,7 @@ use Rattle.comp_tree.specs.declared.shape.Connect.{Connect}
 use Rattle.comp_tree.specs.Raster.{Raster, pixels}
 use Rattle.comp_tree.specs.ComponentTree.{ComponentTree}
 use Rattle.comp_tree.specs.Components.{tree_of}
-use Rattle.node_sums.specs.Merging.{is_counted}
+use Rattle.node_sums.specs.Counted.{is_counted}
 
 -- how many of the first n entries of a list are m
 abbrev pub times_among : List ℕ → ℕ → ℕ → ℕ

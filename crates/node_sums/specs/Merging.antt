@@ -1,14 +1,16 @@
 -- Bookkeeping: sums over two sets of pixels that share none, made from the sums over each, and what the two passes have added so far.
-use Rattle.std.specs.Prelude.{◌≡◌, ℕ, ◌+◌, ◌*◌, ◌/◌, ◌%◌, ◌^◌, ◌≤◌, ◌<◌, min, max, Bool, true, ◌&&◌, not, nat_lt, zero, suc, ◌==◌}
-use Rattle.std.specs.Prelude.{ℤ, pos, neg_ℤ, ◌+ℤ◌, ◌*ℤ◌, ◌≤ℤ◌, List, length, filter, slice_get, Some, slice_index}
+use Rattle.std.specs.Prelude.{◌≡◌, ℕ, ◌+◌, ◌*◌, ◌/◌, ◌%◌, ◌<◌, min, max, Bool, ◌&&◌, ◌==◌}
+use Rattle.std.specs.Prelude.{ℤ, pos, ◌+ℤ◌, ◌*ℤ◌, List, length, filter, slice_get, Some, slice_index}
 use Rattle.std.specs.Int.{int_max}
 use Rattle.std.specs.List.{range_with_len}
 use Rattle.comp_tree.specs.declared.shape.Connect.{Connect}
 use Rattle.comp_tree.specs.Raster.{Raster, is_defined, level, pixels}
 use Rattle.comp_tree.specs.ComponentTree.{ComponentTree}
-use Rattle.comp_tree.specs.Components.{is_in_node, tree_of}
+use Rattle.comp_tree.specs.Components.{tree_of}
 use Rattle.node_sums.specs.declared.entry.Sums.{Sums}
 use Rattle.node_sums.specs.Sums.{sums_over}
+use Rattle.node_sums.specs.Sizes.{IsUpTo, value_bound}
+use Rattle.node_sums.specs.Counted.{is_counted}
 
 -- the sums over pixel p, in column x and row y, both from 1, which has this value
 abbrev pub sums_at_place : ℕ → ℕ → ℕ → ℤ → Sums
@@ -53,43 +55,6 @@ together a b = record {
   first = min a.first b.first;
   peak = int_max a.peak b.peak;
 }
-
--- a whole number lies between -m and m
-pub record IsUpTo (m : ℕ) (z : ℤ) : Type 0 where
-  pub low : neg_ℤ (pos m) ≤ℤ z
-  pub high : z ≤ℤ pos m
-
--- how far from zero the values of planes lie at most, a value times a coordinate, and the sum of the values of a plane
-abbrev pub value_bound : ℕ
-value_bound = 2 ^ 37
-
-abbrev pub moment_bound : ℕ
-moment_bound = 2 ^ 53
-
-abbrev pub total_bound : ℕ
-total_bound = 2 ^ 61
-
--- how large the sums over some pixels of a plane are, by their number
-pub record HasSizes (s : Sums) : Type 0 where
-  pub area : s.area ≤ 2 ^ 24
-  pub r : IsUpTo (value_bound * s.area) s.r
-  pub x : s.x ≤ 2 ^ 16 * s.area
-  pub y : s.y ≤ 2 ^ 16 * s.area
-  pub xx : s.xx ≤ 2 ^ 32 * s.area
-  pub xy : s.xy ≤ 2 ^ 32 * s.area
-  pub yy : s.yy ≤ 2 ^ 32 * s.area
-  pub rx : IsUpTo (moment_bound * s.area) s.rx
-  pub ry : IsUpTo (moment_bound * s.area) s.ry
-
--- no node numbered above m and below k holds pixel q
-unfoldable pub none_between : Raster → Connect → ℕ → ℕ → ℕ → Bool
-none_between r connect q m zero = true
-none_between r connect q m (suc k) = none_between r connect q m k && not (nat_lt m k && is_in_node r connect k q)
-
--- when the nodes numbered from k on have been added to their parents, the entry of node m has the pixels of m
--- that belong to no node with a number above m and below k
-unfoldable pub is_counted : Raster → Connect → ℕ → ℕ → ℕ → Bool
-is_counted r connect k m q = is_in_node r connect m q && none_between r connect q m k
 
 -- each entry has those pixels, for each connectivity for which the tree is the plane's
 pub record AreCounted (r : Raster) (tree : ComponentTree) (k : ℕ) (sums : List Sums) : Type 0 where

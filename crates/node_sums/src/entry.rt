@@ -2,7 +2,8 @@ ghost use Rattle.std.specs.Prelude.{◌≡◌, [], ◌≤◌};
 ghost use Rattle.comp_tree.specs.Limits.{IsWithinRange};
 ghost use Rattle.comp_tree.specs.Raster.{Raster};
 ghost use Rattle.node_sums.specs.Sums.{sums_over};
-ghost use Rattle.node_sums.specs.Merging.{together, sums_at_place, HasSizes};
+ghost use Rattle.node_sums.specs.Sizes.{HasSizes};
+ghost use Rattle.node_sums.specs.Merging.{together, sums_at_place};
 
 /// Sums over the pixels of a node's component, from which area, flux, centre and shape follow: attributes of a max-tree's
 /// node (Salembier, Oliveras and Garrido 1998). As in FITS, x and y count columns and rows from 1.

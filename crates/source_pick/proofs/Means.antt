@@ -13,7 +13,7 @@ use mir.Syntax.{w64, w128}
 use mir.Val.{SFits, of_z, to_z}
 use Rattle.comp_tree.proofs.Exported.{IsAmong, int_eq-true, int_eq-from}
 use Rattle.node_sums.specs.Sums.{total, least, greatest}
-use Rattle.node_sums.specs.Merging.{IsUpTo}
+use Rattle.node_sums.specs.Sizes.{IsUpTo}
 use Rattle.node_sums.proofs.Exported.{up_to-times, up_to-minus, up_to_more, fits}
 use Rattle.source_pick.specs.Catalogue.{floor_of, centre_of, spread_of}
 use Rattle.source_pick.specs.Numbers.{IsMoment, IsMean, IsSpread}

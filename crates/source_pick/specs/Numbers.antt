@@ -1,7 +1,7 @@
 -- Bookkeeping: how large the numbers are from which a catalogue row is made.
 use Rattle.std.specs.Prelude.{ℕ, ◌+◌, ◌*◌, ◌/◌, ◌^◌, ◌<◌, ◌≤◌, ℤ, pos, ◌-ℤ◌, ◌*ℤ◌, ◌≤ℤ◌}
 use Rattle.node_sums.specs.declared.entry.Sums.{Sums}
-use Rattle.node_sums.specs.Merging.{IsUpTo, HasSizes}
+use Rattle.node_sums.specs.Sizes.{IsUpTo, HasSizes}
 
 -- a sum of value times coordinate, a base and a sum of coordinates
 pub record IsMoment (moment base : ℤ) (sum : ℕ) : Type 0 where

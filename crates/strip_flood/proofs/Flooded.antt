@@ -9,7 +9,8 @@ use Rattle.comp_tree.specs.Grid.{are_adjacent, are_neighbours, IsInner}
 use Rattle.strip_flood.specs.Queue.{IsEmpty}
 use Rattle.strip_flood.specs.Flood.{Ground, State, ends, direction, IsOf, rank_of, cursor_of, IsOpen, IsLooked, IsRanked, IsTurning, seen_count, is_looked, looks}
 use Rattle.strip_flood.specs.Jobs.{inner_count}
-use Rattle.comp_tree.proofs.Exported.{flooded, at_least_defined, stands_from}
+use Rattle.strip_flood.proofs.Joining.{flooded}
+use Rattle.comp_tree.proofs.Exported.{at_least_defined, stands_from}
 use Rattle.strip_flood.proofs.Flow.{ends_small}
 use Rattle.strip_flood.proofs.Directions.{inner_direction}
 use Rattle.strip_flood.proofs.Stepping.{High, Adj}

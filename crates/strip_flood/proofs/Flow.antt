@@ -5,7 +5,7 @@ use Rattle.std.proofs.lemmas.Grind.{get_or_default_zero}
 use Rattle.comp_tree.specs.declared.shape.Connect.{Connect}
 use Rattle.comp_tree.specs.declared.shape.Connect.TheVariants.{Four, Eight}
 use Rattle.comp_tree.specs.Joined.{Joined, here, Or}
-use Rattle.comp_tree.specs.Flooding.{Both, With, IsSound, IsComplete}
+use Rattle.strip_flood.specs.Joining.{Both, With, IsSound, IsComplete}
 use Rattle.comp_tree.specs.Grid.{IsInner}
 use Rattle.strip_flood.specs.Flood.{Ground, ends, direction, IsOf, cursor_of, IsInQueue, IsLooked}
 use Rattle.comp_tree.proofs.Exported.{joined_sym, joined_within, joined_first, joined_second}

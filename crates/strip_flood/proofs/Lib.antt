@@ -1,3 +1,4 @@
+pub mod Joining
 pub mod Flow
 pub mod Listing
 pub mod Directions

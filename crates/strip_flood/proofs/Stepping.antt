@@ -2,11 +2,12 @@
 use Rattle.std.proofs.Common.{◌≡◌, ℕ, ◌+◌, ◌-◌, ◌<◌, ◌≤◌, List, [], ◌∷◌, ◌++◌, length, set, slice_index, Contains, ℤ, ◌⊎◌, inl, inr, refl, sym, subst, ap, ◌∙◌, ⊎_elim, arith, length-set, get_or-set_same, get_or-set_other}
 use Rattle.std.proofs.lemmas.Bool.{cases_eq, cases_lt}
 use Rattle.comp_tree.specs.Joined.{Joined, Or, Only}
-use Rattle.comp_tree.specs.Flooding.{Both, With, Without, IsSound, IsComplete}
+use Rattle.strip_flood.specs.Joining.{Both, With, Without, IsSound, IsComplete}
 use Rattle.comp_tree.specs.Forest.{no_node, IsEarlier, IsWithin, IsHigh, link_of, IsLink, IsForest}
 use Rattle.comp_tree.specs.Grid.{IsInner}
 use Rattle.strip_flood.specs.Flood.{Ground, State, state, list_at, ends, direction, IsOf, rank_of, cursor_of, IsInQueue, IsEarliestKept, IsOpen, IsLooked, IsRanked, IsListed, IsKeptAt, IsFair}
-use Rattle.comp_tree.proofs.Exported.{joined_sym, joined_second, close_sound, close_complete, end_complete, links_before, links_after, link_hung, link_set_other, forest_hung}
+use Rattle.strip_flood.proofs.Joining.{close_sound, close_complete, end_complete}
+use Rattle.comp_tree.proofs.Exported.{joined_sym, joined_second, links_before, links_after, link_hung, link_set_other, forest_hung}
 use Rattle.strip_flood.proofs.Flow.{sound_fewer, complete_more, add_sound, ends_small, cursor_new, cursor_old, cursor_each, queued_new, queued_old, queued_cases, queued_done, looked_cases}
 use Rattle.strip_flood.proofs.Listing.{push_listed, look_listed, pop_listed}
 use Rattle.strip_flood.proofs.Directions.{inner_sym, inner_direction}

@@ -6,7 +6,7 @@ use Rattle.comp_tree.specs.declared.shape.Connect.TheVariants.{Four, Eight}
 use Rattle.comp_tree.specs.Forest.{no_node, value_at, IsDefined, IsAtLeast, IsEarlier, IsWithin, IsHigh, link_of, IsLink, IsForest}
 use Rattle.comp_tree.specs.Counts.{count_below, sum_below}
 use Rattle.comp_tree.specs.Grid.{are_neighbours, are_adjacent, IsInner}
-use Rattle.comp_tree.specs.Flooding.{IsSound, IsComplete}
+use Rattle.strip_flood.specs.Joining.{IsSound, IsComplete}
 pub use Rattle.strip_flood.specs.Queue.{list_at}
 use Rattle.strip_flood.specs.Queue.{IsFront}
 

@@ -1,4 +1,5 @@
--- Bookkeeping: facts on tables have at most one proof, so they come out of a truncated invariant, and stand in a ghost field.
+-- Model: laws on tables: two lists of them are equal in one way at most, and facts on them have one proof at most. So the facts come out of a
+-- truncated invariant, and may stand in a ghost field.
 use Rattle.std.proofs.Common.{◌≡◌, ℕ, ◌*◌, ◌+◌, ◌%◌, ◌<◌, ℤ, pos, List, [], ◌∷◌, length, slice_get, Some, Ordering, Less}
 use Rattle.std.specs.List.{AllByRecursion}
 use Rattle.std.specs.Coded.{coded_ℕ, coded_ℤ, coded_list, coded×}

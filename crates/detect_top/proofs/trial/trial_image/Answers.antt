@@ -2,7 +2,7 @@ use Rattle.std.proofs.Common.{◌<◌, ◌*◌, ◌∙◌, ap, sym, refl, length
 use Rattle.std.specs.Prelude.{None}
 use Rattle.std.proofs.lemmas.List.{length-replicate}
 use Rattle.comp_tree.specs.Raster.{value_at}
-use Rattle.mesh_background.proofs.Exported.{written-none, written-next, copy-all}
+use Rattle.comp_tree.proofs.Exported.{written_none, written_next, written_itself}
 use Rattle.detect_top.specs.Trials.{trial_image}
 use Rattle.detect_top.proofs.Trials.{trial_length, trial_shape}
 use Rattle.detect_top.proofs.Summaries.{value-read, value-in_range, state_more, value_more}
@@ -12,7 +12,7 @@ pub loop-p-init : goal.loop-p-init
 loop-p-init c =
     let image = trial_image c.args.seed c.args.shape in
     record {
-      written = written-none image c.in_ok-plane.plane (value_at image.values) (c.in_ok-plane.ensures.shape ∙ sym (trial_shape c.args.seed c.args.shape))
+      written = written_none image c.in_ok-plane.plane (value_at image.values) (c.in_ok-plane.ensures.shape ∙ sym (trial_shape c.args.seed c.args.shape))
           (ap length c.in_ok-plane.ensures.undefined ∙ length-replicate (c.args.shape.width * c.args.shape.height) None ∙ sym (trial_length c.args.seed c.args.shape));
       state_is = refl;
     }
@@ -28,7 +28,7 @@ loop-p-preserved c =
     let image = trial_image c.args.seed c.args.shape in
     let inside : c.loop-p.p < c.args.shape.width * c.args.shape.height = omega (arith, c.loop-p-test.true, c.pixels-p-end.ensures.product) in
     record {
-      written = written-next image c.loop-p.plane c.set.new.self (value_at image.values) c.loop-p.p _ _ c.loop-p.invariant.written (omega (arith, inside, trial_length c.args.seed c.args.shape))
+      written = written_next image c.loop-p.plane c.set.new.self (value_at image.values) c.loop-p.p _ _ c.loop-p.invariant.written (omega (arith, inside, trial_length c.args.seed c.args.shape))
           (value_more c.args.seed c.loop-p.p c.loop-p.state c.step-next.result c.args.shape _ c.loop-p.invariant.state_is c.step-next.ensures inside
           (value-read c.step-next.result c.from.result c.step-next.type_inv c.from.ensures)) c.set.ensures refl;
       state_is = state_more c.args.seed c.loop-p.p c.loop-p.state c.step-next.result c.loop-p.invariant.state_is c.step-next.ensures;
@@ -36,5 +36,5 @@ loop-p-preserved c =
 
 pub returns : goal.returns
 returns c =
-    copy-all (trial_image c.args.seed c.args.shape) c.loop-p.plane c.loop-p.p c.loop-p.invariant.written
+    written_itself (trial_image c.args.seed c.args.shape) c.loop-p.plane c.loop-p.p c.loop-p.invariant.written
     (omega (arith, trial_length c.args.seed c.args.shape, c.loop-p-test.false, c.pixels-p-end.ensures.product))

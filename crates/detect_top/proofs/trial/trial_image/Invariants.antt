@@ -1,6 +1,6 @@
 use Rattle.std.proofs.Common.{◌≡◌}
 use Rattle.comp_tree.specs.Raster.{value_at}
-use Rattle.mesh_background.specs.Lessened.{IsWritten}
+use Rattle.comp_tree.specs.Writing.{IsWritten}
 use Rattle.detect_top.specs.Trials.{trial_image}
 use Rattle.detect_top.proofs.Trials.{state_at}
 use Rattle.detect_top.proofs.trial.trial_image.Given as goal

@@ -1,7 +1,7 @@
 use Rattle.std.proofs.Common.{ℤ, sym, ◌∙◌, ◌+◌, subst, to_z, of_z, w64, arith}
 use Rattle.std.proofs.lemmas.Int.{to_z-of_z}
 use Rattle.measure_top.specs.Picks.{IsCutUpTo}
-use Rattle.measure_top.proofs.Copying.{cut_skip, cut_more, cut_all}
+use Rattle.measure_top.proofs.CutPlanes.{cut_skip, cut_more, cut_all}
 use Rattle.measure_top.proofs.cutting.cut_below.Goals.{then-not-is_at_least, else-not-is_at_least}
 use Rattle.measure_top.proofs.cutting.cut_below.Goals as goal
 

@@ -3,7 +3,7 @@ use mir.Syntax.{w64, w128}
 use Rattle.std.proofs.lemmas.Int.{to_z-of_z}
 use Rattle.node_sums.proofs.Reading.{fits, moment-read, same_sums}
 use Rattle.node_sums.proofs.Sizes.{moment_up_to}
-use Rattle.node_sums.specs.Merging.{IsUpTo, value_bound, moment_bound}
+use Rattle.node_sums.specs.Sizes.{IsUpTo, value_bound, moment_bound}
 use Rattle.node_sums.proofs.entry.Sums.of_pixel.Goals as goal
 
 pub returns : goal.returns

@@ -1,50 +1,17 @@
--- Planes copied or cut pixel by pixel.
-use Rattle.std.proofs.Common.{◌≡◌, ℕ, ◌+◌, ◌*◌, ◌<◌, ◌≤◌, Bool, true, false, cond, length, map, replicate, refl, sym, ◌∙◌, ap, arith, ◌⊎◌, inl, inr}
+-- Planes that are cut pixel by pixel.
+use Rattle.std.proofs.Common.{◌≡◌, ℕ, ◌+◌, ◌*◌, ◌<◌, ◌≤◌, Bool, true, false, cond, length, map, refl, sym, ◌∙◌, ap, arith, ◌⊎◌, inl, inr}
 use Rattle.std.specs.Prelude.{ℤ, Option, None, slice_set}
 use Rattle.std.specs.List.{range_with_len}
 use Rattle.std.proofs.lemmas.Bool.{cases_lt}
-use Rattle.std.proofs.lemmas.List.{length-map, length-set, length-replicate, get_or-set_same, get_or-set_other, ext_get_or}
+use Rattle.std.proofs.lemmas.List.{length-map, length-set, get_or-set_same, get_or-set_other, ext_get_or}
 use Rattle.std.proofs.lemmas.List.FromFn.{get_or-map-range_with_len, length-range_with_len}
-use Rattle.comp_tree.specs.declared.shape.Shape.{Shape}
-use Rattle.comp_tree.specs.Raster.{Raster, IsPlane, pixels, value_at, at_least, is_at_least}
+use Rattle.comp_tree.specs.Raster.{Raster, pixels, value_at, at_least, is_at_least}
 use Rattle.measure_top.specs.Cuts.{cut}
-use Rattle.measure_top.specs.Picks.{IsCopiedUpTo, IsCutUpTo}
+use Rattle.measure_top.specs.Picks.{IsCutUpTo}
 
 -- planes of one shape with the same values are one
 raster_is : (r s : Raster) → r.shape ≡ s.shape → r.values ≡ s.values → r ≡ s
 raster_is r s same values = λ i. record { shape = same i; values = values i }
-
--- ---- a copy
-
-pub copied_none : (r plane : Raster) (shape : Shape) → IsPlane r → shape ≡ r.shape → plane.shape ≡ shape → plane.values ≡ replicate (shape.width * shape.height) None → IsCopiedUpTo r 0 plane
-copied_none r plane shape whole is same blank = record {
-  same_shape = same ∙ is;
-  one_each = ap length blank ∙ length-replicate (shape.width * shape.height) None ∙ ap (λ (s : Shape). s.width * s.height) is ∙ sym whole;
-  done = λ p l. absurd (omega arith);
-}
-
-pub copied_more : (r plane : Raster) (p : ℕ) (v : Option ℤ) → IsCopiedUpTo r p plane → p < length r.values → v ≡ value_at r.values p
-    → IsCopiedUpTo r (p + 1) (record plane { values = slice_set plane.values p v })
-copied_more r plane p v h inside is = record {
-  same_shape = h.same_shape;
-  one_each = length-set plane.values p v ∙ h.one_each;
-  done = λ q l. done q (cases_lt q p) l;
-}
-  where
-    here : p < length plane.values
-    here = omega (arith, h.one_each, inside)
-
-    done : (q : ℕ) → (q < p) ⊎ (p ≤ q) → q < p + 1 → value_at (slice_set plane.values p v) q ≡ value_at r.values q
-    done q (inl l) u = get_or-set_other plane.values p q v None (λ e. absurd (omega arith)) ∙ h.done q l
-    done q (inr l) u =
-        let e : q ≡ p = omega arith in
-        ap (λ (x : ℕ). value_at (slice_set plane.values p v) x) e ∙ get_or-set_same plane.values p v None here ∙ is ∙ sym (ap (λ (x : ℕ). value_at r.values x) e)
-
-pub copied_all : (r plane : Raster) (count : ℕ) → IsCopiedUpTo r count plane → length r.values ≤ count → plane ≡ r
-copied_all r plane count h all =
-    raster_is plane r h.same_shape (ext_get_or None plane.values r.values h.one_each (λ q l. h.done q (omega (arith, h.one_each, all, l))))
-
--- ---- a cut plane
 
 pub cut_none : (r : Raster) (h : ℤ) → IsCutUpTo r h 0 r
 cut_none r h = record { same_shape = refl; one_each = refl; done = λ p l. absurd (omega arith); rest = λ p l. refl }

@@ -1,0 +1,30 @@
+-- Model: how large the sums over some pixels of a plane are, by the number of these pixels.
+use Rattle.std.specs.Prelude.{ℕ, ◌*◌, ◌^◌, ◌≤◌, ℤ, pos, neg_ℤ, ◌≤ℤ◌}
+use Rattle.node_sums.specs.declared.entry.Sums.{Sums}
+
+-- a whole number lies between -m and m
+pub record IsUpTo (m : ℕ) (z : ℤ) : Type 0 where
+  pub low : neg_ℤ (pos m) ≤ℤ z
+  pub high : z ≤ℤ pos m
+
+-- how far from zero the values of planes lie at most, a value times a coordinate, and the sum of the values of a plane
+abbrev pub value_bound : ℕ
+value_bound = 2 ^ 37
+
+abbrev pub moment_bound : ℕ
+moment_bound = 2 ^ 53
+
+abbrev pub total_bound : ℕ
+total_bound = 2 ^ 61
+
+-- how large the sums over some pixels of a plane are, by their number
+pub record HasSizes (s : Sums) : Type 0 where
+  pub area : s.area ≤ 2 ^ 24
+  pub r : IsUpTo (value_bound * s.area) s.r
+  pub x : s.x ≤ 2 ^ 16 * s.area
+  pub y : s.y ≤ 2 ^ 16 * s.area
+  pub xx : s.xx ≤ 2 ^ 32 * s.area
+  pub xy : s.xy ≤ 2 ^ 32 * s.area
+  pub yy : s.yy ≤ 2 ^ 32 * s.area
+  pub rx : IsUpTo (moment_bound * s.area) s.rx
+  pub ry : IsUpTo (moment_bound * s.area) s.ry
