@@ -49,11 +49,15 @@ impl Plane {
     }
 
     /// A second plane with the same pixels. The one error is that memory was refused.
-    pub fn copied(&self) -> Result<Plane, OutOfMemory>
+    pub fn copied(&self, alloc: Global) -> Result<Plane, OutOfMemory>
         ensures { IfOk result (λ copy. copy ≡ self.now) }
     {
-        let numbers = self.numbers.clone()?;
-        Ok(Plane { shape: self.shape, numbers })
+        let mut numbers = Vec::with_capacity(alloc, self.numbers.len())?;
+        numbers.extend_from_slice(&self.numbers)?;
+        Ok(Plane {
+            shape: self.shape,
+            numbers,
+        })
     }
 
     /// The width and the height. They never change.

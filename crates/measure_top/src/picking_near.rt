@@ -113,7 +113,7 @@ pub(crate) fn pick_near<R: Threads + Sync, G: Gate>(
     ensures exact { IfOk result (λ picked. AreSourcesOf plane.now order.connect choice.now picked.map.items picked.nodes.items) }
     ensures listed { IfOk result (λ picked. CanBeListed plane.now.shape picked.map.items picked.nodes.items) }
 {
-    let mut near = plane.copied()?;
+    let mut near = plane.copied(alloc)?;
     clear_far(
         rt,
         alloc,

@@ -38,7 +38,7 @@ pub fn residual<R: Threads + Sync>(
     requires in_range { HasValuesInHalfRange plane.now.values }
     ensures { IfOk result (λ residual. residual ≡ residual_of plane.now mesh flat) }
 {
-    let mut copy = plane.copied()?;
+    let mut copy = plane.copied(alloc)?;
     match subtract_background(rt, alloc, &mut copy, mesh, flat) {
         Ok(()) => Ok(copy),
         Err(error) => Err(error),
