@@ -6,7 +6,7 @@ use Rattle.std.proofs.lemmas.Grind.{get_or_default_zero}
 use Rattle.comp_tree.specs.Joined.{Joined, Or, Only}
 use Rattle.comp_tree.specs.Counts.{rank, count_defined}
 use Rattle.comp_tree.specs.Forest.{no_node, value_at, IsWithin, IsHigh, IsEarlier, link_of, IsLink, IsForest, JoinSame, IsPixel}
-use Rattle.tree_join.specs.Skips.{IsSkip, AreSkips, IsLeft, IsNoted}
+use Rattle.tree_join.specs.Skips.{IsSkip, AreSkips, IsPutDown, IsLeft, IsNoted}
 use Rattle.tree_join.proofs.Turns.{IsWalking}
 use Rattle.comp_tree.proofs.Exported.{joined_trans, joined_sym, joined_left, joined_pair, joined_pairs, joined_within, joined_first, joined_second, at_only, at_least_not_before, before_defined, before_irrefl, before_trans, before_other, same_itself, same_trans, same_sym, same_or, same_turned, high_up, rank_less, rank_below}
 
@@ -67,13 +67,13 @@ module _ (values : List (Option ℤ)) (first count : ℕ) where
         (cases_eq i place);
   }
 
-  -- the skip of a pixel that the table holds
-  pub skip_found : (E : ℕ → ℕ → Type 0) (from to : List ℕ) (place x : ℕ) → AreSkips values first count E from to → place < length from → first + count ≤ no_node → IsPixel values first count x
-      → get_or from place 0 ≡ x → IsSkip values first count E x (get_or to place 0)
-  skip_found E from to place x t l small p e = subst (λ u. IsSkip values first count E u (get_or to place 0)) e (⊎_elim
-      (λ (n : get_or from place 0 ≡ no_node). absurd (let h : x < first + count = p.within.high in let a : x ≡ no_node = sym e ∙ n in omega arith))
-      (λ (k : IsSkip values first count E (get_or from place 0) (get_or to place 0)). k)
-      (t.skips place l))
+  -- a skip that was put down for a pixel
+  pub skip_told : (E : ℕ → ℕ → Type 0) (from to : List ℕ) (x y : ℕ) → AreSkips values first count E from to → first + count ≤ no_node → IsPixel values first count x
+      → IsPutDown from to x y → IsSkip values first count E x y
+  skip_told E from to x y t small p d = subst (IsSkip values first count E x) d.to_is (subst (λ u. IsSkip values first count E u (get_or to d.place 0)) d.from_is (⊎_elim
+      (λ (n : get_or from d.place 0 ≡ no_node). absurd (let h : x < first + count = p.within.high in let a : x ≡ no_node = sym d.from_is ∙ n in omega arith))
+      (λ (k : IsSkip values first count E (get_or from d.place 0) (get_or to d.place 0)). k)
+      (t.skips d.place d.inside)))
 
   -- ---- a pair, where its first pixel is replaced by one that the other is not later than
 

@@ -14,6 +14,13 @@ pub record AreSkips (values : List (Option ℤ)) (first count : ℕ) (E : ℕ �
   pub some : 0 < length from
   pub skips : (i : ℕ) → i < length from → (slice_index from i ≡ no_node) ⊎ IsSkip values first count E (slice_index from i) (slice_index to i)
 
+-- a table has put down the skip from x to y
+pub record IsPutDown (from to : List ℕ) (x y : ℕ) : Type 0 where
+  pub place : ℕ
+  pub inside : place < length from
+  pub from_is : slice_index from place ≡ x
+  pub to_is : slice_index to place ≡ y
+
 -- What passing a pixel does with the table and the last mark: nothing, or the skip from the mark is put down and at is the mark.
 pub record IsLeft (old_from old_to from to : List ℕ) (mark result : ℕ) : Type 0 where
   pub from_same : from ≡ old_from

@@ -23,7 +23,7 @@ ghost use Rattle.comp_tree.specs.Joined.{Or, Only, Has};
 ghost use Rattle.comp_tree.specs.Counts.{count_defined, rank};
 ghost use Rattle.comp_tree.specs.Forest.{no_node, StandsFor, IsEarlier, IsForest, IsPixel, IsLink, JoinSame, IsWithin};
 ghost use Rattle.tree_join.specs.Moves.{IsEnded, IsMoved, IsSpan, span_size};
-ghost use Rattle.tree_join.specs.Skips.{IsSkip, AreSkips, IsLeft, IsNoted};
+ghost use Rattle.tree_join.specs.Skips.{IsSkip, AreSkips, IsPutDown, IsLeft, IsNoted};
 ghost use Rattle.tree_join.specs.Ways.{IsPast, ArePaid};
 ghost use Rattle.tree_join.specs.Boundary.{IsBoundary, boundary_size, first_column, end_column};
 
@@ -37,6 +37,16 @@ use std::sync::ledger::Ledger;
 
 // How many skips are kept at a boundary.
 const PLACES: usize = 4096;
+
+// The link at a place. Each link that is read is read here, so none is read without a look.
+fn look_up<M: Ledger>(parents: &[u32], place: usize, looks: &mut Steps<M>) -> u32
+    requires { place < length parents.now }
+    ensures link { result ≡ slice_index parents.now place }
+    ensures look { looks.new ≡ looks.old + 1 }
+{
+    looks.tick();
+    parents[place]
+}
 
 // Where the link of `p` leads to a pixel that is linked within its own value, `p` is linked past it: straight to that
 // pixel's link, which is then told. The two pixels lie in the same threshold sets, so nothing comes apart.
@@ -64,13 +74,11 @@ fn link_past<M: Ledger>(
     ensures looks { looks.new ≤ looks.old + 2 }
 {
     let place = (p - first) as usize;
-    looks.tick();
-    let link = parents[place];
+    let link = look_up(parents, place, looks);
     if link == NONE {
         return None;
     }
-    looks.tick();
-    let next = parents[(link - first) as usize];
+    let next = look_up(parents, (link - first) as usize, looks);
     if next == NONE || !plane.is_at_least(plane.level(link), next) {
         return None;
     }
@@ -131,8 +139,7 @@ fn move_later<M: Ledger>(
         (λ rest. ArePaid first parents.new rest.0 rest.1 looks.new budget) }
 {
     let place = (a - first) as usize;
-    looks.tick();
-    let link = parents[place];
+    let link = look_up(parents, place, looks);
     if link == NONE {
         parents[place] = b;
         None
@@ -233,12 +240,26 @@ fn link_up<M: Ledger>(
     ensures looks { looks.new ≤ looks.old + 3 }
 {
     link_past(parents, plane, first, at, looks);
-    looks.tick();
-    let link = parents[(at - first) as usize];
+    let link = look_up(parents, (at - first) as usize, looks);
     if link == NONE || plane.is_earlier(link, b) {
         return None;
     }
     Some(link)
+}
+
+// The pixel that the table of skips has put down for `at`, if it has one. As with links, each place that is read is read here.
+fn skip_of<M: Ledger>(from: &[u32], to: &[u32], at: u32, looks: &mut Steps<M>) -> Option<u32>
+    requires some { 0 < length from.now }
+    requires same { length to.now ≡ length from.now }
+    ensures told { IfSome result (λ there. IsPutDown from.now to.now at there) }
+    ensures look { looks.new ≡ looks.old + 1 }
+{
+    looks.tick();
+    let place = place_of(at, from.len());
+    if from[place] != at {
+        return None;
+    }
+    Some(to[place])
 }
 
 // The next pixel on the way of `at` that is not earlier than `b`: the one that the table tells, else its link.
@@ -268,12 +289,9 @@ fn next_up<M: Ledger>(
     ensures more { looks.old + 1 ≤ looks.new }
     ensures looks { looks.new ≤ looks.old + 4 }
 {
-    looks.tick();
-    let place = place_of(at, from.len());
-    if from[place] != at {
+    let Some(there) = skip_of(from, to, at, looks) else {
         return link_up(parents, plane, first, at, b, looks);
-    }
-    let there = to[place];
+    };
     if !plane.is_earlier(there, at) || plane.is_earlier(there, b) {
         return link_up(parents, plane, first, at, b, looks);
     }
