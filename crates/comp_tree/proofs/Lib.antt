@@ -25,4 +25,6 @@ mod Representatives
 mod Canonical
 mod Shapes
 mod Writing
+mod Tests
+mod Alike
 pub mod Exported

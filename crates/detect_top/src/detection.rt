@@ -28,7 +28,8 @@ pub(crate) struct Detection {
     pub(crate) cells: Vec<i64>,
 }
 
-fn column(name: &[u8; 8], cell: Cell) -> Column
+/// A column of a catalogue, by its name, which is filled with spaces, and the kind of its cells.
+pub fn column(name: &[u8; 8], cell: Cell) -> Column
     ensures { result ≡ column_of name.now cell }
 {
     Column { name: *name, cell }

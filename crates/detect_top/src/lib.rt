@@ -15,7 +15,7 @@ mod trial;
 mod words;
 
 pub use component::{component_tree, residual_plane};
-pub use detection::columns;
+pub use detection::{column, columns};
 pub use fault::Fault;
 pub use fits_write::WriteFault;
 pub use image::{Stop, read_found};

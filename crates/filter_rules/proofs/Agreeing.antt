@@ -7,12 +7,12 @@ use Rattle.comp_tree.specs.declared.shape.Connect.{Connect}
 use Rattle.comp_tree.specs.Raster.{Raster, IsPlane, pixels}
 use Rattle.comp_tree.specs.Components.{nodes, is_in_node, tree_of}
 use Rattle.comp_tree.specs.Laws.{LiesWithin}
-use Rattle.comp_tree.proofs.Exported.{int_le-true, int_le-from, within_from_test}
+use Rattle.comp_tree.proofs.Exported.{int_le-true, int_le-from, within_from_test, same_bool}
 use Rattle.node_sums.specs.declared.entry.Sums.{Sums}
 use Rattle.node_sums.specs.Sums.{sums_of, sums_over}
 use Rattle.comp_tree.specs.Nesting.{pixels_of, is_root}
 use Rattle.node_sums.specs.Flux.{flux_of}
-use Rattle.node_sums.proofs.Exported.{flux_grows, same_bool}
+use Rattle.node_sums.proofs.Exported.{flux_grows}
 use Rattle.filter_rules.specs.declared.rule.Rule.TheVariants.{Min, Max, Direct}
 use Rattle.filter_rules.specs.declared.rule.Criterion.{Criterion}
 use Rattle.filter_rules.specs.Criteria.{box_of, is_filled, admits, satisfies}

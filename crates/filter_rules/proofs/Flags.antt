@@ -9,8 +9,8 @@ use Rattle.comp_tree.specs.Raster.{Raster, IsPlane}
 use Rattle.comp_tree.specs.ComponentTree.{ComponentTree, parent_in, no_node}
 use Rattle.comp_tree.specs.Components.{nodes, tree_of}
 use Rattle.comp_tree.specs.Laws.{IsAncestor, parent, above}
-use Rattle.comp_tree.proofs.Exported.{length-rows}
-use Rattle.node_sums.proofs.Exported.{ancestor_up, same_bool, row-parent}
+use Rattle.comp_tree.proofs.Exported.{length-rows, same_bool}
+use Rattle.node_sums.proofs.Exported.{ancestor_up, row-parent}
 use Rattle.filter_rules.specs.declared.rule.Rule.{Rule}
 use Rattle.filter_rules.specs.declared.rule.Rule.TheVariants.{Min, Max, Direct, Subtractive}
 use Rattle.filter_rules.specs.declared.rule.Criterion.{Criterion}

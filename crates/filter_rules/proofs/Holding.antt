@@ -8,10 +8,10 @@ use Rattle.comp_tree.specs.Raster.{Raster, IsPlane, is_defined}
 use Rattle.comp_tree.specs.ComponentTree.{parent_in, no_node}
 use Rattle.comp_tree.specs.Components.{nodes, node_of, is_in_node, tree_of}
 use Rattle.comp_tree.specs.Laws.{IsAncestor, parent, above, top_of}
-use Rattle.comp_tree.proofs.Exported.{IsAmong, among-filter, among_from_filter, among-range, find_some, find_none, top-defined, length-rows, below_no_node, all_gives, all_from}
+use Rattle.comp_tree.proofs.Exported.{IsAmong, among-filter, among_from_filter, among-range, find_some, find_none, top-defined, length-rows, below_no_node, all_gives, all_from, same_bool}
 use Rattle.comp_tree.proofs.Exported as Nodes
 use Rattle.node_sums.specs.Sums.{total}
-use Rattle.node_sums.proofs.Exported.{goes_down, ancestor_smaller, parent_smaller, same_bool}
+use Rattle.node_sums.proofs.Exported.{goes_down, ancestor_smaller, parent_smaller}
 use Rattle.filter_rules.specs.declared.rule.Rule.{Rule}
 use Rattle.filter_rules.specs.declared.rule.Criterion.{Criterion}
 use Rattle.filter_rules.specs.Filtered.{is_kept, holders, smallest, value_from, filtered_value}

@@ -8,12 +8,12 @@ use Rattle.comp_tree.specs.ComponentTree.{no_node}
 use Rattle.comp_tree.specs.Components.{reaches, nodes, node_of, is_candidate, is_in_node, tree_of}
 use Rattle.comp_tree.specs.Nesting.{is_root, level_of_node}
 use Rattle.comp_tree.specs.Laws.{top_of, parent_of_node}
-use Rattle.comp_tree.proofs.Exported.{int_le-from, int_le_trans, int_le_from_lt, cases_int, top-representative, top-defined, length-rows, IsParent, parent-candidate, parent-of_node, below_no_node}
+use Rattle.comp_tree.proofs.Exported.{int_le-from, int_le_trans, int_le_from_lt, cases_int, top-representative, top-defined, length-rows, IsParent, parent-candidate, parent-of_node, below_no_node, AlikeAbove, IsCounterpart, above_level, above_pixels, above_reached, above_sym, counterpart, counterpart_pixels, counterpart_sym, counterpart_test, reached_high}
 use Rattle.comp_tree.proofs.Exported as Nodes
 use Rattle.node_sums.proofs.Exported.{goes_down, level-of_node}
 use Rattle.dual_measure.specs.Measures.{measure_over, measure_of, mean_of, around_node, back_of}
 use Rattle.measure_top.specs.Cuts.{cut, node_in_cut}
-use Rattle.measure_top.proofs.CutAlike.{AlikeAbove, alike_sym, cut_alike, high_in_cut, level_same, high_from_reached, reached_there, IsCounterpart, counterpart, counterpart_sym, test_same, all_pixels_same, pixels_same}
+use Rattle.measure_top.proofs.CutAlike.{cut_alike, high_in_cut}
 pub use Rattle.measure_top.proofs.CutAlike.{cut_is_a_plane}
 
 -- ---- parents
@@ -30,17 +30,17 @@ parent_cases r connect n plane hn = go ((goes_down r connect plane).parents n (o
 candidate_there : (r s : Raster) (connect : Connect) (h : ℤ) (p q : ℕ) → AlikeAbove r s h → IsTrue (is_at_least r h q) → Nodes.IsCandidate r connect p q → Nodes.IsCandidate s connect p q
 candidate_there r s connect h p q a k c = record {
   lower = subst (λ (z : ℤ). int_lt z (level s p) ≡ true) same_q (subst (λ (z : ℤ). int_lt (level r q) z ≡ true) same_p c.lower);
-  reaches_it = subst (λ (z : ℤ). IsTrue (reaches s connect z q p)) same_q (reached_there r s connect h (level r q) q p a low c.reaches_it);
+  reaches_it = subst (λ (z : ℤ). IsTrue (reaches s connect z q p)) same_q (above_reached r s connect h (level r q) q p a low c.reaches_it);
 }
   where
     low : int_le h (level r q) ≡ true
     low = Nodes.level_from_at_least r h q k
 
     same_q : level r q ≡ level s q
-    same_q = level_same r s h q a k
+    same_q = above_level r s h q a k
 
     same_p : level r p ≡ level s p
-    same_p = level_same r s h p a (high_from_reached r connect h (level r q) q p low c.reaches_it)
+    same_p = above_level r s h p a (reached_high r connect h (level r q) q p low c.reaches_it)
 
 -- a parent of at least h has the counterpart's parent for its counterpart
 parent_there : (r s : Raster) (connect : Connect) (h : ℤ) (n m k j : ℕ) → IsPlane r → AlikeAbove r s h → IsCounterpart r s connect h n m → IsCounterpart r s connect h k j
@@ -55,7 +55,7 @@ parent_there r s connect h n m k j plane a c d e =
     p = parent-candidate r connect k n plane c.one d.one (sym (parent-of_node r connect n c.one) ∙ e)
 
     level_k : level r (top_of r connect k) ≡ level s (top_of s connect j)
-    level_k = level_same r s h (top_of r connect k) a d.high ∙ ap (level s) d.top
+    level_k = above_level r s h (top_of r connect k) a d.high ∙ ap (level s) d.top
 
     there : Nodes.IsCandidate s connect (top_of s connect m) (top_of s connect j)
     there = subst (λ (x : ℕ). Nodes.IsCandidate s connect x (top_of s connect j)) c.top
@@ -74,8 +74,8 @@ parent_there r s connect h n m k j plane a c d e =
         go (inr l) =
             let high : IsTrue (is_at_least s h t) = Nodes.at_least-lower s h (level s t) t l (Nodes.reaches_start s connect (level s t) t (top_of r connect n) below.reaches_it) in
             subst (λ (z : ℤ). int_le (level s t) z ≡ true) level_k
-            (subst (λ (z : ℤ). int_le z (level r (top_of r connect k)) ≡ true) (sym (level_same s r h t (alike_sym r s h a) high))
-            (p.highest t (candidate_there s r connect h (top_of r connect n) t (alike_sym r s h a) high below)))
+            (subst (λ (z : ℤ). int_le z (level r (top_of r connect k)) ≡ true) (sym (above_level s r h t (above_sym r s h a) high))
+            (p.highest t (candidate_there s r connect h (top_of r connect n) t (above_sym r s h a) high below)))
 
 -- a root is a root in the cut plane: each parent there has at least h
 root_in_cut : (r : Raster) (connect : Connect) (h : ℤ) (n m : ℕ) → IsPlane r → IsPlane (cut r h) → IsCounterpart r (cut r h) connect h n m → parent_of_node r connect n ≡ no_node
@@ -90,7 +90,7 @@ root_in_cut r connect h n m plane plane_cut c e = go (parent_cases (cut r h) con
         up = parent_of_node (cut r h) connect m
 
         back : AlikeAbove (cut r h) r h
-        back = alike_sym r (cut r h) h (cut_alike r h)
+        back = above_sym r (cut r h) h (cut_alike r h)
 
         d : IsCounterpart (cut r h) r connect h up (node_of r connect (top_of (cut r h) connect up))
         d = counterpart (cut r h) r connect h up back l (high_in_cut r h (top_of (cut r h) connect up) (top-defined (cut r h) connect up l))
@@ -122,9 +122,9 @@ around_same : (r s : Raster) (connect : Connect) (h : ℤ) (n m k j : ℕ) → A
 unfolding around_node
 around_same r s connect h n m k j a c d e f =
     ap (λ (x : ℕ). filter (held_around r connect x n) (pixels r)) e
-    ∙ ap (λ (g : ℕ → Bool). filter (λ p. g p && not (is_in_node r connect n p)) (pixels r)) (test_same r s connect h k j a d)
-    ∙ ap (λ (g : ℕ → Bool). filter (λ p. is_in_node s connect j p && not (g p)) (pixels r)) (test_same r s connect h n m a c)
-    ∙ ap (filter (held_around s connect j m)) (all_pixels_same r s h a)
+    ∙ ap (λ (g : ℕ → Bool). filter (λ p. g p && not (is_in_node r connect n p)) (pixels r)) (counterpart_test r s connect h k j a d)
+    ∙ ap (λ (g : ℕ → Bool). filter (λ p. is_in_node s connect j p && not (g p)) (pixels r)) (counterpart_test r s connect h n m a c)
+    ∙ ap (filter (held_around s connect j m)) (above_pixels r s h a)
     ∙ ap (λ (x : ℕ). filter (held_around s connect x m) (pixels s)) (sym f)
 
 -- ---- a node and the one that the same pixel represents in the cut plane
@@ -148,7 +148,7 @@ pub same_measure : (r values : Raster) (connect : Connect) (h : ℤ) (n : ℕ) �
     → measure_of values (cut r h) connect (node_in_cut r connect h (top_of r connect n)) ≡ measure_of values r connect n
 unfolding measure_of
 same_measure r values connect h n plane hn l =
-    ap (measure_over values) (sym (pixels_same r (cut r h) connect h n (node_in_cut r connect h (top_of r connect n)) (cut_alike r h) (in_cut r connect h n hn l)))
+    ap (measure_over values) (sym (counterpart_pixels r (cut r h) connect h n (node_in_cut r connect h (top_of r connect n)) (cut_alike r h) (in_cut r connect h n hn l)))
 
 -- and the same back, where its parent is left too
 pub same_back : (r values : Raster) (connect : Connect) (h : ℤ) (n : ℕ) → IsPlane r → n < length (nodes r connect) → h ≤ℤ level_of_node r connect n

@@ -11,7 +11,6 @@ ghost use Rattle.dual_measure.specs.declared.values.Measure.{Measure as Entry};
 ghost use Rattle.dual_measure.specs.Measures.{measure_of, measures_of, back_of, HasMeasureSizes, IsPlanesTree, AreTheTreesMeasures};
 ghost use Rattle.dual_measure.specs.Columns.{measured_cells_of};
 ghost use Rattle.detect_top.specs.Words.{HasLimits};
-ghost use Rattle.detect_top.specs.Catalogues.{column as column_of};
 ghost use Rattle.measure_top.specs.MeasuredCatalogues.{
   measured_columns,
   measured_hdus,
@@ -24,7 +23,7 @@ ghost use Rattle.measure_top.specs.Picks.{HaveFittingRows, StandIn, all_cells};
 use crate::cutting::cut_below;
 use crate::picking_near::{PickedNode, lowest_base, pick_near};
 use comp_tree::{Plane, Shape, Tree};
-use detect_top::{Order, columns, component_tree, residual_plane};
+use detect_top::{Order, column, columns, component_tree, residual_plane};
 use dev_io::{OutOfMemory, Sink};
 use dual_measure::{Measure, back, measured_cells, measures};
 use fits_write::{Cell, Column, WriteFault, put_empty_primary, put_map, put_table};
@@ -39,12 +38,6 @@ pub(crate) struct Measured {
     pub(crate) shape: Shape,
     pub(crate) map: Vec<u32>,
     pub(crate) cells: Vec<i64>,
-}
-
-fn column(name: &[u8; 8], cell: Cell) -> Column
-    ensures { result ≡ column_of name.now cell }
-{
-    Column { name: *name, cell }
 }
 
 // The columns of the measures stand behind those of the catalogue.

@@ -8,7 +8,7 @@ use Rattle.comp_tree.specs.Raster.{Raster, IsPlane, pixels, is_defined}
 use Rattle.comp_tree.specs.ComponentTree.{parent_in, no_node}
 use Rattle.comp_tree.specs.Components.{nodes, node_of, is_in_node, tree_of}
 use Rattle.comp_tree.specs.Laws.{IsAncestor, parent, above}
-use Rattle.comp_tree.proofs.Exported.{below_from_defined, pixels_belong_to_their_ancestors, length-rows, read-node_of, length-nodes-le, in_node-defined, tree_of-well_formed}
+use Rattle.comp_tree.proofs.Exported.{below_from_defined, pixels_belong_to_their_ancestors, length-rows, read-node_of, length-nodes-le, in_node-defined, tree_of-well_formed, same_bool}
 use Rattle.comp_tree.proofs.Exported as Nodes
 use Rattle.node_sums.specs.Counted.{none_between, is_counted}
 
@@ -146,14 +146,6 @@ none_between-gives r connect q m (suc k) h j l u = go (cases_lt j k) (λ x. none
     go : (j < k) ⊎ (k ≤ j) → (j < k → is_in_node r connect j q ≡ false) → is_in_node r connect j q ≡ false
     go (inl x) ih = ih x
     go (inr x) ih = last (omega arith)
-
-pub same_bool : (a b : Bool) → (a ≡ true → b ≡ true) → (b ≡ true → a ≡ true) → a ≡ b
-same_bool true b h k = sym (h refl)
-same_bool false b h k = go b refl
-  where
-    go : (c : Bool) → b ≡ c → false ≡ b
-    go true u = k u ∙ sym u
-    go false u = sym u
 
 numbers-are : (r : Raster) (connect : Connect) → (tree_of r connect).node_of ≡ map (node_of r connect) (pixels r)
 unfolding tree_of

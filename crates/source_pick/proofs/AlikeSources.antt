@@ -8,7 +8,7 @@ use Rattle.comp_tree.specs.Raster.{Raster, IsPlane, level}
 use Rattle.comp_tree.specs.ComponentTree.{no_node}
 use Rattle.comp_tree.specs.Components.{nodes, tree_of}
 use Rattle.comp_tree.specs.Laws.{top_of, parent_of_node, LiesWithin}
-use Rattle.comp_tree.proofs.Exported.{int_le-from, int_le-true, top-defined, below_no_node}
+use Rattle.comp_tree.proofs.Exported.{int_le-from, int_le-true, top-defined, below_no_node, IsCounterpart, counterpart_sym, counterpart_unique, counterpart_low, counterpart_in_node}
 use Rattle.comp_tree.proofs.Exported as Nodes
 use Rattle.node_sums.specs.declared.entry.Sums.{Sums}
 use Rattle.node_sums.specs.Sums.{sums_of}
@@ -23,7 +23,7 @@ use Rattle.source_pick.proofs.Entries.{entry_parts, IsEntryOf, entry_of-parts, e
 use Rattle.source_pick.proofs.Strong.{lowest_at_root, lowest_at_child}
 use Rattle.source_pick.proofs.Splits.{HasEntry, strong_entry, strong-in, AreTwins, IsSplitNode, split_parts, split_from, split_entry, HasSibling, sibling_parts, sibling_from, ContainsSplit, contains_parts, contains_from}
 use Rattle.source_pick.proofs.Sourcing.{SourceParts, source_parts, source_from}
-use Rattle.source_pick.proofs.Alike.{Alike, alike_sym, IsCounterpart, HasCounterpart, counterpart, counterpart_sym, counterpart_unique, top_level_low, in_node_same}
+use Rattle.source_pick.proofs.Alike.{Alike, alike_sym, HasCounterpart, has_counterpart}
 use Rattle.source_pick.proofs.Bordering.{ParentsAgree, roots, children, parents_agree, parent_there}
 use Rattle.source_pick.proofs.AlikeSums.{sums_same, node_level_same, flux_same}
 
@@ -33,14 +33,14 @@ use Rattle.source_pick.proofs.AlikeSums.{sums_same, node_level_same, flux_same}
 pub find_counterpart : (r s : Raster) (connect : Connect) (choice : Choice) (n : ℕ) → Alike r s connect choice.threshold → n < length (nodes r connect)
     → choice.threshold ≤ℤ level_of_node r connect n → HasCounterpart r s connect choice.threshold n
 find_counterpart r s connect choice n a hn up =
-    counterpart r s connect choice.threshold n a hn
+    has_counterpart r s connect choice.threshold n a hn
     (Nodes.at_least-from r choice.threshold (top_of r connect n) (top-defined r connect n hn)
     (subst (λ (z : ℤ). int_le choice.threshold z ≡ true) (level-of_node r connect n hn) (int_le-from choice.threshold (level_of_node r connect n) up)))
 
 counterpart_up : (r s : Raster) (connect : Connect) (choice : Choice) (n m : ℕ) → IsCounterpart r s connect choice.threshold n m → choice.threshold ≤ℤ level_of_node r connect n
 counterpart_up r s connect choice n m c =
     subst (λ (z : ℤ). choice.threshold ≤ℤ z) (sym (level-of_node r connect n c.one))
-    (int_le-true choice.threshold (level r (top_of r connect n)) (top_level_low r s connect choice.threshold n m c))
+    (int_le-true choice.threshold (level r (top_of r connect n)) (counterpart_low r s connect choice.threshold n m c))
 
 -- and so has each node on the way from it downwards
 up_from_way : (r : Raster) (connect : Connect) (choice : Choice) (m n : ℕ) → IsPlane r → m < length (nodes r connect) → n < length (nodes r connect)
@@ -65,7 +65,7 @@ way_there r s connect h n m e d plane_r plane_s a c k w = way_from_within s conn
     within = within_from_way r connect e n plane_r k.one c.one w
 
     moved : LiesWithin s connect m d
-    moved q i = sym (in_node_same r s connect h e d q a k) ∙ within q (in_node_same r s connect h n m q a c ∙ i)
+    moved q i = sym (counterpart_in_node r s connect h e d q a.above k) ∙ within q (counterpart_in_node r s connect h n m q a.above c ∙ i)
 
 -- ---- entries
 
@@ -150,8 +150,8 @@ twins_there : (r s : Raster) (connect : Connect) (choice : Choice) (x y p q u v 
     → IsCounterpart r s connect choice.threshold x y → IsCounterpart r s connect choice.threshold p u → IsCounterpart r s connect choice.threshold q v
     → AreTwins r connect choice x p q → AreTwins s connect choice y u v
 twins_there r s connect choice x y p q u v plane_r plane_s a cx cp cq k = record {
-  apart = λ e. k.apart (counterpart_unique s r connect choice.threshold u p q (counterpart_sym r s connect choice.threshold p u a cp)
-      (subst (λ (z : ℕ). IsCounterpart s r connect choice.threshold z q) (sym e) (counterpart_sym r s connect choice.threshold q v a cq)));
+  apart = λ e. k.apart (counterpart_unique s r connect choice.threshold u p q (counterpart_sym r s connect choice.threshold p u a.above cp)
+      (subst (λ (z : ℕ). IsCounterpart s r connect choice.threshold z q) (sym e) (counterpart_sym r s connect choice.threshold q v a.above cq)));
   one_child = parent_there r s connect choice.threshold p u x y plane_r a cp cx k.one_child;
   other_child = parent_there r s connect choice.threshold q v x y plane_r a cq cx k.other_child;
   one_strong = strong_there r s connect choice p u plane_r plane_s a cp k.one_strong;
@@ -245,4 +245,4 @@ source_there r s connect choice n m plane_r plane_s a c h = source_from s connec
 
     whole : contains_split s connect choice m ≡ false
     whole = false_from_ne_true (contains_split s connect choice m) (λ k.
-        true≢false (sym (contains_there s r connect choice m n plane_s plane_r (alike_sym r s connect choice.threshold a) (counterpart_sym r s connect choice.threshold n m a c) k) ∙ parts.whole))
+        true≢false (sym (contains_there s r connect choice m n plane_s plane_r (alike_sym r s connect choice.threshold a) (counterpart_sym r s connect choice.threshold n m a.above c) k) ∙ parts.whole))

@@ -6,14 +6,14 @@ use Rattle.comp_tree.specs.declared.shape.Connect.{Connect}
 use Rattle.comp_tree.specs.Raster.{Raster, IsPlane, pixels, level, is_at_least}
 use Rattle.comp_tree.specs.Components.{is_in_node, tree_of}
 use Rattle.comp_tree.specs.Laws.{top_of}
-use Rattle.comp_tree.proofs.Exported.{IsAmong, among_from_filter, below_no_node}
+use Rattle.comp_tree.proofs.Exported.{IsAmong, among_from_filter, below_no_node, above_level, reached_high, IsCounterpart, counterpart_sym, counterpart_low, counterpart_level, counterpart_pixels}
 use Rattle.node_sums.specs.declared.entry.Sums.{Sums}
 use Rattle.node_sums.specs.Sums.{x_of, y_of, total, least, greatest, highest, sums_over, sums_of}
 use Rattle.comp_tree.specs.Nesting.{pixels_of, level_in, level_of_node}
 use Rattle.node_sums.specs.Flux.{base_of, flux_of}
 use Rattle.node_sums.proofs.Exported.{level-of_node, base-root, base-child}
 use Rattle.source_pick.specs.Catalogue.{measured_row, catalogue_row}
-use Rattle.source_pick.proofs.Alike.{Alike, alike_sym, level_same, high_from_reached, IsCounterpart, counterpart_sym, top_level_low, top_level_same, pixels_same}
+use Rattle.source_pick.proofs.Alike.{Alike, alike_sym}
 use Rattle.source_pick.proofs.Bordering.{ParentsAgree, roots, children, parents_agree}
 
 -- ---- sums over some pixels
@@ -70,7 +70,7 @@ sums_over_same r s ps w e =
 -- a pixel of a node of at least h has at least h
 inside_high : (r s : Raster) (connect : Connect) (h : ℤ) (n m p : ℕ) → IsCounterpart r s connect h n m → IsTrue (is_in_node r connect n p) → IsTrue (is_at_least r h p)
 unfolding is_in_node
-inside_high r s connect h n m p c k = high_from_reached r connect h (level r (top_of r connect n)) (top_of r connect n) p (top_level_low r s connect h n m c) k
+inside_high r s connect h n m p c k = reached_high r connect h (level r (top_of r connect n)) (top_of r connect n) p (counterpart_low r s connect h n m c) k
 
 among_high : (r s : Raster) (connect : Connect) (h : ℤ) (n m p : ℕ) → IsCounterpart r s connect h n m → IsAmong p (pixels_of r connect n) → IsTrue (is_at_least r h p)
 unfolding pixels_of
@@ -78,16 +78,16 @@ among_high r s connect h n m p c k = inside_high r s connect h n m p c (among_fr
 
 inside_level : (r s : Raster) (connect : Connect) (h : ℤ) (n m p : ℕ) → Alike r s connect h → IsCounterpart r s connect h n m → IsAmong p (pixels_of s connect m) → level r p ≡ level s p
 inside_level r s connect h n m p a c k =
-    sym (level_same s r connect h p (alike_sym r s connect h a) (among_high s r connect h m n p (counterpart_sym r s connect h n m a c) k))
+    sym (above_level s r h p (alike_sym r s connect h a).above (among_high s r connect h m n p (counterpart_sym r s connect h n m a.above c) k))
 
 pub sums_same : (r s : Raster) (connect : Connect) (h : ℤ) (n m : ℕ) → Alike r s connect h → IsCounterpart r s connect h n m → sums_of r connect n ≡ sums_of s connect m
 unfolding sums_of
 sums_same r s connect h n m a c =
-    ap (sums_over r) (pixels_same r s connect h n m a c)
-    ∙ sums_over_same r s (pixels_of s connect m) a.width (λ p k. inside_level r s connect h n m p a c k)
+    ap (sums_over r) (counterpart_pixels r s connect h n m a.above c)
+    ∙ sums_over_same r s (pixels_of s connect m) a.above.width (λ p k. inside_level r s connect h n m p a c k)
 
 pub node_level_same : (r s : Raster) (connect : Connect) (h : ℤ) (n m : ℕ) → Alike r s connect h → IsCounterpart r s connect h n m → level_of_node r connect n ≡ level_of_node s connect m
-node_level_same r s connect h n m a c = level-of_node r connect n c.one ∙ top_level_same r s connect h n m a c ∙ sym (level-of_node s connect m c.other)
+node_level_same r s connect h n m a c = level-of_node r connect n c.one ∙ counterpart_level r s connect h n m a.above c ∙ sym (level-of_node s connect m c.other)
 
 pub base_same : (r s : Raster) (connect : Connect) (h : ℤ) (n m : ℕ) → IsPlane r → IsPlane s → Alike r s connect h → IsCounterpart r s connect h n m
     → base_of (tree_of r connect) n ≡ base_of (tree_of s connect) m
@@ -108,7 +108,7 @@ pub flux_same : (r s : Raster) (connect : Connect) (h : ℤ) (n m : ℕ) → IsP
     → flux_of r connect n ≡ flux_of s connect m
 unfolding flux_of
 flux_same r s connect h n m plane_r plane_s a c =
-    ap (total (λ p. level r p -ℤ base_of (tree_of r connect) n)) (pixels_same r s connect h n m a c)
+    ap (total (λ p. level r p -ℤ base_of (tree_of r connect) n)) (counterpart_pixels r s connect h n m a.above c)
     ∙ total_same (λ p. level r p -ℤ base_of (tree_of r connect) n) (λ p. level s p -ℤ base_of (tree_of s connect) m) (pixels_of s connect m)
     (λ p k. ap (λ (z : ℤ). z -ℤ base_of (tree_of r connect) n) (inside_level r s connect h n m p a c k)
     ∙ ap (λ (z : ℤ). level s p -ℤ z) (base_same r s connect h n m plane_r plane_s a c))
@@ -120,5 +120,5 @@ row_same r s connect h number n m plane_r plane_s a c =
     ap (λ (z : ℤ). measured_row number z (base_of (tree_of r connect) n) (flux_of r connect n) r.shape.width (sums_of r connect n)) (node_level_same r s connect h n m a c)
     ∙ ap (λ (z : ℤ). measured_row number (level_of_node s connect m) z (flux_of r connect n) r.shape.width (sums_of r connect n)) (base_same r s connect h n m plane_r plane_s a c)
     ∙ ap (λ (z : ℤ). measured_row number (level_of_node s connect m) (base_of (tree_of s connect) m) z r.shape.width (sums_of r connect n)) (flux_same r s connect h n m plane_r plane_s a c)
-    ∙ ap (λ (w : ℕ). measured_row number (level_of_node s connect m) (base_of (tree_of s connect) m) (flux_of s connect m) w (sums_of r connect n)) a.width
+    ∙ ap (λ (w : ℕ). measured_row number (level_of_node s connect m) (base_of (tree_of s connect) m) (flux_of s connect m) w (sums_of r connect n)) a.above.width
     ∙ ap (measured_row number (level_of_node s connect m) (base_of (tree_of s connect) m) (flux_of s connect m) s.shape.width) (sums_same r s connect h n m a c)

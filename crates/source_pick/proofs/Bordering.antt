@@ -8,10 +8,10 @@ use Rattle.comp_tree.specs.Grid.{are_neighbours, IsAdjacency}
 use Rattle.comp_tree.specs.Joined.{IsPairOf}
 use Rattle.comp_tree.specs.Components.{IsReached, reaches, nodes, node_of, parent_of, is_candidate}
 use Rattle.comp_tree.specs.Laws.{top_of, parent_of_node}
-use Rattle.comp_tree.proofs.Exported.{adjacent_ends, adjacent_from, adjacent_turned, joined_pair, along_joined, reaches-is_IsReached, defined_from_at_least, int_le_trans, int_le_antisym, int_le_from_lt, int_lt_le, cases_int, top-representative, top-defined, IsParent, parent-candidate, parent-of_node, below_no_node}
+use Rattle.comp_tree.proofs.Exported.{adjacent_ends, adjacent_from, adjacent_turned, joined_pair, along_joined, reaches-is_IsReached, defined_from_at_least, int_le_trans, int_le_antisym, int_le_from_lt, int_lt_le, cases_int, top-representative, top-defined, IsParent, parent-candidate, parent-of_node, below_no_node, above_level, reached_high, above_reached, IsCounterpart, counterpart_sym, counterpart_low, counterpart_level}
 use Rattle.comp_tree.proofs.Exported as Nodes
 use Rattle.source_pick.proofs.Splits.{parent_cases}
-use Rattle.source_pick.proofs.Alike.{Alike, alike_sym, level_same, level_near, high_from_reached, reached_there, IsCounterpart, counterpart_sym, top_level_low, top_level_same}
+use Rattle.source_pick.proofs.Alike.{Alike, alike_sym, level_near}
 
 -- ---- borders
 
@@ -85,11 +85,11 @@ candidate_from_border r connect p q b = record {
 pub border_there : (r s : Raster) (connect : Connect) (h : ℤ) (p q : ℕ) → Alike r s connect h → IsTrue (is_at_least r h p) → IsBorder r connect p q → IsBorder s connect p q
 border_there r s connect h p q a k b = record {
   member = b.member;
-  inside = subst (λ (z : ℤ). IsTrue (reaches s connect z p b.member)) same (reached_there r s connect h (level r p) p b.member a low b.inside);
+  inside = subst (λ (z : ℤ). IsTrue (reaches s connect z p b.member)) same (above_reached r s connect h (level r p) p b.member a.above low b.inside);
   adjacent = adjacent_from s.values s.shape.width connect b.member q
-      (subst (λ (v : Option ℤ). is_some v ≡ true) (a.one b.member high) ends.0)
+      (subst (λ (v : Option ℤ). is_some v ≡ true) (a.above.one b.member high) ends.0)
       (subst (λ (v : Option ℤ). is_some v ≡ true) beside ends.1)
-      (subst (λ (w : ℕ). IsTrue (are_neighbours connect w b.member q)) a.width ends.2);
+      (subst (λ (w : ℕ). IsTrue (are_neighbours connect w b.member q)) a.above.width ends.2);
   lower = subst (λ (z : ℤ). int_lt (level s q) z ≡ true) same (subst (λ (z : ℤ). int_lt z (level r p) ≡ true) (level_near r s q beside) b.lower);
 }
   where
@@ -97,10 +97,10 @@ border_there r s connect h p q a k b = record {
     low = Nodes.level_from_at_least r h p k
 
     same : level r p ≡ level s p
-    same = level_same r s connect h p a k
+    same = above_level r s h p a.above k
 
     high : IsTrue (is_at_least r h b.member)
-    high = high_from_reached r connect h (level r p) p b.member low b.inside
+    high = reached_high r connect h (level r p) p b.member low b.inside
 
     ends : IsTrue (is_defined r b.member) × IsTrue (is_defined r q) × IsTrue (are_neighbours connect r.shape.width b.member q)
     ends = adjacent_ends r.values r.shape.width connect b.member q b.adjacent
@@ -111,7 +111,7 @@ border_there r s connect h p q a k b = record {
 -- the value of a border is the same
 pub border_level : (r s : Raster) (connect : Connect) (h : ℤ) (p q : ℕ) → Alike r s connect h → IsTrue (is_at_least r h p) → IsBorder r connect p q → level r q ≡ level s q
 border_level r s connect h p q a k b =
-    level_near r s q (a.near b.member q (high_from_reached r connect h (level r p) p b.member (Nodes.level_from_at_least r h p k) b.inside)
+    level_near r s q (a.near b.member q (reached_high r connect h (level r p) p b.member (Nodes.level_from_at_least r h p k) b.inside)
     (adjacent_ends r.values r.shape.width connect b.member q b.adjacent).2)
 
 -- what is below p in one plane has something of at least its value below p in the other
@@ -178,7 +178,7 @@ pub parents_agree : (r s : Raster) (connect : Connect) (h : ℤ) (n m : ℕ) →
 parents_agree r s connect h n m plane_r plane_s a c = go (parent_is r connect n plane_r c.one) (parent_is s connect m plane_s c.other)
   where
     back : IsCounterpart s r connect h m n
-    back = counterpart_sym r s connect h n m a c
+    back = counterpart_sym r s connect h n m a.above c
 
     go : ParentIs r connect n → ParentIs s connect m → ParentsAgree r s connect n m
     go (is_root e none) (is_root f empty) = roots e f
@@ -205,13 +205,13 @@ parent_there r s connect h n m k j plane a c d e =
     p = parent-candidate r connect k n plane c.one d.one (sym (parent-of_node r connect n c.one) ∙ e)
 
     level_n : level r (top_of r connect n) ≡ level s (top_of s connect m)
-    level_n = top_level_same r s connect h n m a c
+    level_n = counterpart_level r s connect h n m a.above c
 
     level_k : level r (top_of r connect k) ≡ level s (top_of s connect j)
-    level_k = top_level_same r s connect h k j a d
+    level_k = counterpart_level r s connect h k j a.above d
 
     moved : IsTrue (reaches s connect (level r (top_of r connect k)) (top_of r connect k) (top_of r connect n))
-    moved = reached_there r s connect h (level r (top_of r connect k)) (top_of r connect k) (top_of r connect n) a (top_level_low r s connect h k j d) p.candidate.reaches_it
+    moved = above_reached r s connect h (level r (top_of r connect k)) (top_of r connect k) (top_of r connect n) a.above (counterpart_low r s connect h k j d) p.candidate.reaches_it
 
     there : Nodes.IsCandidate s connect (top_of s connect m) (top_of s connect j)
     there = record {
@@ -224,6 +224,6 @@ parent_there r s connect h n m k j plane a c d e =
 
     highest : (t : ℕ) → IsTrue (is_candidate s connect (top_of s connect m) t) → int_le (level s t) (level s (top_of s connect j)) ≡ true
     highest t k_t =
-        let b : HasCandidate r connect (top_of r connect n) (level s t) = below_counterpart s r connect h m n t (alike_sym r s connect h a) (counterpart_sym r s connect h n m a c)
+        let b : HasCandidate r connect (top_of r connect n) (level s t) = below_counterpart s r connect h m n t (alike_sym r s connect h a) (counterpart_sym r s connect h n m a.above c)
         (Nodes.candidate-parts s connect (top_of s connect m) t k_t) in
         subst (λ (z : ℤ). int_le (level s t) z ≡ true) level_k (int_le_trans (level s t) (level r b.it) (level r (top_of r connect k)) b.enough (p.highest b.it b.is))

@@ -6,7 +6,7 @@ use Rattle.comp_tree.specs.declared.shape.Connect.{Connect}
 use Rattle.comp_tree.specs.Raster.{Raster, IsPlane, pixels}
 use Rattle.comp_tree.specs.Components.{is_in_node}
 use Rattle.comp_tree.specs.Laws.{top_of}
-use Rattle.comp_tree.proofs.Exported.{IsAmong}
+use Rattle.comp_tree.proofs.Exported.{IsAmong, IsCounterpart, counterpart_in_node, above_pixels}
 use Rattle.node_sums.specs.declared.entry.Sums.{Sums}
 use Rattle.node_sums.specs.Sums.{sums_of}
 use Rattle.source_pick.specs.declared.choice.Choice.{Choice}
@@ -16,7 +16,7 @@ use Rattle.source_pick.specs.Segmentation.{source_number_at, segmentation_of, se
 use Rattle.source_pick.specs.Catalogue.{catalogue_row, catalogue_of, catalogue}
 use Rattle.source_pick.specs.Locality.{SourcesAreLocal}
 use Rattle.source_pick.proofs.Listing.{IsSourceAt, sources_at-one, sources_at-none, among_sources_at}
-use Rattle.source_pick.proofs.Alike.{Alike, alike_from, alike_sym, IsCounterpart, HasCounterpart, in_node_same, all_pixels_same}
+use Rattle.source_pick.proofs.Alike.{Alike, alike_from, alike_sym, HasCounterpart}
 use Rattle.source_pick.proofs.AlikeSums.{sums_same, row_same}
 use Rattle.source_pick.proofs.AlikeSources.{find_counterpart, source_up, source_there}
 
@@ -88,7 +88,7 @@ pub sources_same : (r s : Raster) (connect : Connect) (choice : Choice) → IsPl
 unfolding sources
 sources_same r s connect choice plane_r plane_s a =
     subst (λ (ps : List ℕ). AreCounterparts r s connect choice (flat_map (sources_at r connect choice) (pixels r)) (flat_map (sources_at s connect choice) ps))
-    (all_pixels_same r s connect choice.threshold a) (sources_over_same r s connect choice (pixels r) plane_r plane_s a)
+    (above_pixels r s choice.threshold a.above) (sources_over_same r s connect choice (pixels r) plane_r plane_s a)
 
 -- ---- what is told of such lists
 
@@ -101,7 +101,7 @@ position_same : (r s : Raster) (connect : Connect) (choice : Choice) (p i : ℕ)
     → position_from (λ n. is_in_node r connect n p) i xs ≡ position_from (λ n. is_in_node s connect n p) i ys
 position_same r s connect choice p i _ _ a at_end = refl
 position_same r s connect choice p i _ _ a (at_more {n} {m} {xs} {ys} c rest) =
-    ap (λ (b : Bool). cond b (Some i) (position_from (λ k. is_in_node r connect k p) (i + 1) xs)) (in_node_same r s connect choice.threshold n m p a c)
+    ap (λ (b : Bool). cond b (Some i) (position_from (λ k. is_in_node r connect k p) (i + 1) xs)) (counterpart_in_node r s connect choice.threshold n m p a.above c)
     ∙ ap (λ (o : Option ℕ). cond (is_in_node s connect m p) (Some i) o) (position_same r s connect choice p (i + 1) xs ys a rest)
 
 number_same : (r s : Raster) (connect : Connect) (choice : Choice) (p : ℕ) (xs ys : List ℕ) → Alike r s connect choice.threshold → AreCounterparts r s connect choice xs ys
@@ -112,7 +112,7 @@ number_same r s connect choice p xs ys a c = ap (λ (o : Option ℕ). unwrap_or 
 numbers_same : (r s : Raster) (connect : Connect) (choice : Choice) (xs ys : List ℕ) → Alike r s connect choice.threshold → AreCounterparts r s connect choice xs ys
     → segmentation_of r connect xs ≡ segmentation_of s connect ys
 unfolding segmentation_of
-numbers_same r s connect choice xs ys a c = ap (λ (f : ℕ → ℕ). map f (pixels r)) tests ∙ ap (map (source_number_at s connect ys)) (all_pixels_same r s connect choice.threshold a)
+numbers_same r s connect choice xs ys a c = ap (λ (f : ℕ → ℕ). map f (pixels r)) tests ∙ ap (map (source_number_at s connect ys)) (above_pixels r s choice.threshold a.above)
   where
     tests : source_number_at r connect xs ≡ source_number_at s connect ys
     tests = λ i p. number_same r s connect choice p xs ys a c i

@@ -12,13 +12,12 @@ use Rattle.comp_tree.specs.Raster.{Raster, IsPlane, pixels, is_defined}
 use Rattle.comp_tree.specs.ComponentTree.{ComponentTree, parent_in, no_node}
 use Rattle.comp_tree.specs.Components.{nodes, node_of, is_in_node, tree_of}
 use Rattle.comp_tree.specs.Laws.{top_of, parent_of_node}
-use Rattle.comp_tree.proofs.Exported.{top-defined, top-representative, below_no_node, pixels_belong_to_their_ancestors, length-nodes-le, read-node_of, in_node-defined, top_inside}
+use Rattle.comp_tree.proofs.Exported.{top-defined, top-representative, below_no_node, pixels_belong_to_their_ancestors, length-nodes-le, read-node_of, in_node-defined, top_inside, same_bool}
 use Rattle.comp_tree.proofs.Exported as Nodes
 use Rattle.source_pick.specs.Segmentation.{source_number_at, segmentation_of, AreDisjointNodes}
 use Rattle.source_pick.specs.Passes.{IsOnWay, AreMarked, AreNumbered}
 use Rattle.source_pick.proofs.Within.{within_from_way, way_from_shared, HasParent, way_up, way_of_child}
 use Rattle.source_pick.proofs.Entries.{node_from_row, row_from_node}
-use Rattle.node_sums.proofs.Exported.{same_bool}
 use Rattle.source_pick.proofs.Readings.{numbers-length, rows-length, node_inside, filled}
 
 -- ---- the place of the first number that passes

@@ -9,10 +9,9 @@ use Rattle.comp_tree.specs.declared.shape.Connect.{Connect}
 use Rattle.comp_tree.specs.declared.shape.Shape.{Shape}
 use Rattle.comp_tree.specs.Raster.{Raster, IsPlane, pixels, value_at, is_defined, is_at_least}
 use Rattle.comp_tree.specs.Grid.{distance, are_neighbours}
-use Rattle.comp_tree.proofs.Exported.{are_neighbours_comm, IsAmong, among_from_filter, among_from_range, IsWitness, witness_from_any, defined_from_at_least, below_from_defined}
+use Rattle.comp_tree.proofs.Exported.{are_neighbours_comm, IsAmong, among_from_filter, among_from_range, IsWitness, witness_from_any, defined_from_at_least, below_from_defined, same_bool}
 use Rattle.source_pick.specs.Locality.{is_beside_high, is_near_high, kept}
 use Rattle.source_pick.specs.Clearing.{HasNoneBelow, IsAround, reach, AreSetBetween, AreSetAround, AreMarkedNear, without_unmarked, IsClearedUpTo}
-use Rattle.node_sums.proofs.Exported.{same_bool}
 use Rattle.source_pick.proofs.Keeping.{near_from_own, near_from_neighbour}
 use Rattle.source_pick.proofs.Around.{first_row, last_row, IsPartOfRow, part_around, around_part, around_after, around_before}
 
