@@ -1,5 +1,5 @@
 -- Two planes with the same pixels of at least one level: at this level and above their components are the same.
-use Rattle.std.proofs.Common.{◌≡◌, ℕ, ◌<◌, Bool, true, length, refl, sym, ◌∙◌, ap, subst, inl}
+use Rattle.std.proofs.Common.{◌≡◌, ℕ, ◌<◌, Bool, true, length, sym, ◌∙◌, ap, subst, inl}
 use Rattle.std.specs.Prelude.{IsTrue, ℤ, int_le, Option, pos, unwrap_or, filter}
 use Rattle.std.specs.List.{range_with_len}
 use Rattle.comp_tree.specs.declared.shape.Connect.{Connect}

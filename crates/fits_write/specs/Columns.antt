@@ -1,10 +1,9 @@
 -- Model: the columns of a binary table and their cells (FITS Standard 4.0, section 7.3).
-use Rattle.std.specs.Prelude.{◌≡◌, ℕ, ◌+◌, ◌^◌, ◌/◌, ◌%◌, ◌<◌, ◌≤◌, Bool, IsTrue, ◌==◌, ◌&&◌, not, nat_le}
-use Rattle.std.specs.Prelude.{List, [], ◌∷◌, ◌++◌, length, map, codes, decimal, ℤ, pos, FitsSigned, ⊤, slice_index_or, sum_by}
+use Rattle.std.specs.Prelude.{◌≡◌, ℕ, ◌+◌, ◌^◌, ◌/◌, ◌%◌, ◌<◌, ◌≤◌, IsTrue}
+use Rattle.std.specs.Prelude.{List, [], ◌∷◌, length, map, codes, ℤ, pos, FitsSigned, ⊤, slice_index_or, sum_by}
 use Rattle.std.specs.List.{concat, list_all, range_with_len}
 use Rattle.std.specs.Int.{w32, w64, cast_unsigned}
 use Rattle.byteorder.specs.Endian.{big_bytes}
-use Rattle.fits_card.specs.Pieces.{quote}
 use Rattle.fits_card.specs.Written.{is_plain, numbered_keyword, written_text}
 use Rattle.fits_write.specs.declared.table.Cell.{Cell}
 use Rattle.fits_write.specs.declared.table.Cell.TheVariants.{J, K}

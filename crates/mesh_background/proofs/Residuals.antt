@@ -1,10 +1,9 @@
 -- The residual of a plane is a plane, and its values are in range.
-use Rattle.std.proofs.Common.{◌≡◌, ℕ, ◌+◌, ◌<◌, ◌≤◌, ◌*◌, ◌/◌, ◌%◌, zero, suc, Bool, true, false, cond, List, [], ◌∷◌, length, map, get_or, set, refl, sym, ap, subst, ◌∙◌, arith, ◌⊎◌, inl, inr, get_or-set_other, get_or-set_same}
+use Rattle.std.proofs.Common.{◌≡◌, ℕ, ◌+◌, ◌<◌, ◌≤◌, ◌*◌, ◌/◌, ◌%◌, zero, suc, Bool, true, false, cond, List, [], ◌∷◌, length, map, get_or, refl, sym, ap, subst, ◌∙◌, arith, ◌⊎◌, inl, inr}
 use Rattle.std.specs.Prelude.{◌==◌, ◌^◌, ℤ, pos, negsuc, unsigned_abs, ◌-ℤ◌, filter, slice_get, Option, Some, None, unwrap_or, is_some, All}
 use Rattle.std.specs.Option.{option_map}
 use Rattle.std.specs.List.{range_with_len, flat_map}
 use Rattle.std.proofs.lemmas.Bool.{true≢false, cases_lt, ne_eqb, eq-eqb}
-use Rattle.std.proofs.Math.ListN.{length-set}
 use Rattle.std.proofs.lemmas.Int.{ints, fits_signed_from_abs}
 use mir.Syntax.{w64}
 use mir.Val.{SFits}
