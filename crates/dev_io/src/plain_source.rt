@@ -3,7 +3,7 @@ ghost use Rattle.std.specs.Prelude.{◌≡◌, [], false, IsTrue, Some, min, len
 
 use crate::{Failed, Source};
 
-/// A source over memory: it tells its bytes, gives as many as the buffer holds, and its count of faults stays 0.
+/// A source over memory: it tells its bytes, and its count of faults stays 0.
 #[derive(Debug, Drop)]
 pub struct PlainSource<'a> {
     bytes: &'a [u8],

@@ -3,6 +3,7 @@ ghost use Rattle.std.specs.Prelude.{◌≡◌, ◌<◌, ◌+◌};
 
 use crate::*;
 use std::fs::File;
+use std::io::BufWriter;
 use std::marker::Brand;
 use std::sync::ledger::{Blank, Ledger};
 use std::test::Fail;
@@ -58,6 +59,16 @@ fn files_end_and_fail(rt: HostRuntime) -> Result<(), Fail> {
 fn a_full_file_fails(rt: HostRuntime) -> Result<(), Fail> {
     let mut full = WriteSink::new(File::create(&rt, "/dev/full")?);
     assert_eq!(rt; full.put(b"ab"), Err(Failed));
+    Ok(())
+}
+
+// What waits in a buffer is written by `done` alone, and fails there.
+#[test]
+fn a_flush_that_fails_is_told(rt: HostRuntime) -> Result<(), Fail> {
+    let writer = BufWriter::new(rt.alloc(), File::create(&rt, "/dev/full")?)?;
+    let mut sink = WriteSink::new(writer);
+    assert_eq!(rt; sink.put(b"ab"), Ok(()));
+    assert_eq!(rt; sink.done(), Err(Failed));
     Ok(())
 }
 

@@ -222,6 +222,49 @@ fn headers_are_refused(rt: HostRuntime) -> Result<(), Fail> {
     Ok(())
 }
 
+// One byte more than 2^40, and twice 2^40, which two sides of 2^20 alone don't pass.
+#[test]
+fn too_many_bytes_of_data_are_refused(rt: HostRuntime) -> Result<(), Fail> {
+    let long = [
+        simple(),
+        bitpix(8),
+        naxis(1),
+        axis(b'1', 1099511627777),
+        end_card(),
+    ];
+    let bytes = header_of(rt.alloc(), &long, 31)?;
+    assert_eq!(rt; find(&bytes, 0), (Err(HduFault::DataTooLong), 0));
+    let deep = [
+        simple(),
+        bitpix(8),
+        naxis(3),
+        axis(b'1', 1048576),
+        axis(b'2', 1048576),
+        axis(b'3', 2),
+        end_card(),
+    ];
+    let bytes = header_of(rt.alloc(), &deep, 29)?;
+    assert_eq!(rt; find(&bytes, 0), (Err(HduFault::DataTooLong), 0));
+    Ok(())
+}
+
+#[test]
+fn a_bad_axis_is_named_by_its_card(rt: HostRuntime) -> Result<(), Fail> {
+    let cards = [
+        simple(),
+        bitpix(8),
+        naxis(1),
+        card_of(b"NAXIS1  = 'x'"),
+        end_card(),
+    ];
+    let bytes = header_of(rt.alloc(), &cards, 31)?;
+    assert_eq!(rt;
+        find(&bytes, 0),
+        (Err(HduFault::BadKeyword { hdu: 0, card: 4 }), 2560)
+    );
+    Ok(())
+}
+
 #[test]
 fn later_hdus_are_found(rt: HostRuntime) -> Result<(), Fail> {
     let alloc = rt.alloc();
