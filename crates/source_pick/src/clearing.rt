@@ -1,5 +1,5 @@
 //! Which pixels of a plane its sources depend on.
-ghost use Rattle.std.specs.Prelude.{◌≡◌, ◌+◌, ◌*◌, ◌^◌, ◌<◌, ◌≤◌, ℕ, IfOk, OnOk, length, map, replicate, false, slice_index_or};
+ghost use Rattle.std.specs.Prelude.{◌≡◌, ◌+◌, ◌*◌, ◌^◌, ◌<◌, ◌≤◌, ℕ, IfOk, OnOk, OnErr, length, map, replicate, false, slice_index_or};
 ghost use Rattle.comp_tree.specs.Raster.{pixels, is_at_least};
 ghost use Rattle.comp_tree.specs.Grid.{distance as distance_of};
 ghost use Rattle.source_pick.specs.Locality.{is_near_high, kept, HaveSameSources};
@@ -24,7 +24,7 @@ use std::thread::Threads;
 /// its tree has fewer nodes.
 ///
 /// The pixels that stay are looked for in `parts` bands, each in a thread of its own where one can be made; 0 counts as 1. The one error is that
-/// memory was refused.
+/// memory was refused; the plane is as it was then.
 pub fn clear_far<R: Threads + Sync>(
     rt: &R,
     alloc: Global,
@@ -35,6 +35,7 @@ pub fn clear_far<R: Threads + Sync>(
 ) -> Result<(), OutOfMemory>
     ensures kept { OnOk result (plane.new ≡ kept plane.old connect threshold) }
     ensures same { OnOk result ((choice : Choice) → choice.threshold ≡ threshold → HaveSameSources plane.old plane.new connect choice) }
+    ensures unchanged { OnErr result (plane.new ≡ plane.old) }
 {
     if !has_below(plane, threshold) {
         return Ok(());
