@@ -10,7 +10,7 @@ use Rattle.comp_tree.specs.Components.{IsReached, reaches, representative, nodes
 use Rattle.comp_tree.specs.Laws.{top_of}
 use Rattle.comp_tree.specs.Nesting.{pixels_of}
 use Rattle.comp_tree.proofs.Levels.{int_le_refl}
-use Rattle.comp_tree.proofs.Tests.{same_bool}
+use Rattle.comp_tree.proofs.SameBools.{same_bool}
 use Rattle.comp_tree.proofs.Adjacent.{adjacent_ends, adjacent_from}
 use Rattle.comp_tree.proofs.Joining.{joined_wider, joined_within, joined_pair}
 use Rattle.comp_tree.proofs.Reaching.{defined_from_at_least, reaches-is_IsReached}

@@ -23,5 +23,5 @@ pub use Rattle.comp_tree.proofs.Representatives.{before_level, last_earlier, las
 pub use Rattle.comp_tree.proofs.Canonical.{last_is, last_own, level-value, link_from_representative, parent_from_link, representative_from_link, value-level}
 pub use Rattle.comp_tree.proofs.Shapes.{shape_of_sides}
 pub use Rattle.comp_tree.proofs.Writing.{written_all, written_itself, written_next, written_none}
-pub use Rattle.comp_tree.proofs.Tests.{same_bool}
+pub use Rattle.comp_tree.proofs.SameBools.{same_bool}
 pub use Rattle.comp_tree.proofs.Alike.{AlikeAbove, IsCounterpart, above_high, above_level, above_pixels, above_reached, above_reaches, above_representative, above_sym, counterpart, counterpart_in_node, counterpart_level, counterpart_low, counterpart_pixels, counterpart_sym, counterpart_test, counterpart_unique, reached_high}

@@ -25,6 +25,6 @@ mod Representatives
 mod Canonical
 mod Shapes
 mod Writing
-mod Tests
+mod SameBools
 mod Alike
 pub mod Exported

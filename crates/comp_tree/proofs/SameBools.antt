@@ -1,4 +1,4 @@
--- Tests that say the same.
+-- Two tests that follow from each other have the same answer.
 use Rattle.std.proofs.Common.{◌≡◌, Bool, true, false, refl, sym}
 
 pub same_bool : (a b : Bool) → (a ≡ true → b ≡ true) → (b ≡ true → a ≡ true) → a ≡ b
