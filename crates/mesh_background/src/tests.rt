@@ -102,6 +102,16 @@ fn numbers_of_three_cells_are_filtered(rt: HostRuntime) -> Result<(), Fail> {
     Ok(())
 }
 
+// Two rows, and three.
+#[test]
+fn the_filter_looks_at_the_rows_above_and_below(rt: HostRuntime) -> Result<(), Fail> {
+    let two = smooth_mesh(rt.alloc(), &[5, 3], 1, 2)?;
+    assert_eq!(rt; two.as_slice(), [3, 3].as_slice());
+    let three = smooth_mesh(rt.alloc(), &[9, 3, 7], 1, 3)?;
+    assert_eq!(rt; three.as_slice(), [3, 7, 3].as_slice());
+    Ok(())
+}
+
 // The background is 2 2 2 3 3 in both rows.
 #[test]
 fn smooth_residual(rt: HostRuntime) -> Result<(), Fail> {
@@ -115,6 +125,13 @@ fn smooth_residual(rt: HostRuntime) -> Result<(), Fail> {
 fn smooth_residual_below_zero(rt: HostRuntime) -> Result<(), Fail> {
     let plane = plane_of(rt.alloc(), 6, 1, &[-20, -20, -10, -10, 0, 0])?;
     try_residual(&rt, rt.alloc(), &plane, 2, false, &[0, -2, 3, 0, 10, 10])
+}
+
+// The last of three cells has one row, but the centre of a full one. The filtered numbers are 6 6 0, the background 6 6 6 6 6 4 2.
+#[test]
+fn a_short_last_cell_keeps_its_centre(rt: HostRuntime) -> Result<(), Fail> {
+    let plane = plane_of(rt.alloc(), 1, 7, &[6, 6, 6, 9, 9, 9, 0])?;
+    try_residual(&rt, rt.alloc(), &plane, 3, false, &[0, 0, 0, 3, 3, 5, -2])
 }
 
 // Beyond the outer centres a cell's own number stands, or a level on the edge; the last one is -63 / 16, rounded down.
