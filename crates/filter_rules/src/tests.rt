@@ -68,6 +68,10 @@ fn small_planes(rt: HostRuntime) {
         min_fill: 751,
         ..anything()
     };
+    let one_pixel = Criterion {
+        max_area: 1,
+        ..anything()
+    };
     let cases = [
         Case {
             width: 5,
@@ -125,6 +129,15 @@ fn small_planes(rt: HostRuntime) {
             rule: Rule::Min,
             criterion: two_pixels,
             filtered: &[-3, -3, 99, 7],
+        },
+        // a kept node keeps all nodes that contain it, and not its parent alone
+        Case {
+            width: 4,
+            height: 1,
+            values: &[0, 1, 2, 3],
+            rule: Rule::Max,
+            criterion: one_pixel,
+            filtered: &[0, 1, 2, 3],
         },
     ];
     for (number, case) in cases.iter().enumerate() {
