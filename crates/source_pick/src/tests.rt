@@ -101,6 +101,20 @@ fn sources_of_small_planes(rt: HostRuntime) -> Result<(), Fail> {
                 ],
             ],
         },
+        // the least pixel of the split is in neither part
+        Case {
+            width: 4,
+            height: 1,
+            values: &[2, 6, 2, 5],
+            threshold: 2,
+            contrast: 300,
+            nodes: &[2, 1],
+            map: &[0, 1, 0, 2],
+            rows: &[
+                [1, 6, 2, 1, 4, 6, 2, 2, 1, 1, 2, 1, 2000, 1000, 0, 0, 0],
+                [2, 5, 2, 1, 3, 5, 4, 4, 1, 1, 4, 1, 4000, 1000, 0, 0, 0],
+            ],
+        },
         // a flat root has no flux; its covariance is negative, and not a whole number of thousandths
         Case {
             width: 2,
