@@ -130,6 +130,26 @@ fn a_cut_and_a_failing_source_are_told_apart(rt: HostRuntime) -> Result<(), Fail
     Ok(())
 }
 
+#[test]
+fn numbers_of_32_bits_begin_with_the_most_significant_byte(rt: HostRuntime) -> Result<(), Fail> {
+    let hdu = Hdu {
+        bitpix: 32,
+        data_bytes: 8,
+        bzero: Whole::Is(0),
+        blank: None,
+        ..IMAGE
+    };
+    let shape = check_image(&hdu)?;
+    // 2^24 + 2 * 2^16 + 3 * 2^8 + 4, and -2
+    let mut source = PlainSource::new(&[1, 2, 3, 4, 0xff, 0xff, 0xff, 0xfe]);
+    let plane = read_plane(rt.alloc(), &mut source, &hdu, shape).expect(&rt, "a plane");
+    assert_eq!(rt; plane.shape().pixels(), 2);
+    assert_eq!(rt; plane.get(0), Some(16_909_060));
+    assert_eq!(rt; plane.shape().pixels(), 2);
+    assert_eq!(rt; plane.get(1), Some(-2));
+    Ok(())
+}
+
 // Two pixels of 64 bits.
 const WIDE: Hdu = Hdu {
     bitpix: 64,

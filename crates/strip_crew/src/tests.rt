@@ -82,6 +82,22 @@ fn every_cut_stands_for_one_tree(rt: HostRuntime) -> Result<(), Fail> {
     Ok(())
 }
 
+// Two pixels of one value, which touch at a corner alone.
+#[test]
+fn strips_are_joined_at_corners_too(rt: HostRuntime) -> Result<(), Fail> {
+    let shape = Shape::of(2, 2).ok_or("a shape")?;
+    let mut plane = Plane::blank(rt.alloc(), shape)?;
+    for pixel in [0, 3] {
+        if pixel < plane.shape().pixels() {
+            plane.set(pixel, Some(5));
+        }
+    }
+    let cut = even_cut(rt.alloc(), plane.shape().height, 2)?;
+    let forest = flood_all(&rt, rt.alloc(), &plane, Connect::Eight, &cut, 1, &OpenGate)?;
+    assert_eq!(rt; last(&plane, forest.parents(), 5, 3), 0);
+    Ok(())
+}
+
 // Two numbers that wait for each other at the gate, but not forever.
 #[derive(Drop)]
 struct Meeting {

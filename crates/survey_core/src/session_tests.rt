@@ -234,6 +234,40 @@ fn sessions_answer_as_they_should(rt: HostRuntime) -> Result<(), Fail> {
 }
 
 #[test]
+fn sums_are_exact_and_ties_go_by_field(rt: HostRuntime) -> Result<(), Fail> {
+    let alloc = rt.alloc();
+    let great = catalogue(
+        alloc,
+        b"NAXIS1  =                   96",
+        b"NAXIS2  =                    2",
+        &[(1, i64::MAX, 2900), (2, 1, 4000)],
+    )?;
+    let mut twice = Vec::from_slice(alloc, &great)?;
+    twice.extend_from_slice(&great)?;
+    let words = ["add", "B", "list", "add", "A", "brightest", "2"];
+    let mut input = MemSource::new(&twice, 1000, &[]);
+    let mut keeper = MemKeeper::new(alloc, &[]);
+    let mut output = MemSink::new(vec![in alloc; 0; 200]?, &[], 0);
+    let mut notes = MemSink::new(vec![in alloc; 0; 99]?, &[], 0);
+    assert_eq!(rt;
+        run_survey(
+            alloc,
+            &words,
+            &mut input,
+            &mut keeper,
+            &mut output,
+            &mut notes
+        ),
+        0
+    );
+    // the sum is 2^63, which is too great for a flux; both fields have the greatest flux
+    let written: &[u8] =
+        b"B 2 9223372036854775808\nA 1 9223372036854775807 2900 1000\nB 1 9223372036854775807 2900 1000\n";
+    assert_eq!(rt; output.bytes(), written);
+    Ok(())
+}
+
+#[test]
 fn an_add_replaces(rt: HostRuntime) -> Result<(), Fail> {
     let alloc = rt.alloc();
     let mut keeper = MemKeeper::new(alloc, &[]);

@@ -7,6 +7,7 @@ use std::test::Fail;
 fn names_have_letters(rt: HostRuntime) -> Result<(), Fail> {
     assert!(rt; Field::of("").is_none());
     assert!(rt; Field::of("a b").is_none());
+    assert!(rt; Field::of("a.b").is_none());
     assert!(rt; Field::of("ABCDEFGHIJKLMNOPQ").is_none());
     assert!(rt; Field::of("A-z_09").is_some());
     Ok(())

@@ -214,6 +214,16 @@ fn joined_strips_have_the_plain_tree(rt: HostRuntime) {
     }
 }
 
+// Two strips of two rows. Pixel 1 is hung under 2, and then 3, the link of 2, is joined with 0.
+#[test]
+fn a_walk_goes_on_at_a_link_between_its_pixels(rt: HostRuntime) {
+    let shape = Shape::of(1, 4).expect(&rt, "a shape");
+    let plane = plane_of(rt.alloc(), shape, &[1, 5, 4, 3]).expect(&rt, "memory");
+    let mut parents = [NONE, 0, 3, NONE];
+    assert!(rt; join(&mut parents, &plane, Connect::Four, &[2]));
+    assert_eq!(rt; parents, [NONE, 2, 3, 0]);
+}
+
 fn shorten_by<M: Ledger>(blank: Blank, parents: &mut [u32], plane: &Plane, p: u32) -> bool
     requires blank { (blank.name ≡ M.name) × (blank.parts ≡ M.parts) × (0 < blank.parts) }
 {
