@@ -54,6 +54,19 @@ fn files_end_and_fail(rt: HostRuntime) -> Result<(), Fail> {
     Ok(())
 }
 
+// A file of the kernel's that holds one known line, and a device that takes all.
+#[test]
+fn files_are_read_and_written(rt: HostRuntime) -> Result<(), Fail> {
+    let mut file = ReadSource::new(File::open(&rt, "/proc/sys/kernel/ostype")?);
+    let mut line = [0u8; 8];
+    assert_eq!(rt; fill(&mut file, &mut line), Ok(6));
+    assert_eq!(rt; &line[..6], b"Linux\n".as_slice());
+    let mut device = WriteSink::new(File::create(&rt, "/dev/null")?);
+    assert_eq!(rt; device.put(b"ab"), Ok(()));
+    assert_eq!(rt; device.done(), Ok(()));
+    Ok(())
+}
+
 // A device that is always full.
 #[test]
 fn a_full_file_fails(rt: HostRuntime) -> Result<(), Fail> {
