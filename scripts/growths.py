@@ -2,14 +2,15 @@
 
 usage: python3 scripts/growths.py MAXDETECT [TESTS]      (the built program, and the built tests of `strip_crew`)
 
-Each such run has status 5, has written nothing and says `out of memory`, or has status 0 and the whole output: a growth may be one that the run
-can do without. A run of three rows asks for memory more often in two strips than in one, and more often in three than in two, since each strip is
-prepared by itself. One of the tests counts the strips that come to the gate: none does where memory was refused, and else each. It wants gcc, and takes
-some seconds. Exit status 1 where a run does otherwise.
+Each such run has status 5, has written nothing and says `out of memory`, or has status 0 and the whole output, which is compared with what it has to
+be: a growth may be one that the run can do without. A run of three rows asks for memory more often in two strips than in one, and more often in three
+than in two, since each strip is prepared by itself. One of the tests counts the strips that come to the gate: none does where memory was refused, and
+else each. It wants gcc, and takes some seconds. Exit status 1 where a run does otherwise.
 """
 import os
 import pathlib
 import shutil
+import struct
 import subprocess
 import sys
 import tempfile
@@ -27,19 +28,50 @@ def image(width, height, pixels, extension=False):
     return header.ljust(2880).encode("ascii") + bytes(pixels)
 
 
+# A row of the catalogue, and where the map's data and the table's rows begin.
+ROW = struct.Struct(">iqqiqqiiiiiiiiqqq")
+MAP, ROWS = 5760, 14400
+
+
+def is_lines(*texts):
+    """Whether an output is these lines."""
+    return lambda output: output == "".join(text + "\n" for text in texts).encode()
+
+
+def is_filtered(*pixels):
+    """Whether an output is an image of these pixels."""
+    return lambda output: len(output) == 5760 and struct.unpack_from(f">{len(pixels)}q", output, 2880) == pixels
+
+
+def is_found(labels, *rows):
+    """Whether an output is a map of these labels with a table of these rows."""
+    return lambda output: len(output) == 17280 and struct.unpack_from(f">{len(labels)}i", output, MAP) == labels \
+        and list(ROW.iter_unpack(output[ROWS:ROWS + len(rows) * ROW.size])) == list(rows) and not any(output[ROWS + len(rows) * ROW.size:])
+
+
 HILLS = image(5, 1, [1, 6, 2, 5, 1])
+SLOPES = image(5, 1, [0, 1, 3, 2, 0])
 SQUARE = image(3, 3, [5, 0, 6, 5, 2, 6, 3, 3, 3])
+CORNER = image(2, 2, [1, 1, 1, 0])
 BANDS = HILLS + bytes(-len(HILLS) % 2880) + image(5, 1, [10, 20, 30, 40, 7], extension=True)
-RUNS = {
-    "tree in one strip": (["tree", "--strips", "1"], SQUARE),
-    "tree in two strips": (["tree", "--strips", "2"], SQUARE),
-    "tree in three strips": (["tree", "--strips", "3"], SQUARE),
-    "tree by three workers": (["tree", "--strips", "3", "--workers", "3"], SQUARE),
-    "filter": (["filter", "--rule", "direct", "--min-area", "2", "--max-area", "2"], HILLS),
-    "filter over a mesh": (["filter", "--rule", "min", "--mesh", "2"], HILLS),
-    "detect": (["detect", "--threshold", "2", "--contrast", "300"], HILLS),
-    "measure": (["measure", "--values", "1", "--threshold", "2", "--contrast", "300"], BANDS),
-}
+FIVE_NODES = is_lines("0 0 1 - 9", "1 2 4 0 8", "2 3 6 1 7", "3 5 0 2 2", "4 6 2 2 2")
+TWO_SOURCES = is_found((0, 1, 0, 2, 0), (1, 6, 2, 1, 4, 6, 2, 2, 1, 1, 2, 1, 2000, 1000, 0, 0, 0), (2, 5, 2, 1, 3, 5, 4, 4, 1, 1, 4, 1, 4000, 1000, 0, 0, 0))
+ONE_SOURCE = is_found((0, 1, 1, 1, 0), (1, 2, 1, 3, 10, 6, 2, 4, 1, 1, 2, 1, 2900, 1000, 666, 0, 0))
+# The words of each run, its input, and what its output has to be. What the two last write is tested elsewhere.
+RUNS = [
+    *((f"tree --strips {strips} --workers {workers}", SQUARE, FIVE_NODES) for strips in (1, 2, 3) for workers in (1, 3)),
+    ("filter --rule min --min-area 2 --max-area 2", SLOPES, is_filtered(0, 0, 0, 0, 0)),
+    ("filter --rule max --min-area 2 --max-area 2", SLOPES, is_filtered(0, 1, 2, 2, 0)),
+    ("filter --rule direct --min-area 2 --max-area 2", SLOPES, is_filtered(0, 0, 2, 2, 0)),
+    ("filter --rule subtractive --min-area 2 --max-area 2", SLOPES, is_filtered(0, 0, 1, 1, 0)),
+    ("filter --rule direct --min-fill 750", CORNER, is_filtered(1, 1, 1, 0)),
+    ("filter --rule direct --min-fill 751", CORNER, is_filtered(0, 0, 0, 0)),
+    ("detect --threshold 2 --contrast 300", HILLS, TWO_SOURCES),
+    ("detect --threshold 2 --contrast 301", HILLS, ONE_SOURCE),
+    ("detect --threshold 2 --contrast 1000", HILLS, ONE_SOURCE),
+    ("filter --rule min --mesh 2", HILLS, None),
+    ("measure --values 1 --threshold 2 --contrast 300", BANDS, None),
+]
 
 GATE_TEST = "tests::no_strip_comes_to_the_gate_where_memory_is_refused"
 
@@ -62,17 +94,20 @@ class Refuser:
         return done, int.from_bytes(count.read_bytes(), sys.byteorder)
 
 
-def trials(refuser, name, command, data):
+def trials(refuser, program, words, data, is_right):
     """The number of growths of a run, and a line for each refusal that ends otherwise than it may."""
+    command = [program, *words.split()]
     whole, count = refuser.run(command, data, 0)
+    if whole.returncode != 0 or whole.stderr or not 0 < count < MANY:
+        return count, [f"{words}: with ample memory it ends with {whole.returncode} and {whole.stderr!r} after {count} growths"]
     wrong = []
-    if whole.returncode != 0 or not 0 < count < MANY:
-        return count, [f"{name}: with ample memory it ends with {whole.returncode} after {count} growths"]
+    if is_right and not is_right(whole.stdout):
+        wrong.append(f"{words}: with ample memory it writes something else")
     for number in range(1, count + 1):
         done, _ = refuser.run(command, data, number)
         ended = (done.returncode, done.stdout, done.stderr)
         if ended not in [(5, b"", b"out of memory\n"), (5, b"", b""), (0, whole.stdout, b"")]:
-            wrong.append(f"{name}: with growth {number} refused it ends with {done.returncode}, {len(done.stdout)} bytes written, {done.stderr!r}")
+            wrong.append(f"{words}: with growth {number} refused it ends with {done.returncode}, {len(done.stdout)} bytes written, {done.stderr!r}")
     return count, wrong
 
 
@@ -101,15 +136,16 @@ def main():
     counts, wrong = {}, []
     with tempfile.TemporaryDirectory() as folder:
         refuser = Refuser(pathlib.Path(folder))
-        for name, (words, data) in RUNS.items():
-            counts[name], found = trials(refuser, name, [program, *words], data)
+        for words, data, is_right in RUNS:
+            counts[words], found = trials(refuser, program, words, data, is_right)
             wrong += found
-            print(f"{name}: {counts[name]} growths, {len(found)} end otherwise than they may")
+            print(f"{words}: {counts[words]} growths, {len(found)} end otherwise than they may")
         if len(sys.argv) > 2:
             count, found = gate_trials(refuser, pathlib.Path(sys.argv[2]).resolve())
             wrong += found
             print(f"the gate's count: {count} growths, {len(found)} end otherwise than they may")
-    if not counts["tree in one strip"] < counts["tree in two strips"] < counts["tree in three strips"]:
+    one, two, three = (counts[f"tree --strips {strips} --workers 1"] for strips in (1, 2, 3))
+    if not one < two < three:
         wrong.append("more strips don't ask for memory more often")
     print("\n".join(wrong), end="\n" if wrong else "")
     return 1 if wrong else 0
