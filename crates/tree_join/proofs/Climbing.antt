@@ -224,6 +224,7 @@ module _ (values : List (Option ℤ)) (first : ℕ) (start links : List ℕ) (p 
     forest = f;
     one = subst (λ n. IsPixel values first n a) (sym e) k.pixel;
     other = subst (λ n. IsPixel values first n q) (sym e) iq;
+    late = late;
     joins = same_trans values first (length start) (Or (IsLink first links) (Only a q)) (Or (IsLink first start) (Only a q)) (Or (IsLink first start) (Only p q))
         (same_or values first (length start) (IsLink first links) (IsLink first start) (Only a q) s) (pair_up values first (length start) (IsLink first start) p q a k late);
     cost = let lp : rank values first (length start) p < count_defined values first (length start) = rank_below values first (length start) p ip.within ip.value in

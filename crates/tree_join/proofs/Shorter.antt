@@ -136,6 +136,7 @@ moved_shorter values first old shorter new a b None e s m = record {
 moved_shorter values first old shorter new a b (Some rest) e s m = record {
   one = subst (λ n. IsPixel values first n rest.0) e m.one;
   other = subst (λ n. IsPixel values first n rest.1) e m.other;
+  late = m.late;
   joins = same_trans values first (length old) (Or (IsLink first new) (Only rest.0 rest.1)) (Or (IsLink first shorter) (Only a b)) (Or (IsLink first old) (Only a b))
       (subst (λ n. JoinSame values first n (Or (IsLink first new) (Only rest.0 rest.1)) (Or (IsLink first shorter) (Only a b))) e m.joins)
       (same_or values first (length old) (IsLink first shorter) (IsLink first old) (Only a b) s);

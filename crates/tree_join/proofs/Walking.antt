@@ -169,15 +169,6 @@ module _ (values : List (Option ℤ)) (first : ℕ) (p q budget : ℕ) where
         paid = let r : spent + 3 * (w.steps + w.rest + w.other) ≤ budget = w.paid in let e : t.0 ≡ w.steps + w.rest = t.1 in omega arith;
       }
 
-pub paid_turned : (first : ℕ) (links : List ℕ) (p q spent budget : ℕ) → ArePaid first links p q spent budget → ArePaid first links q p spent budget
-paid_turned first links p q spent budget t = record {
-  one = t.other;
-  other = t.one;
-  one_way = t.other_way;
-  other_way = t.one_way;
-  paid = let l : spent + 3 * (t.one + t.other) ≤ budget = t.paid in omega arith;
-}
-
 -- The move leaves a, which pays for the two looks that found nothing, and for that of the move.
 module _ (values : List (Option ℤ)) (first : ℕ) (links : List ℕ) (forest : IsForest values first links) (a b spent budget : ℕ) (wa : IsWithin first (length links) a) (some_a : a ≢ no_node)
     (t : ArePaid first links a b spent (budget + 2)) where

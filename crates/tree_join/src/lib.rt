@@ -18,7 +18,7 @@
 //! leaves a pixel out of the way of the later one, and each move leaves one behind.
 #![tactic(auto)]
 
-ghost use Rattle.std.specs.Prelude.{◌^◌, ◌≡◌, ◌≢◌, ℕ, ◌+◌, ◌-◌, ◌*◌, ◌<◌, ◌≤◌, ◌⊎◌, length, slice_index, List, MatchOption, IfSome};
+ghost use Rattle.std.specs.Prelude.{◌^◌, ◌≡◌, ℕ, ◌+◌, ◌-◌, ◌*◌, ◌<◌, ◌≤◌, ◌⊎◌, length, slice_index, List, MatchOption, IfSome};
 ghost use Rattle.comp_tree.specs.Joined.{Or, Only, Has};
 ghost use Rattle.comp_tree.specs.Counts.{count_defined, rank};
 ghost use Rattle.comp_tree.specs.Forest.{no_node, StandsFor, IsEarlier, IsForest, IsPixel, IsLink, JoinSame, IsWithin};
@@ -110,7 +110,8 @@ fn shorten<M: Ledger>(parents: &mut [u32], plane: &Plane, first: u32, p: u32, lo
     }
 }
 
-// One move of a walk, where `b` is earlier than `a`. It gives the two pixels that are left to join, if any.
+// One move of a walk, where `b` is earlier than `a`. It gives the two pixels that are left to join, if any, the later one
+// first.
 // Where the link of `a` is not earlier than `b`, `a` stays where it is: `b` belongs further up on its way. The pixel that
 // the walk leaves pays for the look at its link and for the last two before the move.
 fn move_later<M: Ledger>(
@@ -151,8 +152,8 @@ fn move_later<M: Ledger>(
     }
 }
 
-// One move of a walk from `a` and `b`, two different pixels, once the way of the later one is shortened. It gives the
-// two pixels that are left to join, if any.
+// One move of a walk, where `b` is earlier than `a`, once the way of `a` is shortened. It gives the two pixels that are
+// left to join, if any.
 fn turn<M: Ledger>(
     parents: &mut [u32],
     plane: &Plane,
@@ -166,7 +167,7 @@ fn turn<M: Ledger>(
     requires forest { IsForest plane.now.values first parents.old }
     requires a_in { IsPixel plane.now.values first (length parents.old) a }
     requires b_in { IsPixel plane.now.values first (length parents.old) b }
-    requires apart { a ≢ b }
+    requires order { IsEarlier plane.now.values b a }
     ensures forest { IsForest plane.now.values first parents.new }
     ensures moved { MatchOption result
         (IsEnded plane.now.values first parents.old parents.new a b)
@@ -178,13 +179,8 @@ fn turn<M: Ledger>(
         (looks.new ≤ budget)
         (λ rest. ArePaid first parents.new rest.0 rest.1 looks.new budget) }
 {
-    if plane.is_earlier(a, b) {
-        shorten(parents, plane, first, b, looks);
-        move_later(parents, plane, first, b, a, looks)
-    } else {
-        shorten(parents, plane, first, a, looks);
-        move_later(parents, plane, first, a, b, looks)
-    }
+    shorten(parents, plane, first, a, looks);
+    move_later(parents, plane, first, a, b, looks)
 }
 
 // A number that looks like a random one for each pixel.

@@ -199,6 +199,15 @@ fn joined_strips_have_the_plain_tree(rt: HostRuntime) {
             links: &[NONE, 2, 0, NONE, 5, 3],
             rows: &[1],
         },
+        // the same skip, which leads past pixel 4
+        Case {
+            width: 3,
+            height: 2,
+            connect: Connect::Eight,
+            values: &[1, 5, 4, 0, 3, 0],
+            links: &[NONE, 2, 0, NONE, 3, 3],
+            rows: &[1],
+        },
     ];
     for (number, case) in cases.iter().enumerate() {
         let shape = Shape::of(case.width, case.height).expect(&rt, "a shape");

@@ -1,5 +1,7 @@
 use Rattle.std.proofs.Common.{◌+◌, ◌-◌, ◌*◌, length, arith}
 use Rattle.comp_tree.specs.Counts.{count_defined}
+use Rattle.comp_tree.specs.Forest.{value_at}
+use Rattle.comp_tree.proofs.Exported.{before_other}
 use Rattle.tree_join.proofs.join_later.Goals as goal
 use Rattle.tree_join.proofs.Turns.{walk_more, walk_ended, walk_met}
 use Rattle.tree_join.proofs.Climbing.{walk_from, skips_after}
@@ -19,6 +21,11 @@ loop-a-init g c = (
       c.climb-a.auto.parents c.climb-a.ensures.forest c.climb-a.ensures.joined.pixel c.climb-a.ensures.late c.requires.p_in c.requires.q_in
       (omega (arith, c.climb-a.ensures.later, c.climb-a.ensures.cost)) c.climb-a.ensures.looks,
 )
+
+pub turn-requires-clause-order : goal.turn-requires-clause-order
+turn-requires-clause-order g c =
+    let walk = c.loop-a.invariant.1.1 in
+    before_other (value_at c.args.plane.now.values c.loop-a.a) (value_at c.args.plane.now.values c.loop-a.b) c.loop-a.a c.loop-a.b walk.one.value walk.other.value c.loop-a-test.true walk.late
 
 pub returns-in-None-clause-joined : goal.returns-in-None-clause-joined
 returns-in-None-clause-joined g c = walk_ended c.args.plane.now.values c.args.first c.args.parents.now c.args.p c.args.q c.loop-a.parents c.turn.new.parents c.loop-a.a c.loop-a.b c.loop-a.invariant.0 c.loop-a.invariant.1.1 c.in-None.ensures.moved
