@@ -204,6 +204,36 @@ fn the_least_pixel_out_of_range_is_answered_at_the_end(rt: HostRuntime) -> Resul
     Ok(())
 }
 
+// More pixels than are read at once: the bytes behind those at hand are taken too, and where they are cut that goes before.
+#[test]
+fn a_pixel_out_of_range_is_answered_behind_all_blocks(rt: HostRuntime) -> Result<(), Fail> {
+    let hdu = Hdu {
+        width: 361,
+        data_bytes: 2888,
+        ..WIDE
+    };
+    let shape = check_image(&hdu)?;
+    let mut source = PlainSource::new(&[0x80; 2889]);
+    assert!(rt;
+        matches!(
+            read_plane(rt.alloc(), &mut source, &hdu, shape),
+            Err(PlaneFault::PixelRange {
+                pixel: 0,
+                stored: -9_187_201_950_435_737_472
+            })
+        )
+    );
+    assert_eq!(rt; source.rest(), &[0x80][..]);
+    let mut cut = PlainSource::new(&[0x80; 2887]);
+    assert!(rt;
+        matches!(
+            read_plane(rt.alloc(), &mut cut, &hdu, shape),
+            Err(PlaneFault::TruncatedData)
+        )
+    );
+    Ok(())
+}
+
 #[test]
 fn bzero_counts_for_the_range(rt: HostRuntime) -> Result<(), Fail> {
     let hdu = Hdu {
