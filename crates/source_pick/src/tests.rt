@@ -115,6 +115,17 @@ fn sources_of_small_planes(rt: HostRuntime) -> Result<(), Fail> {
                 [2, 5, 2, 1, 3, 5, 4, 4, 1, 1, 4, 1, 4000, 1000, 0, 0, 0],
             ],
         },
+        // two parts that are strong beside what lies around them, and too weak beside the whole
+        Case {
+            width: 5,
+            height: 1,
+            values: &[90, 2, 6, 3, 5],
+            threshold: 2,
+            contrast: 200,
+            nodes: &[0],
+            map: &[1, 1, 1, 1, 1],
+            rows: &[[1, 2, 2, 5, 96, 90, 1, 5, 1, 1, 1, 1, 1239, 1000, 2000, 0, 0]],
+        },
         // a flat root has no flux; its covariance is negative, and not a whole number of thousandths
         Case {
             width: 2,
