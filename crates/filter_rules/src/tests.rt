@@ -72,6 +72,10 @@ fn small_planes(rt: HostRuntime) {
         max_area: 1,
         ..anything()
     };
+    let flux_of_four = Criterion {
+        min_flux: 4,
+        ..anything()
+    };
     let cases = [
         Case {
             width: 5,
@@ -138,6 +142,15 @@ fn small_planes(rt: HostRuntime) {
             rule: Rule::Max,
             criterion: one_pixel,
             filtered: &[0, 1, 2, 3],
+        },
+        // two peaks with flux 4 and 3
+        Case {
+            width: 5,
+            height: 1,
+            values: &[1, 6, 2, 5, 1],
+            rule: Rule::Direct,
+            criterion: flux_of_four,
+            filtered: &[1, 6, 2, 2, 1],
         },
     ];
     for (number, case) in cases.iter().enumerate() {
