@@ -1,6 +1,5 @@
 //! Cells as bytes: 64 bits each, the most significant byte first.
 ghost use Rattle.std.specs.Prelude.{◌≡◌, ◌≢◌, ◌%◌, length, IfOk, MatchOption};
-ghost use Rattle.survey_core.specs.Tables.{IsNumbered};
 ghost use Rattle.survey_sqlite.specs.Blobs.{blob_of, blob_cells, IsBlob};
 
 use dev_io::OutOfMemory;
@@ -21,7 +20,7 @@ pub fn blob_of(alloc: Global, cells: &[i64]) -> Result<Vec<u8>, OutOfMemory>
 
 // The cells of the bytes, where these are whole cells.
 fn whole_cells(alloc: Global, blob: &[u8]) -> Result<Option<Vec<i64>>, OutOfMemory>
-    ensures { IfOk result (λ some. MatchOption some (length blob.now % 8 ≢ 0) (λ cells. cells.items ≡ blob_cells blob.now)) }
+    ensures { IfOk result (λ some. MatchOption some (length blob.now % 8 ≢ 0) (λ cells. (length blob.now % 8 ≡ 0) × (cells.items ≡ blob_cells blob.now))) }
 {
     let mut cells = Vec::new(alloc);
     let mut rest = blob;
@@ -38,7 +37,7 @@ fn whole_cells(alloc: Global, blob: &[u8]) -> Result<Option<Vec<i64>>, OutOfMemo
 
 /// The cells of the bytes, where these are whole rows, each with the number of its place. Only another program writes others.
 pub fn cells_of(alloc: Global, blob: &[u8]) -> Result<Option<Vec<i64>>, OutOfMemory>
-    ensures { IfOk result (λ some. MatchOption some (IsBlob blob.now → ⊥) (λ cells. (cells.items ≡ blob_cells blob.now) × IsNumbered cells.items)) }
+    ensures { IfOk result (λ some. MatchOption some (IsBlob blob.now → ⊥) (λ cells. IsBlob blob.now × (cells.items ≡ blob_cells blob.now))) }
 {
     let Some(cells) = whole_cells(alloc, blob)? else {
         return Ok(None);
