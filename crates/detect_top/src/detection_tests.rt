@@ -1,14 +1,20 @@
 // The command `detect`: its words, its map and its catalogue.
-use crate::in_memory::{NONE_FAILS, file, run_in_memory};
+use crate::in_memory::{Row, append_cards, append_hdu, compare};
 use crate::{Job, Order, Usage, read_words};
 use comp_tree::Connect;
 use source_pick::Choice;
+use std::alloc::Global;
 use std::process::Abort;
 use std::test::Fail;
+use std::thread::Threads;
 
 // Five pixels, 1 6 2 5 1.
 const HILLS: &[u8] =
     b"SIMPLE  = T|BITPIX  = 8|NAXIS   = 2|NAXIS1  = 5|NAXIS2  = 1|END|#\x01\x06\x02\x05\x01";
+
+// Two pixels that are undefined.
+const NO_PIXELS: &[u8] =
+    b"SIMPLE  = T|BITPIX  = 8|NAXIS   = 2|NAXIS1  = 2|NAXIS2  = 1|BLANK   = 7|END|#\x07\x07";
 
 // The row of the left hill: one column in each line.
 const LEFT_HILL: &[u8] = b"\0\0\0\x01\
@@ -66,58 +72,167 @@ const BOTH_HILLS: &[u8] = b"\0\0\0\x01\
     \0\0\0\0\0\0\0\0\
     \0\0\0\0\0\0\0\0";
 
-// So many of the bytes from this place on.
-fn piece(bytes: &[u8], place: usize, count: usize) -> &[u8] {
-    let behind = &bytes[place.min(bytes.len())..];
-    &behind[..count.min(behind.len())]
+const PRIMARY: [&[u8]; 5] = [
+    b"SIMPLE  =                    T",
+    b"BITPIX  =                    8",
+    b"NAXIS   =                    0",
+    b"EXTEND  =                    T",
+    b"END",
+];
+
+// The cards of the table's columns, and those behind them.
+const COLUMNS: [&[u8]; 36] = [
+    b"TTYPE1  = 'NUMBER  '",
+    b"TFORM1  = 'J       '",
+    b"TTYPE2  = 'LEVEL   '",
+    b"TFORM2  = 'K       '",
+    b"TTYPE3  = 'BASE    '",
+    b"TFORM3  = 'K       '",
+    b"TTYPE4  = 'AREA    '",
+    b"TFORM4  = 'J       '",
+    b"TTYPE5  = 'FLUX    '",
+    b"TFORM5  = 'K       '",
+    b"TTYPE6  = 'PEAK    '",
+    b"TFORM6  = 'K       '",
+    b"TTYPE7  = 'XMIN    '",
+    b"TFORM7  = 'J       '",
+    b"TTYPE8  = 'XMAX    '",
+    b"TFORM8  = 'J       '",
+    b"TTYPE9  = 'YMIN    '",
+    b"TFORM9  = 'J       '",
+    b"TTYPE10 = 'YMAX    '",
+    b"TFORM10 = 'J       '",
+    b"TTYPE11 = 'XFIRST  '",
+    b"TFORM11 = 'J       '",
+    b"TTYPE12 = 'YFIRST  '",
+    b"TFORM12 = 'J       '",
+    b"TTYPE13 = 'XCEN    '",
+    b"TFORM13 = 'J       '",
+    b"TTYPE14 = 'YCEN    '",
+    b"TFORM14 = 'J       '",
+    b"TTYPE15 = 'XVAR    '",
+    b"TFORM15 = 'K       '",
+    b"TTYPE16 = 'YVAR    '",
+    b"TFORM16 = 'K       '",
+    b"TTYPE17 = 'XYCOV   '",
+    b"TFORM17 = 'K       '",
+    b"EXTNAME = 'SOURCES '",
+    b"END",
+];
+
+// A run over an image in one row, and what its output has that isn't the same in each.
+#[derive(Clone, Copy)]
+struct Sources<'a> {
+    words: &'a [&'a str],
+    image: &'a [u8],
+    taken: usize,
+    // the cards of the map's width and of the number of rows
+    width: &'a [u8],
+    count: &'a [u8],
+    map: &'a [u8],
+    rows: &'a [&'a [u8]],
 }
 
-// Compares these bytes with a block that begins so and has zeros behind.
-fn compare_block(rt: &impl Abort, block: &[u8], beginning: &[u8]) {
-    assert_eq!(rt; block.len(), 2880);
-    assert!(rt; block.starts_with(beginning));
-    assert!(rt; block.iter().skip(beginning.len()).all(|byte| *byte == 0));
+// The whole output.
+fn written(alloc: Global, case: Sources) -> Result<Vec<u8>, Fail> {
+    let map_cards: [&[u8]; 9] = [
+        b"XTENSION= 'IMAGE   '",
+        b"BITPIX  =                   32",
+        b"NAXIS   =                    2",
+        case.width,
+        b"NAXIS2  =                    1",
+        b"PCOUNT  =                    0",
+        b"GCOUNT  =                    1",
+        b"EXTNAME = 'SEGMENT '",
+        b"END",
+    ];
+    let table_cards: [&[u8]; 8] = [
+        b"XTENSION= 'BINTABLE'",
+        b"BITPIX  =                    8",
+        b"NAXIS   =                    2",
+        b"NAXIS1  =                   96",
+        case.count,
+        b"PCOUNT  =                    0",
+        b"GCOUNT  =                    1",
+        b"TFIELDS =                   17",
+    ];
+    let mut bytes = Vec::new(alloc);
+    append_hdu(&mut bytes, &PRIMARY, &[])?;
+    append_hdu(&mut bytes, &map_cards, &[case.map])?;
+    append_cards(&mut bytes, &table_cards)?;
+    append_hdu(&mut bytes, &COLUMNS, case.rows)?;
+    Ok(bytes)
+}
+
+// Compares all that a run shows.
+fn compare_sources<R: Threads + Sync + Abort>(
+    rt: &R,
+    alloc: Global,
+    case: Sources,
+) -> Result<(), Fail> {
+    let output = written(alloc, case)?;
+    let row = Row {
+        words: case.words,
+        header: case.image,
+        data: b"",
+        status: 0,
+        output: output.as_slice(),
+        notes: b"",
+        taken: case.taken,
+    };
+    compare(rt, alloc, row)
 }
 
 // Two sources where each half has its share of the flux, and else one.
 #[test]
 fn sources_have_their_map_and_their_rows(rt: HostRuntime) -> Result<(), Fail> {
-    let alloc = rt.alloc();
-    let bytes = file(alloc, HILLS, b"")?;
-    let two: &[u8] = b"\0\0\0\0\0\0\0\x01\0\0\0\0\0\0\0\x02";
-    let one: &[u8] = b"\0\0\0\0\0\0\0\x01\0\0\0\x01\0\0\0\x01";
-    // the contrast, the map and the rows
-    let cases: [(&str, &[u8], [&[u8]; 2]); 3] = [
-        ("300", two, [LEFT_HILL, RIGHT_HILL]),
-        ("301", one, [BOTH_HILLS, b""]),
-        ("1000", one, [BOTH_HILLS, b""]),
+    let cases: [Sources; 3] = [
+        Sources {
+            words: &["detect", "--threshold", "2", "--contrast", "300"],
+            image: HILLS,
+            taken: 2885,
+            width: b"NAXIS1  =                    5",
+            count: b"NAXIS2  =                    2",
+            map: b"\0\0\0\0\0\0\0\x01\0\0\0\0\0\0\0\x02\0\0\0\0",
+            rows: &[LEFT_HILL, RIGHT_HILL],
+        },
+        Sources {
+            words: &["detect", "--threshold", "2", "--contrast", "301"],
+            image: HILLS,
+            taken: 2885,
+            width: b"NAXIS1  =                    5",
+            count: b"NAXIS2  =                    1",
+            map: b"\0\0\0\0\0\0\0\x01\0\0\0\x01\0\0\0\x01\0\0\0\0",
+            rows: &[BOTH_HILLS],
+        },
+        Sources {
+            words: &["detect", "--threshold", "2", "--contrast", "1000"],
+            image: HILLS,
+            taken: 2885,
+            width: b"NAXIS1  =                    5",
+            count: b"NAXIS2  =                    1",
+            map: b"\0\0\0\0\0\0\0\x01\0\0\0\x01\0\0\0\x01\0\0\0\0",
+            rows: &[BOTH_HILLS],
+        },
     ];
-    for (contrast, map, [first, second]) in cases {
-        let words = ["detect", "--threshold", "2", "--contrast", contrast];
-        let found = run_in_memory(&rt, alloc, &words, &bytes, 17_280, NONE_FAILS)?;
-        assert_eq!(rt; found.status, 0);
-        assert_eq!(rt; found.output.len(), 17_280);
-        compare_block(&rt, piece(&found.output, 5760, 2880), map);
-        let mut rows = first.to_vec(alloc)?;
-        rows.extend_from_slice(second)?;
-        compare_block(&rt, piece(&found.output, 14_400, 2880), &rows);
+    for case in cases {
+        compare_sources(&rt, rt.alloc(), case)?;
     }
     Ok(())
 }
 
 #[test]
 fn an_image_without_pixels_has_an_empty_catalogue(rt: HostRuntime) -> Result<(), Fail> {
-    let alloc = rt.alloc();
-    let header = b"SIMPLE  = T|BITPIX  = 8|NAXIS   = 2|NAXIS1  = 2|NAXIS2  = 1|BLANK   = 7|END|#";
-    let bytes = file(alloc, header, &[7, 7])?;
-    let words = ["detect", "--threshold", "1"];
-    let found = run_in_memory(&rt, alloc, &words, &bytes, 17_280, NONE_FAILS)?;
-    assert_eq!(rt; found.status, 0);
-    assert_eq!(rt; found.output.len(), 14_400);
-    compare_block(&rt, piece(&found.output, 5760, 2880), b"");
-    let rows: &[u8] = b"NAXIS2  =                    0";
-    assert_eq!(rt; piece(&found.output, 8960, 30), rows);
-    Ok(())
+    let case = Sources {
+        words: &["detect", "--threshold", "1"],
+        image: NO_PIXELS,
+        taken: 2882,
+        width: b"NAXIS1  =                    2",
+        count: b"NAXIS2  =                    0",
+        map: b"\0\0\0\0\0\0\0\0",
+        rows: &[],
+    };
+    compare_sources(&rt, rt.alloc(), case)
 }
 
 #[test]

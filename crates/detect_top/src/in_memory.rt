@@ -13,14 +13,18 @@ const BLOCK: usize = 2880;
 
 const PIECE: usize = 1000;
 
-/// Which takes of the input and which calls of the output and of the notes fail, by their numbers from 1, and how many bytes of its piece a call of
-/// the output that fails keeps.
+/// Room for what is written of a few pixels.
+pub(crate) const ROOM: usize = 17_280;
+
+/// Which takes of the input and which calls of the output and of the notes fail, by their numbers from 1, and how many bytes of its piece a call that
+/// fails keeps, on the output and on the notes.
 #[derive(Clone, Copy)]
 pub(crate) struct Failing<'a> {
     pub(crate) takes: &'a [u32],
     pub(crate) puts: &'a [u32],
     pub(crate) kept: usize,
     pub(crate) notes: &'a [u32],
+    pub(crate) notes_kept: usize,
 }
 
 /// No device fails.
@@ -29,6 +33,7 @@ pub(crate) const NONE_FAILS: Failing<'static> = Failing {
     puts: &[],
     kept: 0,
     notes: &[],
+    notes_kept: 0,
 };
 
 /// What came of a run: its status, what it wrote, and how many bytes of the input it left.
@@ -52,13 +57,13 @@ pub(crate) struct Row<'a> {
     pub(crate) taken: usize,
 }
 
-// Fills the last piece of this size with spaces.
-fn fill(bytes: &mut Vec<u8>, size: usize) -> Result<(), Fail> {
+// Fills the last piece of this size with this byte.
+fn fill(bytes: &mut Vec<u8>, size: usize, byte: u8) -> Result<(), Fail> {
     for _ in 0..BLOCK {
         if size == 0 || bytes.len() % size == 0 {
             return Ok(());
         }
-        bytes.push(b' ')?;
+        bytes.push(byte)?;
     }
     Ok(())
 }
@@ -67,13 +72,32 @@ fn fill(bytes: &mut Vec<u8>, size: usize) -> Result<(), Fail> {
 pub(crate) fn append(bytes: &mut Vec<u8>, header: &[u8], data: &[u8]) -> Result<(), Fail> {
     for byte in header {
         match *byte {
-            b'|' => fill(bytes, 80)?,
-            b'#' => fill(bytes, BLOCK)?,
+            b'|' => fill(bytes, 80, b' ')?,
+            b'#' => fill(bytes, BLOCK, b' ')?,
             other => bytes.push(other)?,
         }
     }
     bytes.extend_from_slice(data)?;
     Ok(())
+}
+
+/// Appends these cards, each filled up with spaces.
+pub(crate) fn append_cards(bytes: &mut Vec<u8>, cards: &[&[u8]]) -> Result<(), Fail> {
+    for card in cards {
+        bytes.extend_from_slice(card)?;
+        fill(bytes, 80, b' ')?;
+    }
+    Ok(())
+}
+
+/// Appends an HDU as a run writes it: these cards, and the data in these pieces, each of the two in whole blocks.
+pub(crate) fn append_hdu(bytes: &mut Vec<u8>, cards: &[&[u8]], data: &[&[u8]]) -> Result<(), Fail> {
+    append_cards(bytes, cards)?;
+    fill(bytes, BLOCK, b' ')?;
+    for piece in data {
+        bytes.extend_from_slice(piece)?;
+    }
+    fill(bytes, BLOCK, 0)
 }
 
 /// A file of this text and these data.
@@ -94,7 +118,7 @@ pub(crate) fn run_in_memory<R: Threads + Sync>(
 ) -> Result<Outcome, Fail> {
     let mut input = MemSource::new(bytes, PIECE, failing.takes);
     let mut output = MemSink::new(vec![in alloc; 0; room]?, failing.puts, failing.kept);
-    let mut notes = MemSink::new(vec![in alloc; 0; 99]?, failing.notes, 0);
+    let mut notes = MemSink::new(vec![in alloc; 0; 99]?, failing.notes, failing.notes_kept);
     let status = run(
         rt,
         alloc,
@@ -119,7 +143,7 @@ pub(crate) fn compare<R: Threads + Sync + Abort>(
     row: Row,
 ) -> Result<(), Fail> {
     let bytes = file(alloc, row.header, row.data)?;
-    let outcome = run_in_memory(rt, alloc, row.words, &bytes, 200, NONE_FAILS)?;
+    let outcome = run_in_memory(rt, alloc, row.words, &bytes, ROOM, NONE_FAILS)?;
     assert_eq!(rt; outcome.status, row.status);
     assert_eq!(rt; outcome.output.as_slice(), row.output);
     assert_eq!(rt; outcome.notes.as_slice(), row.notes);
