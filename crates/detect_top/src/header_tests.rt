@@ -5,6 +5,31 @@ use std::process::Abort;
 use std::test::Fail;
 use std::thread::Threads;
 
+// A file that is refused, with any data behind its cards.
+#[derive(Clone, Copy)]
+struct Refused<'a> {
+    hdu: &'a str,
+    cards: &'a [u8],
+    notes: &'a [u8],
+    taken: usize,
+}
+
+// A file that is read, whose pixels are stored as 48.
+#[derive(Clone, Copy)]
+struct Read<'a> {
+    hdu: &'a str,
+    cards: &'a [u8],
+    lines: &'a [u8],
+    taken: usize,
+}
+
+// The side of a mesh's cells, and the lines that a run with it writes.
+#[derive(Clone, Copy)]
+struct Meshed<'a> {
+    mesh: &'a str,
+    lines: &'a [u8],
+}
+
 // Runs `tree` on the HDU with this number, and compares all that can be seen.
 fn compare<R: Threads + Sync + Abort>(
     rt: &R,
@@ -23,115 +48,145 @@ fn compare<R: Threads + Sync + Abort>(
     Ok(())
 }
 
+fn compare_refused<R: Threads + Sync + Abort>(
+    rt: &R,
+    alloc: Global,
+    case: Refused,
+) -> Result<(), Fail> {
+    let bytes = file(alloc, case.cards, b"")?;
+    compare(rt, alloc, case.hdu, &bytes, b"", case.notes, case.taken)
+}
+
+fn compare_read<R: Threads + Sync + Abort>(rt: &R, alloc: Global, case: Read) -> Result<(), Fail> {
+    let bytes = file(alloc, case.cards, b"")?;
+    compare(rt, alloc, case.hdu, &bytes, case.lines, b"", case.taken)
+}
+
 // Bytes that end within a header, and an END that isn't one.
 #[test]
 fn headers_that_end_early(rt: HostRuntime) -> Result<(), Fail> {
-    // the number of the HDU, the text of the file, the line on the notes and the bytes taken
-    let cases: [(&str, &[u8], &[u8], usize); 6] = [
-        ("0", b"SIMPLE  = F", b"refused: 2 TruncatedHeader\n", 11),
-        (
-            "0",
-            b"SIMPLE  = T|BITPIX  = 8|NAXIS   = 2|NAXIS1  = 3|NAXIS2  = 1|#",
-            b"refused: 2 TruncatedHeader\n",
-            2880,
-        ),
-        ("0", b"SIMPLE ", b"refused: 1 NotFits\n", 7),
-        ("0", b"SIMPLE  ", b"refused: 2 TruncatedHeader\n", 8),
-        (
-            "0",
-            b"SIMPLE  = T|BITPIX  = 8|NAXIS   = 2|NAXIS1  = 1|NAXIS2  = 1|END                                                                            /#",
-            b"refused: 2 TruncatedHeader\n",
-            2880,
-        ),
-        (
-            "0",
-            b"SIMPLE  = T|BITPIX  = 8|NAXIS   = 2|NAXIS1  = 1|NAXIS2  = 1| END|#",
-            b"refused: 2 TruncatedHeader\n",
-            2880,
-        ),
+    let cases: [Refused; 6] = [
+        Refused {
+            hdu: "0",
+            cards: b"SIMPLE  = F",
+            notes: b"refused: 2 TruncatedHeader\n",
+            taken: 11,
+        },
+        Refused {
+            hdu: "0",
+            cards: b"SIMPLE  = T|BITPIX  = 8|NAXIS   = 2|NAXIS1  = 3|NAXIS2  = 1|#",
+            notes: b"refused: 2 TruncatedHeader\n",
+            taken: 2880,
+        },
+        Refused {
+            hdu: "0",
+            cards: b"SIMPLE ",
+            notes: b"refused: 1 NotFits\n",
+            taken: 7,
+        },
+        Refused {
+            hdu: "0",
+            cards: b"SIMPLE  ",
+            notes: b"refused: 2 TruncatedHeader\n",
+            taken: 8,
+        },
+        Refused {
+            hdu: "0",
+            cards: b"SIMPLE  = T|BITPIX  = 8|NAXIS   = 2|NAXIS1  = 1|NAXIS2  = 1|END                                                                            /#",
+            notes: b"refused: 2 TruncatedHeader\n",
+            taken: 2880,
+        },
+        Refused {
+            hdu: "0",
+            cards: b"SIMPLE  = T|BITPIX  = 8|NAXIS   = 2|NAXIS1  = 1|NAXIS2  = 1| END|#",
+            notes: b"refused: 2 TruncatedHeader\n",
+            taken: 2880,
+        },
     ];
-    for (hdu, text, note, taken) in cases {
-        let bytes = file(rt.alloc(), text, b"")?;
-        compare(&rt, rt.alloc(), hdu, &bytes, b"", note, taken)?;
+    for case in cases {
+        compare_refused(&rt, rt.alloc(), case)?;
     }
     Ok(())
 }
 
-// A card that isn't the one of its place, or has no permitted value.
+// A card that isn't the one of its place.
 #[test]
-fn mandatory_cards_at_fault(rt: HostRuntime) -> Result<(), Fail> {
-    // the number of the HDU, the text of the file, the line on the notes and the bytes taken
-    let cases: [(&str, &[u8], &[u8], usize); 11] = [
-        (
-            "1",
-            b"SIMPLE  = T|BITPIX  = 8|NAXIS   = 0|END|#XTENSION= 'IMAGE'|BITPIX  = 8|PCOUNT  = 0|NAXIS   = 0|END|#",
-            b"refused: 3 BadKeyword hdu 1 card 3\n",
-            3120,
-        ),
-        (
-            "0",
-            b"SIMPLE  = F|BITPIX  = 8|NAXIS   = 0|END|#",
-            b"refused: 3 BadKeyword hdu 0 card 1\n",
-            80,
-        ),
-        (
-            "0",
-            b"SIMPLE  = T|BITPIX  = 8.0|NAXIS   = 0|END|#",
-            b"refused: 3 BadKeyword hdu 0 card 2\n",
-            160,
-        ),
-        (
-            "0",
-            b"SIMPLE  = T|BITPIX  = 8|NAXIS   = 1000|END|#",
-            b"refused: 3 BadKeyword hdu 0 card 3\n",
-            240,
-        ),
-        (
-            "0",
-            b"SIMPLE  = T|BITPIX  = 8|NAXIS   = 999|NAXIS1  = 1|NAXIS2  = 1|END|#",
-            b"refused: 3 BadKeyword hdu 0 card 6\n",
-            480,
-        ),
-        (
-            "0",
-            b"SIMPLE  = T|BITPIX  = 8|NAXIS   = 2|NAXIS1  = -1|NAXIS2  = 1|END|#",
-            b"refused: 3 BadKeyword hdu 0 card 4\n",
-            320,
-        ),
-        (
-            "0",
-            b"SIMPLE  = T|BITPIX  = 8|NAXIS   = 2|NAXIS1  = 9223372036854775808|NAXIS2  = 1|END|#",
-            b"refused: 3 BadKeyword hdu 0 card 4\n",
-            320,
-        ),
-        (
-            "1",
-            b"SIMPLE  = T|BITPIX  = 8|NAXIS   = 0|END|#XTENSION= 'IMAGE'|BITPIX  = 8|NAXIS   = 0|PCOUNT  = -1|END|#",
-            b"refused: 3 BadKeyword hdu 1 card 4\n",
-            3200,
-        ),
-        (
-            "0",
-            b"SIMPLE  = T|BITPIX  = 8|NAXIS   = 2|NAXIS01 = 1|NAXIS2  = 1|END|#",
-            b"refused: 3 BadKeyword hdu 0 card 4\n",
-            320,
-        ),
-        (
-            "0",
-            b"SIMPLE  = T|BITPIX  = 8|NAXIS   = 2|naxis1  = 1|NAXIS2  = 1|END|#",
-            b"refused: 3 BadKeyword hdu 0 card 4\n",
-            320,
-        ),
-        (
-            "1",
-            b"SIMPLE  = T|BITPIX  = 8|NAXIS   = 0|END|#XTENSION= 5|BITPIX  = 8|NAXIS   = 0|END|#",
-            b"refused: 3 BadKeyword hdu 1 card 1\n",
-            2960,
-        ),
+fn mandatory_cards_out_of_place(rt: HostRuntime) -> Result<(), Fail> {
+    let cases: [Refused; 4] = [
+        Refused {
+            hdu: "1",
+            cards: b"SIMPLE  = T|BITPIX  = 8|NAXIS   = 0|END|#XTENSION= 'IMAGE'|BITPIX  = 8|PCOUNT  = 0|NAXIS   = 0|END|#",
+            notes: b"refused: 3 BadKeyword hdu 1 card 3\n",
+            taken: 3120,
+        },
+        Refused {
+            hdu: "0",
+            cards: b"SIMPLE  = T|BITPIX  = 8|NAXIS   = 999|NAXIS1  = 1|NAXIS2  = 1|END|#",
+            notes: b"refused: 3 BadKeyword hdu 0 card 6\n",
+            taken: 480,
+        },
+        Refused {
+            hdu: "0",
+            cards: b"SIMPLE  = T|BITPIX  = 8|NAXIS   = 2|NAXIS01 = 1|NAXIS2  = 1|END|#",
+            notes: b"refused: 3 BadKeyword hdu 0 card 4\n",
+            taken: 320,
+        },
+        Refused {
+            hdu: "0",
+            cards: b"SIMPLE  = T|BITPIX  = 8|NAXIS   = 2|naxis1  = 1|NAXIS2  = 1|END|#",
+            notes: b"refused: 3 BadKeyword hdu 0 card 4\n",
+            taken: 320,
+        },
     ];
-    for (hdu, text, note, taken) in cases {
-        let bytes = file(rt.alloc(), text, b"")?;
-        compare(&rt, rt.alloc(), hdu, &bytes, b"", note, taken)?;
+    for case in cases {
+        compare_refused(&rt, rt.alloc(), case)?;
+    }
+    Ok(())
+}
+
+// A mandatory card that has no permitted value.
+#[test]
+fn mandatory_cards_with_other_values(rt: HostRuntime) -> Result<(), Fail> {
+    let cases: [Refused; 6] = [
+        Refused {
+            hdu: "0",
+            cards: b"SIMPLE  = F|BITPIX  = 8|NAXIS   = 0|END|#",
+            notes: b"refused: 3 BadKeyword hdu 0 card 1\n",
+            taken: 80,
+        },
+        Refused {
+            hdu: "0",
+            cards: b"SIMPLE  = T|BITPIX  = 8.0|NAXIS   = 0|END|#",
+            notes: b"refused: 3 BadKeyword hdu 0 card 2\n",
+            taken: 160,
+        },
+        Refused {
+            hdu: "0",
+            cards: b"SIMPLE  = T|BITPIX  = 8|NAXIS   = 1000|END|#",
+            notes: b"refused: 3 BadKeyword hdu 0 card 3\n",
+            taken: 240,
+        },
+        Refused {
+            hdu: "0",
+            cards: b"SIMPLE  = T|BITPIX  = 8|NAXIS   = 2|NAXIS1  = -1|NAXIS2  = 1|END|#",
+            notes: b"refused: 3 BadKeyword hdu 0 card 4\n",
+            taken: 320,
+        },
+        Refused {
+            hdu: "0",
+            cards: b"SIMPLE  = T|BITPIX  = 8|NAXIS   = 2|NAXIS1  = 9223372036854775808|NAXIS2  = 1|END|#",
+            notes: b"refused: 3 BadKeyword hdu 0 card 4\n",
+            taken: 320,
+        },
+        Refused {
+            hdu: "1",
+            cards: b"SIMPLE  = T|BITPIX  = 8|NAXIS   = 0|END|#XTENSION= 5|BITPIX  = 8|NAXIS   = 0|END|#",
+            notes: b"refused: 3 BadKeyword hdu 1 card 1\n",
+            taken: 2960,
+        },
+    ];
+    for case in cases {
+        compare_refused(&rt, rt.alloc(), case)?;
     }
     Ok(())
 }
@@ -139,48 +194,52 @@ fn mandatory_cards_at_fault(rt: HostRuntime) -> Result<(), Fail> {
 // PCOUNT and GCOUNT of an extension that can't be read, or make it no image.
 #[test]
 fn counts_at_fault(rt: HostRuntime) -> Result<(), Fail> {
-    // the number of the HDU, the text of the file, the line on the notes and the bytes taken
-    let cases: [(&str, &[u8], &[u8], usize); 6] = [
-        (
-            "1",
-            b"SIMPLE  = T|BITPIX  = 8|NAXIS   = 0|END|#XTENSION= 'IMAGE'|BITPIX  = 8|NAXIS   = 0|PCOUNT  = 'x'|END|#",
-            b"refused: 3 BadKeyword hdu 1 card 4\n",
-            3200,
-        ),
-        (
-            "1",
-            b"SIMPLE  = T|BITPIX  = 8|NAXIS   = 0|END|#XTENSION= 'IMAGE'|BITPIX  = 8|NAXIS   = 0|GCOUNT  = -1|END|#",
-            b"refused: 3 BadKeyword hdu 1 card 4\n",
-            3200,
-        ),
-        (
-            "1",
-            b"SIMPLE  = T|BITPIX  = 8|NAXIS   = 0|END|#XTENSION= 'IMAGE'|BITPIX  = 8|NAXIS   = 2|NAXIS1  = 1|NAXIS2  = 1|GCOUNT  = 2|END|#00",
-            b"refused: 10 NotImage\n",
-            5760,
-        ),
-        (
-            "1",
-            b"SIMPLE  = T|BITPIX  = 8|NAXIS   = 0|END|#XTENSION= 'IMAGE'|BITPIX  = 8|NAXIS   = 2|NAXIS1  = 1|NAXIS2  = 1|PCOUNT  = 8|END|#000000000",
-            b"refused: 10 NotImage\n",
-            5760,
-        ),
-        (
-            "2",
-            b"SIMPLE  = T|BITPIX  = 8|NAXIS   = 0|END|#XTENSION= 'IMAGE'|BITPIX  = 8|NAXIS   = 2|NAXIS1  = 1|NAXIS2  = 1|GCOUNT  = 2|END|#0",
-            b"refused: 8 TruncatedSkip\n",
-            5761,
-        ),
-        (
-            "2",
-            b"SIMPLE  = T|BITPIX  = 8|NAXIS   = 0|END|#XTENSION= 'IMAGE'|BITPIX  = 8|NAXIS   = 2|NAXIS1  = 1|NAXIS2  = 1|PCOUNT  = 8|END|#00000000",
-            b"refused: 8 TruncatedSkip\n",
-            5768,
-        ),
+    let cases: [Refused; 7] = [
+        Refused {
+            hdu: "1",
+            cards: b"SIMPLE  = T|BITPIX  = 8|NAXIS   = 0|END|#XTENSION= 'IMAGE'|BITPIX  = 8|NAXIS   = 0|PCOUNT  = -1|END|#",
+            notes: b"refused: 3 BadKeyword hdu 1 card 4\n",
+            taken: 3200,
+        },
+        Refused {
+            hdu: "1",
+            cards: b"SIMPLE  = T|BITPIX  = 8|NAXIS   = 0|END|#XTENSION= 'IMAGE'|BITPIX  = 8|NAXIS   = 0|PCOUNT  = 'x'|END|#",
+            notes: b"refused: 3 BadKeyword hdu 1 card 4\n",
+            taken: 3200,
+        },
+        Refused {
+            hdu: "1",
+            cards: b"SIMPLE  = T|BITPIX  = 8|NAXIS   = 0|END|#XTENSION= 'IMAGE'|BITPIX  = 8|NAXIS   = 0|GCOUNT  = -1|END|#",
+            notes: b"refused: 3 BadKeyword hdu 1 card 4\n",
+            taken: 3200,
+        },
+        Refused {
+            hdu: "1",
+            cards: b"SIMPLE  = T|BITPIX  = 8|NAXIS   = 0|END|#XTENSION= 'IMAGE'|BITPIX  = 8|NAXIS   = 2|NAXIS1  = 1|NAXIS2  = 1|GCOUNT  = 2|END|#00",
+            notes: b"refused: 10 NotImage\n",
+            taken: 5760,
+        },
+        Refused {
+            hdu: "1",
+            cards: b"SIMPLE  = T|BITPIX  = 8|NAXIS   = 0|END|#XTENSION= 'IMAGE'|BITPIX  = 8|NAXIS   = 2|NAXIS1  = 1|NAXIS2  = 1|PCOUNT  = 8|END|#000000000",
+            notes: b"refused: 10 NotImage\n",
+            taken: 5760,
+        },
+        Refused {
+            hdu: "2",
+            cards: b"SIMPLE  = T|BITPIX  = 8|NAXIS   = 0|END|#XTENSION= 'IMAGE'|BITPIX  = 8|NAXIS   = 2|NAXIS1  = 1|NAXIS2  = 1|GCOUNT  = 2|END|#0",
+            notes: b"refused: 8 TruncatedSkip\n",
+            taken: 5761,
+        },
+        Refused {
+            hdu: "2",
+            cards: b"SIMPLE  = T|BITPIX  = 8|NAXIS   = 0|END|#XTENSION= 'IMAGE'|BITPIX  = 8|NAXIS   = 2|NAXIS1  = 1|NAXIS2  = 1|PCOUNT  = 8|END|#00000000",
+            notes: b"refused: 8 TruncatedSkip\n",
+            taken: 5768,
+        },
     ];
-    for (hdu, text, note, taken) in cases {
-        let bytes = file(rt.alloc(), text, b"")?;
-        compare(&rt, rt.alloc(), hdu, &bytes, b"", note, taken)?;
+    for case in cases {
+        compare_refused(&rt, rt.alloc(), case)?;
     }
     Ok(())
 }
@@ -188,177 +247,207 @@ fn counts_at_fault(rt: HostRuntime) -> Result<(), Fail> {
 // Behind an HDU stand other bytes, or too few.
 #[test]
 fn bytes_where_no_hdu_begins(rt: HostRuntime) -> Result<(), Fail> {
-    // the number of the HDU, the text of the file, the line on the notes and the bytes taken
-    let cases: [(&str, &[u8], &[u8], usize); 3] = [
-        (
-            "1",
-            b"SIMPLE  = T|BITPIX  = 8|NAXIS   = 0|END|#no HDU begins",
-            b"refused: 7 NoSuchHdu\n",
-            2893,
-        ),
-        (
-            "1",
-            b"SIMPLE  = T|BITPIX  = 8|NAXIS   = 0|END|#XTENSIO",
-            b"refused: 7 NoSuchHdu\n",
-            2887,
-        ),
-        (
-            "1",
-            b"SIMPLE  = T|BITPIX  = 8|NAXIS   = 0|END|#X",
-            b"refused: 7 NoSuchHdu\n",
-            2881,
-        ),
+    let cases: [Refused; 3] = [
+        Refused {
+            hdu: "1",
+            cards: b"SIMPLE  = T|BITPIX  = 8|NAXIS   = 0|END|#no HDU begins",
+            notes: b"refused: 7 NoSuchHdu\n",
+            taken: 2893,
+        },
+        Refused {
+            hdu: "1",
+            cards: b"SIMPLE  = T|BITPIX  = 8|NAXIS   = 0|END|#XTENSIO",
+            notes: b"refused: 7 NoSuchHdu\n",
+            taken: 2887,
+        },
+        Refused {
+            hdu: "1",
+            cards: b"SIMPLE  = T|BITPIX  = 8|NAXIS   = 0|END|#X",
+            notes: b"refused: 7 NoSuchHdu\n",
+            taken: 2881,
+        },
     ];
-    for (hdu, text, note, taken) in cases {
-        let bytes = file(rt.alloc(), text, b"")?;
-        compare(&rt, rt.alloc(), hdu, &bytes, b"", note, taken)?;
+    for case in cases {
+        compare_refused(&rt, rt.alloc(), case)?;
     }
     Ok(())
 }
 
 // Faults that a whole header shows.
 #[test]
-fn images_that_cannot_be_read(rt: HostRuntime) -> Result<(), Fail> {
-    // the number of the HDU, the text of the file, the line on the notes and the bytes taken
-    let cases: [(&str, &[u8], &[u8], usize); 10] = [
-        (
-            "0",
-            b"SIMPLE  = T|BITPIX  = 8|NAXIS   = 3|NAXIS1  = 9223372036854775807|NAXIS2  = 9223372036854775807|NAXIS3  = 9223372036854775807|END|#",
-            b"refused: 6 DataTooLong\n",
-            2880,
-        ),
-        (
-            "0",
-            b"SIMPLE  = T|BITPIX  = 8|NAXIS   = 4|NAXIS1  = 9223372036854775807|NAXIS2  = 9223372036854775807|NAXIS3  = 9223372036854775807|NAXIS4  = 0|END|#",
-            b"refused: 11 NoImage\n",
-            2880,
-        ),
-        (
-            "1",
-            b"SIMPLE  = T|BITPIX  = 8|NAXIS   = 0|END|#XTENSION= 'BINTABLE'|BITPIX  = 8|NAXIS   = 2|NAXIS1  = 8|NAXIS2  = 1|PCOUNT  = 0|GCOUNT  = 1|TFIELDS = 1|END|#",
-            b"refused: 10 NotImage\n",
-            5760,
-        ),
-        (
-            "0",
-            b"SIMPLE  = T|BITPIX  = 8|NAXIS   = 2|NAXIS1  = 1|NAXIS2  = 1|BZERO   = 1E-99999999999999999999|END|#0",
-            b"refused: 15 Bzero\n",
-            2880,
-        ),
-        (
-            "0",
-            b"SIMPLE  = T|BITPIX  = 8|NAXIS   = 2|NAXIS1  = 1|NAXIS2  = 1|BZERO   = 4294967297|END|#0",
-            b"refused: 15 Bzero\n",
-            2880,
-        ),
-        (
-            "0",
-            b"SIMPLE  = T|BITPIX  = 8|NAXIS   = 2|NAXIS1  = 1|NAXIS2  = 1|BSCALE  = '1'|END|#0",
-            b"refused: 14 Bscale\n",
-            2880,
-        ),
-        (
-            "0",
-            b"SIMPLE  = T|BITPIX  = 8|NAXIS   = 2|NAXIS1  = 1|NAXIS2  = 1|BLANK   = 9223372036854775808|END|#0",
-            b"refused: 16 Blank\n",
-            2880,
-        ),
-        (
-            "0",
-            b"SIMPLE  = T|BITPIX  = 8|NAXIS   = 2|NAXIS1  = 1|NAXIS2  = 1|BSCALE  = / c|BSCALE  = 2|END|#0",
-            b"refused: 14 Bscale\n",
-            2880,
-        ),
-        (
-            "0",
-            b"SIMPLE  = T|BITPIX  = 8|NAXIS   = 1|NAXIS1  = 0|GROUPS  = 'T'|END|#",
-            b"refused: 11 NoImage\n",
-            2880,
-        ),
-        (
-            "0",
-            b"SIMPLE  = T|BITPIX  = 8|NAXIS   = 1|NAXIS1  = 0|GROUPS  = F|END|#",
-            b"refused: 11 NoImage\n",
-            2880,
-        ),
+fn hdus_that_hold_no_image(rt: HostRuntime) -> Result<(), Fail> {
+    let cases: [Refused; 3] = [
+        Refused {
+            hdu: "0",
+            cards: b"SIMPLE  = T|BITPIX  = 8|NAXIS   = 3|NAXIS1  = 9223372036854775807|NAXIS2  = 9223372036854775807|NAXIS3  = 9223372036854775807|END|#",
+            notes: b"refused: 6 DataTooLong\n",
+            taken: 2880,
+        },
+        Refused {
+            hdu: "0",
+            cards: b"SIMPLE  = T|BITPIX  = 8|NAXIS   = 4|NAXIS1  = 9223372036854775807|NAXIS2  = 9223372036854775807|NAXIS3  = 9223372036854775807|NAXIS4  = 0|END|#",
+            notes: b"refused: 11 NoImage\n",
+            taken: 2880,
+        },
+        Refused {
+            hdu: "1",
+            cards: b"SIMPLE  = T|BITPIX  = 8|NAXIS   = 0|END|#XTENSION= 'BINTABLE'|BITPIX  = 8|NAXIS   = 2|NAXIS1  = 8|NAXIS2  = 1|PCOUNT  = 0|GCOUNT  = 1|TFIELDS = 1|END|#",
+            notes: b"refused: 10 NotImage\n",
+            taken: 5760,
+        },
     ];
-    for (hdu, text, note, taken) in cases {
-        let bytes = file(rt.alloc(), text, b"")?;
-        compare(&rt, rt.alloc(), hdu, &bytes, b"", note, taken)?;
+    for case in cases {
+        compare_refused(&rt, rt.alloc(), case)?;
+    }
+    Ok(())
+}
+
+// BSCALE, BZERO and BLANK with values that they may not have.
+#[test]
+fn scalings_that_cannot_be_read(rt: HostRuntime) -> Result<(), Fail> {
+    let cases: [Refused; 5] = [
+        Refused {
+            hdu: "0",
+            cards: b"SIMPLE  = T|BITPIX  = 8|NAXIS   = 2|NAXIS1  = 1|NAXIS2  = 1|BZERO   = 1E-99999999999999999999|END|#0",
+            notes: b"refused: 15 Bzero\n",
+            taken: 2880,
+        },
+        Refused {
+            hdu: "0",
+            cards: b"SIMPLE  = T|BITPIX  = 8|NAXIS   = 2|NAXIS1  = 1|NAXIS2  = 1|BZERO   = 4294967297|END|#0",
+            notes: b"refused: 15 Bzero\n",
+            taken: 2880,
+        },
+        Refused {
+            hdu: "0",
+            cards: b"SIMPLE  = T|BITPIX  = 8|NAXIS   = 2|NAXIS1  = 1|NAXIS2  = 1|BSCALE  = '1'|END|#0",
+            notes: b"refused: 14 Bscale\n",
+            taken: 2880,
+        },
+        Refused {
+            hdu: "0",
+            cards: b"SIMPLE  = T|BITPIX  = 8|NAXIS   = 2|NAXIS1  = 1|NAXIS2  = 1|BLANK   = 9223372036854775808|END|#0",
+            notes: b"refused: 16 Blank\n",
+            taken: 2880,
+        },
+        Refused {
+            hdu: "0",
+            cards: b"SIMPLE  = T|BITPIX  = 8|NAXIS   = 2|NAXIS1  = 1|NAXIS2  = 1|BSCALE  = / c|BSCALE  = 2|END|#0",
+            notes: b"refused: 14 Bscale\n",
+            taken: 2880,
+        },
+    ];
+    for case in cases {
+        compare_refused(&rt, rt.alloc(), case)?;
+    }
+    Ok(())
+}
+
+// A primary whose GROUPS is T has random groups. Another HDU with these axes has no image.
+#[test]
+fn groups_that_are_none(rt: HostRuntime) -> Result<(), Fail> {
+    let cases: [Refused; 3] = [
+        Refused {
+            hdu: "0",
+            cards: b"SIMPLE  = T|BITPIX  = 8|NAXIS   = 1|NAXIS1  = 0|GROUPS  = 'T'|END|#",
+            notes: b"refused: 11 NoImage\n",
+            taken: 2880,
+        },
+        Refused {
+            hdu: "0",
+            cards: b"SIMPLE  = T|BITPIX  = 8|NAXIS   = 1|NAXIS1  = 0|GROUPS  = F|END|#",
+            notes: b"refused: 11 NoImage\n",
+            taken: 2880,
+        },
+        Refused {
+            hdu: "1",
+            cards: b"SIMPLE  = T|BITPIX  = 8|NAXIS   = 0|END|#XTENSION= 'IMAGE'|BITPIX  = 8|NAXIS   = 1|NAXIS1  = 0|GROUPS  = T|END|#",
+            notes: b"refused: 11 NoImage\n",
+            taken: 5760,
+        },
+    ];
+    for case in cases {
+        compare_refused(&rt, rt.alloc(), case)?;
     }
     Ok(())
 }
 
 #[test]
 fn odd_headers_are_read(rt: HostRuntime) -> Result<(), Fail> {
-    // the text of the file, whose one pixel is stored as 48, and the line of its node
-    let cases: [(&[u8], &[u8]); 5] = [
-        (
-            b"SIMPLE  = T|BITPIX  = 8|NAXIS   = 2|NAXIS1  = 1|NAXIS2  = 1|PCOUNT  = 'x'|END|#0",
-            b"0 48 0 - 1\n",
-        ),
-        (
-            b"SIMPLE  = T|BITPIX  = 8|NAXIS   = 2|NAXIS1  = 1|NAXIS2  = 1|BZERO   = 32768.000000000000000000000000000000000000000000000000000000000000|END|#0",
-            b"0 32816 0 - 1\n",
-        ),
-        (
-            b"SIMPLE  = T|BITPIX  = 8|NAXIS   = 2|NAXIS1  = 1|NAXIS2  = 1|BZERO   = 0E99999999999999999999|END|#0",
-            b"0 48 0 - 1\n",
-        ),
-        (
-            b"SIMPLE  = T|BITPIX  = 8|NAXIS   = 2|NAXIS1  = 1|NAXIS2  = 1|BZERO   = 4294967296|END|#0",
-            b"0 4294967344 0 - 1\n",
-        ),
-        (
-            b"SIMPLE  = T|BITPIX  = 8|NAXIS   = 2|NAXIS1  = 1|NAXIS2  = 1|BLANK   = 304|END|#0",
-            b"0 48 0 - 1\n",
-        ),
+    let cases: [Read; 5] = [
+        Read {
+            hdu: "0",
+            cards: b"SIMPLE  = T|BITPIX  = 8|NAXIS   = 2|NAXIS1  = 1|NAXIS2  = 1|PCOUNT  = 'x'|END|#0",
+            lines: b"0 48 0 - 1\n",
+            taken: 2881,
+        },
+        Read {
+            hdu: "0",
+            cards: b"SIMPLE  = T|BITPIX  = 8|NAXIS   = 2|NAXIS1  = 1|NAXIS2  = 1|BZERO   = 32768.000000000000000000000000000000000000000000000000000000000000|END|#0",
+            lines: b"0 32816 0 - 1\n",
+            taken: 2881,
+        },
+        Read {
+            hdu: "0",
+            cards: b"SIMPLE  = T|BITPIX  = 8|NAXIS   = 2|NAXIS1  = 1|NAXIS2  = 1|BZERO   = 0E99999999999999999999|END|#0",
+            lines: b"0 48 0 - 1\n",
+            taken: 2881,
+        },
+        Read {
+            hdu: "0",
+            cards: b"SIMPLE  = T|BITPIX  = 8|NAXIS   = 2|NAXIS1  = 1|NAXIS2  = 1|BZERO   = 4294967296|END|#0",
+            lines: b"0 4294967344 0 - 1\n",
+            taken: 2881,
+        },
+        Read {
+            hdu: "0",
+            cards: b"SIMPLE  = T|BITPIX  = 8|NAXIS   = 2|NAXIS1  = 1|NAXIS2  = 1|BLANK   = 304|END|#0",
+            lines: b"0 48 0 - 1\n",
+            taken: 2881,
+        },
     ];
-    for (text, line) in cases {
-        let bytes = file(rt.alloc(), text, b"")?;
-        compare(&rt, rt.alloc(), "0", &bytes, line, b"", 2881)?;
+    for case in cases {
+        compare_read(&rt, rt.alloc(), case)?;
     }
     Ok(())
 }
 
 #[test]
 fn odd_extensions_are_read(rt: HostRuntime) -> Result<(), Fail> {
-    // the number of the HDU, the text of the file, whose pixels are stored as 48, the lines and the bytes taken
-    let cases: [(&str, &[u8], &[u8], usize); 5] = [
-        (
-            "1",
-            b"SIMPLE  = T|BITPIX  = 8|NAXIS   = 0|END|#XTENSION= 'IMAGE'|BITPIX  = 8|NAXIS   = 2|NAXIS1  = 1|NAXIS2  = 1|PCOUNT  = 0|GCOUNT  = 1|PCOUNT  = 'x'|END|#0",
-            b"0 48 0 - 1\n",
-            5761,
-        ),
-        (
-            "1",
-            b"SIMPLE  = T|BITPIX  = 8|NAXIS   = 0|END|#XTENSION= 'IMAGE'|BITPIX  = 8|NAXIS   = 2|NAXIS1  = 1|NAXIS2  = 1|GROUPS  = T|END|#0",
-            b"0 48 0 - 1\n",
-            5761,
-        ),
-        (
-            "0",
-            b"SIMPLE  = T|BITPIX  = 8|NAXIS   = 2|NAXIS1  = 3|NAXIS2  = 1|GROUPS  = T|END|#000",
-            b"0 48 0 - 3\n",
-            2883,
-        ),
-        (
-            "2",
-            b"SIMPLE  = T|BITPIX  = 8|NAXIS   = 0|END|#XTENSION= 'IMAGE'|BITPIX  = 8|NAXIS   = 2|NAXIS1  = 1|NAXIS2  = 1|GCOUNT  = 2|END|#00#XTENSION= 'IMAGE'|BITPIX  = 8|NAXIS   = 2|NAXIS1  = 1|NAXIS2  = 1|END|#0",
-            b"0 48 0 - 1\n",
-            11521,
-        ),
-        (
-            "2",
-            b"SIMPLE  = T|BITPIX  = 8|NAXIS   = 0|END|#XTENSION= 'IMAGE'|BITPIX  = 8|NAXIS   = 2|NAXIS1  = 1|NAXIS2  = 1|PCOUNT  = 8|END|#000000000#XTENSION= 'IMAGE'|BITPIX  = 8|NAXIS   = 2|NAXIS1  = 1|NAXIS2  = 1|END|#0",
-            b"0 48 0 - 1\n",
-            11521,
-        ),
+    let cases: [Read; 5] = [
+        Read {
+            hdu: "1",
+            cards: b"SIMPLE  = T|BITPIX  = 8|NAXIS   = 0|END|#XTENSION= 'IMAGE'|BITPIX  = 8|NAXIS   = 2|NAXIS1  = 1|NAXIS2  = 1|PCOUNT  = 0|GCOUNT  = 1|PCOUNT  = 'x'|END|#0",
+            lines: b"0 48 0 - 1\n",
+            taken: 5761,
+        },
+        Read {
+            hdu: "1",
+            cards: b"SIMPLE  = T|BITPIX  = 8|NAXIS   = 0|END|#XTENSION= 'IMAGE'|BITPIX  = 8|NAXIS   = 2|NAXIS1  = 1|NAXIS2  = 1|GROUPS  = T|END|#0",
+            lines: b"0 48 0 - 1\n",
+            taken: 5761,
+        },
+        Read {
+            hdu: "0",
+            cards: b"SIMPLE  = T|BITPIX  = 8|NAXIS   = 2|NAXIS1  = 3|NAXIS2  = 1|GROUPS  = T|END|#000",
+            lines: b"0 48 0 - 3\n",
+            taken: 2883,
+        },
+        Read {
+            hdu: "2",
+            cards: b"SIMPLE  = T|BITPIX  = 8|NAXIS   = 0|END|#XTENSION= 'IMAGE'|BITPIX  = 8|NAXIS   = 2|NAXIS1  = 1|NAXIS2  = 1|GCOUNT  = 2|END|#00#XTENSION= 'IMAGE'|BITPIX  = 8|NAXIS   = 2|NAXIS1  = 1|NAXIS2  = 1|END|#0",
+            lines: b"0 48 0 - 1\n",
+            taken: 11521,
+        },
+        Read {
+            hdu: "2",
+            cards: b"SIMPLE  = T|BITPIX  = 8|NAXIS   = 0|END|#XTENSION= 'IMAGE'|BITPIX  = 8|NAXIS   = 2|NAXIS1  = 1|NAXIS2  = 1|PCOUNT  = 8|END|#000000000#XTENSION= 'IMAGE'|BITPIX  = 8|NAXIS   = 2|NAXIS1  = 1|NAXIS2  = 1|END|#0",
+            lines: b"0 48 0 - 1\n",
+            taken: 11521,
+        },
     ];
-    for (hdu, text, lines, taken) in cases {
-        let bytes = file(rt.alloc(), text, b"")?;
-        compare(&rt, rt.alloc(), hdu, &bytes, lines, b"", taken)?;
+    for case in cases {
+        compare_read(&rt, rt.alloc(), case)?;
     }
     Ok(())
 }
@@ -418,12 +507,17 @@ fn an_ordinary_frame_has_one_node(rt: HostRuntime) -> Result<(), Fail> {
     let alloc = rt.alloc();
     let bytes = frame(alloc)?;
     assert_eq!(rt; bytes.len(), 8_394_368);
-    // the side of the mesh cells, and the one line
-    let cases: [(&str, &[u8]); 2] = [
-        ("0", b"0 32768 0 - 4194304\n"),
-        ("64", b"0 0 0 - 4194304\n"),
+    let cases: [Meshed; 2] = [
+        Meshed {
+            mesh: "0",
+            lines: b"0 32768 0 - 4194304\n",
+        },
+        Meshed {
+            mesh: "64",
+            lines: b"0 0 0 - 4194304\n",
+        },
     ];
-    for (mesh, line) in cases {
+    for case in cases {
         let words = [
             "tree",
             "--connect",
@@ -433,11 +527,11 @@ fn an_ordinary_frame_has_one_node(rt: HostRuntime) -> Result<(), Fail> {
             "--workers",
             "4",
             "--mesh",
-            mesh,
+            case.mesh,
         ];
         let outcome = run_in_memory(&rt, alloc, &words, &bytes, 99, NONE_FAILS)?;
         assert_eq!(rt; outcome.status, 0);
-        assert_eq!(rt; outcome.output.as_slice(), line);
+        assert_eq!(rt; outcome.output.as_slice(), case.lines);
         assert_eq!(rt; outcome.left, 0);
     }
     Ok(())
