@@ -3,6 +3,20 @@ use crate::in_memory::{Row, compare};
 use crate::{Usage, read_words};
 use std::test::Fail;
 
+// Words that give no order, and the number of the first one at fault.
+#[derive(Clone, Copy)]
+struct WrongWord<'a> {
+    words: &'a [&'a str],
+    word: u32,
+}
+
+// Words that give no order, and the line that says so.
+#[derive(Clone, Copy)]
+struct NoOrder<'a> {
+    words: &'a [&'a str],
+    notes: &'a [u8],
+}
+
 #[test]
 fn small_images_have_their_lines(rt: HostRuntime) -> Result<(), Fail> {
     let rows: [Row; 5] = [
@@ -154,7 +168,16 @@ fn numbers_of_16_and_32_bits(rt: HostRuntime) -> Result<(), Fail> {
 
 #[test]
 fn strips_and_workers_change_nothing(rt: HostRuntime) -> Result<(), Fail> {
-    let rows: [Row; 6] = [
+    let rows: [Row; 7] = [
+        Row {
+            words: &["tree", "--strips", "1", "--workers", "1"],
+            header: b"SIMPLE  = T|BITPIX  = 8|NAXIS   = 2|NAXIS1  = 3|NAXIS2  = 3|END|#",
+            data: &[5, 0, 6, 5, 2, 6, 3, 3, 3],
+            status: 0,
+            output: b"0 0 1 - 9\n1 2 4 0 8\n2 3 6 1 7\n3 5 0 2 2\n4 6 2 2 2\n",
+            notes: b"",
+            taken: 2889,
+        },
         Row {
             words: &["tree", "--strips", "1", "--workers", "3"],
             header: b"SIMPLE  = T|BITPIX  = 8|NAXIS   = 2|NAXIS1  = 3|NAXIS2  = 3|END|#",
@@ -531,54 +554,155 @@ fn random_groups_are_refused(rt: HostRuntime) -> Result<(), Fail> {
 }
 
 #[test]
-fn each_wrong_word_is_named(rt: HostRuntime) -> Result<(), Fail> {
-    let cases: [(&[&str], u32); 20] = [
-        (&[], 1),
-        (&["draw"], 1),
-        (&["tree", "--rows", "1"], 2),
-        (&["tree", "--hdu"], 3),
-        (&["tree", "--hdu", "65536"], 3),
-        (&["tree", "--hdu", "+1"], 3),
-        (&["tree", "--connect", "6"], 3),
-        (&["tree", "--strips", "0"], 3),
-        (&["tree", "--strips"], 3),
-        (&["tree", "--workers", "65"], 3),
-        (&["tree", "--hdu", "1", "--hdu", "1"], 4),
-        (&["tree", "--hdu", "-0", "--connect"], 5),
-        (&["tree", "--mesh", "65536"], 3),
-        (&["trial", "--flat", "2"], 3),
-        (&["tree", "--mesh", "2", "--mesh", "2"], 4),
-        (&["tree", "--rule", "min"], 2),
-        (&["filter"], 2),
-        (&["filter", "--rule", "middle"], 3),
-        (&["filter", "--rule", "min", "--min-fill", "1001"], 5),
-        (&["filter", "--min-area", "2", "--max-area", "2"], 6),
+fn each_wrong_name_is_found(rt: HostRuntime) -> Result<(), Fail> {
+    let cases: [WrongWord; 6] = [
+        WrongWord {
+            words: &[],
+            word: 1,
+        },
+        WrongWord {
+            words: &["draw"],
+            word: 1,
+        },
+        WrongWord {
+            words: &["tree", "--rows", "1"],
+            word: 2,
+        },
+        WrongWord {
+            words: &["tree", "--rule", "min"],
+            word: 2,
+        },
+        WrongWord {
+            words: &["tree", "--hdu", "1", "--hdu", "1"],
+            word: 4,
+        },
+        WrongWord {
+            words: &["tree", "--mesh", "2", "--mesh", "2"],
+            word: 4,
+        },
     ];
-    for (words, word) in cases {
-        assert_eq!(rt; read_words(words), Err(Usage { word }));
+    for case in cases {
+        assert_eq!(rt; read_words(case.words), Err(Usage { word: case.word }));
+    }
+    Ok(())
+}
+
+#[test]
+fn each_wrong_value_is_found(rt: HostRuntime) -> Result<(), Fail> {
+    let cases: [WrongWord; 9] = [
+        WrongWord {
+            words: &["tree", "--hdu", "65536"],
+            word: 3,
+        },
+        WrongWord {
+            words: &["tree", "--hdu", "+1"],
+            word: 3,
+        },
+        WrongWord {
+            words: &["tree", "--connect", "6"],
+            word: 3,
+        },
+        WrongWord {
+            words: &["tree", "--strips", "0"],
+            word: 3,
+        },
+        WrongWord {
+            words: &["tree", "--workers", "65"],
+            word: 3,
+        },
+        WrongWord {
+            words: &["tree", "--mesh", "65536"],
+            word: 3,
+        },
+        WrongWord {
+            words: &["trial", "--flat", "2"],
+            word: 3,
+        },
+        WrongWord {
+            words: &["filter", "--rule", "middle"],
+            word: 3,
+        },
+        WrongWord {
+            words: &["filter", "--rule", "min", "--min-fill", "1001"],
+            word: 5,
+        },
+    ];
+    for case in cases {
+        assert_eq!(rt; read_words(case.words), Err(Usage { word: case.word }));
+    }
+    Ok(())
+}
+
+#[test]
+fn each_missing_word_is_found(rt: HostRuntime) -> Result<(), Fail> {
+    let cases: [WrongWord; 5] = [
+        WrongWord {
+            words: &["tree", "--hdu"],
+            word: 3,
+        },
+        WrongWord {
+            words: &["tree", "--strips"],
+            word: 3,
+        },
+        WrongWord {
+            words: &["tree", "--hdu", "-0", "--connect"],
+            word: 5,
+        },
+        WrongWord {
+            words: &["filter"],
+            word: 2,
+        },
+        WrongWord {
+            words: &["filter", "--min-area", "2", "--max-area", "2"],
+            word: 6,
+        },
+    ];
+    for case in cases {
+        assert_eq!(rt; read_words(case.words), Err(Usage { word: case.word }));
     }
     Ok(())
 }
 
 #[test]
 fn a_wrong_word_ends_the_run(rt: HostRuntime) -> Result<(), Fail> {
-    let cases: [(&[&str], &[u8]); 7] = [
-        (&[], b"usage: word 1\n"),
-        (&["draw"], b"usage: word 1\n"),
-        (&["tree", "--strips", "0"], b"usage: word 3\n"),
-        (&["tree", "--strips"], b"usage: word 3\n"),
-        (&["tree", "--mesh", "2", "--mesh", "2"], b"usage: word 4\n"),
-        (&["detect"], b"usage: word 2\n"),
-        (&["tree", "--hdu", "65536"], b"usage: word 3\n"),
+    let cases: [NoOrder; 7] = [
+        NoOrder {
+            words: &[],
+            notes: b"usage: word 1\n",
+        },
+        NoOrder {
+            words: &["draw"],
+            notes: b"usage: word 1\n",
+        },
+        NoOrder {
+            words: &["tree", "--strips", "0"],
+            notes: b"usage: word 3\n",
+        },
+        NoOrder {
+            words: &["tree", "--strips"],
+            notes: b"usage: word 3\n",
+        },
+        NoOrder {
+            words: &["tree", "--mesh", "2", "--mesh", "2"],
+            notes: b"usage: word 4\n",
+        },
+        NoOrder {
+            words: &["detect"],
+            notes: b"usage: word 2\n",
+        },
+        NoOrder {
+            words: &["tree", "--hdu", "65536"],
+            notes: b"usage: word 3\n",
+        },
     ];
-    for (words, notes) in cases {
+    for case in cases {
         let row = Row {
-            words,
+            words: case.words,
             header: b"SIMPLE  = T",
             data: b"",
             status: 1,
             output: b"",
-            notes,
+            notes: case.notes,
             taken: 0,
         };
         compare(&rt, rt.alloc(), row)?;
