@@ -4,9 +4,9 @@ use std::process::Abort;
 use std::test::Fail;
 use std::thread::Threads;
 
-const ROW: &[u8] = b"SIMPLE  = T|BITPIX  = 8|NAXIS   = 2|NAXIS1  = 5|NAXIS2  = 1|END|#";
+const ONE_ROW: &[u8] = b"SIMPLE  = T|BITPIX  = 8|NAXIS   = 2|NAXIS1  = 5|NAXIS2  = 1|END|#";
 
-const ROW_SIDES: [&[u8]; 2] = [
+const ONE_ROW_SIDES: [&[u8]; 2] = [
     b"NAXIS1  =                    5",
     b"NAXIS2  =                    1",
 ];
@@ -78,37 +78,37 @@ fn each_rule_leaves_its_pixels(rt: HostRuntime) -> Result<(), Fail> {
         Filtering {
             rule: "min",
             options: ["--min-area", "2", "--max-area", "2"],
-            image: ROW,
+            image: ONE_ROW,
             pixels: &[0, 1, 3, 2, 0],
             taken: 2885,
-            sides: ROW_SIDES,
+            sides: ONE_ROW_SIDES,
             left: &[0, 0, 0, 0, 0],
         },
         Filtering {
             rule: "max",
             options: ["--min-area", "2", "--max-area", "2"],
-            image: ROW,
+            image: ONE_ROW,
             pixels: &[0, 1, 3, 2, 0],
             taken: 2885,
-            sides: ROW_SIDES,
+            sides: ONE_ROW_SIDES,
             left: &[0, 1, 2, 2, 0],
         },
         Filtering {
             rule: "direct",
             options: ["--max-area", "2", "--min-area", "2"],
-            image: ROW,
+            image: ONE_ROW,
             pixels: &[0, 1, 3, 2, 0],
             taken: 2885,
-            sides: ROW_SIDES,
+            sides: ONE_ROW_SIDES,
             left: &[0, 0, 2, 2, 0],
         },
         Filtering {
             rule: "subtractive",
             options: ["--min-area", "2", "--max-area", "2"],
-            image: ROW,
+            image: ONE_ROW,
             pixels: &[0, 1, 3, 2, 0],
             taken: 2885,
-            sides: ROW_SIDES,
+            sides: ONE_ROW_SIDES,
             left: &[0, 0, 1, 1, 0],
         },
         Filtering {

@@ -7,7 +7,7 @@ use std::thread::Threads;
 
 // A file that is refused, with any data behind its cards.
 #[derive(Clone, Copy)]
-struct Refused<'a> {
+struct RefusedFile<'a> {
     hdu: &'a str,
     cards: &'a [u8],
     notes: &'a [u8],
@@ -16,7 +16,7 @@ struct Refused<'a> {
 
 // A file that is read, whose pixels are stored as 48.
 #[derive(Clone, Copy)]
-struct Read<'a> {
+struct ReadFile<'a> {
     hdu: &'a str,
     cards: &'a [u8],
     lines: &'a [u8],
@@ -51,13 +51,17 @@ fn compare<R: Threads + Sync + Abort>(
 fn compare_refused<R: Threads + Sync + Abort>(
     rt: &R,
     alloc: Global,
-    case: Refused,
+    case: RefusedFile,
 ) -> Result<(), Fail> {
     let bytes = file(alloc, case.cards, b"")?;
     compare(rt, alloc, case.hdu, &bytes, b"", case.notes, case.taken)
 }
 
-fn compare_read<R: Threads + Sync + Abort>(rt: &R, alloc: Global, case: Read) -> Result<(), Fail> {
+fn compare_read<R: Threads + Sync + Abort>(
+    rt: &R,
+    alloc: Global,
+    case: ReadFile,
+) -> Result<(), Fail> {
     let bytes = file(alloc, case.cards, b"")?;
     compare(rt, alloc, case.hdu, &bytes, case.lines, b"", case.taken)
 }
@@ -65,38 +69,38 @@ fn compare_read<R: Threads + Sync + Abort>(rt: &R, alloc: Global, case: Read) ->
 // Bytes that end within a header, and an END that isn't one.
 #[test]
 fn headers_that_end_early(rt: HostRuntime) -> Result<(), Fail> {
-    let cases: [Refused; 6] = [
-        Refused {
+    let cases: [RefusedFile; 6] = [
+        RefusedFile {
             hdu: "0",
             cards: b"SIMPLE  = F",
             notes: b"refused: 2 TruncatedHeader\n",
             taken: 11,
         },
-        Refused {
+        RefusedFile {
             hdu: "0",
             cards: b"SIMPLE  = T|BITPIX  = 8|NAXIS   = 2|NAXIS1  = 3|NAXIS2  = 1|#",
             notes: b"refused: 2 TruncatedHeader\n",
             taken: 2880,
         },
-        Refused {
+        RefusedFile {
             hdu: "0",
             cards: b"SIMPLE ",
             notes: b"refused: 1 NotFits\n",
             taken: 7,
         },
-        Refused {
+        RefusedFile {
             hdu: "0",
             cards: b"SIMPLE  ",
             notes: b"refused: 2 TruncatedHeader\n",
             taken: 8,
         },
-        Refused {
+        RefusedFile {
             hdu: "0",
             cards: b"SIMPLE  = T|BITPIX  = 8|NAXIS   = 2|NAXIS1  = 1|NAXIS2  = 1|END                                                                            /#",
             notes: b"refused: 2 TruncatedHeader\n",
             taken: 2880,
         },
-        Refused {
+        RefusedFile {
             hdu: "0",
             cards: b"SIMPLE  = T|BITPIX  = 8|NAXIS   = 2|NAXIS1  = 1|NAXIS2  = 1| END|#",
             notes: b"refused: 2 TruncatedHeader\n",
@@ -112,26 +116,26 @@ fn headers_that_end_early(rt: HostRuntime) -> Result<(), Fail> {
 // A card that isn't the one of its place.
 #[test]
 fn mandatory_cards_out_of_place(rt: HostRuntime) -> Result<(), Fail> {
-    let cases: [Refused; 4] = [
-        Refused {
+    let cases: [RefusedFile; 4] = [
+        RefusedFile {
             hdu: "1",
             cards: b"SIMPLE  = T|BITPIX  = 8|NAXIS   = 0|END|#XTENSION= 'IMAGE'|BITPIX  = 8|PCOUNT  = 0|NAXIS   = 0|END|#",
             notes: b"refused: 3 BadKeyword hdu 1 card 3\n",
             taken: 3120,
         },
-        Refused {
+        RefusedFile {
             hdu: "0",
             cards: b"SIMPLE  = T|BITPIX  = 8|NAXIS   = 999|NAXIS1  = 1|NAXIS2  = 1|END|#",
             notes: b"refused: 3 BadKeyword hdu 0 card 6\n",
             taken: 480,
         },
-        Refused {
+        RefusedFile {
             hdu: "0",
             cards: b"SIMPLE  = T|BITPIX  = 8|NAXIS   = 2|NAXIS01 = 1|NAXIS2  = 1|END|#",
             notes: b"refused: 3 BadKeyword hdu 0 card 4\n",
             taken: 320,
         },
-        Refused {
+        RefusedFile {
             hdu: "0",
             cards: b"SIMPLE  = T|BITPIX  = 8|NAXIS   = 2|naxis1  = 1|NAXIS2  = 1|END|#",
             notes: b"refused: 3 BadKeyword hdu 0 card 4\n",
@@ -147,38 +151,38 @@ fn mandatory_cards_out_of_place(rt: HostRuntime) -> Result<(), Fail> {
 // A mandatory card that has no permitted value.
 #[test]
 fn mandatory_cards_with_other_values(rt: HostRuntime) -> Result<(), Fail> {
-    let cases: [Refused; 6] = [
-        Refused {
+    let cases: [RefusedFile; 6] = [
+        RefusedFile {
             hdu: "0",
             cards: b"SIMPLE  = F|BITPIX  = 8|NAXIS   = 0|END|#",
             notes: b"refused: 3 BadKeyword hdu 0 card 1\n",
             taken: 80,
         },
-        Refused {
+        RefusedFile {
             hdu: "0",
             cards: b"SIMPLE  = T|BITPIX  = 8.0|NAXIS   = 0|END|#",
             notes: b"refused: 3 BadKeyword hdu 0 card 2\n",
             taken: 160,
         },
-        Refused {
+        RefusedFile {
             hdu: "0",
             cards: b"SIMPLE  = T|BITPIX  = 8|NAXIS   = 1000|END|#",
             notes: b"refused: 3 BadKeyword hdu 0 card 3\n",
             taken: 240,
         },
-        Refused {
+        RefusedFile {
             hdu: "0",
             cards: b"SIMPLE  = T|BITPIX  = 8|NAXIS   = 2|NAXIS1  = -1|NAXIS2  = 1|END|#",
             notes: b"refused: 3 BadKeyword hdu 0 card 4\n",
             taken: 320,
         },
-        Refused {
+        RefusedFile {
             hdu: "0",
             cards: b"SIMPLE  = T|BITPIX  = 8|NAXIS   = 2|NAXIS1  = 9223372036854775808|NAXIS2  = 1|END|#",
             notes: b"refused: 3 BadKeyword hdu 0 card 4\n",
             taken: 320,
         },
-        Refused {
+        RefusedFile {
             hdu: "1",
             cards: b"SIMPLE  = T|BITPIX  = 8|NAXIS   = 0|END|#XTENSION= 5|BITPIX  = 8|NAXIS   = 0|END|#",
             notes: b"refused: 3 BadKeyword hdu 1 card 1\n",
@@ -194,44 +198,44 @@ fn mandatory_cards_with_other_values(rt: HostRuntime) -> Result<(), Fail> {
 // PCOUNT and GCOUNT of an extension that can't be read, or make it no image.
 #[test]
 fn counts_at_fault(rt: HostRuntime) -> Result<(), Fail> {
-    let cases: [Refused; 7] = [
-        Refused {
+    let cases: [RefusedFile; 7] = [
+        RefusedFile {
             hdu: "1",
             cards: b"SIMPLE  = T|BITPIX  = 8|NAXIS   = 0|END|#XTENSION= 'IMAGE'|BITPIX  = 8|NAXIS   = 0|PCOUNT  = -1|END|#",
             notes: b"refused: 3 BadKeyword hdu 1 card 4\n",
             taken: 3200,
         },
-        Refused {
+        RefusedFile {
             hdu: "1",
             cards: b"SIMPLE  = T|BITPIX  = 8|NAXIS   = 0|END|#XTENSION= 'IMAGE'|BITPIX  = 8|NAXIS   = 0|PCOUNT  = 'x'|END|#",
             notes: b"refused: 3 BadKeyword hdu 1 card 4\n",
             taken: 3200,
         },
-        Refused {
+        RefusedFile {
             hdu: "1",
             cards: b"SIMPLE  = T|BITPIX  = 8|NAXIS   = 0|END|#XTENSION= 'IMAGE'|BITPIX  = 8|NAXIS   = 0|GCOUNT  = -1|END|#",
             notes: b"refused: 3 BadKeyword hdu 1 card 4\n",
             taken: 3200,
         },
-        Refused {
+        RefusedFile {
             hdu: "1",
             cards: b"SIMPLE  = T|BITPIX  = 8|NAXIS   = 0|END|#XTENSION= 'IMAGE'|BITPIX  = 8|NAXIS   = 2|NAXIS1  = 1|NAXIS2  = 1|GCOUNT  = 2|END|#00",
             notes: b"refused: 10 NotImage\n",
             taken: 5760,
         },
-        Refused {
+        RefusedFile {
             hdu: "1",
             cards: b"SIMPLE  = T|BITPIX  = 8|NAXIS   = 0|END|#XTENSION= 'IMAGE'|BITPIX  = 8|NAXIS   = 2|NAXIS1  = 1|NAXIS2  = 1|PCOUNT  = 8|END|#000000000",
             notes: b"refused: 10 NotImage\n",
             taken: 5760,
         },
-        Refused {
+        RefusedFile {
             hdu: "2",
             cards: b"SIMPLE  = T|BITPIX  = 8|NAXIS   = 0|END|#XTENSION= 'IMAGE'|BITPIX  = 8|NAXIS   = 2|NAXIS1  = 1|NAXIS2  = 1|GCOUNT  = 2|END|#0",
             notes: b"refused: 8 TruncatedSkip\n",
             taken: 5761,
         },
-        Refused {
+        RefusedFile {
             hdu: "2",
             cards: b"SIMPLE  = T|BITPIX  = 8|NAXIS   = 0|END|#XTENSION= 'IMAGE'|BITPIX  = 8|NAXIS   = 2|NAXIS1  = 1|NAXIS2  = 1|PCOUNT  = 8|END|#00000000",
             notes: b"refused: 8 TruncatedSkip\n",
@@ -247,20 +251,20 @@ fn counts_at_fault(rt: HostRuntime) -> Result<(), Fail> {
 // Behind an HDU stand other bytes, or too few.
 #[test]
 fn bytes_where_no_hdu_begins(rt: HostRuntime) -> Result<(), Fail> {
-    let cases: [Refused; 3] = [
-        Refused {
+    let cases: [RefusedFile; 3] = [
+        RefusedFile {
             hdu: "1",
             cards: b"SIMPLE  = T|BITPIX  = 8|NAXIS   = 0|END|#no HDU begins",
             notes: b"refused: 7 NoSuchHdu\n",
             taken: 2893,
         },
-        Refused {
+        RefusedFile {
             hdu: "1",
             cards: b"SIMPLE  = T|BITPIX  = 8|NAXIS   = 0|END|#XTENSIO",
             notes: b"refused: 7 NoSuchHdu\n",
             taken: 2887,
         },
-        Refused {
+        RefusedFile {
             hdu: "1",
             cards: b"SIMPLE  = T|BITPIX  = 8|NAXIS   = 0|END|#X",
             notes: b"refused: 7 NoSuchHdu\n",
@@ -276,20 +280,20 @@ fn bytes_where_no_hdu_begins(rt: HostRuntime) -> Result<(), Fail> {
 // Faults that a whole header shows.
 #[test]
 fn hdus_that_hold_no_image(rt: HostRuntime) -> Result<(), Fail> {
-    let cases: [Refused; 3] = [
-        Refused {
+    let cases: [RefusedFile; 3] = [
+        RefusedFile {
             hdu: "0",
             cards: b"SIMPLE  = T|BITPIX  = 8|NAXIS   = 3|NAXIS1  = 9223372036854775807|NAXIS2  = 9223372036854775807|NAXIS3  = 9223372036854775807|END|#",
             notes: b"refused: 6 DataTooLong\n",
             taken: 2880,
         },
-        Refused {
+        RefusedFile {
             hdu: "0",
             cards: b"SIMPLE  = T|BITPIX  = 8|NAXIS   = 4|NAXIS1  = 9223372036854775807|NAXIS2  = 9223372036854775807|NAXIS3  = 9223372036854775807|NAXIS4  = 0|END|#",
             notes: b"refused: 11 NoImage\n",
             taken: 2880,
         },
-        Refused {
+        RefusedFile {
             hdu: "1",
             cards: b"SIMPLE  = T|BITPIX  = 8|NAXIS   = 0|END|#XTENSION= 'BINTABLE'|BITPIX  = 8|NAXIS   = 2|NAXIS1  = 8|NAXIS2  = 1|PCOUNT  = 0|GCOUNT  = 1|TFIELDS = 1|END|#",
             notes: b"refused: 10 NotImage\n",
@@ -305,32 +309,32 @@ fn hdus_that_hold_no_image(rt: HostRuntime) -> Result<(), Fail> {
 // BSCALE, BZERO and BLANK with values that they may not have.
 #[test]
 fn scalings_that_cannot_be_read(rt: HostRuntime) -> Result<(), Fail> {
-    let cases: [Refused; 5] = [
-        Refused {
+    let cases: [RefusedFile; 5] = [
+        RefusedFile {
             hdu: "0",
             cards: b"SIMPLE  = T|BITPIX  = 8|NAXIS   = 2|NAXIS1  = 1|NAXIS2  = 1|BZERO   = 1E-99999999999999999999|END|#0",
             notes: b"refused: 15 Bzero\n",
             taken: 2880,
         },
-        Refused {
+        RefusedFile {
             hdu: "0",
             cards: b"SIMPLE  = T|BITPIX  = 8|NAXIS   = 2|NAXIS1  = 1|NAXIS2  = 1|BZERO   = 4294967297|END|#0",
             notes: b"refused: 15 Bzero\n",
             taken: 2880,
         },
-        Refused {
+        RefusedFile {
             hdu: "0",
             cards: b"SIMPLE  = T|BITPIX  = 8|NAXIS   = 2|NAXIS1  = 1|NAXIS2  = 1|BSCALE  = '1'|END|#0",
             notes: b"refused: 14 Bscale\n",
             taken: 2880,
         },
-        Refused {
+        RefusedFile {
             hdu: "0",
             cards: b"SIMPLE  = T|BITPIX  = 8|NAXIS   = 2|NAXIS1  = 1|NAXIS2  = 1|BLANK   = 9223372036854775808|END|#0",
             notes: b"refused: 16 Blank\n",
             taken: 2880,
         },
-        Refused {
+        RefusedFile {
             hdu: "0",
             cards: b"SIMPLE  = T|BITPIX  = 8|NAXIS   = 2|NAXIS1  = 1|NAXIS2  = 1|BSCALE  = / c|BSCALE  = 2|END|#0",
             notes: b"refused: 14 Bscale\n",
@@ -346,20 +350,20 @@ fn scalings_that_cannot_be_read(rt: HostRuntime) -> Result<(), Fail> {
 // A primary whose GROUPS is T has random groups. Another HDU with these axes has no image.
 #[test]
 fn groups_that_are_none(rt: HostRuntime) -> Result<(), Fail> {
-    let cases: [Refused; 3] = [
-        Refused {
+    let cases: [RefusedFile; 3] = [
+        RefusedFile {
             hdu: "0",
             cards: b"SIMPLE  = T|BITPIX  = 8|NAXIS   = 1|NAXIS1  = 0|GROUPS  = 'T'|END|#",
             notes: b"refused: 11 NoImage\n",
             taken: 2880,
         },
-        Refused {
+        RefusedFile {
             hdu: "0",
             cards: b"SIMPLE  = T|BITPIX  = 8|NAXIS   = 1|NAXIS1  = 0|GROUPS  = F|END|#",
             notes: b"refused: 11 NoImage\n",
             taken: 2880,
         },
-        Refused {
+        RefusedFile {
             hdu: "1",
             cards: b"SIMPLE  = T|BITPIX  = 8|NAXIS   = 0|END|#XTENSION= 'IMAGE'|BITPIX  = 8|NAXIS   = 1|NAXIS1  = 0|GROUPS  = T|END|#",
             notes: b"refused: 11 NoImage\n",
@@ -374,32 +378,32 @@ fn groups_that_are_none(rt: HostRuntime) -> Result<(), Fail> {
 
 #[test]
 fn odd_headers_are_read(rt: HostRuntime) -> Result<(), Fail> {
-    let cases: [Read; 5] = [
-        Read {
+    let cases: [ReadFile; 5] = [
+        ReadFile {
             hdu: "0",
             cards: b"SIMPLE  = T|BITPIX  = 8|NAXIS   = 2|NAXIS1  = 1|NAXIS2  = 1|PCOUNT  = 'x'|END|#0",
             lines: b"0 48 0 - 1\n",
             taken: 2881,
         },
-        Read {
+        ReadFile {
             hdu: "0",
             cards: b"SIMPLE  = T|BITPIX  = 8|NAXIS   = 2|NAXIS1  = 1|NAXIS2  = 1|BZERO   = 32768.000000000000000000000000000000000000000000000000000000000000|END|#0",
             lines: b"0 32816 0 - 1\n",
             taken: 2881,
         },
-        Read {
+        ReadFile {
             hdu: "0",
             cards: b"SIMPLE  = T|BITPIX  = 8|NAXIS   = 2|NAXIS1  = 1|NAXIS2  = 1|BZERO   = 0E99999999999999999999|END|#0",
             lines: b"0 48 0 - 1\n",
             taken: 2881,
         },
-        Read {
+        ReadFile {
             hdu: "0",
             cards: b"SIMPLE  = T|BITPIX  = 8|NAXIS   = 2|NAXIS1  = 1|NAXIS2  = 1|BZERO   = 4294967296|END|#0",
             lines: b"0 4294967344 0 - 1\n",
             taken: 2881,
         },
-        Read {
+        ReadFile {
             hdu: "0",
             cards: b"SIMPLE  = T|BITPIX  = 8|NAXIS   = 2|NAXIS1  = 1|NAXIS2  = 1|BLANK   = 304|END|#0",
             lines: b"0 48 0 - 1\n",
@@ -414,32 +418,32 @@ fn odd_headers_are_read(rt: HostRuntime) -> Result<(), Fail> {
 
 #[test]
 fn odd_extensions_are_read(rt: HostRuntime) -> Result<(), Fail> {
-    let cases: [Read; 5] = [
-        Read {
+    let cases: [ReadFile; 5] = [
+        ReadFile {
             hdu: "1",
             cards: b"SIMPLE  = T|BITPIX  = 8|NAXIS   = 0|END|#XTENSION= 'IMAGE'|BITPIX  = 8|NAXIS   = 2|NAXIS1  = 1|NAXIS2  = 1|PCOUNT  = 0|GCOUNT  = 1|PCOUNT  = 'x'|END|#0",
             lines: b"0 48 0 - 1\n",
             taken: 5761,
         },
-        Read {
+        ReadFile {
             hdu: "1",
             cards: b"SIMPLE  = T|BITPIX  = 8|NAXIS   = 0|END|#XTENSION= 'IMAGE'|BITPIX  = 8|NAXIS   = 2|NAXIS1  = 1|NAXIS2  = 1|GROUPS  = T|END|#0",
             lines: b"0 48 0 - 1\n",
             taken: 5761,
         },
-        Read {
+        ReadFile {
             hdu: "0",
             cards: b"SIMPLE  = T|BITPIX  = 8|NAXIS   = 2|NAXIS1  = 3|NAXIS2  = 1|GROUPS  = T|END|#000",
             lines: b"0 48 0 - 3\n",
             taken: 2883,
         },
-        Read {
+        ReadFile {
             hdu: "2",
             cards: b"SIMPLE  = T|BITPIX  = 8|NAXIS   = 0|END|#XTENSION= 'IMAGE'|BITPIX  = 8|NAXIS   = 2|NAXIS1  = 1|NAXIS2  = 1|GCOUNT  = 2|END|#00#XTENSION= 'IMAGE'|BITPIX  = 8|NAXIS   = 2|NAXIS1  = 1|NAXIS2  = 1|END|#0",
             lines: b"0 48 0 - 1\n",
             taken: 11521,
         },
-        Read {
+        ReadFile {
             hdu: "2",
             cards: b"SIMPLE  = T|BITPIX  = 8|NAXIS   = 0|END|#XTENSION= 'IMAGE'|BITPIX  = 8|NAXIS   = 2|NAXIS1  = 1|NAXIS2  = 1|PCOUNT  = 8|END|#000000000#XTENSION= 'IMAGE'|BITPIX  = 8|NAXIS   = 2|NAXIS1  = 1|NAXIS2  = 1|END|#0",
             lines: b"0 48 0 - 1\n",
