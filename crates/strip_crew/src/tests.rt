@@ -18,6 +18,10 @@ const TURNS: u32 = 100_000_000;
 fn even_cuts_round_down(rt: HostRuntime) -> Result<(), Fail> {
     assert_eq!(rt; even_cut(rt.alloc(), 3, 2)?.as_slice(), [0, 1].as_slice());
     assert_eq!(rt;
+        even_cut(rt.alloc(), 5, 3)?.as_slice(),
+        [0, 1, 3].as_slice()
+    );
+    assert_eq!(rt;
         even_cut(rt.alloc(), 3, 9)?.as_slice(),
         [0, 1, 2].as_slice()
     );
