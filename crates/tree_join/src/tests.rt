@@ -233,6 +233,28 @@ fn a_walk_goes_on_at_a_link_between_its_pixels(rt: HostRuntime) {
     assert_eq!(rt; parents, [NONE, 2, 3, 0]);
 }
 
+fn look_for_skip<M: Ledger>(blank: Blank, from: &[u32], to: &[u32], at: u32) -> Option<u32>
+    requires blank { (blank.name ≡ M.name) × (blank.parts ≡ M.parts) × (0 < blank.parts) }
+{
+    let mut looks = Steps::<M>::start(blank);
+    if from.is_empty() || from.len() != to.len() {
+        return None;
+    }
+    skip_of(from, to, at, &mut looks)
+}
+
+// The skip that a table has put down for this pixel.
+fn skip_from(from: &[u32], to: &[u32], at: u32) -> Option<u32> {
+    look_for_skip::<Brand>(Blank::new(1), from, to, at)
+}
+
+// In a table of one place each pixel has this place.
+#[test]
+fn a_skip_is_told_for_its_own_pixel_alone(rt: HostRuntime) {
+    assert_eq!(rt; skip_from(&[7], &[3], 7), Some(3));
+    assert_eq!(rt; skip_from(&[7], &[3], 5), None);
+}
+
 fn shorten_by<M: Ledger>(blank: Blank, parents: &mut [u32], plane: &Plane, p: u32) -> bool
     requires blank { (blank.name ≡ M.name) × (blank.parts ≡ M.parts) × (0 < blank.parts) }
 {
