@@ -150,6 +150,26 @@ fn numbers_of_32_bits_begin_with_the_most_significant_byte(rt: HostRuntime) -> R
     Ok(())
 }
 
+// More pixels than are read at once.
+#[test]
+fn a_pixel_behind_the_first_block_is_read(rt: HostRuntime) -> Result<(), Fail> {
+    let hdu = Hdu {
+        bitpix: 8,
+        width: 2881,
+        data_bytes: 2881,
+        bzero: Whole::Is(0),
+        blank: None,
+        ..IMAGE
+    };
+    let shape = check_image(&hdu)?;
+    let mut source = PlainSource::new(&[7; 2881]);
+    let plane = read_plane(rt.alloc(), &mut source, &hdu, shape).expect(&rt, "a plane");
+    assert_eq!(rt; plane.shape().pixels(), 2881);
+    assert_eq!(rt; plane.get(2880), Some(7));
+    assert!(rt; source.rest().is_empty());
+    Ok(())
+}
+
 // Two pixels of 64 bits.
 const WIDE: Hdu = Hdu {
     bitpix: 64,
