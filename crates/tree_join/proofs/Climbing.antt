@@ -1,14 +1,20 @@
 -- Skips over ways that were joined before, and the climb by them.
-use Rattle.std.proofs.Common.{◌≡◌, ℕ, ◌+◌, ◌-◌, ◌<◌, ◌≤◌, List, length, set, get_or, replicate, Option, ℤ, ◌⊎◌, inl, inr, refl, sym, ◌∙◌, subst, ⊎_elim, arith}
-use Rattle.std.proofs.lemmas.Bool.{cases_eq}
+use Rattle.std.proofs.Common.{◌≡◌, ℕ, ◌+◌, ◌-◌, ◌<◌, ◌≤◌, List, length, set, get_or, replicate, Option, Some, None, ℤ, ◌⊎◌, inl, inr, refl, sym, ◌∙◌, subst, ⊎_elim, arith}
+use Rattle.std.specs.Prelude.{unwrap_or, pos}
+use Rattle.std.proofs.lemmas.Bool.{cases_eq, true≢false}
 use Rattle.std.proofs.lemmas.List.{get_or-set_same, get_or-set_other, length-set, get_or-replicate, length-replicate}
 use Rattle.std.proofs.lemmas.Grind.{get_or_default_zero}
 use Rattle.comp_tree.specs.Joined.{Joined, Or, Only}
-use Rattle.comp_tree.specs.Counts.{rank, count_defined}
-use Rattle.comp_tree.specs.Forest.{no_node, value_at, IsWithin, IsHigh, IsEarlier, link_of, IsLink, IsForest, JoinSame, IsPixel}
+use Rattle.comp_tree.specs.Counts.{rank}
+use Rattle.comp_tree.specs.Forest.{no_node, value_at, IsDefined, IsAtLeast, IsWithin, IsHigh, IsEarlier, link_of, IsLink, IsForest, JoinSame, IsPixel}
 use Rattle.tree_join.specs.Skips.{IsSkip, AreSkips, IsPutDown, IsLeft, IsNoted}
-use Rattle.tree_join.proofs.Turns.{IsWalking}
-use Rattle.comp_tree.proofs.Exported.{joined_trans, joined_sym, joined_left, joined_pair, joined_pairs, joined_within, joined_first, joined_second, at_only, at_least_not_before, before_defined, before_irrefl, before_trans, before_other, same_itself, same_trans, same_sym, same_or, same_turned, high_up, rank_less, rank_below}
+use Rattle.tree_join.specs.Walks.{AreLike, IsWalk, IsUp}
+use Rattle.tree_join.proofs.Shorter.{at_least_value}
+use Rattle.comp_tree.proofs.Exported.{int_le_refl, joined_wider, joined_trans, joined_sym, joined_left, joined_pair, joined_pairs, joined_within, joined_first, joined_second, at_only, at_least_not_before, before_defined, before_irrefl, before_trans, before_other, same_itself, same_trans, same_sym, same_or, same_turned, high_up, rank_less}
+
+own_value : (v : Option ℤ) → IsDefined v → IsAtLeast (unwrap_or v (pos 0)) v
+own_value (Some v) d = int_le_refl v
+own_value None d = absurd (true≢false (sym d))
 
 module _ (values : List (Option ℤ)) (first count : ℕ) where
   -- what E joins, a relation does that joins the same as E and more
@@ -29,31 +35,32 @@ module _ (values : List (Option ℤ)) (first count : ℕ) where
   pub skip_on : (E : ℕ → ℕ → Type 0) (x y z : ℕ) → IsEarlier values z y → IsSkip values first count E x y → IsSkip values first count E y z → IsSkip values first count E x z
   skip_on E x y z e k l = record { pixel = l.pixel; joins = λ h g. joined_trans (k.joins h (high_up values first count h z y e k.pixel.within g)) (l.joins h g) }
 
+  -- a pixel is high at its own value
+  own_high : (y : ℕ) → IsPixel values first count y → IsHigh values first count (unwrap_or (value_at values y) (pos 0)) y
+  own_high y p = record { within = p.within; value = own_value (value_at values y) p.value }
+
   -- ---- tables
 
   pub skips_more : (E F G : ℕ → ℕ → Type 0) (from to : List ℕ) → JoinSame values first count F (Or E G) → AreSkips values first count E from to → AreSkips values first count F from to
   skips_more E F G from to s t = record {
     same_length = t.same_length;
-    some = t.some;
     skips = λ i l. ⊎_elim (λ (e : get_or from i 0 ≡ no_node). inl e) (λ (k : IsSkip values first count E (get_or from i 0) (get_or to i 0)). inr (skip_more E F G (get_or from i 0) (get_or to i 0) s k)) (t.skips i l);
   }
 
   pub skips_same : (E F : ℕ → ℕ → Type 0) (from to : List ℕ) → JoinSame values first count F E → AreSkips values first count E from to → AreSkips values first count F from to
   skips_same E F from to s t = record {
     same_length = t.same_length;
-    some = t.some;
     skips = λ i l. ⊎_elim (λ (e : get_or from i 0 ≡ no_node). inl e) (λ (k : IsSkip values first count E (get_or from i 0) (get_or to i 0)). inr (skip_same E F (get_or from i 0) (get_or to i 0) s k)) (t.skips i l);
   }
 
-  pub skips_none : (E : ℕ → ℕ → Type 0) (from to : List ℕ) → length to ≡ length from → 0 < length from → ((i : ℕ) → i < length from → get_or from i 0 ≡ no_node) → AreSkips values first count E from to
-  skips_none E from to e s b = record { same_length = e; some = s; skips = λ i l. inl (b i l) }
+  pub skips_none : (E : ℕ → ℕ → Type 0) (from to : List ℕ) → length to ≡ length from → ((i : ℕ) → i < length from → get_or from i 0 ≡ no_node) → AreSkips values first count E from to
+  skips_none E from to e b = record { same_length = e; skips = λ i l. inl (b i l) }
 
   -- one more skip is put down
   pub skips_set : (E : ℕ → ℕ → Type 0) (from to : List ℕ) (place x y : ℕ) → place < length from → IsSkip values first count E x y
       → AreSkips values first count E from to → AreSkips values first count E (set from place x) (set to place y)
   skips_set E from to place x y l k t = record {
     same_length = length-set to place y ∙ t.same_length ∙ sym (length-set from place x);
-    some = subst (λ n. 0 < n) (sym (length-set from place x)) t.some;
     skips = λ i m. ⊎_elim
         (λ (e : i ≡ place). inr (subst (λ j. IsSkip values first count E (get_or (set from place x) j 0) (get_or (set to place y) j 0)) (sym e)
         (subst (λ u. IsSkip values first count E u (get_or (set to place y) place 0)) (sym (get_or-set_same from place x 0 l))
@@ -74,6 +81,27 @@ module _ (values : List (Option ℤ)) (first count : ℕ) where
       (λ (n : get_or from d.place 0 ≡ no_node). absurd (let h : x < first + count = p.within.high in let a : x ≡ no_node = sym d.from_is ∙ n in omega arith))
       (λ (k : IsSkip values first count E (get_or from d.place 0) (get_or to d.place 0)). k)
       (t.skips d.place d.inside)))
+
+  -- A skip that stands on a pair too is true without it, where it leads higher than the pair's earlier pixel: there this pixel
+  -- isn't high, so the pair adds nothing, and at lower levels no less is joined.
+  pub skip_alone : (E : ℕ → ℕ → Type 0) (a b x y : ℕ) → (IsAtLeast (unwrap_or (value_at values y) (pos 0)) (value_at values b) → ⊥)
+      → IsSkip values first count (Or E (Only a b)) x y → IsSkip values first count E x y
+  skip_alone E a b x y low k = record {
+    pixel = k.pixel;
+    joins = λ h g. joined_wider
+        (λ z q. record { within = q.within; value = at_least_value h (value_at values y) (value_at values z) q.value g.value })
+        (joined_within alone (k.joins own (own_high y k.pixel)));
+  } where
+    own : ℤ
+    own = unwrap_or (value_at values y) (pos 0)
+
+    alone : (u v : ℕ) → IsHigh values first count own u → IsHigh values first count own v → Or E (Only a b) u v → Joined (IsHigh values first count own) E u v
+    alone u v hu hv (inl e) = joined_pair u v hu hv (inl e)
+    alone u v hu hv (inr o) = absurd (low (subst (IsHigh values first count own) o.1 hv).value)
+
+  -- nor is its end earlier than that pixel
+  pub above_late : (b y : ℕ) → IsPixel values first count b → IsPixel values first count y → (IsAtLeast (unwrap_or (value_at values y) (pos 0)) (value_at values b) → ⊥) → IsEarlier values y b → ⊥
+  above_late b y pb py low e = low (high_up values first count (unwrap_or (value_at values y) (pos 0)) y b e pb.within (own_high y py)).value
 
   -- ---- a pair, where its first pixel is replaced by one that the other is not later than
 
@@ -137,106 +165,136 @@ module _ (values : List (Option ℤ)) (first : ℕ) (start links : List ℕ) (fo
         (joined_pair a (get_or links (a - first) 0) (high_up values first (length start) h (get_or links (a - first) 0) a fits.1 pa.within g) g (inl (record { within = wa; link = link_read })));
   }
 
--- What a climb from p keeps: start are the links at its start.
-pub record IsClimbing (values : List (Option ℤ)) (first : ℕ) (start links from to : List ℕ) (p b mark at : ℕ) : Type 0 where
+-- The link of a, and where that is linked on, d, are skips.
+module _ (values : List (Option ℤ)) (first : ℕ) (links : List ℕ) (forest : IsForest values first links) (small : first + length links ≤ no_node)
+    (a c : ℕ) (pa : IsPixel values first (length links) a) (link : get_or links (a - first) 0 ≡ c) (linked : c ≡ no_node → ⊥) where
+  same : JoinSame values first (length links) (IsLink first links) (IsLink first links)
+  same = same_itself values first (length links) (IsLink first links)
+
+  pub own_skip : IsSkip values first (length links) (IsLink first links) a c
+  own_skip = subst (IsSkip values first (length links) (IsLink first links) a) link (link_skip values first links links forest small refl same a pa (λ e. linked (sym link ∙ e)))
+
+  pub past_skip : (d : ℕ) → get_or links (c - first) 0 ≡ d → (d ≡ no_node → ⊥) → IsSkip values first (length links) (IsLink first links) a d
+  past_skip d next more =
+      let ne : get_or links (c - first) 0 ≡ no_node → ⊥ = λ e. more (sym next ∙ e) in
+      let on : IsSkip values first (length links) (IsLink first links) c d
+      = subst (IsSkip values first (length links) (IsLink first links) c) next (link_skip values first links links forest small refl same c own_skip.pixel ne) in
+      let early : IsEarlier values d c = subst (λ y. IsEarlier values y c) next (link_earlier values first links links forest small refl same c own_skip.pixel ne) in
+      skip_on values first (length links) (IsLink first links) a c d early own_skip on
+
+-- What a climb from p keeps: start are the links at its start, and p and b are still to be joined.
+pub record IsClimbing (values : List (Option ℤ)) (first : ℕ) (start links from to : List ℕ) (p b near far at : ℕ) : Type 0 where
   pub same_length : length links ≡ length start
-  pub forest : IsForest values first links
-  pub same : JoinSame values first (length start) (IsLink first links) (IsLink first start)
+  pub like : AreLike values first start links
   pub here : IsSkip values first (length start) (IsLink first start) p at
-  pub marked : IsSkip values first (length start) (IsLink first start) mark at
+  pub near_skip : IsSkip values first (length start) (IsLink first start) near at
+  pub far_skip : IsSkip values first (length start) (IsLink first start) far at
+  pub walk : IsWalk values first start from to p b
   pub late : IsEarlier values at b → ⊥
-  pub skips : AreSkips values first (length start) (IsLink first start) from to
+
+-- from the last mark, or from a pixel that is one now
+mark_skip : (values : List (Option ℤ)) (first count : ℕ) (E : ℕ → ℕ → Type 0) (before at mark : ℕ) → IsSkip values first count E before at → (mark ≡ before) ⊎ (mark ≡ at) → IsSkip values first count E mark at
+mark_skip values first count E before at mark k m = ⊎_elim
+    (λ (e : mark ≡ before). subst (λ x. IsSkip values first count E x at) (sym e) k)
+    (λ (e : mark ≡ at). subst (λ x. IsSkip values first count E x at) (sym e) (skip_none values first count E at k.pixel))
+    m
+
+-- the skip from the last mark is put down, or not
+noted : (values : List (Option ℤ)) (first count : ℕ) (E : ℕ → ℕ → Type 0) (from to new_from new_to : List ℕ) (before at : ℕ) → IsSkip values first count E before at
+    → IsLeft from to new_from new_to ⊎ IsNoted from to new_from new_to before at → AreSkips values first count E from to → AreSkips values first count E new_from new_to
+noted values first count E from to new_from new_to before at k r t = ⊎_elim
+    (λ (o : IsLeft from to new_from new_to). subst (λ x. AreSkips values first count E x new_to) (sym o.from_same)
+    (subst (λ y. AreSkips values first count E from y) (sym o.to_same) t))
+    (λ (o : IsNoted from to new_from new_to before at). subst (λ x. AreSkips values first count E x new_to) (sym o.from_set)
+    (subst (λ y. AreSkips values first count E (set from o.place before) y) (sym o.to_set)
+    (skips_set values first count E from to o.place before at o.inside k t)))
+    r
 
 module _ (values : List (Option ℤ)) (first : ℕ) (start : List ℕ) (p b : ℕ) where
-  pub climb_none : (from to : List ℕ) → IsForest values first start → IsPixel values first (length start) p → (IsEarlier values p b → ⊥)
-      → AreSkips values first (length start) (IsLink first start) from to → IsClimbing values first start start from to p b p p
-  climb_none from to f ip late t = record {
+  pub climb_none : (from to : List ℕ) → IsWalk values first start from to p b → IsClimbing values first start start from to p b p p p
+  climb_none from to w = record {
     same_length = refl;
-    forest = f;
-    same = same_itself values first (length start) (IsLink first start);
-    here = skip_none values first (length start) (IsLink first start) p ip;
-    marked = skip_none values first (length start) (IsLink first start) p ip;
-    late = late;
-    skips = t;
+    like = record { forest = w.kept.forest; same = same_itself values first (length start) (IsLink first start) };
+    here = skip_none values first (length start) (IsLink first start) p w.pair.one;
+    near_skip = skip_none values first (length start) (IsLink first start) p w.pair.one;
+    far_skip = skip_none values first (length start) (IsLink first start) p w.pair.one;
+    walk = w;
+    late = w.pair.late;
   }
 
-  module _ (links from to : List ℕ) (mark at : ℕ) (w : IsClimbing values first start links from to p b mark at) where
+  -- the walk of the pixel at hand and b
+  pub climb_on : (links from to : List ℕ) (at : ℕ) → length links ≡ length start → AreLike values first start links → IsSkip values first (length start) (IsLink first start) p at
+      → (IsEarlier values at b → ⊥) → IsWalk values first start from to p b → IsWalk values first links from to at b
+  climb_on links from to at e l k late w = record {
+    kept = record {
+      inside = subst (λ n. first + n ≤ length values) (sym e) w.kept.inside;
+      small = w.kept.small;
+      forest = l.forest;
+    };
+    pair = record {
+      one = subst (λ n. IsPixel values first n at) (sym e) k.pixel;
+      other = subst (λ n. IsPixel values first n b) (sym e) w.pair.other;
+      late = late;
+    };
+    skips = subst (λ n. AreSkips values first n (Or (IsLink first links) (Only at b)) from to) (sym e)
+        (skips_same values first (length start) (Or (IsLink first start) (Only p b)) (Or (IsLink first links) (Only at b)) from to
+        (same_trans values first (length start) (Or (IsLink first links) (Only at b)) (Or (IsLink first start) (Only at b)) (Or (IsLink first start) (Only p b))
+        (same_or values first (length start) (IsLink first links) (IsLink first start) (Only at b) l.same) (pair_up values first (length start) (IsLink first start) p b at k late))
+        w.skips);
+  }
+
+  module _ (links from to : List ℕ) (near far at : ℕ) (w : IsClimbing values first start links from to p b near far at) where
     -- what holds of the links at hand
-    pub climb_at : IsPixel values first (length links) at
-    climb_at = subst (λ n. IsPixel values first n at) (sym w.same_length) w.here.pixel
+    pub climb_walk : IsWalk values first links from to at b
+    climb_walk = climb_on links from to at w.same_length w.like w.here w.late w.walk
 
-    pub climb_skips : AreSkips values first (length links) (IsLink first links) from to
-    climb_skips = subst (λ n. AreSkips values first n (IsLink first links) from to) (sym w.same_length) (skips_same values first (length start) (IsLink first start) (IsLink first links) from to w.same w.skips)
+    pub climb_nearer : (new : List ℕ) (next : ℕ) → length new ≡ length links → IsUp values first links at b next → rank values first (length new) next < rank values first (length links) at
+    climb_nearer new next e u = subst (λ n. rank values first n next < rank values first (length links) at) (sym e) (rank_less values first (length links) at next u.skip.pixel.within u.earlier)
 
-    pub climb_nearer : (new : List ℕ) (next : ℕ) → length new ≡ length links → IsSkip values first (length links) (IsLink first links) at next → IsEarlier values next at
-        → rank values first (length new) next < rank values first (length links) at
-    climb_nearer new next e k early = subst (λ n. rank values first n next < rank values first (length links) at) (sym e) (rank_less values first (length links) at next k.pixel.within early)
-
-    -- the links are shortened a last time
-    pub climb_end : (new : List ℕ) → JoinSame values first (length links) (IsLink first new) (IsLink first links) → AreSkips values first (length start) (IsLink first new) from to
-    climb_end new s = skips_same values first (length start) (IsLink first start) (IsLink first new) from to
-        (same_trans values first (length start) (IsLink first new) (IsLink first links) (IsLink first start)
-        (subst (λ n. JoinSame values first n (IsLink first new) (IsLink first links)) w.same_length s) w.same) w.skips
-
-    module _ (new more_from more_to : List ℕ) (next result : ℕ) (e : length new ≡ length links) (f : IsForest values first new)
-        (s : JoinSame values first (length links) (IsLink first new) (IsLink first links)) (k : IsSkip values first (length links) (IsLink first links) at next)
-        (early : IsEarlier values next at) (late : IsEarlier values next b → ⊥) where
-      up : IsSkip values first (length start) (IsLink first start) at next
-      up = skip_same values first (length start) (IsLink first links) (IsLink first start) at next (same_sym values first (length start) (IsLink first links) (IsLink first start) w.same)
-          (subst (λ n. IsSkip values first n (IsLink first links) at next) w.same_length k)
-
-      pub climb_more : IsLeft from to more_from more_to mark result ⊎ IsNoted from to more_from more_to mark next result
-          → IsClimbing values first start new more_from more_to p b result next
-      climb_more r = record {
-        same_length = e ∙ w.same_length;
-        forest = f;
+    module _ (new : List ℕ) (e : length new ≡ length links) (l : AreLike values first links new) where
+      pub climb_like : AreLike values first start new
+      climb_like = record {
+        forest = l.forest;
         same = same_trans values first (length start) (IsLink first new) (IsLink first links) (IsLink first start)
-            (subst (λ n. JoinSame values first n (IsLink first new) (IsLink first links)) w.same_length s) w.same;
-        here = skip_on values first (length start) (IsLink first start) p at next early w.here up;
-        marked = ⊎_elim
-            (λ (o : IsLeft from to more_from more_to mark result). subst (λ m. IsSkip values first (length start) (IsLink first start) m next) (sym o.mark_same)
-            (skip_on values first (length start) (IsLink first start) mark at next early w.marked up))
-            (λ (o : IsNoted from to more_from more_to mark next result). subst (λ m. IsSkip values first (length start) (IsLink first start) m next) (sym o.marked)
-            (skip_none values first (length start) (IsLink first start) next up.pixel))
-            r;
-        late = late;
-        skips = ⊎_elim
-            (λ (o : IsLeft from to more_from more_to mark result). subst (λ x. AreSkips values first (length start) (IsLink first start) x more_to) (sym o.from_same)
-            (subst (λ y. AreSkips values first (length start) (IsLink first start) from y) (sym o.to_same) w.skips))
-            (λ (o : IsNoted from to more_from more_to mark next result). subst (λ x. AreSkips values first (length start) (IsLink first start) x more_to) (sym o.from_set)
-            (subst (λ y. AreSkips values first (length start) (IsLink first start) (set from o.place mark) y) (sym o.to_set)
-            (skips_set values first (length start) (IsLink first start) from to o.place mark next o.inside
-            (skip_on values first (length start) (IsLink first start) mark at next early w.marked up) w.skips)))
-            r;
+            (subst (λ n. JoinSame values first n (IsLink first new) (IsLink first links)) w.same_length l.same) w.like.same;
       }
 
-      pub climb_rank : rank values first (length start) next < rank values first (length start) at
-      climb_rank = rank_less values first (length start) at next up.pixel.within early
+      -- the climb has come to its end
+      pub climb_ended : IsWalk values first new from to at b
+      climb_ended = climb_on new from to at (e ∙ w.same_length) climb_like w.here w.late w.walk
 
--- The walk of a pair, from where the climb has come.
-module _ (values : List (Option ℤ)) (first : ℕ) (start links : List ℕ) (p q a spent : ℕ) where
-  pub walk_from : length links ≡ length start → IsForest values first links → JoinSame values first (length start) (IsLink first links) (IsLink first start)
-      → IsSkip values first (length start) (IsLink first start) p a → (IsEarlier values a q → ⊥)
-      → IsPixel values first (length start) p → IsPixel values first (length start) q
-      → spent + rank values first (length start) a ≤ rank values first (length start) p → IsWalking values first start links p q a q spent
-  walk_from e f s k late ip iq c = record {
-    same_length = e;
-    forest = f;
-    one = subst (λ n. IsPixel values first n a) (sym e) k.pixel;
-    other = subst (λ n. IsPixel values first n q) (sym e) iq;
-    late = late;
-    joins = same_trans values first (length start) (Or (IsLink first links) (Only a q)) (Or (IsLink first start) (Only a q)) (Or (IsLink first start) (Only p q))
-        (same_or values first (length start) (IsLink first links) (IsLink first start) (Only a q) s) (pair_up values first (length start) (IsLink first start) p q a k late);
-    cost = let lp : rank values first (length start) p < count_defined values first (length start) = rank_below values first (length start) p ip.within ip.value in
-        let lr : rank values first (length start) q ≤ rank values first (length start) a = late_rank values first (length start) q a iq k.pixel late in omega (arith, c);
-  }
+      module _ (near_from near_to more_from more_to : List ℕ) (next more_near more_far : ℕ) (u : IsUp values first links at b next) where
+        up : IsSkip values first (length start) (IsLink first start) at next
+        up = skip_same values first (length start) (IsLink first links) (IsLink first start) at next (same_sym values first (length start) (IsLink first links) (IsLink first start) w.like.same)
+            (subst (λ n. IsSkip values first n (IsLink first links) at next) w.same_length u.skip)
 
--- the table after the walk
-pub skips_after : (values : List (Option ℤ)) (first : ℕ) (start links new from to : List ℕ) (p q : ℕ) → JoinSame values first (length start) (IsLink first links) (IsLink first start)
-    → JoinSame values first (length start) (IsLink first new) (Or (IsLink first start) (Only p q))
-    → AreSkips values first (length start) (IsLink first links) from to → AreSkips values first (length start) (IsLink first new) from to
-skips_after values first start links new from to p q s j t = skips_more values first (length start) (IsLink first start) (IsLink first new) (Only p q) from to j
-    (skips_same values first (length start) (IsLink first links) (IsLink first start) from to (same_sym values first (length start) (IsLink first links) (IsLink first start) s) t)
+        up_from : (x : ℕ) → IsSkip values first (length start) (IsLink first start) x at → IsSkip values first (length start) (IsLink first start) x next
+        up_from x o = skip_on values first (length start) (IsLink first start) x at next u.earlier o up
+
+        -- what the links join, they do with a pair more
+        wide : (x : ℕ) → IsSkip values first (length start) (IsLink first start) x next → IsSkip values first (length start) (Or (IsLink first start) (Only p b)) x next
+        wide x o = skip_more values first (length start) (IsLink first start) (Or (IsLink first start) (Only p b)) (Only p b) x next (same_itself values first (length start) (Or (IsLink first start) (Only p b))) o
+
+        pub climb_more : (more_near ≡ near) ⊎ (more_near ≡ next) → IsLeft from to near_from near_to ⊎ IsNoted from to near_from near_to near next
+            → (more_far ≡ far) ⊎ (more_far ≡ next) → IsLeft near_from near_to more_from more_to ⊎ IsNoted near_from near_to more_from more_to far next
+            → IsClimbing values first start new more_from more_to p b more_near more_far next
+        climb_more m r n t = record {
+          same_length = e ∙ w.same_length;
+          like = climb_like;
+          here = up_from p w.here;
+          near_skip = mark_skip values first (length start) (IsLink first start) near next more_near (up_from near w.near_skip) m;
+          far_skip = mark_skip values first (length start) (IsLink first start) far next more_far (up_from far w.far_skip) n;
+          walk = record {
+            kept = w.walk.kept;
+            pair = w.walk.pair;
+            skips = noted values first (length start) (Or (IsLink first start) (Only p b)) near_from near_to more_from more_to far next (wide far (up_from far w.far_skip)) t
+                (noted values first (length start) (Or (IsLink first start) (Only p b)) from to near_from near_to near next (wide near (up_from near w.near_skip)) r w.walk.skips);
+          };
+          late = u.late;
+        }
+
+        pub climb_rank : rank values first (length start) next < rank values first (length start) at
+        climb_rank = rank_less values first (length start) at next up.pixel.within u.earlier
 
 -- the pair is the same one turned
 pub joined_turned : (values : List (Option ℤ)) (first : ℕ) (start new : List ℕ) (p q : ℕ) → JoinSame values first (length start) (IsLink first new) (Or (IsLink first start) (Only q p))

@@ -11,7 +11,6 @@ pub record IsSkip (values : List (Option ℤ)) (first count : ℕ) (E : ℕ → 
 -- each place of a table is empty, or holds such a skip: from has its first pixel, and to its last one
 pub record AreSkips (values : List (Option ℤ)) (first count : ℕ) (E : ℕ → ℕ → Type 0) (from to : List ℕ) : Type 0 where
   pub same_length : length to ≡ length from
-  pub some : 0 < length from
   pub skips : (i : ℕ) → i < length from → (slice_index from i ≡ no_node) ⊎ IsSkip values first count E (slice_index from i) (slice_index to i)
 
 -- a table has put down the skip from x to y
@@ -21,15 +20,13 @@ pub record IsPutDown (from to : List ℕ) (x y : ℕ) : Type 0 where
   pub from_is : slice_index from place ≡ x
   pub to_is : slice_index to place ≡ y
 
--- What passing a pixel does with the table and the last mark: nothing, or the skip from the mark is put down and at is the mark.
-pub record IsLeft (old_from old_to from to : List ℕ) (mark result : ℕ) : Type 0 where
+-- What passing a pixel does with the table: nothing, or the skip to it from the last mark is put down.
+pub record IsLeft (old_from old_to from to : List ℕ) : Type 0 where
   pub from_same : from ≡ old_from
   pub to_same : to ≡ old_to
-  pub mark_same : result ≡ mark
 
-pub record IsNoted (old_from old_to from to : List ℕ) (mark at result : ℕ) : Type 0 where
+pub record IsNoted (old_from old_to from to : List ℕ) (mark at : ℕ) : Type 0 where
   pub place : ℕ
   pub inside : place < length old_from
   pub from_set : from ≡ set old_from place mark
   pub to_set : to ≡ set old_to place at
-  pub marked : result ≡ at

@@ -1,7 +1,9 @@
 ghost use Rattle.std.specs.Prelude.{◌≡◌, ◌<◌};
 
 use super::*;
-use comp_tree::{Shape, Tree, is_forest, plain_tree};
+use crate::skips::Reach;
+use crate::walk::link_past;
+use comp_tree::{NONE, Shape, Tree, is_forest, plain_tree};
 use dev_io::OutOfMemory;
 use std::alloc::Global;
 use std::marker::Brand;
@@ -190,24 +192,6 @@ fn joined_strips_have_the_plain_tree(rt: HostRuntime) {
             links: &[NONE, NONE, NONE, NONE, NONE, NONE],
             rows: &[1],
         },
-        // pixel 0 is a mark, and pixel 1 skips to it when it is joined with pixel 4
-        Case {
-            width: 3,
-            height: 2,
-            connect: Connect::Eight,
-            values: &[3, 5, 4, 1, 2, 1],
-            links: &[NONE, 2, 0, NONE, 5, 3],
-            rows: &[1],
-        },
-        // the same skip, which leads past pixel 4
-        Case {
-            width: 3,
-            height: 2,
-            connect: Connect::Eight,
-            values: &[1, 5, 4, 0, 3, 0],
-            links: &[NONE, 2, 0, NONE, 3, 3],
-            rows: &[1],
-        },
     ];
     for (number, case) in cases.iter().enumerate() {
         let shape = Shape::of(case.width, case.height).expect(&rt, "a shape");
@@ -233,77 +217,93 @@ fn a_walk_goes_on_at_a_link_between_its_pixels(rt: HostRuntime) {
     assert_eq!(rt; parents, [NONE, 2, 3, 0]);
 }
 
-fn look_for_skip<M: Ledger>(blank: Blank, from: &[u32], to: &[u32], at: u32) -> Option<u32>
+fn skip_by<M: Ledger>(blank: Blank, skips: &Skips, reach: Reach, at: u32) -> Option<u32>
     requires blank { (blank.name ≡ M.name) × (blank.parts ≡ M.parts) × (0 < blank.parts) }
 {
     let mut looks = Steps::<M>::start(blank);
-    if from.is_empty() || from.len() != to.len() {
-        return None;
-    }
-    skip_of(from, to, at, &mut looks)
+    skips.told(reach, at, &mut looks)
 }
 
-// The skip that a table has put down for this pixel.
-fn skip_from(from: &[u32], to: &[u32], at: u32) -> Option<u32> {
-    look_for_skip::<Brand>(Blank::new(1), from, to, at)
+// The pixel that is put down for this one.
+fn skip_from(skips: &Skips, reach: Reach, at: u32) -> Option<u32> {
+    skip_by::<Brand>(Blank::new(1), skips, reach, at)
 }
 
-// In a table of one place each pixel has this place.
+// Pixel 0 is a mark of both reaches, and pixel 89 a near one.
 #[test]
-fn a_skip_is_told_for_its_own_pixel_alone(rt: HostRuntime) {
-    assert_eq!(rt; skip_from(&[7], &[3], 7), Some(3));
-    assert_eq!(rt; skip_from(&[7], &[3], 5), None);
+fn a_skip_leads_from_mark_to_mark(rt: HostRuntime) {
+    let mut skips = Skips::empty();
+    assert_eq!(rt; skips.pass(Reach::Near, 5, 7), 5);
+    assert_eq!(rt; skips.pass(Reach::Near, 5, 89), 89);
+    assert_eq!(rt; skip_from(&skips, Reach::Near, 5), None);
+    assert_eq!(rt; skips.pass(Reach::Near, 89, 0), 0);
+    assert_eq!(rt; skip_from(&skips, Reach::Near, 89), Some(0));
+    assert_eq!(rt; skip_from(&skips, Reach::Far, 89), None);
 }
 
-fn shorten_by<M: Ledger>(blank: Blank, parents: &mut [u32], plane: &Plane, p: u32) -> bool
+// Two rows that rise to the right. Pixels 0 and 34 are near marks, and the walks from pixel 35 on come to the skip from one to
+// the other. From pixel 36 on it leads too low.
+#[test]
+fn walks_skip_no_further_than_they_may(rt: HostRuntime) {
+    let mut values = [0; 82];
+    let mut links = [NONE; 82];
+    for x in 0..41 {
+        values[x] = 50 + x as i64;
+        values[41 + x] = if x < 36 { 1 + x as i64 } else { 30 + x as i64 };
+        if x > 0 {
+            links[x] = x as u32 - 1;
+            links[41 + x] = 40 + x as u32;
+        }
+    }
+    let shape = Shape::of(41, 2).expect(&rt, "a shape");
+    let plane = plane_of(rt.alloc(), shape, &values).expect(&rt, "memory");
+    assert!(rt; join(&mut links, &plane, Connect::Four, &[1]));
+    let tree = plain_tree(rt.alloc(), &plane, Connect::Four).expect(&rt, "memory");
+    for p in 0..shape.pixels() {
+        let same = has_its_node(&values, &links, &tree, p);
+        assert!(rt; same, "pixel {p}");
+    }
+}
+
+fn link_by<M: Ledger>(blank: Blank, parents: &mut [u32], plane: &Plane, p: u32) -> Option<u32>
     requires blank { (blank.name ≡ M.name) × (blank.parts ≡ M.parts) × (0 < blank.parts) }
 {
     let mut looks = Steps::<M>::start(blank);
     let shape = plane.shape();
     if parents.len() != shape.pixels() as usize || !is_forest(plane, 0, parents) {
-        return false;
+        return None;
     }
     if p >= shape.pixels() || !plane.is_defined(p) {
-        return false;
+        return None;
     }
-    shorten(parents, plane, 0, p, &mut looks);
-    true
+    link_past(parents, plane, 0, p, &mut looks)
 }
 
-// Shortens the way up from `p`, if the links are a forest and `p` is defined.
-fn shorten_from(parents: &mut [u32], plane: &Plane, p: u32) -> bool {
-    shorten_by::<Brand>(Blank::new(1), parents, plane, p)
+// Links `p` past its link, if the links are a forest and `p` is defined.
+fn link_from(parents: &mut [u32], plane: &Plane, p: u32) -> Option<u32> {
+    link_by::<Brand>(Blank::new(1), parents, plane, p)
 }
 
 #[test]
-fn ways_through_one_value_are_halved(rt: HostRuntime) {
-    // the values, the links before, the pixel whose way is shortened, and the links after
-    let cases: [(&[i64], &[u32], u32, &[u32]); 4] = [
-        // one value: every second pixel is left out
+fn pixels_are_linked_past_links_within_one_value(rt: HostRuntime) {
+    // the values, the links before, the pixel, its link then, and the links after
+    let cases: [(&[i64], &[u32], u32, Option<u32>, &[u32]); 4] = [
+        (&[4, 4, 5], &[NONE, 0, 1], 2, Some(0), &[NONE, 0, 0]),
+        (&[1, 2, 3], &[NONE, 0, 1], 2, Some(1), &[NONE, 0, 1]),
+        (&[1, 2, 3], &[NONE, 0, 1], 1, Some(0), &[NONE, 0, 1]),
         (
-            &[4, 4, 4, 4, 4, 4, 4, 4, 4],
-            &[NONE, 0, 1, 2, 3, 4, 5, 6, 7],
-            8,
-            &[NONE, 0, 0, 2, 2, 4, 4, 6, 6],
+            &[3, -1, 3],
+            &[NONE, NONE, NONE],
+            2,
+            None,
+            &[NONE, NONE, NONE],
         ),
-        // two values: 3, the last pixel of the higher one, is linked past 2
-        (
-            &[1, 1, 1, 2, 2, 2],
-            &[NONE, 0, 1, 2, 3, 4],
-            5,
-            &[NONE, 0, 1, 1, 3, 3],
-        ),
-        // the link is the last pixel of its value
-        (&[1, 2, 3], &[NONE, 0, 1], 2, &[NONE, 0, 1]),
-        // and a pixel without a link
-        (&[3, -1, 3], &[NONE, NONE, NONE], 2, &[NONE, NONE, NONE]),
     ];
-    for (number, (values, links, p, wanted)) in cases.iter().enumerate() {
+    for (number, (values, links, p, link, wanted)) in cases.iter().enumerate() {
         let shape = Shape::of(values.len() as u32, 1).expect(&rt, "a shape");
         let plane = plane_of(rt.alloc(), shape, values).expect(&rt, "memory");
         let mut parents = links.to_vec(rt.alloc()).expect(&rt, "memory");
-        let shortened = shorten_from(&mut parents, &plane, *p);
-        assert!(rt; shortened, "case {number}");
+        assert_eq!(rt; link_from(&mut parents, &plane, *p), *link, "case {number}");
         assert!(rt; parents.as_slice() == *wanted, "case {number}");
     }
 }

@@ -1,11 +1,11 @@
 use Rattle.std.proofs.Common.{◌+◌, ◌*◌, ◌≤◌, length}
 use Rattle.comp_tree.specs.Counts.{rank}
 use Rattle.tree_join.proofs.Climbing.{IsClimbing}
-use Rattle.tree_join.proofs.climb.Given as goal
+use Rattle.tree_join.proofs.walk.climb.Given as goal
 
 abbrev pub invariant-loop-next : goal.invariant-loop-next
 invariant-loop-next g l = record {
-  climbing : IsClimbing l.plane.values l.first l.initial.parents l.parents l.from l.to l.p l.b l.mark l.at;
+  climbing : IsClimbing l.plane.values l.first l.initial.parents l.parents l.skips.from l.skips.to l.p l.b l.near l.far l.at;
   later : l.initial.moves ≤ l.moves;
   cost : l.moves + rank l.plane.values l.first (length l.initial.parents) l.at ≤ l.initial.moves + rank l.plane.values l.first (length l.initial.parents) l.p;
   each : l.moves + l.initial.looks ≤ l.initial.moves + l.looks;
