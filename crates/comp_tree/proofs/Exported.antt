@@ -25,3 +25,6 @@ pub use Rattle.comp_tree.proofs.Shapes.{shape_of_sides}
 pub use Rattle.comp_tree.proofs.Writing.{written_all, written_itself, written_next, written_none}
 pub use Rattle.comp_tree.proofs.SameBools.{same_bool}
 pub use Rattle.comp_tree.proofs.Alike.{AlikeAbove, IsCounterpart, above_high, above_level, above_pixels, above_reached, above_reaches, above_representative, above_sym, counterpart, counterpart_in_node, counterpart_level, counterpart_low, counterpart_pixels, counterpart_sym, counterpart_test, counterpart_unique, reached_high}
+pub use Rattle.comp_tree.proofs.Paired.{ArePaired, HasPartnerIn, IsRising, at_end, at_more, paired_append, paired_filter, paired_flat_map, paired_from_rising, paired_map, rising-filter, rising-pixels, rising-range}
+pub use Rattle.comp_tree.proofs.Along.{AlikeAlong, AreCounterparts, HasPartner, IsReachedThere, along_counterpart, along_high, along_level, along_low, along_one, along_reached, along_reaches, along_representative, along_sym, counterparts_in_node, counterparts_level, counterparts_pixels, counterparts_sym, counterparts_unique, one_way, turned}
+pub use Rattle.comp_tree.proofs.Windows.{AreSurePair, some_columns, IsAt, at_neighbours, at_order, in_whole-at, in_whole-below, in_whole-one, pair_at, pair_same, seen-length, seen-shape, seen-value, seen_reached, sure_components_are_seen, sure_components_are_the_same, sure_same, window_along, window_whole_below, window_shows_its_pixels}

@@ -27,4 +27,7 @@ mod Shapes
 mod Writing
 mod SameBools
 mod Alike
+mod Paired
+mod Along
+mod Windows
 pub mod Exported

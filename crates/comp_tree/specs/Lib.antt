@@ -14,3 +14,4 @@ pub mod Marks
 pub mod Laws
 pub mod TreeFacts
 pub mod Writing
+pub mod Windows

@@ -17,6 +17,7 @@ ghost use Rattle.comp_tree.specs.Laws.{
   LastAtOwnLevelIsRepresentative,
 };
 ghost use Rattle.comp_tree.specs.TreeFacts.{EachPlaneHasOneTree};
+ghost use Rattle.comp_tree.specs.Windows.{WindowShowsItsPixels, SureComponentsAreSeen, SureComponentsAreTheSame, DeepComponentsLieSure};
 
 /// The test whether a pixel is reached from another passes exactly where a path leads there.
 #[tactic(auto, using(crate::proofs::Components::reach_is_by_paths))]
@@ -78,4 +79,13 @@ pub fn walks_have_one_last()
 /// Where a forest stands for all adjacencies of a plane, the last ancestor of a pixel at its own level is its representative.
 pub fn last_is_representative()
     ensures { LastAtOwnLevelIsRepresentative }
+{}
+
+/// A component that lies with its neighbours among pixels that a window shows is the same in the whole plane and in the window, and whether
+/// one lies so is told from the window as well as from the whole.
+pub fn sure_components_are_the_same()
+    ensures window { WindowShowsItsPixels }
+    ensures seen { SureComponentsAreSeen }
+    ensures same { SureComponentsAreTheSame }
+    ensures deep { DeepComponentsLieSure }
 {}

@@ -11,4 +11,6 @@ mod Slopes
 mod Residuals
 mod HalfRanges
 mod Lessening
+mod Sides
+mod Seeing
 pub mod Exported

@@ -7,3 +7,4 @@ pub mod Laws
 pub mod Bounds
 pub mod Lessened
 pub mod Slopes
+pub mod Windows

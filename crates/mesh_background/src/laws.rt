@@ -1,6 +1,7 @@
 //! The laws of the lower median, of the cells, of the interpolation and of the residual. Each part is the contract of a function
 //! that does nothing, and speaks of the definitions alone.
 
+ghost use Rattle.mesh_background.specs.Windows.{BackgroundIsSeen, ResidualIsSeen, ResidualIsShown, ClearIsToldFromTheWindow};
 ghost use Rattle.mesh_background.specs.Laws.{LowerMedianIsTheOne, SomeMemberIsLowerMedian, CellsAreSquares, PixelsLieBetweenCentres, LevelsStayBetween, NoMeshLeavesThePlane, ResidualIsPlane, ResidualIsInRange};
 
 /// A list that isn't empty has exactly one lower median.
@@ -37,4 +38,13 @@ pub fn no_mesh_leaves_the_plane()
 pub fn residual_is_a_plane()
     ensures one_each { ResidualIsPlane }
     ensures in_range { ResidualIsInRange }
+{}
+
+/// Where a window's corner stands on the mesh, and the cells on which a pixel's background depends lie whole in the window and have defined
+/// pixels, the background and the residual are the same in the window. So its residual shows that of the whole there.
+pub fn residual_is_seen()
+    ensures background { BackgroundIsSeen }
+    ensures residual { ResidualIsSeen }
+    ensures shown { ResidualIsShown }
+    ensures told { ClearIsToldFromTheWindow }
 {}

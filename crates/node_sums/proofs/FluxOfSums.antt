@@ -38,7 +38,7 @@ entry_is r connect sums n entry e g =
     ∙ get_or-map-range_with_len (sums_of r connect) 0 (length (nodes r connect)) n n entry inside (omega arith)
 
 -- the flux by the definition is that by the sums
-of_node : (r : Raster) (connect : Connect) (n : ℕ) → (sums_of r connect n).r -ℤ base_of (tree_of r connect) n *ℤ pos (sums_of r connect n).area ≡ flux_of r connect n
+pub of_node : (r : Raster) (connect : Connect) (n : ℕ) → (sums_of r connect n).r -ℤ base_of (tree_of r connect) n *ℤ pos (sums_of r connect n).area ≡ flux_of r connect n
 unfolding sums_of sums_over flux_of
 of_node r connect n = sym (total-less (level r) (base_of (tree_of r connect) n) (pixels_of r connect n))
 

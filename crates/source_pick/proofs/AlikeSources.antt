@@ -43,14 +43,14 @@ counterpart_up r s connect choice n m c =
     (int_le-true choice.threshold (level r (top_of r connect n)) (counterpart_low r s connect choice.threshold n m c))
 
 -- and so has each node on the way from it downwards
-up_from_way : (r : Raster) (connect : Connect) (choice : Choice) (m n : ℕ) → IsPlane r → m < length (nodes r connect) → n < length (nodes r connect)
+pub up_from_way : (r : Raster) (connect : Connect) (choice : Choice) (m n : ℕ) → IsPlane r → m < length (nodes r connect) → n < length (nodes r connect)
     → IsOnWay (tree_of r connect).rows m n → choice.threshold ≤ℤ level_of_node r connect m → choice.threshold ≤ℤ level_of_node r connect n
 up_from_way r connect choice m n plane hm hn w up = let l : level_of_node r connect m ≤ℤ level_of_node r connect n = level_on_way r connect m n plane hm hn w in omega (arith, ints)
 
 entry_up : (r : Raster) (connect : Connect) (choice : Choice) (n e : ℕ) → IsPlane r → n < length (nodes r connect) → IsEntryOf r connect choice n e → choice.threshold ≤ℤ level_of_node r connect n
 entry_up r connect choice n e plane hn k = up_from_way r connect choice e n plane k.node hn k.way (entry_parts r connect choice e k.entry).high
 
-strong_up : (r : Raster) (connect : Connect) (choice : Choice) (n : ℕ) → IsPlane r → n < length (nodes r connect) → is_strong r connect choice n ≡ true → choice.threshold ≤ℤ level_of_node r connect n
+pub strong_up : (r : Raster) (connect : Connect) (choice : Choice) (n : ℕ) → IsPlane r → n < length (nodes r connect) → is_strong r connect choice n ≡ true → choice.threshold ≤ℤ level_of_node r connect n
 strong_up r connect choice n plane hn h =
     let k : HasEntry r connect choice n = strong_entry r connect choice n h in
     entry_up r connect choice n k.it plane hn (entry_of-parts r connect choice n k.it plane hn k.is)
@@ -182,7 +182,7 @@ split_there r s connect choice x y plane_r plane_s a c h =
     v = find_counterpart r s connect choice k.second a k.second_node (strong_up r connect choice k.second plane_r k.second_node k.twins.other_strong)
 
 -- a split has at least the threshold
-split_up : (r : Raster) (connect : Connect) (choice : Choice) (x : ℕ) → IsPlane r → x < length (nodes r connect) → is_split r connect choice x ≡ true → choice.threshold ≤ℤ level_of_node r connect x
+pub split_up : (r : Raster) (connect : Connect) (choice : Choice) (x : ℕ) → IsPlane r → x < length (nodes r connect) → is_split r connect choice x ≡ true → choice.threshold ≤ℤ level_of_node r connect x
 split_up r connect choice x plane hx h =
     entry_up r connect choice x k.twins.entry plane hx
     (entry_of-parts r connect choice x k.twins.entry plane hx (split_entry r connect choice x k.first k.second plane hx k.first_node k.second_node k.twins))

@@ -15,6 +15,15 @@ mod Bordering
 mod AlikeSums
 mod AlikeSources
 mod Local
+mod AlongInPlace
+mod AlongBorders
+mod Floors
+mod Moved
+mod AlongSums
+mod AlongSources
+mod MovedRows
+mod Windowed
+mod Tiling
 mod Keeping
 mod Around
 mod Nearing

@@ -20,7 +20,7 @@ use Rattle.source_pick.specs.Numbers.{IsMoment, IsMean, IsSpread}
 
 -- ---- products with natural numbers
 
-times_suc : (b : ℤ) (n : ℕ) → b *ℤ pos (suc n) ≡ b +ℤ b *ℤ pos n
+pub times_suc : (b : ℤ) (n : ℕ) → b *ℤ pos (suc n) ≡ b +ℤ b *ℤ pos n
 times_suc b n =
     let e : b *ℤ pos (suc n) ≡ pos n *ℤ b +ℤ b = *ℤ_comm b (pos (suc n)) ∙ suc_ℤ-*ℤ (pos n) b in
     let f : pos n *ℤ b ≡ b *ℤ pos n = *ℤ_comm (pos n) b in

@@ -6,3 +6,4 @@ pub mod Passes
 pub mod Numbers
 pub mod Locality
 pub mod Clearing
+pub mod Windows

@@ -7,6 +7,7 @@ ghost use Rattle.source_pick.specs.Laws.{
   SourcesAreListed,
   SourcesAreInOrder,
 };
+ghost use Rattle.source_pick.specs.Windows.{SureSourcesAreSeen, SeenSourcesAreSure, EachSourceIsATiles, OwnSourcesAreTheWholes, OwnSourcesAreDistinct, TilesGiveTheCatalogue};
 ghost use Rattle.source_pick.specs.Locality.{SourcesAreLocal, KeptIsAPlane, KeptHasTheSameSources};
 
 /// No two entries share a pixel.
@@ -36,4 +37,20 @@ pub fn sources_are_local()
 pub fn kept_has_the_same_sources()
     ensures plane { KeptIsAPlane }
     ensures same { KeptHasTheSameSources }
+{}
+
+/// A source whose threshold component lies with its neighbours among pixels that a window shows is a source of the window, and each such source
+/// of the window is one of the whole, with the same pixels and the same row, but for the places.
+pub fn sources_of_windows()
+    ensures seen { SureSourcesAreSeen }
+    ensures sure { SeenSourcesAreSure }
+{}
+
+/// So the sources of an image are those of its tiles: each is an own source of a tile, each own source of a tile is one, and where the cores
+/// share no pixel it is so of one tile alone.
+pub fn sources_of_tiles()
+    ensures each { EachSourceIsATiles }
+    ensures own { OwnSourcesAreTheWholes }
+    ensures distinct { OwnSourcesAreDistinct }
+    ensures catalogue { TilesGiveTheCatalogue }
 {}
