@@ -10,5 +10,6 @@ pub mod Looking
 pub mod Flooded
 pub mod Working
 pub mod Numbering
-pub mod Sorting
+pub mod Packing
+pub mod Handing
 pub mod Adapting

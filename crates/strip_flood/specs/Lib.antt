@@ -5,4 +5,5 @@ pub mod Joining
 pub mod Levels
 pub mod Queue
 pub mod Ranking
+pub mod Keys
 pub mod Strips

@@ -2,6 +2,7 @@
 ghost use Rattle.std.specs.Prelude.{◌≡◌, ◌<◌};
 
 use crate::StripJob;
+use crate::by_order::rank_by_order;
 use comp_tree::{Connect, NONE, Plane, Shape};
 use dev_io::Steps;
 use std::alloc::Global;
@@ -229,4 +230,35 @@ fn values_far_apart(rt: HostRuntime) -> Result<(), Fail> {
         },
     ];
     try_cases::<Brand, Brand>(&rt, rt.alloc(), Blank::new(1), Blank::new(1), &cases)
+}
+
+#[test]
+fn ranks_by_sorting(rt: HostRuntime) -> Result<(), Fail> {
+    let least = -(1i64 << 37);
+    let most = 1i64 << 37;
+    let values = [
+        Some(7),
+        Some(most),
+        None,
+        Some(-1),
+        Some(least),
+        Some(most),
+        Some(0),
+        Some(-1),
+    ];
+    let shape = Shape::of(4, 2).ok_or("a shape")?;
+    let mut plane = Plane::blank(rt.alloc(), shape)?;
+    for p in 0..8 {
+        if p < plane.shape().pixels() {
+            plane.set(p, values[p as usize]);
+        }
+    }
+    assert_eq!(&rt; plane.shape().pixels(), 8);
+    let found = rank_by_order(rt.alloc(), &plane, 1, 8)?;
+    assert_eq!(&rt; &found.levels[..], &[least, -1, 0, most][..]);
+    assert_eq!(&rt; &found.ranks[..], &[3, NONE, 1, 0, 3, 2, 1][..]);
+    let none = rank_by_order(rt.alloc(), &plane, 2, 3)?;
+    assert_eq!(&rt; none.levels.len(), 0);
+    assert_eq!(&rt; &none.ranks[..], &[NONE][..]);
+    Ok(())
 }
