@@ -152,7 +152,8 @@ def _firsts(catalogue: Table) -> Tuple[numpy.ndarray, numpy.ndarray]:
     return numpy.asarray(catalogue["YFIRST"]) - 1, numpy.asarray(catalogue["XFIRST"]) - 1
 
 
-def _in_box(catalogue: Table, box: Box) -> numpy.ndarray:
+def in_box(catalogue: Table, box: Box) -> numpy.ndarray:
+    """Whether the sources' first pixels lie in a box of the window."""
     rows, columns = _firsts(catalogue)
     return (rows >= box.top) & (rows < box.bottom) & (columns >= box.left) & (columns < box.right)
 
@@ -177,7 +178,7 @@ def _again(look_at, plan: Plan, core: Box, seed: Tuple[int, int], box: Box) -> P
         labels = _labelled(look, plan.connect)
         number = labels[seed[0] - window.top, seed[1] - window.left]
         rows, columns = _firsts(look.catalogue)
-        chosen = (labels[rows, columns] == number) & _in_box(look.catalogue, core.within(window))
+        chosen = (labels[rows, columns] == number) & in_box(look.catalogue, core.within(window))
         if number and number not in _reaching_out(labels, plan.deep(window)):
             return _picked(look, window, plan.shape[1], chosen, False)
         last, margin = (look, window, chosen), 2 * margin
@@ -207,7 +208,7 @@ def tile_sources(look_at: Callable[[Box], Look], plan: Plan, core: Box) -> Piece
     labels, inner = _labelled(look, plan.connect), core.within(window)
     out = _reaching_out(labels, plan.deep(window))
     rows, columns = _firsts(look.catalogue)
-    own = _in_box(look.catalogue, inner)
+    own = in_box(look.catalogue, inner)
     pieces = [_picked(look, window, plan.shape[1], own & ~numpy.isin(labels[rows, columns], out), False)]
     unsure = numpy.intersect1d(out, labels[inner.rows, inner.columns])
     boxes = ndimage.find_objects(labels) if len(unsure) else []
@@ -219,3 +220,56 @@ def tile_sources(look_at: Callable[[Box], Look], plan: Plan, core: Box) -> Piece
         again.append((seed, Box(at[0].start + window.top, at[0].stop + window.top, at[1].start + window.left, at[1].stop + window.left)))
     del look, labels
     return joined(pieces + [_again(look_at, plan, core, seed, box) for seed, box in again])
+
+
+# ---- all tiles
+
+
+def _in_flight(executor: concurrent.futures.Executor) -> int:
+    """How many tiles are handed out at once."""
+    return 1 + (getattr(executor, "_max_workers", None) or 2 * (os.cpu_count() or 1))
+
+
+def each(executor: Optional[concurrent.futures.Executor], work: Callable, items: Iterable) -> Iterator:
+    """What a function gives for each item, in order; a few items ahead are at work in the executor. None: one after the other, here."""
+    if executor is None:
+        yield from map(work, items)
+        return
+    waiting, items = [], iter(items)
+    try:
+        for item in itertools.islice(items, _in_flight(executor)):
+            waiting.append(executor.submit(work, item))
+        while waiting:
+            result = waiting.pop(0).result()
+            waiting += [executor.submit(work, item) for item in itertools.islice(items, 1)]
+            yield result
+    finally:
+        for future in waiting:
+            future.cancel()
+
+
+def order(catalogue: Table) -> numpy.ndarray:
+    """The rows' order by first pixel, which is that of their numbers in the whole."""
+    rows, columns = _firsts(catalogue)
+    return numpy.lexsort((columns, rows))
+
+
+@dataclasses.dataclass
+class _Windows:
+    """Looks at windows of an array by the program. `image` is the part of the whole that begins at (top, left)."""
+
+    image: numpy.ndarray
+    top: int
+    left: int
+    threshold: int
+    options: dict
+
+    def __call__(self, box: Box) -> Look:
+        window = self.image[box.top - self.top : box.bottom - self.top, box.left - self.left : box.right - self.left]
+        catalogue, segments = kernel.detect(window, self.threshold, **self.options)
+
+        def above():
+            residual = kernel_residual(window, self.options["mesh"], self.options["flat"])
+            return (residual >= self.threshold).filled(False)
+
+        return Look(catalogue, segments, above)
