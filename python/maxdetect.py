@@ -145,7 +145,11 @@ def _refusal(words, status, note):
     if status == 1 and note.startswith("usage: word "):
         number = int(note.split()[2])
         option = words[number - 2] if 2 <= number <= len(words) else ""
-        text = f"{option.lstrip('-').replace('-', '_')} isn't given a value that it takes" if option.startswith("--") else note
+        text = (
+            f"{option.lstrip('-').replace('-', '_')} isn't given a value that it takes"
+            if option.startswith("--")
+            else note
+        )
         return Refusal(status, number, "usage", text)
     if status == 2 and note.startswith("refused: "):
         number, name, *place = note.split()[1:]
@@ -189,12 +193,22 @@ def _file(image, blank, extension=False):
     low, high = (int(defined.min()), int(defined.max())) if defined.size else (0, 0)
     if low < -(2**36) or high > 2**36:
         raise ValueError(f"the values from {low} to {high} lie too far from 0")
-    bits, least, zero = next(form for form in _forms(low) if form[0] == 64 or form[1] < low - form[2] and high - form[2] < form[1] + 2 ** form[0])
+    bits, least, zero = next(
+        form
+        for form in _forms(low)
+        if form[0] == 64 or form[1] < low - form[2] and high - form[2] < form[1] + 2 ** form[0]
+    )
     # Values and BZERO fit 64 bits; an undefined pixel may have any value.
     stored = numpy.where(undefined, low, values).astype("i8") - zero
     stored[undefined] = least
     height, width = values.shape
-    cards = [("XTENSION", "IMAGE") if extension else ("SIMPLE", True), ("BITPIX", bits), ("NAXIS", 2), ("NAXIS1", width), ("NAXIS2", height)]
+    cards = [
+        ("XTENSION", "IMAGE") if extension else ("SIMPLE", True),
+        ("BITPIX", bits),
+        ("NAXIS", 2),
+        ("NAXIS1", width),
+        ("NAXIS2", height),
+    ]
     cards += [("PCOUNT", 0), ("GCOUNT", 1)] if extension else []
     cards += [("BSCALE", 1), ("BZERO", zero), ("BLANK", least)]
     data = stored.astype("u1" if bits == 8 else f">i{bits // 8}").tobytes()
@@ -229,7 +243,21 @@ def read(file):
     return Table(columns, names=names, descriptions=[DESCRIPTIONS.get(name, "") for name in names]), segments
 
 
-def detect(image, threshold, *, min_area=1, min_flux=0, contrast=5, mesh=0, flat=False, connect=4, strips=1, workers=1, blank=None, program=None):
+def detect(
+    image,
+    threshold,
+    *,
+    min_area=1,
+    min_flux=0,
+    contrast=5,
+    mesh=0,
+    flat=False,
+    connect=4,
+    strips=1,
+    workers=1,
+    blank=None,
+    program=None,
+):
     """The sources of an image: their catalogue, and their segmentation map.
 
     `threshold` is in the image's own units, above the background where `mesh` is not 0. `min_area` is in pixels, `min_flux` in the units of
@@ -261,7 +289,20 @@ def detect(image, threshold, *, min_area=1, min_flux=0, contrast=5, mesh=0, flat
 
 
 def measure(
-    image, values, threshold, *, min_area=1, min_flux=0, contrast=5, mesh=0, flat=False, connect=4, strips=1, workers=1, blank=None, program=None
+    image,
+    values,
+    threshold,
+    *,
+    min_area=1,
+    min_flux=0,
+    contrast=5,
+    mesh=0,
+    flat=False,
+    connect=4,
+    strips=1,
+    workers=1,
+    blank=None,
+    program=None,
 ):
     """The sources of an image, measured in `values`, a second image of the same shape: another band of the same pixels.
 
@@ -287,7 +328,22 @@ def measure(
     return read(io.BytesIO(_run(program, _words("measure", options), bands)))
 
 
-def filter(image, rule, *, min_area=0, max_area=16777216, min_flux=0, min_fill=0, mesh=0, flat=False, connect=4, strips=1, workers=1, blank=None, program=None):
+def filter(
+    image,
+    rule,
+    *,
+    min_area=0,
+    max_area=16777216,
+    min_flux=0,
+    min_fill=0,
+    mesh=0,
+    flat=False,
+    connect=4,
+    strips=1,
+    workers=1,
+    blank=None,
+    program=None,
+):
     """The image with some nodes of its tree taken out.
 
     `rule` is "min", "max", "direct" or "subtractive"; a node satisfies where its area is from `min_area` to `max_area` pixels, its flux at least

@@ -129,7 +129,7 @@ def test_flags():
     mask[60, 124] = True
     image[120, 60] = 5000
     segments, catalogue = found(numpy.where(mask, numpy.nan, image), 110)
-    catalogue["BASE"][4] = 130
+    catalogue["BASE"][catalogue["XMIN"] > 140] = 130
     table = photometry.measured(image, SKY, SIGMA, segments, catalogue, mask=mask, saturation=4000, threshold=110)
     flags = {(round(x), round(y)): flags for x, y, flags in table["X", "Y", "FLAGS"]}
     low = photometry.EDGE | photometry.UNDEFINED | photometry.SATURATED | photometry.SPLIT
