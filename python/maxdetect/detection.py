@@ -1,11 +1,10 @@
 """From an opened image to its sources: the sky, what the program is to see, its sources, and their photometry, a tile at a time."""
 import concurrent.futures
 import dataclasses
-import math
 from typing import Callable, Optional, Tuple
 
 import numpy
-from astropy.table import Table, vstack
+from astropy.table import Table
 
 from . import background, kernel, photometry, scaling, sky, tiles
 from .errors import Mistake
@@ -122,12 +121,19 @@ class Detector:
         inner = Box(*(side - CELLS * self.settings.mesh for side in dataclasses.astuple(box)))
         part = box.within(self.part), self.part.within(box)
         rows, columns = slice(part[0].top, part[0].bottom), slice(part[0].left, part[0].right)
-        image = self.field.image(rows, columns)
-        level = self.sky.zero if self.even and self.settings.mesh else self.sky.background(rows, columns) + self.sky.zero
-        seen = scaling.detectable(image, level, self.noise(rows, columns), self.settings.smooth).filled(kernel.LEAST)
+        seen = self._seen(rows, columns)
         if part[1].shape != box.shape:
             seen = self._extended(seen, inner, part[1])
         return self._with_empty_cells(seen, inner) if self.settings.mesh else seen
+
+    def _seen(self, rows, columns):
+        """The image's part of it. Smoothing takes a pixel more on each side, so that it is the same in every window."""
+        more = 1 if self.settings.smooth else 0
+        top, left = max(0, rows.start - more), max(0, columns.start - more)
+        wide = slice(top, min(self.field.shape[0], rows.stop + more)), slice(left, min(self.field.shape[1], columns.stop + more))
+        level = self.sky.zero if self.even and self.settings.mesh else self.sky.background(*wide) + self.sky.zero
+        seen = scaling.detectable(self.field.image(*wide), level, self.noise(*wide), self.settings.smooth).filled(kernel.LEAST)
+        return seen[rows.start - top : rows.stop - top, columns.start - left : columns.stop - left]
 
     def _extended(self, seen, inner, at):
         """The window with the sky beyond the image's edges, and a line of undefined pixels between, so that no source reaches out."""
@@ -180,3 +186,58 @@ class Detector:
             catalogue[name] = numpy.zeros(len(catalogue), dtype=found[name].dtype)
             catalogue[name][chosen] = found[name] + (at.left if name == "X" else at.top if name == "Y" else 0)
         return catalogue
+
+
+def sky_of(field: Field) -> sky.Sky:
+    """The sky of a field. Raises Mistake where it has none to speak of."""
+    try:
+        found = sky.of(field.image, field.shape, field.settings.mesh or 64, None if field.weights is None else field.relative)
+    except ValueError as error:
+        raise Mistake(f"{field.plane.label}: {error}") from None
+    if not found.noise > 0:
+        raise Mistake(f"{field.plane.label}: it has no noise to tell sources from")
+    return found
+
+
+def sources(
+    field: Field,
+    executor: Optional[concurrent.futures.Executor] = None,
+    *,
+    segments: Optional[numpy.ndarray] = None,
+    progress: Callable[[int], None] = lambda count: None,
+    program: Optional[str] = None,
+) -> Table:
+    """The sources of a field with their photometry, in columns and rows of the image, numbered by their first pixels.
+
+    Tiles run in the executor. `segments`, an array of the image's shape full of zeros, gets the map. `progress` is called with 1 for each tile, after
+    a first call with 0. The table's meta has the noise (SIGMA) and the program's threshold (THRESH).
+    """
+    detector = Detector(field, sky_of(field), program)
+    cores = detector.plan.cores()
+    if len(cores) == 1 and field.settings.workers > 1:
+        detector.strips = {"strips": 16, "workers": field.settings.workers}
+    progress(0)
+    tables, cut, count = [], [], 0
+    for piece in tiles.each(executor, _Tile(detector), cores):
+        if segments is not None:
+            segments.reshape(-1)[piece.pixels] = piece.owners + (count + 1)
+        count += len(piece.catalogue)
+        tables.append(piece.catalogue)
+        cut.append(piece.cut)
+        progress(1)
+    table, places = tiles.numbered(tables)
+    table["FLAGS"] |= numpy.where(numpy.concatenate(cut)[places], photometry.CUT, 0).astype(table["FLAGS"].dtype)
+    if segments is not None:
+        tiles.renumber(segments, places)
+    table.meta.update(SIGMA=detector.sky.noise, THRESH=field.settings.threshold)
+    return table
+
+
+@dataclasses.dataclass
+class _Tile:
+    """The work on one tile."""
+
+    detector: Detector
+
+    def __call__(self, core: Box) -> tiles.Piece:
+        return tiles.tile_sources(self.detector, self.detector.plan, core)

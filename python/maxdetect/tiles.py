@@ -248,10 +248,25 @@ def each(executor: Optional[concurrent.futures.Executor], work: Callable, items:
             future.cancel()
 
 
-def order(catalogue: Table) -> numpy.ndarray:
-    """The rows' order by first pixel, which is that of their numbers in the whole."""
-    rows, columns = _firsts(catalogue)
-    return numpy.lexsort((columns, rows))
+def numbered(tables: List[Table]) -> Tuple[Table, numpy.ndarray]:
+    """The tables' rows as one, numbered from 1 by their first pixels; and where each row stood."""
+    some = [table for table in tables if len(table)] or tables[:1]
+    table = some[0] if len(some) == 1 else vstack(some, metadata_conflicts="silent")
+    rows, columns = _firsts(table)
+    places = numpy.lexsort((columns, rows))
+    table = table[places]
+    table["NUMBER"] = numpy.arange(1, len(table) + 1, dtype=table["NUMBER"].dtype)
+    return table, places
+
+
+def renumber(segments: numpy.ndarray, places: numpy.ndarray) -> None:
+    """A map whose numbers count the rows as they stood, in place by those that `numbered` gives."""
+    numbers = numpy.zeros(len(places) + 1, dtype=segments.dtype)
+    numbers[places + 1] = numpy.arange(1, len(places) + 1)
+    if (numbers[1:] == numpy.arange(1, len(places) + 1)).all():
+        return
+    for top in range(0, len(segments), 256):
+        segments[top : top + 256] = numbers[segments[top : top + 256]]
 
 
 @dataclasses.dataclass
