@@ -37,6 +37,9 @@ from .errors import Mistake
 
 __all__ = ["NoProgram", "Refusal", "detect", "filter", "find_program", "load", "measure", "read", "tree"]
 
+# Stands for an undefined pixel among 32-bit numbers.
+LEAST = -(2**31)
+
 # What each refusal of an input means, by its number.
 FAULTS = {
     1: "the input doesn't begin with SIMPLE",
@@ -249,6 +252,14 @@ def _file(image, blank, extension=False):
     return fits.Header(cards).tostring().encode("ascii"), stored.reshape(-1).view("u1"), bytes(-stored.nbytes % 2880)
 
 
+def _stored_file(stored):
+    """The same of 32-bit numbers as they are to be stored, the least of them for an undefined pixel."""
+    height, width = stored.shape
+    cards = [("SIMPLE", True), ("BITPIX", 32), ("NAXIS", 2), ("NAXIS1", width), ("NAXIS2", height), ("BLANK", LEAST)]
+    data = stored.astype(">i4", order="C")
+    return fits.Header(cards).tostring().encode("ascii"), data.reshape(-1).view("u1"), bytes(-data.nbytes % 2880)
+
+
 def _native(array):
     """An array in this machine's order of bytes."""
     return numpy.ascontiguousarray(array, dtype=array.dtype.newbyteorder("="))
@@ -316,6 +327,11 @@ def detect(image, threshold, *, min_area=1, min_flux=0, contrast=5, mesh=0, flat
     options = dict(threshold=threshold, min_area=min_area, min_flux=min_flux, contrast=contrast)
     options.update(mesh=mesh, flat=int(flat), connect=connect, strips=strips, workers=workers)
     return _answer(_run(program, _words("detect", options), _file(image, blank)))
+
+
+def detect_stored(stored, threshold, *, program=None, **options):
+    """The same as `detect` of an array of 32-bit numbers in which LEAST stands for an undefined pixel, without a look at its range."""
+    return _answer(_run(program, _words("detect", {"threshold": threshold, **options}), _stored_file(stored)))
 
 
 def measure(

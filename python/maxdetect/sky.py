@@ -62,6 +62,8 @@ def _along(grid: numpy.ndarray, mesh: int, places: slice, dtype: str) -> numpy.n
 
 def between(grid: numpy.ndarray, mesh: int, rows: slice, columns: slice) -> numpy.ndarray:
     """A grid's numbers at the pixels of a window, as 32-bit floating-point numbers of its shape."""
+    if columns.start < 0 or columns.stop > grid.shape[1] * mesh:
+        return _along(numpy.ascontiguousarray(_along(grid, mesh, rows, "f8").T), mesh, columns, "f4").T
     if grid.size == 1:
         return numpy.full((rows.stop - rows.start, columns.stop - columns.start), grid[0, 0], dtype="f4")
     down = _along(grid, mesh, rows, "f8")

@@ -80,9 +80,11 @@ class Piece:
 
 @dataclasses.dataclass(frozen=True)
 class Plan:
-    """How an image is cut: its shape, the side of a tile's core, the margin, the mesh of the program's background, and which pixels are neighbours."""
+    """How an image is cut: its shape, the part of it whose sources are wanted, the side of a tile's core, the margin, the mesh of the program's
+    background, and which pixels are neighbours. The sources' columns and rows are those of the part."""
 
     shape: Tuple[int, int]
+    part: Box
     tile: int
     margin: int
     mesh: int = 0
@@ -91,9 +93,9 @@ class Plan:
 
     def cores(self) -> List[Box]:
         """The cores of the tiles, row by row."""
-        height, width = self.shape
-        corners = itertools.product(range(0, height, self.tile), range(0, width, self.tile))
-        return [Box(top, min(top + self.tile, height), left, min(left + self.tile, width)) for top, left in corners]
+        part = self.part
+        corners = itertools.product(range(part.top, part.bottom, self.tile), range(part.left, part.right, self.tile))
+        return [Box(top, min(top + self.tile, part.bottom), left, min(left + self.tile, part.right)) for top, left in corners]
 
     def around(self, box: Box, margin: int) -> Box:
         """The window with a margin around a box, as far as the image goes, of whole cells."""
@@ -138,9 +140,9 @@ def _reaching_out(labels: numpy.ndarray, deep: Box) -> numpy.ndarray:
     return numbers[numbers > 0]
 
 
-def moved(catalogue: Table, window: Box) -> Table:
-    """The rows of a window's catalogue, in columns and rows of the whole."""
-    for names, by in ((ACROSS, window.left), (ALONG, window.top)):
+def moved(catalogue: Table, left: int, top: int) -> Table:
+    """The rows of a window's catalogue, so many columns and rows further on."""
+    for names, by in ((ACROSS, left), (ALONG, top)):
         for name in names:
             if name in catalogue.colnames and by:
                 catalogue[name] += names[name] * by
@@ -158,15 +160,16 @@ def in_box(catalogue: Table, box: Box) -> numpy.ndarray:
     return (rows >= box.top) & (rows < box.bottom) & (columns >= box.left) & (columns < box.right)
 
 
-def _picked(look: Look, window: Box, width: int, chosen: numpy.ndarray, cut: bool, within: Optional[Box] = None) -> Piece:
+def _picked(look: Look, window: Box, plan: Plan, chosen: numpy.ndarray, cut: bool, within: Optional[Box] = None) -> Piece:
     """The chosen rows of a window as a piece of the whole; of the map the part in a box alone, where one is given."""
+    left, top = window.left - plan.part.left, window.top - plan.part.top
     numbers = numpy.zeros(len(look.catalogue) + 1, dtype="i4")
     numbers[1:][chosen] = numpy.arange(1, chosen.sum() + 1)
     part = within or Box(0, window.shape[0], 0, window.shape[1])
     owners = numbers[look.segments[part.rows, part.columns]]
     rows, columns = numpy.nonzero(owners)
-    pixels = (rows + (window.top + part.top)).astype("i8") * width + (columns + (window.left + part.left))
-    table = moved(look.catalogue[chosen], window)
+    pixels = (rows + (top + part.top)).astype("i8") * (plan.part.right - plan.part.left) + (columns + (left + part.left))
+    table = moved(look.catalogue[chosen], left, top)
     return Piece(table, pixels, owners[rows, columns] - 1, numpy.full(len(table), cut))
 
 
@@ -180,13 +183,13 @@ def _again(look_at, plan: Plan, core: Box, seed: Tuple[int, int], box: Box) -> P
         rows, columns = _firsts(look.catalogue)
         chosen = (labels[rows, columns] == number) & in_box(look.catalogue, core.within(window))
         if number and number not in _reaching_out(labels, plan.deep(window)):
-            return _picked(look, window, plan.shape[1], chosen, False)
+            return _picked(look, window, plan, chosen, False)
         last, margin = (look, window, chosen), 2 * margin
         found = ndimage.find_objects(labels == number)[0] if number else (slice(0, 1), slice(0, 1))
         box = Box(*(window.top + it for it in (found[0].start, found[0].stop)), *(window.left + it for it in (found[1].start, found[1].stop)))
         window = plan.around(box, margin)
     look, window, chosen = last
-    return _picked(look, window, plan.shape[1], chosen, True, core.within(window))
+    return _picked(look, window, plan, chosen, True, core.within(window))
 
 
 def joined(pieces: Iterable[Piece]) -> Piece:
@@ -202,14 +205,14 @@ def joined(pieces: Iterable[Piece]) -> Piece:
 def tile_sources(look_at: Callable[[Box], Look], plan: Plan, core: Box) -> Piece:
     """The sources that belong to a tile. `look_at` looks at a window."""
     window = plan.around(core, plan.margin)
-    look = look_at(window)
+    look, inner = look_at(window), core.within(window)
     if window.shape == plan.shape:
-        return _picked(look, window, plan.shape[1], numpy.ones(len(look.catalogue), dtype=bool), False)
-    labels, inner = _labelled(look, plan.connect), core.within(window)
+        return _picked(look, window, plan, in_box(look.catalogue, inner), False)
+    labels = _labelled(look, plan.connect)
     out = _reaching_out(labels, plan.deep(window))
     rows, columns = _firsts(look.catalogue)
     own = in_box(look.catalogue, inner)
-    pieces = [_picked(look, window, plan.shape[1], own & ~numpy.isin(labels[rows, columns], out), False)]
+    pieces = [_picked(look, window, plan, own & ~numpy.isin(labels[rows, columns], out), False)]
     unsure = numpy.intersect1d(out, labels[inner.rows, inner.columns])
     boxes = ndimage.find_objects(labels) if len(unsure) else []
     again = []
