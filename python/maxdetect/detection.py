@@ -15,8 +15,6 @@ from .tiles import Box
 TILE = 2048
 # Cells beyond the image's edges, and beyond a tile's.
 CELLS = 2
-# A margin without a mesh.
-MARGIN = 128
 # What a weight map has.
 KINDS = ("rms", "variance", "weight")
 
@@ -101,7 +99,7 @@ class Detector:
         self.part = Box(beyond, beyond + height, beyond, beyond + width)
         self.strips = {}
         tile = self.settings.tile // (self.settings.mesh or 1) * (self.settings.mesh or 1)
-        self.plan = tiles.Plan((height + 2 * beyond, width + 2 * beyond), self.part, max(tile, self.settings.mesh), beyond or MARGIN, self.settings.mesh)
+        self.plan = tiles.Plan((height + 2 * beyond, width + 2 * beyond), self.part, max(tile, self.settings.mesh), beyond or tiles.MARGIN, self.settings.mesh)
 
     def noise(self, rows: slice, columns: slice):
         """The noise of the image that is looked at in a window, in its units: one number, or an array."""
@@ -217,18 +215,8 @@ def sources(
     if len(cores) == 1 and field.settings.workers > 1:
         detector.strips = {"strips": 16, "workers": field.settings.workers}
     progress(0)
-    tables, cut, count = [], [], 0
-    for piece in tiles.each(executor, _Tile(detector), cores):
-        if segments is not None:
-            segments.reshape(-1)[piece.pixels] = piece.owners + (count + 1)
-        count += len(piece.catalogue)
-        tables.append(piece.catalogue)
-        cut.append(piece.cut)
-        progress(1)
-    table, places = tiles.numbered(tables)
-    table["FLAGS"] |= numpy.where(numpy.concatenate(cut)[places], photometry.CUT, 0).astype(table["FLAGS"].dtype)
-    if segments is not None:
-        tiles.renumber(segments, places)
+    table, cut = tiles.gathered(tiles.each(executor, _Tile(detector), cores), segments, progress)
+    table["FLAGS"] |= numpy.where(cut, photometry.CUT, 0).astype(table["FLAGS"].dtype)
     table.meta.update(SIGMA=detector.sky.noise, THRESH=field.settings.threshold)
     return table
 

@@ -223,6 +223,12 @@ def _checked(image, blank):
     return values, undefined
 
 
+def masked(image, blank=None):
+    """An image of whole numbers as a masked array, the pixels with the value `blank` masked too."""
+    values, undefined = _checked(image, blank)
+    return numpy.ma.MaskedArray(values, mask=numpy.ma.nomask if undefined is None else undefined)
+
+
 def _range(values, undefined):
     """The least and the greatest defined value, or 0 and 0."""
     if undefined is not None:
