@@ -4,7 +4,7 @@ import dataclasses
 from typing import Callable, Optional, Tuple
 
 import numpy
-from astropy.table import Table
+from astropy.table import Table, hstack
 
 from . import background, kernel, photometry, scaling, sky, tiles
 from .errors import Mistake
@@ -90,7 +90,7 @@ class Detector:
     Windows are given in columns and rows of the field with these cells: their first pixel lies two cells before the image's in both directions.
     """
 
-    def __init__(self, field: Field, found: sky.Sky, program: Optional[str] = None):
+    def __init__(self, field: Field, found: sky.Sky, program: Optional[str] = None, with_map: bool = True):
         self.field, self.settings, self.program = field, field.settings, program
         self.sky = found if self.settings.mesh else found.flat()
         self.even = field.weights is None and not self.settings.local
@@ -99,7 +99,8 @@ class Detector:
         self.part = Box(beyond, beyond + height, beyond, beyond + width)
         self.strips = {}
         tile = self.settings.tile // (self.settings.mesh or 1) * (self.settings.mesh or 1)
-        self.plan = tiles.Plan((height + 2 * beyond, width + 2 * beyond), self.part, max(tile, self.settings.mesh), beyond or tiles.MARGIN, self.settings.mesh)
+        shape, margin = (height + 2 * beyond, width + 2 * beyond), beyond or tiles.MARGIN
+        self.plan = tiles.Plan(shape, self.part, max(tile, self.settings.mesh, 1), margin, self.settings.mesh, with_map=with_map)
 
     def noise(self, rows: slice, columns: slice):
         """The noise of the image that is looked at in a window, in its units: one number, or an array."""
@@ -161,29 +162,27 @@ class Detector:
         seen, mesh = self.numbers(box), self.settings.mesh
         options = {"min_area": self.settings.min_area, "mesh": mesh, "connect": self.plan.connect, **self.strips}
         catalogue, segments = kernel.detect_stored(seen, self.settings.threshold, program=self.program, **options)
-
-        def above():
-            residual = background.kernel_residual(numpy.ma.masked_equal(seen, kernel.LEAST), mesh)
-            return (residual >= self.settings.threshold).filled(False)
-
+        above = background.Above(seen, seen == kernel.LEAST, self.settings.threshold, mesh)
         return tiles.Look(self._measured(box, catalogue, segments), segments, above)
 
+    def _level_of(self, rows, columns):
+        """The sky's level in the image's units, where it is measured in the image itself; in 64 bits where 32 don't hold it."""
+        if self.field.values is not None:
+            return None
+        above = self.sky.background(rows, columns)
+        return (above if abs(self.sky.zero) < 4096 * self.sky.noise else above.astype("f8")) + self.sky.zero
+
     def _measured(self, box, catalogue, segments):
-        """The catalogue with the columns of photometry; of sources beyond the image they aren't measured."""
-        at, part = self.part.within(box), box.within(self.part)
-        chosen = tiles.in_box(catalogue, at)
-        table = tiles.moved(catalogue[chosen], -at.left, -at.top)
-        image = self.field.to_measure(part.rows, part.columns)
-        settings, own = self.settings, numpy.ascontiguousarray(segments[at.rows, at.columns])
-        level, noise = photometry.sky(image, own, settings.mesh, local=settings.local)
+        """The catalogue's rows whose first pixels lie in the image, with the columns of photometry; the window's columns and rows stay."""
+        settings, at, part = self.settings, self.part.within(box), box.within(self.part)
+        table = tiles.moved(catalogue[tiles.in_box(catalogue, at)], -at.left, -at.top)
+        image, own = self.field.to_measure(part.rows, part.columns), numpy.ascontiguousarray(segments[at.rows, at.columns])
+        level, noise = photometry.sky(image, own, settings.mesh, local=settings.local, level=self._level_of(part.rows, part.columns))
         if self.field.values is None and self.field.weights is not None:
             noise = self.noise(part.rows, part.columns)
         more = dict(gain=settings.gain, saturation=settings.saturation, threshold=settings.threshold)
         found = photometry.measured(image, level, noise, own, table, **more)
-        for name in found.colnames:
-            catalogue[name] = numpy.zeros(len(catalogue), dtype=found[name].dtype)
-            catalogue[name][chosen] = found[name] + (at.left if name == "X" else at.top if name == "Y" else 0)
-        return catalogue
+        return tiles.moved(hstack([table, found]), at.left, at.top)
 
 
 def sky_of(field: Field) -> sky.Sky:
@@ -210,7 +209,7 @@ def sources(
     Tiles run in the executor. `segments`, an array of the image's shape full of zeros, gets the map. `progress` is called with 1 for each tile, after
     a first call with 0. The table's meta has the noise (SIGMA) and the program's threshold (THRESH).
     """
-    detector = Detector(field, sky_of(field), program)
+    detector = Detector(field, sky_of(field), program, segments is not None)
     cores = detector.plan.cores()
     if len(cores) == 1 and field.settings.workers > 1:
         detector.strips = {"strips": 16, "workers": field.settings.workers}

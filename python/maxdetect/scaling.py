@@ -4,7 +4,7 @@ from typing import Optional, Tuple, Union
 
 import numpy
 
-from . import noise as noises
+from .noise import floats, of_array
 
 SIGMA = 30
 BLANK = -(2**31)
@@ -65,8 +65,7 @@ def prepared(image: numpy.ndarray, smooth: bool = False, mesh: Optional[int] = 6
 
     The sky is left in, so that the program can take its own background off. Raises ValueError where the image has no noise.
     """
-    found = noises.of_array(image, mesh or 64)
+    found = of_array(image, mesh or 64)
     if not found.noise > 0:
         raise ValueError("the image has no noise to scale by")
-    values = noises.floats(image)
-    return detectable(values, found.zero, found.noise, smooth), found.zero, SIGMA / found.noise
+    return detectable(floats(image), found.zero, found.noise, smooth), found.zero, SIGMA / found.noise

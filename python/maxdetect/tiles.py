@@ -17,7 +17,7 @@ from astropy.table import Table, vstack
 from scipy import ndimage
 
 from . import kernel
-from .background import kernel_residual, lower_median, undefined_cells
+from .background import Above, lower_median, undefined_cells
 
 # What the program takes.
 MOST_PIXELS, MOST_SIDE = 2**24, 65535
@@ -70,7 +70,7 @@ class Look:
 
     catalogue: Table
     segments: numpy.ndarray
-    above: Callable[[], numpy.ndarray]
+    above: Callable[[slice, slice], numpy.ndarray]
     unsure: Optional[numpy.ndarray] = None
 
 
@@ -97,6 +97,7 @@ class Plan:
     mesh: int = 0
     flat: bool = False
     connect: int = 8
+    with_map: bool = True
 
     def cores(self) -> List[Box]:
         """The cores of the tiles, row by row."""
@@ -137,7 +138,36 @@ class Plan:
 
 def _labelled(look: Look, connect: int) -> numpy.ndarray:
     """The components of the threshold set, numbered."""
-    return ndimage.label(look.above(), numpy.ones((3, 3)) if connect == 8 else None)[0]
+    return _label(look.above(slice(0, look.segments.shape[0]), slice(0, look.segments.shape[1])), connect)
+
+
+def _label(above: numpy.ndarray, connect: int) -> numpy.ndarray:
+    return ndimage.label(above, numpy.ones((3, 3)) if connect == 8 else None)[0]
+
+
+def _crosses(look: Look, rows: slice, columns: slice, out: numpy.ndarray, at_core: numpy.ndarray, connect: int) -> bool:
+    """In a strip along the core some component has pixels at the core and out."""
+    labels = _label(look.above(rows, columns), connect)
+    return bool(numpy.intersect1d(labels[at_core], labels[out]).any())
+
+
+def _may_reach_out(look: Look, window: Box, inner: Box, plan: Plan) -> bool:
+    """Some component of the core may not be all of sure pixels with sure neighbours. What is looked at is a strip on each side of the core, and what
+    leaves a strip sideways counts as out: so for most tiles nothing more has to be known of their components."""
+    if look.unsure is not None:
+        return True
+    deep, (height, width) = plan.deep(window), window.shape
+    tall, wide = slice(max(inner.top - 1, 0), min(inner.bottom + 1, height)), slice(max(inner.left - 1, 0), min(inner.right + 1, width))
+    strips = [(deep.top > 0, slice(0, inner.top + 1), wide), (deep.bottom < height, slice(inner.bottom - 1, height), wide)]
+    strips += [(deep.left > 0, tall, slice(0, inner.left + 1)), (deep.right < width, tall, slice(inner.right - 1, width))]
+    for wanted, rows, columns in strips:
+        y, x = numpy.ogrid[rows, columns]
+        core = (y >= inner.top) & (y < inner.bottom) & (x >= inner.left) & (x < inner.right)
+        sideways = (x < inner.left) | (x >= inner.right) if columns is wide else (y < inner.top) | (y >= inner.bottom)
+        out = sideways | (y < deep.top) | (y >= deep.bottom) | (x < deep.left) | (x >= deep.right)
+        if wanted and _crosses(look, rows, columns, out, core, plan.connect):
+            return True
+    return False
 
 
 def _reaching_out(labels: numpy.ndarray, look: Look, window: Box, plan: Plan) -> numpy.ndarray:
@@ -175,13 +205,15 @@ def in_box(catalogue: Table, box: Box) -> numpy.ndarray:
 def _picked(look: Look, window: Box, plan: Plan, chosen: numpy.ndarray, cut: bool, within: Optional[Box] = None) -> Piece:
     """The chosen rows of a window as a piece of the whole; of the map the part in a box alone, where one is given."""
     left, top = window.left - plan.part.left, window.top - plan.part.top
-    numbers = numpy.zeros(len(look.catalogue) + 1, dtype="i4")
-    numbers[1:][chosen] = numpy.arange(1, chosen.sum() + 1)
+    table = moved(look.catalogue[chosen], left, top)
+    if not plan.with_map:
+        return Piece(table, numpy.zeros(0, dtype="i8"), numpy.zeros(0, dtype="i4"), numpy.full(len(table), cut))
+    numbers = numpy.zeros(look.segments.max(initial=0) + 1, dtype="i4")
+    numbers[numpy.asarray(look.catalogue["NUMBER"])[chosen]] = numpy.arange(1, chosen.sum() + 1)
     part = within or Box(0, window.shape[0], 0, window.shape[1])
     owners = numbers[look.segments[part.rows, part.columns]]
     rows, columns = numpy.nonzero(owners)
     pixels = (rows + (top + part.top)).astype("i8") * (plan.part.right - plan.part.left) + (columns + (left + part.left))
-    table = moved(look.catalogue[chosen], left, top)
     return Piece(table, pixels, owners[rows, columns] - 1, numpy.full(len(table), cut))
 
 
@@ -248,7 +280,7 @@ def look_over(look_at: Callable[[Box], Look], plan: Plan, core: Box, margin: int
     window = plan.around(core, margin)
     look, inner = look_at(window), core.within(window)
     own = in_box(look.catalogue, inner)
-    if window.shape == plan.shape:
+    if window.shape == plan.shape or not _may_reach_out(look, window, inner, plan):
         return _picked(look, window, plan, own, False), Rest()
     labels = _labelled(look, plan.connect)
     out = _reaching_out(labels, look, window, plan)
@@ -367,7 +399,9 @@ class _Windows:
         catalogue, segments = kernel.detect(seen, self.threshold, **options)
         if seen is not window:
             catalogue = _without_fill(catalogue, segments, window)
-        return Look(catalogue, segments, lambda: (kernel_residual(seen, options["mesh"], options["flat"]) >= self.threshold).filled(False), unsure)
+        undefined = None if numpy.ma.getmask(seen) is numpy.ma.nomask else numpy.ma.getmaskarray(seen)
+        above = Above(numpy.ma.getdata(seen), undefined, self.threshold, options["mesh"], options["flat"])
+        return Look(catalogue, segments, above, unsure)
 
     def _filled(self, window):
         """The window with these pixels, and where it isn't sure."""
