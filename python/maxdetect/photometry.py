@@ -142,7 +142,7 @@ def sky(
     data = numpy.ma.getdata(image)
     # 32 bits hold the differences from a middle value, where they wouldn't hold the values themselves.
     middle = _middle(data, left_out)
-    values = (data - data.dtype.type(middle)).astype("f4", copy=False)
+    values = (data - (numpy.float32 if data.dtype == "f4" else numpy.float64)(middle)).astype("f4", copy=False)
     values[undefined] = 0
     side = mesh or max(data.shape)
     found = sep.Background(values, mask=left_out, bw=side, bh=side)

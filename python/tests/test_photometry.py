@@ -178,9 +178,10 @@ def test_sky_beside_sources(level):
     assert noises.shape == image.shape and noises[100, 100] == pytest.approx(SIGMA, rel=0.1)
 
 
-def test_sky_of_whole_numbers_and_without_a_mesh():
+@pytest.mark.parametrize("kind", ["u1", "u2", "i4", ">i2", ">f4"])
+def test_sky_of_other_numbers_and_without_a_mesh(kind):
     rng = numpy.random.default_rng(6)
-    image = rng.poisson(9, (100, 130)).astype("i4")
+    image = rng.poisson(9, (100, 130)).astype(kind)
     background, noise = photometry.sky(image, numpy.zeros(image.shape, dtype="i4"), 0)
     assert background.shape == image.shape and numpy.ptp(background) < 1e-6
     assert background[0, 0] == pytest.approx(9, abs=0.2) and noise == pytest.approx(3, rel=0.05)
