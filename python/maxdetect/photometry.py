@@ -17,6 +17,8 @@ import sep
 from astropy.table import Table
 
 __all__ = [
+    "APERTURE",
+    "KRON",
     "EDGE",
     "UNDEFINED",
     "SATURATED",
@@ -50,6 +52,9 @@ FLAGS = {
 
 # The Kron radius is sought within this many standard deviations of the source's pixels, as Source Extractor seeks it.
 KRON_REACH = 6.0
+# The radius of the circular aperture in pixels, and how many Kron radii the Kron ellipse reaches.
+APERTURE = 5.0
+KRON = 4.0
 # How far a source's light reaches beyond its pixels, when the background is estimated.
 GROWTH = 4
 # Least share of an image that the background is estimated from.
@@ -235,8 +240,8 @@ def measured(
     mask: typing.Optional[numpy.ndarray] = None,
     gain: typing.Optional[float] = None,
     saturation: typing.Optional[float] = None,
-    aperture: float = 5.0,
-    kron: float = 4.0,
+    aperture: float = APERTURE,
+    kron: float = KRON,
     threshold: typing.Optional[int] = None,
 ) -> Table:
     """The photometry of the sources of a segmentation map, a row for each row of `catalogue`.
