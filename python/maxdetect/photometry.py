@@ -16,6 +16,8 @@ import numpy
 import sep
 from astropy.table import Table
 
+from . import noise as skies
+
 __all__ = [
     "APERTURE",
     "KRON",
@@ -114,10 +116,13 @@ def _left_out(segments: numpy.ndarray, undefined: numpy.ndarray) -> numpy.ndarra
     return found | undefined
 
 
-def _middle(data: numpy.ndarray, left_out: numpy.ndarray) -> float:
-    """A value near the sky's, from a part of the pixels that aren't left out."""
-    few = data[::7, ::7][~left_out[::7, ::7]]
-    return float(numpy.median(few if few.size else data[~left_out]))
+def _level(image: numpy.ndarray, mesh: int) -> numpy.ndarray:
+    """The level of the sky by the package's own estimate."""
+    found = skies.of_array(image, mesh or 64)
+    window = tuple(slice(0, side) for side in found.shape)
+    above = (found if mesh else found.flat()).background(*window)
+    # 32 bits hold the level where it isn't far from 0 beside its noise.
+    return (above if abs(found.zero) < 4096 * found.noise else above.astype("f8")) + found.zero
 
 
 def sky(
@@ -127,33 +132,33 @@ def sky(
     *,
     mask: typing.Optional[numpy.ndarray] = None,
     local: bool = False,
+    level: typing.Union[None, float, numpy.ndarray] = None,
 ) -> typing.Tuple[numpy.ndarray, Numbers]:
-    """The background and the noise of an image beside its sources, by SEP, in the image's units.
+    """The background and the noise of an image beside its sources, in the image's units.
 
-    `image` has two dimensions, and NaN or a true `mask` where it is undefined; `segments` is the segmentation map of
-    the same shape. The background is estimated in cells of `mesh` by `mesh` pixels (with `mesh` 0 it is one number)
-    from the pixels that lie at least four pixels from every source, or closer where these are too few. It is an array
-    of the image's shape. The noise is one standard deviation of a pixel: one number, or with `local` an array too.
-    Raises ValueError where no pixel has a value.
+    `image` has two dimensions, and NaN or a true `mask` where it is undefined; `segments` is the segmentation map of the
+    same shape. `level` is a first estimate of the background, by default the package's own in cells of `mesh` by `mesh`
+    pixels (with `mesh` 0 it is one number): means, which the light of faint sources draws up. By how much SEP tells,
+    from the residual's pixels that lie at least four pixels from every source, or closer where these are too few; the
+    median over its cells is taken off everywhere. The background is an array of the image's shape. The noise is one
+    standard deviation of a pixel: one number, or with `local` an array. Raises ValueError where no pixel has a value.
     """
     if mesh < 0:
         raise ValueError(f"mesh is 0 or a number of pixels, not {mesh}")
     undefined = _undefined(image, mask)
     if undefined.all():
         raise ValueError("no pixel of the image has a value")
+    if level is None:
+        level = _level(numpy.ma.MaskedArray(numpy.ma.getdata(image), mask=undefined), mesh)
     left_out = _left_out(numpy.asarray(segments), undefined)
     if left_out.all():
         left_out = undefined
-    data = numpy.ma.getdata(image)
-    # 32 bits hold the differences from a middle value, where they wouldn't hold the values themselves.
-    middle = _middle(data, left_out)
-    values = (data - (numpy.float32 if data.dtype == "f4" else numpy.float64)(middle)).astype("f4", copy=False)
-    values[undefined] = 0
-    side = mesh or max(data.shape)
-    found = sep.Background(values, mask=left_out, bw=side, bh=side)
-    background = found.back(dtype="f4" if abs(middle) < 4096 * found.globalrms else "f8")
-    background += background.dtype.type(middle)
-    return background, found.rms(dtype="f4") if local else found.globalrms
+    # 32 bits hold the residual, where they may not hold the values themselves.
+    residual = _residual(image, level, undefined)
+    side = mesh or max(residual.shape)
+    found = sep.Background(residual, mask=left_out, bw=side, bh=side)
+    noise = found.rms(dtype="f4") if local else found.globalrms
+    return level + numpy.float32(found.globalback), noise
 
 
 def ellipses(catalogue: Table) -> typing.Tuple[numpy.ndarray, numpy.ndarray, numpy.ndarray]:
@@ -182,7 +187,10 @@ def _noise(noise: Numbers, shape: typing.Tuple[int, int]) -> Numbers:
 
 def _residual(image: numpy.ndarray, background: Numbers, undefined: numpy.ndarray) -> numpy.ndarray:
     """The image less its background in 32 bits, with 0 where it is undefined."""
-    residual = (numpy.ma.getdata(image) - background).astype("f4", copy=False)
+    data = numpy.ma.getdata(image)
+    residual = (data - background if data.dtype.kind == "f" else data.astype("f8") - background).astype(
+        "f4", copy=False
+    )
     residual[undefined] = 0
     return residual
 
