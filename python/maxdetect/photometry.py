@@ -136,12 +136,13 @@ def sky(
 ) -> typing.Tuple[numpy.ndarray, Numbers]:
     """The background and the noise of an image beside its sources, in the image's units.
 
-    `image` has two dimensions, and NaN or a true `mask` where it is undefined; `segments` is the segmentation map of the
-    same shape. `level` is a first estimate of the background, by default the package's own in cells of `mesh` by `mesh`
-    pixels (with `mesh` 0 it is one number): means, which the light of faint sources draws up. By how much SEP tells,
-    from the residual's pixels that lie at least four pixels from every source, or closer where these are too few; the
-    median over its cells is taken off everywhere. The background is an array of the image's shape. The noise is one
-    standard deviation of a pixel: one number, or with `local` an array. Raises ValueError where no pixel has a value.
+    `image` has two dimensions, and NaN or a true `mask` where it is undefined; `segments` is the segmentation map of
+    the same shape. `level` is a first estimate of the background, by default the package's own in cells of `mesh` by
+    `mesh` pixels (with `mesh` 0 it is one number): means, which the light of faint sources draws up. By how much SEP
+    tells, from the residual's pixels that lie at least four pixels from every source, or closer where these are too
+    few; the median over its cells is taken off everywhere. The background is an array of the image's shape. The noise
+    is one standard deviation of a pixel: one number, or with `local` an array. Raises ValueError where no pixel has a
+    value.
     """
     if mesh < 0:
         raise ValueError(f"mesh is 0 or a number of pixels, not {mesh}")
