@@ -1,12 +1,12 @@
-"""Maxdetect from Python: sources of an integer image by its max-tree, as numpy arrays and astropy tables.
+"""The program's calls: sources of an integer image by its max-tree, as numpy arrays and astropy tables.
 
-Each call starts the built program once and hands the bytes through pipes; no file is written. Wanted are numpy and astropy. The program is the
+Each call starts the built program once; the bytes stay in memory where the system has files there. Wanted are numpy and astropy. The program is the
 one that `program=` names, else the one that the environment's MAXDETECT names, else `maxdetect` on the PATH, else the repository's own, which is
 then proved and built first where it isn't there yet.
 
 An image is a two-dimensional array of whole numbers of any integer type, row by row: `image[y, x]`, as astropy reads it. Pixels that are masked (a
 numpy masked array) or have the value `blank` are undefined: they belong to no source. All other values lie from -2^36 to 2^36. For an image of
-floating-point numbers see examples/prepare.py.
+floating-point numbers see `maxdetect.scaling`.
 
 >>> import numpy
 >>> image = numpy.array([[1, 6, 2, 5, 1]])
@@ -20,18 +20,25 @@ floating-point numbers see examples/prepare.py.
 
 `catalogue` and `segments` are those of the command `maxdetect detect --threshold 2 --contrast 300`.
 """
-import io
 import operator
 import os
 import pathlib
 import shutil
 import subprocess
+import tempfile
+import warnings
 
 import numpy
 from astropy.io import fits
 from astropy.table import Table
+from astropy.utils.exceptions import AstropyWarning
 
-__all__ = ["Refusal", "detect", "filter", "find_program", "load", "measure", "read", "tree"]
+from .errors import Mistake
+
+__all__ = ["NoProgram", "Refusal", "detect", "filter", "find_program", "load", "measure", "read", "tree"]
+
+# Stands for an undefined pixel among 32-bit numbers.
+LEAST = -(2**31)
 
 # What each refusal of an input means, by its number.
 FAULTS = {
@@ -83,12 +90,13 @@ DESCRIPTIONS = {
 }
 
 
-class Refusal(Exception):
+class Refusal(Mistake):
     """The program ended without an answer.
 
     `status` is its exit status: 1 an option's value is out of its range, 2 the image is refused, 3 a read failed, 4 a write failed, 5 memory is
-    wanted. For an image that is refused `number` and `name` are those of its first fault, as in the man page; for an option `number` is the
-    place of the word at fault and `name` is "usage"; else `number` is None. `text` says what it means.
+    wanted; it is None where a signal ended the program (`name` is "killed") or what it wrote is cut short ("truncated"). For an image that is refused
+    `number` and `name` are those of its first fault, as in the man page; for an option `number` is the place of the word at fault and `name` is
+    "usage"; else `number` is None. `text` says what it means.
 
     >>> import numpy
     >>> try:
@@ -107,6 +115,13 @@ class Refusal(Exception):
         super().__init__(f"{name}: {text}")
         self.status, self.number, self.name, self.text = status, number, name, text
 
+    def __reduce__(self):
+        return type(self), (self.status, self.number, self.name, self.text)
+
+
+class NoProgram(Mistake, FileNotFoundError):
+    """The program isn't where it was looked for, or can't be run."""
+
 
 def find_program(program=None):
     """The path of the program: `program`, or where MAXDETECT, the PATH or the repository has it."""
@@ -116,11 +131,12 @@ def find_program(program=None):
     found = shutil.which("maxdetect")
     if found:
         return found
-    top = pathlib.Path(__file__).resolve().parent.parent
+    top = pathlib.Path(__file__).resolve().parent.parent.parent
     build = top / "scripts" / "build"
     if not build.exists():
-        raise FileNotFoundError("maxdetect isn't on the PATH; name it by program= or in the environment's MAXDETECT")
-    subprocess.run([build], stdin=subprocess.DEVNULL, stdout=subprocess.DEVNULL, check=True)
+        raise NoProgram("maxdetect isn't on the PATH; name it by program= or in the environment's MAXDETECT")
+    if subprocess.run([build], stdin=subprocess.DEVNULL, stdout=subprocess.DEVNULL, check=False).returncode != 0:
+        raise NoProgram(f"{build} didn't make the program; name one by program= or in the environment's MAXDETECT")
     return os.fspath(top / "crates" / "maxdetect" / "out" / "maxdetect")
 
 
@@ -145,27 +161,44 @@ def _refusal(words, status, note):
     if status == 1 and note.startswith("usage: word "):
         number = int(note.split()[2])
         option = words[number - 2] if 2 <= number <= len(words) else ""
-        text = (
-            f"{option.lstrip('-').replace('-', '_')} isn't given a value that it takes"
-            if option.startswith("--")
-            else note
-        )
+        text = f"{option.lstrip('-').replace('-', '_')} isn't given a value that it takes" if option.startswith("--") else note
         return Refusal(status, number, "usage", text)
     if status == 2 and note.startswith("refused: "):
         number, name, *place = note.split()[1:]
         text = FAULTS.get(int(number), "the input is refused")
         return Refusal(status, int(number), name, " ".join([text, *place]))
+    if status < 0:
+        return Refusal(None, None, "killed", f"signal {-status} ended maxdetect")
     if status in (3, 4, 5):
         return Refusal(status, None, note, "nothing was made")
-    return RuntimeError(f"maxdetect ended with status {status}: {note}")
+    return Refusal(status, None, "failed", f"maxdetect ended with status {status}: {' '.join(note.split())}")
 
 
-def _run(program, words, file):
-    """What the program writes for these words and this input."""
-    result = subprocess.run([find_program(program), *words], input=file, capture_output=True, check=False)
-    if result.returncode != 0:
-        raise _refusal(words, result.returncode, result.stderr.decode("utf-8", "replace").strip())
-    return result.stdout
+def _in_memory():
+    """A file without a name, in memory where the system can."""
+    return os.fdopen(os.memfd_create("maxdetect"), "w+b") if hasattr(os, "memfd_create") else tempfile.TemporaryFile()
+
+
+def _run(program, words, *images):
+    """What the program writes for these words and the pieces of these images, as a file that is open for reading."""
+    path = find_program(program)
+    with _in_memory() as file, _in_memory() as output:
+        for pieces in images:
+            for piece in pieces:
+                file.write(piece)
+        file.seek(0)
+        try:
+            result = subprocess.run([path, *words], stdin=file, stdout=output, stderr=subprocess.PIPE, check=False)
+        except OSError as error:
+            raise NoProgram(f"{path} can't be run: {error.strerror}") from None
+        if result.returncode != 0:
+            raise _refusal(words, result.returncode, result.stderr.decode("utf-8", "replace").strip())
+        output.seek(0)
+        return os.fdopen(os.dup(output.fileno()), "rb")
+
+
+def _truncated():
+    return Refusal(None, None, "truncated", "what maxdetect wrote is cut short")
 
 
 def _forms(low):
@@ -176,43 +209,55 @@ def _forms(low):
     yield 64, -(2**63), 0
 
 
-def _file(image, blank, extension=False):
-    """An image as the bytes of a FITS file, or of an extension behind one, and which of its pixels are undefined.
-
-    The stored numbers are the values less BZERO, in as few bytes as their range needs; the least stored number is BLANK. In 64 bits BZERO is 0.
-    """
-    values = numpy.ma.getdata(image)
+def _checked(image, blank):
+    """The values of an image, and which of its pixels are undefined (None: none is)."""
+    values, mask = numpy.ma.getdata(image), numpy.ma.getmask(image)
     if values.ndim != 2:
         raise ValueError(f"an image has two dimensions, not {values.ndim}")
     if values.dtype.kind not in "iu":
-        raise TypeError(f"an image has whole numbers, not {values.dtype}; examples/prepare.py makes some of others")
-    undefined = numpy.ma.getmaskarray(image)
+        raise TypeError(f"an image has whole numbers, not {values.dtype}; maxdetect.scaling makes some of others")
+    undefined = None if mask is numpy.ma.nomask or not mask.any() else numpy.ma.getmaskarray(image)
     if blank is not None:
-        undefined = undefined | (values == blank)
-    defined = values[~undefined]
-    low, high = (int(defined.min()), int(defined.max())) if defined.size else (0, 0)
+        at_blank = values == int(_whole("blank", blank))
+        undefined = at_blank if undefined is None else undefined | at_blank
+    return values, undefined
+
+
+def _range(values, undefined):
+    """The least and the greatest defined value, or 0 and 0."""
+    if undefined is not None:
+        values = values[~undefined]
+    low, high = (int(values.min()), int(values.max())) if values.size else (0, 0)
     if low < -(2**36) or high > 2**36:
         raise ValueError(f"the values from {low} to {high} lie too far from 0")
-    bits, least, zero = next(
-        form
-        for form in _forms(low)
-        if form[0] == 64 or form[1] < low - form[2] and high - form[2] < form[1] + 2 ** form[0]
-    )
+    return low, high
+
+
+def _file(image, blank, extension=False):
+    """An image as pieces of a FITS file, or of an extension behind one: header, pixels, padding.
+
+    The stored numbers are the values less BZERO, in as few bytes as their range needs; the least stored number is BLANK. In 64 bits BZERO is 0.
+    """
+    values, undefined = _checked(image, blank)
+    low, high = _range(values, undefined)
+    bits, least, zero = next(form for form in _forms(low) if form[0] == 64 or form[1] < low - form[2] and high - form[2] < form[1] + 2 ** form[0])
     # Values and BZERO fit 64 bits; an undefined pixel may have any value.
-    stored = numpy.where(undefined, low, values).astype("i8") - zero
-    stored[undefined] = least
+    stored = (values.astype("i8") - zero if zero else values).astype("u1" if bits == 8 else f">i{bits // 8}", order="C")
+    if undefined is not None:
+        stored[undefined] = least
     height, width = values.shape
-    cards = [
-        ("XTENSION", "IMAGE") if extension else ("SIMPLE", True),
-        ("BITPIX", bits),
-        ("NAXIS", 2),
-        ("NAXIS1", width),
-        ("NAXIS2", height),
-    ]
+    cards = [("XTENSION", "IMAGE") if extension else ("SIMPLE", True), ("BITPIX", bits), ("NAXIS", 2), ("NAXIS1", width), ("NAXIS2", height)]
     cards += [("PCOUNT", 0), ("GCOUNT", 1)] if extension else []
     cards += [("BSCALE", 1), ("BZERO", zero), ("BLANK", least)]
-    data = stored.astype("u1" if bits == 8 else f">i{bits // 8}").tobytes()
-    return fits.Header(cards).tostring().encode("ascii") + data + bytes(-len(data) % 2880), undefined
+    return fits.Header(cards).tostring().encode("ascii"), stored.reshape(-1).view("u1"), bytes(-stored.nbytes % 2880)
+
+
+def _stored_file(stored):
+    """The same of 32-bit numbers as they are to be stored, the least of them for an undefined pixel."""
+    height, width = stored.shape
+    cards = [("SIMPLE", True), ("BITPIX", 32), ("NAXIS", 2), ("NAXIS1", width), ("NAXIS2", height), ("BLANK", LEAST)]
+    data = stored.astype(">i4", order="C")
+    return fits.Header(cards).tostring().encode("ascii"), data.reshape(-1).view("u1"), bytes(-data.nbytes % 2880)
 
 
 def _native(array):
@@ -229,7 +274,7 @@ def load(file, hdu=0):
         header, stored = hdus[hdu].header, hdus[hdu].data
         zero, scale, blank = header.get("BZERO", 0), header.get("BSCALE", 1), header.get("BLANK")
         if stored is None or stored.ndim != 2 or stored.dtype.kind not in "iu" or scale != 1 or zero != int(zero):
-            raise ValueError("not a two-dimensional image of whole numbers; examples/prepare.py makes one of others")
+            raise ValueError("not a two-dimensional image of whole numbers; maxdetect.scaling makes one of others")
         values = stored.astype("i8") + int(zero)
     return values if blank is None else numpy.ma.MaskedArray(values, mask=stored == blank)
 
@@ -243,21 +288,18 @@ def read(file):
     return Table(columns, names=names, descriptions=[DESCRIPTIONS.get(name, "") for name in names]), segments
 
 
-def detect(
-    image,
-    threshold,
-    *,
-    min_area=1,
-    min_flux=0,
-    contrast=5,
-    mesh=0,
-    flat=False,
-    connect=4,
-    strips=1,
-    workers=1,
-    blank=None,
-    program=None,
-):
+def _answer(output):
+    """The same of what the program wrote just now."""
+    with output, warnings.catch_warnings():
+        # astropy warns of a file that is cut short, and reads on.
+        warnings.simplefilter("error", AstropyWarning)
+        try:
+            return read(output)
+        except (AstropyWarning, OSError, KeyError, ValueError, TypeError, IndexError):
+            raise _truncated() from None
+
+
+def detect(image, threshold, *, min_area=1, min_flux=0, contrast=5, mesh=0, flat=False, connect=4, strips=1, workers=1, blank=None, program=None):
     """The sources of an image: their catalogue, and their segmentation map.
 
     `threshold` is in the image's own units, above the background where `mesh` is not 0. `min_area` is in pixels, `min_flux` in the units of
@@ -284,25 +326,16 @@ def detect(
     """
     options = dict(threshold=threshold, min_area=min_area, min_flux=min_flux, contrast=contrast)
     options.update(mesh=mesh, flat=int(flat), connect=connect, strips=strips, workers=workers)
-    file, _ = _file(image, blank)
-    return read(io.BytesIO(_run(program, _words("detect", options), file)))
+    return _answer(_run(program, _words("detect", options), _file(image, blank)))
+
+
+def detect_stored(stored, threshold, *, program=None, **options):
+    """The same as `detect` of an array of 32-bit numbers in which LEAST stands for an undefined pixel, without a look at its range."""
+    return _answer(_run(program, _words("detect", {"threshold": threshold, **options}), _stored_file(stored)))
 
 
 def measure(
-    image,
-    values,
-    threshold,
-    *,
-    min_area=1,
-    min_flux=0,
-    contrast=5,
-    mesh=0,
-    flat=False,
-    connect=4,
-    strips=1,
-    workers=1,
-    blank=None,
-    program=None,
+    image, values, threshold, *, min_area=1, min_flux=0, contrast=5, mesh=0, flat=False, connect=4, strips=1, workers=1, blank=None, program=None
 ):
     """The sources of an image, measured in `values`, a second image of the same shape: another band of the same pixels.
 
@@ -324,26 +357,10 @@ def measure(
     """
     options = dict(values=1, threshold=threshold, min_area=min_area, min_flux=min_flux, contrast=contrast)
     options.update(mesh=mesh, flat=int(flat), connect=connect, strips=strips, workers=workers)
-    bands = _file(image, blank)[0] + _file(values, blank, extension=True)[0]
-    return read(io.BytesIO(_run(program, _words("measure", options), bands)))
+    return _answer(_run(program, _words("measure", options), _file(image, blank), _file(values, blank, extension=True)))
 
 
-def filter(
-    image,
-    rule,
-    *,
-    min_area=0,
-    max_area=16777216,
-    min_flux=0,
-    min_fill=0,
-    mesh=0,
-    flat=False,
-    connect=4,
-    strips=1,
-    workers=1,
-    blank=None,
-    program=None,
-):
+def filter(image, rule, *, min_area=0, max_area=16777216, min_flux=0, min_fill=0, mesh=0, flat=False, connect=4, strips=1, workers=1, blank=None, program=None):
     """The image with some nodes of its tree taken out.
 
     `rule` is "min", "max", "direct" or "subtractive"; a node satisfies where its area is from `min_area` to `max_area` pixels, its flux at least
@@ -359,13 +376,14 @@ def filter(
     """
     options = dict(rule=rule, min_area=min_area, max_area=max_area, min_flux=min_flux, min_fill=min_fill)
     options.update(mesh=mesh, flat=int(flat), connect=connect, strips=strips, workers=workers)
-    file, undefined = _file(image, blank)
-    output = _run(program, _words("filter", options), file)
-    with fits.open(io.BytesIO(output), memmap=False, do_not_scale_image_data=True) as hdus:
+    with _run(program, _words("filter", options), _file(image, blank)) as output, fits.open(output, memmap=False, do_not_scale_image_data=True) as hdus:
+        if hdus[0].data is None or hdus[0].data.shape != numpy.shape(image):
+            raise _truncated()
         values = _native(hdus[0].data)
     if blank is None and not isinstance(image, numpy.ma.MaskedArray):
         return values
-    return numpy.ma.MaskedArray(values, mask=undefined)
+    undefined = _checked(image, blank)[1]
+    return numpy.ma.MaskedArray(values, mask=numpy.zeros(values.shape, dtype=bool) if undefined is None else undefined)
 
 
 def tree(image, *, mesh=0, flat=False, connect=4, strips=1, workers=1, blank=None, program=None):
@@ -381,7 +399,7 @@ def tree(image, *, mesh=0, flat=False, connect=4, strips=1, workers=1, blank=Non
     1 2 1 0 1
     """
     options = dict(mesh=mesh, flat=int(flat), connect=connect, strips=strips, workers=workers)
-    file, _ = _file(image, blank)
-    lines = _run(program, _words("tree", options), file).replace(b" - ", b" -1 ")
+    with _run(program, _words("tree", options), _file(image, blank)) as output:
+        lines = output.read().replace(b" - ", b" -1 ")
     numbers = numpy.fromstring(lines, dtype="i8", sep=" ").reshape(-1, 5) if lines else numpy.zeros((0, 5), dtype="i8")
     return Table(numbers, names=["NUMBER", "LEVEL", "REP", "PARENT", "AREA"])
