@@ -3,9 +3,9 @@
 usage: /usr/bin/python3 scripts/cookbook.py MAXDETECT [DOCUMENT]      (MAXDETECT is the built program)
 
 A block's first line may say what it wants: `# wants: stilts sep`, each the name of a program or of a Python module,
-or `index-files` for those of astrometry.net. Where something is missing the block is skipped, and a line says so. A
-block that fails ends the run with status 1. The commands find `maxcat`, and Python the package, in this repository;
-MAXDETECT_HOME is its folder.
+or `index-files` for those of astrometry.net. A block without a language right behind another one is what that one
+prints. Where something is missing the block is skipped, and a line says so. A block that fails ends the run with
+status 1. The commands find `maxcat`, and Python the package, in this repository; MAXDETECT_HOME is its folder.
 """
 import importlib.util
 import os
@@ -17,7 +17,7 @@ import sys
 import tempfile
 
 TOP = pathlib.Path(__file__).resolve().parent.parent
-BLOCK = re.compile(r"^```(sh|python)\n(.*?)^```$", re.M | re.S)
+BLOCK = re.compile(r"^```(sh|python)\n(.*?)^```$(?:\s*^```\n(.*?)^```$)?", re.M | re.S)
 INDEX_FILES = pathlib.Path("/usr/share/astrometry")
 
 
@@ -46,14 +46,21 @@ def surroundings(folder, program):
     return {**os.environ, **paths, "MAXDETECT": program, "MAXDETECT_HOME": os.fspath(TOP)}
 
 
-def run(language, code, folder, environment):
-    """Runs one block; what it prints is shown where it fails."""
+def lines(text):
+    """The lines without what can't be seen at their ends."""
+    return [line.rstrip() for line in text.strip().splitlines()]
+
+
+def run(language, code, told, folder, environment):
+    """Runs one block, and compares what it prints with `told`, if there is something."""
     command = ["sh", "-e", "-c", code] if language == "sh" else [sys.executable, "-c", code]
     result = subprocess.run(command, cwd=folder, env=environment, capture_output=True, text=True, check=False)
     if result.returncode != 0:
         sys.exit(
             f"cookbook: this block ended with status {result.returncode}:\n\n{code}\n{result.stdout}{result.stderr}"
         )
+    if told and lines(told) != lines(result.stdout):
+        sys.exit(f"cookbook: this block prints something else:\n\n{code}\n{result.stdout}")
 
 
 def main():
@@ -68,12 +75,12 @@ def main():
         kitchen = pathlib.Path(name) / "kitchen"
         kitchen.mkdir()
         environment = surroundings(pathlib.Path(name), program)
-        for language, code in BLOCK.findall(document.read_text(encoding="utf-8")):
+        for language, code, told in BLOCK.findall(document.read_text(encoding="utf-8")):
             missing = [name for name in wanted(code) if not is_there(name)]
             if missing:
                 print(f"skipped: a block of {document.name} wants {', '.join(missing)}")
                 continue
-            run(language, code, kitchen, environment)
+            run(language, code, told, kitchen, environment)
             count += 1
     print(f"cookbook: {count} blocks of {document.name} ran")
 
