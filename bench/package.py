@@ -11,6 +11,7 @@ import guide
 import maxdetect
 import numpy
 from maxdetect import photometry
+from maxdetect.arrays import catalogue
 
 try:
     import sep
@@ -92,7 +93,7 @@ def flux_and_pull_rows():
     """The parts of a star's light that fluxes hold, and the deviations of their pulls, by magnitude."""
     shares, pulls = Collected(), Collected()
     for image, light, stars, magnitudes in star_fields(FLUX_FIELDS):
-        table, segments = maxdetect.catalogue(image, gain=1.0)
+        table, segments = catalogue(image, gain=1.0)
         own = guide.matches(stars, located(table))
         seen, rows = magnitudes[own >= 0], own[own >= 0]
         true = same_pixels(light, table, segments)
@@ -147,9 +148,9 @@ def uneven(rng):
 
 def uneven_ways():
     """Ways of detecting where the noise is uneven: of an image and its noise, the centres."""
-    yield "`maxcat`", lambda image, noise: located(maxdetect.catalogue(image)[0])
-    yield "`maxcat --rms local`", lambda image, noise: located(maxdetect.catalogue(image, rms="local")[0])
-    yield "`maxcat --weight`, type rms", lambda image, noise: located(maxdetect.catalogue(image, noise=noise)[0])
+    yield "`maxcat`", lambda image, noise: located(catalogue(image)[0])
+    yield "`maxcat --rms local`", lambda image, noise: located(catalogue(image, rms="local")[0])
+    yield "`maxcat --weight`, type rms", lambda image, noise: located(catalogue(image, noise=noise)[0])
     if sep:
         yield "SEP without a kernel, the same map", lambda image, noise: centres_of_sep(by_sep(image, error=noise)[0])
         yield "SEP without a kernel, its own map", lambda image, noise: centres_of_sep(
@@ -186,7 +187,7 @@ def uneven_rows():
 
 def slope_rows():
     """Stars over a sky that rises, by program."""
-    ways = {"`maxcat`": lambda image: located(maxdetect.catalogue(image)[0])}
+    ways = {"`maxcat`": lambda image: located(catalogue(image)[0])}
     options = {"mesh": 64, "connect": 8, "min_area": 5}
     ways["`maxdetect detect --mesh 64 --connect 8 --min-area 5`"] = lambda image: guide.centres(
         maxdetect.detect(image, math.ceil(2.25 * guide.SIGMA), **options)[0]
@@ -208,9 +209,9 @@ def tile_rows():
     """One crowd as a whole and in tiles."""
     rng = numpy.random.default_rng(320)
     image = numpy.block([[guide.crowded(rng)[0] for _ in range(2)] for _ in range(2)])
-    whole, whole_map = maxdetect.catalogue(image, tile=4096)
+    whole, whole_map = catalogue(image, tile=4096)
     for tile in (1024, 512, 256):
-        table, segments = maxdetect.catalogue(image, tile=tile)
+        table, segments = catalogue(image, tile=tile)
         same = (
             "yes" if len(table) == len(whole) and all((table[it] == whole[it]).all() for it in KERNEL_COLUMNS) else "no"
         )

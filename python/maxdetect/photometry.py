@@ -16,7 +16,7 @@ import numpy
 import sep
 from astropy.table import Table
 
-from . import noise as skies
+from .noise import of_array
 
 __all__ = [
     "APERTURE",
@@ -118,7 +118,7 @@ def _left_out(segments: numpy.ndarray, undefined: numpy.ndarray) -> numpy.ndarra
 
 def _level(image: numpy.ndarray, mesh: int) -> numpy.ndarray:
     """The level of the sky by the package's own estimate."""
-    found = skies.of_array(image, mesh or 64)
+    found = of_array(image, mesh or 64)
     window = tuple(slice(0, side) for side in found.shape)
     above = (found if mesh else found.flat()).background(*window)
     # 32 bits hold the level where it isn't far from 0 beside its noise.
