@@ -40,8 +40,11 @@ def kron_by_sep(residual, found, segments, error, gain):
 
 
 def by_sep(image, sigmas=2.25, error=guide.SIGMA):
-    """What SEP finds without a kernel above its own background: the sources, its map and the residual."""
-    residual = image.astype("f8") - sep.Background(image.astype("f8"))
+    """What SEP finds without a kernel above its own background, with its own noise where `error` is None: the
+    sources, its map and the residual.
+    """
+    background = sep.Background(image.astype("f8"))
+    residual, error = image - background.back(), background.globalrms if error is None else error
     found, segments = sep.extract(residual, sigmas, err=error, filter_kernel=None, segmentation_map=True)
     return found, segments, residual
 
@@ -186,14 +189,15 @@ def uneven_rows():
 
 
 def slope_rows():
-    """Stars over a sky that rises, by program."""
-    ways = {"`maxcat`": lambda image: located(catalogue(image)[0])}
+    """Stars over a sky that rises, by program, each with the noise that it measures."""
     options = {"mesh": 64, "connect": 8, "min_area": 5}
-    ways["`maxdetect detect --mesh 64 --connect 8 --min-area 5`"] = lambda image: guide.centres(
-        maxdetect.detect(image, math.ceil(2.25 * guide.SIGMA), **options)[0]
-    )
+
+    def by_kernel(image):
+        return guide.centres(maxdetect.detect(image, math.ceil(2.25 * maxdetect.noise(image)), **options)[0])
+
+    ways = {"`maxcat`": lambda image: located(catalogue(image)[0]), "`maxdetect detect`": by_kernel}
     if sep:
-        ways["SEP without a kernel"] = lambda image: centres_of_sep(by_sep(image)[0])
+        ways["SEP without a kernel"] = lambda image: centres_of_sep(by_sep(image, error=None)[0])
     for label, run in ways.items():
         deep, false = [], []
         for rng in guide.seeds(60, 4):
@@ -212,19 +216,10 @@ def tile_rows():
     whole, whole_map = catalogue(image, tile=4096)
     for tile in (1024, 512, 256):
         table, segments = catalogue(image, tile=tile)
-        same = (
-            "yes" if len(table) == len(whole) and all((table[it] == whole[it]).all() for it in KERNEL_COLUMNS) else "no"
-        )
-        offset = numpy.abs(table["FLUX_KRON"] / whole["FLUX_KRON"] - 1).max() if same == "yes" else math.nan
-        flagged = numpy.sum((table["FLAGS"] & photometry.CUT) != 0)
-        yield [
-            f"{tile} x {tile}",
-            str(len(table)),
-            same,
-            "yes" if (segments == whole_map).all() else "no",
-            str(flagged),
-            f"{offset:.3f}",
-        ]
+        same = len(table) == len(whole) and all((table[it] == whole[it]).all() for it in KERNEL_COLUMNS)
+        apart = numpy.abs((table["FLUX_KRON"] - whole["FLUX_KRON"]) / whole["FLUXERR_KRON"]).max() if same else math.nan
+        told = ["yes" if so else "no" for so in (same, (segments == whole_map).all())]
+        yield [f"{tile} x {tile}", str(len(table)), *told, f"{apart:.2f}"]
 
 
 KERNEL_COLUMNS = (
@@ -260,5 +255,5 @@ def tables(table):
     halves = [f"noise {noise}: {what}" for noise in (guide.SIGMA, NOISY) for what in (deep, false)]
     table("Three times the noise in one half", ["program", *halves], uneven_rows())
     table("A sky that rises by half, by program", ["program", deep, false], slope_rows())
-    heads = ["tiles of", "sources", "same rows", "same map", "cut by a tile", "greatest difference of FLUX_KRON"]
+    heads = ["tiles of", "sources", "same rows", "same map", "greatest change of FLUX_KRON, in its errors"]
     table("One crowd in tiles", heads, tile_rows())

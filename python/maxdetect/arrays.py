@@ -11,8 +11,8 @@ __all__ = ["ArrayPlane", "catalogue"]
 
 
 class ArrayPlane:
-    """An array in the place of an image in a file: it is read by windows, as floating-point numbers with NaN where it is
-    masked.
+    """An array in the place of an image in a file: it is read by windows, as floating-point numbers with NaN where it
+    is masked.
     """
 
     def __init__(self, image: numpy.ndarray, label: str = "the image"):
@@ -45,10 +45,11 @@ def catalogue(
 ) -> typing.Tuple[Table, numpy.ndarray]:
     """The catalogue that `maxcat` writes of an image, and the segmentation map.
 
-    `image` has two dimensions and numbers of any kind; it is undefined where it is NaN or masked. `header` has its WCS
-    and its BUNIT. `noise` is a map of the noise in the image's units; without one it is taken as even, or by cells with
-    `rms="local"`. The settings are `detection.Settings`'s: `sigmas`, `smooth`, `mesh`, `min_area`, `gain`, `saturation`,
-    `tile` and `workers`. Tiles run in the executor, if there is one. Raises Mistake where the image has no noise.
+    `image` has two dimensions and numbers of any kind; it is undefined where it is NaN or masked. `header` has its
+    WCS and its BUNIT. `noise` is a map of the noise in the image's units; without one it is taken as even, or by
+    cells with `rms="local"`. The settings are `detection.Settings`'s: `sigmas`, `smooth`, `mesh`, `min_area`, `gain`,
+    `saturation`, `tile` and `workers`. Tiles run in the executor, if there is one. Raises Mistake where the image has
+    no noise.
     """
     if rms not in ("even", "local"):
         raise ValueError(f"rms is even or local, not {rms}")
