@@ -22,18 +22,34 @@ import numpy
 from astropy.io import fits
 
 TOP = pathlib.Path(__file__).resolve().parent.parent
-SEP = """ import sys import numpy, sep from astropy.io import fits from astropy.table import Table image =
-fits.getdata(sys.argv[1]).astype("f4") background = sep.Background(image) residual = image - background
-sep.set_extract_pixstack(10**7) found, segments = sep.extract(residual, 2.25, err=background.globalrms,
-filter_kernel=None, minarea=5, segmentation_map=True) table = Table(found) shape = [found[name] for name in ("x", "y",
-"a", "b", "theta")] alone = {"segmap": segments, "seg_id": numpy.arange(1, len(found) + 1, dtype="i4")} radius, _ =
-sep.kron_radius(residual, *shape, 6.0, **alone) reach = numpy.maximum(2.5 * numpy.nan_to_num(radius), 3.5) more =
-{"err": background.globalrms, "gain": 1.0, "subpix": 1, **alone} table["flux_kron"], table["fluxerr_kron"],
-table["flag_kron"] = sep.sum_ellipse(residual, *shape, reach, **more) table["flux_aper"], table["fluxerr_aper"], _ =
-sep.sum_circle(residual, found["x"], found["y"], 5.0, **{**more, "subpix": 5}) table["half"], _ =
-sep.flux_radius(residual, found["x"], found["y"], reach * found["a"], 0.5, normflux=table["flux_kron"], subpix=3,
-**alone) table.write(sys.argv[2], overwrite=True) print(len(table))
-"""
+SEP = [
+    "import sys, numpy, sep",
+    "from astropy.io import fits",
+    "from astropy.table import Table",
+    "image = fits.getdata(sys.argv[1]).astype('f4')",
+    "mask = ~numpy.isfinite(image)",
+    "image[mask] = 0",
+    "background = sep.Background(image, mask=mask)",
+    "residual = image - background.back(dtype='f4')",
+    "sep.set_extract_pixstack(10**7)",
+    "noise = background.globalrms",
+    "how = {'err': noise, 'mask': mask, 'filter_kernel': None, 'minarea': 5, 'segmentation_map': True}",
+    "found, segments = sep.extract(residual, 2.25, **how)",
+    "table = Table(found)",
+    "x, y, a = (found[name] for name in ('x', 'y', 'a'))",
+    "shape = (x, y, a, numpy.minimum(found['b'], a), numpy.clip(found['theta'], -1.57, 1.57))",
+    "alone = {'segmap': segments, 'seg_id': numpy.arange(1, len(found) + 1, dtype='i4'), 'mask': mask}",
+    "radius, _ = sep.kron_radius(residual, *shape, 6.0, **alone)",
+    "reach = numpy.clip(2.5 * numpy.nan_to_num(radius), 3.5, 15)",
+    "more = {'err': noise, 'gain': 1.0, **alone}",
+    "kron = sep.sum_ellipse(residual, *shape, reach, subpix=1, **more)",
+    "circle = sep.sum_circle(residual, x, y, 5.0, subpix=5, **more)",
+    "half, _ = sep.flux_radius(residual, x, y, reach * a, 0.5, normflux=kron[0], subpix=3, **alone)",
+    "table['flux_kron'], table['fluxerr_kron'], table['flag_kron'] = kron",
+    "table['flux_aper'], table['fluxerr_aper'], table['flag_aper'] = circle",
+    "table['half'] = half",
+    "table.write(sys.argv[2], overwrite=True)",
+]
 
 
 def stars(image, rng, count):
@@ -114,7 +130,9 @@ def main():
         if not given.only_large:
             field(image, 4096)
             label = "4096 x 4096"
-            yardstick = row(label, "SEP, one script", [sys.executable, "-c", SEP, image, catalogue], given.runs)
+            yardstick = row(
+                label, "SEP, one script", [sys.executable, "-c", "\n".join(SEP), image, catalogue], given.runs
+            )
             for workers in sorted({1, given.workers}):
                 more = f"{workers} worker" + ("s" if workers > 1 else "")
                 row(label, f"`maxcat`, {more}", [*maxcat, "--workers", str(workers)], given.runs, yardstick)
