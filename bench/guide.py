@@ -227,21 +227,20 @@ def table(title, heads, rows):
         PRINTED.append(row)
 
 
+# Sections of the guide with tables of words, or with the figures of bench/bands.py.
+NOT_PRINTED = ("## maxcat", "## Columns", "## Two bands")
+
+
 def differing_rows():
-    """Rows of the guide's tables whose figures weren't printed. The first cell, which says what a row is about, may
-    be worded otherwise. The figures of
-    two bands are those of bench/bands.py."""
+    """Rows of the guide's tables whose figures weren't printed. The first cell, which says what a row is about, may be
+    worded otherwise.
+    """
     printed = {tuple(row[1:]) for row in PRINTED}
     section = ""
     for line in (TOP / "docs" / "GUIDE.md").read_text(encoding="utf-8").splitlines():
         section = line if line.startswith("## ") else section
-        cells = [cell.strip() for cell in line.strip("|").split("|")]
-        if (
-            section != "## Two bands"
-            and line.startswith("|")
-            and set(line) - set("|-")
-            and tuple(cells[1:]) not in printed
-        ):
+        cells = tuple(cell.strip() for cell in line.strip("|").split("|")[1:])
+        if line.startswith("|") and set(line) - set("|-") and section not in NOT_PRINTED and cells not in printed:
             yield line
 
 
