@@ -143,4 +143,5 @@ def main():
             row(f"{side} x {side}", f"`maxcat`, {given.workers} workers", [*maxcat, "--workers", str(given.workers)], 1)
 
 
-main()
+if __name__ == "__main__":
+    main()

@@ -7,4 +7,17 @@ from .errors import Mistake
 from .kernel import DESCRIPTIONS, FAULTS, NoProgram, Refusal, detect, filter, find_program, load, measure, read, tree
 
 __version__ = "1.0.0"
-__all__ = ["DESCRIPTIONS", "FAULTS", "Mistake", "NoProgram", "Refusal", "detect", "filter", "find_program", "load", "measure", "read", "tree"]
+__all__ = [
+    "DESCRIPTIONS",
+    "FAULTS",
+    "Mistake",
+    "NoProgram",
+    "Refusal",
+    "detect",
+    "filter",
+    "find_program",
+    "load",
+    "measure",
+    "read",
+    "tree",
+]

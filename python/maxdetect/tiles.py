@@ -95,7 +95,10 @@ class Plan:
         """The cores of the tiles, row by row."""
         part = self.part
         corners = itertools.product(range(part.top, part.bottom, self.tile), range(part.left, part.right, self.tile))
-        return [Box(top, min(top + self.tile, part.bottom), left, min(left + self.tile, part.right)) for top, left in corners]
+        return [
+            Box(top, min(top + self.tile, part.bottom), left, min(left + self.tile, part.right))
+            for top, left in corners
+        ]
 
     def around(self, box: Box, margin: int) -> Box:
         """The window with a margin around a box, as far as the image goes, of whole cells."""
@@ -113,7 +116,9 @@ class Plan:
         if self.flat:
             return low, side if high == side else last * mesh
         # The cells between whose centres a place lies, and one more on each side, are in the window.
-        return 0 if low == 0 else -((1 - mesh * (2 * first + 3)) // 2), side if high == side else -((1 - mesh * (2 * last - 3)) // 2)
+        return 0 if low == 0 else -((1 - mesh * (2 * first + 3)) // 2), side if high == side else -(
+            (1 - mesh * (2 * last - 3)) // 2
+        )
 
     def deep(self, window: Box) -> Box:
         """The pixels of a window that are sure with their neighbours, in the window's own columns and rows."""
@@ -160,7 +165,9 @@ def in_box(catalogue: Table, box: Box) -> numpy.ndarray:
     return (rows >= box.top) & (rows < box.bottom) & (columns >= box.left) & (columns < box.right)
 
 
-def _picked(look: Look, window: Box, plan: Plan, chosen: numpy.ndarray, cut: bool, within: Optional[Box] = None) -> Piece:
+def _picked(
+    look: Look, window: Box, plan: Plan, chosen: numpy.ndarray, cut: bool, within: Optional[Box] = None
+) -> Piece:
     """The chosen rows of a window as a piece of the whole; of the map the part in a box alone, where one is given."""
     left, top = window.left - plan.part.left, window.top - plan.part.top
     numbers = numpy.zeros(len(look.catalogue) + 1, dtype="i4")
@@ -168,7 +175,9 @@ def _picked(look: Look, window: Box, plan: Plan, chosen: numpy.ndarray, cut: boo
     part = within or Box(0, window.shape[0], 0, window.shape[1])
     owners = numbers[look.segments[part.rows, part.columns]]
     rows, columns = numpy.nonzero(owners)
-    pixels = (rows + (top + part.top)).astype("i8") * (plan.part.right - plan.part.left) + (columns + (left + part.left))
+    pixels = (rows + (top + part.top)).astype("i8") * (plan.part.right - plan.part.left) + (
+        columns + (left + part.left)
+    )
     table = moved(look.catalogue[chosen], left, top)
     return Piece(table, pixels, owners[rows, columns] - 1, numpy.full(len(table), cut))
 
@@ -186,7 +195,10 @@ def _again(look_at, plan: Plan, core: Box, seed: Tuple[int, int], box: Box) -> P
             return _picked(look, window, plan, chosen, False)
         last, margin = (look, window, chosen), 2 * margin
         found = ndimage.find_objects(labels == number)[0] if number else (slice(0, 1), slice(0, 1))
-        box = Box(*(window.top + it for it in (found[0].start, found[0].stop)), *(window.left + it for it in (found[1].start, found[1].stop)))
+        box = Box(
+            *(window.top + it for it in (found[0].start, found[0].stop)),
+            *(window.left + it for it in (found[1].start, found[1].stop)),
+        )
         window = plan.around(box, margin)
     look, window, chosen = last
     return _picked(look, window, plan, chosen, True, core.within(window))
@@ -199,7 +211,12 @@ def joined(pieces: Iterable[Piece]) -> Piece:
     owners = [piece.owners + start for piece, start in zip(pieces, starts)]
     tables = [piece.catalogue for piece in pieces if len(piece.catalogue)] or [pieces[0].catalogue]
     table = tables[0] if len(tables) == 1 else vstack(tables, metadata_conflicts="silent")
-    return Piece(table, numpy.concatenate([piece.pixels for piece in pieces]), numpy.concatenate(owners), numpy.concatenate([it.cut for it in pieces]))
+    return Piece(
+        table,
+        numpy.concatenate([piece.pixels for piece in pieces]),
+        numpy.concatenate(owners),
+        numpy.concatenate([it.cut for it in pieces]),
+    )
 
 
 def tile_sources(look_at: Callable[[Box], Look], plan: Plan, core: Box) -> Piece:
@@ -220,7 +237,17 @@ def tile_sources(look_at: Callable[[Box], Look], plan: Plan, core: Box) -> Piece
         at = boxes[number - 1]
         y, x = numpy.argwhere(labels[inner.rows, inner.columns] == number)[0]
         seed = y + inner.top + window.top, x + inner.left + window.left
-        again.append((seed, Box(at[0].start + window.top, at[0].stop + window.top, at[1].start + window.left, at[1].stop + window.left)))
+        again.append(
+            (
+                seed,
+                Box(
+                    at[0].start + window.top,
+                    at[0].stop + window.top,
+                    at[1].start + window.left,
+                    at[1].stop + window.left,
+                ),
+            )
+        )
     del look, labels
     return joined(pieces + [_again(look_at, plan, core, seed, box) for seed, box in again])
 
