@@ -5,19 +5,9 @@ what is proved: `noise` and `noise_map`, `detect_tiles` for images of any size, 
 """
 from .errors import Mistake
 from .kernel import DESCRIPTIONS, FAULTS, NoProgram, Refusal, detect, filter, find_program, load, measure, read, tree
+from .noise import noise, noise_map
+from .tiles import detect_tiles
 
 __version__ = "1.0.0"
-__all__ = [
-    "DESCRIPTIONS",
-    "FAULTS",
-    "Mistake",
-    "NoProgram",
-    "Refusal",
-    "detect",
-    "filter",
-    "find_program",
-    "load",
-    "measure",
-    "read",
-    "tree",
-]
+__all__ = ["DESCRIPTIONS", "FAULTS", "Mistake", "NoProgram", "Refusal", "detect", "detect_tiles", "filter", "find_program", "load", "measure", "noise"]
+__all__ += ["noise_map", "read", "tree"]

@@ -70,11 +70,8 @@ def kernel_residual(image: numpy.ndarray, mesh: int, flat: bool = False) -> nump
     return numpy.ma.MaskedArray(values, mask=undefined)
 
 
-def undefined_cells(image: numpy.ndarray, mesh: int) -> Optional[numpy.ndarray]:
-    """Which cells of the mesh have no defined pixel; None where none is so."""
-    if numpy.ma.getmask(image) is numpy.ma.nomask:
-        return None
-    defined = ~numpy.ma.getmaskarray(image)
-    tops, lefts = (numpy.arange(0, side, mesh) for side in image.shape)
-    empty = ~numpy.logical_or.reduceat(numpy.logical_or.reduceat(defined, tops, axis=0), lefts, axis=1)
+def undefined_cells(undefined: numpy.ndarray, mesh: int) -> Optional[numpy.ndarray]:
+    """Which cells of the mesh have undefined pixels alone; None where none is so."""
+    tops, lefts = (numpy.arange(0, side, mesh) for side in undefined.shape)
+    empty = numpy.logical_and.reduceat(numpy.logical_and.reduceat(undefined, tops, axis=0), lefts, axis=1)
     return empty if empty.any() else None

@@ -40,9 +40,7 @@ def _number(least: float, strict: bool = False):
     def parse(text: str) -> float:
         value = float(text)
         if not math.isfinite(value) or value < least or (strict and value == least):
-            raise argparse.ArgumentTypeError(
-                f"{text} isn't a number {'above' if strict else 'from'} {least:g}{'' if strict else ' on'}"
-            )
+            raise argparse.ArgumentTypeError(f"{text} isn't a number {'above' if strict else 'from'} {least:g}{'' if strict else ' on'}")
         return value
 
     parse.__name__ = "number"
@@ -73,77 +71,27 @@ def parser() -> argparse.ArgumentParser:
     made.add_argument("--version", action="version", version=f"maxcat {__version__}")
     made.add_argument("images", metavar="IMAGE", nargs="+", help="a FITS image of any kind that astropy reads")
     out = made.add_argument_group("what is written")
-    out.add_argument(
-        "-o",
-        "--output",
-        metavar="CATALOGUE",
-        help="FITS, CSV, ECSV or VOTable by the name's end (default: IMAGE's name with .cat.fits)",
-    )
+    out.add_argument("-o", "--output", metavar="CATALOGUE", help="FITS, CSV, ECSV or VOTable by the name's end (default: IMAGE's name with .cat.fits)")
     out.add_argument("--map", help="the segmentation map, as FITS: for each pixel the number of its source")
     out.add_argument("--regions", metavar="REG", help="ellipses for DS9")
     out.add_argument("--plot", metavar="PNG", help="a picture of the image and its sources")
     out.add_argument("--zeropoint", type=_finite, metavar="Z", help="the magnitude of a flux of 1: adds magnitudes")
     what = made.add_argument_group("what is read")
-    what.add_argument(
-        "--hdu",
-        metavar="all|N|NAME",
-        help="the HDU with the image, or all that have one (default: the first that has one)",
-    )
+    what.add_argument("--hdu", metavar="all|N|NAME", help="the HDU with the image, or all that have one (default: the first that has one)")
     what.add_argument("--plane", type=_whole(1, 2**31), metavar="N", help="the plane of a cube, from 1")
     what.add_argument("--weight", metavar="FILE[:HDU]", help="a map of the noise, or of weights")
-    what.add_argument(
-        "--weight-type",
-        choices=detection.KINDS,
-        help="what it has; weights are one over the variance, up to a factor (default: weight)",
-    )
+    what.add_argument("--weight-type", choices=detection.KINDS, help="what it has; weights are one over the variance, up to a factor (default: weight)")
     what.add_argument("--mask", metavar="FILE[:HDU]", help="pixels that aren't 0 there are left out")
-    what.add_argument(
-        "--measure", metavar="FILE[:HDU]", help="another image of the same pixels, in which the sources are measured"
-    )
-    what.add_argument(
-        "--gain",
-        type=_number(0, True),
-        help="electrons for a unit of the image, for the errors (default: the header's GAIN)",
-    )
-    what.add_argument(
-        "--saturation", type=_finite, help="pixels from this value on are flagged (default: the header's SATURATE)"
-    )
+    what.add_argument("--measure", metavar="FILE[:HDU]", help="another image of the same pixels, in which the sources are measured")
+    what.add_argument("--gain", type=_number(0, True), help="electrons for a unit of the image, for the errors (default: the header's GAIN)")
+    what.add_argument("--saturation", type=_finite, help="pixels from this value on are flagged (default: the header's SATURATE)")
     how = made.add_argument_group("how sources are found")
-    how.add_argument(
-        "--sigmas",
-        type=_number(0, True),
-        metavar="S",
-        help="the threshold, in deviations of the noise (default: 2.25; 1.375 with --smooth)",
-    )
-    how.add_argument(
-        "--smooth",
-        action="store_true",
-        help="smooth by 1 2 1 / 2 4 2 / 1 2 1 before: shows fainter sources, and fewer close pairs",
-    )
-    how.add_argument(
-        "--mesh",
-        type=_whole(0, 1024),
-        default=64,
-        metavar="SIDE",
-        help="side of the background's cells in pixels; 0: one level (default: 64)",
-    )
-    how.add_argument(
-        "--min-area",
-        type=_whole(1, 2**24),
-        default=5,
-        metavar="N",
-        help="the least area of a source in pixels (default: 5)",
-    )
-    how.add_argument(
-        "--rms", choices=("even", "local"), default="even", help="local: the noise is taken by cells (default: even)"
-    )
-    how.add_argument(
-        "--workers",
-        type=_whole(1, MOST_WORKERS),
-        default=1,
-        metavar="N",
-        help="images and tiles at work at once (default: 1)",
-    )
+    how.add_argument("--sigmas", type=_number(0, True), metavar="S", help="the threshold, in deviations of the noise (default: 2.25; 1.375 with --smooth)")
+    how.add_argument("--smooth", action="store_true", help="smooth by 1 2 1 / 2 4 2 / 1 2 1 before: shows fainter sources, and fewer close pairs")
+    how.add_argument("--mesh", type=_whole(0, 1024), default=64, metavar="SIDE", help="side of the background's cells in pixels; 0: one level (default: 64)")
+    how.add_argument("--min-area", type=_whole(1, 2**24), default=5, metavar="N", help="the least area of a source in pixels (default: 5)")
+    how.add_argument("--rms", choices=("even", "local"), default="even", help="local: the noise is taken by cells (default: even)")
+    how.add_argument("--workers", type=_whole(1, MOST_WORKERS), default=1, metavar="N", help="images and tiles at work at once (default: 1)")
     return made
 
 
@@ -170,21 +118,13 @@ def _default_output(path: str) -> str:
 def _from_header(plane: images.Plane, keyword: str) -> Optional[float]:
     """A positive number that the header has, or None."""
     value = plane.header.get(keyword)
-    return (
-        float(value)
-        if isinstance(value, (int, float)) and not isinstance(value, bool) and math.isfinite(value) and value > 0
-        else None
-    )
+    return float(value) if isinstance(value, (int, float)) and not isinstance(value, bool) and math.isfinite(value) and value > 0 else None
 
 
 def _field(plane: images.Plane, given: argparse.Namespace) -> detection.Field:
     """An image with what belongs to it."""
     beside = given.hdu == "all"
-    others = {
-        name: images.matching(text, plane, None, beside)
-        for name, text in (("mask", given.mask), ("weights", given.weight))
-        if text
-    }
+    others = {name: images.matching(text, plane, None, beside) for name, text in (("mask", given.mask), ("weights", given.weight)) if text}
     if given.measure:
         others["values"] = images.matching(given.measure, plane, None, beside)
     measured = others.get("values", plane)
@@ -203,9 +143,7 @@ def _field(plane: images.Plane, given: argparse.Namespace) -> detection.Field:
 
 
 def _task(path: str, given: argparse.Namespace) -> Task:
-    planes = (
-        images.all_opened(path, given.plane) if given.hdu == "all" else [images.opened(path, given.hdu, given.plane)]
-    )
+    planes = images.all_opened(path, given.plane) if given.hdu == "all" else [images.opened(path, given.hdu, given.plane)]
     return Task(path, given.output or _default_output(path), [_field(plane, given) for plane in planes])
 
 
@@ -301,26 +239,18 @@ def _map_headers(task: Task) -> List[bytes]:
     """The headers of the maps' HDUs: the first is the primary where it is the only one."""
     headers = []
     for field in task.fields:
-        hdu = tables.map_hdu(
-            numpy.zeros((1, 1), dtype="i4"), field.plane.header, field.plane.name or f"HDU{field.plane.number}"
-        )
+        hdu = tables.map_hdu(numpy.zeros((1, 1), dtype="i4"), field.plane.header, field.plane.name or f"HDU{field.plane.number}")
         if len(task.fields) == 1:
             hdu = fits.PrimaryHDU(hdu.data, hdu.header)
         hdu.header["NAXIS1"], hdu.header["NAXIS2"] = field.shape[1], field.shape[0]
         headers.append(hdu.header.tostring().encode("ascii"))
-    return (
-        headers
-        if len(headers) == 1
-        else [fits.PrimaryHDU().header.tostring().encode("ascii") + headers[0], *headers[1:]]
-    )
+    return headers if len(headers) == 1 else [fits.PrimaryHDU().header.tostring().encode("ascii") + headers[0], *headers[1:]]
 
 
 def _finished(table: Table, field: detection.Field, given: argparse.Namespace) -> Table:
     plane = field.plane
     extension = (plane.name or str(plane.number)) if given.hdu == "all" else None
-    return tables.finished(
-        table, plane.header, zeropoint=given.zeropoint, unit=(field.values or plane).unit, extension=extension
-    )
+    return tables.finished(table, plane.header, zeropoint=given.zeropoint, unit=(field.values or plane).unit, extension=extension)
 
 
 def _done(task: Task, given: argparse.Namespace, tiles, progress) -> str:
@@ -360,11 +290,7 @@ def run(words: Optional[List[str]] = None) -> None:
             pool = None
             if given.workers > 1:
                 pool = stack.enter_context(concurrent.futures.ThreadPoolExecutor(given.workers))
-            files = (
-                stack.enter_context(concurrent.futures.ThreadPoolExecutor(given.workers))
-                if pool and len(tasks) > 1
-                else None
-            )
+            files = stack.enter_context(concurrent.futures.ThreadPoolExecutor(given.workers)) if pool and len(tasks) > 1 else None
             for line in detection.tiles.each(files, lambda task: _done(task, given, pool, progress), tasks):
                 print(line, flush=True)
     finally:
@@ -374,9 +300,7 @@ def run(words: Optional[List[str]] = None) -> None:
 def main(words: Optional[List[str]] = None) -> int:
     """The command: its status is 0, or 2 where a mistake is told in one line."""
     warnings.simplefilter("ignore", AstropyWarning)
-    warnings.showwarning = lambda message, *rest, **more: print(
-        f"maxcat: {' '.join(str(message).split())}", file=sys.stderr
-    )
+    warnings.showwarning = lambda message, *rest, **more: print(f"maxcat: {' '.join(str(message).split())}", file=sys.stderr)
     try:
         run(words)
     except Mistake as mistake:

@@ -15,8 +15,6 @@ from .tiles import Box
 TILE = 2048
 # Cells beyond the image's edges, and beyond a tile's.
 CELLS = 2
-# A margin without a mesh.
-MARGIN = 128
 # What a weight map has.
 KINDS = ("rms", "variance", "weight")
 
@@ -25,8 +23,7 @@ KINDS = ("rms", "variance", "weight")
 class Settings:
     """How sources are looked for. `sigmas` is the threshold in deviations of the noise, 2.25 by default and 1.375 where the image is smoothed; `mesh` is
     the side of the cells of the background, 0 for one level; `min_area` is in pixels. `weight_type` says what the weight map has, and `local` takes
-    the noise by cells. `gain` is in electrons for a unit of the image, and from `saturation` on pixels are saturated.
-    """
+    the noise by cells. `gain` is in electrons for a unit of the image, and from `saturation` on pixels are saturated."""
 
     sigmas: Optional[float] = None
     smooth: bool = False
@@ -102,13 +99,7 @@ class Detector:
         self.part = Box(beyond, beyond + height, beyond, beyond + width)
         self.strips = {}
         tile = self.settings.tile // (self.settings.mesh or 1) * (self.settings.mesh or 1)
-        self.plan = tiles.Plan(
-            (height + 2 * beyond, width + 2 * beyond),
-            self.part,
-            max(tile, self.settings.mesh),
-            beyond or MARGIN,
-            self.settings.mesh,
-        )
+        self.plan = tiles.Plan((height + 2 * beyond, width + 2 * beyond), self.part, max(tile, self.settings.mesh), beyond or tiles.MARGIN, self.settings.mesh)
 
     def noise(self, rows: slice, columns: slice):
         """The noise of the image that is looked at in a window, in its units: one number, or an array."""
@@ -137,13 +128,9 @@ class Detector:
         """The image's part of it. Smoothing takes a pixel more on each side, so that it is the same in every window."""
         more = 1 if self.settings.smooth else 0
         top, left = max(0, rows.start - more), max(0, columns.start - more)
-        wide = slice(top, min(self.field.shape[0], rows.stop + more)), slice(
-            left, min(self.field.shape[1], columns.stop + more)
-        )
+        wide = slice(top, min(self.field.shape[0], rows.stop + more)), slice(left, min(self.field.shape[1], columns.stop + more))
         level = self.sky.zero if self.even and self.settings.mesh else self.sky.background(*wide) + self.sky.zero
-        seen = scaling.detectable(self.field.image(*wide), level, self.noise(*wide), self.settings.smooth).filled(
-            kernel.LEAST
-        )
+        seen = scaling.detectable(self.field.image(*wide), level, self.noise(*wide), self.settings.smooth).filled(kernel.LEAST)
         return seen[rows.start - top : rows.stop - top, columns.start - left : columns.stop - left]
 
     def _extended(self, seen, inner, at):
@@ -202,9 +189,7 @@ class Detector:
 def sky_of(field: Field) -> sky.Sky:
     """The sky of a field. Raises Mistake where it has none to speak of."""
     try:
-        found = sky.of(
-            field.image, field.shape, field.settings.mesh or 64, None if field.weights is None else field.relative
-        )
+        found = sky.of(field.image, field.shape, field.settings.mesh or 64, None if field.weights is None else field.relative)
     except ValueError as error:
         raise Mistake(f"{field.plane.label}: {error}") from None
     if not found.noise > 0:
@@ -230,18 +215,8 @@ def sources(
     if len(cores) == 1 and field.settings.workers > 1:
         detector.strips = {"strips": 16, "workers": field.settings.workers}
     progress(0)
-    tables, cut, count = [], [], 0
-    for piece in tiles.each(executor, _Tile(detector), cores):
-        if segments is not None:
-            segments.reshape(-1)[piece.pixels] = piece.owners + (count + 1)
-        count += len(piece.catalogue)
-        tables.append(piece.catalogue)
-        cut.append(piece.cut)
-        progress(1)
-    table, places = tiles.numbered(tables)
-    table["FLAGS"] |= numpy.where(numpy.concatenate(cut)[places], photometry.CUT, 0).astype(table["FLAGS"].dtype)
-    if segments is not None:
-        tiles.renumber(segments, places)
+    table, cut = tiles.gathered(tiles.each(executor, _Tile(detector), cores), segments, progress)
+    table["FLAGS"] |= numpy.where(cut, photometry.CUT, 0).astype(table["FLAGS"].dtype)
     table.meta.update(SIGMA=detector.sky.noise, THRESH=field.settings.threshold)
     return table
 

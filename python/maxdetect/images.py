@@ -26,19 +26,8 @@ def _readable(path: str) -> Iterator[None]:
         raise
     except OSError as error:
         raise Mistake(f"{path}: {error.strerror or ' '.join(str(error).split()) or 'it can not be read'}") from None
-    except (
-        ValueError,
-        TypeError,
-        KeyError,
-        IndexError,
-        EOFError,
-        AttributeError,
-        RuntimeError,
-        fits.VerifyError,
-    ) as error:
-        raise Mistake(
-            f"{path}: not a FITS file that can be read ({' '.join(str(error).split()) or type(error).__name__})"
-        ) from None
+    except (ValueError, TypeError, KeyError, IndexError, EOFError, AttributeError, RuntimeError, fits.VerifyError) as error:
+        raise Mistake(f"{path}: not a FITS file that can be read ({' '.join(str(error).split()) or type(error).__name__})") from None
 
 
 @contextlib.contextmanager
@@ -73,9 +62,7 @@ class Plane:
             raise Mistake(f"{self.label}: it has no plane {plane}, but {planes}")
         self._plane, self._values = (plane or 1) - 1, None
         self._stored = self._place(hdu)
-        if self._stored and self._stored[1] + self._stored[0].itemsize * planes * self.shape[0] * self.shape[
-            1
-        ] > os.path.getsize(self.path):
+        if self._stored and self._stored[1] + self._stored[0].itemsize * planes * self.shape[0] * self.shape[1] > os.path.getsize(self.path):
             raise Mistake(f"{self.label}: the file ends within the image")
 
     def _place(self, hdu):
@@ -178,7 +165,5 @@ def matching(text: str, like: Plane, plane: Optional[int] = None, beside: bool =
     path, which = split_name(text)
     other = opened(path, like.number if which is None and beside else which, plane)
     if other.shape != like.shape:
-        raise Mistake(
-            f"{other.label} has {other.shape[1]} x {other.shape[0]} pixels, and {like.label} {like.shape[1]} x {like.shape[0]}"
-        )
+        raise Mistake(f"{other.label} has {other.shape[1]} x {other.shape[0]} pixels, and {like.label} {like.shape[1]} x {like.shape[0]}")
     return other

@@ -161,11 +161,7 @@ def _refusal(words, status, note):
     if status == 1 and note.startswith("usage: word "):
         number = int(note.split()[2])
         option = words[number - 2] if 2 <= number <= len(words) else ""
-        text = (
-            f"{option.lstrip('-').replace('-', '_')} isn't given a value that it takes"
-            if option.startswith("--")
-            else note
-        )
+        text = f"{option.lstrip('-').replace('-', '_')} isn't given a value that it takes" if option.startswith("--") else note
         return Refusal(status, number, "usage", text)
     if status == 2 and note.startswith("refused: "):
         number, name, *place = note.split()[1:]
@@ -227,6 +223,12 @@ def _checked(image, blank):
     return values, undefined
 
 
+def masked(image, blank=None):
+    """An image of whole numbers as a masked array, the pixels with the value `blank` masked too."""
+    values, undefined = _checked(image, blank)
+    return numpy.ma.MaskedArray(values, mask=numpy.ma.nomask if undefined is None else undefined)
+
+
 def _range(values, undefined):
     """The least and the greatest defined value, or 0 and 0."""
     if undefined is not None:
@@ -244,23 +246,13 @@ def _file(image, blank, extension=False):
     """
     values, undefined = _checked(image, blank)
     low, high = _range(values, undefined)
-    bits, least, zero = next(
-        form
-        for form in _forms(low)
-        if form[0] == 64 or form[1] < low - form[2] and high - form[2] < form[1] + 2 ** form[0]
-    )
+    bits, least, zero = next(form for form in _forms(low) if form[0] == 64 or form[1] < low - form[2] and high - form[2] < form[1] + 2 ** form[0])
     # Values and BZERO fit 64 bits; an undefined pixel may have any value.
     stored = (values.astype("i8") - zero if zero else values).astype("u1" if bits == 8 else f">i{bits // 8}", order="C")
     if undefined is not None:
         stored[undefined] = least
     height, width = values.shape
-    cards = [
-        ("XTENSION", "IMAGE") if extension else ("SIMPLE", True),
-        ("BITPIX", bits),
-        ("NAXIS", 2),
-        ("NAXIS1", width),
-        ("NAXIS2", height),
-    ]
+    cards = [("XTENSION", "IMAGE") if extension else ("SIMPLE", True), ("BITPIX", bits), ("NAXIS", 2), ("NAXIS1", width), ("NAXIS2", height)]
     cards += [("PCOUNT", 0), ("GCOUNT", 1)] if extension else []
     cards += [("BSCALE", 1), ("BZERO", zero), ("BLANK", least)]
     return fits.Header(cards).tostring().encode("ascii"), stored.reshape(-1).view("u1"), bytes(-stored.nbytes % 2880)
@@ -313,21 +305,7 @@ def _answer(output):
             raise _truncated() from None
 
 
-def detect(
-    image,
-    threshold,
-    *,
-    min_area=1,
-    min_flux=0,
-    contrast=5,
-    mesh=0,
-    flat=False,
-    connect=4,
-    strips=1,
-    workers=1,
-    blank=None,
-    program=None,
-):
+def detect(image, threshold, *, min_area=1, min_flux=0, contrast=5, mesh=0, flat=False, connect=4, strips=1, workers=1, blank=None, program=None):
     """The sources of an image: their catalogue, and their segmentation map.
 
     `threshold` is in the image's own units, above the background where `mesh` is not 0. `min_area` is in pixels, `min_flux` in the units of
@@ -363,20 +341,7 @@ def detect_stored(stored, threshold, *, program=None, **options):
 
 
 def measure(
-    image,
-    values,
-    threshold,
-    *,
-    min_area=1,
-    min_flux=0,
-    contrast=5,
-    mesh=0,
-    flat=False,
-    connect=4,
-    strips=1,
-    workers=1,
-    blank=None,
-    program=None,
+    image, values, threshold, *, min_area=1, min_flux=0, contrast=5, mesh=0, flat=False, connect=4, strips=1, workers=1, blank=None, program=None
 ):
     """The sources of an image, measured in `values`, a second image of the same shape: another band of the same pixels.
 
@@ -401,22 +366,7 @@ def measure(
     return _answer(_run(program, _words("measure", options), _file(image, blank), _file(values, blank, extension=True)))
 
 
-def filter(
-    image,
-    rule,
-    *,
-    min_area=0,
-    max_area=16777216,
-    min_flux=0,
-    min_fill=0,
-    mesh=0,
-    flat=False,
-    connect=4,
-    strips=1,
-    workers=1,
-    blank=None,
-    program=None,
-):
+def filter(image, rule, *, min_area=0, max_area=16777216, min_flux=0, min_fill=0, mesh=0, flat=False, connect=4, strips=1, workers=1, blank=None, program=None):
     """The image with some nodes of its tree taken out.
 
     `rule` is "min", "max", "direct" or "subtractive"; a node satisfies where its area is from `min_area` to `max_area` pixels, its flux at least
@@ -432,9 +382,7 @@ def filter(
     """
     options = dict(rule=rule, min_area=min_area, max_area=max_area, min_flux=min_flux, min_fill=min_fill)
     options.update(mesh=mesh, flat=int(flat), connect=connect, strips=strips, workers=workers)
-    with _run(program, _words("filter", options), _file(image, blank)) as output, fits.open(
-        output, memmap=False, do_not_scale_image_data=True
-    ) as hdus:
+    with _run(program, _words("filter", options), _file(image, blank)) as output, fits.open(output, memmap=False, do_not_scale_image_data=True) as hdus:
         if hdus[0].data is None or hdus[0].data.shape != numpy.shape(image):
             raise _truncated()
         values = _native(hdus[0].data)

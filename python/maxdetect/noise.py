@@ -9,12 +9,7 @@ from . import sky
 def floats(image: numpy.ndarray) -> numpy.ndarray:
     """An image as floating-point numbers, NaN where it is masked: in 32 bits where they hold it as it is."""
     values = numpy.ma.getdata(image)
-    small = (
-        values.dtype.kind in "iub"
-        and values.dtype.itemsize <= 2
-        or values.dtype.kind == "f"
-        and values.dtype.itemsize <= 4
-    )
+    small = values.dtype.kind in "iub" and values.dtype.itemsize <= 2 or values.dtype.kind == "f" and values.dtype.itemsize <= 4
     values = values.astype("f4" if small else "f8")
     if numpy.ma.getmask(image) is not numpy.ma.nomask:
         values[numpy.ma.getmaskarray(image)] = numpy.nan
@@ -26,9 +21,7 @@ def of_array(image: numpy.ndarray, mesh: int = 64, relative: Optional[numpy.ndar
     values = floats(image)
     if values.ndim != 2 or not values.size:
         raise ValueError(f"an image has two dimensions and a pixel, not the sides {values.shape}")
-    return sky.of(
-        lambda rows: values[rows], values.shape, mesh, None if relative is None else lambda rows: relative[rows]
-    )
+    return sky.of(lambda rows: values[rows], values.shape, mesh, None if relative is None else lambda rows: relative[rows])
 
 
 def noise(image: numpy.ndarray, mesh: int = 64) -> float:

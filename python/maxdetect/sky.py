@@ -32,9 +32,7 @@ def _carried_on(grid: numpy.ndarray) -> numpy.ndarray:
     """The grid with one more number on each side, in a straight line beyond the outermost two."""
     for axis in (0, 1):
         if grid.shape[axis] > 1:
-            grid = numpy.pad(
-                grid, [(1, 1) if it == axis else (0, 0) for it in (0, 1)], mode="reflect", reflect_type="odd"
-            )
+            grid = numpy.pad(grid, [(1, 1) if it == axis else (0, 0) for it in (0, 1)], mode="reflect", reflect_type="odd")
         else:
             grid = numpy.pad(grid, [(1, 1) if it == axis else (0, 0) for it in (0, 1)], mode="edge")
     return grid
@@ -117,17 +115,10 @@ def _first_row(band: numpy.ndarray, mesh: int, rng: numpy.random.Generator) -> T
     count = numpy.isfinite(sample).sum(axis=1)
 
     def part(of):
-        return numpy.take_along_axis(
-            sample, numpy.clip((count[:, None] * of).astype(int), 0, sample.shape[1] - 1), axis=1
-        )[:, 0].astype("f8")
+        return numpy.take_along_axis(sample, numpy.clip((count[:, None] * of).astype(int), 0, sample.shape[1] - 1), axis=1)[:, 0].astype("f8")
 
     middle = part(0.5)
-    return (
-        middle,
-        numpy.sqrt(numpy.maximum((middle - part(0.1587)) ** 2 - quant**2 / 12, quant**2 / 12)),
-        count,
-        numpy.full(len(count), quant),
-    )
+    return middle, numpy.sqrt(numpy.maximum((middle - part(0.1587)) ** 2 - quant**2 / 12, quant**2 / 12)), count, numpy.full(len(count), quant)
 
 
 def _whole_cells(side: int, mesh: int) -> int:
@@ -213,9 +204,7 @@ def _second_row(residual, relative, deviation, quant, mesh):
     square = numpy.einsum("ijk,ijk->j", kept, kept).astype("f8") / numpy.maximum(count, 1)
     spread = numpy.sqrt(numpy.maximum(square - mean**2, 0)) / KEPT
     if relative is not None:
-        mean = (_in_cells(numpy.where(finite, residual, 0), mesh, 0) * keep).sum(
-            axis=(0, 2), dtype="f8"
-        ) / numpy.maximum(count, 1)
+        mean = (_in_cells(numpy.where(finite, residual, 0), mesh, 0) * keep).sum(axis=(0, 2), dtype="f8") / numpy.maximum(count, 1)
     return mean, spread, count, _in_cells(finite, mesh, False).sum(axis=(0, 2))
 
 
@@ -240,9 +229,7 @@ class Sky:
 
     def noises(self, rows: slice, columns: slice) -> numpy.ndarray:
         """The noise at the pixels of a window, by its cells."""
-        return numpy.maximum(
-            between(self.deviations, self.mesh, rows, columns), numpy.float32(self.deviations.min() / 2)
-        )
+        return numpy.maximum(between(self.deviations, self.mesh, rows, columns), numpy.float32(self.deviations.min() / 2))
 
     def flat(self) -> "Sky":
         """The same with one level for the whole image."""
@@ -259,25 +246,18 @@ def of(read: Reader, shape: Tuple[int, int], mesh: int = 64, relative: Optional[
     `relative` reads a map of its noise, in any units; the deviations are then in these. Raises ValueError where no pixel is defined.
     """
     rng, bands = numpy.random.default_rng(1), _bands(shape[0], mesh)
-    first = [
-        _first_row(read(rows) if relative is None else _defined_by(read(rows), relative(rows)), mesh, rng)
-        for rows in bands
-    ]
+    first = [_first_row(read(rows) if relative is None else _defined_by(read(rows), relative(rows)), mesh, rng) for rows in bands]
     zero = numpy.concatenate([row[0] for row in first])
     if not numpy.isfinite(zero).any():
         raise ValueError("no pixel of the image is defined")
     zero = float(numpy.nanmedian(zero))
-    guess, deviation = _guess(
-        [(row[0] - zero, *row[1:]) for row in first], shape, mesh, ENOUGH * min(mesh, SAMPLED) ** 2
-    )
+    guess, deviation = _guess([(row[0] - zero, *row[1:]) for row in first], shape, mesh, ENOUGH * min(mesh, SAMPLED) ** 2)
     if relative is not None:
         deviation = _in_units(deviation, relative, bands, mesh)
     columns, second = slice(0, shape[1]), []
     for row, rows in enumerate(bands):
         residual = (read(rows) - zero).astype("f4", copy=False) - between(guess, mesh, rows, columns)
-        second.append(
-            _second_row(residual, None if relative is None else relative(rows), deviation[row], first[row][3], mesh)
-        )
+        second.append(_second_row(residual, None if relative is None else relative(rows), deviation[row], first[row][3], mesh))
     mean, spread, count, there = (numpy.array(part) for part in zip(*second))
     return Sky(shape, mesh, zero, *_joined(guess, mean, spread, count, there))
 
