@@ -226,6 +226,10 @@ def finished(
     name or number, becomes the first column, EXTENSION.
     """
     table = table.copy()
+    for axis in "XY":
+        # Shifts from tile to tile leave traces in the last digits.
+        if f"{axis}CEN" in table.colnames:
+            table[axis] = numpy.asarray(table[f"{axis}CEN"]) / 1000
     wcs = _wcs(header)
     if wcs is not None:
         _add_sky(table, wcs)
