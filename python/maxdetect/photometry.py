@@ -255,14 +255,14 @@ def measured(
 ) -> Table:
     """The photometry of the sources of a segmentation map, a row for each row of `catalogue`.
 
-    `image` has two dimensions and any units; it is undefined where it is NaN or masked or `mask` is true.
-    `background` and `noise`, the standard deviation of a pixel, are in the same units, each one number or an array of
-    the image's shape; `sky` estimates both. `segments` and `catalogue` are what the kernel answers for this image, of
-    whatever scale: of the catalogue's values NUMBER, centres, boxes and moments are used, and LEVEL and BASE for a
-    flag. With `gain`, in electrons for a unit of the image, the errors have the sources' own noise too. Pixels from
-    `saturation` on are saturated. `aperture` is the radius of the circle in pixels. `kron` says how many Kron radii
-    the ellipse reaches, and how many standard deviations of the source's pixels at least. `threshold` is the one that
-    the kernel was given; by default it is taken for the least LEVEL.
+    `image` has two dimensions and any units; it is undefined where it is NaN or masked, `mask` is true or the noise
+    isn't finite. `background` and `noise`, the standard deviation of a pixel, are in the same units, each one number
+    or an array of the image's shape; `sky` estimates both. `segments` and `catalogue` are what the kernel answers for
+    this image, of whatever scale: of the catalogue's values NUMBER, centres, boxes and moments are used, and LEVEL
+    and BASE for a flag. With `gain`, in electrons for a unit of the image, the errors have the sources' own noise
+    too. Pixels from `saturation` on are saturated. `aperture` is the radius of the circle in pixels. `kron` says how
+    many Kron radii the ellipse reaches, and how many standard deviations of the source's pixels at least. `threshold`
+    is the one that the kernel was given; by default it is taken for the least LEVEL.
 
     Columns: X, Y, FLUX_ISO, FLUXERR_ISO, FLUX_KRON, FLUXERR_KRON, KRON_RADIUS (half the long axis of the ellipse, in
     pixels), FLUX_APER, FLUXERR_APER, A, B, THETA, FWHM (the diameter that holds half of the Kron flux: that of a
@@ -272,8 +272,12 @@ def measured(
     shape = numpy.shape(image)
     if numpy.shape(segments) != shape:
         raise ValueError(f"the map has the sides {numpy.shape(segments)}, the image {shape}")
-    undefined = _undefined(image, mask)
-    residual, noise = _residual(image, background, undefined), _noise(noise, shape)
+    undefined, noise = _undefined(image, mask), _noise(noise, shape)
+    if numpy.ndim(noise):
+        unknown = ~numpy.isfinite(noise)
+        if unknown.any():
+            undefined, noise = undefined | unknown, numpy.where(unknown, 0, noise)
+    residual = _residual(image, background, undefined)
     segments = numpy.ascontiguousarray(segments, dtype="i4")
     places = numpy.flatnonzero(segments.ravel() != 0)
     numbers = numpy.asarray(catalogue["NUMBER"], dtype="i4")

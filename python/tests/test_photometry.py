@@ -25,7 +25,8 @@ def found(image, threshold):
     segments, count = ndimage.label(numpy.nan_to_num(image) >= threshold)
     rows = []
     for number, (high, wide) in enumerate(ndimage.find_objects(segments), 1):
-        y, x = numpy.nonzero(segments == number)
+        y, x = numpy.nonzero(segments[high, wide] == number)
+        y, x = y + high.start, x + wide.start
         weight = image[y, x] - threshold + 1
         place = [round(1000 * numpy.average(it, weights=weight)) + 1000 for it in (x, y)]
         moments = [round(1000 * it) for it in (x.var(), y.var(), numpy.mean((x - x.mean()) * (y - y.mean())))]
@@ -152,6 +153,19 @@ def test_undefined_pixels_have_no_part_in_the_sums():
     for name in by_nan.colnames:
         assert by_nan[name][0] == by_mask[name][0]
     assert by_nan["FLUX_KRON"][0] == pytest.approx(10000, rel=0.05)
+
+
+def test_pixels_without_noise_are_undefined():
+    image = SKY + gaussian(100, 100, 10000.0)
+    noise = numpy.full(image.shape, SIGMA)
+    noise[104:, 100] = numpy.inf
+    holed = numpy.where(numpy.isfinite(noise), image, numpy.nan)
+    segments, catalogue = found(holed, 110)
+    image[104:, 100] = 1e9
+    one, two = (photometry.measured(it, SKY, noise, segments, catalogue) for it in (image, holed))
+    for name in one.colnames:
+        assert one[name][0] == two[name][0] and numpy.isfinite(one[name][0])
+    assert one["FLAGS"][0] & photometry.UNDEFINED
 
 
 def test_no_sources():
