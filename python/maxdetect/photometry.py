@@ -16,7 +16,11 @@ import numpy
 import sep
 from astropy.table import Table
 
+from .noise import of_array
+
 __all__ = [
+    "APERTURE",
+    "KRON",
     "EDGE",
     "UNDEFINED",
     "SATURATED",
@@ -50,6 +54,9 @@ FLAGS = {
 
 # The Kron radius is sought within this many standard deviations of the source's pixels, as Source Extractor seeks it.
 KRON_REACH = 6.0
+# The radius of the circular aperture in pixels, and how many Kron radii the Kron ellipse reaches.
+APERTURE = 5.0
+KRON = 4.0
 # How far a source's light reaches beyond its pixels, when the background is estimated.
 GROWTH = 4
 # Least share of an image that the background is estimated from.
@@ -109,10 +116,13 @@ def _left_out(segments: numpy.ndarray, undefined: numpy.ndarray) -> numpy.ndarra
     return found | undefined
 
 
-def _middle(data: numpy.ndarray, left_out: numpy.ndarray) -> float:
-    """A value near the sky's, from a part of the pixels that aren't left out."""
-    few = data[::7, ::7][~left_out[::7, ::7]]
-    return float(numpy.median(few if few.size else data[~left_out]))
+def _level(image: numpy.ndarray, mesh: int) -> numpy.ndarray:
+    """The level of the sky by the package's own estimate."""
+    found = of_array(image, mesh or 64)
+    window = tuple(slice(0, side) for side in found.shape)
+    above = (found if mesh else found.flat()).background(*window)
+    # 32 bits hold the level where it isn't far from 0 beside its noise.
+    return (above if abs(found.zero) < 4096 * found.noise else above.astype("f8")) + found.zero
 
 
 def sky(
@@ -122,33 +132,34 @@ def sky(
     *,
     mask: typing.Optional[numpy.ndarray] = None,
     local: bool = False,
+    level: typing.Union[None, float, numpy.ndarray] = None,
 ) -> typing.Tuple[numpy.ndarray, Numbers]:
-    """The background and the noise of an image beside its sources, by SEP, in the image's units.
+    """The background and the noise of an image beside its sources, in the image's units.
 
     `image` has two dimensions, and NaN or a true `mask` where it is undefined; `segments` is the segmentation map of
-    the same shape. The background is estimated in cells of `mesh` by `mesh` pixels (with `mesh` 0 it is one number)
-    from the pixels that lie at least four pixels from every source, or closer where these are too few. It is an array
-    of the image's shape. The noise is one standard deviation of a pixel: one number, or with `local` an array too.
-    Raises ValueError where no pixel has a value.
+    the same shape. `level` is a first estimate of the background, by default the package's own in cells of `mesh` by
+    `mesh` pixels (with `mesh` 0 it is one number): means, which the light of faint sources draws up. By how much SEP
+    tells, from the residual's pixels that lie at least four pixels from every source, or closer where these are too
+    few; the median over its cells is taken off everywhere. The background is an array of the image's shape. The noise
+    is one standard deviation of a pixel: one number, or with `local` an array. Raises ValueError where no pixel has a
+    value.
     """
     if mesh < 0:
         raise ValueError(f"mesh is 0 or a number of pixels, not {mesh}")
     undefined = _undefined(image, mask)
     if undefined.all():
         raise ValueError("no pixel of the image has a value")
+    if level is None:
+        level = _level(numpy.ma.MaskedArray(numpy.ma.getdata(image), mask=undefined), mesh)
     left_out = _left_out(numpy.asarray(segments), undefined)
     if left_out.all():
         left_out = undefined
-    data = numpy.ma.getdata(image)
-    # 32 bits hold the differences from a middle value, where they wouldn't hold the values themselves.
-    middle = _middle(data, left_out)
-    values = (data - data.dtype.type(middle)).astype("f4", copy=False)
-    values[undefined] = 0
-    side = mesh or max(data.shape)
-    found = sep.Background(values, mask=left_out, bw=side, bh=side)
-    background = found.back(dtype="f4" if abs(middle) < 4096 * found.globalrms else "f8")
-    background += background.dtype.type(middle)
-    return background, found.rms(dtype="f4") if local else found.globalrms
+    # 32 bits hold the residual, where they may not hold the values themselves.
+    residual = _residual(image, level, undefined)
+    side = mesh or max(residual.shape)
+    found = sep.Background(residual, mask=left_out, bw=side, bh=side)
+    noise = found.rms(dtype="f4") if local else found.globalrms
+    return level + numpy.float32(found.globalback), noise
 
 
 def ellipses(catalogue: Table) -> typing.Tuple[numpy.ndarray, numpy.ndarray, numpy.ndarray]:
@@ -177,7 +188,10 @@ def _noise(noise: Numbers, shape: typing.Tuple[int, int]) -> Numbers:
 
 def _residual(image: numpy.ndarray, background: Numbers, undefined: numpy.ndarray) -> numpy.ndarray:
     """The image less its background in 32 bits, with 0 where it is undefined."""
-    residual = (numpy.ma.getdata(image) - background).astype("f4", copy=False)
+    data = numpy.ma.getdata(image)
+    residual = (data - background if data.dtype.kind == "f" else data.astype("f8") - background).astype(
+        "f4", copy=False
+    )
     residual[undefined] = 0
     return residual
 
@@ -235,20 +249,20 @@ def measured(
     mask: typing.Optional[numpy.ndarray] = None,
     gain: typing.Optional[float] = None,
     saturation: typing.Optional[float] = None,
-    aperture: float = 5.0,
-    kron: float = 4.0,
+    aperture: float = APERTURE,
+    kron: float = KRON,
     threshold: typing.Optional[int] = None,
 ) -> Table:
     """The photometry of the sources of a segmentation map, a row for each row of `catalogue`.
 
-    `image` has two dimensions and any units; it is undefined where it is NaN or masked or `mask` is true.
-    `background` and `noise`, the standard deviation of a pixel, are in the same units, each one number or an array of
-    the image's shape; `sky` estimates both. `segments` and `catalogue` are what the kernel answers for this image, of
-    whatever scale: of the catalogue's values NUMBER, centres, boxes and moments are used, and LEVEL and BASE for a
-    flag. With `gain`, in electrons for a unit of the image, the errors have the sources' own noise too. Pixels from
-    `saturation` on are saturated. `aperture` is the radius of the circle in pixels. `kron` says how many Kron radii
-    the ellipse reaches, and how many standard deviations of the source's pixels at least. `threshold` is the one that
-    the kernel was given; by default it is taken for the least LEVEL.
+    `image` has two dimensions and any units; it is undefined where it is NaN or masked, `mask` is true or the noise
+    isn't finite. `background` and `noise`, the standard deviation of a pixel, are in the same units, each one number
+    or an array of the image's shape; `sky` estimates both. `segments` and `catalogue` are what the kernel answers for
+    this image, of whatever scale: of the catalogue's values NUMBER, centres, boxes and moments are used, and LEVEL
+    and BASE for a flag. With `gain`, in electrons for a unit of the image, the errors have the sources' own noise
+    too. Pixels from `saturation` on are saturated. `aperture` is the radius of the circle in pixels. `kron` says how
+    many Kron radii the ellipse reaches, and how many standard deviations of the source's pixels at least. `threshold`
+    is the one that the kernel was given; by default it is taken for the least LEVEL.
 
     Columns: X, Y, FLUX_ISO, FLUXERR_ISO, FLUX_KRON, FLUXERR_KRON, KRON_RADIUS (half the long axis of the ellipse, in
     pixels), FLUX_APER, FLUXERR_APER, A, B, THETA, FWHM (the diameter that holds half of the Kron flux: that of a
@@ -258,8 +272,12 @@ def measured(
     shape = numpy.shape(image)
     if numpy.shape(segments) != shape:
         raise ValueError(f"the map has the sides {numpy.shape(segments)}, the image {shape}")
-    undefined = _undefined(image, mask)
-    residual, noise = _residual(image, background, undefined), _noise(noise, shape)
+    undefined, noise = _undefined(image, mask), _noise(noise, shape)
+    if numpy.ndim(noise):
+        unknown = ~numpy.isfinite(noise)
+        if unknown.any():
+            undefined, noise = undefined | unknown, numpy.where(unknown, 0, noise)
+    residual = _residual(image, background, undefined)
     segments = numpy.ascontiguousarray(segments, dtype="i4")
     places = numpy.flatnonzero(segments.ravel() != 0)
     numbers = numpy.asarray(catalogue["NUMBER"], dtype="i4")

@@ -186,9 +186,8 @@ def draw(
     # The last squares may reach beyond the image.
     whole = (extent[0], extent[0] + shown.shape[1] * step, extent[2], extent[2] + shown.shape[0] * step)
     norm, sky = _stretch(shown)
-    figure = Figure(
-        figsize=(13.2, 6.6 * min(max(part.shape[0] / part.shape[1], 0.3), 2) + 0.4), dpi=100, layout="constrained"
-    )
+    aspect = min(max(part.shape[0] / part.shape[1], 0.3), 2)
+    figure = Figure(figsize=(13.2, 5.75 * aspect + 0.7), dpi=100, layout="constrained")
     left, right = figure.subplots(1, 2, sharex=True, sharey=True)
     for axes in (left, right):
         drawn = axes.imshow(

@@ -226,6 +226,10 @@ def finished(
     name or number, becomes the first column, EXTENSION.
     """
     table = table.copy()
+    for axis in "XY":
+        # Shifts from tile to tile leave traces in the last digits.
+        if f"{axis}CEN" in table.colnames:
+            table[axis] = numpy.asarray(table[f"{axis}CEN"]) / 1000
     wcs = _wcs(header)
     if wcs is not None:
         _add_sky(table, wcs)
@@ -296,9 +300,17 @@ def _fits_unit(unit) -> typing.Optional[str]:
         return str(unit)
 
 
+def _filled(column) -> numpy.ndarray:
+    """A column's values; those that aren't there, as where one of several images has no WCS, are NaN, 0 or empty."""
+    values = numpy.ma.asarray(column)
+    if values.mask is numpy.ma.nomask:
+        return values.data
+    return values.filled(numpy.nan if values.dtype.kind == "f" else "" if values.dtype.kind in "US" else 0)
+
+
 def _table_hdus(table: Table) -> fits.HDUList:
     """A catalogue as HDUs, with each column's description in a TCOMM card and what `meta` has in cards."""
-    plain = Table({name: numpy.ma.getdata(numpy.asarray(table[name])) for name in table.colnames})
+    plain = Table({name: _filled(table[name]) for name in table.colnames})
     columns = fits.BinTableHDU(plain.as_array()).columns if len(table.colnames) else []
     for column in columns:
         column.unit = _fits_unit(table[column.name].unit)
@@ -356,7 +368,7 @@ def _region_lines(table: Table) -> typing.Iterator[str]:
         form, names = "ellipse({:.3f},{:.3f},{:.2f},{:.2f},{:.1f}) # text={{{}}}", ("X", "Y", "A", "B", "THETA")
         turn = 0
     numbers = table["NUMBER"] if "NUMBER" in table.colnames else range(1, len(table) + 1)
-    for *values, angle, number in zip(*(numpy.asarray(table[name], dtype="f8") for name in names), numbers):
+    for *values, angle, number in zip(*(_filled(table[name]).astype("f8") for name in names), numbers):
         if numpy.isfinite(values).all():
             yield form.format(*values, (angle + turn) % 360, number)
 

@@ -25,7 +25,8 @@ def found(image, threshold):
     segments, count = ndimage.label(numpy.nan_to_num(image) >= threshold)
     rows = []
     for number, (high, wide) in enumerate(ndimage.find_objects(segments), 1):
-        y, x = numpy.nonzero(segments == number)
+        y, x = numpy.nonzero(segments[high, wide] == number)
+        y, x = y + high.start, x + wide.start
         weight = image[y, x] - threshold + 1
         place = [round(1000 * numpy.average(it, weights=weight)) + 1000 for it in (x, y)]
         moments = [round(1000 * it) for it in (x.var(), y.var(), numpy.mean((x - x.mean()) * (y - y.mean())))]
@@ -154,6 +155,19 @@ def test_undefined_pixels_have_no_part_in_the_sums():
     assert by_nan["FLUX_KRON"][0] == pytest.approx(10000, rel=0.05)
 
 
+def test_pixels_without_noise_are_undefined():
+    image = SKY + gaussian(100, 100, 10000.0)
+    noise = numpy.full(image.shape, SIGMA)
+    noise[104:, 100] = numpy.inf
+    holed = numpy.where(numpy.isfinite(noise), image, numpy.nan)
+    segments, catalogue = found(holed, 110)
+    image[104:, 100] = 1e9
+    one, two = (photometry.measured(it, SKY, noise, segments, catalogue) for it in (image, holed))
+    for name in one.colnames:
+        assert one[name][0] == two[name][0] and numpy.isfinite(one[name][0])
+    assert one["FLAGS"][0] & photometry.UNDEFINED
+
+
 def test_no_sources():
     image = numpy.full((30, 20), SKY)
     table = photometry.measured(image, SKY, SIGMA, *found(image, 200))
@@ -178,9 +192,10 @@ def test_sky_beside_sources(level):
     assert noises.shape == image.shape and noises[100, 100] == pytest.approx(SIGMA, rel=0.1)
 
 
-def test_sky_of_whole_numbers_and_without_a_mesh():
+@pytest.mark.parametrize("kind", ["u1", "u2", "i4", ">i2", ">f4"])
+def test_sky_of_other_numbers_and_without_a_mesh(kind):
     rng = numpy.random.default_rng(6)
-    image = rng.poisson(9, (100, 130)).astype("i4")
+    image = rng.poisson(9, (100, 130)).astype(kind)
     background, noise = photometry.sky(image, numpy.zeros(image.shape, dtype="i4"), 0)
     assert background.shape == image.shape and numpy.ptp(background) < 1e-6
     assert background[0, 0] == pytest.approx(9, abs=0.2) and noise == pytest.approx(3, rel=0.05)

@@ -6,12 +6,15 @@ import pytest
 from astropy import units
 from astropy.coordinates import SkyCoord
 from astropy.io import fits
-from astropy.table import Table
+from astropy.table import Table, vstack
 
 pytest.importorskip("sep", reason="the package wants SEP (Debian: python3-sep)")
 
 from maxdetect import tables  # noqa: E402
 from maxdetect.errors import Mistake  # noqa: E402
+
+# Of units that FITS or VOTable don't know.
+pytestmark = pytest.mark.filterwarnings("ignore::astropy.utils.exceptions.AstropyWarning")
 
 SCALE = 0.5
 
@@ -115,6 +118,26 @@ def test_files_hold_what_is_written(tmp_path, end, rows):
             numpy.testing.assert_allclose(numpy.ma.filled(back[name].astype("f8"), numpy.nan), table[name], rtol=1e-12)
         assert [str(name) for name in back["EXTENSION"]] == ["A", "A"]
     assert os.listdir(tmp_path) == [path.name]
+
+
+@pytest.mark.parametrize(
+    "unit", ["furlongs", "ELECTRONS/S", "DN", "counts / pixel", "nanomaggy", "1e-20 erg/s/cm^2/Angstrom"]
+)
+def test_units_of_every_kind_can_be_written_and_read(tmp_path, unit):
+    table = tables.finished(catalogue(), fits.Header({"BUNIT": unit}))
+    for end, form in ((".fits", "fits"), (".csv", "ascii.csv"), (".ecsv", "ascii.ecsv"), (".vot", "votable")):
+        tables.write(table, tmp_path / f"catalogue{end}")
+        assert len(Table.read(tmp_path / f"catalogue{end}", format=form)) == 2
+
+
+def test_rows_of_several_images(tmp_path):
+    """Where one image has a WCS and another has none."""
+    both = vstack([tables.finished(catalogue(), header()), tables.finished(catalogue(), None)])
+    tables.write(both, tmp_path / "catalogue.fits")
+    back = Table.read(tmp_path / "catalogue.fits")
+    assert list(numpy.isnan(numpy.ma.filled(back["RA"], numpy.nan))) == [False, False, True, True]
+    tables.regions(both, tmp_path / "sources.reg")
+    assert len((tmp_path / "sources.reg").read_text().splitlines()) == 4
 
 
 def test_cards_of_the_fits_table(tmp_path):
