@@ -1,4 +1,6 @@
-"""The program's own background again, in whole numbers as docs/FORMATS.md defines it: tiles need to know where an image is at least the threshold."""
+"""The program's own background again, in whole numbers as docs/FORMATS.md defines it: tiles need to know where an
+image is at least the threshold.
+"""
 from typing import Optional, Tuple
 
 import numpy
@@ -49,14 +51,18 @@ def _filtered(grid: numpy.ndarray) -> numpy.ndarray:
 
 
 def _places(places: slice, count: int, mesh: int) -> Tuple[numpy.ndarray, numpy.ndarray, numpy.ndarray]:
-    """For each place along a side the cells before and after it, and how far it lies past the centre of the first, in half pixels."""
+    """For each place along a side the cells before and after it, and how far it lies past the centre of the first, in
+    half pixels.
+    """
     at = 2 * numpy.arange(places.start, places.stop) + 1 + mesh
     after = at // (2 * mesh)
     return numpy.minimum(numpy.maximum(after - 1, 0), count - 1), numpy.minimum(after, count - 1), at % (2 * mesh)
 
 
 class KernelBackground:
-    """What `--mesh` and `--flat` take off an image of whole numbers. `undefined` says which pixels are, None where none is."""
+    """What `--mesh` and `--flat` take off an image of whole numbers. `undefined` says which pixels are, None where
+    none is.
+    """
 
     def __init__(self, values: numpy.ndarray, undefined: Optional[numpy.ndarray], mesh: int, flat: bool = False):
         self._mesh, self._flat = mesh, flat
@@ -67,7 +73,11 @@ class KernelBackground:
         """Its 64-bit numbers at the pixels of some rows and columns."""
         mesh, grid = self._mesh, self._grid
         if self._flat:
-            return grid[numpy.ix_(numpy.arange(rows.start, rows.stop) // mesh, numpy.arange(columns.start, columns.stop) // mesh)]
+            return grid[
+                numpy.ix_(
+                    numpy.arange(rows.start, rows.stop) // mesh, numpy.arange(columns.start, columns.stop) // mesh
+                )
+            ]
         before, after, part = _places(rows, grid.shape[0], mesh)
         down = grid[before] * (2 * mesh - part)[:, None] + grid[after] * part[:, None]
         before, after, part = _places(columns, grid.shape[1], mesh)
@@ -77,7 +87,9 @@ class KernelBackground:
 class Above:
     """Where an image is at least a threshold above the program's background."""
 
-    def __init__(self, values: numpy.ndarray, undefined: Optional[numpy.ndarray], threshold: int, mesh: int, flat: bool = False):
+    def __init__(
+        self, values: numpy.ndarray, undefined: Optional[numpy.ndarray], threshold: int, mesh: int, flat: bool = False
+    ):
         self._values, self._undefined, self._threshold = values, undefined, threshold
         self._mesh, self._flat, self._background = mesh, flat, None
 
