@@ -10,7 +10,7 @@ import shlex
 import sys
 import tempfile
 import warnings
-from typing import List, Optional
+from typing import Callable, List, Optional
 
 import numpy
 from astropy.io import fits
@@ -20,14 +20,17 @@ from astropy.utils.exceptions import AstropyWarning
 from . import __version__, detection, images, kernel, tables
 from .errors import Mistake
 
-DESCRIPTION = """Finds the sources of an image and writes a catalogue: positions, fluxes with errors, ellipses, flags, and sky coordinates where the header has
-them."""
-EPILOG = """HDUs are counted from 0, planes and pixels from 1. The sources are found by the program maxdetect, whose results are proved; the sky, the scaling
-and the photometry around it are not. Errors are one line on standard error, with status 2; nothing is written then."""
+DESCRIPTION = """Finds the sources of an image and writes a catalogue: positions, fluxes with errors, ellipses, flags,
+and sky coordinates where the header has them.
+"""
+EPILOG = """HDUs are counted from 0, planes and pixels from 1. The sources are found by the program maxdetect, whose
+results are proved; the sky, the scaling and the photometry around it are not. Errors are one line on standard error,
+with status 2; nothing is written then.
+"""
 MOST_WORKERS = 64
 
 
-class _Parser(argparse.ArgumentParser):
+class Parser(argparse.ArgumentParser):
     """Says what is wrong in one line."""
 
     def error(self, message):
@@ -40,7 +43,9 @@ def _number(least: float, strict: bool = False):
     def parse(text: str) -> float:
         value = float(text)
         if not math.isfinite(value) or value < least or (strict and value == least):
-            raise argparse.ArgumentTypeError(f"{text} isn't a number {'above' if strict else 'from'} {least:g}{'' if strict else ' on'}")
+            raise argparse.ArgumentTypeError(
+                f"{text} isn't a number {'above' if strict else 'from'} {least:g}{'' if strict else ' on'}"
+            )
         return value
 
     parse.__name__ = "number"
@@ -59,6 +64,10 @@ def _whole(least: int, most: int):
     return parse
 
 
+MESH = _whole(0, 1024)
+above_zero = _number(0, True)
+
+
 def _finite(text: str) -> float:
     if not math.isfinite(float(text)):
         raise argparse.ArgumentTypeError(f"{text} isn't a finite number")
@@ -67,31 +76,81 @@ def _finite(text: str) -> float:
 
 def parser() -> argparse.ArgumentParser:
     """The command's options."""
-    made = _Parser(prog="maxcat", description=DESCRIPTION, epilog=EPILOG, allow_abbrev=False)
+    made = Parser(prog="maxcat", description=DESCRIPTION, epilog=EPILOG, allow_abbrev=False)
     made.add_argument("--version", action="version", version=f"maxcat {__version__}")
     made.add_argument("images", metavar="IMAGE", nargs="+", help="a FITS image of any kind that astropy reads")
     out = made.add_argument_group("what is written")
-    out.add_argument("-o", "--output", metavar="CATALOGUE", help="FITS, CSV, ECSV or VOTable by the name's end (default: IMAGE's name with .cat.fits)")
+    out.add_argument(
+        "-o",
+        "--output",
+        metavar="CATALOGUE",
+        help="FITS, CSV, ECSV or VOTable by the name's end (default: IMAGE's name with .cat.fits)",
+    )
     out.add_argument("--map", help="the segmentation map, as FITS: for each pixel the number of its source")
     out.add_argument("--regions", metavar="REG", help="ellipses for DS9")
     out.add_argument("--plot", metavar="PNG", help="a picture of the image and its sources")
     out.add_argument("--zeropoint", type=_finite, metavar="Z", help="the magnitude of a flux of 1: adds magnitudes")
     what = made.add_argument_group("what is read")
-    what.add_argument("--hdu", metavar="all|N|NAME", help="the HDU with the image, or all that have one (default: the first that has one)")
+    what.add_argument(
+        "--hdu",
+        metavar="all|N|NAME",
+        help="the HDU with the image, or all that have one (default: the first that has one)",
+    )
     what.add_argument("--plane", type=_whole(1, 2**31), metavar="N", help="the plane of a cube, from 1")
     what.add_argument("--weight", metavar="FILE[:HDU]", help="a map of the noise, or of weights")
-    what.add_argument("--weight-type", choices=detection.KINDS, help="what it has; weights are one over the variance, up to a factor (default: weight)")
+    what.add_argument(
+        "--weight-type",
+        choices=detection.KINDS,
+        help="what it has; weights are one over the variance, up to a factor (default: weight)",
+    )
     what.add_argument("--mask", metavar="FILE[:HDU]", help="pixels that aren't 0 there are left out")
-    what.add_argument("--measure", metavar="FILE[:HDU]", help="another image of the same pixels, in which the sources are measured")
-    what.add_argument("--gain", type=_number(0, True), help="electrons for a unit of the image, for the errors (default: the header's GAIN)")
-    what.add_argument("--saturation", type=_finite, help="pixels from this value on are flagged (default: the header's SATURATE)")
+    what.add_argument(
+        "--measure", metavar="FILE[:HDU]", help="another image of the same pixels, in which the sources are measured"
+    )
+    what.add_argument(
+        "--gain",
+        type=above_zero,
+        help="electrons for a unit of the image, for the errors (default: the header's GAIN)",
+    )
+    what.add_argument(
+        "--saturation", type=_finite, help="pixels from this value on are flagged (default: the header's SATURATE)"
+    )
     how = made.add_argument_group("how sources are found")
-    how.add_argument("--sigmas", type=_number(0, True), metavar="S", help="the threshold, in deviations of the noise (default: 2.25; 1.375 with --smooth)")
-    how.add_argument("--smooth", action="store_true", help="smooth by 1 2 1 / 2 4 2 / 1 2 1 before: shows fainter sources, and fewer close pairs")
-    how.add_argument("--mesh", type=_whole(0, 1024), default=64, metavar="SIDE", help="side of the background's cells in pixels; 0: one level (default: 64)")
-    how.add_argument("--min-area", type=_whole(1, 2**24), default=5, metavar="N", help="the least area of a source in pixels (default: 5)")
-    how.add_argument("--rms", choices=("even", "local"), default="even", help="local: the noise is taken by cells (default: even)")
-    how.add_argument("--workers", type=_whole(1, MOST_WORKERS), default=1, metavar="N", help="images and tiles at work at once (default: 1)")
+    how.add_argument(
+        "--sigmas",
+        type=above_zero,
+        metavar="S",
+        help="the threshold, in deviations of the noise (default: 2.25; 1.375 with --smooth)",
+    )
+    how.add_argument(
+        "--smooth",
+        action="store_true",
+        help="smooth by 1 2 1 / 2 4 2 / 1 2 1 before: shows fainter sources, and fewer close pairs",
+    )
+    how.add_argument(
+        "--mesh",
+        type=MESH,
+        default=64,
+        metavar="SIDE",
+        help="side of the background's cells in pixels; 0: one level (default: 64)",
+    )
+    how.add_argument(
+        "--min-area",
+        type=_whole(1, 2**24),
+        default=5,
+        metavar="N",
+        help="the least area of a source in pixels (default: 5)",
+    )
+    how.add_argument(
+        "--rms", choices=("even", "local"), default="even", help="local: the noise is taken by cells (default: even)"
+    )
+    how.add_argument(
+        "--workers",
+        type=_whole(1, MOST_WORKERS),
+        default=1,
+        metavar="N",
+        help="images and tiles at work at once (default: 1)",
+    )
     return made
 
 
@@ -118,13 +177,21 @@ def _default_output(path: str) -> str:
 def _from_header(plane: images.Plane, keyword: str) -> Optional[float]:
     """A positive number that the header has, or None."""
     value = plane.header.get(keyword)
-    return float(value) if isinstance(value, (int, float)) and not isinstance(value, bool) and math.isfinite(value) and value > 0 else None
+    return (
+        float(value)
+        if isinstance(value, (int, float)) and not isinstance(value, bool) and math.isfinite(value) and value > 0
+        else None
+    )
 
 
 def _field(plane: images.Plane, given: argparse.Namespace) -> detection.Field:
     """An image with what belongs to it."""
     beside = given.hdu == "all"
-    others = {name: images.matching(text, plane, None, beside) for name, text in (("mask", given.mask), ("weights", given.weight)) if text}
+    others = {
+        name: images.matching(text, plane, None, beside)
+        for name, text in (("mask", given.mask), ("weights", given.weight))
+        if text
+    }
     if given.measure:
         others["values"] = images.matching(given.measure, plane, None, beside)
     measured = others.get("values", plane)
@@ -143,14 +210,10 @@ def _field(plane: images.Plane, given: argparse.Namespace) -> detection.Field:
 
 
 def _task(path: str, given: argparse.Namespace) -> Task:
-    planes = images.all_opened(path, given.plane) if given.hdu == "all" else [images.opened(path, given.hdu, given.plane)]
+    planes = (
+        images.all_opened(path, given.plane) if given.hdu == "all" else [images.opened(path, given.hdu, given.plane)]
+    )
     return Task(path, given.output or _default_output(path), [_field(plane, given) for plane in planes])
-
-
-def _same(one: str, other: str) -> bool:
-    with contextlib.suppress(OSError):
-        return os.path.samefile(one, other)
-    return os.path.realpath(one) == os.path.realpath(other)
 
 
 def _check_names(given: argparse.Namespace, tasks: List[Task]) -> None:
@@ -158,9 +221,9 @@ def _check_names(given: argparse.Namespace, tasks: List[Task]) -> None:
     inputs = list(given.images) + [images.split_name(it)[0] for it in (given.weight, given.mask, given.measure) if it]
     outputs = [task.output for task in tasks] + [it for it in (given.map, given.regions, given.plot) if it]
     for number, output in enumerate(outputs):
-        if any(_same(output, it) for it in inputs):
+        if any(images.same(output, it) for it in inputs):
             raise Mistake(f"{output} is read, so it can't be written")
-        if any(_same(output, it) for it in outputs[:number]):
+        if any(images.same(output, it) for it in outputs[:number]):
             raise Mistake(f"{output} is to be written twice")
         folder = os.path.dirname(os.path.realpath(output))
         if os.path.isdir(output) or not os.path.isdir(folder) or not os.access(folder, os.W_OK):
@@ -239,18 +302,26 @@ def _map_headers(task: Task) -> List[bytes]:
     """The headers of the maps' HDUs: the first is the primary where it is the only one."""
     headers = []
     for field in task.fields:
-        hdu = tables.map_hdu(numpy.zeros((1, 1), dtype="i4"), field.plane.header, field.plane.name or f"HDU{field.plane.number}")
+        hdu = tables.map_hdu(
+            numpy.zeros((1, 1), dtype="i4"), field.plane.header, field.plane.name or f"HDU{field.plane.number}"
+        )
         if len(task.fields) == 1:
             hdu = fits.PrimaryHDU(hdu.data, hdu.header)
         hdu.header["NAXIS1"], hdu.header["NAXIS2"] = field.shape[1], field.shape[0]
         headers.append(hdu.header.tostring().encode("ascii"))
-    return headers if len(headers) == 1 else [fits.PrimaryHDU().header.tostring().encode("ascii") + headers[0], *headers[1:]]
+    return (
+        headers
+        if len(headers) == 1
+        else [fits.PrimaryHDU().header.tostring().encode("ascii") + headers[0], *headers[1:]]
+    )
 
 
 def _finished(table: Table, field: detection.Field, given: argparse.Namespace) -> Table:
     plane = field.plane
     extension = (plane.name or str(plane.number)) if given.hdu == "all" else None
-    return tables.finished(table, plane.header, zeropoint=given.zeropoint, unit=(field.values or plane).unit, extension=extension)
+    return tables.finished(
+        table, plane.header, zeropoint=given.zeropoint, unit=(field.values or plane).unit, extension=extension
+    )
 
 
 def _done(task: Task, given: argparse.Namespace, tiles, progress) -> str:
@@ -290,33 +361,44 @@ def run(words: Optional[List[str]] = None) -> None:
             pool = None
             if given.workers > 1:
                 pool = stack.enter_context(concurrent.futures.ThreadPoolExecutor(given.workers))
-            files = stack.enter_context(concurrent.futures.ThreadPoolExecutor(given.workers)) if pool and len(tasks) > 1 else None
+            files = (
+                stack.enter_context(concurrent.futures.ThreadPoolExecutor(given.workers))
+                if pool and len(tasks) > 1
+                else None
+            )
             for line in detection.tiles.each(files, lambda task: _done(task, given, pool, progress), tasks):
                 print(line, flush=True)
     finally:
         progress.close()
 
 
-def main(words: Optional[List[str]] = None) -> int:
-    """The command: its status is 0, or 2 where a mistake is told in one line."""
-    warnings.simplefilter("ignore", AstropyWarning)
-    warnings.showwarning = lambda message, *rest, **more: print(f"maxcat: {' '.join(str(message).split())}", file=sys.stderr)
+def told(name: str, work: Callable, words: Optional[List[str]]) -> int:
+    """The status of a command: 0, or 2 where a mistake is told in one line."""
     try:
-        run(words)
+        work(words)
+        return 0
     except Mistake as mistake:
-        return _told(str(mistake))
+        text = str(mistake)
     except MemoryError:
-        return _told("memory is wanted")
+        text = "memory is wanted"
+    except BrokenPipeError:
+        os.dup2(os.open(os.devnull, os.O_WRONLY), sys.stdout.fileno())
+        return 141
     except OSError as error:
-        return _told(f"{error.filename or ''}{': ' if error.filename else ''}{error.strerror or error}")
+        text = f"{error.filename}: {error.strerror}" if error.filename else str(error)
     except KeyboardInterrupt:
         return 130
-    return 0
-
-
-def _told(text: str) -> int:
-    print(f"maxcat: {' '.join(text.split())}", file=sys.stderr)
+    print(f"{name}: {' '.join(text.split())}", file=sys.stderr)
     return 2
+
+
+def main(words: Optional[List[str]] = None) -> int:
+    """The command `maxcat`."""
+    warnings.simplefilter("ignore", AstropyWarning)
+    warnings.showwarning = lambda message, *rest, **more: print(
+        f"maxcat: {' '.join(str(message).split())}", file=sys.stderr
+    )
+    return told("maxcat", run, words)
 
 
 if __name__ == "__main__":

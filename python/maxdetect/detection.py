@@ -1,10 +1,12 @@
-"""From an opened image to its sources: the sky, what the program is to see, its sources, and their photometry, a tile at a time."""
+"""From an opened image to its sources: the sky, what the program is to see, its sources, and their photometry, a tile
+at a time.
+"""
 import concurrent.futures
 import dataclasses
 from typing import Callable, Optional, Tuple
 
 import numpy
-from astropy.table import Table
+from astropy.table import Table, hstack
 
 from . import background, kernel, photometry, scaling, sky, tiles
 from .errors import Mistake
@@ -21,9 +23,11 @@ KINDS = ("rms", "variance", "weight")
 
 @dataclasses.dataclass(frozen=True)
 class Settings:
-    """How sources are looked for. `sigmas` is the threshold in deviations of the noise, 2.25 by default and 1.375 where the image is smoothed; `mesh` is
-    the side of the cells of the background, 0 for one level; `min_area` is in pixels. `weight_type` says what the weight map has, and `local` takes
-    the noise by cells. `gain` is in electrons for a unit of the image, and from `saturation` on pixels are saturated."""
+    """How sources are looked for. `sigmas` is the threshold in deviations of the noise, 2.25 by default and 1.375
+    where the image is smoothed; `mesh` is the side of the cells of the background, 0 for one level; `min_area` is in
+    pixels. `weight_type` says what the weight map has, and `local` takes the noise by cells. `gain` is in electrons
+    for a unit of the image, and from `saturation` on pixels are saturated.
+    """
 
     sigmas: Optional[float] = None
     smooth: bool = False
@@ -52,7 +56,9 @@ def relative_noise(weights: numpy.ndarray, kind: str) -> numpy.ndarray:
 
 @dataclasses.dataclass
 class Field:
-    """An image with what belongs to it: a mask, whose pixels other than 0 are undefined, a weight map, and another image to measure in."""
+    """An image with what belongs to it: a mask, whose pixels other than 0 are undefined, a weight map, and another
+    image to measure in.
+    """
 
     plane: Plane
     settings: Settings
@@ -87,10 +93,11 @@ class Field:
 class Detector:
     """Looks at windows of a field, with two cells beyond its edges, where the sky goes on in a straight line.
 
-    Windows are given in columns and rows of the field with these cells: their first pixel lies two cells before the image's in both directions.
+    Windows are given in columns and rows of the field with these cells: their first pixel lies two cells before the
+    image's in both directions.
     """
 
-    def __init__(self, field: Field, found: sky.Sky, program: Optional[str] = None):
+    def __init__(self, field: Field, found: sky.Sky, program: Optional[str] = None, with_map: bool = True):
         self.field, self.settings, self.program = field, field.settings, program
         self.sky = found if self.settings.mesh else found.flat()
         self.even = field.weights is None and not self.settings.local
@@ -99,7 +106,10 @@ class Detector:
         self.part = Box(beyond, beyond + height, beyond, beyond + width)
         self.strips = {}
         tile = self.settings.tile // (self.settings.mesh or 1) * (self.settings.mesh or 1)
-        self.plan = tiles.Plan((height + 2 * beyond, width + 2 * beyond), self.part, max(tile, self.settings.mesh), beyond or tiles.MARGIN, self.settings.mesh)
+        shape, margin = (height + 2 * beyond, width + 2 * beyond), beyond or tiles.MARGIN
+        self.plan = tiles.Plan(
+            shape, self.part, max(tile, self.settings.mesh, 1), margin, self.settings.mesh, with_map=with_map
+        )
 
     def noise(self, rows: slice, columns: slice):
         """The noise of the image that is looked at in a window, in its units: one number, or an array."""
@@ -128,13 +138,19 @@ class Detector:
         """The image's part of it. Smoothing takes a pixel more on each side, so that it is the same in every window."""
         more = 1 if self.settings.smooth else 0
         top, left = max(0, rows.start - more), max(0, columns.start - more)
-        wide = slice(top, min(self.field.shape[0], rows.stop + more)), slice(left, min(self.field.shape[1], columns.stop + more))
+        wide = slice(top, min(self.field.shape[0], rows.stop + more)), slice(
+            left, min(self.field.shape[1], columns.stop + more)
+        )
         level = self.sky.zero if self.even and self.settings.mesh else self.sky.background(*wide) + self.sky.zero
-        seen = scaling.detectable(self.field.image(*wide), level, self.noise(*wide), self.settings.smooth).filled(kernel.LEAST)
+        seen = scaling.detectable(self.field.image(*wide), level, self.noise(*wide), self.settings.smooth).filled(
+            kernel.LEAST
+        )
         return seen[rows.start - top : rows.stop - top, columns.start - left : columns.stop - left]
 
     def _extended(self, seen, inner, at):
-        """The window with the sky beyond the image's edges, and a line of undefined pixels between, so that no source reaches out."""
+        """The window with the sky beyond the image's edges, and a line of undefined pixels between, so that no source
+        reaches out.
+        """
         height, width = inner.shape
         whole = numpy.full((height, width), kernel.LEAST, dtype="i4")
         beyond = [(0, at.top - 1, 0, width), (at.bottom + 1, height, 0, width)]
@@ -147,7 +163,9 @@ class Detector:
         return whole
 
     def _with_empty_cells(self, seen, inner):
-        """The window with the sky at one pixel of each cell that has no defined one: else it would take the level of the whole window."""
+        """The window with the sky at one pixel of each cell that has no defined one: else it would take the level of
+        the whole window.
+        """
         mesh = self.settings.mesh
         empty = background.undefined_cells(seen == kernel.LEAST, mesh)
         for down, across in [] if empty is None else numpy.argwhere(empty):
@@ -161,35 +179,43 @@ class Detector:
         seen, mesh = self.numbers(box), self.settings.mesh
         options = {"min_area": self.settings.min_area, "mesh": mesh, "connect": self.plan.connect, **self.strips}
         catalogue, segments = kernel.detect_stored(seen, self.settings.threshold, program=self.program, **options)
-
-        def above():
-            residual = background.kernel_residual(numpy.ma.masked_equal(seen, kernel.LEAST), mesh)
-            return (residual >= self.settings.threshold).filled(False)
-
+        above = background.Above(seen, seen == kernel.LEAST, self.settings.threshold, mesh)
         return tiles.Look(self._measured(box, catalogue, segments), segments, above)
 
+    def _level_of(self, rows, columns):
+        """The sky's level in the image's units, where it is measured in the image itself; in 64 bits where 32 don't
+        hold it.
+        """
+        if self.field.values is not None:
+            return None
+        above = self.sky.background(rows, columns)
+        return (above if abs(self.sky.zero) < 4096 * self.sky.noise else above.astype("f8")) + self.sky.zero
+
     def _measured(self, box, catalogue, segments):
-        """The catalogue with the columns of photometry; of sources beyond the image they aren't measured."""
-        at, part = self.part.within(box), box.within(self.part)
-        chosen = tiles.in_box(catalogue, at)
-        table = tiles.moved(catalogue[chosen], -at.left, -at.top)
-        image = self.field.to_measure(part.rows, part.columns)
-        settings, own = self.settings, numpy.ascontiguousarray(segments[at.rows, at.columns])
-        level, noise = photometry.sky(image, own, settings.mesh, local=settings.local)
+        """The catalogue's rows whose first pixels lie in the image, with the columns of photometry; the window's
+        columns and rows stay.
+        """
+        settings, at, part = self.settings, self.part.within(box), box.within(self.part)
+        table = tiles.moved(catalogue[tiles.in_box(catalogue, at)], -at.left, -at.top)
+        image, own = self.field.to_measure(part.rows, part.columns), numpy.ascontiguousarray(
+            segments[at.rows, at.columns]
+        )
+        level, noise = photometry.sky(
+            image, own, settings.mesh, local=settings.local, level=self._level_of(part.rows, part.columns)
+        )
         if self.field.values is None and self.field.weights is not None:
             noise = self.noise(part.rows, part.columns)
         more = dict(gain=settings.gain, saturation=settings.saturation, threshold=settings.threshold)
         found = photometry.measured(image, level, noise, own, table, **more)
-        for name in found.colnames:
-            catalogue[name] = numpy.zeros(len(catalogue), dtype=found[name].dtype)
-            catalogue[name][chosen] = found[name] + (at.left if name == "X" else at.top if name == "Y" else 0)
-        return catalogue
+        return tiles.moved(hstack([table, found]), at.left, at.top)
 
 
 def sky_of(field: Field) -> sky.Sky:
     """The sky of a field. Raises Mistake where it has none to speak of."""
     try:
-        found = sky.of(field.image, field.shape, field.settings.mesh or 64, None if field.weights is None else field.relative)
+        found = sky.of(
+            field.image, field.shape, field.settings.mesh or 64, None if field.weights is None else field.relative
+        )
     except ValueError as error:
         raise Mistake(f"{field.plane.label}: {error}") from None
     if not found.noise > 0:
@@ -207,10 +233,11 @@ def sources(
 ) -> Table:
     """The sources of a field with their photometry, in columns and rows of the image, numbered by their first pixels.
 
-    Tiles run in the executor. `segments`, an array of the image's shape full of zeros, gets the map. `progress` is called with 1 for each tile, after
-    a first call with 0. The table's meta has the noise (SIGMA) and the program's threshold (THRESH).
+    Tiles run in the executor. `segments`, an array of the image's shape full of zeros, gets the map. `progress` is
+    called with 1 for each tile, after a first call with 0. The table's meta has the noise (SIGMA) and the program's
+    threshold (THRESH).
     """
-    detector = Detector(field, sky_of(field), program)
+    detector = Detector(field, sky_of(field), program, segments is not None)
     cores = detector.plan.cores()
     if len(cores) == 1 and field.settings.workers > 1:
         detector.strips = {"strips": 16, "workers": field.settings.workers}

@@ -26,8 +26,19 @@ def _readable(path: str) -> Iterator[None]:
         raise
     except OSError as error:
         raise Mistake(f"{path}: {error.strerror or ' '.join(str(error).split()) or 'it can not be read'}") from None
-    except (ValueError, TypeError, KeyError, IndexError, EOFError, AttributeError, RuntimeError, fits.VerifyError) as error:
-        raise Mistake(f"{path}: not a FITS file that can be read ({' '.join(str(error).split()) or type(error).__name__})") from None
+    except (
+        ValueError,
+        TypeError,
+        KeyError,
+        IndexError,
+        EOFError,
+        AttributeError,
+        RuntimeError,
+        fits.VerifyError,
+    ) as error:
+        raise Mistake(
+            f"{path}: not a FITS file that can be read ({' '.join(str(error).split()) or type(error).__name__})"
+        ) from None
 
 
 @contextlib.contextmanager
@@ -47,8 +58,9 @@ def _is_image(hdu) -> bool:
 class Plane:
     """A plane of an image in a file, as floating-point numbers.
 
-    `path`, `number` and `name` say which HDU it is, `shape` is (height, width), `header` the HDU's. It can be pickled, and is then opened anew. Of an
-    uncompressed file only the rows that are asked for are read; others are held as a whole.
+    `path`, `number` and `name` say which HDU it is, `shape` is (height, width), `header` the HDU's. It can be
+    pickled, and is then opened anew. Of an uncompressed file only the rows that are asked for are read; others are
+    held as a whole.
     """
 
     def __init__(self, path: str, hdu, number: int, plane: Optional[int]):
@@ -62,7 +74,9 @@ class Plane:
             raise Mistake(f"{self.label}: it has no plane {plane}, but {planes}")
         self._plane, self._values = (plane or 1) - 1, None
         self._stored = self._place(hdu)
-        if self._stored and self._stored[1] + self._stored[0].itemsize * planes * self.shape[0] * self.shape[1] > os.path.getsize(self.path):
+        if self._stored and self._stored[1] + self._stored[0].itemsize * planes * self.shape[0] * self.shape[
+            1
+        ] > os.path.getsize(self.path):
             raise Mistake(f"{self.label}: the file ends within the image")
 
     def _place(self, hdu):
@@ -87,7 +101,9 @@ class Plane:
         return {**self.__dict__, "_values": None}
 
     def window(self, rows: slice, columns: slice = slice(None)) -> numpy.ndarray:
-        """The pixels of some rows and columns, NaN where they are undefined: 32 bits where these hold the stored numbers, and else 64."""
+        """The pixels of some rows and columns, NaN where they are undefined: 32 bits where these hold the stored
+        numbers, and else 64.
+        """
         if self._stored:
             return self._mapped(rows, columns)
         if self._values is None:
@@ -160,10 +176,55 @@ def split_name(text: str) -> Tuple[str, Name]:
     return path, which
 
 
+def same(one: str, other: str) -> bool:
+    """Two names of one file."""
+    with contextlib.suppress(OSError):
+        return os.path.samefile(one, other)
+    return os.path.realpath(one) == os.path.realpath(other)
+
+
 def matching(text: str, like: Plane, plane: Optional[int] = None, beside: bool = False) -> Plane:
-    """The image that FILE[:HDU] names, of the same shape as another; where no HDU is named and `beside` is set, that of the same number."""
+    """The image that FILE[:HDU] names, of the same shape as another; where no HDU is named and `beside` is set, that
+    of the same number.
+    """
     path, which = split_name(text)
     other = opened(path, like.number if which is None and beside else which, plane)
     if other.shape != like.shape:
-        raise Mistake(f"{other.label} has {other.shape[1]} x {other.shape[0]} pixels, and {like.label} {like.shape[1]} x {like.shape[0]}")
+        sides = [f"{it.label} {it.shape[1]} x {it.shape[0]}" for it in (other, like)]
+        raise Mistake(f"the images differ in width or height: {sides[0]}, {sides[1]}")
     return other
+
+
+def save(image: numpy.ndarray, path: str, header: Optional[fits.Header] = None) -> None:
+    """Writes an image as a FITS file that other programs read: whole numbers in 32 bits where they fit (BLANK where
+    they are masked), others as 32-bit floating-point numbers (NaN where they are masked). `header` gives the other
+    cards. The file appears whole or not at all.
+    """
+    from .tables import whole_file
+
+    values, undefined = numpy.ma.getdata(image), numpy.ma.getmaskarray(image)
+    cards = fits.Header() if header is None else _without_layout(header)
+    if values.dtype.kind in "iub":
+        defined = values[~undefined]
+        wide = defined.size and not -(2**31) < int(defined.min()) <= int(defined.max()) < 2**31
+        values = values.astype("i8" if wide else "i4")
+        if undefined.any():
+            cards["BLANK"] = int(numpy.iinfo(values.dtype).min)
+            values[undefined] = cards["BLANK"]
+    else:
+        values = values.astype("f4")
+        values[undefined] = numpy.nan
+    with whole_file(path) as name, warnings.catch_warnings():
+        warnings.simplefilter("ignore", AstropyWarning)
+        fits.PrimaryHDU(values, cards).writeto(name, overwrite=True, output_verify="silentfix")
+
+
+LAYOUT = "SIMPLE XTENSION BITPIX NAXIS EXTEND PCOUNT GCOUNT BSCALE BZERO BLANK CHECKSUM DATASUM EXTNAME EXTVER"
+
+
+def _without_layout(header: fits.Header) -> fits.Header:
+    """The cards that say nothing of how an image is stored."""
+    header = header.copy()
+    for keyword in LAYOUT.split() + [card for card in header if card.startswith("NAXIS")]:
+        header.remove(keyword, ignore_missing=True, remove_all=True)
+    return header

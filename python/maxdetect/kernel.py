@@ -1,12 +1,12 @@
 """The program's calls: sources of an integer image by its max-tree, as numpy arrays and astropy tables.
 
-Each call starts the built program once; the bytes stay in memory where the system has files there. Wanted are numpy and astropy. The program is the
-one that `program=` names, else the one that the environment's MAXDETECT names, else `maxdetect` on the PATH, else the repository's own, which is
-then proved and built first where it isn't there yet.
+Each call starts the built program once; the bytes stay in memory where the system has files there. Wanted are numpy
+and astropy. The program is the one that `program=` names, else the one that the environment's MAXDETECT names, else
+`maxdetect` on the PATH, else the repository's own, which is then proved and built first where it isn't there yet.
 
-An image is a two-dimensional array of whole numbers of any integer type, row by row: `image[y, x]`, as astropy reads it. Pixels that are masked (a
-numpy masked array) or have the value `blank` are undefined: they belong to no source. All other values lie from -2^36 to 2^36. For an image of
-floating-point numbers see `maxdetect.scaling`.
+An image is a two-dimensional array of whole numbers of any integer type, row by row: `image[y, x]`, as astropy reads
+it. Pixels that are masked (a numpy masked array) or have the value `blank` are undefined: they belong to no source.
+All other values lie from -2^36 to 2^36. For an image of floating-point numbers see `maxdetect.scaling`.
 
 >>> import numpy
 >>> image = numpy.array([[1, 6, 2, 5, 1]])
@@ -93,10 +93,11 @@ DESCRIPTIONS = {
 class Refusal(Mistake):
     """The program ended without an answer.
 
-    `status` is its exit status: 1 an option's value is out of its range, 2 the image is refused, 3 a read failed, 4 a write failed, 5 memory is
-    wanted; it is None where a signal ended the program (`name` is "killed") or what it wrote is cut short ("truncated"). For an image that is refused
-    `number` and `name` are those of its first fault, as in the man page; for an option `number` is the place of the word at fault and `name` is
-    "usage"; else `number` is None. `text` says what it means.
+    `status` is its exit status: 1 an option's value is out of its range, 2 the image is refused, 3 a read failed, 4 a
+    write failed, 5 memory is wanted; it is None where a signal ended the program (`name` is "killed") or what it
+    wrote is cut short ("truncated"). For an image that is refused `number` and `name` are those of its first fault,
+    as in the man page; for an option `number` is the place of the word at fault and `name` is "usage"; else `number`
+    is None. `text` says what it means.
 
     >>> import numpy
     >>> try:
@@ -161,7 +162,11 @@ def _refusal(words, status, note):
     if status == 1 and note.startswith("usage: word "):
         number = int(note.split()[2])
         option = words[number - 2] if 2 <= number <= len(words) else ""
-        text = f"{option.lstrip('-').replace('-', '_')} isn't given a value that it takes" if option.startswith("--") else note
+        text = (
+            f"{option.lstrip('-').replace('-', '_')} isn't given a value that it takes"
+            if option.startswith("--")
+            else note
+        )
         return Refusal(status, number, "usage", text)
     if status == 2 and note.startswith("refused: "):
         number, name, *place = note.split()[1:]
@@ -202,7 +207,9 @@ def _truncated():
 
 
 def _forms(low):
-    """For each size of stored numbers: how many bits they have, the least of them, and the BZERO that puts the value `low` right above it."""
+    """For each size of stored numbers: how many bits they have, the least of them, and the BZERO that puts the value
+    `low` right above it.
+    """
     for bits in (8, 16, 32):
         least = 0 if bits == 8 else -(2 ** (bits - 1))
         yield bits, least, min(max(low - least - 1, -(2**32)), 2**32)
@@ -242,17 +249,28 @@ def _range(values, undefined):
 def _file(image, blank, extension=False):
     """An image as pieces of a FITS file, or of an extension behind one: header, pixels, padding.
 
-    The stored numbers are the values less BZERO, in as few bytes as their range needs; the least stored number is BLANK. In 64 bits BZERO is 0.
+    The stored numbers are the values less BZERO, in as few bytes as their range needs; the least stored number is
+    BLANK. In 64 bits BZERO is 0.
     """
     values, undefined = _checked(image, blank)
     low, high = _range(values, undefined)
-    bits, least, zero = next(form for form in _forms(low) if form[0] == 64 or form[1] < low - form[2] and high - form[2] < form[1] + 2 ** form[0])
+    bits, least, zero = next(
+        form
+        for form in _forms(low)
+        if form[0] == 64 or form[1] < low - form[2] and high - form[2] < form[1] + 2 ** form[0]
+    )
     # Values and BZERO fit 64 bits; an undefined pixel may have any value.
     stored = (values.astype("i8") - zero if zero else values).astype("u1" if bits == 8 else f">i{bits // 8}", order="C")
     if undefined is not None:
         stored[undefined] = least
     height, width = values.shape
-    cards = [("XTENSION", "IMAGE") if extension else ("SIMPLE", True), ("BITPIX", bits), ("NAXIS", 2), ("NAXIS1", width), ("NAXIS2", height)]
+    cards = [
+        ("XTENSION", "IMAGE") if extension else ("SIMPLE", True),
+        ("BITPIX", bits),
+        ("NAXIS", 2),
+        ("NAXIS1", width),
+        ("NAXIS2", height),
+    ]
     cards += [("PCOUNT", 0), ("GCOUNT", 1)] if extension else []
     cards += [("BSCALE", 1), ("BZERO", zero), ("BLANK", least)]
     return fits.Header(cards).tostring().encode("ascii"), stored.reshape(-1).view("u1"), bytes(-stored.nbytes % 2880)
@@ -272,7 +290,8 @@ def _native(array):
 
 
 def load(file, hdu=0):
-    """The image of an HDU with its whole numbers as they stand in the file, BZERO added: a masked array where the header has a BLANK.
+    """The image of an HDU with its whole numbers as they stand in the file, BZERO added: a masked array where the
+    header has a BLANK.
 
     astropy by itself makes floating-point numbers of an image with a BLANK or a BZERO.
     """
@@ -286,7 +305,9 @@ def load(file, hdu=0):
 
 
 def read(file):
-    """The catalogue and the segmentation map of what `maxdetect detect` or `measure` wrote: a path, or a file that is open for reading bytes."""
+    """The catalogue and the segmentation map of what `maxdetect detect` or `measure` wrote: a path, or a file that is
+    open for reading bytes.
+    """
     with fits.open(file, memmap=False) as hdus:
         rows, names = hdus["SOURCES"].data, hdus["SOURCES"].columns.names
         columns = [_native(rows[name]) for name in names]
@@ -305,16 +326,32 @@ def _answer(output):
             raise _truncated() from None
 
 
-def detect(image, threshold, *, min_area=1, min_flux=0, contrast=5, mesh=0, flat=False, connect=4, strips=1, workers=1, blank=None, program=None):
+def detect(
+    image,
+    threshold,
+    *,
+    min_area=1,
+    min_flux=0,
+    contrast=5,
+    mesh=0,
+    flat=False,
+    connect=4,
+    strips=1,
+    workers=1,
+    blank=None,
+    program=None,
+):
     """The sources of an image: their catalogue, and their segmentation map.
 
-    `threshold` is in the image's own units, above the background where `mesh` is not 0. `min_area` is in pixels, `min_flux` in the units of
-    value times pixel, `contrast` in thousandths of the flux of a source's entry, `mesh` in pixels; `flat` takes the background in steps. `strips` and
-    `workers` change nothing but the time. The defaults are the command's; for noisy images docs/GUIDE.md has better ones.
+    `threshold` is in the image's own units, above the background where `mesh` is not 0. `min_area` is in pixels,
+    `min_flux` in the units of value times pixel, `contrast` in thousandths of the flux of a source's entry, `mesh` in
+    pixels; `flat` takes the background in steps. `strips` and `workers` change nothing but the time. The defaults are
+    the command's; for noisy images docs/GUIDE.md has better ones.
 
-    The catalogue is an astropy `Table` with a row for each source and the 17 columns of the command, all of them whole numbers: positions count
-    pixels from 1, XCEN and YCEN in thousandths of a pixel, XVAR, YVAR and XYCOV in thousandths of a square pixel. The map is an array of
-    32-bit numbers of the image's shape, with the source's number, or 0.
+    The catalogue is an astropy `Table` with a row for each source and the 17 columns of the command, all of them
+    whole numbers: positions count pixels from 1, XCEN and YCEN in thousandths of a pixel, XVAR, YVAR and XYCOV in
+    thousandths of a square pixel. The map is an array of 32-bit numbers of the image's shape, with the source's
+    number, or 0.
 
     >>> import numpy
     >>> image = numpy.full((5, 6), 10)
@@ -336,18 +373,34 @@ def detect(image, threshold, *, min_area=1, min_flux=0, contrast=5, mesh=0, flat
 
 
 def detect_stored(stored, threshold, *, program=None, **options):
-    """The same as `detect` of an array of 32-bit numbers in which LEAST stands for an undefined pixel, without a look at its range."""
+    """The same as `detect` of an array of 32-bit numbers in which LEAST stands for an undefined pixel, without a look
+    at its range.
+    """
     return _answer(_run(program, _words("detect", {"threshold": threshold, **options}), _stored_file(stored)))
 
 
 def measure(
-    image, values, threshold, *, min_area=1, min_flux=0, contrast=5, mesh=0, flat=False, connect=4, strips=1, workers=1, blank=None, program=None
+    image,
+    values,
+    threshold,
+    *,
+    min_area=1,
+    min_flux=0,
+    contrast=5,
+    mesh=0,
+    flat=False,
+    connect=4,
+    strips=1,
+    workers=1,
+    blank=None,
+    program=None,
 ):
     """The sources of an image, measured in `values`, a second image of the same shape: another band of the same pixels.
 
-    All is as in `detect`, with seven columns more: SEEN and MISSING count the source's pixels that have a value in the second image and that have
-    none; VSUM, VLOW and VPEAK are the sum, the least and the greatest of these values; VMEAN is their mean, and VBACK that around the source, both in
-    thousandths. `mesh`, `flat` and `blank` hold for both images.
+    All is as in `detect`, with seven columns more: SEEN and MISSING count the source's pixels that have a value in
+    the second image and that have none; VSUM, VLOW and VPEAK are the sum, the least and the greatest of these values;
+    VMEAN is their mean, and VBACK that around the source, both in thousandths. `mesh`, `flat` and `blank` hold for
+    both images.
 
     >>> import numpy
     >>> image = numpy.array([[1, 6, 2, 5, 1]])
@@ -366,15 +419,30 @@ def measure(
     return _answer(_run(program, _words("measure", options), _file(image, blank), _file(values, blank, extension=True)))
 
 
-def filter(image, rule, *, min_area=0, max_area=16777216, min_flux=0, min_fill=0, mesh=0, flat=False, connect=4, strips=1, workers=1, blank=None, program=None):
+def filter(
+    image,
+    rule,
+    *,
+    min_area=0,
+    max_area=16777216,
+    min_flux=0,
+    min_fill=0,
+    mesh=0,
+    flat=False,
+    connect=4,
+    strips=1,
+    workers=1,
+    blank=None,
+    program=None,
+):
     """The image with some nodes of its tree taken out.
 
-    `rule` is "min", "max", "direct" or "subtractive"; a node satisfies where its area is from `min_area` to `max_area` pixels, its flux at least
-    `min_flux`, and where it fills at least `min_fill` thousandths of its box. With the defaults all nodes stay, so `filter(image, "direct",
-    mesh=64)` is the image less its background.
+    `rule` is "min", "max", "direct" or "subtractive"; a node satisfies where its area is from `min_area` to
+    `max_area` pixels, its flux at least `min_flux`, and where it fills at least `min_fill` thousandths of its box.
+    With the defaults all nodes stay, so `filter(image, "direct", mesh=64)` is the image less its background.
 
-    The answer has the image's shape and 64-bit numbers; it is a masked array where `image` is one or `blank` is given, with the undefined pixels
-    masked, and else an ordinary array.
+    The answer has the image's shape and 64-bit numbers; it is a masked array where `image` is one or `blank` is
+    given, with the undefined pixels masked, and else an ordinary array.
 
     >>> import numpy
     >>> filter(numpy.array([[0, 1, 3, 2, 0]]), "direct", min_area=2).tolist()
@@ -382,7 +450,9 @@ def filter(image, rule, *, min_area=0, max_area=16777216, min_flux=0, min_fill=0
     """
     options = dict(rule=rule, min_area=min_area, max_area=max_area, min_flux=min_flux, min_fill=min_fill)
     options.update(mesh=mesh, flat=int(flat), connect=connect, strips=strips, workers=workers)
-    with _run(program, _words("filter", options), _file(image, blank)) as output, fits.open(output, memmap=False, do_not_scale_image_data=True) as hdus:
+    with _run(program, _words("filter", options), _file(image, blank)) as output, fits.open(
+        output, memmap=False, do_not_scale_image_data=True
+    ) as hdus:
         if hdus[0].data is None or hdus[0].data.shape != numpy.shape(image):
             raise _truncated()
         values = _native(hdus[0].data)
@@ -395,8 +465,9 @@ def filter(image, rule, *, min_area=0, max_area=16777216, min_flux=0, min_fill=0
 def tree(image, *, mesh=0, flat=False, connect=4, strips=1, workers=1, blank=None, program=None):
     """The nodes of an image's max-tree, as a `Table` with the columns NUMBER, LEVEL, REP, PARENT and AREA.
 
-    Nodes are numbered from 0, in the order of level and then representative, so the number is the row. REP is the least pixel of the component
-    that has this level, with pixels counted from 0 row by row: `image.flat[REP]`. PARENT is -1 at a root. AREA is in pixels.
+    Nodes are numbered from 0, in the order of level and then representative, so the number is the row. REP is the
+    least pixel of the component that has this level, with pixels counted from 0 row by row: `image.flat[REP]`. PARENT
+    is -1 at a root. AREA is in pixels.
 
     >>> import numpy
     >>> for node in tree(numpy.array([[1, 2, 1]])):

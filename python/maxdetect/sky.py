@@ -1,17 +1,18 @@
 """The sky of an image: its level and its noise in the cells of a mesh, and both between them.
 
-All of it is in floating point, and outside of what is proved of the program. A cell's level is the mean of its pixels and its noise their standard
-deviation, without the pixels near sources: those within three pixels of a place whose mean over 3 by 3 pixels lies three deviations of such means
-off, and those five deviations off by themselves. So neither comes in steps on images of whole numbers, and a crowd of stars hardly moves them.
+All of it is in floating point, and outside of what is proved of the program. A cell's level is the mean of its pixels
+and its noise their standard deviation, without the pixels near sources: those within three pixels of a place whose
+mean over 3 by 3 pixels lies three deviations of such means off, and those five deviations off by themselves. So
+neither comes in steps on images of whole numbers, and a crowd of stars hardly moves them.
 """
 import dataclasses
-import math
 from typing import Callable, Optional, Tuple
 
 import numpy
 from scipy import ndimage
 
-# How many deviations off a mean of 3 by 3 pixels shows a source, how far around it its light is looked for, and from where on a pixel isn't noise.
+# How many deviations off a mean of 3 by 3 pixels shows a source, how far around it its light is looked for, and from
+# where on a pixel isn't noise.
 HOT, REACH, CLIP = 3.5, 3, 5.0
 # The part of the deviation that is left where noise alone is looked at so.
 KEPT = 0.997
@@ -32,14 +33,18 @@ def _carried_on(grid: numpy.ndarray) -> numpy.ndarray:
     """The grid with one more number on each side, in a straight line beyond the outermost two."""
     for axis in (0, 1):
         if grid.shape[axis] > 1:
-            grid = numpy.pad(grid, [(1, 1) if it == axis else (0, 0) for it in (0, 1)], mode="reflect", reflect_type="odd")
+            grid = numpy.pad(
+                grid, [(1, 1) if it == axis else (0, 0) for it in (0, 1)], mode="reflect", reflect_type="odd"
+            )
         else:
             grid = numpy.pad(grid, [(1, 1) if it == axis else (0, 0) for it in (0, 1)], mode="edge")
     return grid
 
 
 def filtered(grid: numpy.ndarray) -> numpy.ndarray:
-    """The median of each number and its neighbours; at the edges the grid is carried on, so that a slope stays as it is."""
+    """The median of each number and its neighbours; at the edges the grid is carried on, so that a slope stays as it
+    is.
+    """
     return ndimage.median_filter(_carried_on(grid), size=3, mode="nearest")[1:-1, 1:-1]
 
 
@@ -52,7 +57,9 @@ def _filled(grid: numpy.ndarray, known: numpy.ndarray) -> numpy.ndarray:
 
 
 def _along(grid: numpy.ndarray, mesh: int, places: slice, dtype: str) -> numpy.ndarray:
-    """The rows of a grid at these places of its first axis: linear between the cells' centres, and on in a straight line beyond the outermost."""
+    """The rows of a grid at these places of its first axis: linear between the cells' centres, and on in a straight
+    line beyond the outermost.
+    """
     at = (numpy.arange(places.start, places.stop) + 0.5) / mesh - 0.5
     before = numpy.clip(numpy.floor(at).astype(int), 0, max(len(grid) - 2, 0))
     after = numpy.minimum(before + 1, len(grid) - 1)
@@ -104,7 +111,9 @@ def _in_cells(band: numpy.ndarray, mesh: int, fill) -> numpy.ndarray:
 
 
 def _first_row(band: numpy.ndarray, mesh: int, rng: numpy.random.Generator) -> Tuple[numpy.ndarray, ...]:
-    """The median of each cell in a row of cells, how far below it a deviation lies, how many pixels were looked at, and the step of the values."""
+    """The median of each cell in a row of cells, how far below it a deviation lies, how many pixels were looked at,
+    and the step of the values.
+    """
     step = max(1, mesh // SAMPLED)
     sample = _in_cells(band, mesh, numpy.nan)[::step, :, ::step].swapaxes(0, 1)
     sample = sample.reshape(len(sample), -1)
@@ -115,10 +124,17 @@ def _first_row(band: numpy.ndarray, mesh: int, rng: numpy.random.Generator) -> T
     count = numpy.isfinite(sample).sum(axis=1)
 
     def part(of):
-        return numpy.take_along_axis(sample, numpy.clip((count[:, None] * of).astype(int), 0, sample.shape[1] - 1), axis=1)[:, 0].astype("f8")
+        return numpy.take_along_axis(
+            sample, numpy.clip((count[:, None] * of).astype(int), 0, sample.shape[1] - 1), axis=1
+        )[:, 0].astype("f8")
 
     middle = part(0.5)
-    return middle, numpy.sqrt(numpy.maximum((middle - part(0.1587)) ** 2 - quant**2 / 12, quant**2 / 12)), count, numpy.full(len(count), quant)
+    return (
+        middle,
+        numpy.sqrt(numpy.maximum((middle - part(0.1587)) ** 2 - quant**2 / 12, quant**2 / 12)),
+        count,
+        numpy.full(len(count), quant),
+    )
 
 
 def _whole_cells(side: int, mesh: int) -> int:
@@ -126,7 +142,9 @@ def _whole_cells(side: int, mesh: int) -> int:
 
 
 def _guess(rows: list, shape: Tuple[int, int], mesh: int, least: float) -> Tuple[numpy.ndarray, numpy.ndarray]:
-    """Level and deviation of every cell, from those of the whole ones with enough pixels: the cells that the image's edge cuts carry them on."""
+    """Level and deviation of every cell, from those of the whole ones with enough pixels: the cells that the image's
+    edge cuts carry them on.
+    """
     middle, deviation, count, _ = (numpy.array(part) for part in zip(*rows))
     whole = tuple(slice(0, _whole_cells(side, mesh)) for side in shape)
     known = count[whole] >= least
@@ -184,8 +202,9 @@ def _quiet(scaled: numpy.ndarray) -> numpy.ndarray:
 
 
 def _second_row(residual, relative, deviation, quant, mesh):
-    """For each cell in a row of cells the mean of the residual, its deviation in units of `relative`, and how many of its pixels counted and how many
-    are there."""
+    """For each cell in a row of cells the mean of the residual, its deviation in units of `relative`, and how many of
+    its pixels counted and how many are there.
+    """
     noise = residual if relative is None else residual / relative
     finite = numpy.isfinite(noise)
     noise = noise if finite.all() else numpy.where(finite, noise, numpy.float32(0))
@@ -204,7 +223,9 @@ def _second_row(residual, relative, deviation, quant, mesh):
     square = numpy.einsum("ijk,ijk->j", kept, kept).astype("f8") / numpy.maximum(count, 1)
     spread = numpy.sqrt(numpy.maximum(square - mean**2, 0)) / KEPT
     if relative is not None:
-        mean = (_in_cells(numpy.where(finite, residual, 0), mesh, 0) * keep).sum(axis=(0, 2), dtype="f8") / numpy.maximum(count, 1)
+        mean = (_in_cells(numpy.where(finite, residual, 0), mesh, 0) * keep).sum(
+            axis=(0, 2), dtype="f8"
+        ) / numpy.maximum(count, 1)
     return mean, spread, count, _in_cells(finite, mesh, False).sum(axis=(0, 2))
 
 
@@ -213,8 +234,9 @@ def _second_row(residual, relative, deviation, quant, mesh):
 
 @dataclasses.dataclass(frozen=True)
 class Sky:
-    """Level and noise of an image's sky. `zero` stands near the level; `levels` are above it, one for each cell, and `deviations` the noise of each,
-    in the image's units or in those of its noise map. `noise` is the median of these."""
+    """Level and noise of an image's sky. `zero` stands near the level; `levels` are above it, one for each cell, and
+    `deviations` the noise of each, in the image's units or in those of its noise map. `noise` is the median of these.
+    """
 
     shape: Tuple[int, int]
     mesh: int
@@ -229,7 +251,9 @@ class Sky:
 
     def noises(self, rows: slice, columns: slice) -> numpy.ndarray:
         """The noise at the pixels of a window, by its cells."""
-        return numpy.maximum(between(self.deviations, self.mesh, rows, columns), numpy.float32(self.deviations.min() / 2))
+        return numpy.maximum(
+            between(self.deviations, self.mesh, rows, columns), numpy.float32(self.deviations.min() / 2)
+        )
 
     def flat(self) -> "Sky":
         """The same with one level for the whole image."""
@@ -243,21 +267,29 @@ def _bands(height: int, mesh: int):
 def of(read: Reader, shape: Tuple[int, int], mesh: int = 64, relative: Optional[Reader] = None) -> Sky:
     """The sky of an image that is read by rows, NaN where it is undefined: twice, a row of cells at a time.
 
-    `relative` reads a map of its noise, in any units; the deviations are then in these. Raises ValueError where no pixel is defined.
+    `relative` reads a map of its noise, in any units; the deviations are then in these. Raises ValueError where no
+    pixel is defined.
     """
     rng, bands = numpy.random.default_rng(1), _bands(shape[0], mesh)
-    first = [_first_row(read(rows) if relative is None else _defined_by(read(rows), relative(rows)), mesh, rng) for rows in bands]
+    first = [
+        _first_row(read(rows) if relative is None else _defined_by(read(rows), relative(rows)), mesh, rng)
+        for rows in bands
+    ]
     zero = numpy.concatenate([row[0] for row in first])
     if not numpy.isfinite(zero).any():
         raise ValueError("no pixel of the image is defined")
     zero = float(numpy.nanmedian(zero))
-    guess, deviation = _guess([(row[0] - zero, *row[1:]) for row in first], shape, mesh, ENOUGH * min(mesh, SAMPLED) ** 2)
+    guess, deviation = _guess(
+        [(row[0] - zero, *row[1:]) for row in first], shape, mesh, ENOUGH * min(mesh, SAMPLED) ** 2
+    )
     if relative is not None:
         deviation = _in_units(deviation, relative, bands, mesh)
     columns, second = slice(0, shape[1]), []
     for row, rows in enumerate(bands):
         residual = (read(rows) - zero).astype("f4", copy=False) - between(guess, mesh, rows, columns)
-        second.append(_second_row(residual, None if relative is None else relative(rows), deviation[row], first[row][3], mesh))
+        second.append(
+            _second_row(residual, None if relative is None else relative(rows), deviation[row], first[row][3], mesh)
+        )
     mean, spread, count, there = (numpy.array(part) for part in zip(*second))
     return Sky(shape, mesh, zero, *_joined(guess, mean, spread, count, there))
 
@@ -279,8 +311,9 @@ def _in_units(deviation: numpy.ndarray, relative: Reader, bands: list, mesh: int
 
 
 def _joined(guess, mean, spread, count, there):
-    """Levels and deviations of the cells, and the noise: what the second look adds to the first guess. A cell that sources fill, or that has few
-    pixels, takes what its nearest neighbour has."""
+    """Levels and deviations of the cells, and the noise: what the second look adds to the first guess. A cell that
+    sources fill, or that has few pixels, takes what its nearest neighbour has.
+    """
     least = ENOUGH * there.max()
     known = count >= least
     if not known.any():

@@ -1,9 +1,10 @@
 """Sources of an image of any size, from windows that the program takes.
 
-An image is cut into tiles, and each is looked at in a window with a margin around it. A source belongs to the tile whose core holds its first pixel. It
-is the same source in the window as in the whole image where the component of the threshold set in which it lies has all its neighbours among the
-window's sure pixels: those whose background is made of cells that lie whole in the window. A component that reaches further is looked at again in a
-window that holds it; where that would have more pixels than the program takes, its sources are cut.
+An image is cut into tiles, and each is looked at in a window with a margin around it. A source belongs to the tile
+whose core holds its first pixel. It is the same source in the window as in the whole image where the component of the
+threshold set in which it lies has all its neighbours among the window's sure pixels: those whose background is made
+of cells that lie whole in the window. A component that reaches further is looked at again in a window that holds it;
+where that would have more pixels than the program takes, its sources are cut.
 """
 import concurrent.futures
 import contextlib
@@ -17,7 +18,7 @@ from astropy.table import Table, vstack
 from scipy import ndimage
 
 from . import kernel
-from .background import kernel_residual, lower_median, undefined_cells
+from .background import Above, lower_median, undefined_cells
 
 # What the program takes.
 MOST_PIXELS, MOST_SIDE = 2**24, 65535
@@ -66,18 +67,21 @@ class Box:
 
 @dataclasses.dataclass
 class Look:
-    """What is seen in a window: its sources, the map with their numbers, where it is at least the threshold, and which pixels of the rest aren't sure."""
+    """What is seen in a window: its sources, the map with their numbers, where it is at least the threshold, and
+    which pixels of the rest aren't sure.
+    """
 
     catalogue: Table
     segments: numpy.ndarray
-    above: Callable[[], numpy.ndarray]
+    above: Callable[[slice, slice], numpy.ndarray]
     unsure: Optional[numpy.ndarray] = None
 
 
 @dataclasses.dataclass
 class Piece:
-    """The sources of a tile, in columns and rows of the whole; the pixels of the whole, counted row by row, that belong to one, and to which row; and
-    which rows are cut."""
+    """The sources of a tile, in columns and rows of the whole; the pixels of the whole, counted row by row, that
+    belong to one, and to which row; and which rows are cut.
+    """
 
     catalogue: Table
     pixels: numpy.ndarray
@@ -87,8 +91,10 @@ class Piece:
 
 @dataclasses.dataclass(frozen=True)
 class Plan:
-    """How an image is cut: its shape, the part of it whose sources are wanted, the side of a tile's core, the margin, the mesh of the program's
-    background, and which pixels are neighbours. The sources' columns and rows are those of the part."""
+    """How an image is cut: its shape, the part of it whose sources are wanted, the side of a tile's core, the margin,
+    the mesh of the program's background, and which pixels are neighbours. The sources' columns and rows are those of
+    the part.
+    """
 
     shape: Tuple[int, int]
     part: Box
@@ -97,12 +103,16 @@ class Plan:
     mesh: int = 0
     flat: bool = False
     connect: int = 8
+    with_map: bool = True
 
     def cores(self) -> List[Box]:
         """The cores of the tiles, row by row."""
         part = self.part
         corners = itertools.product(range(part.top, part.bottom, self.tile), range(part.left, part.right, self.tile))
-        return [Box(top, min(top + self.tile, part.bottom), left, min(left + self.tile, part.right)) for top, left in corners]
+        return [
+            Box(top, min(top + self.tile, part.bottom), left, min(left + self.tile, part.right))
+            for top, left in corners
+        ]
 
     def around(self, box: Box, margin: int) -> Box:
         """The window with a margin around a box, as far as the image goes, of whole cells."""
@@ -120,7 +130,9 @@ class Plan:
         if self.flat:
             return low, side if high == side else last * mesh
         # The cells between whose centres a place lies, and one more on each side, are in the window.
-        return 0 if low == 0 else -((1 - mesh * (2 * first + 3)) // 2), side if high == side else -((1 - mesh * (2 * last - 3)) // 2)
+        return 0 if low == 0 else -((1 - mesh * (2 * first + 3)) // 2), side if high == side else -(
+            (1 - mesh * (2 * last - 3)) // 2
+        )
 
     def deep(self, window: Box) -> Box:
         """The pixels of a window that are sure with their neighbours, in the window's own columns and rows."""
@@ -137,11 +149,50 @@ class Plan:
 
 def _labelled(look: Look, connect: int) -> numpy.ndarray:
     """The components of the threshold set, numbered."""
-    return ndimage.label(look.above(), numpy.ones((3, 3)) if connect == 8 else None)[0]
+    return _label(look.above(slice(0, look.segments.shape[0]), slice(0, look.segments.shape[1])), connect)
+
+
+def _label(above: numpy.ndarray, connect: int) -> numpy.ndarray:
+    return ndimage.label(above, numpy.ones((3, 3)) if connect == 8 else None)[0]
+
+
+def _crosses(look: Look, rows: slice, columns: slice, out: numpy.ndarray, at_core: numpy.ndarray, connect: int) -> bool:
+    """In a strip along the core some component has pixels at the core and out."""
+    labels = _label(look.above(rows, columns), connect)
+    return bool(numpy.intersect1d(labels[at_core], labels[out]).any())
+
+
+def _may_reach_out(look: Look, window: Box, inner: Box, plan: Plan) -> bool:
+    """Some component of the core may not be all of sure pixels with sure neighbours. What is looked at is a strip on
+    each side of the core, and what leaves a strip sideways counts as out: so for most tiles nothing more has to be
+    known of their components.
+    """
+    if look.unsure is not None:
+        return True
+    deep, (height, width) = plan.deep(window), window.shape
+    tall, wide = slice(max(inner.top - 1, 0), min(inner.bottom + 1, height)), slice(
+        max(inner.left - 1, 0), min(inner.right + 1, width)
+    )
+    strips = [
+        (deep.top > 0, slice(0, inner.top + 1), wide),
+        (deep.bottom < height, slice(inner.bottom - 1, height), wide),
+    ]
+    strips += [
+        (deep.left > 0, tall, slice(0, inner.left + 1)),
+        (deep.right < width, tall, slice(inner.right - 1, width)),
+    ]
+    for wanted, rows, columns in strips:
+        y, x = numpy.ogrid[rows, columns]
+        core = (y >= inner.top) & (y < inner.bottom) & (x >= inner.left) & (x < inner.right)
+        sideways = (x < inner.left) | (x >= inner.right) if columns is wide else (y < inner.top) | (y >= inner.bottom)
+        out = sideways | (y < deep.top) | (y >= deep.bottom) | (x < deep.left) | (x >= deep.right)
+        if wanted and _crosses(look, rows, columns, out, core, plan.connect):
+            return True
+    return False
 
 
 def _reaching_out(labels: numpy.ndarray, look: Look, window: Box, plan: Plan) -> numpy.ndarray:
-    """The numbers of the components of a window that aren't all of sure pixels with sure neighbours, in rising order."""
+    """The numbers of the components of a window that aren't all of sure pixels with sure neighbours, in order."""
     if window.shape == plan.shape:
         return numpy.zeros(0, dtype=labels.dtype)
     deep = plan.deep(window)
@@ -172,22 +223,31 @@ def in_box(catalogue: Table, box: Box) -> numpy.ndarray:
     return (rows >= box.top) & (rows < box.bottom) & (columns >= box.left) & (columns < box.right)
 
 
-def _picked(look: Look, window: Box, plan: Plan, chosen: numpy.ndarray, cut: bool, within: Optional[Box] = None) -> Piece:
+def _picked(
+    look: Look, window: Box, plan: Plan, chosen: numpy.ndarray, cut: bool, within: Optional[Box] = None
+) -> Piece:
     """The chosen rows of a window as a piece of the whole; of the map the part in a box alone, where one is given."""
     left, top = window.left - plan.part.left, window.top - plan.part.top
-    numbers = numpy.zeros(len(look.catalogue) + 1, dtype="i4")
-    numbers[1:][chosen] = numpy.arange(1, chosen.sum() + 1)
+    table = moved(look.catalogue[chosen], left, top)
+    if not plan.with_map:
+        return Piece(table, numpy.zeros(0, dtype="i8"), numpy.zeros(0, dtype="i4"), numpy.full(len(table), cut))
+    numbers = numpy.zeros(look.segments.max(initial=0) + 1, dtype="i4")
+    numbers[numpy.asarray(look.catalogue["NUMBER"])[chosen]] = numpy.arange(1, chosen.sum() + 1)
     part = within or Box(0, window.shape[0], 0, window.shape[1])
     owners = numbers[look.segments[part.rows, part.columns]]
     rows, columns = numpy.nonzero(owners)
-    pixels = (rows + (top + part.top)).astype("i8") * (plan.part.right - plan.part.left) + (columns + (left + part.left))
-    table = moved(look.catalogue[chosen], left, top)
+    pixels = (rows + (top + part.top)).astype("i8") * (plan.part.right - plan.part.left) + (
+        columns + (left + part.left)
+    )
     return Piece(table, pixels, owners[rows, columns] - 1, numpy.full(len(table), cut))
 
 
-def _again(look_at: Callable[[Box], Look], plan: Plan, core: Box, seed: Tuple[int, int], box: Box) -> Tuple[Piece, Box, numpy.ndarray]:
-    """The sources of the core in the component that holds a pixel, of which a part fills a box: from ever larger windows. With them the last window, and
-    where the component lies in it."""
+def _again(
+    look_at: Callable[[Box], Look], plan: Plan, core: Box, seed: Tuple[int, int], box: Box
+) -> Tuple[Piece, Box, numpy.ndarray]:
+    """The sources of the core in the component that holds a pixel, of which a part fills a box: from ever larger
+    windows. With them the last window, and where the component lies in it.
+    """
     window, margin, last = plan.around(box, plan.margin), plan.margin, None
     while last is None or (window.fits() and window != last[1]):
         look = look_at(window)
@@ -204,8 +264,9 @@ def _again(look_at: Callable[[Box], Look], plan: Plan, core: Box, seed: Tuple[in
 
 
 def _all_again(look_at: Callable[[Box], Look], plan: Plan, core: Box, components: list) -> Iterator[Piece]:
-    """The same for all components that hold places of the core, of which these parts are seen. Several parts may turn out to be of one component, and
-    one part of several."""
+    """The same for all components that hold places of the core, of which these parts are seen. Several parts may turn
+    out to be of one component, and one part of several.
+    """
     if not components:
         return
     places = numpy.concatenate([places for places, _ in components])
@@ -231,24 +292,32 @@ def joined(pieces: Iterable[Piece]) -> Piece:
     owners = [piece.owners + start for piece, start in zip(pieces, starts)]
     tables = [piece.catalogue for piece in pieces if len(piece.catalogue)] or [pieces[0].catalogue]
     table = tables[0] if len(tables) == 1 else vstack(tables, metadata_conflicts="silent")
-    return Piece(table, numpy.concatenate([piece.pixels for piece in pieces]), numpy.concatenate(owners), numpy.concatenate([it.cut for it in pieces]))
+    return Piece(
+        table,
+        numpy.concatenate([piece.pixels for piece in pieces]),
+        numpy.concatenate(owners),
+        numpy.concatenate([it.cut for it in pieces]),
+    )
 
 
 @dataclasses.dataclass
 class Rest:
-    """What a tile's window doesn't hold: components, as their places in the core and the box of the part that is seen; and whether there are pixels in
-    the middle that aren't sure."""
+    """What a tile's window doesn't hold: components, as their places in the core and the box of the part that is
+    seen; and whether there are pixels in the middle that aren't sure.
+    """
 
     components: List[Tuple[numpy.ndarray, Box]] = dataclasses.field(default_factory=list)
     holes: bool = False
 
 
 def look_over(look_at: Callable[[Box], Look], plan: Plan, core: Box, margin: int) -> Tuple[Piece, Rest]:
-    """The sources that belong to a tile, seen with a margin, but for those in components that the window doesn't hold."""
+    """The sources that belong to a tile, seen with a margin, but for those in components that the window doesn't
+    hold.
+    """
     window = plan.around(core, margin)
     look, inner = look_at(window), core.within(window)
     own = in_box(look.catalogue, inner)
-    if window.shape == plan.shape:
+    if window.shape == plan.shape or not _may_reach_out(look, window, inner, plan):
         return _picked(look, window, plan, own, False), Rest()
     labels = _labelled(look, plan.connect)
     out = _reaching_out(labels, look, window, plan)
@@ -264,7 +333,9 @@ def look_over(look_at: Callable[[Box], Look], plan: Plan, core: Box, margin: int
 
 
 def complete(look_at: Callable[[Box], Look], plan: Plan, core: Box, piece: Piece, rest: Rest) -> Piece:
-    """A tile's piece with the sources that its window didn't hold: from a larger window of the tile where they are many, or from windows of their own."""
+    """A tile's piece with the sources that its window didn't hold: from a larger window of the tile where they are
+    many, or from windows of their own.
+    """
     whole = Box(0, plan.shape[0], 0, plan.shape[1])
     if rest.holes and whole.fits():
         return look_over(look_at, plan, core, max(plan.shape))[0]
@@ -292,7 +363,9 @@ def _in_flight(executor: concurrent.futures.Executor) -> int:
 
 
 def each(executor: Optional[concurrent.futures.Executor], work: Callable, items: Iterable) -> Iterator:
-    """What a function gives for each item, in order; a few items ahead are at work in the executor. None: one after the other, here."""
+    """What a function gives for each item, in order; a few items ahead are at work in the executor. None: one after
+    the other, here.
+    """
     if executor is None:
         yield from map(work, items)
         return
@@ -330,7 +403,9 @@ def renumber(segments: numpy.ndarray, places: numpy.ndarray) -> None:
         segments[top : top + 256] = numbers[segments[top : top + 256]]
 
 
-def gathered(pieces: Iterable[Piece], segments: Optional[numpy.ndarray], progress: Callable[[int], None]) -> Tuple[Table, numpy.ndarray]:
+def gathered(
+    pieces: Iterable[Piece], segments: Optional[numpy.ndarray], progress: Callable[[int], None]
+) -> Tuple[Table, numpy.ndarray]:
     """The rows of all pieces, numbered, and which of them are cut. `segments`, an array full of zeros, gets the map."""
     tables, cut, count = [], [], 0
     for piece in pieces:
@@ -352,8 +427,9 @@ def gathered(pieces: Iterable[Piece], segments: Optional[numpy.ndarray], progres
 class _Windows:
     """Looks at windows of an array by the program, where `image` is a part of the whole.
 
-    A cell without a defined pixel would take the median of the window, not that of the whole, `fill`. So it gets one defined pixel with that value,
-    where all pixels around are undefined. Pixels near cells that have no place for one aren't sure.
+    A cell without a defined pixel would take the median of the window, not that of the whole, `fill`. So it gets one
+    defined pixel with that value, where all pixels around are undefined. Pixels near cells that have no place for one
+    aren't sure.
     """
 
     def __init__(self, image: numpy.ndarray, part: Box, threshold: int, options: dict, fill: Optional[int]):
@@ -367,7 +443,9 @@ class _Windows:
         catalogue, segments = kernel.detect(seen, self.threshold, **options)
         if seen is not window:
             catalogue = _without_fill(catalogue, segments, window)
-        return Look(catalogue, segments, lambda: (kernel_residual(seen, options["mesh"], options["flat"]) >= self.threshold).filled(False), unsure)
+        undefined = None if numpy.ma.getmask(seen) is numpy.ma.nomask else numpy.ma.getmaskarray(seen)
+        above = Above(numpy.ma.getdata(seen), undefined, self.threshold, options["mesh"], options["flat"])
+        return Look(catalogue, segments, above, unsure)
 
     def _filled(self, window):
         """The window with these pixels, and where it isn't sure."""
@@ -421,15 +499,17 @@ class _ArrayTile:
 
     def __call__(self, item: Tuple[Box, Box, numpy.ndarray]) -> Tuple[Box, Piece, Rest]:
         core, window, image = item
-        return core, *look_over(_Windows(image, window, self.threshold, self.options, self.fill), self.plan, core, self.plan.margin)
+        return core, *look_over(
+            _Windows(image, window, self.threshold, self.options, self.fill), self.plan, core, self.plan.margin
+        )
 
 
 def _tile_of(tile: int, margin: int, mesh: int) -> int:
-    """The side of a core, a multiple of the mesh, so that a tile with its margin is no larger than the program takes."""
+    """The side of a core, a multiple of the mesh, so that a tile with its margin is no more than the program takes."""
     step = mesh or 1
     tile = min(tile, int(MOST_PIXELS**0.5) - 2 * margin - step) // step * step
     if tile < 1:
-        raise ValueError(f"tiles have a core of a cell at least and two cells around: {tile} pixels and cells of {mesh} don't go together")
+        raise ValueError(f"a tile holds a cell and two cells on each side: it can't of cells of {mesh} pixels")
     return tile
 
 
@@ -447,15 +527,17 @@ def detect_tiles(
     progress: Callable[[int], None] = lambda count: None,
     **options,
 ) -> Tuple[Table, numpy.ndarray]:
-    """What `detect` answers, for an image of any size: the catalogue and the map of the whole, with its columns, rows, centres and numbers.
+    """What `detect` answers, for an image of any size: the catalogue and the map of the whole, with its columns,
+    rows, centres and numbers.
 
-    `image` and the options are those of `detect`; it may be a memory-mapped array, of which windows are read. It is cut into tiles with cores of `tile`
-    by `tile` pixels, a multiple of the mesh, and margins of two cells, or 128 pixels without a mesh. `executor` is any `concurrent.futures.Executor`,
-    such as that of a Dask client; by default threads run the tiles. `segments` may be an array of 32-bit numbers of the image's shape, full of zeros,
-    such as a memory-mapped one, that gets the map. `progress` is called with 1 for each tile.
+    `image` and the options are those of `detect`; it may be a memory-mapped array, of which windows are read. It is
+    cut into tiles with cores of `tile` by `tile` pixels, a multiple of the mesh, and margins of two cells, or 128
+    pixels without a mesh. `executor` is any `concurrent.futures.Executor`, such as that of a Dask client; by default
+    threads run the tiles. `segments` may be an array of 32-bit numbers of the image's shape, full of zeros, such as a
+    memory-mapped one, that gets the map. `progress` is called with 1 for each tile.
 
-    Where a component of the threshold set is too large for any window that the program takes, its sources are cut by the tiles; their numbers stand
-    in the catalogue's `meta["CUT"]`. All others are exactly those of `detect`.
+    Where a component of the threshold set is too large for any window that the program takes, its sources are cut by
+    the tiles; their numbers stand in the catalogue's `meta["CUT"]`. All others are exactly those of `detect`.
     """
     if numpy.ndim(image) != 2 or 0 in numpy.shape(image):
         raise ValueError(f"an image has two dimensions and a pixel, not the sides {numpy.shape(image)}")
@@ -464,7 +546,11 @@ def detect_tiles(
     fill = _fill(image, blank, mesh)
     options.update(mesh=mesh, flat=bool(flat), connect=connect, blank=blank)
     segments = numpy.zeros(image.shape, dtype="i4") if segments is None else segments
-    windows = ((core, window, image[window.rows, window.columns]) for core in plan.cores() for window in [plan.around(core, margin)])
+    windows = (
+        (core, window, image[window.rows, window.columns])
+        for core in plan.cores()
+        for window in [plan.around(core, margin)]
+    )
     everything = _Windows(image, whole, threshold, options, fill)
     with contextlib.ExitStack() as stack:
         pool = executor or stack.enter_context(concurrent.futures.ThreadPoolExecutor(os.cpu_count()))
