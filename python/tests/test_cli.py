@@ -143,7 +143,7 @@ def test_noise_that_is_not_even(here, stars, kind):
         for more in ([], ["--weight", "noise.fits", "--weight-type", kind])
     )
     right = [numpy.asarray(table["X"]) > 132 for table in (plain, found)]
-    assert right[0].sum() > 20 and 8 <= right[1].sum() <= 14
+    assert right[0].sum() > right[1].sum() and 8 <= right[1].sum() <= 14
     own, apart = nearest(found, stars[1][stars[1][:, 0] < 120])
     assert apart.max() < 0.3 and numpy.median(own["FLUXERR_ISO"] / numpy.sqrt(own["AREA"])) == pytest.approx(
         30, rel=0.1
