@@ -147,9 +147,9 @@ def parser() -> argparse.ArgumentParser:
     how.add_argument(
         "--workers",
         type=_whole(1, MOST_WORKERS),
-        default=1,
+        default=min(4, os.cpu_count() or 1),
         metavar="N",
-        help="images and tiles at work at once (default: 1)",
+        help="images and tiles at work at once; 1 takes the least memory (default: as many as processors, at most 4)",
     )
     return made
 
@@ -204,15 +204,14 @@ def _field(plane: images.Plane, given: argparse.Namespace) -> detection.Field:
         local=given.rms == "local",
         gain=given.gain or _from_header(measured, "GAIN"),
         saturation=given.saturation if given.saturation is not None else _from_header(measured, "SATURATE"),
-        workers=given.workers,
+        workers=1 if beside or len(given.images) > 1 else given.workers,
     )
     return detection.Field(plane, settings, **others)
 
 
 def _task(path: str, given: argparse.Namespace) -> Task:
-    planes = (
-        images.all_opened(path, given.plane) if given.hdu == "all" else [images.opened(path, given.hdu, given.plane)]
-    )
+    every = given.hdu == "all"
+    planes = images.all_opened(path, given.plane) if every else [images.opened(path, given.hdu, given.plane)]
     return Task(path, given.output or _default_output(path), [_field(plane, given) for plane in planes])
 
 
@@ -395,6 +394,7 @@ def told(name: str, work: Callable, words: Optional[List[str]]) -> int:
 def main(words: Optional[List[str]] = None) -> int:
     """The command `maxcat`."""
     warnings.simplefilter("ignore", AstropyWarning)
+    warnings.simplefilter("ignore", RuntimeWarning)
     warnings.showwarning = lambda message, *rest, **more: print(
         f"maxcat: {' '.join(str(message).split())}", file=sys.stderr
     )
