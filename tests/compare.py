@@ -231,7 +231,11 @@ def damaged_words(rng, words):
 
 
 def random_catalogue(rng):
-    """What detect writes of a small image, sometimes with other rows, sometimes damaged."""
+    """What detect writes of a small image, or a file of that form with other rows, sometimes damaged."""
+    if rng.random() < 0.3:
+        words = ["detect", "--threshold", "2", "--connect", "8", "--contrast", "300"]
+        found = model.answer(words, image_hdu(rng, True))
+        return found.output if found.status == 0 else b""
     rows = [
         [number, *(rng.choice([0, 1, 2, rng.randint(-(2**31), 2**31 - 1)]) for _ in range(16))]
         for number in range(1, rng.randint(1, 5))
