@@ -1,12 +1,14 @@
-"""Measures what docs/GUIDE.md says, on synthetic fields whose sources are known.
+"""Measures what docs/GUIDE.md says of the program and of the package around it, on synthetic fields whose sources are
+known.
 
-usage: /usr/bin/python3 bench/guide.py MAXDETECT [--check]      (MAXDETECT is the built program; it takes a minute or two)
+usage: /usr/bin/python3 bench/guide.py MAXDETECT [--check]      (MAXDETECT is the built program; it takes some minutes)
 
 With --check it then compares the guide's tables with what it printed, and ends with status 1 where they differ.
 
-It wants astropy and numpy (Debian: python3-astropy); beside them it measures SEP, the library form of Source Extractor, where it is installed
-(Debian: python3-sep). All fields come from fixed seeds. A field's sky is 900 electrons a pixel, so its noise is 30; stars have a Moffat profile
-of beta 3 whose full width at half its height is 3 pixels; magnitudes are 30 - 2.5 log10(electrons).
+It wants astropy and numpy (Debian: python3-astropy); beside them it measures SEP, the library form of Source
+Extractor, where it is installed (Debian: python3-sep). All fields come from fixed seeds. A field's sky is 900
+electrons a pixel, so its noise is 30; stars have a Moffat profile of beta 3 whose full width at half its height is 3
+pixels; magnitudes are 30 - 2.5 log10(electrons).
 """
 import math
 import os
@@ -16,9 +18,9 @@ import sys
 import numpy
 
 TOP = pathlib.Path(__file__).resolve().parent.parent
-sys.path[:0] = [str(TOP / "python"), str(TOP / "examples")]
+sys.path.insert(0, str(TOP / "python"))
 import maxdetect  # noqa: E402
-import prepare  # noqa: E402
+from maxdetect import scaling  # noqa: E402
 
 try:
     import sep
@@ -45,7 +47,9 @@ def add_star(image, x, y, flux):
     left, top = max(0, int(x) - reach), max(0, int(y) - reach)
     part = image[top : int(y) + reach + 1, left : int(x) + reach + 1]
     rows, columns = numpy.mgrid[top : top + part.shape[0], left : left + part.shape[1]]
-    part += flux * (BETA - 1) / (math.pi * CORE**2) * (1 + ((columns - x) ** 2 + (rows - y) ** 2) / CORE**2) ** -BETA
+    part += (
+        flux * (BETA - 1) / (math.pi * CORE**2) * (1 + ((columns - x) ** 2 + (rows - y) ** 2) / CORE**2) ** -BETA
+    )
 
 
 def add_galaxy(image, x, y, flux, radius, axis_ratio, angle):
@@ -141,14 +145,14 @@ def by_maxdetect(sigmas, **options):
 
 
 def by_maxdetect_smoothed(sigmas, **options):
-    """The same behind examples/prepare.py --smooth."""
+    """The same with the image smoothed and scaled as `maxcat --smooth` does it."""
 
     def run(image, mask=None):
         values = image.astype("f8")
         if mask is not None:
             values[mask] = numpy.nan
-        numbers, _, scale = prepare.prepared(values, smooth=True)
-        table, _ = maxdetect.detect(numbers, math.ceil(sigmas * prepare.SIGMA), blank=prepare.BLANK, **{"mesh": 64, **options})
+        numbers, _, scale = scaling.prepared(values, smooth=True)
+        table, _ = maxdetect.detect(numbers, scaling.threshold(sigmas), **{"mesh": 64, **options})
         return centres(table), isophotal(table) / scale, table
 
     return run
@@ -173,8 +177,12 @@ def ways():
     yield "`--connect 8 --min-area 5`, 2.25 sigma", by_maxdetect(2.25, connect=8, min_area=5)
     yield "`--min-area 5`, 2.25 sigma (connectivity 4)", by_maxdetect(2.25, min_area=5)
     yield "`--connect 8 --min-area 3`, 3 sigma", by_maxdetect(3, connect=8, min_area=3)
-    yield "`--connect 8 --min-area 3 --min-flux` 10 sigma, 1.5 sigma", by_maxdetect(1.5, connect=8, min_area=3, min_flux=10 * SIGMA)
-    yield "the same without `--mesh` (a flat sky)", by_maxdetect(1.5, connect=8, min_area=3, min_flux=10 * SIGMA, mesh=0)
+    yield "`--connect 8 --min-area 3 --min-flux` 10 sigma, 1.5 sigma", by_maxdetect(
+        1.5, connect=8, min_area=3, min_flux=10 * SIGMA
+    )
+    yield "the same without `--mesh` (a flat sky)", by_maxdetect(
+        1.5, connect=8, min_area=3, min_flux=10 * SIGMA, mesh=0
+    )
     yield "smoothed, `--connect 8 --min-area 5`, 1.375 sigma", by_maxdetect_smoothed(1.375, connect=8, min_area=5)
     if sep:
         yield "SEP's defaults: its kernel, 1.5 sigma, 5 pixels", by_sep(1.5)
@@ -190,7 +198,9 @@ def distances(true, found):
 
 
 def matches(true, found, near=NEAR):
-    """For each true place the number of the detection that is its own, or -1: closest pairs first, each detection once."""
+    """For each true place the number of the detection that is its own, or -1: closest pairs first, each detection
+    once.
+    """
     own = numpy.full(len(true), -1)
     taken = numpy.zeros(len(found), dtype=bool)
     apart = distances(true, found)
@@ -217,15 +227,20 @@ def table(title, heads, rows):
         PRINTED.append(row)
 
 
+# Sections of the guide with tables of words, or with the figures of bench/bands.py.
+NOT_PRINTED = ("## maxcat", "## Columns", "## Two bands")
+
+
 def differing_rows():
-    """Rows of the guide's tables whose figures weren't printed. The first cell, which says what a row is about, may be worded otherwise. The figures of
-    two bands are those of bench/bands.py."""
+    """Rows of the guide's tables whose figures weren't printed. The first cell, which says what a row is about, may be
+    worded otherwise.
+    """
     printed = {tuple(row[1:]) for row in PRINTED}
     section = ""
     for line in (TOP / "docs" / "GUIDE.md").read_text(encoding="utf-8").splitlines():
         section = line if line.startswith("## ") else section
-        cells = [cell.strip() for cell in line.strip("|").split("|")]
-        if section != "## Two bands" and line.startswith("|") and set(line) - set("|-") and tuple(cells[1:]) not in printed:
+        cells = tuple(cell.strip() for cell in line.strip("|").split("|")[1:])
+        if line.startswith("|") and set(line) - set("|-") and section not in NOT_PRINTED and cells not in printed:
             yield line
 
 
@@ -266,16 +281,25 @@ def option_rows():
             found = run(image)[0]
             own = matches(true, found, 3.0)
             disc_found.append(numpy.mean(own >= 0))
-            pieces.append((numpy.sum((distances(true, found) < 3 * radii[:, None]).any(0)) - numpy.sum(own >= 0)) / len(true))
+            pieces.append(
+                (numpy.sum((distances(true, found) < 3 * radii[:, None]).any(0)) - numpy.sum(own >= 0)) / len(true)
+            )
         in_crowd = [percent(numpy.mean(crowd_found)), few(numpy.mean(crowd_false))]
-        yield [label, few(false), f"{21 + 4 * seen:.2f}", *in_crowd, percent(numpy.mean(disc_found)), f"{numpy.mean(pieces):.2f}"]
+        yield [
+            label,
+            few(false),
+            f"{21 + 4 * seen:.2f}",
+            *in_crowd,
+            percent(numpy.mean(disc_found)),
+            f"{numpy.mean(pieces):.2f}",
+        ]
 
 
 PAIRS = [(4, 0), (4, 1), (5, 1), (6, 1), (6, 2), (8, 2)]
 
 
 def smoothing_rows():
-    """Thresholds behind prepare.py --smooth, in sigmas of the noise before smoothing."""
+    """Thresholds for smoothed images, in sigmas of the noise before smoothing."""
     empty, stars = empty_fields(), [sparse(rng) for rng in seeds(20, 4)]
     for sigmas in (1.125, 1.25, 1.375, 1.5):
         run = by_maxdetect_smoothed(sigmas, connect=8, min_area=5)
@@ -298,7 +322,7 @@ def pair_rows():
 
 
 def noise_rows():
-    """The noise that the residual tells."""
+    """The noise that `maxdetect.noise` tells."""
     fields = {
         "empty": exposed(numpy.zeros((SIDE, SIDE)) + SKY, numpy.random.default_rng(1)),
         "sparse": sparse(numpy.random.default_rng(2))[0],
@@ -309,8 +333,7 @@ def noise_rows():
     for label, image in fields.items():
         cells = []
         for mesh in (32, 64, 128):
-            residual = maxdetect.filter(image, "direct", mesh=mesh)
-            cells.append(f"{1.4826 * numpy.median(numpy.abs(residual)):.1f}")
+            cells.append(f"{maxdetect.noise(image, mesh):.1f}")
         yield [label, *cells]
 
 
@@ -318,7 +341,11 @@ def gradient(rng):
     """Stars over a sky that rises by half from left to right."""
     stars = grid(32, rng)
     magnitudes = rng.uniform(21, 25, len(stars))
-    return field(stars, electrons(magnitudes), rng, SKY * (1 + numpy.linspace(0, 0.5, SIDE)[None, :])), stars, magnitudes
+    return (
+        field(stars, electrons(magnitudes), rng, SKY * (1 + numpy.linspace(0, 0.5, SIDE)[None, :])),
+        stars,
+        magnitudes,
+    )
 
 
 def gradient_rows():
@@ -367,13 +394,19 @@ def flux_rows():
                     shares.setdefault((int(magnitudes[star]), "FLUX"), []).append(rows["FLUX"][row] / light)
                 shares.setdefault((int(magnitudes[star]), name), []).append(flux[row] / light)
     for magnitude in range(16, 23):
-        cells = [percent(numpy.median(shares[magnitude, name])) if (magnitude, name) in shares else "" for name in ("FLUX", *runs)]
+        cells = [
+            percent(numpy.median(shares[magnitude, name])) if (magnitude, name) in shares else ""
+            for name in ("FLUX", *runs)
+        ]
         yield [f"{magnitude} to {magnitude + 1}", *cells]
 
 
 def centre_rows():
     """Root mean square distances of centres from the truth, in thousandths of a pixel, at one threshold."""
-    runs = {"maxdetect": by_maxdetect(2.25, connect=8, min_area=5), "smoothed": by_maxdetect_smoothed(2.25, connect=8, min_area=5)}
+    runs = {
+        "maxdetect": by_maxdetect(2.25, connect=8, min_area=5),
+        "smoothed": by_maxdetect_smoothed(2.25, connect=8, min_area=5),
+    }
     if sep:
         runs["SEP"] = by_sep(2.25, kernel=False)
     offsets = {}
@@ -383,14 +416,21 @@ def centre_rows():
             found = run(image)[0]
             own = matches(true, found)
             for star in numpy.flatnonzero(own >= 0):
-                offsets.setdefault((int(magnitudes[star] // 2) * 2, name), []).append(numpy.sum((found[own[star]] - true[star]) ** 2))
+                offsets.setdefault((int(magnitudes[star] // 2) * 2, name), []).append(
+                    numpy.sum((found[own[star]] - true[star]) ** 2)
+                )
     for magnitude in (16, 18, 20):
-        yield [f"{magnitude} to {magnitude + 2}", *(f"{1000 * math.sqrt(numpy.mean(offsets[magnitude, name])):.0f}" for name in runs)]
+        yield [
+            f"{magnitude} to {magnitude + 2}",
+            *(f"{1000 * math.sqrt(numpy.mean(offsets[magnitude, name])):.0f}" for name in runs),
+        ]
 
 
 def saturated_rows():
     """Bright stars whose cores are cut at 60,000, or are BLANK."""
-    runs = {f"`--connect 8 --min-area {area}`, 2.25 sigma": by_maxdetect(2.25, connect=8, min_area=area) for area in (5, 15)}
+    runs = {
+        f"`--connect 8 --min-area {area}`, 2.25 sigma": by_maxdetect(2.25, connect=8, min_area=area) for area in (5, 15)
+    }
     if sep:
         runs["SEP without a kernel, 2.25 sigma"] = by_sep(2.25, kernel=False)
         runs["SEP's defaults"] = by_sep(1.5)
@@ -421,18 +461,30 @@ def rounding_rows():
 
 
 def main():
+    # It takes the fields from here.
+    sys.modules["guide"] = sys.modules[__name__]
+    import package
+
     os.environ["MAXDETECT"] = os.fspath(pathlib.Path(sys.argv[1]).resolve())
     if not sep:
         print("SEP isn't installed (Debian: python3-sep); its rows are left out")
     empty, deep = "sources in 1024 x 1024 empty pixels", "stars: half found at"
     table(
-        "Noise: 1.4826 times the median of the residual's absolute values; true is 30, and 33.5 on the mean for the last",
+        "Noise by `maxdetect.noise`; true is 30, and 33.5 on the mean for the last",
         ["field", "mesh 32", "mesh 64", "mesh 128"],
         noise_rows(),
     )
     table(
         "Options",
-        ["options", empty, deep, "crowd to 22.5: found", "crowd: false", "galaxies: found", "pieces of a galaxy beside it"],
+        [
+            "options",
+            empty,
+            deep,
+            "crowd to 22.5: found",
+            "crowd: false",
+            "galaxies: found",
+            "pieces of a galaxy beside it",
+        ],
         option_rows(),
     )
     table("Smoothed images, `--connect 8 --min-area 5`", ["threshold in sigmas", empty, deep], smoothing_rows())
@@ -441,10 +493,16 @@ def main():
         ["options", *(f"{apart}, {fainter}" for apart, fainter in PAIRS)],
         pair_rows(),
     )
-    table("Sources by least area and contrast, at 2.25 sigma", ["min-area", "contrast", "crowd", "galaxies"], split_rows())
+    table(
+        "Sources by least area and contrast, at 2.25 sigma", ["min-area", "contrast", "crowd", "galaxies"], split_rows()
+    )
     table("A threshold of 2.25 sigma where sigma is 3", ["threshold", empty], rounding_rows())
     inside = "false, 1.5 cells from the edge"
-    table("A sky that rises by half", ["mesh", deep, "false", inside, f"flat: {deep}", "flat: false", f"flat: {inside}"], gradient_rows())
+    table(
+        "A sky that rises by half",
+        ["mesh", deep, "false", inside, f"flat: {deep}", "flat: false", f"flat: {inside}"],
+        gradient_rows(),
+    )
     table(
         "Median part of a star's light, at 2.25 sigma",
         ["magnitude", "FLUX", "FLUX + BASE * AREA", *(["SEP's flux"] if sep else [])],
@@ -460,6 +518,7 @@ def main():
         ["core", "options", "found", "pieces beside each", "median distance of centres, in thousandths of a pixel"],
         saturated_rows(),
     )
+    package.tables(table)
     if "--check" in sys.argv[2:]:
         differing = list(differing_rows()) if sep else ["the guide's tables can't be compared without SEP"]
         print("\n" + "\n".join(differing or ["the guide's tables have these figures"]))

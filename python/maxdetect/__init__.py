@@ -1,0 +1,33 @@
+"""Maxdetect: sources of astronomical images by their max-trees.
+
+`detect`, `measure`, `filter` and `tree` call the proved program for an image of whole numbers. All else is around it,
+in floating point, and outside of what is proved: `noise` and `noise_map`, `detect_tiles` for images of any size, and
+the command `maxcat`, which goes from any image to a catalogue.
+"""
+from .arrays import catalogue
+from .errors import Mistake
+from .images import save
+from .kernel import DESCRIPTIONS, FAULTS, NoProgram, Refusal, detect, filter, find_program, load, measure, read, tree
+from .noise import noise, noise_map
+from .tiles import detect_tiles
+
+__version__ = "1.0.0"
+__all__ = [
+    "DESCRIPTIONS",
+    "FAULTS",
+    "Mistake",
+    "NoProgram",
+    "Refusal",
+    "catalogue",
+    "detect",
+    "detect_tiles",
+    "filter",
+    "find_program",
+    "load",
+    "measure",
+    "noise",
+    "noise_map",
+    "read",
+    "save",
+    "tree",
+]

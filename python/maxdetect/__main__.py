@@ -1,0 +1,6 @@
+"""`python -m maxdetect` is `maxcat`."""
+import sys
+
+from .cli import main
+
+sys.exit(main())

@@ -1,0 +1,65 @@
+"""The whole way of `maxcat` for an image that is there as an array."""
+import typing
+
+import numpy
+from astropy.io import fits
+from astropy.table import Table
+
+from . import detection, tables
+
+__all__ = ["ArrayPlane", "catalogue"]
+
+
+class ArrayPlane:
+    """An array in the place of an image in a file: it is read by windows, as floating-point numbers with NaN where it
+    is masked.
+    """
+
+    def __init__(self, image: numpy.ndarray, label: str = "the image"):
+        if numpy.ndim(image) != 2 or not numpy.size(image):
+            raise ValueError(f"an image has two dimensions and a pixel, not the sides {numpy.shape(image)}")
+        self.array, self.shape, self.label = image, numpy.shape(image), label
+        self.header, self.unit = fits.Header(), None
+
+    def window(self, rows: slice, columns: slice = slice(None)) -> numpy.ndarray:
+        """The pixels of some rows and columns: 32 bits where these hold the numbers, and else 64."""
+        part = self.array[rows, columns]
+        values = numpy.ma.getdata(part)
+        small = values.dtype.itemsize <= 2 or values.dtype.kind == "f" and values.dtype.itemsize == 4
+        values = values.astype("f4" if small else "f8")
+        if numpy.ma.getmask(part) is not numpy.ma.nomask:
+            values[numpy.ma.getmaskarray(part)] = numpy.nan
+        return values
+
+
+def catalogue(
+    image: numpy.ndarray,
+    *,
+    header: typing.Optional[fits.Header] = None,
+    noise: typing.Optional[numpy.ndarray] = None,
+    rms: str = "even",
+    zeropoint: typing.Optional[float] = None,
+    executor=None,
+    program: typing.Optional[str] = None,
+    **settings,
+) -> typing.Tuple[Table, numpy.ndarray]:
+    """The catalogue that `maxcat` writes of an image, and the segmentation map.
+
+    `image` has two dimensions and numbers of any kind; it is undefined where it is NaN or masked. `header` has its
+    WCS and its BUNIT. `noise` is a map of the noise in the image's units; without one it is taken as even, or by
+    cells with `rms="local"`. The settings are `detection.Settings`'s: `sigmas`, `smooth`, `mesh`, `min_area`, `gain`,
+    `saturation`, `tile` and `workers`. Tiles run in the executor, if there is one. Raises Mistake where the image has
+    no noise.
+    """
+    if rms not in ("even", "local"):
+        raise ValueError(f"rms is even or local, not {rms}")
+    weights = None if noise is None else ArrayPlane(noise, "the noise")
+    if weights is not None and weights.shape != numpy.shape(image):
+        raise ValueError(f"the noise has the sides {weights.shape}, the image {numpy.shape(image)}")
+    plane = ArrayPlane(image)
+    field = detection.Field(
+        plane, detection.Settings(local=rms == "local", weight_type="rms", **settings), weights=weights
+    )
+    segments = numpy.zeros(plane.shape, dtype="i4")
+    table = detection.sources(field, executor, segments=segments, program=program)
+    return tables.finished(table, header, zeropoint=zeropoint), segments

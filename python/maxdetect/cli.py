@@ -1,0 +1,405 @@
+"""The command `maxcat`: from images to catalogues."""
+import argparse
+import concurrent.futures
+import contextlib
+import dataclasses
+import math
+import os
+import pathlib
+import shlex
+import sys
+import tempfile
+import warnings
+from typing import Callable, List, Optional
+
+import numpy
+from astropy.io import fits
+from astropy.table import Table, vstack
+from astropy.utils.exceptions import AstropyWarning
+
+from . import __version__, detection, images, kernel, tables
+from .errors import Mistake
+
+DESCRIPTION = """Finds the sources of an image and writes a catalogue: positions, fluxes with errors, ellipses, flags,
+and sky coordinates where the header has them.
+"""
+EPILOG = """HDUs are counted from 0, planes and pixels from 1. The sources are found by the program maxdetect, whose
+results are proved; the sky, the scaling and the photometry around it are not. Errors are one line on standard error,
+with status 2; nothing is written then.
+"""
+MOST_WORKERS = 64
+
+
+class Parser(argparse.ArgumentParser):
+    """Says what is wrong in one line."""
+
+    def error(self, message):
+        raise Mistake(f"{message} (maxcat --help tells the options)")
+
+
+def _number(least: float, strict: bool = False):
+    """A parser of finite numbers from `least` on, or above it."""
+
+    def parse(text: str) -> float:
+        value = float(text)
+        if not math.isfinite(value) or value < least or (strict and value == least):
+            raise argparse.ArgumentTypeError(
+                f"{text} isn't a number {'above' if strict else 'from'} {least:g}{'' if strict else ' on'}"
+            )
+        return value
+
+    parse.__name__ = "number"
+    return parse
+
+
+def _whole(least: int, most: int):
+    """A parser of whole numbers in a range."""
+
+    def parse(text: str) -> int:
+        if not least <= int(text) <= most:
+            raise argparse.ArgumentTypeError(f"{text} isn't a whole number from {least} to {most}")
+        return int(text)
+
+    parse.__name__ = "whole number"
+    return parse
+
+
+MESH = _whole(0, 1024)
+above_zero = _number(0, True)
+
+
+def _finite(text: str) -> float:
+    if not math.isfinite(float(text)):
+        raise argparse.ArgumentTypeError(f"{text} isn't a finite number")
+    return float(text)
+
+
+def parser() -> argparse.ArgumentParser:
+    """The command's options."""
+    made = Parser(prog="maxcat", description=DESCRIPTION, epilog=EPILOG, allow_abbrev=False)
+    made.add_argument("--version", action="version", version=f"maxcat {__version__}")
+    made.add_argument("images", metavar="IMAGE", nargs="+", help="a FITS image of any kind that astropy reads")
+    out = made.add_argument_group("what is written")
+    out.add_argument(
+        "-o",
+        "--output",
+        metavar="CATALOGUE",
+        help="FITS, CSV, ECSV or VOTable by the name's end (default: IMAGE's name with .cat.fits)",
+    )
+    out.add_argument("--map", help="the segmentation map, as FITS: for each pixel the number of its source")
+    out.add_argument("--regions", metavar="REG", help="ellipses for DS9")
+    out.add_argument("--plot", metavar="PNG", help="a picture of the image and its sources")
+    out.add_argument("--zeropoint", type=_finite, metavar="Z", help="the magnitude of a flux of 1: adds magnitudes")
+    what = made.add_argument_group("what is read")
+    what.add_argument(
+        "--hdu",
+        metavar="all|N|NAME",
+        help="the HDU with the image, or all that have one (default: the first that has one)",
+    )
+    what.add_argument("--plane", type=_whole(1, 2**31), metavar="N", help="the plane of a cube, from 1")
+    what.add_argument("--weight", metavar="FILE[:HDU]", help="a map of the noise, or of weights")
+    what.add_argument(
+        "--weight-type",
+        choices=detection.KINDS,
+        help="what it has; weights are one over the variance, up to a factor (default: weight)",
+    )
+    what.add_argument("--mask", metavar="FILE[:HDU]", help="pixels that aren't 0 there are left out")
+    what.add_argument(
+        "--measure", metavar="FILE[:HDU]", help="another image of the same pixels, in which the sources are measured"
+    )
+    what.add_argument(
+        "--gain",
+        type=above_zero,
+        help="electrons for a unit of the image, for the errors (default: the header's GAIN)",
+    )
+    what.add_argument(
+        "--saturation", type=_finite, help="pixels from this value on are flagged (default: the header's SATURATE)"
+    )
+    how = made.add_argument_group("how sources are found")
+    how.add_argument(
+        "--sigmas",
+        type=above_zero,
+        metavar="S",
+        help="the threshold, in deviations of the noise (default: 2.25; 1.375 with --smooth)",
+    )
+    how.add_argument(
+        "--smooth",
+        action="store_true",
+        help="smooth by 1 2 1 / 2 4 2 / 1 2 1 before: shows fainter sources, and fewer close pairs",
+    )
+    how.add_argument(
+        "--mesh",
+        type=MESH,
+        default=64,
+        metavar="SIDE",
+        help="side of the background's cells in pixels; 0: one level (default: 64)",
+    )
+    how.add_argument(
+        "--min-area",
+        type=_whole(1, 2**24),
+        default=5,
+        metavar="N",
+        help="the least area of a source in pixels (default: 5)",
+    )
+    how.add_argument(
+        "--rms", choices=("even", "local"), default="even", help="local: the noise is taken by cells (default: even)"
+    )
+    how.add_argument(
+        "--workers",
+        type=_whole(1, MOST_WORKERS),
+        default=1,
+        metavar="N",
+        help="images and tiles at work at once (default: 1)",
+    )
+    return made
+
+
+# ---- what is asked for
+
+
+@dataclasses.dataclass
+class Task:
+    """An image file, its fields, and where its catalogue goes."""
+
+    path: str
+    output: str
+    fields: List[detection.Field]
+
+
+def _default_output(path: str) -> str:
+    """IMAGE.cat.fits for IMAGE.fits, IMAGE.fits.gz and the like."""
+    base = pathlib.Path(path)
+    while base.suffix.lower() in (".gz", ".fz", ".bz2", ".fits", ".fit", ".fts"):
+        base = base.with_suffix("")
+    return os.fspath(base) + ".cat.fits"
+
+
+def _from_header(plane: images.Plane, keyword: str) -> Optional[float]:
+    """A positive number that the header has, or None."""
+    value = plane.header.get(keyword)
+    return (
+        float(value)
+        if isinstance(value, (int, float)) and not isinstance(value, bool) and math.isfinite(value) and value > 0
+        else None
+    )
+
+
+def _field(plane: images.Plane, given: argparse.Namespace) -> detection.Field:
+    """An image with what belongs to it."""
+    beside = given.hdu == "all"
+    others = {
+        name: images.matching(text, plane, None, beside)
+        for name, text in (("mask", given.mask), ("weights", given.weight))
+        if text
+    }
+    if given.measure:
+        others["values"] = images.matching(given.measure, plane, None, beside)
+    measured = others.get("values", plane)
+    settings = detection.Settings(
+        sigmas=given.sigmas,
+        smooth=given.smooth,
+        mesh=given.mesh,
+        min_area=given.min_area,
+        weight_type=given.weight_type or "weight",
+        local=given.rms == "local",
+        gain=given.gain or _from_header(measured, "GAIN"),
+        saturation=given.saturation if given.saturation is not None else _from_header(measured, "SATURATE"),
+        workers=given.workers,
+    )
+    return detection.Field(plane, settings, **others)
+
+
+def _task(path: str, given: argparse.Namespace) -> Task:
+    planes = (
+        images.all_opened(path, given.plane) if given.hdu == "all" else [images.opened(path, given.hdu, given.plane)]
+    )
+    return Task(path, given.output or _default_output(path), [_field(plane, given) for plane in planes])
+
+
+def _check_names(given: argparse.Namespace, tasks: List[Task]) -> None:
+    """No output is an input or another output, and each can be written."""
+    inputs = list(given.images) + [images.split_name(it)[0] for it in (given.weight, given.mask, given.measure) if it]
+    outputs = [task.output for task in tasks] + [it for it in (given.map, given.regions, given.plot) if it]
+    for number, output in enumerate(outputs):
+        if any(images.same(output, it) for it in inputs):
+            raise Mistake(f"{output} is read, so it can't be written")
+        if any(images.same(output, it) for it in outputs[:number]):
+            raise Mistake(f"{output} is to be written twice")
+        folder = os.path.dirname(os.path.realpath(output))
+        if os.path.isdir(output) or not os.path.isdir(folder) or not os.access(folder, os.W_OK):
+            raise Mistake(f"{output} can't be written")
+    for task in tasks:
+        tables.format_of(task.output)
+
+
+def _check(given: argparse.Namespace) -> None:
+    """Options that don't go together."""
+    if len(given.images) > 1:
+        for name in ("output", "map", "regions", "plot"):
+            if getattr(given, name):
+                raise Mistake(f"--{name} is for one image, not {len(given.images)}")
+    if given.plot and given.hdu == "all":
+        raise Mistake("--plot is for one HDU; name it with --hdu")
+    if given.plot and pathlib.Path(given.plot).suffix.lower() != ".png":
+        raise Mistake(f"{given.plot}: a picture's name ends in .png")
+    if given.weight_type and not given.weight:
+        raise Mistake("--weight-type wants a --weight")
+    if given.weight and given.rms == "local":
+        raise Mistake("--rms local and --weight exclude each other")
+
+
+# ---- the work
+
+
+class _Progress:
+    """A bar on a terminal, and nothing elsewhere."""
+
+    def __init__(self, count: int):
+        self._bar = None
+        if sys.stderr.isatty():
+            from tqdm import tqdm
+
+            self._bar = tqdm(total=count, unit="tile", leave=False)
+
+    def __call__(self, count: int) -> None:
+        if self._bar is not None:
+            self._bar.update(count)
+
+    def close(self) -> None:
+        if self._bar is not None:
+            self._bar.close()
+
+
+@contextlib.contextmanager
+def _scratch_map(shape):
+    """A map in a file of its own that goes away."""
+    with tempfile.TemporaryFile() as file:
+        file.truncate(4 * shape[0] * shape[1])
+        yield numpy.memmap(file, "i4", "r+", shape=shape)
+
+
+@contextlib.contextmanager
+def _maps(task: Task, given: argparse.Namespace):
+    """For each field the map that is to be filled, or None; where a map is asked for its file appears at the end."""
+    if not given.map:
+        with contextlib.ExitStack() as stack:
+            yield [stack.enter_context(_scratch_map(field.shape)) if given.plot else None for field in task.fields]
+        return
+    with tables.whole_file(given.map) as name:
+        headers = _map_headers(task)
+        with open(name, "wb") as file:
+            places = []
+            for header, field in zip(headers, task.fields):
+                file.write(header)
+                places.append(file.tell())
+                size = 4 * field.shape[0] * field.shape[1]
+                file.seek(-(-size // 2880) * 2880, os.SEEK_CUR)
+            file.truncate()
+        yield [numpy.memmap(name, ">i4", "r+", place, field.shape) for place, field in zip(places, task.fields)]
+
+
+def _map_headers(task: Task) -> List[bytes]:
+    """The headers of the maps' HDUs: the first is the primary where it is the only one."""
+    headers = []
+    for field in task.fields:
+        hdu = tables.map_hdu(
+            numpy.zeros((1, 1), dtype="i4"), field.plane.header, field.plane.name or f"HDU{field.plane.number}"
+        )
+        if len(task.fields) == 1:
+            hdu = fits.PrimaryHDU(hdu.data, hdu.header)
+        hdu.header["NAXIS1"], hdu.header["NAXIS2"] = field.shape[1], field.shape[0]
+        headers.append(hdu.header.tostring().encode("ascii"))
+    return (
+        headers
+        if len(headers) == 1
+        else [fits.PrimaryHDU().header.tostring().encode("ascii") + headers[0], *headers[1:]]
+    )
+
+
+def _finished(table: Table, field: detection.Field, given: argparse.Namespace) -> Table:
+    plane = field.plane
+    extension = (plane.name or str(plane.number)) if given.hdu == "all" else None
+    return tables.finished(
+        table, plane.header, zeropoint=given.zeropoint, unit=(field.values or plane).unit, extension=extension
+    )
+
+
+def _done(task: Task, given: argparse.Namespace, tiles, progress) -> str:
+    """Finds and writes a file's sources, and says so."""
+    with _maps(task, given) as maps:
+        found = []
+        for field, segments in zip(task.fields, maps):
+            table = detection.sources(field, tiles, segments=segments, progress=progress)
+            found.append(_finished(table, field, given))
+        table = found[0] if len(found) == 1 else vstack(found, metadata_conflicts="silent")
+        table.meta["VERSION"] = f"maxcat {__version__}"
+        if given.plot:
+            from . import pictures
+
+            pictures.draw(task.fields[0].image(slice(None)), maps[0], table, given.plot)
+        if given.regions:
+            tables.regions(table, given.regions)
+        tables.write(table, task.output)
+    return f"{len(table)} sources in {shlex.quote(task.output)}"
+
+
+def _count(tasks: List[Task]) -> int:
+    """How many tiles there are."""
+    return sum(math.prod(-(-side // detection.TILE) for side in field.shape) for task in tasks for field in task.fields)
+
+
+def run(words: Optional[List[str]] = None) -> None:
+    """Does what the words say. Raises Mistake."""
+    given = parser().parse_args(words)
+    _check(given)
+    tasks = [_task(path, given) for path in given.images]
+    _check_names(given, tasks)
+    kernel.find_program()
+    progress = _Progress(_count(tasks))
+    try:
+        with contextlib.ExitStack() as stack:
+            pool = None
+            if given.workers > 1:
+                pool = stack.enter_context(concurrent.futures.ThreadPoolExecutor(given.workers))
+            files = (
+                stack.enter_context(concurrent.futures.ThreadPoolExecutor(given.workers))
+                if pool and len(tasks) > 1
+                else None
+            )
+            for line in detection.tiles.each(files, lambda task: _done(task, given, pool, progress), tasks):
+                print(line, flush=True)
+    finally:
+        progress.close()
+
+
+def told(name: str, work: Callable, words: Optional[List[str]]) -> int:
+    """The status of a command: 0, or 2 where a mistake is told in one line."""
+    try:
+        work(words)
+        return 0
+    except Mistake as mistake:
+        text = str(mistake)
+    except MemoryError:
+        text = "memory is wanted"
+    except BrokenPipeError:
+        os.dup2(os.open(os.devnull, os.O_WRONLY), sys.stdout.fileno())
+        return 141
+    except OSError as error:
+        text = f"{error.filename}: {error.strerror}" if error.filename else str(error)
+    except KeyboardInterrupt:
+        return 130
+    print(f"{name}: {' '.join(text.split())}", file=sys.stderr)
+    return 2
+
+
+def main(words: Optional[List[str]] = None) -> int:
+    """The command `maxcat`."""
+    warnings.simplefilter("ignore", AstropyWarning)
+    warnings.showwarning = lambda message, *rest, **more: print(
+        f"maxcat: {' '.join(str(message).split())}", file=sys.stderr
+    )
+    return told("maxcat", run, words)
+
+
+if __name__ == "__main__":
+    sys.exit(main())

@@ -1,0 +1,230 @@
+"""Images in files: what astropy reads, opened once and read by windows.
+
+HDUs are counted from 0, as astropy does, and planes of a cube from 1, as FITS counts pixels.
+"""
+import contextlib
+import os
+import pathlib
+import warnings
+from typing import Iterator, List, Optional, Tuple, Union
+
+import numpy
+from astropy.io import fits
+from astropy.utils.exceptions import AstropyWarning
+
+from .errors import Mistake
+
+Name = Union[int, str, None]
+
+
+@contextlib.contextmanager
+def _readable(path: str) -> Iterator[None]:
+    """Whatever astropy says of a file that can't be read, as one line."""
+    try:
+        yield
+    except Mistake:
+        raise
+    except OSError as error:
+        raise Mistake(f"{path}: {error.strerror or ' '.join(str(error).split()) or 'it can not be read'}") from None
+    except (
+        ValueError,
+        TypeError,
+        KeyError,
+        IndexError,
+        EOFError,
+        AttributeError,
+        RuntimeError,
+        fits.VerifyError,
+    ) as error:
+        raise Mistake(
+            f"{path}: not a FITS file that can be read ({' '.join(str(error).split()) or type(error).__name__})"
+        ) from None
+
+
+@contextlib.contextmanager
+def _opened(path: str) -> Iterator[fits.HDUList]:
+    with _readable(path), warnings.catch_warnings():
+        warnings.simplefilter("ignore", AstropyWarning)
+        with fits.open(path, memmap=False, lazy_load_hdus=True) as hdus:
+            yield hdus
+
+
+def _is_image(hdu) -> bool:
+    """It has two axes or more, and pixels."""
+    shape = hdu.shape if hdu.is_image else ()
+    return len(shape) >= 2 and 0 not in shape
+
+
+class Plane:
+    """A plane of an image in a file, as floating-point numbers.
+
+    `path`, `number` and `name` say which HDU it is, `shape` is (height, width), `header` the HDU's. It can be
+    pickled, and is then opened anew. Of an uncompressed file only the rows that are asked for are read; others are
+    held as a whole.
+    """
+
+    def __init__(self, path: str, hdu, number: int, plane: Optional[int]):
+        self.path, self.number, self.name = os.fspath(path), number, hdu.name
+        self.header, sides = hdu.header.copy(), hdu.shape
+        self.shape = tuple(sides[-2:])
+        planes = int(numpy.prod(sides[:-2], dtype=int))
+        if plane is None and planes > 1:
+            raise Mistake(f"{self.label}: it has {planes} planes; say which with --plane")
+        if not 1 <= (plane or 1) <= planes:
+            raise Mistake(f"{self.label}: it has no plane {plane}, but {planes}")
+        self._plane, self._values = (plane or 1) - 1, None
+        self._stored = self._place(hdu)
+        if self._stored and self._stored[1] + self._stored[0].itemsize * planes * self.shape[0] * self.shape[
+            1
+        ] > os.path.getsize(self.path):
+            raise Mistake(f"{self.label}: the file ends within the image")
+
+    def _place(self, hdu):
+        """Type, first byte, BSCALE, BZERO and BLANK of an image that stands in the file as it is; None for others."""
+        if isinstance(hdu, fits.CompImageHDU) or hdu._file is None or hdu._file.compression:
+            return None
+        dtype = {8: "u1", 16: ">i2", 32: ">i4", 64: ">i8", -32: ">f4", -64: ">f8"}[hdu._orig_bitpix]
+        blank = hdu._orig_blank if hdu._orig_bitpix > 0 else None
+        return numpy.dtype(dtype), hdu._data_offset, hdu._orig_bscale, hdu._orig_bzero, blank
+
+    @property
+    def label(self) -> str:
+        """How it is named in what is printed."""
+        return f"{self.path}[{self.name or self.number}]"
+
+    @property
+    def unit(self) -> Optional[str]:
+        """BUNIT, where the header has one."""
+        return str(self.header.get("BUNIT", "")).strip() or None
+
+    def __getstate__(self):
+        return {**self.__dict__, "_values": None}
+
+    def window(self, rows: slice, columns: slice = slice(None)) -> numpy.ndarray:
+        """The pixels of some rows and columns, NaN where they are undefined: 32 bits where these hold the stored
+        numbers, and else 64.
+        """
+        if self._stored:
+            return self._mapped(rows, columns)
+        if self._values is None:
+            with _opened(self.path) as hdus:
+                data = hdus[self.number].data
+                self._values = _floats(data.reshape((-1,) + self.shape)[self._plane])
+        return self._values[rows, columns].copy()
+
+    def _mapped(self, rows, columns):
+        dtype, offset, scale, zero, blank = self._stored
+        first, last, _ = rows.indices(self.shape[0])
+        offset += dtype.itemsize * self.shape[1] * (self._plane * self.shape[0] + first)
+        with _readable(self.path):
+            stored = numpy.memmap(self.path, dtype, "r", offset, (max(last - first, 0), self.shape[1]))[:, columns]
+            values = stored.astype("f4" if dtype.itemsize <= 2 or dtype == ">f4" else "f8")
+        if scale != 1:
+            values *= scale
+        if zero != 0:
+            values += zero
+        if blank is not None:
+            values[stored == blank] = numpy.nan
+        return values
+
+
+def _floats(data: numpy.ndarray) -> numpy.ndarray:
+    small = data.dtype.itemsize <= 2 or data.dtype.kind == "f" and data.dtype.itemsize == 4
+    return numpy.ascontiguousarray(data, dtype="f4" if small else "f8")
+
+
+def _number(hdus: fits.HDUList, path: str, which: Name) -> int:
+    """The number of an HDU that is named by its number or its name, or of the first one with an image."""
+    if which is None:
+        found = next((number for number, hdu in enumerate(hdus) if _is_image(hdu)), None)
+        if found is None:
+            raise Mistake(f"{path}: it has no image")
+        return found
+    try:
+        number = int(which) if str(which).lstrip("-").isdigit() else hdus.index_of(str(which))
+    except KeyError:
+        raise Mistake(f"{path}: it has no HDU {which}") from None
+    hdus.readall()
+    if not 0 <= number < len(hdus):
+        raise Mistake(f"{path}: it has no HDU {which}, but {len(hdus)} HDUs")
+    return number
+
+
+def opened(path: str, which: Name = None, plane: Optional[int] = None) -> Plane:
+    """The image of an HDU: that with this number or name, or the first that has one. Raises Mistake."""
+    with _opened(path) as hdus:
+        number = _number(hdus, path, which)
+        if not _is_image(hdus[number]):
+            raise Mistake(f"{path}: its HDU {which if which is not None else number} has no image of two axes")
+        return Plane(path, hdus[number], number, plane)
+
+
+def all_opened(path: str, plane: Optional[int] = None) -> List[Plane]:
+    """All images of a file, in its order. Raises Mistake where there is none."""
+    with _opened(path) as hdus:
+        planes = [Plane(path, hdu, number, plane) for number, hdu in enumerate(hdus) if _is_image(hdu)]
+    if not planes:
+        raise Mistake(f"{path}: it has no image")
+    return planes
+
+
+def split_name(text: str) -> Tuple[str, Name]:
+    """FILE:HDU as the two; FILE alone where a file has the whole name."""
+    path, colon, which = text.rpartition(":")
+    if not colon or not which or pathlib.Path(text).exists():
+        return text, None
+    return path, which
+
+
+def same(one: str, other: str) -> bool:
+    """Two names of one file."""
+    with contextlib.suppress(OSError):
+        return os.path.samefile(one, other)
+    return os.path.realpath(one) == os.path.realpath(other)
+
+
+def matching(text: str, like: Plane, plane: Optional[int] = None, beside: bool = False) -> Plane:
+    """The image that FILE[:HDU] names, of the same shape as another; where no HDU is named and `beside` is set, that
+    of the same number.
+    """
+    path, which = split_name(text)
+    other = opened(path, like.number if which is None and beside else which, plane)
+    if other.shape != like.shape:
+        sides = [f"{it.label} {it.shape[1]} x {it.shape[0]}" for it in (other, like)]
+        raise Mistake(f"the images differ in width or height: {sides[0]}, {sides[1]}")
+    return other
+
+
+def save(image: numpy.ndarray, path: str, header: Optional[fits.Header] = None) -> None:
+    """Writes an image as a FITS file that other programs read: whole numbers in 32 bits where they fit (BLANK where
+    they are masked), others as 32-bit floating-point numbers (NaN where they are masked). `header` gives the other
+    cards. The file appears whole or not at all.
+    """
+    from .tables import whole_file
+
+    values, undefined = numpy.ma.getdata(image), numpy.ma.getmaskarray(image)
+    cards = fits.Header() if header is None else _without_layout(header)
+    if values.dtype.kind in "iub":
+        defined = values[~undefined]
+        wide = defined.size and not -(2**31) < int(defined.min()) <= int(defined.max()) < 2**31
+        values = values.astype("i8" if wide else "i4")
+        if undefined.any():
+            cards["BLANK"] = int(numpy.iinfo(values.dtype).min)
+            values[undefined] = cards["BLANK"]
+    else:
+        values = values.astype("f4")
+        values[undefined] = numpy.nan
+    with whole_file(path) as name, warnings.catch_warnings():
+        warnings.simplefilter("ignore", AstropyWarning)
+        fits.PrimaryHDU(values, cards).writeto(name, overwrite=True, output_verify="silentfix")
+
+
+LAYOUT = "SIMPLE XTENSION BITPIX NAXIS EXTEND PCOUNT GCOUNT BSCALE BZERO BLANK CHECKSUM DATASUM EXTNAME EXTVER"
+
+
+def _without_layout(header: fits.Header) -> fits.Header:
+    """The cards that say nothing of how an image is stored."""
+    header = header.copy()
+    for keyword in LAYOUT.split() + [card for card in header if card.startswith("NAXIS")]:
+        header.remove(keyword, ignore_missing=True, remove_all=True)
+    return header

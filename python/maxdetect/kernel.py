@@ -1,0 +1,479 @@
+"""The program's calls: sources of an integer image by its max-tree, as numpy arrays and astropy tables.
+
+Each call starts the built program once; the bytes stay in memory where the system has files there. Wanted are numpy
+and astropy. The program is the one that `program=` names, else the one that the environment's MAXDETECT names, else
+`maxdetect` on the PATH, else the repository's own, which is then proved and built first where it isn't there yet.
+
+An image is a two-dimensional array of whole numbers of any integer type, row by row: `image[y, x]`, as astropy reads
+it. Pixels that are masked (a numpy masked array) or have the value `blank` are undefined: they belong to no source.
+All other values lie from -2^36 to 2^36. For an image of floating-point numbers see `maxdetect.scaling`.
+
+>>> import numpy
+>>> image = numpy.array([[1, 6, 2, 5, 1]])
+>>> catalogue, segments = detect(image, 2, contrast=300)
+>>> segments.tolist()
+[[0, 1, 0, 2, 0]]
+>>> for source in catalogue:
+...     print(source["NUMBER"], source["XFIRST"], source["BASE"], source["AREA"], source["FLUX"], source["XCEN"])
+1 2 2 1 4 2000
+2 4 2 1 3 4000
+
+`catalogue` and `segments` are those of the command `maxdetect detect --threshold 2 --contrast 300`.
+"""
+import operator
+import os
+import pathlib
+import shutil
+import subprocess
+import tempfile
+import warnings
+
+import numpy
+from astropy.io import fits
+from astropy.table import Table
+from astropy.utils.exceptions import AstropyWarning
+
+from .errors import Mistake
+
+__all__ = ["NoProgram", "Refusal", "detect", "filter", "find_program", "load", "measure", "read", "tree"]
+
+# Stands for an undefined pixel among 32-bit numbers.
+LEAST = -(2**31)
+
+# What each refusal of an input means, by its number.
+FAULTS = {
+    1: "the input doesn't begin with SIMPLE",
+    2: "the input ends within a header",
+    3: "a mandatory card is missing or can't be read",
+    4: "36,000 cards without END",
+    5: "random groups",
+    6: "an HDU with more than 2^40 data bytes",
+    7: "the file has no HDU of this number",
+    8: "the input ends within an HDU before the chosen one",
+    10: "the HDU is no image",
+    11: "the image has no pixels, or more than two axes",
+    12: "a side above 65,535 pixels, or more than 16,777,216 pixels",
+    13: "the image's BITPIX isn't read",
+    14: "BSCALE isn't 1",
+    15: "BZERO isn't a whole number within 2^32",
+    16: "BLANK isn't a whole number",
+    17: "the input ends within the image",
+    18: "a value of 64 bits lies outside -2^36 to 2^36",
+    19: "the two images differ in width or height",
+}
+
+DESCRIPTIONS = {
+    "NUMBER": "number of the source, its number in the segmentation map",
+    "LEVEL": "level of its node",
+    "BASE": "level of the node's parent",
+    "AREA": "pixels",
+    "FLUX": "sum of value less base",
+    "PEAK": "greatest value",
+    "XMIN": "least column, from 1",
+    "XMAX": "greatest column, from 1",
+    "YMIN": "least row, from 1",
+    "YMAX": "greatest row, from 1",
+    "XFIRST": "column of the least pixel, from 1",
+    "YFIRST": "row of the least pixel, from 1",
+    "XCEN": "mean column weighted by value less base, in thousandths of a pixel",
+    "YCEN": "mean row weighted by value less base, in thousandths of a pixel",
+    "XVAR": "variance of the columns, in thousandths of a square pixel",
+    "YVAR": "variance of the rows, in thousandths of a square pixel",
+    "XYCOV": "covariance of columns and rows, in thousandths of a square pixel",
+    "SEEN": "pixels with a value in the second image",
+    "MISSING": "pixels without one",
+    "VSUM": "sum of the values in the second image",
+    "VLOW": "least value there",
+    "VPEAK": "greatest value there",
+    "VMEAN": "mean of the values there, in thousandths",
+    "VBACK": "mean of the values around the source there, in thousandths",
+}
+
+
+class Refusal(Mistake):
+    """The program ended without an answer.
+
+    `status` is its exit status: 1 an option's value is out of its range, 2 the image is refused, 3 a read failed, 4 a
+    write failed, 5 memory is wanted; it is None where a signal ended the program (`name` is "killed") or what it
+    wrote is cut short ("truncated"). For an image that is refused `number` and `name` are those of its first fault,
+    as in the man page; for an option `number` is the place of the word at fault and `name` is "usage"; else `number`
+    is None. `text` says what it means.
+
+    >>> import numpy
+    >>> try:
+    ...     tree(numpy.zeros((1, 70000), dtype="u1"))
+    ... except Refusal as refusal:
+    ...     print(refusal.status, refusal.number, refusal.name)
+    2 12 ImageTooLarge
+    >>> try:
+    ...     tree(numpy.zeros((2, 2), dtype="u1"), connect=6)
+    ... except Refusal as refusal:
+    ...     print(refusal)
+    usage: connect isn't given a value that it takes
+    """
+
+    def __init__(self, status, number, name, text):
+        super().__init__(f"{name}: {text}")
+        self.status, self.number, self.name, self.text = status, number, name, text
+
+    def __reduce__(self):
+        return type(self), (self.status, self.number, self.name, self.text)
+
+
+class NoProgram(Mistake, FileNotFoundError):
+    """The program isn't where it was looked for, or can't be run."""
+
+
+def find_program(program=None):
+    """The path of the program: `program`, or where MAXDETECT, the PATH or the repository has it."""
+    named = program or os.environ.get("MAXDETECT")
+    if named:
+        return os.fspath(named)
+    found = shutil.which("maxdetect")
+    if found:
+        return found
+    top = pathlib.Path(__file__).resolve().parent.parent.parent
+    build = top / "scripts" / "build"
+    if not build.exists():
+        raise NoProgram("maxdetect isn't on the PATH; name it by program= or in the environment's MAXDETECT")
+    if subprocess.run([build], stdin=subprocess.DEVNULL, stdout=subprocess.DEVNULL, check=False).returncode != 0:
+        raise NoProgram(f"{build} didn't make the program; name one by program= or in the environment's MAXDETECT")
+    return os.fspath(top / "crates" / "maxdetect" / "out" / "maxdetect")
+
+
+def _whole(name, value):
+    """A value as a word, where it is a whole number."""
+    try:
+        return str(operator.index(value))
+    except TypeError:
+        raise TypeError(f"{name} is a whole number, not {value!r}") from None
+
+
+def _words(command, options):
+    """The words of a command: its name, then each option and its value."""
+    words = [command]
+    for name, value in options.items():
+        words += ["--" + name.replace("_", "-"), value if name == "rule" else _whole(name, value)]
+    return words
+
+
+def _refusal(words, status, note):
+    """The exception for a status and its line on standard error."""
+    if status == 1 and note.startswith("usage: word "):
+        number = int(note.split()[2])
+        option = words[number - 2] if 2 <= number <= len(words) else ""
+        text = (
+            f"{option.lstrip('-').replace('-', '_')} isn't given a value that it takes"
+            if option.startswith("--")
+            else note
+        )
+        return Refusal(status, number, "usage", text)
+    if status == 2 and note.startswith("refused: "):
+        number, name, *place = note.split()[1:]
+        text = FAULTS.get(int(number), "the input is refused")
+        return Refusal(status, int(number), name, " ".join([text, *place]))
+    if status < 0:
+        return Refusal(None, None, "killed", f"signal {-status} ended maxdetect")
+    if status in (3, 4, 5):
+        return Refusal(status, None, note, "nothing was made")
+    return Refusal(status, None, "failed", f"maxdetect ended with status {status}: {' '.join(note.split())}")
+
+
+def _in_memory():
+    """A file without a name, in memory where the system can."""
+    return os.fdopen(os.memfd_create("maxdetect"), "w+b") if hasattr(os, "memfd_create") else tempfile.TemporaryFile()
+
+
+def _run(program, words, *images):
+    """What the program writes for these words and the pieces of these images, as a file that is open for reading."""
+    path = find_program(program)
+    with _in_memory() as file, _in_memory() as output:
+        for pieces in images:
+            for piece in pieces:
+                file.write(piece)
+        file.seek(0)
+        try:
+            result = subprocess.run([path, *words], stdin=file, stdout=output, stderr=subprocess.PIPE, check=False)
+        except OSError as error:
+            raise NoProgram(f"{path} can't be run: {error.strerror}") from None
+        if result.returncode != 0:
+            raise _refusal(words, result.returncode, result.stderr.decode("utf-8", "replace").strip())
+        output.seek(0)
+        return os.fdopen(os.dup(output.fileno()), "rb")
+
+
+def _forms(low):
+    """For each size of stored numbers: how many bits they have, the least of them, and the BZERO that puts the value
+    `low` right above it.
+    """
+    for bits in (8, 16, 32):
+        least = 0 if bits == 8 else -(2 ** (bits - 1))
+        yield bits, least, min(max(low - least - 1, -(2**32)), 2**32)
+    yield 64, -(2**63), 0
+
+
+def _checked(image, blank):
+    """The values of an image, and which of its pixels are undefined (None: none is)."""
+    values, mask = numpy.ma.getdata(image), numpy.ma.getmask(image)
+    if values.ndim != 2:
+        raise ValueError(f"an image has two dimensions, not {values.ndim}")
+    if values.dtype.kind not in "iu":
+        raise TypeError(f"an image has whole numbers, not {values.dtype}; maxdetect.scaling makes some of others")
+    undefined = None if mask is numpy.ma.nomask or not mask.any() else numpy.ma.getmaskarray(image)
+    if blank is not None:
+        at_blank = values == int(_whole("blank", blank))
+        undefined = at_blank if undefined is None else undefined | at_blank
+    return values, undefined
+
+
+def masked(image, blank=None):
+    """An image of whole numbers as a masked array, the pixels with the value `blank` masked too."""
+    values, undefined = _checked(image, blank)
+    return numpy.ma.MaskedArray(values, mask=numpy.ma.nomask if undefined is None else undefined)
+
+
+def _range(values, undefined):
+    """The least and the greatest defined value, or 0 and 0."""
+    if undefined is not None:
+        values = values[~undefined]
+    low, high = (int(values.min()), int(values.max())) if values.size else (0, 0)
+    if low < -(2**36) or high > 2**36:
+        raise ValueError(f"the values from {low} to {high} lie too far from 0")
+    return low, high
+
+
+def _file(image, blank, extension=False):
+    """An image as pieces of a FITS file, or of an extension behind one: header, pixels, padding.
+
+    The stored numbers are the values less BZERO, in as few bytes as their range needs; the least stored number is
+    BLANK. In 64 bits BZERO is 0.
+    """
+    values, undefined = _checked(image, blank)
+    low, high = _range(values, undefined)
+    bits, least, zero = next(
+        form
+        for form in _forms(low)
+        if form[0] == 64 or form[1] < low - form[2] and high - form[2] < form[1] + 2 ** form[0]
+    )
+    # Values and BZERO fit 64 bits; an undefined pixel may have any value.
+    stored = (values.astype("i8") - zero if zero else values).astype("u1" if bits == 8 else f">i{bits // 8}", order="C")
+    if undefined is not None:
+        stored[undefined] = least
+    height, width = values.shape
+    cards = [
+        ("XTENSION", "IMAGE") if extension else ("SIMPLE", True),
+        ("BITPIX", bits),
+        ("NAXIS", 2),
+        ("NAXIS1", width),
+        ("NAXIS2", height),
+    ]
+    cards += [("PCOUNT", 0), ("GCOUNT", 1)] if extension else []
+    cards += [("BSCALE", 1), ("BZERO", zero), ("BLANK", least)]
+    return fits.Header(cards).tostring().encode("ascii"), stored.reshape(-1).view("u1"), bytes(-stored.nbytes % 2880)
+
+
+def _stored_file(stored):
+    """The same of 32-bit numbers as they are to be stored, the least of them for an undefined pixel."""
+    height, width = stored.shape
+    cards = [("SIMPLE", True), ("BITPIX", 32), ("NAXIS", 2), ("NAXIS1", width), ("NAXIS2", height), ("BLANK", LEAST)]
+    data = stored.astype(">i4", order="C")
+    return fits.Header(cards).tostring().encode("ascii"), data.reshape(-1).view("u1"), bytes(-data.nbytes % 2880)
+
+
+def _native(array):
+    """An array in this machine's order of bytes."""
+    return numpy.ascontiguousarray(array, dtype=array.dtype.newbyteorder("="))
+
+
+def load(file, hdu=0):
+    """The image of an HDU with its whole numbers as they stand in the file, BZERO added: a masked array where the
+    header has a BLANK.
+
+    astropy by itself makes floating-point numbers of an image with a BLANK or a BZERO.
+    """
+    with fits.open(file, memmap=False, do_not_scale_image_data=True) as hdus:
+        header, stored = hdus[hdu].header, hdus[hdu].data
+        zero, scale, blank = header.get("BZERO", 0), header.get("BSCALE", 1), header.get("BLANK")
+        if stored is None or stored.ndim != 2 or stored.dtype.kind not in "iu" or scale != 1 or zero != int(zero):
+            raise ValueError("not a two-dimensional image of whole numbers; maxdetect.scaling makes one of others")
+        values = stored.astype("i8") + int(zero)
+    return values if blank is None else numpy.ma.MaskedArray(values, mask=stored == blank)
+
+
+def read(file):
+    """The catalogue and the segmentation map of what `maxdetect detect` or `measure` wrote: a path, or a file that is
+    open for reading bytes.
+    """
+    with fits.open(file, memmap=False) as hdus:
+        rows, names = hdus["SOURCES"].data, hdus["SOURCES"].columns.names
+        columns = [_native(rows[name]) for name in names]
+        segments = _native(hdus["SEGMENT"].data)
+    return Table(columns, names=names, descriptions=[DESCRIPTIONS.get(name, "") for name in names]), segments
+
+
+def _answer(output, reading=read):
+    """What the program wrote just now, read so."""
+    with output, warnings.catch_warnings():
+        # astropy warns of a file that is cut short, and reads on.
+        warnings.simplefilter("error", AstropyWarning)
+        try:
+            return reading(output)
+        except (AstropyWarning, OSError, KeyError, ValueError, TypeError, IndexError):
+            raise Refusal(None, None, "truncated", "what maxdetect wrote is cut short") from None
+
+
+def _read_plane(file):
+    """The values of what `maxdetect filter` wrote."""
+    with fits.open(file, memmap=False, do_not_scale_image_data=True) as hdus:
+        return _native(hdus[0].data)
+
+
+def detect(
+    image,
+    threshold,
+    *,
+    min_area=1,
+    min_flux=0,
+    contrast=5,
+    mesh=0,
+    flat=False,
+    connect=4,
+    strips=1,
+    workers=1,
+    blank=None,
+    program=None,
+):
+    """The sources of an image: their catalogue, and their segmentation map.
+
+    `threshold` is in the image's own units, above the background where `mesh` is not 0. `min_area` is in pixels,
+    `min_flux` in the units of value times pixel, `contrast` in thousandths of the flux of a source's entry, `mesh` in
+    pixels; `flat` takes the background in steps. `strips` and `workers` change nothing but the time. The defaults are
+    the command's; for noisy images docs/GUIDE.md has better ones.
+
+    The catalogue is an astropy `Table` with a row for each source and the 17 columns of the command, all of them
+    whole numbers: positions count pixels from 1, XCEN and YCEN in thousandths of a pixel, XVAR, YVAR and XYCOV in
+    thousandths of a square pixel. The map is an array of 32-bit numbers of the image's shape, with the source's
+    number, or 0.
+
+    >>> import numpy
+    >>> image = numpy.full((5, 6), 10)
+    >>> image[1:4, 1:4] = [[20, 20, 20], [20, 50, 20], [20, 20, 20]]
+    >>> catalogue, segments = detect(image, 15)
+    >>> print(segments)
+    [[0 0 0 0 0 0]
+     [0 1 1 1 0 0]
+     [0 1 1 1 0 0]
+     [0 1 1 1 0 0]
+     [0 0 0 0 0 0]]
+    >>> source = catalogue[0]
+    >>> print(source["AREA"], source["BASE"], source["FLUX"], source["XCEN"] / 1000, source["YCEN"] / 1000)
+    9 10 120 3.0 3.0
+    """
+    options = dict(threshold=threshold, min_area=min_area, min_flux=min_flux, contrast=contrast)
+    options.update(mesh=mesh, flat=int(flat), connect=connect, strips=strips, workers=workers)
+    return _answer(_run(program, _words("detect", options), _file(image, blank)))
+
+
+def detect_stored(stored, threshold, *, program=None, **options):
+    """The same as `detect` of an array of 32-bit numbers in which LEAST stands for an undefined pixel, without a look
+    at its range.
+    """
+    return _answer(_run(program, _words("detect", {"threshold": threshold, **options}), _stored_file(stored)))
+
+
+def measure(
+    image,
+    values,
+    threshold,
+    *,
+    min_area=1,
+    min_flux=0,
+    contrast=5,
+    mesh=0,
+    flat=False,
+    connect=4,
+    strips=1,
+    workers=1,
+    blank=None,
+    program=None,
+):
+    """The sources of an image, measured in `values`, a second image of the same shape: another band of the same pixels.
+
+    All is as in `detect`, with seven columns more: SEEN and MISSING count the source's pixels that have a value in
+    the second image and that have none; VSUM, VLOW and VPEAK are the sum, the least and the greatest of these values;
+    VMEAN is their mean, and VBACK that around the source, both in thousandths. `mesh`, `flat` and `blank` hold for
+    both images.
+
+    >>> import numpy
+    >>> image = numpy.array([[1, 6, 2, 5, 1]])
+    >>> values = numpy.ma.masked_equal([[10, 20, 255, 40, 7]], 255)
+    >>> catalogue, segments = measure(image, values, 2, contrast=301)
+    >>> for name in ["SEEN", "MISSING", "VSUM", "VMEAN", "VBACK"]:
+    ...     print(name, catalogue[name][0])
+    SEEN 2
+    MISSING 1
+    VSUM 60
+    VMEAN 30000
+    VBACK 8500
+    """
+    options = dict(values=1, threshold=threshold, min_area=min_area, min_flux=min_flux, contrast=contrast)
+    options.update(mesh=mesh, flat=int(flat), connect=connect, strips=strips, workers=workers)
+    return _answer(_run(program, _words("measure", options), _file(image, blank), _file(values, blank, extension=True)))
+
+
+def filter(
+    image,
+    rule,
+    *,
+    min_area=0,
+    max_area=16777216,
+    min_flux=0,
+    min_fill=0,
+    mesh=0,
+    flat=False,
+    connect=4,
+    strips=1,
+    workers=1,
+    blank=None,
+    program=None,
+):
+    """The image with some nodes of its tree taken out.
+
+    `rule` is "min", "max", "direct" or "subtractive"; a node satisfies where its area is from `min_area` to
+    `max_area` pixels, its flux at least `min_flux`, and where it fills at least `min_fill` thousandths of its box.
+    With the defaults all nodes stay, so `filter(image, "direct", mesh=64)` is the image less its background.
+
+    The answer has the image's shape and 64-bit numbers; it is a masked array where `image` is one or `blank` is
+    given, with the undefined pixels masked, and else an ordinary array.
+
+    >>> import numpy
+    >>> filter(numpy.array([[0, 1, 3, 2, 0]]), "direct", min_area=2).tolist()
+    [[0, 1, 2, 2, 0]]
+    """
+    options = dict(rule=rule, min_area=min_area, max_area=max_area, min_flux=min_flux, min_fill=min_fill)
+    options.update(mesh=mesh, flat=int(flat), connect=connect, strips=strips, workers=workers)
+    values = _answer(_run(program, _words("filter", options), _file(image, blank)), _read_plane)
+    if blank is None and not isinstance(image, numpy.ma.MaskedArray):
+        return values
+    undefined = _checked(image, blank)[1]
+    return numpy.ma.MaskedArray(values, mask=numpy.zeros(values.shape, dtype=bool) if undefined is None else undefined)
+
+
+def tree(image, *, mesh=0, flat=False, connect=4, strips=1, workers=1, blank=None, program=None):
+    """The nodes of an image's max-tree, as a `Table` with the columns NUMBER, LEVEL, REP, PARENT and AREA.
+
+    Nodes are numbered from 0, in the order of level and then representative, so the number is the row. REP is the
+    least pixel of the component that has this level, with pixels counted from 0 row by row: `image.flat[REP]`. PARENT
+    is -1 at a root. AREA is in pixels.
+
+    >>> import numpy
+    >>> for node in tree(numpy.array([[1, 2, 1]])):
+    ...     print(*node)
+    0 1 0 -1 3
+    1 2 1 0 1
+    """
+    options = dict(mesh=mesh, flat=int(flat), connect=connect, strips=strips, workers=workers)
+    with _run(program, _words("tree", options), _file(image, blank)) as output:
+        lines = output.read().replace(b" - ", b" -1 ")
+    numbers = numpy.fromstring(lines, dtype="i8", sep=" ").reshape(-1, 5) if lines else numpy.zeros((0, 5), dtype="i8")
+    return Table(numbers, names=["NUMBER", "LEVEL", "REP", "PARENT", "AREA"])

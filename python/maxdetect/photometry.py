@@ -1,0 +1,329 @@
+"""Photometry of sources that are found: fluxes with errors, ellipses, widths and flags, in the units of the image.
+
+It works in floating point, with SEP (the library form of Source Extractor) and numpy, so nothing of it is proved.
+`sky` estimates the background and the noise beside the sources, `measured` makes the table.
+
+Places count pixels from 1, as FITS does. The ellipse of a source comes from the second moments of its pixels without
+weights: A and B are the half axes of a full ellipse with these moments, so they tell how far the isophote reaches.
+
+The Kron flux is the sum in an ellipse of the source's shape, `kron` times its Kron radius large, where the Kron
+radius is the mean distance of the light within three times the isophote. Pixels of other sources count as sky there,
+and so they do in the circular aperture.
+"""
+import typing
+
+import numpy
+import sep
+from astropy.table import Table
+
+from .noise import of_array
+
+__all__ = [
+    "APERTURE",
+    "KRON",
+    "EDGE",
+    "UNDEFINED",
+    "SATURATED",
+    "SPLIT",
+    "CUT",
+    "CROWDED",
+    "BEYOND",
+    "FLAGS",
+    "ellipses",
+    "measured",
+    "sky",
+]
+
+# The bits of the column FLAGS.
+EDGE = 1
+UNDEFINED = 2
+SATURATED = 4
+SPLIT = 8
+CUT = 16
+CROWDED = 32
+BEYOND = 64
+FLAGS = {
+    EDGE: "touches the image's edge",
+    UNDEFINED: "touches an undefined pixel",
+    SATURATED: "has a saturated pixel",
+    SPLIT: "was split from a neighbour",
+    CUT: "was cut by a tile",
+    CROWDED: "its Kron ellipse holds pixels of other sources, or undefined ones",
+    BEYOND: "its Kron ellipse reaches beyond the image",
+}
+
+# The Kron radius is sought within this many standard deviations of the source's pixels, as Source Extractor seeks it.
+KRON_REACH = 6.0
+# The radius of the circular aperture in pixels, and how many Kron radii the Kron ellipse reaches.
+APERTURE = 5.0
+KRON = 4.0
+# How far a source's light reaches beyond its pixels, when the background is estimated.
+GROWTH = 4
+# Least share of an image that the background is estimated from.
+LEAST_SHARE = 0.4
+
+Numbers = typing.Union[float, numpy.ndarray]
+
+
+class _Pixels(typing.NamedTuple):
+    """The pixels that belong to sources: their places in the flat image, the sources' numbers there, and how long
+    a list by number is.
+    """
+
+    places: numpy.ndarray
+    numbers: numpy.ndarray
+    length: int
+
+    def summed(self, weights: numpy.ndarray) -> numpy.ndarray:
+        """The sum of the weights over each source, by number."""
+        return numpy.bincount(self.numbers, weights, self.length).astype("f8", copy=False)
+
+    def having(self, chosen: numpy.ndarray) -> numpy.ndarray:
+        """Whether one of a source's pixels is chosen, by number."""
+        found = numpy.zeros(self.length, dtype=bool)
+        found[self.numbers[chosen]] = True
+        return found
+
+
+def _grown(chosen: numpy.ndarray, reach: int) -> numpy.ndarray:
+    """The chosen pixels and all within a square of `reach` pixels around them."""
+    grown, done = chosen.copy(), 0
+    while done < reach:
+        step = min(reach - done, done + 1)
+        for axis in (0, 1):
+            lines, before = numpy.moveaxis(grown, axis, 0), numpy.moveaxis(grown.copy(), axis, 0)
+            lines[step:] |= before[:-step]
+            lines[:-step] |= before[step:]
+        done += step
+    return grown
+
+
+def _undefined(image: numpy.ndarray, mask: typing.Optional[numpy.ndarray]) -> numpy.ndarray:
+    """Which pixels have no value."""
+    undefined = ~numpy.isfinite(numpy.ma.getdata(image)) | numpy.ma.getmaskarray(image)
+    return undefined if mask is None else undefined | numpy.asarray(mask, dtype=bool)
+
+
+def _left_out(segments: numpy.ndarray, undefined: numpy.ndarray) -> numpy.ndarray:
+    """Pixels that tell nothing of the sky: those without a value, and those of sources and around them, as far as
+    enough others are left.
+    """
+    found = segments != 0
+    for reach in range(GROWTH, 0, -1):
+        left_out = _grown(found, reach) | undefined
+        if left_out.mean() <= 1 - LEAST_SHARE:
+            return left_out
+    return found | undefined
+
+
+def _level(image: numpy.ndarray, mesh: int) -> numpy.ndarray:
+    """The level of the sky by the package's own estimate."""
+    found = of_array(image, mesh or 64)
+    window = tuple(slice(0, side) for side in found.shape)
+    above = (found if mesh else found.flat()).background(*window)
+    # 32 bits hold the level where it isn't far from 0 beside its noise.
+    return (above if abs(found.zero) < 4096 * found.noise else above.astype("f8")) + found.zero
+
+
+def sky(
+    image: numpy.ndarray,
+    segments: numpy.ndarray,
+    mesh: int = 64,
+    *,
+    mask: typing.Optional[numpy.ndarray] = None,
+    local: bool = False,
+    level: typing.Union[None, float, numpy.ndarray] = None,
+) -> typing.Tuple[numpy.ndarray, Numbers]:
+    """The background and the noise of an image beside its sources, in the image's units.
+
+    `image` has two dimensions, and NaN or a true `mask` where it is undefined; `segments` is the segmentation map of
+    the same shape. `level` is a first estimate of the background, by default the package's own in cells of `mesh` by
+    `mesh` pixels (with `mesh` 0 it is one number): means, which the light of faint sources draws up. By how much SEP
+    tells, from the residual's pixels that lie at least four pixels from every source, or closer where these are too
+    few; the median over its cells is taken off everywhere. The background is an array of the image's shape. The noise
+    is one standard deviation of a pixel: one number, or with `local` an array. Raises ValueError where no pixel has a
+    value.
+    """
+    if mesh < 0:
+        raise ValueError(f"mesh is 0 or a number of pixels, not {mesh}")
+    undefined = _undefined(image, mask)
+    if undefined.all():
+        raise ValueError("no pixel of the image has a value")
+    if level is None:
+        level = _level(numpy.ma.MaskedArray(numpy.ma.getdata(image), mask=undefined), mesh)
+    left_out = _left_out(numpy.asarray(segments), undefined)
+    if left_out.all():
+        left_out = undefined
+    # 32 bits hold the residual, where they may not hold the values themselves.
+    residual = _residual(image, level, undefined)
+    side = mesh or max(residual.shape)
+    found = sep.Background(residual, mask=left_out, bw=side, bh=side)
+    noise = found.rms(dtype="f4") if local else found.globalrms
+    return level + numpy.float32(found.globalback), noise
+
+
+def ellipses(catalogue: Table) -> typing.Tuple[numpy.ndarray, numpy.ndarray, numpy.ndarray]:
+    """Half axes A and B in pixels, and the angle of A in degrees from the x axis towards the y axis, of the ellipses
+    with a kernel catalogue's moments.
+
+    The moments are those of the pixels' places without weights: a full ellipse has these half axes.
+    """
+    # A pixel is a square of side 1, whose own variance is a twelfth.
+    xx, yy, xy = (numpy.asarray(catalogue[name], dtype="f8") / 1000 for name in ("XVAR", "YVAR", "XYCOV"))
+    xx, yy = xx + 1 / 12, yy + 1 / 12
+    mean, apart = (xx + yy) / 2, numpy.hypot((xx - yy) / 2, xy)
+    # The variance along an axis of a full ellipse is a quarter of the half axis squared.
+    long, short = 2 * numpy.sqrt(mean + apart), 2 * numpy.sqrt(numpy.maximum(mean - apart, 1 / 12))
+    return long, numpy.minimum(short, long), numpy.degrees(numpy.arctan2(2 * xy, xx - yy) / 2)
+
+
+def _noise(noise: Numbers, shape: typing.Tuple[int, int]) -> Numbers:
+    """The noise as SEP takes it: one number, or an array of the image's shape."""
+    if numpy.ndim(noise) == 0:
+        return float(noise)
+    if numpy.shape(noise) != shape:
+        raise ValueError(f"the noise has the sides {numpy.shape(noise)}, the image {shape}")
+    return numpy.ascontiguousarray(noise, dtype="f4")
+
+
+def _residual(image: numpy.ndarray, background: Numbers, undefined: numpy.ndarray) -> numpy.ndarray:
+    """The image less its background in 32 bits, with 0 where it is undefined."""
+    data = numpy.ma.getdata(image)
+    residual = (data - background if data.dtype.kind == "f" else data.astype("f8") - background).astype(
+        "f4", copy=False
+    )
+    residual[undefined] = 0
+    return residual
+
+
+def _isophotal(
+    pixels: _Pixels, residual: numpy.ndarray, noise: Numbers, gain: typing.Optional[float]
+) -> typing.Tuple[numpy.ndarray, numpy.ndarray]:
+    """The sums over the sources' pixels and their errors, by number."""
+    flux = pixels.summed(residual.ravel()[pixels.places])
+    if numpy.ndim(noise) == 0:
+        variance = pixels.summed(numpy.full(len(pixels.places), float(noise) ** 2))
+    else:
+        variance = pixels.summed(noise.ravel()[pixels.places].astype("f8") ** 2)
+    if gain:
+        variance += numpy.maximum(flux, 0) / gain
+    return flux, numpy.sqrt(variance)
+
+
+def _flags(pixels, image, undefined, catalogue, numbers, saturation, threshold) -> numpy.ndarray:
+    """The flags that the pixels and the catalogue tell, in the catalogue's order."""
+    height, width = undefined.shape
+    xs, ys = (numpy.asarray(catalogue[f"{name}MIN"]) == 1 for name in "XY")
+    flags = EDGE * (
+        xs | ys | (numpy.asarray(catalogue["XMAX"]) == width) | (numpy.asarray(catalogue["YMAX"]) == height)
+    )
+    if undefined.any():
+        flags |= UNDEFINED * pixels.having(_grown(undefined, 1).ravel()[pixels.places])[numbers]
+    if saturation is not None:
+        flags |= SATURATED * pixels.having(numpy.ma.getdata(image).ravel()[pixels.places] >= saturation)[numbers]
+    if len(catalogue):
+        entry = int(numpy.min(catalogue["LEVEL"])) if threshold is None else threshold
+        flags |= SPLIT * (numpy.asarray(catalogue["BASE"]) >= entry)
+    return flags
+
+
+def _half_light(residual, x, y, reach, flux, alone) -> numpy.ndarray:
+    """The radii that hold half of the Kron fluxes, sought close to the centres first, since that is quicker."""
+    half, _ = sep.flux_radius(residual, x, y, 0.4 * reach, 0.5, normflux=flux, subpix=3, **alone)
+    further = numpy.flatnonzero(half >= 0.39 * reach)
+    if further.size:
+        again = {**alone, "seg_id": alone["seg_id"][further]}
+        half[further], _ = sep.flux_radius(
+            residual, x[further], y[further], reach[further], 0.5, normflux=flux[further], subpix=3, **again
+        )
+    return half
+
+
+def measured(
+    image: numpy.ndarray,
+    background: Numbers,
+    noise: Numbers,
+    segments: numpy.ndarray,
+    catalogue: Table,
+    *,
+    mask: typing.Optional[numpy.ndarray] = None,
+    gain: typing.Optional[float] = None,
+    saturation: typing.Optional[float] = None,
+    aperture: float = APERTURE,
+    kron: float = KRON,
+    threshold: typing.Optional[int] = None,
+) -> Table:
+    """The photometry of the sources of a segmentation map, a row for each row of `catalogue`.
+
+    `image` has two dimensions and any units; it is undefined where it is NaN or masked, `mask` is true or the noise
+    isn't finite. `background` and `noise`, the standard deviation of a pixel, are in the same units, each one number
+    or an array of the image's shape; `sky` estimates both. `segments` and `catalogue` are what the kernel answers for
+    this image, of whatever scale: of the catalogue's values NUMBER, centres, boxes and moments are used, and LEVEL
+    and BASE for a flag. With `gain`, in electrons for a unit of the image, the errors have the sources' own noise
+    too. Pixels from `saturation` on are saturated. `aperture` is the radius of the circle in pixels. `kron` says how
+    many Kron radii the ellipse reaches, and how many standard deviations of the source's pixels at least. `threshold`
+    is the one that the kernel was given; by default it is taken for the least LEVEL.
+
+    Columns: X, Y, FLUX_ISO, FLUXERR_ISO, FLUX_KRON, FLUXERR_KRON, KRON_RADIUS (half the long axis of the ellipse, in
+    pixels), FLUX_APER, FLUXERR_APER, A, B, THETA, FWHM (the diameter that holds half of the Kron flux: that of a
+    Gaussian is its full width at half its height; NaN where there is none) and FLAGS, a sum of the bits in `FLAGS`.
+    Errors are standard deviations; they know nothing of the background's error.
+    """
+    shape = numpy.shape(image)
+    if numpy.shape(segments) != shape:
+        raise ValueError(f"the map has the sides {numpy.shape(segments)}, the image {shape}")
+    undefined, noise = _undefined(image, mask), _noise(noise, shape)
+    if numpy.ndim(noise):
+        unknown = ~numpy.isfinite(noise)
+        if unknown.any():
+            undefined, noise = undefined | unknown, numpy.where(unknown, 0, noise)
+    residual = _residual(image, background, undefined)
+    segments = numpy.ascontiguousarray(segments, dtype="i4")
+    places = numpy.flatnonzero(segments.ravel() != 0)
+    numbers = numpy.asarray(catalogue["NUMBER"], dtype="i4")
+    within = segments.ravel()[places]
+    pixels = _Pixels(places, within, int(max(within.max(initial=0), numbers.max(initial=0))) + 1)
+    flux, error = _isophotal(pixels, residual, noise, gain)
+    flags = _flags(pixels, image, undefined, catalogue, numbers, saturation, threshold)
+    apertures = _apertures(residual, noise, undefined, segments, catalogue, gain, aperture, kron)
+    table = Table({"X": numpy.asarray(catalogue["XCEN"]) / 1000, "Y": numpy.asarray(catalogue["YCEN"]) / 1000})
+    table["FLUX_ISO"], table["FLUXERR_ISO"] = flux[numbers], error[numbers]
+    more = apertures.pop("FLAGS")
+    for name, values in apertures.items():
+        table[name] = values
+    table["FLAGS"] = (flags | more).astype("i4")
+    return table
+
+
+def _apertures(
+    residual, noise, undefined, segments, catalogue, gain, aperture, kron
+) -> typing.Dict[str, numpy.ndarray]:
+    """The columns that SEP measures, and the flags that it tells."""
+    numbers = numpy.asarray(catalogue["NUMBER"], dtype="i4")
+    x, y = (numpy.asarray(catalogue[name], dtype="f8") / 1000 - 1 for name in ("XCEN", "YCEN"))
+    long, short, angle = ellipses(catalogue)
+    # SEP takes standard deviations along the axes, which are half of the half axes, and radians.
+    shape = (x, y, long / 2, short / 2, numpy.clip(numpy.radians(angle), -numpy.pi / 2, numpy.pi / 2))
+    alone = {"segmap": segments, "seg_id": numbers}
+    if undefined.any():
+        alone["mask"] = undefined
+    radius, _ = sep.kron_radius(residual, *shape, KRON_REACH, **alone)
+    # Noise may leave no light to average over, or a mean that lies outside of where it was sought.
+    radius = numpy.where(numpy.isfinite(radius) & (radius > 0), numpy.minimum(radius, KRON_REACH), 0)
+    radius = numpy.maximum(kron * radius, kron)
+    flux, error, told = sep.sum_ellipse(residual, *shape, radius, err=noise, gain=gain, subpix=1, **alone)
+    in_circle, circle_error, _ = sep.sum_circle(residual, x, y, aperture, err=noise, gain=gain, subpix=5, **alone)
+    half = _half_light(residual, x, y, radius * long / 2, flux, alone)
+    flags = CROWDED * ((told & sep.APER_HASMASKED) != 0) | BEYOND * ((told & sep.APER_TRUNC) != 0)
+    return {
+        "FLUX_KRON": flux,
+        "FLUXERR_KRON": error,
+        "KRON_RADIUS": radius * long / 2,
+        "FLUX_APER": in_circle,
+        "FLUXERR_APER": circle_error,
+        "A": long,
+        "B": short,
+        "THETA": angle,
+        "FWHM": numpy.where((flux > 0) & (half > 0), 2 * half, numpy.nan),
+        "FLAGS": flags,
+    }

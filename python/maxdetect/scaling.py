@@ -1,0 +1,83 @@
+"""From floating-point numbers to the whole numbers that the program reads: a thirtieth of the noise each."""
+import math
+from typing import Optional, Tuple, Union
+
+import numpy
+
+from .noise import floats, of_array
+
+SIGMA = 30
+BLANK = -(2**31)
+# Values are cut here: it is a 32-bit floating-point number, and 44 million deviations of the noise.
+GREATEST = 2**31 - 2**8
+KERNEL = (1, 2, 1)
+
+
+def threshold(sigmas: float) -> int:
+    """The program's threshold for so many deviations of the noise."""
+    return math.ceil(sigmas * SIGMA)
+
+
+def _along(image: numpy.ndarray, axis: int) -> numpy.ndarray:
+    """The sums over three neighbours along one axis, weighted 1 2 1; beyond the edge is nothing."""
+    total = image * image.dtype.type(KERNEL[1])
+    before, behind = (
+        (slice(None, -1), slice(1, None))
+        if axis == 0
+        else ((slice(None), slice(None, -1)), (slice(None), slice(1, None)))
+    )
+    total[before] += image[behind]
+    total[behind] += image[before]
+    return total
+
+
+def smoothed(image: numpy.ndarray) -> numpy.ndarray:
+    """The mean of each pixel and its neighbours that are finite, weighted 1 2 1 / 2 4 2 / 1 2 1; a pixel that isn't
+    finite is NaN.
+    """
+    finite = numpy.isfinite(image)
+    filled = image if finite.all() else numpy.where(finite, image, image.dtype.type(0))
+    total = _along(_along(filled, 0), 1)
+    total /= _along(_along(finite.astype(image.dtype), 0), 1)
+    total[~finite] = numpy.nan
+    return total
+
+
+def whole_numbers(scaled: numpy.ndarray) -> numpy.ma.MaskedArray:
+    """The nearest whole numbers, in 32 bits; what isn't finite is masked. It changes what it is given."""
+    undefined = ~numpy.isfinite(scaled)
+    some = undefined.any()
+    if some:
+        scaled[undefined] = 0
+    numpy.clip(numpy.rint(scaled, out=scaled), -GREATEST, GREATEST, out=scaled)
+    return numpy.ma.MaskedArray(scaled.astype("i4"), mask=undefined if some else numpy.ma.nomask)
+
+
+def detectable(
+    image: numpy.ndarray, background: numpy.ndarray, noise: Union[float, numpy.ndarray], smooth: bool = False
+) -> numpy.ma.MaskedArray:
+    """What the program is to see of an image: what stands above the background, in thirtieths of the noise.
+
+    The three are in the image's units, the last two of its shape or one number; with `smooth` it is smoothed. Pixels
+    whose value or noise isn't defined are masked.
+    """
+    scaled = numpy.subtract(image, background, dtype="f4" if numpy.asarray(image).dtype == "f4" else "f8")
+    scaled = scaled.astype("f4", copy=False)
+    with numpy.errstate(divide="ignore", invalid="ignore"):
+        scaled *= (SIGMA / numpy.asarray(noise)).astype("f4")
+    return whole_numbers(smoothed(scaled) if smooth else scaled)
+
+
+def prepared(
+    image: numpy.ndarray, smooth: bool = False, mesh: Optional[int] = 64
+) -> Tuple[numpy.ma.MaskedArray, float, float]:
+    """An image in whole numbers whose noise is 30, masked where it isn't finite; the number that was taken off; and
+    the scale.
+
+    The sky is left in, so that the program can take its own background off. Raises ValueError where the image has no
+    noise.
+    """
+    found = of_array(image, mesh or 64)
+    if not found.noise > 0:
+        raise ValueError("the image has no noise to scale by")
+    return detectable(floats(image), found.zero, found.noise, smooth), found.zero, SIGMA / found.noise

@@ -1,0 +1,411 @@
+"""Catalogues, maps and regions as files: sky coordinates, magnitudes, units and descriptions, and writing whole or
+not at all.
+
+What is computed here is floating point by astropy and numpy, and nothing of it is proved. Each file is written under
+a temporary name beside the one that is wanted, which it gets at the end; so no reader sees half a file, and a failed
+run leaves an earlier file as it was.
+"""
+import contextlib
+import os
+import pathlib
+import re
+import stat
+import tempfile
+import typing
+import warnings
+
+import numpy
+from astropy import units
+from astropy.coordinates import SkyCoord
+from astropy.io import fits
+from astropy.table import Table
+from astropy.wcs import WCS, FITSFixedWarning
+from astropy.wcs.utils import wcs_to_celestial_frame
+
+from .errors import Mistake
+from .photometry import FLAGS
+
+__all__ = ["FORMATS", "finished", "format_of", "map_hdu", "regions", "whole_file", "write", "write_map"]
+
+# How a catalogue is written, by the end of its name.
+FORMATS = {
+    ".fits": "fits",
+    ".fit": "fits",
+    ".csv": "csv",
+    ".ecsv": "ecsv",
+    ".xml": "votable",
+    ".vot": "votable",
+    ".votable": "votable",
+}
+# The fluxes that `measured` gives, and what each is the sum over.
+SUMS = {"ISO": "the source's pixels", "KRON": "the Kron ellipse", "APER": "a circle"}
+# A unit and a description for each column. FLUX stands for the unit of the image, BAND for that of a second one.
+COLUMNS = {
+    "EXTENSION": (None, "name or number of the image's HDU"),
+    "NUMBER": (None, "number of the source, its number in the segmentation map"),
+    "LEVEL": (None, "level of the source's node, in the whole numbers that the program saw"),
+    "BASE": (None, "level of the node's parent, in the same numbers"),
+    "AREA": ("pix", "pixels of the source"),
+    "FLUX": (None, "sum of value less base, in the same numbers"),
+    "PEAK": (None, "greatest value, in the same numbers"),
+    "XMIN": ("pix", "least column, from 1"),
+    "XMAX": ("pix", "greatest column, from 1"),
+    "YMIN": ("pix", "least row, from 1"),
+    "YMAX": ("pix", "greatest row, from 1"),
+    "XFIRST": ("pix", "column of the least pixel, from 1"),
+    "YFIRST": ("pix", "row of the least pixel, from 1"),
+    "XCEN": ("0.001 pix", "mean column weighted by value less base, in thousandths of a pixel, from 1000"),
+    "YCEN": ("0.001 pix", "mean row weighted by value less base, in thousandths of a pixel, from 1000"),
+    "XVAR": ("0.001 pix2", "variance of the columns, in thousandths of a square pixel"),
+    "YVAR": ("0.001 pix2", "variance of the rows, in thousandths of a square pixel"),
+    "XYCOV": ("0.001 pix2", "covariance of columns and rows, in thousandths of a square pixel"),
+    "SEEN": ("pix", "pixels with a value in the second image"),
+    "MISSING": ("pix", "pixels without one"),
+    "VSUM": (None, "sum of the values in the second image, in the whole numbers that the program saw"),
+    "VLOW": (None, "least value there"),
+    "VPEAK": (None, "greatest value there"),
+    "VMEAN": (None, "mean of the values there, in thousandths"),
+    "VBACK": (None, "mean of the values around the source there, in thousandths"),
+    "X": ("pix", "column of the centre in pixels, from 1"),
+    "Y": ("pix", "row of the centre in pixels, from 1"),
+    "FLUX_ISO": ("FLUX", "sum above the background over the source's pixels"),
+    "FLUXERR_ISO": ("FLUX", "its standard deviation"),
+    "FLUX_KRON": ("FLUX", "sum above the background over the Kron ellipse"),
+    "FLUXERR_KRON": ("FLUX", "its standard deviation"),
+    "KRON_RADIUS": ("pix", "half the long axis of the Kron ellipse"),
+    "FLUX_APER": ("FLUX", "sum above the background over a circle around the centre"),
+    "FLUXERR_APER": ("FLUX", "its standard deviation"),
+    "A": ("pix", "half the long axis of the ellipse with the moments of the source's pixels"),
+    "B": ("pix", "half its short axis"),
+    "THETA": ("deg", "angle of its long axis from the x axis towards the y axis"),
+    "FWHM": ("pix", "diameter that holds half of the Kron flux"),
+    "FLAGS": (None, "sum of: " + ", ".join(f"{bit} {text}" for bit, text in FLAGS.items())),
+    "RA": ("deg", "right ascension of the centre in the ICRS"),
+    "DEC": ("deg", "declination of the centre in the ICRS"),
+    "A_SKY": ("arcsec", "half the long axis A on the sky"),
+    "B_SKY": ("arcsec", "half the short axis B on the sky"),
+    "PA": ("deg", "angle of the long axis on the sky from north towards east"),
+}
+# The cards that make up a WCS of the first two axes, for any of its versions.
+WCS_CARDS = re.compile(
+    r"(WCSAXES|WCSNAME|LONPOLE|LATPOLE|RADESYS|RADECSYS|EQUINOX|EPOCH|MJD-OBS|DATE-OBS"
+    r"|C(TYPE|RVAL|RPIX|DELT|UNIT|ROTA|RDER|SYER)[12]|(PC|CD)[12]_[12]|PC00[12]00[12]|(PV|PS)[12]_\d+"
+    r"|[ABD]P?_(ORDER|DMAX|\d+_\d+))[A-Z]?"
+)
+# Cards of a table's `meta` that FITS keeps for the structure of a file.
+STRUCTURE = re.compile(
+    r"SIMPLE|XTENSION|BITPIX|NAXIS\d*|PCOUNT|GCOUNT|TFIELDS|EXTNAME|END|CHECKSUM|DATASUM"
+    r"|T(TYPE|FORM|UNIT|COMM|NULL|DIM)\d+"
+)
+
+Image = typing.Tuple[str, numpy.ndarray, typing.Optional[fits.Header]]
+
+
+# ---- sky coordinates
+
+
+def _wcs(header: typing.Union[None, fits.Header, WCS]) -> typing.Optional[WCS]:
+    """The celestial WCS of a header's first two axes, or None where it has none that can be read, which is warned
+    of.
+    """
+    if header is None or isinstance(header, WCS):
+        return header if header is not None and header.has_celestial else None
+    try:
+        with warnings.catch_warnings():
+            warnings.simplefilter("ignore", FITSFixedWarning)
+            wcs = WCS(header, naxis=2)
+    except Exception as error:  # noqa: BLE001  astropy raises many kinds.
+        warnings.warn(
+            f"no sky coordinates: the header's WCS can't be read ({str(error).strip().splitlines()[-1]})", stacklevel=3
+        )
+        return None
+    return wcs if wcs.has_celestial else None
+
+
+def _frame(wcs: WCS):
+    """astropy's frame of a WCS, or None where astropy knows none."""
+    # astropy takes longitudes of another name for right ascensions where RADESYS is there.
+    if wcs.wcs.ctype[wcs.wcs.lng].split("-")[0] not in ("RA", "GLON", "TLON"):
+        return None
+    try:
+        return wcs_to_celestial_frame(wcs)
+    except ValueError:
+        return None
+
+
+def _degrees(wcs: WCS, x: numpy.ndarray, y: numpy.ndarray) -> typing.Tuple[numpy.ndarray, numpy.ndarray]:
+    """Longitudes and latitudes in the WCS's own frame; NaN where a place has none."""
+    if not len(x):
+        return numpy.zeros(0), numpy.zeros(0)
+    # The last argument counts pixels from 1.
+    places = wcs.all_pix2world(numpy.column_stack([x, y]), 1)
+    return places[:, wcs.wcs.lng], places[:, wcs.wcs.lat]
+
+
+def _own_names(wcs: WCS) -> typing.Tuple[str, str]:
+    """What the frame calls its longitude and latitude, such as ELON and ELAT."""
+    return tuple(
+        wcs.wcs.ctype[axis].split("-")[0] or name for axis, name in ((wcs.wcs.lng, "LON"), (wcs.wcs.lat, "LAT"))
+    )
+
+
+def _icrs(wcs: WCS, frame, x: numpy.ndarray, y: numpy.ndarray) -> SkyCoord:
+    longitude, latitude = _degrees(wcs, x, y)
+    return SkyCoord(longitude, latitude, unit="deg", frame=frame).icrs
+
+
+def _add_sky(table: Table, wcs: WCS) -> None:
+    """The columns of the place in the sky, and of the ellipse there."""
+    x, y = (numpy.asarray(table[name], dtype="f8") for name in ("X", "Y"))
+    frame = _frame(wcs)
+    if frame is None:
+        for name, values in zip(_own_names(wcs), _degrees(wcs, x, y)):
+            table[name] = values
+            table[name].unit, table[name].description = (
+                units.deg,
+                "coordinate of the centre in the frame of the image's header",
+            )
+        return
+    centre = _icrs(wcs, frame, x, y)
+    table["RA"], table["DEC"] = centre.ra.deg, centre.dec.deg
+    if not {"A", "B", "THETA"} <= set(table.colnames):
+        return
+    angle = numpy.radians(numpy.asarray(table["THETA"]))
+    along = _icrs(wcs, frame, x + numpy.cos(angle), y + numpy.sin(angle))
+    across = _icrs(wcs, frame, x - numpy.sin(angle), y + numpy.cos(angle))
+    table["A_SKY"] = numpy.asarray(table["A"]) * centre.separation(along).arcsec
+    table["B_SKY"] = numpy.asarray(table["B"]) * centre.separation(across).arcsec
+    table["PA"] = centre.position_angle(along).deg % 180
+
+
+# ---- columns
+
+
+def _add_magnitudes(table: Table, zeropoint: float) -> None:
+    """Magnitudes and their errors; NaN where a flux isn't positive."""
+    for name, pixels in SUMS.items():
+        if f"FLUX_{name}" not in table.colnames:
+            continue
+        flux, error = (numpy.asarray(table[f"{part}_{name}"], dtype="f8") for part in ("FLUX", "FLUXERR"))
+        positive = numpy.where(flux > 0, flux, numpy.nan)
+        table[f"MAG_{name}"] = zeropoint - 2.5 * numpy.log10(positive)
+        table[f"MAGERR_{name}"] = 2.5 / numpy.log(10) * error / positive
+        table[f"MAG_{name}"].description = f"magnitude of the sum over {pixels}, {zeropoint:g} for a flux of 1"
+        table[f"MAGERR_{name}"].description = "its standard deviation"
+        table[f"MAG_{name}"].unit = table[f"MAGERR_{name}"].unit = units.mag
+
+
+def _describe(table: Table, unit: typing.Optional[str]) -> None:
+    """Units and descriptions for the columns that lack them."""
+    flux = units.Unit(unit, parse_strict="silent") if unit else None
+    for name in table.colnames:
+        known, text = COLUMNS.get(name, (None, ""))
+        column = table[name]
+        if column.unit is None and known:
+            column.unit = flux if known == "FLUX" else units.Unit(known)
+        if name in COLUMNS or not column.description:
+            column.description = text or name.lower().replace("_", " ")
+
+
+def finished(
+    table: Table,
+    header: typing.Union[None, fits.Header, WCS],
+    *,
+    zeropoint: typing.Optional[float] = None,
+    unit: typing.Optional[str] = None,
+    extension: typing.Union[None, int, str] = None,
+) -> Table:
+    """A copy of a catalogue with all that a reader wants: sky coordinates, magnitudes, and units and descriptions of
+    every column.
+
+    `table` has at least X and Y, in pixels from 1. `header` is the image's, or its WCS, or None; where it has
+    celestial coordinates the table gets RA and DEC in degrees in the ICRS, whatever frame the header has, and the
+    ellipse on the sky; where astropy doesn't know the frame it gets the frame's own two names instead, such as ELON
+    and ELAT. A WCS that can't be read is warned of, and nothing is added. With `zeropoint` there are magnitudes,
+    `zeropoint` for a flux of 1. `unit` is that of the image's values, by default the header's BUNIT. `extension`, a
+    name or number, becomes the first column, EXTENSION.
+    """
+    table = table.copy()
+    for axis in "XY":
+        # Shifts from tile to tile leave traces in the last digits.
+        if f"{axis}CEN" in table.colnames:
+            table[axis] = numpy.asarray(table[f"{axis}CEN"]) / 1000
+    wcs = _wcs(header)
+    if wcs is not None:
+        _add_sky(table, wcs)
+    if zeropoint is not None:
+        _add_magnitudes(table, zeropoint)
+    if extension is not None:
+        table.add_column(
+            numpy.full(len(table), str(extension), dtype=f"U{max(len(str(extension)), 1)}"), index=0, name="EXTENSION"
+        )
+    if unit is None and isinstance(header, fits.Header):
+        unit = str(header.get("BUNIT", "")).strip() or None
+    _describe(table, unit)
+    return table
+
+
+# ---- files
+
+
+@contextlib.contextmanager
+def whole_file(path: typing.Union[str, os.PathLike]) -> typing.Iterator[str]:
+    """The temporary name under which a file is written; it gets the name `path` if all goes well, and else is gone.
+
+    Where `path` is something other than a file, such as a pipe or a terminal, it is written as it stands.
+    """
+    target = pathlib.Path(os.path.realpath(path))
+    if target.exists() and not stat.S_ISREG(target.stat().st_mode):
+        if target.is_dir():
+            raise Mistake(f"{path} is a folder")
+        yield os.fspath(target)
+        return
+    handle, name = tempfile.mkstemp(prefix=f".{target.name}.", suffix=".part", dir=target.parent)
+    os.close(handle)
+    try:
+        yield name
+        mask = os.umask(0)
+        os.umask(mask)
+        os.chmod(name, 0o666 & ~mask)
+        os.replace(name, target)
+    except BaseException:
+        with contextlib.suppress(FileNotFoundError):
+            os.unlink(name)
+        raise
+
+
+def format_of(path: typing.Union[str, os.PathLike]) -> str:
+    """How a catalogue of this name is written: fits, csv, ecsv or votable. Raises Mistake for another end of the
+    name.
+    """
+    end = pathlib.Path(path).suffix.lower()
+    if end not in FORMATS:
+        raise Mistake(f"{path}: a catalogue's name ends in {', '.join(FORMATS)}")
+    return FORMATS[end]
+
+
+def _fits_value(value) -> bool:
+    return isinstance(value, (bool, int, float, str, numpy.integer, numpy.floating)) and (
+        not isinstance(value, float) or numpy.isfinite(value)
+    )
+
+
+def _fits_unit(unit) -> typing.Optional[str]:
+    """A unit as FITS spells it, or as it stands where FITS has no such unit."""
+    if unit is None:
+        return None
+    try:
+        return unit.to_string("fits")
+    except ValueError:
+        return str(unit)
+
+
+def _filled(column) -> numpy.ndarray:
+    """A column's values; those that aren't there, as where one of several images has no WCS, are NaN, 0 or empty."""
+    values = numpy.ma.asarray(column)
+    if values.mask is numpy.ma.nomask:
+        return values.data
+    return values.filled(numpy.nan if values.dtype.kind == "f" else "" if values.dtype.kind in "US" else 0)
+
+
+def _table_hdus(table: Table) -> fits.HDUList:
+    """A catalogue as HDUs, with each column's description in a TCOMM card and what `meta` has in cards."""
+    plain = Table({name: _filled(table[name]) for name in table.colnames})
+    columns = fits.BinTableHDU(plain.as_array()).columns if len(table.colnames) else []
+    for column in columns:
+        column.unit = _fits_unit(table[column.name].unit)
+    hdu = fits.BinTableHDU.from_columns(columns, nrows=len(table), name="SOURCES")
+    # Some descriptions are too long for one card, and go on in the next ones.
+    hdu.header["LONGSTRN"] = "OGIP 1.0"
+    for number, name in enumerate(table.colnames, 1):
+        hdu.header.set(f"TCOMM{number}", table[name].description or "", after=f"TFORM{number}")
+    for key, value in table.meta.items():
+        if re.fullmatch(r"[A-Za-z0-9_-]{1,8}", key) and not STRUCTURE.fullmatch(key.upper()) and _fits_value(value):
+            hdu.header[key.upper()] = value
+    return fits.HDUList([fits.PrimaryHDU(), hdu])
+
+
+def write(table: Table, path: typing.Union[str, os.PathLike]) -> None:
+    """Writes a catalogue as FITS, CSV, ECSV or VOTable, by the end of its name; an earlier file is replaced.
+
+    In FITS each column's description stands in its TCOMM card, and simple values of the table's `meta` in cards.
+    Raises Mistake for another end of the name, and OSError where the file can't be written.
+    """
+    kind = format_of(path)
+    with whole_file(path) as name, warnings.catch_warnings():
+        warnings.simplefilter("ignore", units.UnitsWarning)
+        if kind == "fits":
+            with warnings.catch_warnings():
+                # A description that doesn't fit its card goes on in the next ones.
+                warnings.simplefilter("ignore", fits.verify.VerifyWarning)
+                _table_hdus(table).writeto(name, overwrite=True)
+        else:
+            # A VOTable of 33,000 sources takes 20 seconds as text, and one in binary form.
+            form, more = {
+                "csv": ("ascii.csv", {}),
+                "ecsv": ("ascii.ecsv", {}),
+                "votable": ("votable", {"tabledata_format": "binary"}),
+            }[kind]
+            table.write(name, format=form, overwrite=True, **more)
+
+
+def _region_lines(table: Table) -> typing.Iterator[str]:
+    """The lines of a region file: an ellipse for each source."""
+    yield "# Region file format: DS9"
+    if {"RA", "DEC", "A_SKY", "B_SKY", "PA"} <= set(table.colnames):
+        yield "icrs"
+        # DS9 counts the angle from west, which lies a quarter of a turn before north.
+        form, names = 'ellipse({:.7f},{:.7f},{:.3f}",{:.3f}",{:.1f}) # text={{{}}}', (
+            "RA",
+            "DEC",
+            "A_SKY",
+            "B_SKY",
+            "PA",
+        )
+        turn = 90
+    else:
+        yield "image"
+        form, names = "ellipse({:.3f},{:.3f},{:.2f},{:.2f},{:.1f}) # text={{{}}}", ("X", "Y", "A", "B", "THETA")
+        turn = 0
+    numbers = table["NUMBER"] if "NUMBER" in table.colnames else range(1, len(table) + 1)
+    for *values, angle, number in zip(*(_filled(table[name]).astype("f8") for name in names), numbers):
+        if numpy.isfinite(values).all():
+            yield form.format(*values, (angle + turn) % 360, number)
+
+
+def regions(table: Table, path: typing.Union[str, os.PathLike]) -> None:
+    """Writes a region file for DS9: the sources' ellipses, in sky coordinates where the table has RA and DEC, else
+    in pixels.
+    """
+    with whole_file(path) as name:
+        pathlib.Path(name).write_text("\n".join(_region_lines(table)) + "\n", encoding="utf-8")
+
+
+def map_hdu(segments: numpy.ndarray, header: typing.Optional[fits.Header], name: str = "SEGMENT") -> fits.ImageHDU:
+    """A segmentation map as an image extension, with the WCS of the image's header."""
+    cards = fits.Header()
+    for card in header.cards if header is not None else ():
+        if WCS_CARDS.fullmatch(card.keyword):
+            cards.append(card)
+    if cards.get("WCSAXES", 2) != 2:
+        cards["WCSAXES"] = 2
+    return fits.ImageHDU(numpy.asarray(segments, dtype="i4"), cards, name=name)
+
+
+def write_map(
+    segments: typing.Union[numpy.ndarray, typing.List[Image]],
+    header: typing.Optional[fits.Header],
+    path: typing.Union[str, os.PathLike],
+) -> None:
+    """Writes a segmentation map as a FITS file of 32-bit integers with the image's WCS, in the primary HDU.
+
+    In place of one map `segments` may be a list of names, maps and headers; each is then an extension, and `header`
+    isn't used.
+    """
+    if isinstance(segments, list):
+        hdus = [fits.PrimaryHDU(), *(map_hdu(each, own, name) for name, each, own in segments)]
+    else:
+        single = map_hdu(segments, header)
+        hdus = [fits.PrimaryHDU(single.data, single.header)]
+    with whole_file(path) as name:
+        fits.HDUList(hdus).writeto(name, overwrite=True, output_verify="silentfix")
