@@ -1,0 +1,5 @@
+mod Clear
+mod Sure
+mod Lists
+mod Tiles
+mod Merging

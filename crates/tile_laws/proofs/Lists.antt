@@ -1,0 +1,111 @@
+-- Members of lists, lists that rise by a number of each member, and lists with numbers before their members.
+use Rattle.std.proofs.Common.{◌≡◌, ℕ, ◌+◌, ◌<◌, zero, suc, List, [], ◌∷◌, length, map, get_or, refl, sym, ◌∙◌, ap, subst, arith, ◌⊎◌, inl, inr}
+use Rattle.std.specs.Prelude.{Contains, Some, slice_get, ⊤}
+use Rattle.std.specs.List.{enumerate_from}
+use Rattle.comp_tree.proofs.Exported.{IsAmong}
+
+-- ---- members
+
+pub contains_from_among : {X : Type 0} (x : X) (xs : List X) → IsAmong x xs → Contains xs x
+contains_from_among x [] h = absurd h
+contains_from_among x (y ∷ xs) (inl e) = (0, omega arith, e)
+contains_from_among x (y ∷ xs) (inr h) = let k : Contains xs x = contains_from_among x xs h in (suc k.0, omega arith, k.2)
+
+among_at_place : {X : Type 0} (x : X) (xs : List X) (k : ℕ) → k < length xs → get_or xs k x ≡ x → IsAmong x xs
+among_at_place x [] k lt e = absurd (omega arith)
+among_at_place x (y ∷ xs) zero lt e = inl e
+among_at_place x (y ∷ xs) (suc k) lt e = inr (among_at_place x xs k (omega arith) e)
+
+pub among_of : {X : Type 0} (x : X) (xs : List X) → Contains xs x → IsAmong x xs
+among_of x xs c = among_at_place x xs c.0 c.1 c.2
+
+pub among_get : {X : Type 0} (x : X) (xs : List X) → IsAmong x xs → (j : ℕ) × (slice_get xs j ≡ Some x)
+among_get x [] h = absurd h
+among_get x (y ∷ xs) (inl e) = (0, ap Some e)
+among_get x (y ∷ xs) (inr h) = let k : (j : ℕ) × (slice_get xs j ≡ Some x) = among_get x xs h in (suc k.0, k.1)
+
+pub among_map : {X Y : Type 0} (f : X → Y) (x : X) (xs : List X) → IsAmong x xs → IsAmong (f x) (map f xs)
+among_map f x [] h = absurd h
+among_map f x (y ∷ xs) (inl e) = inl (ap f e)
+among_map f x (y ∷ xs) (inr h) = inr (among_map f x xs h)
+
+-- a member of a list that is made of another one's members
+pub record IsImageOf {X Y : Type 0} (f : X → Y) (y : Y) (xs : List X) : Type 0 where
+  pub it : X
+  pub among : IsAmong it xs
+  pub image : f it ≡ y
+
+pub image_of : {X Y : Type 0} (f : X → Y) (y : Y) (xs : List X) → IsAmong y (map f xs) → IsImageOf f y xs
+image_of f y [] h = absurd h
+image_of f y (x ∷ xs) (inl e) = record { it = x; among = inl refl; image = e }
+image_of f y (x ∷ xs) (inr h) = let k : IsImageOf f y xs = image_of f y xs h in record { it = k.it; among = inr k.among; image = k.image }
+
+-- ---- lists that rise by a number of each member
+
+abbrev pub IsRisingBy : {X : Type 0} → (X → ℕ) → List X → Type 0
+IsRisingBy f [] = ⊤
+IsRisingBy f (x ∷ xs) = ((y : _) → IsAmong y xs → f x < f y) × IsRisingBy f xs
+
+pub rising_from_get : {X : Type 0} (f : X → ℕ) (xs : List X) → ((i j : ℕ) (x y : X) → i < j → slice_get xs i ≡ Some x → slice_get xs j ≡ Some y → f x < f y) → IsRisingBy f xs
+rising_from_get f [] rise = tt
+rising_from_get f (x ∷ xs) rise = (
+  (λ y m. let k : (j : ℕ) × (slice_get xs j ≡ Some y) = among_get y xs m in rise 0 (suc k.0) x y (omega arith) refl k.1),
+  rising_from_get f xs (λ i j u v l a b. rise (suc i) (suc j) u v (omega arith) a b),
+)
+
+-- two such lists with the same members are the same
+pub rising_equal : {X : Type 0} (f : X → ℕ) (xs ys : List X) → IsRisingBy f xs → IsRisingBy f ys → ((x : X) → IsAmong x xs → IsAmong x ys) → ((y : X) → IsAmong y ys → IsAmong y xs)
+    → xs ≡ ys
+rising_equal f [] [] hx hy there back = refl
+rising_equal f [] (y ∷ ys) hx hy there back = absurd (back y (inl refl))
+rising_equal f (x ∷ xs) [] hx hy there back = absurd (there x (inl refl))
+rising_equal {X} f (x ∷ xs) (y ∷ ys) hx hy there back =
+    ap (λ (z : X). z ∷ xs) (sym first) ∙ ap (λ (zs : List X). y ∷ zs) (rising_equal f xs ys hx.1 hy.1 (λ a k. there_rest a k (there a (inr k))) (λ b k. back_rest b k (back b (inr k))))
+  where
+    go : (y ≡ x) ⊎ IsAmong x ys → (x ≡ y) ⊎ IsAmong y xs → y ≡ x
+    go (inl e) k = e
+    go (inr m) (inl e) = sym e
+    go (inr m) (inr k) = let a : f y < f x = hy.0 x m in let b : f x < f y = hx.0 y k in absurd (omega arith)
+
+    first : y ≡ x
+    first = go (there x (inl refl)) (back y (inl refl))
+
+    there_rest : (a : X) → IsAmong a xs → (y ≡ a) ⊎ IsAmong a ys → IsAmong a ys
+    there_rest a k (inr m) = m
+    there_rest a k (inl e) = let b : f x < f a = hx.0 a k in let c : f x ≡ f a = ap f (sym first ∙ e) in absurd (omega arith)
+
+    back_rest : (b : X) → IsAmong b ys → (x ≡ b) ⊎ IsAmong b xs → IsAmong b xs
+    back_rest b k (inr m) = m
+    back_rest b k (inl e) = let c : f y < f b = hy.0 b k in let d : f y ≡ f b = ap f (first ∙ e) in absurd (omega arith)
+
+-- ---- members with numbers before them
+
+module _ {X Y : Type 0} (row : ℕ → X → Y) where
+  -- each member is made into one with its number
+  abbrev pub rows_from : ℕ → List X → List Y
+  rows_from k xs = map (λ e. row e.0 e.1) (enumerate_from k xs)
+
+  pub record IsRowOf (y : Y) (xs : List X) : Type 0 where
+    pub number : ℕ
+    pub it : X
+    pub among : IsAmong it xs
+    pub image : row number it ≡ y
+
+  pub row_of : (k : ℕ) (y : Y) (xs : List X) → IsAmong y (rows_from k xs) → IsRowOf y xs
+  row_of k y [] h = absurd h
+  row_of k y (x ∷ xs) (inl e) = record { number = k; it = x; among = inl refl; image = e }
+  row_of k y (x ∷ xs) (inr h) = let g : IsRowOf y xs = row_of (k + 1) y xs h in record { number = g.number; it = g.it; among = inr g.among; image = g.image }
+
+  pub among_rows : (k : ℕ) (x : X) (xs : List X) → IsAmong x xs → (j : ℕ) × IsAmong (row j x) (rows_from k xs)
+  among_rows k x [] h = absurd h
+  among_rows k x (y ∷ xs) (inl e) = (k, inl (ap (row k) e))
+  among_rows k x (y ∷ xs) (inr h) = let g : (j : ℕ) × IsAmong (row j x) (rows_from (k + 1) xs) = among_rows (k + 1) x xs h in (g.0, inr g.1)
+
+  module _ (f : Y → ℕ) (g : X → ℕ) (same : (k : ℕ) (x : X) → f (row k x) ≡ g x) where
+    pub rising_rows : (k : ℕ) (xs : List X) → IsRisingBy g xs → IsRisingBy f (rows_from k xs)
+    rising_rows k [] h = tt
+    rising_rows k (x ∷ xs) h = (
+      (λ y m. let e : IsRowOf y xs = row_of (k + 1) y xs m in let l : g x < g e.it = h.0 e.it e.among in
+          let a : f (row k x) ≡ g x = same k x in let b : f y ≡ g e.it = ap f (sym e.image) ∙ same e.number e.it in omega (arith, l, a, b)),
+      rising_rows (k + 1) xs h.1,
+    )

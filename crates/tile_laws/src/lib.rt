@@ -1,0 +1,4 @@
+//! The law of an image in pieces: detection runs over each piece alone, and their catalogues make that of the image.
+#![tactic(auto)]
+
+pub mod laws;
