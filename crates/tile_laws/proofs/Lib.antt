@@ -3,3 +3,4 @@ mod Sure
 mod Lists
 mod Tiles
 mod Merging
+mod Boxes

@@ -26,6 +26,15 @@ clear_box flat mesh whole w = record {
   bottom = clear_to flat mesh whole.height (w.top + w.shape.height);
 }
 
+-- the box of the window itself
+abbrev pub window_box : Window → Box
+window_box w = record {
+  left = w.left;
+  right = w.left + w.shape.width;
+  top = w.top;
+  bottom = w.top + w.shape.height;
+}
+
 -- a box lies in another one
 pub record IsBoxWithin (outer inner : Box) : Type 0 where
   pub left : outer.left ≤ inner.left

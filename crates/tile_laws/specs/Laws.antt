@@ -1,8 +1,14 @@
--- Model: the law of tiles, for an image as detection is given it.
-use Rattle.std.specs.Prelude.{◌≡◌, List, Contains}
+-- Model: the law of pieces, for an image as detection is given it.
+use Rattle.std.specs.Prelude.{◌≡◌, ℕ, ◌<◌, Bool, true, List, Contains}
+use Rattle.comp_tree.specs.declared.shape.Connect.{Connect}
 use Rattle.comp_tree.specs.Raster.{Raster, IsPlane}
+use Rattle.comp_tree.specs.Windows.{Window, Box}
+use Rattle.mesh_background.specs.Windows.{IsOnMesh}
+use Rattle.source_pick.specs.declared.choice.Choice.{Choice}
 use Rattle.source_pick.specs.declared.catalogue.CatRow.{CatRow}
-use Rattle.tile_laws.specs.Pieces.{Detection, Piece, detected, AnswersForCore, CoversImage, AreMerged, numbered}
+use Rattle.source_pick.specs.Catalogue.{catalogue}
+use Rattle.tile_laws.specs.Clear.{clear_box, window_box, IsBoxWithin, IsSureBox}
+use Rattle.tile_laws.specs.Pieces.{Detection, Piece, detected, AnswersForCore, without_mesh, ShowsItsCore, CoversImage, AreMerged, numbered}
 
 -- where the cores cover the image and each piece answers for its core, the image's catalogue is that of the pieces: their own rows, moved,
 -- in the order of their first pixels, and numbered
@@ -10,3 +16,22 @@ abbrev pub PiecesGiveTheCatalogue : Type 0
 PiecesGiveTheCatalogue = (d : Detection) (r : Raster) (pieces : List Piece) (rows : List CatRow) → IsPlane r
     → CoversImage r.shape pieces → ((t : Piece) → Contains pieces t → AnswersForCore d r t)
     → AreMerged d r pieces rows → detected d r ≡ numbered rows
+
+-- with a flat background more is asked of no box than that it lies in the clear box
+abbrev pub FlatBoxesAreSure : Type 0
+FlatBoxesAreSure = (r : Raster) (w : Window) (mesh : ℕ) (box : Box) → (0 < mesh → IsOnMesh mesh w)
+    → IsBoxWithin (clear_box true mesh r.shape w) box → IsSureBox r w true mesh box
+
+-- and without a mesh, than that it lies in the window
+abbrev pub BoxesAreSureWithoutMesh : Type 0
+BoxesAreSureWithoutMesh = (r : Raster) (w : Window) (flat : Bool) (box : Box) → IsBoxWithin (window_box w) box → IsSureBox r w flat 0 box
+
+-- without a mesh detection works on the image itself
+abbrev pub NoMeshDetectsInTheImage : Type 0
+NoMeshDetectsInTheImage = (connect : Connect) (choice : Choice) (r : Raster) → detected (without_mesh connect choice) r ≡ catalogue r connect choice
+
+-- so the catalogue of a plane is that of its windows
+abbrev pub PiecesGiveThePlanesCatalogue : Type 0
+PiecesGiveThePlanesCatalogue = (connect : Connect) (choice : Choice) (r : Raster) (pieces : List Piece) (rows : List CatRow) → IsPlane r
+    → CoversImage r.shape pieces → ((t : Piece) → Contains pieces t → ShowsItsCore connect choice r t)
+    → AreMerged (without_mesh connect choice) r pieces rows → catalogue r connect choice ≡ numbered rows

@@ -1,6 +1,6 @@
 -- Model: an image in pieces. Detection runs over the window of each piece alone, and the rows whose first pixels lie in the piece's core
 -- are put together.
-use Rattle.std.specs.Prelude.{◌≡◌, ℕ, ◌+◌, ◌-◌, ◌*◌, ◌<◌, Bool, IsTrue, pos, unsigned_abs, List, length, map, Contains, Some, slice_get}
+use Rattle.std.specs.Prelude.{◌≡◌, ℕ, ◌+◌, ◌-◌, ◌*◌, ◌<◌, Bool, true, IsTrue, pos, unsigned_abs, List, length, map, Contains, Some, slice_get}
 use Rattle.std.specs.List.{enumerate_from}
 use Rattle.comp_tree.specs.declared.shape.Connect.{Connect}
 use Rattle.comp_tree.specs.declared.shape.Shape.{Shape}
@@ -13,7 +13,7 @@ use Rattle.source_pick.specs.declared.choice.Choice.{Choice}
 use Rattle.source_pick.specs.declared.catalogue.CatRow.{CatRow}
 use Rattle.source_pick.specs.Catalogue.{catalogue}
 use Rattle.source_pick.specs.Windows.{moved_row}
-use Rattle.tile_laws.specs.Clear.{IsSureBox}
+use Rattle.tile_laws.specs.Clear.{window_box, IsBoxWithin, IsSureBox}
 
 -- what detection is told: the size of the mesh (0: no background), whether the background is flat, the connectivity, and which nodes are
 -- sources
@@ -54,6 +54,24 @@ pub record AnswersForCore (d : Detection) (r : Raster) (t : Piece) : Type 0 wher
   pub core_sure : IsSureBox r t.window d.flat d.mesh t.core
   pub components : (q : ℕ) → IsTrue (is_in_box r.shape.width t.core (in_whole r.shape.width t.window q))
       → IsTrue (is_at_least (searched d (seen_through t.window r)) d.choice.threshold q) → HasSureBox d r t q
+
+-- detection without a background
+abbrev pub without_mesh : Connect → Choice → Detection
+without_mesh connect choice = record {
+  mesh = 0;
+  flat = true;
+  connect = connect;
+  choice = choice;
+}
+
+-- There a piece answers for its core where this lies in the window, and each component at the threshold that has a pixel in the core lies deep
+-- in the window
+pub record ShowsItsCore (connect : Connect) (choice : Choice) (r : Raster) (t : Piece) : Type 0 where
+  pub inside : IsInside r.shape t.window
+  pub core_seen : IsBoxWithin (window_box t.window) t.core
+  pub components : (q b : ℕ) → IsTrue (is_in_box r.shape.width t.core (in_whole r.shape.width t.window q))
+      → IsTrue (is_at_least (seen_through t.window r) choice.threshold q) → IsReached (seen_through t.window r) connect choice.threshold q b
+      → IsDeepIn r.shape (window_box t.window) (in_whole r.shape.width t.window b)
 
 -- the cores cover an image of so many columns and rows
 abbrev pub CoversImage : Shape → List Piece → Type 0

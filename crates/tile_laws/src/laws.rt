@@ -1,7 +1,13 @@
 //! The law of an image in pieces. Each part is the contract of a function that does nothing but name the laws below from which it follows,
 //! and speaks of the definitions alone.
 
-ghost use Rattle.tile_laws.specs.Laws.{PiecesGiveTheCatalogue};
+ghost use Rattle.tile_laws.specs.Laws.{
+  PiecesGiveTheCatalogue,
+  FlatBoxesAreSure,
+  BoxesAreSureWithoutMesh,
+  NoMeshDetectsInTheImage,
+  PiecesGiveThePlanesCatalogue,
+};
 
 use comp_tree::laws::sure_components_are_the_same;
 use mesh_background::laws::{no_mesh_leaves_the_plane, residual_is_a_plane, residual_is_seen};
@@ -18,4 +24,19 @@ pub fn pieces_give_the_catalogue()
     sure_components_are_the_same();
     sources_are_listed();
     sources_of_tiles();
+}
+
+/// Which boxes are sure: with a flat background those in the clear box, and without a mesh those in the window.
+pub fn boxes_are_sure()
+    ensures flat { FlatBoxesAreSure }
+    ensures without { BoxesAreSureWithoutMesh }
+{}
+
+/// Without a mesh detection works on the image itself, and its catalogue is that of its windows.
+pub fn pieces_give_the_planes_catalogue()
+    ensures image { NoMeshDetectsInTheImage }
+    ensures catalogue { PiecesGiveThePlanesCatalogue }
+{
+    no_mesh_leaves_the_plane();
+    pieces_give_the_catalogue();
 }
