@@ -4,3 +4,5 @@ mod Lists
 mod Tiles
 mod Merging
 mod Boxes
+mod Shown
+mod Mapping

@@ -1,7 +1,8 @@
 -- Members of lists, lists that rise by a number of each member, and lists with numbers before their members.
 use Rattle.std.proofs.Common.{◌≡◌, ℕ, ◌+◌, ◌<◌, zero, suc, List, [], ◌∷◌, length, map, get_or, refl, sym, ◌∙◌, ap, subst, arith, ◌⊎◌, inl, inr}
-use Rattle.std.specs.Prelude.{Contains, Some, slice_get, ⊤}
+use Rattle.std.specs.Prelude.{Contains, Some, None, slice_get, ⊤}
 use Rattle.std.specs.List.{enumerate_from}
+use Rattle.std.proofs.lemmas.Option.{same_Some}
 use Rattle.comp_tree.proofs.Exported.{IsAmong}
 
 -- ---- members
@@ -23,6 +24,14 @@ pub among_get : {X : Type 0} (x : X) (xs : List X) → IsAmong x xs → (j : ℕ
 among_get x [] h = absurd h
 among_get x (y ∷ xs) (inl e) = (0, ap Some e)
 among_get x (y ∷ xs) (inr h) = let k : (j : ℕ) × (slice_get xs j ≡ Some x) = among_get x xs h in (suc k.0, k.1)
+
+pub get_among : {X : Type 0} (x : X) (xs : List X) (j : ℕ) → slice_get xs j ≡ Some x → IsAmong x xs
+get_among x [] j e = absurd (no_member e)
+  where
+    no_member : {X : Type 0} {x : X} → None ≡ Some x → ⊥
+    no_member e = cc
+get_among x (y ∷ xs) zero e = inl (same_Some y x e)
+get_among x (y ∷ xs) (suc j) e = inr (get_among x xs j e)
 
 pub among_map : {X Y : Type 0} (f : X → Y) (x : X) (xs : List X) → IsAmong x xs → IsAmong (f x) (map f xs)
 among_map f x [] h = absurd h
@@ -85,27 +94,43 @@ module _ {X Y : Type 0} (row : ℕ → X → Y) where
   abbrev pub rows_from : ℕ → List X → List Y
   rows_from k xs = map (λ e. row e.0 e.1) (enumerate_from k xs)
 
-  pub record IsRowOf (y : Y) (xs : List X) : Type 0 where
-    pub number : ℕ
+  -- a member of the new list, and the place of the old one from which it was made
+  pub record IsRowOf (k : ℕ) (y : Y) (xs : List X) : Type 0 where
+    pub index : ℕ
     pub it : X
-    pub among : IsAmong it xs
-    pub image : row number it ≡ y
+    pub at : slice_get xs index ≡ Some it
+    pub image : row (index + k) it ≡ y
 
-  pub row_of : (k : ℕ) (y : Y) (xs : List X) → IsAmong y (rows_from k xs) → IsRowOf y xs
+  pub row_of : (k : ℕ) (y : Y) (xs : List X) → IsAmong y (rows_from k xs) → IsRowOf k y xs
   row_of k y [] h = absurd h
-  row_of k y (x ∷ xs) (inl e) = record { number = k; it = x; among = inl refl; image = e }
-  row_of k y (x ∷ xs) (inr h) = let g : IsRowOf y xs = row_of (k + 1) y xs h in record { number = g.number; it = g.it; among = inr g.among; image = g.image }
+  row_of k y (x ∷ xs) (inl e) = record { index = 0; it = x; at = refl; image = ap (λ (n : ℕ). row n x) (omega arith) ∙ e }
+  row_of k y (x ∷ xs) (inr h) =
+      let g : IsRowOf (k + 1) y xs = row_of (k + 1) y xs h in
+      record { index = suc g.index; it = g.it; at = g.at; image = ap (λ (n : ℕ). row n g.it) (omega arith) ∙ g.image }
 
-  pub among_rows : (k : ℕ) (x : X) (xs : List X) → IsAmong x xs → (j : ℕ) × IsAmong (row j x) (rows_from k xs)
-  among_rows k x [] h = absurd h
-  among_rows k x (y ∷ xs) (inl e) = (k, inl (ap (row k) e))
-  among_rows k x (y ∷ xs) (inr h) = let g : (j : ℕ) × IsAmong (row j x) (rows_from (k + 1) xs) = among_rows (k + 1) x xs h in (g.0, inr g.1)
+  pub get_rows : (k : ℕ) (xs : List X) (i : ℕ) (x : X) → slice_get xs i ≡ Some x → slice_get (rows_from k xs) i ≡ Some (row (i + k) x)
+  get_rows k [] i x e = absurd (no_member e)
+    where
+      no_member : None ≡ Some x → ⊥
+      no_member e = cc
+  get_rows k (y ∷ xs) zero x e = ap (λ (n : ℕ). Some (row n y)) (omega arith) ∙ ap (λ (z : X). Some (row (0 + k) z)) (same_Some y x e)
+  get_rows k (y ∷ xs) (suc i) x e = get_rows (k + 1) xs i x e ∙ ap (λ (n : ℕ). Some (row n x)) (omega arith)
+
+  pub row_at : (k : ℕ) (y : Y) (xs : List X) (i : ℕ) → slice_get (rows_from k xs) i ≡ Some y → (x : X) × (slice_get xs i ≡ Some x) × (row (i + k) x ≡ y)
+  row_at k y [] i e = absurd (no_member e)
+    where
+      no_member : None ≡ Some y → ⊥
+      no_member e = cc
+  row_at k y (x ∷ xs) zero e = (x, refl, ap (λ (n : ℕ). row n x) (omega arith) ∙ same_Some (row k x) y e)
+  row_at k y (x ∷ xs) (suc i) e =
+      let g : (x : X) × (slice_get xs i ≡ Some x) × (row (i + (k + 1)) x ≡ y) = row_at (k + 1) y xs i e in
+      (g.0, g.1, ap (λ (n : ℕ). row n g.0) (omega arith) ∙ g.2)
 
   module _ (f : Y → ℕ) (g : X → ℕ) (same : (k : ℕ) (x : X) → f (row k x) ≡ g x) where
     pub rising_rows : (k : ℕ) (xs : List X) → IsRisingBy g xs → IsRisingBy f (rows_from k xs)
     rising_rows k [] h = tt
     rising_rows k (x ∷ xs) h = (
-      (λ y m. let e : IsRowOf y xs = row_of (k + 1) y xs m in let l : g x < g e.it = h.0 e.it e.among in
-          let a : f (row k x) ≡ g x = same k x in let b : f y ≡ g e.it = ap f (sym e.image) ∙ same e.number e.it in omega (arith, l, a, b)),
+      (λ y m. let e : IsRowOf (k + 1) y xs = row_of (k + 1) y xs m in let l : g x < g e.it = h.0 e.it (get_among e.it xs e.index e.at) in
+          let a : f (row k x) ≡ g x = same k x in let b : f y ≡ g e.it = ap f (sym e.image) ∙ same (e.index + (k + 1)) e.it in omega (arith, l, a, b)),
       rising_rows (k + 1) xs h.1,
     )

@@ -18,7 +18,7 @@ use Rattle.source_pick.specs.Laws.{SourcesAreListed, SourcesAreInOrder}
 use Rattle.source_pick.specs.Windows.{moved_row, Tile, IsTileOf, IsOwnSource, IsFromTile, EachSourceIsATiles, OwnSourcesAreTheWholes}
 use Rattle.tile_laws.specs.Pieces.{Detection, Piece, searched, detected, AnswersForCore, CoversImage, first_pixel, IsFromPiece, AreMerged, with_number, numbered}
 use Rattle.tile_laws.specs.Laws.{PiecesGiveTheCatalogue}
-use Rattle.tile_laws.proofs.Lists.{contains_from_among, among_of, among_map, IsImageOf, image_of, IsRisingBy, rising_from_get, rising_equal, rows_from, IsRowOf, row_of, among_rows, rising_rows}
+use Rattle.tile_laws.proofs.Lists.{contains_from_among, among_of, among_get, get_among, among_map, IsImageOf, image_of, IsRisingBy, rising_from_get, rising_equal, rows_from, IsRowOf, row_of, get_rows, rising_rows}
 use Rattle.tile_laws.proofs.Sure.{BackgroundLaws}
 use Rattle.tile_laws.proofs.Tiles.{tile_of, is_tile}
 
@@ -38,7 +38,7 @@ unfolding moved_row
 moved_renumbered w i row = refl
 
 -- the first pixel of a source is told from its row
-first_is : (r : Raster) (connect : Connect) (i n : ℕ) → first_pixel r.shape.width (catalogue_row r connect i n) ≡ (sums_of r connect n).first
+pub first_is : (r : Raster) (connect : Connect) (i n : ℕ) → first_pixel r.shape.width (catalogue_row r connect i n) ≡ (sums_of r connect n).first
 unfolding catalogue_row measured_row
 first_is r connect i n =
     let e : (sums_of r connect n).first / r.shape.width * r.shape.width + (sums_of r connect n).first % r.shape.width ≡ (sums_of r connect n).first = div-add-mod' (sums_of r connect n).first r.shape.width in
@@ -87,10 +87,10 @@ module _ (laws : TileLaws) (d : Detection) (r : Raster) (pieces : List Piece) (p
   abbrev part : Piece → Raster
   part t = searched d (seen_through t.window r)
 
-  plane_R : IsPlane R
+  pub plane_R : IsPlane R
   plane_R = laws.background.one_each r d.mesh d.flat plane
 
-  tile : (t : Piece) → Contains pieces t → IsTileOf R d.connect d.choice (tile_of d r t)
+  pub tile : (t : Piece) → Contains pieces t → IsTileOf R d.connect d.choice (tile_of d r t)
   tile t k = is_tile laws.background laws.deep d r t plane (answers t k)
 
   -- n is a source of the image as m is of the piece, and has this row
@@ -133,27 +133,36 @@ module _ (laws : TileLaws) (d : Detection) (r : Raster) (pieces : List Piece) (p
 
   -- the row that a source of the image has in its piece's catalogue, moved
   pub record IsRowThere (t : Piece) (n m : ℕ) : Type 0 where
-    pub number : ℕ
-    pub from : IsFromPiece d r t (moved_row t.window (catalogue_row (part t) d.connect number m))
+    pub index : ℕ
+    pub at : slice_get (sources (part t) d.connect d.choice) index ≡ Some m
+    pub from : IsFromPiece d r t (moved_row t.window (catalogue_row (part t) d.connect (index + 1) m))
 
   pub row_there : (t : Piece) (n m : ℕ) → IsPiecesSource t n m → IsRowThere t n m
   unfolding residual_of
   row_there t n m k = record {
-    number = j.0;
+    index = j.0;
+    at = j.1;
     from = record {
-      it = catalogue_row (part t) d.connect j.0 m;
-      listed = subst (λ (rows : List CatRow). Contains rows (catalogue_row (part t) d.connect j.0 m)) (sym (catalogue_is (part t) d.connect d.choice))
-          (contains_from_among (catalogue_row (part t) d.connect j.0 m) (rows_from (catalogue_row (part t) d.connect) 1 (sources (part t) d.connect d.choice)) j.1);
+      it = row;
+      listed = subst (λ (rows : List CatRow). Contains rows row) (sym (catalogue_is (part t) d.connect d.choice))
+          (contains_from_among row (rows_from (catalogue_row (part t) d.connect) 1 (sources (part t) d.connect d.choice)) there);
       moved = refl;
       own = subst (λ (p : ℕ). IsTrue (is_in_box r.shape.width t.core p)) place k.from.from.own;
     };
   }
     where
-      j : (j : ℕ) × IsAmong (catalogue_row (part t) d.connect j m) (rows_from (catalogue_row (part t) d.connect) 1 (sources (part t) d.connect d.choice))
-      j = among_rows (catalogue_row (part t) d.connect) 1 m (sources (part t) d.connect d.choice) (listed_there t m k.among k.from.from.node k.from.from.source)
+      j : (j : ℕ) × (slice_get (sources (part t) d.connect d.choice) j ≡ Some m)
+      j = among_get m (sources (part t) d.connect d.choice) (listed_there t m k.among k.from.from.node k.from.from.source)
 
-      place : in_whole r.shape.width t.window (sums_of (part t) d.connect m).first ≡ first_pixel r.shape.width (moved_row t.window (catalogue_row (part t) d.connect j.0 m))
-      place = sym k.from.moved.first ∙ sym (first_is R d.connect j.0 n) ∙ ap (first_pixel r.shape.width) (k.from.moved.row j.0)
+      row : CatRow
+      row = catalogue_row (part t) d.connect (j.0 + 1) m
+
+      there : IsAmong row (rows_from (catalogue_row (part t) d.connect) 1 (sources (part t) d.connect d.choice))
+      there = get_among row (rows_from (catalogue_row (part t) d.connect) 1 (sources (part t) d.connect d.choice)) j.0
+          (get_rows (catalogue_row (part t) d.connect) 1 (sources (part t) d.connect d.choice) j.0 m j.1)
+
+      place : in_whole r.shape.width t.window (sums_of (part t) d.connect m).first ≡ first_pixel r.shape.width (moved_row t.window row)
+      place = sym k.from.moved.first ∙ sym (first_is R d.connect (j.0 + 1) n) ∙ ap (first_pixel r.shape.width) (k.from.moved.row (j.0 + 1))
 
   -- but for its number it is the row in the image's
   same_plain : (t : Piece) (n m i j : ℕ) → IsFromTile R d.connect d.choice (tile_of d r t) n m → plain (moved_row t.window (catalogue_row (part t) d.connect j m)) ≡ plain (catalogue_row R d.connect i n)
@@ -170,32 +179,40 @@ module _ (laws : TileLaws) (d : Detection) (r : Raster) (pieces : List Piece) (p
 
   -- and the source of a piece's own row
   pub record IsSourceOfRow (t : Piece) (row : CatRow) : Type 0 where
-    pub number : ℕ
+    pub index : ℕ
     pub there : ℕ
+    pub at : slice_get (sources (part t) d.connect d.choice) index ≡ Some there
     pub here : ℕ
     pub from : IsFromTile R d.connect d.choice (tile_of d r t) here there
-    pub row_is : row ≡ moved_row t.window (catalogue_row (part t) d.connect number there)
+    pub row_is : row ≡ moved_row t.window (catalogue_row (part t) d.connect (index + 1) there)
 
   pub source_of_row : (t : Piece) (row : CatRow) → Contains pieces t → IsFromPiece d r t row → IsSourceOfRow t row
   unfolding residual_of
-  source_of_row t row k f = record { number = e.number; there = e.it; here = n.0; from = n.1; row_is = row_is }
+  source_of_row t row k f = record {
+    index = e.index;
+    there = e.it;
+    at = e.at;
+    here = n.0;
+    from = n.1;
+    row_is = row_is;
+  }
     where
-      e : IsRowOf (catalogue_row (part t) d.connect) f.it (sources (part t) d.connect d.choice)
+      e : IsRowOf (catalogue_row (part t) d.connect) 1 f.it (sources (part t) d.connect d.choice)
       e = row_of (catalogue_row (part t) d.connect) 1 f.it (sources (part t) d.connect d.choice)
           (among_of f.it (rows_from (catalogue_row (part t) d.connect) 1 (sources (part t) d.connect d.choice))
           (subst (λ (rows : List CatRow). Contains rows f.it) (catalogue_is (part t) d.connect d.choice) f.listed))
 
       is : IsNode (part t) d.connect e.it × IsTrue (is_source (part t) d.connect d.choice e.it)
-      is = (laws.listed (part t) d.connect d.choice e.it (tile t k).one_each).0 (contains_from_among e.it (sources (part t) d.connect d.choice) e.among)
+      is = (laws.listed (part t) d.connect d.choice e.it (tile t k).one_each).0 (contains_from_among e.it (sources (part t) d.connect d.choice) (get_among e.it (sources (part t) d.connect d.choice) e.index e.at))
 
-      row_is : row ≡ moved_row t.window (catalogue_row (part t) d.connect e.number e.it)
+      row_is : row ≡ moved_row t.window (catalogue_row (part t) d.connect (e.index + 1) e.it)
       row_is = f.moved ∙ ap (moved_row t.window) (sym e.image)
 
       own : IsOwnSource R d.connect d.choice (tile_of d r t) e.it
       own = record {
         node = is.0;
         source = is.1;
-        own = subst (λ (p : ℕ). IsTrue (is_in_box r.shape.width t.core p)) (ap (first_pixel r.shape.width) row_is ∙ moved_first t e.number e.it) f.own;
+        own = subst (λ (p : ℕ). IsTrue (is_in_box r.shape.width t.core p)) (ap (first_pixel r.shape.width) row_is ∙ moved_first t (e.index + 1) e.it) f.own;
       }
 
       n : (n : ℕ) × IsFromTile R d.connect d.choice (tile_of d r t) n e.it
@@ -211,23 +228,23 @@ module _ (laws : TileLaws) (d : Detection) (r : Raster) (pieces : List Piece) (p
         y : IsImageOf plain x rows_here
         y = image_of plain x rows_here k
 
-        e : IsRowOf (catalogue_row R d.connect) y.it (sources R d.connect d.choice)
+        e : IsRowOf (catalogue_row R d.connect) 1 y.it (sources R d.connect d.choice)
         e = row_of (catalogue_row R d.connect) 1 y.it (sources R d.connect d.choice) y.among
 
         g : (t : Piece) × ((m : ℕ) × IsPiecesSource t e.it m)
-        g = source_from e.it e.among
+        g = source_from e.it (get_among e.it (sources R d.connect d.choice) e.index e.at)
 
         there_row : IsRowThere g.0 e.it g.1.0
         there_row = row_there g.0 e.it g.1.0 g.1.1
 
         row : CatRow
-        row = moved_row g.0.window (catalogue_row (part g.0) d.connect there_row.number g.1.0)
+        row = moved_row g.0.window (catalogue_row (part g.0) d.connect (there_row.index + 1) g.1.0)
 
         same : plain row ≡ x
-        same = same_plain g.0 e.it g.1.0 e.number there_row.number g.1.1.from ∙ ap plain e.image ∙ y.image
+        same = same_plain g.0 e.it g.1.0 (e.index + 1) (there_row.index + 1) g.1.1.from ∙ ap plain e.image ∙ y.image
 
     back : (x : CatRow) → IsAmong x (map plain rows) → IsAmong x (map plain rows_here)
-    back x k = subst (λ (z : CatRow). IsAmong z (map plain rows_here)) same (among_map plain (catalogue_row R d.connect j.0 s.here) rows_here j.1)
+    back x k = subst (λ (z : CatRow). IsAmong z (map plain rows_here)) same (among_map plain (catalogue_row R d.connect (j.0 + 1) s.here) rows_here row)
       where
         y : IsImageOf plain x rows
         y = image_of plain x rows k
@@ -238,12 +255,15 @@ module _ (laws : TileLaws) (d : Detection) (r : Raster) (pieces : List Piece) (p
         s : IsSourceOfRow t.0 y.it
         s = source_of_row t.0 y.it t.1 t.2
 
-        j : (j : ℕ) × IsAmong (catalogue_row R d.connect j s.here) rows_here
-        j = among_rows (catalogue_row R d.connect) 1 s.here (sources R d.connect d.choice)
+        j : (j : ℕ) × (slice_get (sources R d.connect d.choice) j ≡ Some s.here)
+        j = among_get s.here (sources R d.connect d.choice)
             (among_of s.here (sources R d.connect d.choice) ((laws.listed R d.connect d.choice s.here plane_R).1 (s.from.node, s.from.source)))
 
-        same : plain (catalogue_row R d.connect j.0 s.here) ≡ x
-        same = sym (same_plain t.0 s.here s.there j.0 s.number s.from) ∙ ap plain (sym s.row_is) ∙ y.image
+        row : IsAmong (catalogue_row R d.connect (j.0 + 1) s.here) rows_here
+        row = get_among (catalogue_row R d.connect (j.0 + 1) s.here) rows_here j.0 (get_rows (catalogue_row R d.connect) 1 (sources R d.connect d.choice) j.0 s.here j.1)
+
+        same : plain (catalogue_row R d.connect (j.0 + 1) s.here) ≡ x
+        same = sym (same_plain t.0 s.here s.there (j.0 + 1) (s.index + 1) s.from) ∙ ap plain (sym s.row_is) ∙ y.image
 
     rising_plain : (zs : List CatRow) → IsRisingBy (first_pixel r.shape.width) zs → IsRisingBy (first_pixel r.shape.width) (map plain zs)
     rising_plain [] h = tt
@@ -264,13 +284,15 @@ module _ (laws : TileLaws) (d : Detection) (r : Raster) (pieces : List Piece) (p
     rising_there : IsRisingBy (first_pixel r.shape.width) rows
     rising_there = rising_from_get (first_pixel r.shape.width) rows (λ i j x y l a b. merged.rise i j x y l a b)
 
-    pub same_catalogue : detected d r ≡ numbered rows
-    unfolding numbered
-    same_catalogue =
-        catalogue_is R d.connect d.choice
-        ∙ sym (numbered_rows R d.connect 1 (sources R d.connect d.choice))
+    pub same_rows : rows_here ≡ rows_from with_number 1 rows
+    same_rows =
+        sym (numbered_rows R d.connect 1 (sources R d.connect d.choice))
         ∙ ap (rows_from with_number 1) (rising_equal (first_pixel r.shape.width) (map plain rows_here) (map plain rows) (rising_plain rows_here rising_here) (rising_plain rows rising_there) there back)
         ∙ numbered_plain 1 rows
+
+    pub same_catalogue : detected d r ≡ numbered rows
+    unfolding numbered
+    same_catalogue = catalogue_is R d.connect d.choice ∙ same_rows
 
 pub pieces_give_the_catalogue : TileLaws → PiecesGiveTheCatalogue
 pieces_give_the_catalogue laws d r pieces rows plane cover answers merged = same_catalogue laws d r pieces plane cover answers rows merged

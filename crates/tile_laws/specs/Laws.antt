@@ -1,5 +1,5 @@
 -- Model: the law of pieces, for an image as detection is given it.
-use Rattle.std.specs.Prelude.{◌≡◌, ℕ, ◌<◌, Bool, true, List, Contains}
+use Rattle.std.specs.Prelude.{◌≡◌, ℕ, ◌+◌, ◌<◌, ◌↔◌, Bool, true, List, Contains, slice_index}
 use Rattle.comp_tree.specs.declared.shape.Connect.{Connect}
 use Rattle.comp_tree.specs.Raster.{Raster, IsPlane}
 use Rattle.comp_tree.specs.Windows.{Window, Box}
@@ -8,7 +8,7 @@ use Rattle.source_pick.specs.declared.choice.Choice.{Choice}
 use Rattle.source_pick.specs.declared.catalogue.CatRow.{CatRow}
 use Rattle.source_pick.specs.Catalogue.{catalogue}
 use Rattle.tile_laws.specs.Clear.{clear_box, window_box, IsBoxWithin, IsSureBox}
-use Rattle.tile_laws.specs.Pieces.{Detection, Piece, detected, AnswersForCore, without_mesh, ShowsItsCore, CoversImage, AreMerged, numbered}
+use Rattle.tile_laws.specs.Pieces.{Detection, Piece, detected, AnswersForCore, without_mesh, ShowsItsCore, CoversImage, AreMerged, numbered, mapped, IsMappedBy}
 
 -- where the cores cover the image and each piece answers for its core, the image's catalogue is that of the pieces: their own rows, moved,
 -- in the order of their first pixels, and numbered
@@ -16,6 +16,13 @@ abbrev pub PiecesGiveTheCatalogue : Type 0
 PiecesGiveTheCatalogue = (d : Detection) (r : Raster) (pieces : List Piece) (rows : List CatRow) → IsPlane r
     → CoversImage r.shape pieces → ((t : Piece) → Contains pieces t → AnswersForCore d r t)
     → AreMerged d r pieces rows → detected d r ≡ numbered rows
+
+-- the image's map too: a pixel has number k + 1 there exactly where row k of the merged rows is a row of a piece whose map gives the pixel this
+-- row's number. All other pixels have 0
+abbrev pub PiecesGiveTheMap : Type 0
+PiecesGiveTheMap = (d : Detection) (r : Raster) (pieces : List Piece) (rows : List CatRow) (p k : ℕ) → IsPlane r
+    → CoversImage r.shape pieces → ((t : Piece) → Contains pieces t → AnswersForCore d r t) → AreMerged d r pieces rows
+    → (slice_index (mapped d r) p ≡ k + 1) ↔ ((t : Piece) × Contains pieces t × IsMappedBy d r rows t p k)
 
 -- with a flat background more is asked of no box than that it lies in the clear box
 abbrev pub FlatBoxesAreSure : Type 0

@@ -1,6 +1,6 @@
 -- Model: an image in pieces. Detection runs over the window of each piece alone, and the rows whose first pixels lie in the piece's core
 -- are put together.
-use Rattle.std.specs.Prelude.{◌≡◌, ℕ, ◌+◌, ◌-◌, ◌*◌, ◌<◌, Bool, true, IsTrue, pos, unsigned_abs, List, length, map, Contains, Some, slice_get}
+use Rattle.std.specs.Prelude.{◌≡◌, ℕ, ◌+◌, ◌-◌, ◌*◌, ◌<◌, Bool, true, IsTrue, pos, unsigned_abs, List, length, map, Contains, Some, slice_get, slice_index}
 use Rattle.std.specs.List.{enumerate_from}
 use Rattle.comp_tree.specs.declared.shape.Connect.{Connect}
 use Rattle.comp_tree.specs.declared.shape.Shape.{Shape}
@@ -12,6 +12,7 @@ use Rattle.mesh_background.specs.Windows.{IsOnMesh}
 use Rattle.source_pick.specs.declared.choice.Choice.{Choice}
 use Rattle.source_pick.specs.declared.catalogue.CatRow.{CatRow}
 use Rattle.source_pick.specs.Catalogue.{catalogue}
+use Rattle.source_pick.specs.Segmentation.{segmentation}
 use Rattle.source_pick.specs.Windows.{moved_row}
 use Rattle.tile_laws.specs.Clear.{window_box, IsBoxWithin, IsSureBox}
 
@@ -30,6 +31,10 @@ searched d r = residual_of r d.mesh d.flat
 -- and the catalogue that it makes of an image
 abbrev pub detected : Detection → Raster → List CatRow
 detected d r = catalogue (searched d r) d.connect d.choice
+
+-- and the segmentation map
+abbrev pub mapped : Detection → Raster → List ℕ
+mapped d r = segmentation (searched d r) d.connect d.choice
 
 -- a piece of an image: the window that is given to detection, and the core: the pixels of the image for whose sources it answers
 pub record Piece : Type 0 where
@@ -104,3 +109,13 @@ with_number number row = record row { number = pos number }
 -- rows, numbered from 1 on
 unfoldable pub numbered : List CatRow → List CatRow
 numbered rows = map (λ e. with_number e.0 e.1) (enumerate_from 1 rows)
+
+-- Row k of the merged rows, counted from 0, is a row of the piece, and pixel p of the image has the number of this row in the piece's map
+pub record IsMappedBy (d : Detection) (r : Raster) (rows : List CatRow) (t : Piece) (p k : ℕ) : Type 0 where
+  pub pixel : ℕ
+  pub below : pixel < t.window.shape.width * t.window.shape.height
+  pub place : in_whole r.shape.width t.window pixel ≡ p
+  pub row : CatRow
+  pub at : slice_get rows k ≡ Some row
+  pub from : IsFromPiece d r t row
+  pub number : from.it.number ≡ pos (slice_index (mapped d (seen_through t.window r)) pixel)
