@@ -6,3 +6,4 @@ mod Merging
 mod Boxes
 mod Shown
 mod Mapping
+mod Depth

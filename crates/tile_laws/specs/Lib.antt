@@ -1,3 +1,4 @@
 pub mod Pieces
 pub mod Clear
 pub mod Laws
+pub mod Extents
