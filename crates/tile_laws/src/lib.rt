@@ -3,5 +3,7 @@
 
 mod extents;
 pub mod laws;
+#[cfg(test)]
+mod tests;
 
 pub use extents::{Extent, Span, clear_extent, lies_deep};
