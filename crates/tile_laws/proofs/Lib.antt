@@ -7,3 +7,4 @@ mod Boxes
 mod Shown
 mod Mapping
 mod Depth
+mod Measured

@@ -152,10 +152,10 @@ module _ (laws : MapLaws) (d : Detection) (r : Raster) (pieces : List Piece) (pl
   abbrev part : Piece → Raster
   part t = searched d (seen_through t.window r)
 
-  whole : IsPlane R
+  pub whole : IsPlane R
   whole = plane_R laws.tiles d r pieces plane cover answers
 
-  piece : (t : Piece) → Contains pieces t → IsTileOf R d.connect d.choice (tile_of d r t)
+  pub piece : (t : Piece) → Contains pieces t → IsTileOf R d.connect d.choice (tile_of d r t)
   piece t c = tile laws.tiles d r pieces plane cover answers t c
 
   -- the source of the image that row k of the merged rows is
@@ -173,6 +173,35 @@ module _ (laws : MapLaws) (d : Detection) (r : Raster) (pieces : List Piece) (pl
 
       g : (n : ℕ) × (slice_get (sources R d.connect d.choice) k ≡ Some n) × (catalogue_row R d.connect (k + 1) n ≡ with_number (k + 1) row)
       g = row_at (catalogue_row R d.connect) 1 (with_number (k + 1) row) (sources R d.connect d.choice) k there
+
+  -- which is the source of the piece's row
+  pub here_at : (t : Piece) (row : CatRow) (c : Contains pieces t) (f : IsFromPiece d r t row) (k : ℕ) → slice_get rows k ≡ Some row
+      → slice_get (sources R d.connect d.choice) k ≡ Some (source_of_row laws.tiles d r pieces plane cover answers t row c f).here
+  unfolding residual_of
+  here_at t row c f k e = subst (λ (x : ℕ). slice_get (sources R d.connect d.choice) x ≡ Some s.here) same j.1
+    where
+      s : IsSourceOfRow laws.tiles d r pieces plane cover answers t row
+      s = source_of_row laws.tiles d r pieces plane cover answers t row c f
+
+      q : IsPlaced k row
+      q = placed k row e
+
+      j : (j : ℕ) × (slice_get (sources R d.connect d.choice) j ≡ Some s.here)
+      j = among_get s.here (sources R d.connect d.choice)
+          (among_of s.here (sources R d.connect d.choice) ((laws.tiles.listed R d.connect d.choice s.here whole).1 (s.from.node, s.from.source)))
+
+      same : j.0 ≡ k
+      same = same_place laws R d.connect d.choice whole j.0 k s.here q.it j.1 q.at
+          (sym (first_is R d.connect (s.index + 1) s.here) ∙ ap (first_pixel r.shape.width) (s.from.moved.row (s.index + 1) ∙ sym s.row_is) ∙ sym q.first)
+
+  -- and the number of the row tells its place in the piece
+  pub index_at : (t : Piece) (row : CatRow) (c : Contains pieces t) (f : IsFromPiece d r t row) (i : ℕ) → f.it.number ≡ pos i
+      → i ≡ (source_of_row laws.tiles d r pieces plane cover answers t row c f).index + 1
+  index_at t row c f i e =
+      let s : IsSourceOfRow laws.tiles d r pieces plane cover answers t row = source_of_row laws.tiles d r pieces plane cover answers t row c f in
+      let k : pos i ≡ pos (s.index + 1) =
+      sym e ∙ sym (moved_number t.window f.it) ∙ ap (λ (x : CatRow). x.number) (sym f.moved ∙ s.row_is) ∙ row_number (part t) d.connect (s.index + 1) s.there t.window in
+      ap unsigned_abs k
 
   module _ (p k : ℕ) where
     there : slice_index (mapped d r) p ≡ k + 1 → (t : Piece) × Contains pieces t × IsMappedBy d r rows t p k
@@ -235,10 +264,7 @@ module _ (laws : MapLaws) (d : Detection) (r : Raster) (pieces : List Piece) (pl
         s = source_of_row laws.tiles d r pieces plane cover answers t b.row c b.from
 
         number : slice_index (mapped d (seen_through t.window r)) b.pixel ≡ s.index + 1
-        number =
-            let e : pos (slice_index (mapped d (seen_through t.window r)) b.pixel) ≡ pos (s.index + 1) =
-            sym b.number ∙ sym (moved_number t.window b.from.it) ∙ ap (λ (x : CatRow). x.number) (sym b.from.moved ∙ s.row_is) ∙ row_number (part t) d.connect (s.index + 1) s.there t.window in
-            ap unsigned_abs e
+        number = index_at t b.row c b.from (slice_index (mapped d (seen_through t.window r)) b.pixel) b.number
 
         g : IsNamed laws (part t) d.connect d.choice (piece t c).one_each b.pixel s.index
         g = map_gives laws (part t) d.connect d.choice (piece t c).one_each b.pixel s.index number
@@ -252,19 +278,8 @@ module _ (laws : MapLaws) (d : Detection) (r : Raster) (pieces : List Piece) (pl
         holds : is_in_node R d.connect s.here p ≡ true
         holds = ap (is_in_node R d.connect s.here) (sym b.place) ∙ s.from.moved.pixels b.pixel below ∙ here
 
-        q : IsPlaced k b.row
-        q = placed k b.row b.at
-
-        j : (j : ℕ) × (slice_get (sources R d.connect d.choice) j ≡ Some s.here)
-        j = among_get s.here (sources R d.connect d.choice)
-            (among_of s.here (sources R d.connect d.choice) ((laws.tiles.listed R d.connect d.choice s.here whole).1 (s.from.node, s.from.source)))
-
-        same : j.0 ≡ k
-        same = same_place laws R d.connect d.choice whole j.0 k s.here q.it j.1 q.at
-            (sym (first_is R d.connect (s.index + 1) s.here) ∙ ap (first_pixel r.shape.width) (s.from.moved.row (s.index + 1) ∙ sym s.row_is) ∙ sym q.first)
-
         at : slice_get (sources R d.connect d.choice) k ≡ Some s.here
-        at = subst (λ (x : ℕ). slice_get (sources R d.connect d.choice) x ≡ Some s.here) same j.1
+        at = here_at t b.row c b.from k b.at
 
 pub pieces_give_the_map : MapLaws → PiecesGiveTheMap
 pieces_give_the_map laws d r pieces rows p k plane cover answers merged =

@@ -2,3 +2,4 @@ pub mod Pieces
 pub mod Clear
 pub mod Laws
 pub mod Extents
+pub mod SecondImage

@@ -4,6 +4,7 @@
 ghost use Rattle.tile_laws.specs.Laws.{
   PiecesGiveTheCatalogue,
   PiecesGiveTheMap,
+  PiecesGiveTheMeasures,
   FlatBoxesAreSure,
   BoxesAreSureWithoutMesh,
   NoMeshDetectsInTheImage,
@@ -16,10 +17,12 @@ use source_pick::laws::{sources_are_disjoint, sources_are_listed, sources_of_til
 
 /// Where the cores of an image's pieces cover it, and each piece answers for its core, the catalogue of the image is that of the pieces: of each
 /// the rows whose first pixels lie in its core, moved to the image, in the order of these pixels, and numbered. A pixel has the number of
-/// such a row in the image's segmentation map exactly where a piece's own map gives it this row.
+/// such a row in the image's segmentation map exactly where a piece's own map gives it this row. In a second image, seen through the same
+/// windows, a source has the measure that the piece gives it.
 pub fn pieces_give_the_catalogue()
     ensures catalogue { PiecesGiveTheCatalogue }
     ensures map { PiecesGiveTheMap }
+    ensures measures { PiecesGiveTheMeasures }
 {
     residual_is_a_plane();
     no_mesh_leaves_the_plane();

@@ -1,9 +1,10 @@
 use Rattle.tile_laws.proofs.Merging.{pieces_give_the_catalogue}
 use Rattle.tile_laws.proofs.Mapping.{MapLaws, pieces_give_the_map}
+use Rattle.tile_laws.proofs.Measured.{pieces_give_the_measures}
 use Rattle.tile_laws.proofs.laws.pieces_give_the_catalogue.Goals as goal
 
 pub returns : goal.returns
-returns c = record { catalogue = pieces_give_the_catalogue laws.tiles; map = pieces_give_the_map laws }
+returns c = record { catalogue = pieces_give_the_catalogue laws.tiles; map = pieces_give_the_map laws; measures = pieces_give_the_measures laws }
   where
     laws : MapLaws
     laws = record {
