@@ -8,3 +8,4 @@ mod Shown
 mod Mapping
 mod Depth
 mod Measured
+mod Backed

@@ -5,7 +5,7 @@ use Rattle.std.proofs.lemmas.Option.{get_or_from_slice_get}
 use Rattle.comp_tree.specs.declared.shape.Connect.{Connect}
 use Rattle.comp_tree.specs.declared.shape.Shape.{Shape}
 use Rattle.comp_tree.specs.Raster.{Raster, IsPlane, pixels, value_at, is_defined, level}
-use Rattle.comp_tree.specs.Components.{is_in_node}
+use Rattle.comp_tree.specs.Components.{IsReached, is_in_node}
 use Rattle.comp_tree.specs.Nesting.{pixels_of}
 use Rattle.comp_tree.specs.Windows.{Window, IsInside, in_whole, is_in_box, IsShown, Shows, seen_through, SureComponentsAreTheSame}
 use Rattle.comp_tree.proofs.Exported.{ArePaired, at_end, at_more, HasPartnerIn, IsAmong, IsAt, IsRising, among_pixels, at_order, below_from_defined, in_node-defined, in_node_from_among, in_whole-at, in_whole-one, paired_filter, paired_from_rising, paired_map, rising-pixels, some_columns}
@@ -139,7 +139,7 @@ module _ (laws : MapLaws) (d : Detection) (r values : Raster) (pieces : List Pie
   inside_values : IsInside values.shape t.window
   inside_values = subst (λ (x : Shape). IsInside x t.window) (sym same_shape) (answers t among).inside
 
-  tile_is : IsTileOf R d.connect d.choice (tile_of d r t)
+  pub tile_is : IsTileOf R d.connect d.choice (tile_of d r t)
   tile_is = piece laws d r pieces plane cover answers rows merged t among
 
   -- a pixel of the image that is sure in the values has the same value there
@@ -161,46 +161,31 @@ module _ (laws : MapLaws) (d : Detection) (r values : Raster) (pieces : List Pie
     unfolding residual_of
     box = measures first k.from.own (source_pixel_high S d.connect d.choice m first k.from.node k.from.source first_in)
 
-    same_values : (p q : ℕ) → AreOfSource R S d.connect t.window n m p q → value_at V.values p ≡ value_at U.values q
+    -- so has each that the first pixel of a source reaches at the threshold
+    pub reached_values : (p q : ℕ) → in_whole r.shape.width t.window q ≡ p → p < length R.values → IsReached S d.connect d.choice.threshold first q → value_at V.values p ≡ value_at U.values q
     unfolding residual_of
-    same_values p q c = value_same p q place below (sure_in_box laws.tiles.background values t.window d.flat d.mesh value_plane inside_values (answers t among).on_mesh box.box p box.sure in_box)
+    reached_values p q e l path = value_same p q place below (sure_in_box laws.tiles.background values t.window d.flat d.mesh value_plane inside_values (answers t among).on_mesh box.box p box.sure in_box)
       where
         place : in_whole values.shape.width t.window q ≡ p
-        place = ap (λ (x : Shape). in_whole x.width t.window q) same_shape ∙ c.place
+        place = ap (λ (x : Shape). in_whole x.width t.window q) same_shape ∙ e
 
         in_box : IsTrue (is_in_box values.shape.width box.box p)
-        in_box = subst (λ (x : ℕ). IsTrue (is_in_box values.shape.width box.box x)) place
-            (box.holds q (source_reached S d.connect d.choice m first q k.from.node k.from.source first_in c.there))
+        in_box = subst (λ (x : ℕ). IsTrue (is_in_box values.shape.width box.box x)) place (box.holds q path)
 
         below : p < length V.values
         below =
-            let e : length V.values ≡ values.shape.width * values.shape.height = laws.tiles.background.one_each values d.mesh d.flat value_plane in
-            let f : length R.values ≡ r.shape.width * r.shape.height = whole laws d r pieces plane cover answers rows merged in
-            let g : values.shape.width * values.shape.height ≡ r.shape.width * r.shape.height = ap (λ (x : Shape). x.width * x.height) same_shape in
-            let l : p < length R.values = below_from_defined R p (in_node-defined R d.connect n p c.here) in
-            omega (arith, e, f, g, l)
+            let a : length V.values ≡ values.shape.width * values.shape.height = laws.tiles.background.one_each values d.mesh d.flat value_plane in
+            let b : length R.values ≡ r.shape.width * r.shape.height = whole laws d r pieces plane cover answers rows merged in
+            let c : values.shape.width * values.shape.height ≡ r.shape.width * r.shape.height = ap (λ (x : Shape). x.width * x.height) same_shape in
+            omega (arith, a, b, c, l)
+
+    same_values : (p q : ℕ) → AreOfSource R S d.connect t.window n m p q → value_at V.values p ≡ value_at U.values q
+    unfolding residual_of
+    same_values p q c = reached_values p q c.place (below_from_defined R p (in_node-defined R d.connect n p c.here))
+        (source_reached S d.connect d.choice m first q k.from.node k.from.source first_in c.there)
 
     pub measure_same : measure_of V R d.connect n ≡ measure_of U S d.connect m
     unfolding measure_of
     measure_same =
         same_measure V U (AreOfSource R S d.connect t.window n m) same_values (pixels_of R d.connect n) (pixels_of S d.connect m)
         (pixels_paired laws.same_component R d.connect d.choice (tile_of d r t) n m (whole laws d r pieces plane cover answers rows merged) tile_is k)
-
-pub pieces_give_the_measures : MapLaws → PiecesGiveTheMeasures
-pieces_give_the_measures laws d r values pieces rows t row f k i plane value_plane same_shape cover answers merged among measures at number =
-    ap (measure_of (searched d values) (searched d r) d.connect) here
-    ∙ measure_same laws d r values pieces plane value_plane same_shape cover answers rows merged t among measures s.here s.there s.from
-    ∙ sym (ap (measure_of (searched d (seen_through t.window values)) (searched d (seen_through t.window r)) d.connect) there)
-  where
-    s : IsSourceOfRow laws.tiles d r pieces plane cover answers t row
-    s = source_of_row laws.tiles d r pieces plane cover answers t row among f
-
-    here : slice_index (sources (searched d r) d.connect d.choice) k ≡ s.here
-    here = get_or_from_slice_get (sources (searched d r) d.connect d.choice) k s.here 0 (here_at laws d r pieces plane cover answers rows merged t row among f k at)
-
-    there : slice_index (sources (searched d (seen_through t.window r)) d.connect d.choice) i ≡ s.there
-    there =
-        let e : i + 1 ≡ s.index + 1 = index_at laws d r pieces plane cover answers rows merged t row among f (i + 1) number in
-        let j : s.index ≡ i = omega arith in
-        get_or_from_slice_get (sources (searched d (seen_through t.window r)) d.connect d.choice) i s.there 0
-        (subst (λ (x : ℕ). slice_get (sources (searched d (seen_through t.window r)) d.connect d.choice) x ≡ Some s.there) j s.at)

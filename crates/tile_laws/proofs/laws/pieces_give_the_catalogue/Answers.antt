@@ -1,6 +1,6 @@
 use Rattle.tile_laws.proofs.Merging.{pieces_give_the_catalogue}
 use Rattle.tile_laws.proofs.Mapping.{MapLaws, pieces_give_the_map}
-use Rattle.tile_laws.proofs.Measured.{pieces_give_the_measures}
+use Rattle.tile_laws.proofs.Backed.{pieces_give_the_measures}
 use Rattle.tile_laws.proofs.laws.pieces_give_the_catalogue.Goals as goal
 
 pub returns : goal.returns
