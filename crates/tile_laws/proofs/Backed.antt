@@ -11,7 +11,7 @@ use Rattle.comp_tree.specs.Components.{IsReached, reaches, nodes, is_in_node, tr
 use Rattle.comp_tree.specs.Laws.{IsNode, top_of}
 use Rattle.comp_tree.specs.Nesting.{is_root, level_in, level_of_node}
 use Rattle.comp_tree.specs.Windows.{Window, in_whole, LiesSure, LiesSureIn, Shows, seen_through}
-use Rattle.comp_tree.proofs.Exported.{AlikeAlong, AreSurePair, ArePaired, HasPartnerIn, IsAmong, IsReachedThere, along_reached, along_reaches, along_sym, among-filter, among_from_defined, among_from_filter, below_from_defined, below_no_node, defined_from_at_least, in_node-defined, int_le-from, paired_from_rising, reaches-is_IsReached, reaches_lower, reaches_sym, reaches_trans, rising-pixels, same_bool, sure_components_are_seen, turned, window_along}
+use Rattle.comp_tree.proofs.Exported.{AlikeAlong, AreSurePair, ArePaired, HasPartnerIn, IsAmong, IsReachedThere, along_reached, along_reaches, among-filter, among_from_defined, among_from_filter, below_from_defined, below_no_node, defined_from_at_least, in_node-defined, int_le-from, paired_from_rising, paired_sym, reaches-is_IsReached, reaches_lower, reaches_sym, reaches_trans, rising-pixels, same_bool, sure_components_are_seen, turned, window_along}
 use Rattle.mesh_background.specs.Residuals.{residual_of}
 use Rattle.node_sums.specs.Flux.{base_of}
 use Rattle.node_sums.specs.Sums.{sums_of}
@@ -80,13 +80,13 @@ module _ (laws : MapLaws) (d : Detection) (r values : Raster) (pieces : List Pie
     lies : LiesSure R d.connect h sure here
     lies = subst (λ (p : ℕ). LiesSure R d.connect h sure p) (sym k.moved.first)
         ((sure_components_are_seen R S t.window d.connect h sure there plane_R tile.one_each tile.shows there_below (tile.core_sure (in_whole R.shape.width t.window there) k.from.own)).1
-        (tile.answers there k.from.own (source_pixel_high S d.connect d.choice m there k.from.node k.from.source there_in)))
+        (tile.answers there k.from.own (source_pixel_high S d.connect d.choice tile.one_each m there k.from.node k.from.source there_in)))
 
     first_pair : AreSurePair R S t.window d.connect h sure here there
     first_pair = record {
       place = sym k.moved.first;
       below = there_below;
-      high = source_pixel_high R d.connect d.choice n here k.node k.source here_in;
+      high = source_pixel_high R d.connect d.choice plane_R n here k.node k.source here_in;
       lies = lies;
     }
 
@@ -138,14 +138,14 @@ module _ (laws : MapLaws) (d : Detection) (r values : Raster) (pieces : List Pie
       same_around p q e = ap (λ (b : Bool). b && not (is_in_node R d.connect n p)) outer ∙ ap (λ (b : Bool). is_in_node S d.connect c q && not b) inner
         where
           outer : is_in_node R d.connect a p ≡ is_in_node S d.connect c q
-          outer = from_here p ∙ along_reaches R S d.connect h (AreSurePair R S t.window d.connect h sure) along (level R (top_of R d.connect a)) here there p q low first_pair e ∙ sym (from_there q)
+          outer = from_here p ∙ along_reaches R S d.connect h (AreSurePair R S t.window d.connect h sure) along.above (level R (top_of R d.connect a)) here there p q low first_pair e ∙ sym (from_there q)
 
           inner : is_in_node R d.connect n p ≡ is_in_node S d.connect m q
           inner = ap (is_in_node R d.connect n) (sym e.place) ∙ k.moved.pixels q e.below
 
       pub around_paired : ArePaired IsPairInParent (filter around_n (pixels R)) (filter around_m (pixels S))
       unfolding pixels
-      around_paired = paired_from_rising IsPairInParent (filter around_n (pixels R)) (filter around_m (pixels S)) (λ p q x y c e. along.order p q x y c.pair e.pair)
+      around_paired = paired_from_rising IsPairInParent (λ x. x) (λ x. x) (filter around_n (pixels R)) (filter around_m (pixels S)) (λ p q x y c e. along.above.order p q x y c.pair e.pair)
           (rising-pixels around_n (length R.values)) (rising-pixels around_m (length S.values)) there_one back_one
         where
           there_one : (p : ℕ) → IsAmong p (filter around_n (pixels R)) → HasPartnerIn IsPairInParent p (filter around_m (pixels S))
@@ -153,7 +153,7 @@ module _ (laws : MapLaws) (d : Detection) (r values : Raster) (pieces : List Pie
               let test : around_n p ≡ true = (among_from_filter around_n p (pixels R) e).1 in
               let both : (is_in_node R d.connect a p ≡ true) × (not (is_in_node R d.connect n p) ≡ true) = and_parts (is_in_node R d.connect a p) (not (is_in_node R d.connect n p)) test in
               let g : IsReachedThere S d.connect (level R (top_of R d.connect a)) (AreSurePair R S t.window d.connect h sure) there p =
-              along_reached R S d.connect h (AreSurePair R S t.window d.connect h sure) along (level R (top_of R d.connect a)) here there p low first_pair (sym (from_here p) ∙ both.0) in
+              along_reached R S d.connect h (AreSurePair R S t.window d.connect h sure) along.above (level R (top_of R d.connect a)) here there p low first_pair (sym (from_here p) ∙ both.0) in
               let i : is_in_node S d.connect c g.it ≡ true = from_there g.it ∙ g.reached in
               record {
                 it = g.it;
@@ -167,7 +167,7 @@ module _ (laws : MapLaws) (d : Detection) (r values : Raster) (pieces : List Pie
               let both : (is_in_node S d.connect c q ≡ true) × (not (is_in_node S d.connect m q) ≡ true) = and_parts (is_in_node S d.connect c q) (not (is_in_node S d.connect m q)) test in
               let way : IsTrue (reaches S d.connect (level R (top_of R d.connect a)) there q) = sym (from_there q) ∙ both.0 in
               let g : IsReachedThere R d.connect (level R (top_of R d.connect a)) (turned (AreSurePair R S t.window d.connect h sure)) here q =
-              along_reached S R d.connect h (turned (AreSurePair R S t.window d.connect h sure)) (along_sym R S d.connect h (AreSurePair R S t.window d.connect h sure) along)
+              along_reached S R d.connect h (turned (AreSurePair R S t.window d.connect h sure)) (paired_sym R S d.connect h (AreSurePair R S t.window d.connect h sure) along.above)
               (level R (top_of R d.connect a)) there here q low first_pair way in
               let i : is_in_node R d.connect a g.it ≡ true = from_here g.it ∙ g.reached in
               record {

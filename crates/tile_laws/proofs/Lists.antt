@@ -3,27 +3,9 @@ use Rattle.std.proofs.Common.{◌≡◌, ℕ, ◌+◌, ◌<◌, zero, suc, List,
 use Rattle.std.specs.Prelude.{Contains, Some, None, slice_get, ⊤}
 use Rattle.std.specs.List.{enumerate_from}
 use Rattle.std.proofs.lemmas.Option.{same_Some}
-use Rattle.comp_tree.proofs.Exported.{IsAmong}
+use Rattle.comp_tree.proofs.Exported.{IsAmong, IsRisingBy}
 
 -- ---- members
-
-pub contains_from_among : {X : Type 0} (x : X) (xs : List X) → IsAmong x xs → Contains xs x
-contains_from_among x [] h = absurd h
-contains_from_among x (y ∷ xs) (inl e) = (0, omega arith, e)
-contains_from_among x (y ∷ xs) (inr h) = let k : Contains xs x = contains_from_among x xs h in (suc k.0, omega arith, k.2)
-
-among_at_place : {X : Type 0} (x : X) (xs : List X) (k : ℕ) → k < length xs → get_or xs k x ≡ x → IsAmong x xs
-among_at_place x [] k lt e = absurd (omega arith)
-among_at_place x (y ∷ xs) zero lt e = inl e
-among_at_place x (y ∷ xs) (suc k) lt e = inr (among_at_place x xs k (omega arith) e)
-
-pub among_of : {X : Type 0} (x : X) (xs : List X) → Contains xs x → IsAmong x xs
-among_of x xs c = among_at_place x xs c.0 c.1 c.2
-
-pub among_get : {X : Type 0} (x : X) (xs : List X) → IsAmong x xs → (j : ℕ) × (slice_get xs j ≡ Some x)
-among_get x [] h = absurd h
-among_get x (y ∷ xs) (inl e) = (0, ap Some e)
-among_get x (y ∷ xs) (inr h) = let k : (j : ℕ) × (slice_get xs j ≡ Some x) = among_get x xs h in (suc k.0, k.1)
 
 pub get_among : {X : Type 0} (x : X) (xs : List X) (j : ℕ) → slice_get xs j ≡ Some x → IsAmong x xs
 get_among x [] j e = absurd (no_member e)
@@ -50,17 +32,6 @@ image_of f y (x ∷ xs) (inl e) = record { it = x; among = inl refl; image = e }
 image_of f y (x ∷ xs) (inr h) = let k : IsImageOf f y xs = image_of f y xs h in record { it = k.it; among = inr k.among; image = k.image }
 
 -- ---- lists that rise by a number of each member
-
-abbrev pub IsRisingBy : {X : Type 0} → (X → ℕ) → List X → Type 0
-IsRisingBy f [] = ⊤
-IsRisingBy f (x ∷ xs) = ((y : _) → IsAmong y xs → f x < f y) × IsRisingBy f xs
-
-pub rising_from_get : {X : Type 0} (f : X → ℕ) (xs : List X) → ((i j : ℕ) (x y : X) → i < j → slice_get xs i ≡ Some x → slice_get xs j ≡ Some y → f x < f y) → IsRisingBy f xs
-rising_from_get f [] rise = tt
-rising_from_get f (x ∷ xs) rise = (
-  (λ y m. let k : (j : ℕ) × (slice_get xs j ≡ Some y) = among_get y xs m in rise 0 (suc k.0) x y (omega arith) refl k.1),
-  rising_from_get f xs (λ i j u v l a b. rise (suc i) (suc j) u v (omega arith) a b),
-)
 
 -- two such lists with the same members are the same
 pub rising_equal : {X : Type 0} (f : X → ℕ) (xs ys : List X) → IsRisingBy f xs → IsRisingBy f ys → ((x : X) → IsAmong x xs → IsAmong x ys) → ((y : X) → IsAmong y ys → IsAmong y xs)

@@ -24,7 +24,8 @@ use Rattle.source_pick.specs.Segmentation.{source_number_at, segmentation_of, se
 use Rattle.source_pick.specs.Windows.{moved_row, IsTileOf}
 use Rattle.tile_laws.specs.Pieces.{Detection, Piece, searched, mapped, AnswersForCore, CoversImage, first_pixel, IsFromPiece, AreMerged, with_number, IsMappedBy}
 use Rattle.tile_laws.specs.Laws.{PiecesGiveTheMap}
-use Rattle.tile_laws.proofs.Lists.{contains_from_among, among_of, among_get, get_among, rows_from, get_rows, row_at}
+use Rattle.source_pick.proofs.Exported.{contains_from_among, among_of, among_get}
+use Rattle.tile_laws.proofs.Lists.{get_among, rows_from, get_rows, row_at}
 use Rattle.tile_laws.proofs.Merging.{TileLaws, plane_R, tile, source_from, IsPiecesSource, IsRowThere, row_there, IsSourceOfRow, source_of_row, same_rows, first_is}
 use Rattle.tile_laws.proofs.Shown.{shown_pixel}
 use Rattle.tile_laws.proofs.Tiles.{tile_of}

@@ -95,7 +95,7 @@ module _ (law : SureComponentsAreTheSame) (r : Raster) (connect : Connect) (choi
   Of p q = AreOfSource r t.plane connect t.window n m p q
 
   pub pixels_paired : ArePaired Of (pixels_of r connect n) (pixels_of t.plane connect m)
-  pixels_paired = paired_from_rising Of (pixels_of r connect n) (pixels_of t.plane connect m) order (rising_pixels_of r connect n) (rising_pixels_of t.plane connect m) there back
+  pixels_paired = paired_from_rising Of (λ x. x) (λ x. x) (pixels_of r connect n) (pixels_of t.plane connect m) order (rising_pixels_of r connect n) (rising_pixels_of t.plane connect m) there back
     where
       at : (p q : ℕ) → Of p q → IsAt r.shape.width t.plane.shape.width t.window.left t.window.top p q
       at p q c =
@@ -159,7 +159,7 @@ module _ (laws : MapLaws) (d : Detection) (r values : Raster) (pieces : List Pie
 
     box : HasMeasuredBox d r values t first
     unfolding residual_of
-    box = measures first k.from.own (source_pixel_high S d.connect d.choice m first k.from.node k.from.source first_in)
+    box = measures first k.from.own (source_pixel_high S d.connect d.choice tile_is.one_each m first k.from.node k.from.source first_in)
 
     -- so has each that the first pixel of a source reaches at the threshold
     pub reached_values : (p q : ℕ) → in_whole r.shape.width t.window q ≡ p → p < length R.values → IsReached S d.connect d.choice.threshold first q → value_at V.values p ≡ value_at U.values q
@@ -182,7 +182,7 @@ module _ (laws : MapLaws) (d : Detection) (r values : Raster) (pieces : List Pie
     same_values : (p q : ℕ) → AreOfSource R S d.connect t.window n m p q → value_at V.values p ≡ value_at U.values q
     unfolding residual_of
     same_values p q c = reached_values p q c.place (below_from_defined R p (in_node-defined R d.connect n p c.here))
-        (source_reached S d.connect d.choice m first q k.from.node k.from.source first_in c.there)
+        (source_reached S d.connect d.choice tile_is.one_each m first q k.from.node k.from.source first_in c.there)
 
     pub measure_same : measure_of V R d.connect n ≡ measure_of U S d.connect m
     unfolding measure_of

@@ -7,7 +7,7 @@ use Rattle.comp_tree.specs.declared.shape.Connect.{Connect}
 use Rattle.comp_tree.specs.Raster.{Raster, IsPlane}
 use Rattle.comp_tree.specs.Laws.{IsNode}
 use Rattle.comp_tree.specs.Windows.{Window, in_whole, is_in_box, seen_through, DeepComponentsLieSure}
-use Rattle.comp_tree.proofs.Exported.{IsAmong}
+use Rattle.comp_tree.proofs.Exported.{IsAmong, IsRisingBy}
 use Rattle.mesh_background.specs.Residuals.{residual_of}
 use Rattle.node_sums.specs.Sums.{sums_of}
 use Rattle.source_pick.specs.declared.choice.Choice.{Choice}
@@ -18,15 +18,12 @@ use Rattle.source_pick.specs.Laws.{SourcesAreListed, SourcesAreInOrder}
 use Rattle.source_pick.specs.Windows.{moved_row, Tile, IsTileOf, IsOwnSource, IsFromTile, EachSourceIsATiles, OwnSourcesAreTheWholes}
 use Rattle.tile_laws.specs.Pieces.{Detection, Piece, searched, detected, AnswersForCore, CoversImage, first_pixel, IsFromPiece, AreMerged, with_number, numbered}
 use Rattle.tile_laws.specs.Laws.{PiecesGiveTheCatalogue}
-use Rattle.tile_laws.proofs.Lists.{contains_from_among, among_of, among_get, get_among, among_map, IsImageOf, image_of, IsRisingBy, rising_from_get, rising_equal, rows_from, IsRowOf, row_of, get_rows, rising_rows}
+use Rattle.source_pick.proofs.Exported.{catalogue-is, contains_from_among, among_of, among_get, rising_from_get}
+use Rattle.tile_laws.proofs.Lists.{get_among, among_map, IsImageOf, image_of, rising_equal, rows_from, IsRowOf, row_of, get_rows, rising_rows}
 use Rattle.tile_laws.proofs.Sure.{BackgroundLaws}
 use Rattle.tile_laws.proofs.Tiles.{tile_of, is_tile}
 
 -- ---- the rows of one catalogue
-
-catalogue_is : (r : Raster) (connect : Connect) (choice : Choice) → catalogue r connect choice ≡ rows_from (catalogue_row r connect) 1 (sources r connect choice)
-unfolding catalogue catalogue_of
-catalogue_is r connect choice = refl
 
 -- a row has the number that it is given
 renumbered : (r : Raster) (connect : Connect) (i j n : ℕ) → with_number i (catalogue_row r connect j n) ≡ catalogue_row r connect i n
@@ -144,7 +141,7 @@ module _ (laws : TileLaws) (d : Detection) (r : Raster) (pieces : List Piece) (p
     at = j.1;
     from = record {
       it = row;
-      listed = subst (λ (rows : List CatRow). Contains rows row) (sym (catalogue_is (part t) d.connect d.choice))
+      listed = subst (λ (rows : List CatRow). Contains rows row) (sym (catalogue-is (part t) d.connect d.choice))
           (contains_from_among row (rows_from (catalogue_row (part t) d.connect) 1 (sources (part t) d.connect d.choice)) there);
       moved = refl;
       own = subst (λ (p : ℕ). IsTrue (is_in_box r.shape.width t.core p)) place k.from.from.own;
@@ -200,7 +197,7 @@ module _ (laws : TileLaws) (d : Detection) (r : Raster) (pieces : List Piece) (p
       e : IsRowOf (catalogue_row (part t) d.connect) 1 f.it (sources (part t) d.connect d.choice)
       e = row_of (catalogue_row (part t) d.connect) 1 f.it (sources (part t) d.connect d.choice)
           (among_of f.it (rows_from (catalogue_row (part t) d.connect) 1 (sources (part t) d.connect d.choice))
-          (subst (λ (rows : List CatRow). Contains rows f.it) (catalogue_is (part t) d.connect d.choice) f.listed))
+          (subst (λ (rows : List CatRow). Contains rows f.it) (catalogue-is (part t) d.connect d.choice) f.listed))
 
       is : IsNode (part t) d.connect e.it × IsTrue (is_source (part t) d.connect d.choice e.it)
       is = (laws.listed (part t) d.connect d.choice e.it (tile t k).one_each).0 (contains_from_among e.it (sources (part t) d.connect d.choice) (get_among e.it (sources (part t) d.connect d.choice) e.index e.at))
@@ -292,7 +289,7 @@ module _ (laws : TileLaws) (d : Detection) (r : Raster) (pieces : List Piece) (p
 
     pub same_catalogue : detected d r ≡ numbered rows
     unfolding numbered
-    same_catalogue = catalogue_is R d.connect d.choice ∙ same_rows
+    same_catalogue = catalogue-is R d.connect d.choice ∙ same_rows
 
 pub pieces_give_the_catalogue : TileLaws → PiecesGiveTheCatalogue
 pieces_give_the_catalogue laws d r pieces rows plane cover answers merged = same_catalogue laws d r pieces plane cover answers rows merged

@@ -15,6 +15,7 @@ use Rattle.mesh_background.specs.Interpolation.{next_cell}
 use Rattle.mesh_background.specs.Residuals.{background, residual_at, residual_of}
 use Rattle.mesh_background.specs.Windows.{IsNeeded, IsClearAlong, HasDefinedCells, IsOnMesh, IsClear, ResidualIsSeen, ClearIsToldFromTheWindow}
 use Rattle.mesh_background.specs.Laws.{NoMeshLeavesThePlane, ResidualIsPlane}
+use Rattle.mesh_background.proofs.Exported.{residual_value}
 use Rattle.tile_laws.specs.Clear.{clear_from, clear_to, clear_box, IsBoxWithin, IsSureBox}
 use Rattle.tile_laws.proofs.Clear.{from_inside, to_inside, clear_along}
 
@@ -274,12 +275,8 @@ module _ (laws : BackgroundLaws) (r : Raster) (w : Window) (flat : Bool) (mesh :
   seen_plane : IsPlane (seen_through w r)
   seen_plane = seen-length w r ∙ sym (ap (λ (x : Shape). x.width * x.height) (seen-shape w r))
 
-  residual_value : (x : Raster) (p : ℕ) → p < length x.values → value_at (residual_of x mesh flat).values p ≡ option_map (λ v. v -ℤ background x mesh flat p) (value_at x.values p)
-  unfolding residual_of residual_at pixels
-  residual_value x p l = get_or-map-range_with_len (λ q. option_map (λ v. v -ℤ background x mesh flat q) (value_at x.values q)) 0 (length x.values) p p None l (omega arith)
-
   residual_none : (x : Raster) (p : ℕ) → p < length x.values → is_defined x p ≡ false → value_at (residual_of x mesh flat).values p ≡ None
-  residual_none x p l d = residual_value x p l ∙ ap (λ (o : Option ℤ). option_map (λ v. v -ℤ background x mesh flat p) o) (none_from (value_at x.values p) d)
+  residual_none x p l d = residual_value x mesh flat p l ∙ ap (λ (o : Option ℤ). option_map (λ v. v -ℤ background x mesh flat p) o) (none_from (value_at x.values p) d)
 
   module _ (p : ℕ) (k : IsTrue (is_sure r w flat mesh p)) where
     sure : IsSure r w flat mesh p
