@@ -202,10 +202,6 @@ def _run(program, words, *images):
         return os.fdopen(os.dup(output.fileno()), "rb")
 
 
-def _truncated():
-    return Refusal(None, None, "truncated", "what maxdetect wrote is cut short")
-
-
 def _forms(low):
     """For each size of stored numbers: how many bits they have, the least of them, and the BZERO that puts the value
     `low` right above it.
@@ -315,15 +311,21 @@ def read(file):
     return Table(columns, names=names, descriptions=[DESCRIPTIONS.get(name, "") for name in names]), segments
 
 
-def _answer(output):
-    """The same of what the program wrote just now."""
+def _answer(output, reading=read):
+    """What the program wrote just now, read so."""
     with output, warnings.catch_warnings():
         # astropy warns of a file that is cut short, and reads on.
         warnings.simplefilter("error", AstropyWarning)
         try:
-            return read(output)
+            return reading(output)
         except (AstropyWarning, OSError, KeyError, ValueError, TypeError, IndexError):
-            raise _truncated() from None
+            raise Refusal(None, None, "truncated", "what maxdetect wrote is cut short") from None
+
+
+def _read_plane(file):
+    """The values of what `maxdetect filter` wrote."""
+    with fits.open(file, memmap=False, do_not_scale_image_data=True) as hdus:
+        return _native(hdus[0].data)
 
 
 def detect(
@@ -450,12 +452,7 @@ def filter(
     """
     options = dict(rule=rule, min_area=min_area, max_area=max_area, min_flux=min_flux, min_fill=min_fill)
     options.update(mesh=mesh, flat=int(flat), connect=connect, strips=strips, workers=workers)
-    with _run(program, _words("filter", options), _file(image, blank)) as output, fits.open(
-        output, memmap=False, do_not_scale_image_data=True
-    ) as hdus:
-        if hdus[0].data is None or hdus[0].data.shape != numpy.shape(image):
-            raise _truncated()
-        values = _native(hdus[0].data)
+    values = _answer(_run(program, _words("filter", options), _file(image, blank)), _read_plane)
     if blank is None and not isinstance(image, numpy.ma.MaskedArray):
         return values
     undefined = _checked(image, blank)[1]

@@ -258,9 +258,13 @@ def _again(
         if number not in _reaching_out(labels, look, window, plan):
             return _picked(look, window, plan, chosen, False), window, component
         last, margin = (look, window, chosen, component), 2 * margin
-        window = plan.around(_moved_box(ndimage.find_objects(component)[0], window), margin)
+        window = plan.around(_moved_box(ndimage.find_objects(component, 1)[0], window), margin)
     look, window, chosen, component = last
-    return _picked(look, window, plan, chosen, True, core.within(window)), window, component
+    # Of what no window holds each tile has the part that it sees, and on the map what lies in its core.
+    inner = core.within(window)
+    seen = numpy.unique(look.segments[inner.rows, inner.columns][component[inner.rows, inner.columns]])
+    chosen = numpy.isin(look.catalogue["NUMBER"], seen[seen > 0])
+    return _picked(look, window, plan, chosen, True, inner), window, component
 
 
 def _all_again(look_at: Callable[[Box], Look], plan: Plan, core: Box, components: list) -> Iterator[Piece]:

@@ -1,0 +1,41 @@
+"""What the tests share: the package, the program, and star fields whose stars are known."""
+import os
+import pathlib
+import shutil
+import sys
+
+import pytest
+
+TOP = pathlib.Path(__file__).resolve().parent.parent.parent
+sys.path.insert(0, str(TOP / "python"))
+
+numpy = pytest.importorskip("numpy")
+pytest.importorskip("astropy")
+pytest.importorskip("scipy")
+pytest.importorskip("sep")
+
+
+def pytest_collection_modifyitems(items):
+    """Without the program there is nothing to test; building it would take half an hour."""
+    if not os.environ.get("MAXDETECT") and not shutil.which("maxdetect"):
+        for item in items:
+            item.add_marker(pytest.mark.skip(reason="the environment's MAXDETECT names no program"))
+
+
+def add_star(image, x, y, flux, width=3.0):
+    """A star with a Moffat profile of beta 3; places count from 0."""
+    core = width / 2 / (2 ** (1 / 3) - 1) ** 0.5
+    rows, columns = numpy.mgrid[: image.shape[0], : image.shape[1]]
+    image += flux * 2 / (numpy.pi * core**2) * (1 + ((columns - x) ** 2 + (rows - y) ** 2) / core**2) ** -3
+
+
+@pytest.fixture(scope="session")
+def stars():
+    """A field of 256 x 256 pixels with 25 stars on a sky of 900 electrons, and the stars' places and fluxes."""
+    rng = numpy.random.default_rng(7)
+    expected = numpy.zeros((256, 256)) + 900
+    places = numpy.array([(x, y) for y in range(28, 256, 50) for x in range(28, 256, 50)]) + rng.uniform(-3, 3, (25, 2))
+    fluxes = 10 ** rng.uniform(3.8, 5, 25)
+    for (x, y), flux in zip(places, fluxes):
+        add_star(expected, x, y, flux)
+    return rng.poisson(expected).astype("f4"), places, fluxes

@@ -1,0 +1,152 @@
+"""The program's calls."""
+import concurrent.futures
+import doctest
+import io
+import os
+import pickle
+import subprocess
+import sys
+
+import numpy
+import pytest
+
+import maxdetect
+from conftest import TOP
+from maxdetect import kernel
+
+SMALL = numpy.arange(6).reshape(2, 3)
+WORDS = {"min_area": 5, "mesh": 64, "connect": 8}
+
+
+@pytest.fixture(scope="module")
+def field():
+    """A star field in 16 bits with BZERO and blank pixels, as bytes of a file."""
+    script = TOP / "examples" / "star_field.py"
+    return subprocess.run([sys.executable, script, "128", "128"], capture_output=True, check=True).stdout
+
+
+def same_tables(one, other):
+    return one.colnames == other.colnames and all((one[name] == other[name]).all() for name in one.colnames)
+
+
+def test_docstrings():
+    failed, tried = doctest.testmod(kernel)
+    assert failed == 0 and tried > 10
+
+
+def test_the_program_is_found(monkeypatch, tmp_path):
+    assert maxdetect.find_program("elsewhere") == "elsewhere"
+    monkeypatch.setenv("MAXDETECT", "named")
+    assert maxdetect.find_program() == "named"
+    (tmp_path / "maxdetect").write_text("#!/bin/sh\n")
+    (tmp_path / "maxdetect").chmod(0o755)
+    monkeypatch.delenv("MAXDETECT")
+    monkeypatch.setenv("PATH", str(tmp_path))
+    assert maxdetect.find_program() == str(tmp_path / "maxdetect")
+
+
+def test_images_of_every_type_are_what_the_program_reads(field, tmp_path):
+    image = maxdetect.load(io.BytesIO(field))
+    blank = image.mask
+    words = ["detect", "--threshold", "60", "--min-area", "5", "--mesh", "64", "--connect", "8"]
+    output = subprocess.run([maxdetect.find_program(), *words], input=field, capture_output=True, check=True).stdout
+    (tmp_path / "sources.fits").write_bytes(output)
+    table, segments = maxdetect.read(tmp_path / "sources.fits")
+    assert len(table) > 3 and blank.any()
+    forms = [(image, {}), (image.astype("u2"), {}), (image.filled(0).astype("u4"), {"blank": 0})]
+    forms += [
+        (numpy.ma.MaskedArray(image.filled(0) + shift, mask=blank), {}) for shift in (2**32, -(2**32), 2**35)
+    ]
+    for form, options in forms:
+        found = maxdetect.detect(form, 60, **WORDS, **options)
+        assert same_tables(found[0], table) and found[1].dtype == "i4" and (found[1] == segments).all()
+    kept = maxdetect.filter(image, "direct")
+    assert (kept.mask == blank).all() and (kept == image).all()
+
+
+def test_measure_of_the_image_itself(field):
+    image = maxdetect.load(io.BytesIO(field))
+    table, _ = maxdetect.measure(image, image, 60, **WORDS)
+    assert (table["VSUM"] == table["FLUX"] + table["BASE"] * table["AREA"]).all()
+
+
+@pytest.mark.parametrize("blank", [500.5, numpy.nan, "3"])
+def test_a_blank_that_is_no_whole_number_is_refused(blank):
+    with pytest.raises(TypeError, match="blank is a whole number"):
+        maxdetect.detect(SMALL, 1, blank=blank)
+
+
+def test_what_can_be_told_before_is_refused():
+    with pytest.raises(TypeError):
+        maxdetect.detect(SMALL.astype("f4"), 1)
+    with pytest.raises(TypeError, match="threshold"):
+        maxdetect.detect(SMALL, 1.5)
+    with pytest.raises(ValueError):
+        maxdetect.tree(SMALL[0])
+    with pytest.raises(ValueError):
+        maxdetect.tree(numpy.array([[0, 2**40]]))
+
+
+def test_refusals_say_why():
+    with pytest.raises(maxdetect.Refusal) as told:
+        maxdetect.detect(SMALL, 2**40)
+    assert (told.value.status, told.value.number, told.value.name) == (1, 3, "usage") and "threshold" in told.value.text
+    with pytest.raises(maxdetect.Refusal) as told:
+        maxdetect.tree(numpy.zeros((0, 3), dtype="i4"))
+    assert (told.value.status, told.value.number, told.value.name) == (2, 11, "NoImage")
+
+
+def test_images_without_sources_and_without_pixels():
+    table, segments = maxdetect.detect(SMALL, 100)
+    assert len(table) == 0 and len(table.colnames) == 17 and not segments.any()
+    assert len(maxdetect.tree(numpy.ma.masked_all((2, 2), dtype="i4"))) == 0
+
+
+def test_a_refusal_can_be_pickled():
+    refusal = pickle.loads(pickle.dumps(maxdetect.Refusal(2, 12, "ImageTooLarge", "too large")))
+    assert (refusal.status, refusal.number, refusal.name, refusal.text) == (2, 12, "ImageTooLarge", "too large")
+    assert str(refusal) == "ImageTooLarge: too large"
+
+
+def wide(height):
+    """Of one row too wide for the program, or of some that it takes."""
+    return len(maxdetect.tree(numpy.zeros((height, 70000 if height == 1 else 5), dtype="u1")))
+
+
+def test_a_refused_image_in_a_pool_is_told():
+    with concurrent.futures.ProcessPoolExecutor(2) as pool:
+        futures = [pool.submit(wide, height) for height in (2, 1, 3)]
+        assert futures[0].result(60) == 1 and futures[2].result(60) == 1
+        with pytest.raises(maxdetect.Refusal, match="ImageTooLarge"):
+            futures[1].result(60)
+
+
+def script(folder, text):
+    path = folder / "program"
+    path.write_text("#!/bin/sh\n" + text)
+    path.chmod(0o755)
+    return os.fspath(path)
+
+
+def test_a_killed_program_is_told(tmp_path):
+    with pytest.raises(maxdetect.Refusal, match="killed: signal 9") as told:
+        maxdetect.detect(SMALL, 1, program=script(tmp_path, "kill -9 $$\n"))
+    assert told.value.status is None
+
+
+@pytest.mark.parametrize("call, sizes", [("detect", (0, 100, 2880, 4000, 8000, 12000)), ("filter", (0, 100, 2900))])
+def test_a_truncated_output_is_told(tmp_path, call, sizes):
+    for size in sizes:
+        program = script(tmp_path, f'"{maxdetect.find_program()}" "$@" | head -c {size}\n')
+        with pytest.raises(maxdetect.Refusal, match="truncated") as told:
+            getattr(maxdetect, call)(SMALL, 1 if call == "detect" else "direct", program=program)
+        assert told.value.status is None
+
+
+def test_a_program_that_is_not_there_is_told(tmp_path):
+    with pytest.raises(maxdetect.NoProgram, match="can't be run"):
+        maxdetect.detect(SMALL, 1, program="/nowhere/maxdetect")
+    with pytest.raises(FileNotFoundError):
+        maxdetect.tree(SMALL, program=os.fspath(tmp_path / "none"))
+    with pytest.raises(maxdetect.Refusal, match="status 7"):
+        maxdetect.tree(SMALL, program=script(tmp_path, "echo what >&2; exit 7\n"))

@@ -1,0 +1,128 @@
+"""Tiles against the whole."""
+import concurrent.futures
+
+import numpy
+import pytest
+from scipy import ndimage
+
+import maxdetect
+from maxdetect import background, tiles
+
+WORDS = {"min_area": 3, "connect": 8}
+
+
+def rough(shape, seed=1, smooth=1.5):
+    """Hills of many sizes, in whole numbers."""
+    rng = numpy.random.default_rng(seed)
+    hills = ndimage.gaussian_filter(rng.normal(0, 300, shape), smooth) + ndimage.gaussian_filter(
+        rng.normal(0, 3e3, shape), 9
+    )
+    return numpy.rint(hills).astype("i4")
+
+
+def are_the_same(whole, tiled):
+    assert whole[0].colnames == tiled[0].colnames and len(whole[0]) == len(tiled[0])
+    for name in whole[0].colnames:
+        assert (whole[0][name] == tiled[0][name]).all(), name
+        assert whole[0][name].dtype == tiled[0][name].dtype
+    assert (whole[1] == tiled[1]).all() and whole[1].dtype == tiled[1].dtype
+
+
+@pytest.mark.parametrize("mesh, flat", [(0, False), (8, False), (8, True), (1, False), (7, False)])
+@pytest.mark.parametrize("shape, mask", [((1, 1), 0), ((37, 50), 0.3), ((40, 16), 0), ((33, 61), 0.97)])
+def test_the_background_is_the_programs(mesh, flat, shape, mask):
+    rng = numpy.random.default_rng(3)
+    image = numpy.ma.MaskedArray(rng.integers(-90, 90, shape), mask=rng.random(shape) < mask)
+    undefined = numpy.ma.getmaskarray(image)
+    kept = maxdetect.filter(image, "direct", mesh=mesh, flat=flat)
+    above = background.Above(image.data, undefined if undefined.any() else None, 5, mesh, flat)
+    rows, columns = slice(shape[0] // 3, shape[0]), slice(shape[1] // 4, shape[1])
+    assert (above(rows, columns) == (kept.data[rows, columns] >= 5) & ~undefined[rows, columns]).all()
+
+
+@pytest.mark.parametrize("tile", [16, 32, 48])
+@pytest.mark.parametrize("connect", [4, 8])
+@pytest.mark.parametrize("mesh, flat", [(0, False), (8, False), (16, True)])
+def test_tiles_are_the_whole(tile, connect, mesh, flat):
+    options = dict(min_area=3, connect=connect, mesh=mesh, flat=flat)
+    image = rough((100, 75))
+    are_the_same(maxdetect.detect(image, 120, **options), maxdetect.detect_tiles(image, 120, tile, **options))
+
+
+@pytest.mark.parametrize("mesh, tile", [(0, 32), (2, 32), (4, 16), (8, 24)])
+def test_tiles_of_an_image_with_holes(mesh, tile):
+    image, rng = rough((90, 80), 5), numpy.random.default_rng(6)
+    mask = rng.random(image.shape) < 0.03
+    mask[20:55, 30:62] = mask[:9, 70:] = mask[:, 79:] = True
+    image = numpy.ma.MaskedArray(image, mask=mask)
+    options = dict(min_area=1, connect=8, mesh=mesh)
+    whole = maxdetect.detect(image, 60, **options)
+    are_the_same(whole, maxdetect.detect_tiles(image, 60, tile, **options))
+    are_the_same(whole, maxdetect.detect_tiles(image.filled(-9999), 60, tile, blank=-9999, **options))
+
+
+def test_components_that_reach_far_are_made_again():
+    image = numpy.zeros((120, 130), dtype="i4")
+    image[10, 5:125] = image[10:110, 124] = image[60:64, 3:128] = 100
+    image[10, 60], image[100, 124], image[62, 20] = 300, 250, 220
+    options = dict(connect=4, min_area=1)
+    are_the_same(maxdetect.detect(image, 50, **options), maxdetect.detect_tiles(image, 50, 16, **options))
+
+
+def test_components_that_no_window_holds_are_cut(monkeypatch):
+    monkeypatch.setattr(tiles, "MOST_PIXELS", 90 * 90)
+    monkeypatch.setattr(tiles, "MARGIN", 8)
+    image = numpy.zeros((200, 200), dtype="i4")
+    image[10, 5:195] = 100
+    image[100:104, 100:104] = 100
+    table, segments = maxdetect.detect_tiles(image, 50, 64)
+    alone = table[segments[101, 101] - 1]
+    assert alone["AREA"] == 16 and alone["NUMBER"] not in table.meta["CUT"]
+    assert set(table.meta["CUT"]) == set(segments[10, 5:195].tolist()) and (segments[10, 5:195] > 0).all()
+
+
+class InTurn(concurrent.futures.Executor):
+    """Does what it is given at once."""
+
+    def submit(self, work, *words, **options):
+        future = concurrent.futures.Future()
+        future.set_result(work(*words, **options))
+        return future
+
+
+def test_any_executor_and_a_mapped_image(tmp_path):
+    image = numpy.memmap(tmp_path / "image", "i2", "w+", shape=(128, 96))
+    image[:] = rough(image.shape)
+    whole = maxdetect.detect(image, 120, mesh=8, **WORDS)
+    segments = numpy.memmap(tmp_path / "map", "i4", "w+", shape=image.shape)
+    counted = []
+    found = maxdetect.detect_tiles(
+        image, 120, 32, InTurn(), mesh=8, segments=segments, progress=counted.append, **WORDS
+    )
+    are_the_same(whole, found)
+    assert found[1] is segments and sum(counted) == 12
+    with concurrent.futures.ProcessPoolExecutor(2) as pool:
+        are_the_same(whole, maxdetect.detect_tiles(image, 120, 64, pool, mesh=8, **WORDS))
+
+
+def test_a_dask_cluster():
+    distributed = pytest.importorskip("distributed", reason="wants Dask (Debian: python3-distributed)")
+    image = rough((100, 75))
+    whole = maxdetect.detect(image, 120, mesh=8, **WORDS)
+    with distributed.LocalCluster(
+        n_workers=2, threads_per_worker=1, processes=False, dashboard_address=None
+    ) as cluster:
+        with distributed.Client(cluster) as client:
+            found = maxdetect.detect_tiles(image, 120, 32, client.get_executor(), mesh=8, **WORDS)
+    are_the_same(whole, found)
+
+
+def test_what_is_refused():
+    with pytest.raises(ValueError, match="cells of 1024"):
+        maxdetect.detect_tiles(numpy.zeros((8, 8), dtype="i4"), 1, mesh=1024)
+    with pytest.raises(ValueError, match="two dimensions"):
+        maxdetect.detect_tiles(numpy.zeros(8, dtype="i4"), 1)
+    with pytest.raises(TypeError, match="whole numbers"):
+        maxdetect.detect_tiles(numpy.zeros((8, 8)), 1)
+    with pytest.raises(maxdetect.Refusal, match="threshold"):
+        maxdetect.detect_tiles(numpy.zeros((8, 8), dtype="i4"), 2**40)
