@@ -10,7 +10,7 @@ import shlex
 import sys
 import tempfile
 import warnings
-from typing import Callable, List, Optional
+from typing import Callable, List, Optional, Tuple
 
 import numpy
 from astropy.io import fits
@@ -68,6 +68,13 @@ MESH = _whole(0, 1024)
 above_zero = _number(0, True)
 
 
+def _crop(text: str) -> Tuple[int, ...]:
+    sides = tuple(int(side) for side in text.split(","))
+    if len(sides) != 4 or sides[0] > sides[1] or sides[2] > sides[3]:
+        raise argparse.ArgumentTypeError(f"{text} isn't XMIN,XMAX,YMIN,YMAX")
+    return sides
+
+
 def _finite(text: str) -> float:
     if not math.isfinite(float(text)):
         raise argparse.ArgumentTypeError(f"{text} isn't a finite number")
@@ -89,6 +96,7 @@ def parser() -> argparse.ArgumentParser:
     out.add_argument("--map", help="the segmentation map, as FITS: for each pixel the number of its source")
     out.add_argument("--regions", metavar="REG", help="ellipses for DS9")
     out.add_argument("--plot", metavar="PNG", help="a picture of the image and its sources")
+    out.add_argument("--crop", type=_crop, metavar="XMIN,XMAX,YMIN,YMAX", help="the part for --plot, in pixels from 1")
     out.add_argument("--zeropoint", type=_finite, metavar="Z", help="the magnitude of a flux of 1: adds magnitudes")
     what = made.add_argument_group("what is read")
     what.add_argument(
@@ -229,6 +237,10 @@ def _check_names(given: argparse.Namespace, tasks: List[Task]) -> None:
             raise Mistake(f"{output} can't be written")
     for task in tasks:
         tables.format_of(task.output)
+    if given.crop:
+        (xmin, xmax, ymin, ymax), (height, width) = given.crop, tasks[0].fields[0].shape
+        if xmax < 1 or ymax < 1 or xmin > width or ymin > height:
+            raise Mistake(f"--crop: it has no pixel of the image of {width} x {height}")
 
 
 def _check(given: argparse.Namespace) -> None:
@@ -241,6 +253,8 @@ def _check(given: argparse.Namespace) -> None:
         raise Mistake("--plot is for one HDU; name it with --hdu")
     if given.plot and pathlib.Path(given.plot).suffix.lower() != ".png":
         raise Mistake(f"{given.plot}: a picture's name ends in .png")
+    if given.crop and not given.plot:
+        raise Mistake("--crop wants a --plot")
     if given.weight_type and not given.weight:
         raise Mistake("--weight-type wants a --weight")
     if given.weight and given.rms == "local":
@@ -335,7 +349,7 @@ def _done(task: Task, given: argparse.Namespace, tiles, progress) -> str:
         if given.plot:
             from . import pictures
 
-            pictures.draw(task.fields[0].image(slice(None)), maps[0], table, given.plot)
+            pictures.draw(task.fields[0].image(slice(None)), maps[0], table, given.plot, crop=given.crop)
         if given.regions:
             tables.regions(table, given.regions)
         tables.write(table, task.output)
