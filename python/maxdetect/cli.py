@@ -96,12 +96,8 @@ def _finite(text: str) -> float:
     return float(text)
 
 
-def parser() -> argparse.ArgumentParser:
-    """The command's options."""
-    made = Parser(prog="maxcat", description=DESCRIPTION, epilog=EPILOG, allow_abbrev=False)
-    made.add_argument("--version", action="version", version=f"maxcat {__version__}")
-    made.add_argument("images", metavar="IMAGE", nargs="+", help="a FITS image of any kind that astropy reads")
-    out = made.add_argument_group("what is written")
+def _add_written(out) -> None:
+    """The options that say what is written."""
     out.add_argument(
         "-o",
         "--output",
@@ -113,7 +109,10 @@ def parser() -> argparse.ArgumentParser:
     out.add_argument("--plot", metavar="PNG", help="a picture of the image and its sources")
     out.add_argument("--crop", type=_crop, metavar="XMIN,XMAX,YMIN,YMAX", help="the part for --plot, in pixels from 1")
     out.add_argument("--zeropoint", type=_finite, metavar="Z", help="the magnitude of a flux of 1: adds magnitudes")
-    what = made.add_argument_group("what is read")
+
+
+def _add_read(what) -> None:
+    """The options that say what is read."""
     what.add_argument(
         "--hdu",
         metavar="all|N|NAME",
@@ -138,7 +137,10 @@ def parser() -> argparse.ArgumentParser:
     what.add_argument(
         "--saturation", type=_finite, help="pixels from this value on are flagged (default: the header's SATURATE)"
     )
-    how = made.add_argument_group("how sources are found")
+
+
+def _add_how(how) -> None:
+    """The options that say how sources are found."""
     how.add_argument(
         "--sigmas",
         type=sigmas,
@@ -174,6 +176,16 @@ def parser() -> argparse.ArgumentParser:
         metavar="N",
         help="images and tiles at work at once; 1 takes the least memory (default: as many as processors, at most 4)",
     )
+
+
+def parser() -> argparse.ArgumentParser:
+    """The command's options."""
+    made = Parser(prog="maxcat", description=DESCRIPTION, epilog=EPILOG, allow_abbrev=False)
+    made.add_argument("--version", action="version", version=f"maxcat {__version__}")
+    made.add_argument("images", metavar="IMAGE", nargs="+", help="a FITS image of any kind that astropy reads")
+    _add_written(made.add_argument_group("what is written"))
+    _add_read(made.add_argument_group("what is read"))
+    _add_how(made.add_argument_group("how sources are found"))
     return made
 
 
