@@ -1,16 +1,16 @@
 -- The backs of an image's sources in a second image, from its pieces.
-use Rattle.std.proofs.Common.{◌≡◌, ℕ, ◌+◌, ◌*◌, ◌<◌, Bool, true, false, cond, not, ◌&&◌, ◌==◌, List, length, filter, refl, sym, ◌∙◌, ap, subst, arith}
-use Rattle.std.specs.Prelude.{IsTrue, ℤ, pos, Some, ◌<ℤ◌, ◌≤ℤ◌, int_le, ◌↔◌, Contains, Option, slice_get, slice_index}
+use Rattle.std.proofs.Common.{◌≡◌, ℕ, ◌+◌, ◌<◌, Bool, true, cond, not, ◌&&◌, List, length, filter, refl, sym, ◌∙◌, ap, subst, arith}
+use Rattle.std.specs.Prelude.{IsTrue, ℤ, pos, Some, ◌≤ℤ◌, int_le, Contains, slice_get, slice_index}
 use Rattle.std.proofs.lemmas.Bool.{and_parts, cond-true, cond-false, eq-eqb, ne_eqb}
 use Rattle.std.proofs.lemmas.Int.{ints}
 use Rattle.std.proofs.lemmas.Option.{get_or_from_slice_get}
 use Rattle.comp_tree.specs.declared.shape.Connect.{Connect}
-use Rattle.comp_tree.specs.Raster.{Raster, IsPlane, pixels, value_at, at_least, is_at_least, is_defined, level}
+use Rattle.comp_tree.specs.Raster.{Raster, IsPlane, pixels, value_at, level}
 use Rattle.comp_tree.specs.ComponentTree.{parent_in, no_node}
-use Rattle.comp_tree.specs.Components.{IsReached, reaches, nodes, is_in_node, tree_of}
+use Rattle.comp_tree.specs.Components.{reaches, is_in_node, tree_of}
 use Rattle.comp_tree.specs.Laws.{IsNode, top_of}
-use Rattle.comp_tree.specs.Nesting.{is_root, level_in, level_of_node}
-use Rattle.comp_tree.specs.Windows.{Window, in_whole, LiesSure, LiesSureIn, Shows, seen_through}
+use Rattle.comp_tree.specs.Nesting.{is_root}
+use Rattle.comp_tree.specs.Windows.{Window, in_whole, LiesSure, seen_through}
 use Rattle.comp_tree.proofs.Exported.{AlikeAlong, AreSurePair, ArePaired, HasPartnerIn, IsAmong, IsReachedThere, along_reached, along_reaches, among-filter, among_from_defined, among_from_filter, below_from_defined, below_no_node, defined_from_at_least, in_node-defined, int_le-from, paired_from_rising, paired_sym, reaches-is_IsReached, reaches_lower, reaches_sym, reaches_trans, rising-pixels, same_bool, sure_components_are_seen, turned, window_along}
 use Rattle.mesh_background.specs.Residuals.{residual_of}
 use Rattle.node_sums.specs.Flux.{base_of}

@@ -1,20 +1,18 @@
 -- Boxes that are sure with a flat background and without a mesh, and the catalogue of a plane from its windows.
-use Rattle.std.proofs.Common.{◌≡◌, ℕ, ◌+◌, ◌*◌, ◌/◌, ◌%◌, ◌<◌, ◌≤◌, Bool, true, false, cond, ◌||◌, ◌==◌, List, refl, sym, ◌∙◌, ap, subst, arith}
-use Rattle.std.specs.Prelude.{IsTrue, Contains}
+use Rattle.std.proofs.Common.{◌≡◌, ℕ, ◌+◌, ◌*◌, ◌/◌, ◌%◌, ◌<◌, ◌≤◌, Bool, true, false, cond, ◌||◌, ◌==◌, refl, sym, ◌∙◌, ap, subst, arith}
+use Rattle.std.specs.Prelude.{IsTrue}
 use Rattle.std.proofs.lemmas.Nat.{div-add-mod', div-mul-add, mod_below}
 use Rattle.comp_tree.specs.declared.shape.Connect.{Connect}
-use Rattle.comp_tree.specs.Raster.{Raster, IsPlane, is_at_least, is_defined}
+use Rattle.comp_tree.specs.Raster.{Raster, is_at_least}
 use Rattle.comp_tree.specs.Components.{IsReached}
 use Rattle.comp_tree.specs.Windows.{Window, seen_through}
 use Rattle.mesh_background.specs.Mesh.{cells_along, mesh_cell_of}
 use Rattle.mesh_background.specs.Laws.{NoMeshLeavesThePlane}
 use Rattle.mesh_background.specs.Residuals.{residual_of}
-use Rattle.mesh_background.specs.Windows.{IsOnMesh}
 use Rattle.source_pick.specs.declared.choice.Choice.{Choice}
-use Rattle.source_pick.specs.declared.catalogue.CatRow.{CatRow}
 use Rattle.source_pick.specs.Catalogue.{catalogue}
-use Rattle.tile_laws.specs.Clear.{clear_from, clear_to, window_box, IsBoxWithin, IsSureBox}
-use Rattle.tile_laws.specs.Pieces.{Detection, Piece, detected, HasSureBox, AnswersForCore, without_mesh, ShowsItsCore}
+use Rattle.tile_laws.specs.Clear.{clear_from, clear_to, window_box, IsBoxWithin}
+use Rattle.tile_laws.specs.Pieces.{Piece, AnswersForCore, without_mesh, ShowsItsCore}
 use Rattle.tile_laws.specs.Laws.{FlatBoxesAreSure, BoxesAreSureWithoutMesh, NoMeshDetectsInTheImage, PiecesGiveTheCatalogue, PiecesGiveThePlanesCatalogue}
 
 -- ---- flat

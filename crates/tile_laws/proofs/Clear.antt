@@ -1,11 +1,10 @@
 -- The pixels of the clear box depend on cells that lie whole in the window.
-use Rattle.std.proofs.Common.{◌≡◌, ℕ, ◌+◌, ◌-◌, ◌*◌, ◌/◌, ◌%◌, ◌<◌, ◌≤◌, Bool, true, false, cond, ◌||◌, ◌==◌, refl, sym, ◌∙◌, ap, subst, arith, ◌⊎◌, inl, inr}
-use Rattle.std.proofs.lemmas.Bool.{cases_lt, eqb-true, eqb-false}
+use Rattle.std.proofs.Common.{◌≡◌, ℕ, ◌+◌, ◌-◌, ◌*◌, ◌/◌, ◌%◌, ◌<◌, ◌≤◌, Bool, true, false, cond, ◌||◌, ◌==◌, refl, ap, subst, arith, ◌⊎◌, inl, inr}
+use Rattle.std.proofs.lemmas.Bool.{cases_lt, eqb-true}
 use Rattle.std.proofs.lemmas.Nat.{div-add-mod', mod_below}
 use Rattle.std.proofs.Math.Nat.{mul-le-mul_right}
-use Rattle.mesh_background.specs.Mesh.{cells_along}
 use Rattle.mesh_background.specs.Interpolation.{next_cell}
-use Rattle.mesh_background.specs.Windows.{IsWholeCell, IsNeeded, IsClearAlong}
+use Rattle.mesh_background.specs.Windows.{IsNeeded, IsClearAlong}
 use Rattle.tile_laws.specs.Clear.{clear_from, clear_to}
 
 less_times : (a b m : ℕ) → a * m < b * m → a < b

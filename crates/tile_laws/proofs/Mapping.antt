@@ -1,18 +1,17 @@
 -- The segmentation map of an image, from the maps of its pieces.
-use Rattle.std.proofs.Common.{◌≡◌, ℕ, ◌+◌, ◌*◌, ◌<◌, ◌≤◌, zero, suc, Bool, true, false, cond, List, [], ◌∷◌, length, map, get_or, refl, sym, ◌∙◌, ap, subst, arith, ◌⊎◌, inl, inr}
-use Rattle.std.specs.Prelude.{IsTrue, ℤ, pos, unsigned_abs, ◌↔◌, Contains, Some, None, slice_get, slice_index, unwrap_or}
-use Rattle.std.specs.List.{position_from, range_with_len}
-use Rattle.std.proofs.lemmas.Bool.{cases_Bool, cases_eq, cases_lt, cases_order, true≢false}
+use Rattle.std.proofs.Common.{◌≡◌, ℕ, ◌+◌, ◌*◌, ◌<◌, ◌≤◌, zero, suc, Bool, true, false, cond, List, [], ◌∷◌, length, refl, sym, ◌∙◌, ap, subst, arith, ◌⊎◌, inl, inr}
+use Rattle.std.specs.Prelude.{IsTrue, pos, unsigned_abs, Contains, Some, None, slice_get, slice_index, unwrap_or}
+use Rattle.std.specs.List.{position_from}
+use Rattle.std.proofs.lemmas.Bool.{cases_eq, cases_lt, cases_order, true≢false}
 use Rattle.std.proofs.lemmas.List.{get_or_past, length-map}
 use Rattle.std.proofs.lemmas.List.FromFn.{get_or-map-range_with_len}
 use Rattle.std.proofs.lemmas.Option.{same_Some}
 use Rattle.comp_tree.specs.declared.shape.Connect.{Connect}
-use Rattle.comp_tree.specs.declared.shape.Shape.{Shape}
 use Rattle.comp_tree.specs.Raster.{Raster, IsPlane, pixels}
 use Rattle.comp_tree.specs.Components.{is_in_node}
 use Rattle.comp_tree.specs.Laws.{IsNode}
-use Rattle.comp_tree.specs.Windows.{Window, in_whole, IsShown, seen_through, SureComponentsAreTheSame}
-use Rattle.comp_tree.proofs.Exported.{IsAmong, below_from_defined, in_node-defined, length-pixels}
+use Rattle.comp_tree.specs.Windows.{Window, IsShown, seen_through, SureComponentsAreTheSame}
+use Rattle.comp_tree.proofs.Exported.{below_from_defined, in_node-defined, length-pixels}
 use Rattle.mesh_background.specs.Residuals.{residual_of}
 use Rattle.node_sums.specs.Sums.{sums_of}
 use Rattle.source_pick.specs.declared.choice.Choice.{Choice}

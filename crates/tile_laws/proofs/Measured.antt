@@ -1,7 +1,6 @@
 -- The measures of an image's sources in a second image, from its pieces.
-use Rattle.std.proofs.Common.{◌≡◌, ℕ, ◌+◌, ◌*◌, ◌<◌, Bool, true, not, List, [], ◌∷◌, length, map, filter, refl, sym, ◌∙◌, ap, subst, arith}
-use Rattle.std.specs.Prelude.{IsTrue, ℤ, pos, ◌+ℤ◌, ◌↔◌, Contains, Option, Some, is_some, unwrap_or, slice_get, slice_index}
-use Rattle.std.proofs.lemmas.Option.{get_or_from_slice_get}
+use Rattle.std.proofs.Common.{◌≡◌, ℕ, ◌*◌, ◌<◌, true, not, List, length, map, refl, sym, ◌∙◌, ap, subst, arith}
+use Rattle.std.specs.Prelude.{IsTrue, ℤ, pos, ◌+ℤ◌, ◌↔◌, Contains, Option, is_some, unwrap_or}
 use Rattle.comp_tree.specs.declared.shape.Connect.{Connect}
 use Rattle.comp_tree.specs.declared.shape.Shape.{Shape}
 use Rattle.comp_tree.specs.Raster.{Raster, IsPlane, pixels, value_at, is_defined, level}
@@ -13,18 +12,15 @@ use Rattle.mesh_background.specs.Residuals.{residual_of}
 use Rattle.node_sums.specs.Sums.{total, sums_of}
 use Rattle.source_pick.specs.declared.choice.Choice.{Choice}
 use Rattle.source_pick.specs.declared.catalogue.CatRow.{CatRow}
-use Rattle.source_pick.specs.Sources.{sources}
 use Rattle.source_pick.specs.Windows.{Tile, IsTileOf, IsFromTile}
 use Rattle.dual_measure.specs.declared.values.Measure.{Measure}
 use Rattle.dual_measure.specs.Measures.{least_or_zero, greatest_or_zero, seen_of, missing_of, measure_over, measure_of}
-use Rattle.tile_laws.specs.Pieces.{Detection, Piece, searched, AnswersForCore, CoversImage, IsFromPiece, AreMerged}
-use Rattle.tile_laws.specs.SecondImage.{measured, HasMeasuredBox, MeasuresItsCore}
-use Rattle.tile_laws.specs.Laws.{PiecesGiveTheMeasures}
+use Rattle.tile_laws.specs.Pieces.{Detection, Piece, searched, AnswersForCore, CoversImage, AreMerged}
+use Rattle.tile_laws.specs.SecondImage.{HasMeasuredBox, MeasuresItsCore}
 use Rattle.tile_laws.proofs.Sure.{is_sure, sure_in_box, shows_sure}
 use Rattle.tile_laws.proofs.Shown.{first_inside, source_reached, source_pixel_high, shown_pixel}
 use Rattle.tile_laws.proofs.Tiles.{tile_of}
-use Rattle.tile_laws.proofs.Merging.{IsSourceOfRow, source_of_row}
-use Rattle.tile_laws.proofs.Mapping.{MapLaws, whole, piece, here_at, index_at}
+use Rattle.tile_laws.proofs.Mapping.{MapLaws, whole, piece}
 
 -- ---- measures over paired pixels
 

@@ -1,7 +1,6 @@
 -- The catalogue of an image, from the catalogues of its pieces.
 use Rattle.std.proofs.Common.{◌≡◌, ℕ, ◌+◌, ◌-◌, ◌*◌, ◌/◌, ◌%◌, ◌<◌, List, [], ◌∷◌, length, map, refl, sym, ◌∙◌, ap, subst, arith}
-use Rattle.std.specs.Prelude.{IsTrue, pos, ◌+ℤ◌, unsigned_abs, Contains, Some, slice_get}
-use Rattle.std.specs.List.{enumerate_from}
+use Rattle.std.specs.Prelude.{IsTrue, Contains, Some, slice_get}
 use Rattle.std.proofs.lemmas.Nat.{div-add-mod'}
 use Rattle.comp_tree.specs.declared.shape.Connect.{Connect}
 use Rattle.comp_tree.specs.Raster.{Raster, IsPlane}
@@ -10,10 +9,9 @@ use Rattle.comp_tree.specs.Windows.{Window, in_whole, is_in_box, seen_through, D
 use Rattle.comp_tree.proofs.Exported.{IsAmong, IsRisingBy}
 use Rattle.mesh_background.specs.Residuals.{residual_of}
 use Rattle.node_sums.specs.Sums.{sums_of}
-use Rattle.source_pick.specs.declared.choice.Choice.{Choice}
 use Rattle.source_pick.specs.declared.catalogue.CatRow.{CatRow}
 use Rattle.source_pick.specs.Sources.{is_source, sources}
-use Rattle.source_pick.specs.Catalogue.{measured_row, catalogue_row, catalogue_of, catalogue}
+use Rattle.source_pick.specs.Catalogue.{measured_row, catalogue_row}
 use Rattle.source_pick.specs.Laws.{SourcesAreListed, SourcesAreInOrder}
 use Rattle.source_pick.specs.Windows.{moved_row, Tile, IsTileOf, IsOwnSource, IsFromTile, EachSourceIsATiles, OwnSourcesAreTheWholes}
 use Rattle.tile_laws.specs.Pieces.{Detection, Piece, searched, detected, AnswersForCore, CoversImage, first_pixel, IsFromPiece, AreMerged, with_number, numbered}

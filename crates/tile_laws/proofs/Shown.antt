@@ -1,21 +1,19 @@
 -- The pixels of a piece's own source all lie in its window.
-use Rattle.std.proofs.Common.{◌≡◌, ℕ, ◌+◌, ◌-◌, ◌*◌, ◌^◌, ◌<◌, ◌≤◌, Bool, true, false, ◌&&◌, ◌||◌, ◌==◌, not, min, List, [], ◌∷◌, length, refl, sym, ◌∙◌, ap, subst, arith, ◌⊎◌, inl, inr}
-use Rattle.std.specs.Prelude.{IsTrue, ℤ, int_le, filter, find, Contains, Option, Some, None}
-use Rattle.std.specs.List.{list_any}
-use Rattle.std.specs.Option.{option_map_or}
-use Rattle.std.proofs.lemmas.Bool.{and_parts, or_cases, cases_lt, true≢false}
+use Rattle.std.proofs.Common.{◌≡◌, ℕ, ◌-◌, ◌*◌, ◌^◌, ◌<◌, ◌≤◌, true, min, List, [], ◌∷◌, length, refl, subst, arith, ◌⊎◌, inl, inr}
+use Rattle.std.specs.Prelude.{IsTrue, filter}
+use Rattle.std.proofs.lemmas.Bool.{cases_lt}
 use Rattle.comp_tree.specs.declared.shape.Connect.{Connect}
-use Rattle.comp_tree.specs.Raster.{Raster, IsPlane, pixels, level, is_at_least}
-use Rattle.comp_tree.specs.Components.{IsReached, nodes, is_in_node, tree_of}
-use Rattle.comp_tree.specs.Nesting.{node_numbers, pixels_of, level_of_node, lies_within, is_root}
-use Rattle.comp_tree.specs.Laws.{IsNode, top_of, parent_of_node}
-use Rattle.comp_tree.specs.Windows.{Window, in_whole, IsShown, Shows, LiesSureIn, SureComponentsAreTheSame}
-use Rattle.comp_tree.proofs.Exported.{IsAmong, IsWitness, among-filter, among_from_defined, among_from_filter, among_from_range, at_least-from, below_from_defined, find_some, in_node-defined, int_le_trans, joined_sym, joined_trans, level_from_at_least, reaches-is_IsReached, reaches_end, reaches_lower, top-defined, top_inside, within_from_test, witness_from_any}
+use Rattle.comp_tree.specs.Raster.{Raster, IsPlane, pixels, is_at_least}
+use Rattle.comp_tree.specs.Components.{IsReached, nodes, is_in_node}
+use Rattle.comp_tree.specs.Nesting.{pixels_of}
+use Rattle.comp_tree.specs.Laws.{IsNode, top_of}
+use Rattle.comp_tree.specs.Windows.{in_whole, IsShown, SureComponentsAreTheSame}
+use Rattle.comp_tree.proofs.Exported.{IsAmong, among-filter, among_from_defined, among_from_filter, below_from_defined, in_node-defined, joined_sym, joined_trans, reaches-is_IsReached, reaches_end, top_inside}
 use Rattle.node_sums.specs.Sums.{least, sums_over, sums_of}
 use Rattle.source_pick.specs.declared.choice.Choice.{Choice}
 use Rattle.source_pick.specs.Sources.{is_source}
 use Rattle.source_pick.proofs.Exported.{in_node_reached, top_high}
-use Rattle.source_pick.specs.Windows.{Tile, IsTileOf, IsMovedNode, IsOwnSource, IsFromTile}
+use Rattle.source_pick.specs.Windows.{Tile, IsTileOf, IsFromTile}
 
 -- ---- the first pixel of a node lies in it
 

@@ -5,18 +5,17 @@ use Rattle.std.specs.Option.{option_map}
 use Rattle.std.specs.List.{list_all, list_any, range_with_len}
 use Rattle.std.proofs.lemmas.Bool.{and_parts, and_from, or_cases, or_left, or_right, cases_Bool, cases_eq, not-true, not_from_false, le-leb, leb-true, lt-ltb, ltb-true, eq-eqb, eqb-true, true≢false}
 use Rattle.std.proofs.lemmas.Nat.{div-add-mod', div-mul-add, mod-mul-add, mul-add-lt}
-use Rattle.std.proofs.lemmas.List.FromFn.{get_or-map-range_with_len}
 use Rattle.comp_tree.specs.declared.shape.Shape.{Shape}
 use Rattle.comp_tree.specs.Raster.{Raster, IsPlane, pixels, value_at, is_defined}
 use Rattle.comp_tree.specs.Windows.{Window, IsInside, Box, in_whole, is_in_box, seen_through, Shows}
 use Rattle.comp_tree.proofs.Exported.{IsAmong, IsWitness, IsAt, all_from, all_gives, among-range, among_from_defined, among_from_range, any_from_among, in_whole-at, in_whole-below, seen-length, seen-shape, seen-value, witness_from_any}
 use Rattle.mesh_background.specs.Mesh.{cells_along, mesh_cell_of}
 use Rattle.mesh_background.specs.Interpolation.{next_cell}
-use Rattle.mesh_background.specs.Residuals.{background, residual_at, residual_of}
+use Rattle.mesh_background.specs.Residuals.{background, residual_of}
 use Rattle.mesh_background.specs.Windows.{IsNeeded, IsClearAlong, HasDefinedCells, IsOnMesh, IsClear, ResidualIsSeen, ClearIsToldFromTheWindow}
 use Rattle.mesh_background.specs.Laws.{NoMeshLeavesThePlane, ResidualIsPlane}
 use Rattle.mesh_background.proofs.Exported.{residual_value}
-use Rattle.tile_laws.specs.Clear.{clear_from, clear_to, clear_box, IsBoxWithin, IsSureBox}
+use Rattle.tile_laws.specs.Clear.{clear_box, IsBoxWithin, IsSureBox}
 use Rattle.tile_laws.proofs.Clear.{from_inside, to_inside, clear_along}
 
 -- ---- boxes

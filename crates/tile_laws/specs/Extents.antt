@@ -1,5 +1,4 @@
 -- Model: a box as the code has it.
-use Rattle.std.specs.Prelude.{ℕ}
 use Rattle.comp_tree.specs.Windows.{Box}
 use Rattle.tile_laws.specs.declared.extents.Extent.{Extent}
 

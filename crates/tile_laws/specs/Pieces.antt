@@ -1,6 +1,6 @@
 -- Model: an image in pieces. Detection runs over the window of each piece alone, and the rows whose first pixels lie in the piece's core
 -- are put together.
-use Rattle.std.specs.Prelude.{◌≡◌, ℕ, ◌+◌, ◌-◌, ◌*◌, ◌<◌, Bool, true, IsTrue, pos, unsigned_abs, List, length, map, Contains, Some, slice_get, slice_index}
+use Rattle.std.specs.Prelude.{◌≡◌, ℕ, ◌+◌, ◌-◌, ◌*◌, ◌<◌, Bool, true, IsTrue, pos, unsigned_abs, List, map, Contains, Some, slice_get, slice_index}
 use Rattle.std.specs.List.{enumerate_from}
 use Rattle.comp_tree.specs.declared.shape.Connect.{Connect}
 use Rattle.comp_tree.specs.declared.shape.Shape.{Shape}
@@ -81,6 +81,11 @@ pub record ShowsItsCore (connect : Connect) (choice : Choice) (r : Raster) (t : 
 -- the cores cover an image of so many columns and rows
 abbrev pub CoversImage : Shape → List Piece → Type 0
 CoversImage whole pieces = (p : ℕ) → p < whole.width * whole.height → (t : Piece) × Contains pieces t × IsTrue (is_in_box whole.width t.core p)
+
+-- and no two of them share a pixel
+abbrev pub AreApart : Shape → List Piece → Type 0
+AreApart whole pieces = (p : ℕ) (t u : Piece) → Contains pieces t → Contains pieces u → IsTrue (is_in_box whole.width t.core p)
+    → IsTrue (is_in_box whole.width u.core p) → t ≡ u
 
 -- ---- how their catalogues are put together
 
