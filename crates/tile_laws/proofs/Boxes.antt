@@ -23,7 +23,8 @@ own_cell mesh corner x c some on e =
     let a : corner / mesh * mesh + corner % mesh ≡ corner = div-add-mod' corner mesh in
     let b : x / mesh * mesh + x % mesh ≡ x = div-add-mod' x mesh in
     let f : (x / mesh + corner / mesh) * mesh + x % mesh ≡ x + corner = omega arith in
-    let g : ((x / mesh + corner / mesh) * mesh + x % mesh) / mesh ≡ x / mesh + corner / mesh = div-mul-add (x / mesh + corner / mesh) mesh (x % mesh) (mod_below x mesh some) in
+    let g : ((x / mesh + corner / mesh) * mesh + x % mesh) / mesh ≡ x / mesh + corner / mesh =
+    div-mul-add (x / mesh + corner / mesh) mesh (x % mesh) (mod_below x mesh some) in
     let h : (x + corner) / mesh ≡ x / mesh + corner / mesh = ap (λ (n : ℕ). n / mesh) (sym f) ∙ g in
     omega (arith, e, h)
 
@@ -35,8 +36,8 @@ flat_boxes_are_sure r w mesh box on clear = record {
     q,
     d,
     let a : q / w.shape.width / mesh ≡ j = own_cell mesh w.top (q / w.shape.width) j some (on some).rows nj in
-    let b : q % w.shape.width / mesh ≡ i = own_cell mesh w.left (q % w.shape.width) i some (on some).columns ni in
-    ap (λ (n : ℕ). n * cells_along mesh w.shape.width + q % w.shape.width / mesh) a ∙ ap (λ (n : ℕ). j * cells_along mesh w.shape.width + n) b,
+        let b : q % w.shape.width / mesh ≡ i = own_cell mesh w.left (q % w.shape.width) i some (on some).columns ni in
+        ap (λ (n : ℕ). n * cells_along mesh w.shape.width + q % w.shape.width / mesh) a ∙ ap (λ (n : ℕ). j * cells_along mesh w.shape.width + n) b,
   );
 }
 
@@ -71,7 +72,8 @@ box_itself w = record { left = omega arith; right = omega arith; top = omega ari
 pub no_mesh_detects_in_the_image : NoMeshLeavesThePlane → NoMeshDetectsInTheImage
 no_mesh_detects_in_the_image none connect choice r = ap (λ (x : Raster). catalogue x connect choice) (none r true)
 
-answers_without : NoMeshLeavesThePlane → (connect : Connect) (choice : Choice) (r : Raster) (t : Piece) → ShowsItsCore connect choice r t → AnswersForCore (without_mesh connect choice) r t
+answers_without : NoMeshLeavesThePlane → (connect : Connect) (choice : Choice) (r : Raster) (t : Piece) → ShowsItsCore connect choice r t
+    → AnswersForCore (without_mesh connect choice) r t
 answers_without none connect choice r t k = record {
   inside = k.inside;
   on_mesh = λ some. absurd (omega arith);

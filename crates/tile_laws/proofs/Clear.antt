@@ -55,7 +55,8 @@ module _ (mesh corner side whole x : ℕ) (some : 0 < mesh) (on : corner % mesh 
   next_bounds : (next_cell mesh x * (2 * mesh) ≤ 2 * x + 1 + mesh) × (2 * x + 1 + mesh < (next_cell mesh x + 1) * (2 * mesh))
   unfolding next_cell
   next_bounds =
-      let one : (2 * x + 1 + mesh) / (2 * mesh) * (2 * mesh) + (2 * x + 1 + mesh) % (2 * mesh) ≡ 2 * x + 1 + mesh = div-add-mod' (2 * x + 1 + mesh) (2 * mesh) in
+      let one : (2 * x + 1 + mesh) / (2 * mesh) * (2 * mesh) + (2 * x + 1 + mesh) % (2 * mesh) ≡ 2 * x + 1 + mesh =
+      div-add-mod' (2 * x + 1 + mesh) (2 * mesh) in
       let rest : (2 * x + 1 + mesh) % (2 * mesh) < 2 * mesh = mod_below (2 * x + 1 + mesh) (2 * mesh) (omega arith) in
       let g : ((2 * x + 1 + mesh) / (2 * mesh) + 1) * (2 * mesh) ≡ (2 * x + 1 + mesh) / (2 * mesh) * (2 * mesh) + 2 * mesh = omega arith in
       (omega arith, omega (arith, one, rest, g))
@@ -120,11 +121,13 @@ module _ (mesh corner side whole x : ℕ) (some : 0 < mesh) (on : corner % mesh 
       inner true u k = high_flat end c k (subst (λ (f : Bool). IsNeeded f mesh x c) u e)
       inner false u k = let n : IsNeeded false mesh x c = subst (λ (f : Bool). IsNeeded f mesh x c) u e in high_smooth end c k n.1
 
-      go : (a b : Bool) → mesh == 0 ≡ a → end == whole ≡ b → x < cond (a || b) end (cond flat ((end / mesh) * mesh) ((end / mesh) * mesh - (3 * mesh + 1) / 2))
+      go : (a b : Bool) → mesh == 0 ≡ a → end == whole ≡ b
+          → x < cond (a || b) end (cond flat ((end / mesh) * mesh) ((end / mesh) * mesh - (3 * mesh + 1) / 2))
           → ((c + 1) * mesh ≤ end) ⊎ (end ≡ whole)
       go true b u v k = let z : mesh ≡ 0 = eqb-true mesh 0 u in absurd (omega arith)
       go false true u v k = inr (eqb-true end whole v)
       go false false u v k = inl (inner flat refl k)
 
-  pub clear_along : (flat : Bool) → clear_from flat mesh corner ≤ x → x < clear_to flat mesh whole (corner + side) → IsClearAlong flat mesh corner side whole x
+  pub clear_along : (flat : Bool) → clear_from flat mesh corner ≤ x → x < clear_to flat mesh whole (corner + side)
+      → IsClearAlong flat mesh corner side whole x
   clear_along flat low high c l e = record { low = low_cell flat c low e; high = high_cell flat (corner + side) c high e }

@@ -78,7 +78,8 @@ module _ (laws : MapLaws) (d : Detection) (r : Raster) (pieces : List Piece) (pl
           (sym s.from.moved.first ∙ sym (first_of_row t row c f) ∙ e ∙ first_of_row t other c g ∙ u.from.moved.first)
 
       place : s.index ≡ u.index
-      place = same_place laws (part t) d.connect d.choice (tile laws.tiles d r pieces plane cover answers t c).one_each s.index u.index s.there u.there s.at u.at first
+      place =
+          same_place laws (part t) d.connect d.choice (tile laws.tiles d r pieces plane cover answers t c).one_each s.index u.index s.there u.there s.at u.at first
 
       same : s.there ≡ u.there
       same = same_Some s.there u.there
@@ -143,7 +144,8 @@ module _ (laws : MapLaws) (d : Detection) (r : Raster) (pieces : List Piece) (pl
           let i : (i : ℕ) × (slice_get (sources R d.connect d.choice) i ≡ Some s.here) =
           among_get s.here (sources R d.connect d.choice)
           (among_of s.here (sources R d.connect d.choice) ((laws.tiles.listed R d.connect d.choice s.here whole).1 (s.from.node, s.from.source))) in
-          let g : (other : CatRow) × IsAmong other made.0 × IsRowFor s.here other = paired_left IsRowFor (sources R d.connect d.choice) made.0 i.0 s.here made.1 i.1 in
+          let g : (other : CatRow) × IsAmong other made.0 × IsRowFor s.here other =
+          paired_left IsRowFor (sources R d.connect d.choice) made.0 i.0 s.here made.1 i.1 in
           let one : (t ≡ g.2.piece) × (row ≡ g.0) = one_piece t g.2.piece row g.0 c g.2.among f g.2.from (first_of_row t row c f ∙ sym g.2.first) in
           subst (λ (x : CatRow). Contains made.0 x) (sym one.1) (contains_from_among g.0 made.0 g.1)
 
@@ -159,4 +161,5 @@ pub pieces_can_be_merged : MapLaws → PiecesCanBeMerged
 pieces_can_be_merged laws d r pieces plane cover answers apart = merged laws d r pieces plane cover answers apart
 
 pub rows_are_one_pieces : MapLaws → RowsAreOnePieces
-rows_are_one_pieces laws d r pieces t u row other plane cover answers apart a b f g e = one_piece laws d r pieces plane cover answers apart t u row other a b f g e
+rows_are_one_pieces laws d r pieces t u row other plane cover answers apart a b f g e =
+    one_piece laws d r pieces plane cover answers apart t u row other a b f g e

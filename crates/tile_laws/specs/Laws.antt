@@ -8,7 +8,8 @@ use Rattle.source_pick.specs.declared.choice.Choice.{Choice}
 use Rattle.source_pick.specs.declared.catalogue.CatRow.{CatRow}
 use Rattle.source_pick.specs.Catalogue.{catalogue}
 use Rattle.tile_laws.specs.Clear.{clear_box, window_box, IsBoxWithin, IsSureBox}
-use Rattle.tile_laws.specs.Pieces.{Detection, Piece, detected, AnswersForCore, without_mesh, ShowsItsCore, CoversImage, AreApart, first_pixel, IsFromPiece, AreMerged, numbered, mapped, IsMappedBy}
+use Rattle.tile_laws.specs.Pieces.{Detection, Piece, detected, AnswersForCore, without_mesh, ShowsItsCore, CoversImage, AreApart, first_pixel}
+use Rattle.tile_laws.specs.Pieces.{IsFromPiece, AreMerged, numbered, mapped, IsMappedBy}
 use Rattle.tile_laws.specs.SecondImage.{measured, backed, MeasuresItsCore}
 
 -- where the cores cover the image and each piece answers for its core, the image's catalogue is that of the pieces: their own rows, moved,
@@ -39,7 +40,8 @@ PiecesGiveTheMap = (d : Detection) (r : Raster) (pieces : List Piece) (rows : Li
 -- source i of the piece, both counted from 0, has the piece's measure. It has the piece's back too where its base is at least the threshold: its
 -- parent lies in the same component at the threshold then. The parent of a whole such component may reach beyond any window
 abbrev pub PiecesGiveTheMeasures : Type 0
-PiecesGiveTheMeasures = (d : Detection) (r values : Raster) (pieces : List Piece) (rows : List CatRow) (t : Piece) (row : CatRow) (f : IsFromPiece d r t row) (k i : ℕ)
+PiecesGiveTheMeasures = (d : Detection) (r values : Raster) (pieces : List Piece) (rows : List CatRow)
+    (t : Piece) (row : CatRow) (f : IsFromPiece d r t row) (k i : ℕ)
     → IsPlane r → IsPlane values → values.shape ≡ r.shape
     → CoversImage r.shape pieces → ((t : Piece) → Contains pieces t → AnswersForCore d r t) → AreMerged d r pieces rows
     → Contains pieces t → MeasuresItsCore d r values t → slice_get rows k ≡ Some row → f.it.number ≡ pos (i + 1)

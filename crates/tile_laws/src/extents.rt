@@ -24,7 +24,14 @@ pub struct Extent {
 /// The box of an image of shape `whole` in which the background is the image's own in the window of shape `window` whose first pixel stands in
 /// column `left` of row `top`, as far as each cell that is needed has a pixel with a value. `mesh` is the size of the mesh, 0 for none; `left`
 /// and `top` are to be multiples of it. The box may be empty: then `from` isn't below `to`.
-pub fn clear_extent(flat: bool, mesh: u32, whole: Shape, left: u32, top: u32, window: Shape) -> Extent
+pub fn clear_extent(
+    flat: bool,
+    mesh: u32,
+    whole: Shape,
+    left: u32,
+    top: u32,
+    window: Shape,
+) -> Extent
     requires inside { let w : Window = record { left = left; top = top; shape = window } in IsInside whole w }
     requires mesh { mesh ≤ 65535 }
     ensures { let w : Window = record { left = left; top = top; shape = window } in box_of result ≡ clear_box flat mesh whole w }
@@ -54,7 +61,11 @@ fn first_clear(flat: bool, mesh: u32, corner: u32) -> u32
     requires corner { corner ≤ 65535 }
     ensures { result ≡ clear_from flat mesh corner }
 {
-    if flat || corner == 0 { corner } else { corner + 3 * mesh / 2 }
+    if flat || corner == 0 {
+        corner
+    } else {
+        corner + 3 * mesh / 2
+    }
 }
 
 #[tactic(auto, unfolding(crate::specs::Clear::clear_to))]
@@ -66,7 +77,11 @@ fn end_of_clear(flat: bool, mesh: u32, whole: u32, end: u32) -> u32
         return end;
     }
     let edge = end / mesh * mesh;
-    if flat { edge } else { edge.saturating_sub((3 * mesh + 1) / 2) }
+    if flat {
+        edge
+    } else {
+        edge.saturating_sub((3 * mesh + 1) / 2)
+    }
 }
 
 /// Each pixel of the first box lies so deep in the second one that its neighbours lie there too, of which there are none beyond the edges of
@@ -78,7 +93,8 @@ pub fn lies_deep(component: &Extent, sure: &Extent, whole: Shape) -> bool
     ensures { IsTrue result
         ↔ ((p : ℕ) → IsTrue (is_in_box whole.width (box_of component.now) p) → IsDeepIn whole (box_of sure.now) p) }
 {
-    is_deep(&component.columns, &sure.columns, whole.width) && is_deep(&component.rows, &sure.rows, whole.height)
+    is_deep(&component.columns, &sure.columns, whole.width)
+        && is_deep(&component.rows, &sure.rows, whole.height)
 }
 
 // The same along one side.

@@ -15,7 +15,10 @@ fn first_row(left: u32, right: u32) -> Extent
     ensures bottom { result.rows.to ≡ 1 }
 {
     Extent {
-        columns: Span { from: left, to: right },
+        columns: Span {
+            from: left,
+            to: right,
+        },
         rows: Span { from: 0, to: 1 },
     }
 }
@@ -33,7 +36,13 @@ fn boxes_of_a_window(rt: HostRuntime) -> Result<(), Fail> {
     let flat = clear_extent(true, 64, whole, 128, 0, window);
     assert_eq!(rt; flat.columns, Span { from: 128, to: 640 });
     let without = clear_extent(false, 0, whole, 488, 144, window);
-    assert_eq!(rt; without.columns, Span { from: 488, to: 1000 });
+    assert_eq!(rt;
+        without.columns,
+        Span {
+            from: 488,
+            to: 1000
+        }
+    );
     // the last cell of the window is cut at column 612, and its last row is the image's
     let cut = clear_extent(true, 100, whole, 100, 144, window);
     assert_eq!(rt; cut.columns, Span { from: 100, to: 600 });
