@@ -12,7 +12,7 @@ use Rattle.source_pick.specs.Sources.{sources}
 use Rattle.source_pick.specs.Catalogue.{catalogue_row}
 use Rattle.source_pick.specs.Windows.{moved_row}
 use Rattle.source_pick.proofs.Exported.{among_get, among_of, contains_from_among}
-use Rattle.tile_laws.specs.Pieces.{Detection, Piece, searched, AnswersForCore, CoversImage, AreApart, first_pixel, IsFromPiece, AreMerged}
+use Rattle.tile_laws.specs.Pieces.{Detection, Piece, searched, AnswersForCore, CoversImage, CoresAreApart, first_pixel, IsFromPiece, AreMerged}
 use Rattle.tile_laws.specs.Laws.{PiecesCanBeMerged, RowsAreOnePieces}
 use Rattle.tile_laws.proofs.Merging.{plane_R, tile, source_from, IsPiecesSource, IsRowThere, row_there, IsSourceOfRow, source_of_row, first_is}
 use Rattle.tile_laws.proofs.Mapping.{MapLaws, same_place}
@@ -39,7 +39,7 @@ paired_left {X} {Y} R _ _ (suc i) u (at_more {x} {y} {xs} {ys} c rest) e =
     let g : (v : Y) × IsAmong v ys × R u v = paired_left R xs ys i u rest e in (g.0, inr g.1, g.2)
 
 module _ (laws : MapLaws) (d : Detection) (r : Raster) (pieces : List Piece) (plane : IsPlane r) (cover : CoversImage r.shape pieces)
-    (answers : (t : Piece) → Contains pieces t → AnswersForCore d r t) (apart : AreApart r.shape pieces) where
+    (answers : (t : Piece) → Contains pieces t → AnswersForCore d r t) (apart : CoresAreApart r.shape pieces) where
   abbrev R : Raster
   R = searched d r
 

@@ -22,7 +22,7 @@ use Rattle.source_pick.specs.Catalogue.{measured_row, catalogue_row}
 use Rattle.source_pick.specs.Laws.{SourcesAreDisjoint}
 use Rattle.source_pick.specs.Segmentation.{source_number_at, segmentation_of, segmentation}
 use Rattle.source_pick.specs.Windows.{moved_row, IsTileOf}
-use Rattle.tile_laws.specs.Pieces.{Detection, Piece, searched, mapped, AnswersForCore, CoversImage, first_pixel, IsFromPiece, AreMerged, with_number}
+use Rattle.tile_laws.specs.Pieces.{Detection, Piece, searched, mapped, AnswersForCore, CoversImage, first_pixel, IsFromPiece, AreMerged, row_with_number}
 use Rattle.tile_laws.specs.Pieces.{IsMappedBy}
 use Rattle.tile_laws.specs.Laws.{PiecesGiveTheMap}
 use Rattle.source_pick.proofs.Exported.{contains_from_among, among_of, among_get}
@@ -182,12 +182,12 @@ module _ (laws : MapLaws) (d : Detection) (r : Raster) (pieces : List Piece) (pl
   unfolding residual_of
   placed k row e = record { it = g.0; at = g.1; first = sym (first_is R d.connect (k + 1) g.0) ∙ ap (first_pixel r.shape.width) g.2 }
     where
-      there : slice_get (rows_from (catalogue_row R d.connect) 1 (sources R d.connect d.choice)) k ≡ Some (with_number (k + 1) row)
+      there : slice_get (rows_from (catalogue_row R d.connect) 1 (sources R d.connect d.choice)) k ≡ Some (row_with_number (k + 1) row)
       there =
-          ap (λ (x : List CatRow). slice_get x k) (same_rows laws.tiles d r pieces plane cover answers rows merged) ∙ get_rows with_number 1 rows k row e
+          ap (λ (x : List CatRow). slice_get x k) (same_rows laws.tiles d r pieces plane cover answers rows merged) ∙ get_rows row_with_number 1 rows k row e
 
-      g : (n : ℕ) × (slice_get (sources R d.connect d.choice) k ≡ Some n) × (catalogue_row R d.connect (k + 1) n ≡ with_number (k + 1) row)
-      g = row_at (catalogue_row R d.connect) 1 (with_number (k + 1) row) (sources R d.connect d.choice) k there
+      g : (n : ℕ) × (slice_get (sources R d.connect d.choice) k ≡ Some n) × (catalogue_row R d.connect (k + 1) n ≡ row_with_number (k + 1) row)
+      g = row_at (catalogue_row R d.connect) 1 (row_with_number (k + 1) row) (sources R d.connect d.choice) k there
 
   -- which is the source of the piece's row
   pub here_at : (t : Piece) (row : CatRow) (c : Contains pieces t) (f : IsFromPiece d r t row) (k : ℕ) → slice_get rows k ≡ Some row

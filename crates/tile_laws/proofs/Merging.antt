@@ -15,7 +15,7 @@ use Rattle.source_pick.specs.Catalogue.{measured_row, catalogue_row}
 use Rattle.source_pick.specs.Laws.{SourcesAreListed, SourcesAreInOrder}
 use Rattle.source_pick.specs.Windows.{moved_row, Tile, IsTileOf, IsOwnSource, IsFromTile, EachSourceIsATiles, OwnSourcesAreTheWholes}
 use Rattle.tile_laws.specs.Pieces.{Detection, Piece, searched, detected, AnswersForCore, CoversImage, first_pixel, IsFromPiece, AreMerged}
-use Rattle.tile_laws.specs.Pieces.{with_number, numbered}
+use Rattle.tile_laws.specs.Pieces.{row_with_number, numbered_rows}
 use Rattle.tile_laws.specs.Laws.{PiecesGiveTheCatalogue}
 use Rattle.source_pick.proofs.Exported.{catalogue-is, contains_from_among, among_of, among_get, rising_from_get}
 use Rattle.tile_laws.proofs.Lists.{get_among, among_map, IsImageOf, image_of, rising_equal, rows_from, IsRowOf, row_of, get_rows, rising_rows}
@@ -25,11 +25,11 @@ use Rattle.tile_laws.proofs.Tiles.{tile_of, is_tile}
 -- ---- the rows of one catalogue
 
 -- a row has the number that it is given
-renumbered : (r : Raster) (connect : Connect) (i j n : ℕ) → with_number i (catalogue_row r connect j n) ≡ catalogue_row r connect i n
+renumbered : (r : Raster) (connect : Connect) (i j n : ℕ) → row_with_number i (catalogue_row r connect j n) ≡ catalogue_row r connect i n
 unfolding catalogue_row measured_row
 renumbered r connect i j n = refl
 
-moved_renumbered : (w : Window) (i : ℕ) (row : CatRow) → with_number i (moved_row w row) ≡ moved_row w (with_number i row)
+moved_renumbered : (w : Window) (i : ℕ) (row : CatRow) → row_with_number i (moved_row w row) ≡ moved_row w (row_with_number i row)
 unfolding moved_row
 moved_renumbered w i row = refl
 
@@ -47,25 +47,25 @@ first_is r connect i n =
 -- ---- two lists of rows with the same numbers
 
 plain : CatRow → CatRow
-plain row = with_number 0 row
+plain row = row_with_number 0 row
 
 plain_first : (width : ℕ) (row : CatRow) → first_pixel width (plain row) ≡ first_pixel width row
 unfolding plain
 plain_first width row = refl
 
-numbered_plain : (k : ℕ) (rows : List CatRow) → rows_from with_number k (map plain rows) ≡ rows_from with_number k rows
+numbered_plain : (k : ℕ) (rows : List CatRow) → rows_from row_with_number k (map plain rows) ≡ rows_from row_with_number k rows
 unfolding plain
 numbered_plain k [] = refl
-numbered_plain k (row ∷ rows) = ap (λ (zs : List CatRow). with_number k row ∷ zs) (numbered_plain (k + 1) rows)
+numbered_plain k (row ∷ rows) = ap (λ (zs : List CatRow). row_with_number k row ∷ zs) (numbered_plain (k + 1) rows)
 
-numbered_rows : (r : Raster) (connect : Connect) (k : ℕ) (ns : List ℕ)
-    → rows_from with_number k (map plain (rows_from (catalogue_row r connect) k ns)) ≡ rows_from (catalogue_row r connect) k ns
+rows_numbered : (r : Raster) (connect : Connect) (k : ℕ) (ns : List ℕ)
+    → rows_from row_with_number k (map plain (rows_from (catalogue_row r connect) k ns)) ≡ rows_from (catalogue_row r connect) k ns
 unfolding plain
-numbered_rows r connect k [] = refl
-numbered_rows r connect k (n ∷ ns) =
-    ap (λ (row : CatRow). row ∷ rows_from with_number (k + 1) (map plain (rows_from (catalogue_row r connect) (k + 1) ns)))
-    (ap (with_number k) (renumbered r connect 0 k n) ∙ renumbered r connect k 0 n)
-    ∙ ap (λ (zs : List CatRow). catalogue_row r connect k n ∷ zs) (numbered_rows r connect (k + 1) ns)
+rows_numbered r connect k [] = refl
+rows_numbered r connect k (n ∷ ns) =
+    ap (λ (row : CatRow). row ∷ rows_from row_with_number (k + 1) (map plain (rows_from (catalogue_row r connect) (k + 1) ns)))
+    (ap (row_with_number k) (renumbered r connect 0 k n) ∙ renumbered r connect k 0 n)
+    ∙ ap (λ (zs : List CatRow). catalogue_row r connect k n ∷ zs) (rows_numbered r connect (k + 1) ns)
 
 -- ---- the pieces
 
@@ -179,7 +179,7 @@ module _ (laws : TileLaws) (d : Detection) (r : Raster) (pieces : List Piece) (p
   same_plain : (t : Piece) (n m i j : ℕ) → IsFromTile R d.connect d.choice (tile_of d r t) n m
       → plain (moved_row t.window (catalogue_row (part t) d.connect j m)) ≡ plain (catalogue_row R d.connect i n)
   unfolding plain
-  same_plain t n m i j k = ap (with_number 0) (sym (k.moved.row j)) ∙ renumbered R d.connect 0 j n ∙ sym (renumbered R d.connect 0 i n)
+  same_plain t n m i j k = ap (row_with_number 0) (sym (k.moved.row j)) ∙ renumbered R d.connect 0 j n ∙ sym (renumbered R d.connect 0 i n)
 
   moved_first : (t : Piece) (j m : ℕ)
       → first_pixel r.shape.width (moved_row t.window (catalogue_row (part t) d.connect j m)) ≡ in_whole r.shape.width t.window (sums_of (part t) d.connect m).first
@@ -309,15 +309,15 @@ module _ (laws : TileLaws) (d : Detection) (r : Raster) (pieces : List Piece) (p
     rising_there : IsRisingBy (first_pixel r.shape.width) rows
     rising_there = rising_from_get (first_pixel r.shape.width) rows (λ i j x y l a b. merged.rise i j x y l a b)
 
-    pub same_rows : rows_here ≡ rows_from with_number 1 rows
+    pub same_rows : rows_here ≡ rows_from row_with_number 1 rows
     same_rows =
-        sym (numbered_rows R d.connect 1 (sources R d.connect d.choice))
-        ∙ ap (rows_from with_number 1) (rising_equal (first_pixel r.shape.width) (map plain rows_here) (map plain rows)
+        sym (rows_numbered R d.connect 1 (sources R d.connect d.choice))
+        ∙ ap (rows_from row_with_number 1) (rising_equal (first_pixel r.shape.width) (map plain rows_here) (map plain rows)
         (rising_plain rows_here rising_here) (rising_plain rows rising_there) there back)
         ∙ numbered_plain 1 rows
 
-    pub same_catalogue : detected d r ≡ numbered rows
-    unfolding numbered
+    pub same_catalogue : detected d r ≡ numbered_rows rows
+    unfolding numbered_rows
     same_catalogue = catalogue-is R d.connect d.choice ∙ same_rows
 
 pub pieces_give_the_catalogue : TileLaws → PiecesGiveTheCatalogue

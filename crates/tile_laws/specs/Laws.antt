@@ -8,8 +8,8 @@ use Rattle.source_pick.specs.declared.choice.Choice.{Choice}
 use Rattle.source_pick.specs.declared.catalogue.CatRow.{CatRow}
 use Rattle.source_pick.specs.Catalogue.{catalogue}
 use Rattle.tile_laws.specs.Clear.{clear_box, window_box, IsBoxWithin, IsSureBox}
-use Rattle.tile_laws.specs.Pieces.{Detection, Piece, detected, AnswersForCore, without_mesh, ShowsItsCore, CoversImage, AreApart, first_pixel}
-use Rattle.tile_laws.specs.Pieces.{IsFromPiece, AreMerged, numbered, mapped, IsMappedBy}
+use Rattle.tile_laws.specs.Pieces.{Detection, Piece, detected, AnswersForCore, without_mesh, ShowsItsCore, CoversImage, CoresAreApart, first_pixel}
+use Rattle.tile_laws.specs.Pieces.{IsFromPiece, AreMerged, numbered_rows, mapped, IsMappedBy}
 use Rattle.tile_laws.specs.SecondImage.{measured, backed, MeasuresItsCore}
 
 -- where the cores cover the image and each piece answers for its core, the image's catalogue is that of the pieces: their own rows, moved,
@@ -17,16 +17,16 @@ use Rattle.tile_laws.specs.SecondImage.{measured, backed, MeasuresItsCore}
 abbrev pub PiecesGiveTheCatalogue : Type 0
 PiecesGiveTheCatalogue = (d : Detection) (r : Raster) (pieces : List Piece) (rows : List CatRow) → IsPlane r
     → CoversImage r.shape pieces → ((t : Piece) → Contains pieces t → AnswersForCore d r t)
-    → AreMerged d r pieces rows → detected d r ≡ numbered rows
+    → AreMerged d r pieces rows → detected d r ≡ numbered_rows rows
 
 -- where no two cores share a pixel there is such a list of rows, and each of them is one row of one piece alone
 abbrev pub PiecesCanBeMerged : Type 0
 PiecesCanBeMerged = (d : Detection) (r : Raster) (pieces : List Piece) → IsPlane r → CoversImage r.shape pieces
-    → ((t : Piece) → Contains pieces t → AnswersForCore d r t) → AreApart r.shape pieces → (rows : List CatRow) × AreMerged d r pieces rows
+    → ((t : Piece) → Contains pieces t → AnswersForCore d r t) → CoresAreApart r.shape pieces → (rows : List CatRow) × AreMerged d r pieces rows
 
 abbrev pub RowsAreOnePieces : Type 0
 RowsAreOnePieces = (d : Detection) (r : Raster) (pieces : List Piece) (t u : Piece) (row other : CatRow) → IsPlane r → CoversImage r.shape pieces
-    → ((t : Piece) → Contains pieces t → AnswersForCore d r t) → AreApart r.shape pieces → Contains pieces t → Contains pieces u
+    → ((t : Piece) → Contains pieces t → AnswersForCore d r t) → CoresAreApart r.shape pieces → Contains pieces t → Contains pieces u
     → IsFromPiece d r t row → IsFromPiece d r u other → first_pixel r.shape.width row ≡ first_pixel r.shape.width other → (t ≡ u) × (row ≡ other)
 
 -- the image's map too: a pixel has number k + 1 there exactly where row k of the merged rows is a row of a piece whose map gives the pixel this
@@ -65,4 +65,4 @@ NoMeshDetectsInTheImage = (connect : Connect) (choice : Choice) (r : Raster) →
 abbrev pub PiecesGiveThePlanesCatalogue : Type 0
 PiecesGiveThePlanesCatalogue = (connect : Connect) (choice : Choice) (r : Raster) (pieces : List Piece) (rows : List CatRow) → IsPlane r
     → CoversImage r.shape pieces → ((t : Piece) → Contains pieces t → ShowsItsCore connect choice r t)
-    → AreMerged (without_mesh connect choice) r pieces rows → catalogue r connect choice ≡ numbered rows
+    → AreMerged (without_mesh connect choice) r pieces rows → catalogue r connect choice ≡ numbered_rows rows
