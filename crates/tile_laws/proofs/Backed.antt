@@ -1,17 +1,20 @@
 -- The backs of an image's sources in a second image, from its pieces.
-use Rattle.std.proofs.Common.{◌≡◌, ℕ, ◌+◌, ◌*◌, ◌<◌, Bool, true, false, cond, not, ◌&&◌, ◌==◌, List, length, filter, refl, sym, ◌∙◌, ap, subst, arith}
-use Rattle.std.specs.Prelude.{IsTrue, ℤ, pos, Some, ◌<ℤ◌, ◌≤ℤ◌, int_le, ◌↔◌, Contains, Option, slice_get, slice_index}
+use Rattle.std.proofs.Common.{◌≡◌, ℕ, ◌+◌, ◌<◌, Bool, true, cond, not, ◌&&◌, List, length, filter, refl, sym, ◌∙◌, ap, subst, arith}
+use Rattle.std.specs.Prelude.{IsTrue, ℤ, pos, Some, ◌≤ℤ◌, int_le, Contains, slice_get, slice_index}
 use Rattle.std.proofs.lemmas.Bool.{and_parts, cond-true, cond-false, eq-eqb, ne_eqb}
 use Rattle.std.proofs.lemmas.Int.{ints}
 use Rattle.std.proofs.lemmas.Option.{get_or_from_slice_get}
 use Rattle.comp_tree.specs.declared.shape.Connect.{Connect}
-use Rattle.comp_tree.specs.Raster.{Raster, IsPlane, pixels, value_at, at_least, is_at_least, is_defined, level}
+use Rattle.comp_tree.specs.Raster.{Raster, IsPlane, pixels, value_at, level}
 use Rattle.comp_tree.specs.ComponentTree.{parent_in, no_node}
-use Rattle.comp_tree.specs.Components.{IsReached, reaches, nodes, is_in_node, tree_of}
+use Rattle.comp_tree.specs.Components.{reaches, is_in_node, tree_of}
 use Rattle.comp_tree.specs.Laws.{IsNode, top_of}
-use Rattle.comp_tree.specs.Nesting.{is_root, level_in, level_of_node}
-use Rattle.comp_tree.specs.Windows.{Window, in_whole, LiesSure, LiesSureIn, Shows, seen_through}
-use Rattle.comp_tree.proofs.Exported.{AlikeAlong, AreSurePair, ArePaired, HasPartnerIn, IsAmong, IsReachedThere, along_reached, along_reaches, among-filter, among_from_defined, among_from_filter, below_from_defined, below_no_node, defined_from_at_least, in_node-defined, int_le-from, paired_from_rising, paired_sym, reaches-is_IsReached, reaches_lower, reaches_sym, reaches_trans, rising-pixels, same_bool, sure_components_are_seen, turned, window_along}
+use Rattle.comp_tree.specs.Nesting.{is_root}
+use Rattle.comp_tree.specs.Windows.{Window, in_whole, LiesSure, seen_through}
+use Rattle.comp_tree.proofs.Exported.{AlikeAlong, AreSurePair, ArePaired, HasPartnerIn, IsAmong, IsReachedThere, along_reached, along_reaches}
+use Rattle.comp_tree.proofs.Exported.{among-filter, among_from_defined, among_from_filter, below_from_defined, below_no_node, defined_from_at_least}
+use Rattle.comp_tree.proofs.Exported.{in_node-defined, int_le-from, paired_from_rising, paired_sym, reaches-is_IsReached, reaches_lower, reaches_sym}
+use Rattle.comp_tree.proofs.Exported.{reaches_trans, rising-pixels, same_bool, sure_components_are_seen, turned, window_along}
 use Rattle.mesh_background.specs.Residuals.{residual_of}
 use Rattle.node_sums.specs.Flux.{base_of}
 use Rattle.node_sums.specs.Sums.{sums_of}
@@ -31,8 +34,10 @@ use Rattle.tile_laws.proofs.Merging.{IsSourceOfRow, source_of_row}
 use Rattle.tile_laws.proofs.Mapping.{MapLaws, whole, here_at, index_at}
 use Rattle.tile_laws.proofs.Measured.{same_measure, tile_is, reached_values, measure_same}
 
-module _ (laws : MapLaws) (d : Detection) (r values : Raster) (pieces : List Piece) (plane : IsPlane r) (value_plane : IsPlane values) (same_shape : values.shape ≡ r.shape)
-    (cover : CoversImage r.shape pieces) (answers : (t : Piece) → Contains pieces t → AnswersForCore d r t) (rows : List CatRow) (merged : AreMerged d r pieces rows)
+module _ (laws : MapLaws) (d : Detection) (r values : Raster) (pieces : List Piece) (plane : IsPlane r) (value_plane : IsPlane values)
+    (same_shape : values.shape ≡ r.shape)
+    (cover : CoversImage r.shape pieces) (answers : (t : Piece) → Contains pieces t → AnswersForCore d r t) (rows : List CatRow)
+    (merged : AreMerged d r pieces rows)
     (t : Piece) (among : Contains pieces t) (measures : MeasuresItsCore d r values t) where
   abbrev R : Raster
   R = searched d r
@@ -79,7 +84,8 @@ module _ (laws : MapLaws) (d : Detection) (r values : Raster) (pieces : List Pie
 
     lies : LiesSure R d.connect h sure here
     lies = subst (λ (p : ℕ). LiesSure R d.connect h sure p) (sym k.moved.first)
-        ((sure_components_are_seen R S t.window d.connect h sure there plane_R tile.one_each tile.shows there_below (tile.core_sure (in_whole R.shape.width t.window there) k.from.own)).1
+        ((sure_components_are_seen R S t.window d.connect h sure there plane_R tile.one_each tile.shows there_below
+        (tile.core_sure (in_whole R.shape.width t.window there) k.from.own)).1
         (tile.answers there k.from.own (source_pixel_high S d.connect d.choice tile.one_each m there k.from.node k.from.source there_in)))
 
     first_pair : AreSurePair R S t.window d.connect h sure here there
@@ -101,12 +107,17 @@ module _ (laws : MapLaws) (d : Detection) (r values : Raster) (pieces : List Pie
 
     -- ---- the parents
 
-    module _ (a c : ℕ) (parent_n : parent_in (tree_of R d.connect).rows n ≡ a) (parent_m : parent_in (tree_of S d.connect).rows m ≡ c) (ha : IsNode R d.connect a)
-        (hc : IsNode S d.connect c) (levels : level R (top_of R d.connect a) ≡ level S (top_of S d.connect c)) (low : int_le h (level R (top_of R d.connect a)) ≡ true) where
+    module _ (a c : ℕ) (parent_n : parent_in (tree_of R d.connect).rows n ≡ a) (parent_m : parent_in (tree_of S d.connect).rows m ≡ c)
+        (ha : IsNode R d.connect a)
+        (hc : IsNode S d.connect c) (levels : level R (top_of R d.connect a) ≡ level S (top_of S d.connect c))
+        (low : int_le h (level R (top_of R d.connect a)) ≡ true) where
       from_here : (p : ℕ) → is_in_node R d.connect a p ≡ reaches R d.connect (level R (top_of R d.connect a)) here p
       unfolding is_in_node
-      from_here p = same_bool (reaches R d.connect (level R (top_of R d.connect a)) (top_of R d.connect a) p) (reaches R d.connect (level R (top_of R d.connect a)) here p)
-          (λ e. reaches_trans R d.connect (level R (top_of R d.connect a)) here (top_of R d.connect a) p (reaches_sym R d.connect (level R (top_of R d.connect a)) (top_of R d.connect a) here from_top) e)
+      from_here p =
+          same_bool (reaches R d.connect (level R (top_of R d.connect a)) (top_of R d.connect a) p)
+          (reaches R d.connect (level R (top_of R d.connect a)) here p)
+          (λ e. reaches_trans R d.connect (level R (top_of R d.connect a)) here (top_of R d.connect a) p
+          (reaches_sym R d.connect (level R (top_of R d.connect a)) (top_of R d.connect a) here from_top) e)
           (λ e. reaches_trans R d.connect (level R (top_of R d.connect a)) (top_of R d.connect a) here p from_top e)
         where
           from_top : IsTrue (reaches R d.connect (level R (top_of R d.connect a)) (top_of R d.connect a) here)
@@ -115,8 +126,10 @@ module _ (laws : MapLaws) (d : Detection) (r values : Raster) (pieces : List Pie
       from_there : (q : ℕ) → is_in_node S d.connect c q ≡ reaches S d.connect (level R (top_of R d.connect a)) there q
       unfolding is_in_node
       from_there q =
-          same_bool (reaches S d.connect (level S (top_of S d.connect c)) (top_of S d.connect c) q) (reaches S d.connect (level S (top_of S d.connect c)) there q)
-          (λ e. reaches_trans S d.connect (level S (top_of S d.connect c)) there (top_of S d.connect c) q (reaches_sym S d.connect (level S (top_of S d.connect c)) (top_of S d.connect c) there from_top) e)
+          same_bool (reaches S d.connect (level S (top_of S d.connect c)) (top_of S d.connect c) q)
+          (reaches S d.connect (level S (top_of S d.connect c)) there q)
+          (λ e. reaches_trans S d.connect (level S (top_of S d.connect c)) there (top_of S d.connect c) q
+          (reaches_sym S d.connect (level S (top_of S d.connect c)) (top_of S d.connect c) there from_top) e)
           (λ e. reaches_trans S d.connect (level S (top_of S d.connect c)) (top_of S d.connect c) there q from_top e)
           ∙ ap (λ (z : ℤ). reaches S d.connect z there q) (sym levels)
         where
@@ -138,41 +151,51 @@ module _ (laws : MapLaws) (d : Detection) (r values : Raster) (pieces : List Pie
       same_around p q e = ap (λ (b : Bool). b && not (is_in_node R d.connect n p)) outer ∙ ap (λ (b : Bool). is_in_node S d.connect c q && not b) inner
         where
           outer : is_in_node R d.connect a p ≡ is_in_node S d.connect c q
-          outer = from_here p ∙ along_reaches R S d.connect h (AreSurePair R S t.window d.connect h sure) along.above (level R (top_of R d.connect a)) here there p q low first_pair e ∙ sym (from_there q)
+          outer =
+              from_here p ∙ along_reaches R S d.connect h (AreSurePair R S t.window d.connect h sure) along.above
+              (level R (top_of R d.connect a)) here there p q low first_pair e ∙ sym (from_there q)
 
           inner : is_in_node R d.connect n p ≡ is_in_node S d.connect m q
           inner = ap (is_in_node R d.connect n) (sym e.place) ∙ k.moved.pixels q e.below
 
       pub around_paired : ArePaired IsPairInParent (filter around_n (pixels R)) (filter around_m (pixels S))
       unfolding pixels
-      around_paired = paired_from_rising IsPairInParent (λ x. x) (λ x. x) (filter around_n (pixels R)) (filter around_m (pixels S)) (λ p q x y c e. along.above.order p q x y c.pair e.pair)
+      around_paired =
+          paired_from_rising IsPairInParent (λ x. x) (λ x. x) (filter around_n (pixels R)) (filter around_m (pixels S))
+          (λ p q x y c e. along.above.order p q x y c.pair e.pair)
           (rising-pixels around_n (length R.values)) (rising-pixels around_m (length S.values)) there_one back_one
         where
           there_one : (p : ℕ) → IsAmong p (filter around_n (pixels R)) → HasPartnerIn IsPairInParent p (filter around_m (pixels S))
           there_one p e =
               let test : around_n p ≡ true = (among_from_filter around_n p (pixels R) e).1 in
-              let both : (is_in_node R d.connect a p ≡ true) × (not (is_in_node R d.connect n p) ≡ true) = and_parts (is_in_node R d.connect a p) (not (is_in_node R d.connect n p)) test in
+              let both : (is_in_node R d.connect a p ≡ true) × (not (is_in_node R d.connect n p) ≡ true) =
+              and_parts (is_in_node R d.connect a p) (not (is_in_node R d.connect n p)) test in
               let g : IsReachedThere S d.connect (level R (top_of R d.connect a)) (AreSurePair R S t.window d.connect h sure) there p =
-              along_reached R S d.connect h (AreSurePair R S t.window d.connect h sure) along.above (level R (top_of R d.connect a)) here there p low first_pair (sym (from_here p) ∙ both.0) in
+              along_reached R S d.connect h (AreSurePair R S t.window d.connect h sure) along.above
+              (level R (top_of R d.connect a)) here there p low first_pair (sym (from_here p) ∙ both.0) in
               let i : is_in_node S d.connect c g.it ≡ true = from_there g.it ∙ g.reached in
               record {
                 it = g.it;
-                among = among-filter around_m g.it (pixels S) (among_from_defined S g.it (in_node-defined S d.connect c g.it i)) (sym (same_around p g.it g.pair) ∙ test);
+                among = among-filter around_m g.it (pixels S) (among_from_defined S g.it (in_node-defined S d.connect c g.it i))
+                    (sym (same_around p g.it g.pair) ∙ test);
                 pair = record { pair = g.pair; reached = g.reached };
               }
 
           back_one : (q : ℕ) → IsAmong q (filter around_m (pixels S)) → HasPartnerIn (λ v u. IsPairInParent u v) q (filter around_n (pixels R))
           back_one q e =
               let test : around_m q ≡ true = (among_from_filter around_m q (pixels S) e).1 in
-              let both : (is_in_node S d.connect c q ≡ true) × (not (is_in_node S d.connect m q) ≡ true) = and_parts (is_in_node S d.connect c q) (not (is_in_node S d.connect m q)) test in
+              let both : (is_in_node S d.connect c q ≡ true) × (not (is_in_node S d.connect m q) ≡ true) =
+              and_parts (is_in_node S d.connect c q) (not (is_in_node S d.connect m q)) test in
               let way : IsTrue (reaches S d.connect (level R (top_of R d.connect a)) there q) = sym (from_there q) ∙ both.0 in
               let g : IsReachedThere R d.connect (level R (top_of R d.connect a)) (turned (AreSurePair R S t.window d.connect h sure)) here q =
-              along_reached S R d.connect h (turned (AreSurePair R S t.window d.connect h sure)) (paired_sym R S d.connect h (AreSurePair R S t.window d.connect h sure) along.above)
+              along_reached S R d.connect h (turned (AreSurePair R S t.window d.connect h sure))
+              (paired_sym R S d.connect h (AreSurePair R S t.window d.connect h sure) along.above)
               (level R (top_of R d.connect a)) there here q low first_pair way in
               let i : is_in_node R d.connect a g.it ≡ true = from_here g.it ∙ g.reached in
               record {
                 it = g.it;
-                among = among-filter around_n g.it (pixels R) (among_from_defined R g.it (in_node-defined R d.connect a g.it i)) (same_around g.it q g.pair ∙ test);
+                among = among-filter around_n g.it (pixels R) (among_from_defined R g.it (in_node-defined R d.connect a g.it i))
+                    (same_around g.it q g.pair ∙ test);
                 pair = record { pair = g.pair; reached = way };
               }
 
@@ -212,8 +235,10 @@ module _ (laws : MapLaws) (d : Detection) (r values : Raster) (pieces : List Pie
             → cond (is_root (tree_of R d.connect) n) (pos 0) (mean_of (measure_over V (around_node R d.connect n)))
             ≡ cond (is_root (tree_of S d.connect) m) (pos 0) (mean_of (measure_over U (around_node S d.connect m)))
         go (at_root e b) (at_root f g) =
-            cond-true (is_root (tree_of R d.connect) n) (pos 0) (mean_of (measure_over V (around_node R d.connect n))) (eq-eqb (parent_in (tree_of R d.connect).rows n) no_node e)
-            ∙ sym (cond-true (is_root (tree_of S d.connect) m) (pos 0) (mean_of (measure_over U (around_node S d.connect m))) (eq-eqb (parent_in (tree_of S d.connect).rows m) no_node f))
+            cond-true (is_root (tree_of R d.connect) n) (pos 0) (mean_of (measure_over V (around_node R d.connect n)))
+            (eq-eqb (parent_in (tree_of R d.connect).rows n) no_node e)
+            ∙ sym (cond-true (is_root (tree_of S d.connect) m) (pos 0) (mean_of (measure_over U (around_node S d.connect m)))
+            (eq-eqb (parent_in (tree_of S d.connect).rows m) no_node f))
         go (at_root e b) (at_child c f hc g l) = absurd (omega (arith, ints, b, g, l, same_base, same_level))
         go (at_child a e ha b l) (at_root f g) = absurd (omega (arith, ints, b, g, l, same_base, same_level))
         go (at_child a e ha b l) (at_child c f hc g u) =
@@ -232,7 +257,8 @@ pieces_give_the_measures laws d r values pieces rows t row f k i plane value_pla
       ∙ measure_same laws d r values pieces plane value_plane same_shape cover answers rows merged t among measures s.here s.there s.from
       ∙ sym (ap (measure_of (searched d (seen_through t.window values)) (searched d (seen_through t.window r)) d.connect) there),
   (λ low. ap (back_of (searched d values) (searched d r) d.connect) here
-      ∙ back_same laws d r values pieces plane value_plane same_shape cover answers rows merged t among measures s.here s.there s.from (subst (λ (z : ℤ). d.choice.threshold ≤ℤ z) base low)
+      ∙ back_same laws d r values pieces plane value_plane same_shape cover answers rows merged t among measures s.here s.there s.from
+      (subst (λ (z : ℤ). d.choice.threshold ≤ℤ z) base low)
       ∙ sym (ap (back_of (searched d (seen_through t.window values)) (searched d (seen_through t.window r)) d.connect) there)),
 )
   where
@@ -240,7 +266,9 @@ pieces_give_the_measures laws d r values pieces rows t row f k i plane value_pla
     s = source_of_row laws.tiles d r pieces plane cover answers t row among f
 
     here : slice_index (sources (searched d r) d.connect d.choice) k ≡ s.here
-    here = get_or_from_slice_get (sources (searched d r) d.connect d.choice) k s.here 0 (here_at laws d r pieces plane cover answers rows merged t row among f k at)
+    here =
+        get_or_from_slice_get (sources (searched d r) d.connect d.choice) k s.here 0
+        (here_at laws d r pieces plane cover answers rows merged t row among f k at)
 
     there : slice_index (sources (searched d (seen_through t.window r)) d.connect d.choice) i ≡ s.there
     there =

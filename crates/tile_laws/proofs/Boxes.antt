@@ -1,20 +1,18 @@
 -- Boxes that are sure with a flat background and without a mesh, and the catalogue of a plane from its windows.
-use Rattle.std.proofs.Common.{◌≡◌, ℕ, ◌+◌, ◌*◌, ◌/◌, ◌%◌, ◌<◌, ◌≤◌, Bool, true, false, cond, ◌||◌, ◌==◌, List, refl, sym, ◌∙◌, ap, subst, arith}
-use Rattle.std.specs.Prelude.{IsTrue, Contains}
+use Rattle.std.proofs.Common.{◌≡◌, ℕ, ◌+◌, ◌*◌, ◌/◌, ◌%◌, ◌<◌, ◌≤◌, Bool, true, false, cond, ◌||◌, ◌==◌, refl, sym, ◌∙◌, ap, subst, arith}
+use Rattle.std.specs.Prelude.{IsTrue}
 use Rattle.std.proofs.lemmas.Nat.{div-add-mod', div-mul-add, mod_below}
 use Rattle.comp_tree.specs.declared.shape.Connect.{Connect}
-use Rattle.comp_tree.specs.Raster.{Raster, IsPlane, is_at_least, is_defined}
+use Rattle.comp_tree.specs.Raster.{Raster, is_at_least}
 use Rattle.comp_tree.specs.Components.{IsReached}
 use Rattle.comp_tree.specs.Windows.{Window, seen_through}
 use Rattle.mesh_background.specs.Mesh.{cells_along, mesh_cell_of}
 use Rattle.mesh_background.specs.Laws.{NoMeshLeavesThePlane}
 use Rattle.mesh_background.specs.Residuals.{residual_of}
-use Rattle.mesh_background.specs.Windows.{IsOnMesh}
 use Rattle.source_pick.specs.declared.choice.Choice.{Choice}
-use Rattle.source_pick.specs.declared.catalogue.CatRow.{CatRow}
 use Rattle.source_pick.specs.Catalogue.{catalogue}
-use Rattle.tile_laws.specs.Clear.{clear_from, clear_to, window_box, IsBoxWithin, IsSureBox}
-use Rattle.tile_laws.specs.Pieces.{Detection, Piece, detected, HasSureBox, AnswersForCore, without_mesh, ShowsItsCore}
+use Rattle.tile_laws.specs.Clear.{clear_from, clear_to, window_box, IsBoxWithin}
+use Rattle.tile_laws.specs.Pieces.{Piece, AnswersForCore, without_mesh, ShowsItsCore}
 use Rattle.tile_laws.specs.Laws.{FlatBoxesAreSure, BoxesAreSureWithoutMesh, NoMeshDetectsInTheImage, PiecesGiveTheCatalogue, PiecesGiveThePlanesCatalogue}
 
 -- ---- flat
@@ -25,7 +23,8 @@ own_cell mesh corner x c some on e =
     let a : corner / mesh * mesh + corner % mesh ≡ corner = div-add-mod' corner mesh in
     let b : x / mesh * mesh + x % mesh ≡ x = div-add-mod' x mesh in
     let f : (x / mesh + corner / mesh) * mesh + x % mesh ≡ x + corner = omega arith in
-    let g : ((x / mesh + corner / mesh) * mesh + x % mesh) / mesh ≡ x / mesh + corner / mesh = div-mul-add (x / mesh + corner / mesh) mesh (x % mesh) (mod_below x mesh some) in
+    let g : ((x / mesh + corner / mesh) * mesh + x % mesh) / mesh ≡ x / mesh + corner / mesh =
+    div-mul-add (x / mesh + corner / mesh) mesh (x % mesh) (mod_below x mesh some) in
     let h : (x + corner) / mesh ≡ x / mesh + corner / mesh = ap (λ (n : ℕ). n / mesh) (sym f) ∙ g in
     omega (arith, e, h)
 
@@ -37,8 +36,8 @@ flat_boxes_are_sure r w mesh box on clear = record {
     q,
     d,
     let a : q / w.shape.width / mesh ≡ j = own_cell mesh w.top (q / w.shape.width) j some (on some).rows nj in
-    let b : q % w.shape.width / mesh ≡ i = own_cell mesh w.left (q % w.shape.width) i some (on some).columns ni in
-    ap (λ (n : ℕ). n * cells_along mesh w.shape.width + q % w.shape.width / mesh) a ∙ ap (λ (n : ℕ). j * cells_along mesh w.shape.width + n) b,
+        let b : q % w.shape.width / mesh ≡ i = own_cell mesh w.left (q % w.shape.width) i some (on some).columns ni in
+        ap (λ (n : ℕ). n * cells_along mesh w.shape.width + q % w.shape.width / mesh) a ∙ ap (λ (n : ℕ). j * cells_along mesh w.shape.width + n) b,
   );
 }
 
@@ -73,7 +72,8 @@ box_itself w = record { left = omega arith; right = omega arith; top = omega ari
 pub no_mesh_detects_in_the_image : NoMeshLeavesThePlane → NoMeshDetectsInTheImage
 no_mesh_detects_in_the_image none connect choice r = ap (λ (x : Raster). catalogue x connect choice) (none r true)
 
-answers_without : NoMeshLeavesThePlane → (connect : Connect) (choice : Choice) (r : Raster) (t : Piece) → ShowsItsCore connect choice r t → AnswersForCore (without_mesh connect choice) r t
+answers_without : NoMeshLeavesThePlane → (connect : Connect) (choice : Choice) (r : Raster) (t : Piece) → ShowsItsCore connect choice r t
+    → AnswersForCore (without_mesh connect choice) r t
 answers_without none connect choice r t k = record {
   inside = k.inside;
   on_mesh = λ some. absurd (omega arith);

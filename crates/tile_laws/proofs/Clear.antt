@@ -1,11 +1,10 @@
 -- The pixels of the clear box depend on cells that lie whole in the window.
-use Rattle.std.proofs.Common.{◌≡◌, ℕ, ◌+◌, ◌-◌, ◌*◌, ◌/◌, ◌%◌, ◌<◌, ◌≤◌, Bool, true, false, cond, ◌||◌, ◌==◌, refl, sym, ◌∙◌, ap, subst, arith, ◌⊎◌, inl, inr}
-use Rattle.std.proofs.lemmas.Bool.{cases_lt, eqb-true, eqb-false}
+use Rattle.std.proofs.Common.{◌≡◌, ℕ, ◌+◌, ◌-◌, ◌*◌, ◌/◌, ◌%◌, ◌<◌, ◌≤◌, Bool, true, false, cond, ◌||◌, ◌==◌, refl, ap, subst, arith, ◌⊎◌, inl, inr}
+use Rattle.std.proofs.lemmas.Bool.{cases_lt, eqb-true}
 use Rattle.std.proofs.lemmas.Nat.{div-add-mod', mod_below}
 use Rattle.std.proofs.Math.Nat.{mul-le-mul_right}
-use Rattle.mesh_background.specs.Mesh.{cells_along}
 use Rattle.mesh_background.specs.Interpolation.{next_cell}
-use Rattle.mesh_background.specs.Windows.{IsWholeCell, IsNeeded, IsClearAlong}
+use Rattle.mesh_background.specs.Windows.{IsNeeded, IsClearAlong}
 use Rattle.tile_laws.specs.Clear.{clear_from, clear_to}
 
 less_times : (a b m : ℕ) → a * m < b * m → a < b
@@ -56,7 +55,8 @@ module _ (mesh corner side whole x : ℕ) (some : 0 < mesh) (on : corner % mesh 
   next_bounds : (next_cell mesh x * (2 * mesh) ≤ 2 * x + 1 + mesh) × (2 * x + 1 + mesh < (next_cell mesh x + 1) * (2 * mesh))
   unfolding next_cell
   next_bounds =
-      let one : (2 * x + 1 + mesh) / (2 * mesh) * (2 * mesh) + (2 * x + 1 + mesh) % (2 * mesh) ≡ 2 * x + 1 + mesh = div-add-mod' (2 * x + 1 + mesh) (2 * mesh) in
+      let one : (2 * x + 1 + mesh) / (2 * mesh) * (2 * mesh) + (2 * x + 1 + mesh) % (2 * mesh) ≡ 2 * x + 1 + mesh =
+      div-add-mod' (2 * x + 1 + mesh) (2 * mesh) in
       let rest : (2 * x + 1 + mesh) % (2 * mesh) < 2 * mesh = mod_below (2 * x + 1 + mesh) (2 * mesh) (omega arith) in
       let g : ((2 * x + 1 + mesh) / (2 * mesh) + 1) * (2 * mesh) ≡ (2 * x + 1 + mesh) / (2 * mesh) * (2 * mesh) + 2 * mesh = omega arith in
       (omega arith, omega (arith, one, rest, g))
@@ -121,11 +121,13 @@ module _ (mesh corner side whole x : ℕ) (some : 0 < mesh) (on : corner % mesh 
       inner true u k = high_flat end c k (subst (λ (f : Bool). IsNeeded f mesh x c) u e)
       inner false u k = let n : IsNeeded false mesh x c = subst (λ (f : Bool). IsNeeded f mesh x c) u e in high_smooth end c k n.1
 
-      go : (a b : Bool) → mesh == 0 ≡ a → end == whole ≡ b → x < cond (a || b) end (cond flat ((end / mesh) * mesh) ((end / mesh) * mesh - (3 * mesh + 1) / 2))
+      go : (a b : Bool) → mesh == 0 ≡ a → end == whole ≡ b
+          → x < cond (a || b) end (cond flat ((end / mesh) * mesh) ((end / mesh) * mesh - (3 * mesh + 1) / 2))
           → ((c + 1) * mesh ≤ end) ⊎ (end ≡ whole)
       go true b u v k = let z : mesh ≡ 0 = eqb-true mesh 0 u in absurd (omega arith)
       go false true u v k = inr (eqb-true end whole v)
       go false false u v k = inl (inner flat refl k)
 
-  pub clear_along : (flat : Bool) → clear_from flat mesh corner ≤ x → x < clear_to flat mesh whole (corner + side) → IsClearAlong flat mesh corner side whole x
+  pub clear_along : (flat : Bool) → clear_from flat mesh corner ≤ x → x < clear_to flat mesh whole (corner + side)
+      → IsClearAlong flat mesh corner side whole x
   clear_along flat low high c l e = record { low = low_cell flat c low e; high = high_cell flat (corner + side) c high e }

@@ -24,7 +24,11 @@ module _ (whole : Shape) (part sure : Box) where
   -- the pixel in column x of row y
   at_place : (x y : ℕ) → x < whole.width → part.left ≤ x → x < part.right → part.top ≤ y → y < part.bottom → IsDeepBox
       → IsDeep sure.left sure.right whole.width x × IsDeep sure.top sure.bottom whole.height y
-  at_place x y l a b c d all = (subst (λ (n : ℕ). IsDeep sure.left sure.right whole.width n) column deep.across, subst (λ (n : ℕ). IsDeep sure.top sure.bottom whole.height n) row deep.along)
+  at_place x y l a b c d all = (
+    subst (λ (n : ℕ). IsDeep sure.left sure.right whole.width n) column deep.across,
+    subst
+        (λ (n : ℕ). IsDeep sure.top sure.bottom whole.height n) row deep.along,
+  )
     where
       p : ℕ
       p = y * whole.width + x

@@ -9,3 +9,4 @@ mod Mapping
 mod Depth
 mod Measured
 mod Backed
+mod Existing

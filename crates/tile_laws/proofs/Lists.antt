@@ -1,6 +1,6 @@
 -- Members of lists, lists that rise by a number of each member, and lists with numbers before their members.
-use Rattle.std.proofs.Common.{◌≡◌, ℕ, ◌+◌, ◌<◌, zero, suc, List, [], ◌∷◌, length, map, get_or, refl, sym, ◌∙◌, ap, subst, arith, ◌⊎◌, inl, inr}
-use Rattle.std.specs.Prelude.{Contains, Some, None, slice_get, ⊤}
+use Rattle.std.proofs.Common.{◌≡◌, ℕ, ◌+◌, ◌<◌, zero, suc, List, [], ◌∷◌, map, refl, sym, ◌∙◌, ap, arith, ◌⊎◌, inl, inr}
+use Rattle.std.specs.Prelude.{Some, None, slice_get}
 use Rattle.std.specs.List.{enumerate_from}
 use Rattle.std.proofs.lemmas.Option.{same_Some}
 use Rattle.comp_tree.proofs.Exported.{IsAmong, IsRisingBy}
@@ -34,13 +34,15 @@ image_of f y (x ∷ xs) (inr h) = let k : IsImageOf f y xs = image_of f y xs h i
 -- ---- lists that rise by a number of each member
 
 -- two such lists with the same members are the same
-pub rising_equal : {X : Type 0} (f : X → ℕ) (xs ys : List X) → IsRisingBy f xs → IsRisingBy f ys → ((x : X) → IsAmong x xs → IsAmong x ys) → ((y : X) → IsAmong y ys → IsAmong y xs)
+pub rising_equal : {X : Type 0} (f : X → ℕ) (xs ys : List X) → IsRisingBy f xs → IsRisingBy f ys → ((x : X) → IsAmong x xs → IsAmong x ys)
+    → ((y : X) → IsAmong y ys → IsAmong y xs)
     → xs ≡ ys
 rising_equal f [] [] hx hy there back = refl
 rising_equal f [] (y ∷ ys) hx hy there back = absurd (back y (inl refl))
 rising_equal f (x ∷ xs) [] hx hy there back = absurd (there x (inl refl))
 rising_equal {X} f (x ∷ xs) (y ∷ ys) hx hy there back =
-    ap (λ (z : X). z ∷ xs) (sym first) ∙ ap (λ (zs : List X). y ∷ zs) (rising_equal f xs ys hx.1 hy.1 (λ a k. there_rest a k (there a (inr k))) (λ b k. back_rest b k (back b (inr k))))
+    ap (λ (z : X). z ∷ xs) (sym first)
+    ∙ ap (λ (zs : List X). y ∷ zs) (rising_equal f xs ys hx.1 hy.1 (λ a k. there_rest a k (there a (inr k))) (λ b k. back_rest b k (back b (inr k))))
   where
     go : (y ≡ x) ⊎ IsAmong x ys → (x ≡ y) ⊎ IsAmong y xs → y ≡ x
     go (inl e) k = e

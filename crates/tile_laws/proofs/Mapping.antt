@@ -1,18 +1,18 @@
 -- The segmentation map of an image, from the maps of its pieces.
-use Rattle.std.proofs.Common.{◌≡◌, ℕ, ◌+◌, ◌*◌, ◌<◌, ◌≤◌, zero, suc, Bool, true, false, cond, List, [], ◌∷◌, length, map, get_or, refl, sym, ◌∙◌, ap, subst, arith, ◌⊎◌, inl, inr}
-use Rattle.std.specs.Prelude.{IsTrue, ℤ, pos, unsigned_abs, ◌↔◌, Contains, Some, None, slice_get, slice_index, unwrap_or}
-use Rattle.std.specs.List.{position_from, range_with_len}
-use Rattle.std.proofs.lemmas.Bool.{cases_Bool, cases_eq, cases_lt, cases_order, true≢false}
+use Rattle.std.proofs.Common.{◌≡◌, ℕ, ◌+◌, ◌*◌, ◌<◌, ◌≤◌, zero, suc, Bool, true, false, cond, List, [], ◌∷◌, length, refl, sym, ◌∙◌, ap, subst, arith}
+use Rattle.std.proofs.Common.{◌⊎◌, inl, inr}
+use Rattle.std.specs.Prelude.{IsTrue, pos, unsigned_abs, Contains, Some, None, slice_get, slice_index, unwrap_or}
+use Rattle.std.specs.List.{position_from}
+use Rattle.std.proofs.lemmas.Bool.{cases_eq, cases_lt, cases_order, true≢false}
 use Rattle.std.proofs.lemmas.List.{get_or_past, length-map}
 use Rattle.std.proofs.lemmas.List.FromFn.{get_or-map-range_with_len}
 use Rattle.std.proofs.lemmas.Option.{same_Some}
 use Rattle.comp_tree.specs.declared.shape.Connect.{Connect}
-use Rattle.comp_tree.specs.declared.shape.Shape.{Shape}
 use Rattle.comp_tree.specs.Raster.{Raster, IsPlane, pixels}
 use Rattle.comp_tree.specs.Components.{is_in_node}
 use Rattle.comp_tree.specs.Laws.{IsNode}
-use Rattle.comp_tree.specs.Windows.{Window, in_whole, IsShown, seen_through, SureComponentsAreTheSame}
-use Rattle.comp_tree.proofs.Exported.{IsAmong, below_from_defined, in_node-defined, length-pixels}
+use Rattle.comp_tree.specs.Windows.{Window, IsShown, seen_through, SureComponentsAreTheSame}
+use Rattle.comp_tree.proofs.Exported.{below_from_defined, in_node-defined, length-pixels}
 use Rattle.mesh_background.specs.Residuals.{residual_of}
 use Rattle.node_sums.specs.Sums.{sums_of}
 use Rattle.source_pick.specs.declared.choice.Choice.{Choice}
@@ -22,11 +22,13 @@ use Rattle.source_pick.specs.Catalogue.{measured_row, catalogue_row}
 use Rattle.source_pick.specs.Laws.{SourcesAreDisjoint}
 use Rattle.source_pick.specs.Segmentation.{source_number_at, segmentation_of, segmentation}
 use Rattle.source_pick.specs.Windows.{moved_row, IsTileOf}
-use Rattle.tile_laws.specs.Pieces.{Detection, Piece, searched, mapped, AnswersForCore, CoversImage, first_pixel, IsFromPiece, AreMerged, with_number, IsMappedBy}
+use Rattle.tile_laws.specs.Pieces.{Detection, Piece, searched, mapped, AnswersForCore, CoversImage, first_pixel, IsFromPiece, AreMerged, row_with_number}
+use Rattle.tile_laws.specs.Pieces.{IsMappedBy}
 use Rattle.tile_laws.specs.Laws.{PiecesGiveTheMap}
 use Rattle.source_pick.proofs.Exported.{contains_from_among, among_of, among_get}
 use Rattle.tile_laws.proofs.Lists.{get_among, rows_from, get_rows, row_at}
-use Rattle.tile_laws.proofs.Merging.{TileLaws, plane_R, tile, source_from, IsPiecesSource, IsRowThere, row_there, IsSourceOfRow, source_of_row, same_rows, first_is}
+use Rattle.tile_laws.proofs.Merging.{TileLaws, plane_R, tile, source_from, IsPiecesSource, IsRowThere, row_there, IsSourceOfRow, source_of_row}
+use Rattle.tile_laws.proofs.Merging.{same_rows, first_is}
 use Rattle.tile_laws.proofs.Shown.{shown_pixel}
 use Rattle.tile_laws.proofs.Tiles.{tile_of}
 
@@ -47,14 +49,16 @@ module _ (f : ℕ → Bool) where
   number_gives i v [] e some = absurd (omega arith)
   number_gives i v (x ∷ xs) e some = go (f x) refl e (number_gives (i + 1) v xs)
     where
-      go : (b : Bool) → f x ≡ b → unwrap_or (cond b (Some i) (position_from f (i + 1) xs)) 0 ≡ v → (number_from (i + 1) xs ≡ v → 0 < v → IsFoundAt (i + 1) v xs) → IsFoundAt i v (x ∷ xs)
+      go : (b : Bool) → f x ≡ b → unwrap_or (cond b (Some i) (position_from f (i + 1) xs)) 0 ≡ v
+          → (number_from (i + 1) xs ≡ v → 0 < v → IsFoundAt (i + 1) v xs) → IsFoundAt i v (x ∷ xs)
       go true u k rest = record { index = 0; number = omega (arith, k); it = x; at = refl; passes = u }
       go false u k rest =
           let g : IsFoundAt (i + 1) v xs = rest k some in
           let n : v ≡ g.index + (i + 1) = g.number in
           record { index = suc g.index; number = omega (arith, n); it = g.it; at = g.at; passes = g.passes }
 
-  number_from_place : (i k x : ℕ) (xs : List ℕ) → slice_get xs k ≡ Some x → f x ≡ true → ((j y : ℕ) → slice_get xs j ≡ Some y → f y ≡ true → j ≡ k) → number_from i xs ≡ k + i
+  number_from_place : (i k x : ℕ) (xs : List ℕ) → slice_get xs k ≡ Some x → f x ≡ true → ((j y : ℕ) → slice_get xs j ≡ Some y → f y ≡ true → j ≡ k)
+      → number_from i xs ≡ k + i
   number_from_place i k x [] e u only = absurd (no_member e)
     where
       no_member : None ≡ Some x → ⊥
@@ -87,21 +91,28 @@ module _ (laws : MapLaws) (s : Raster) (connect : Connect) (choice : Choice) (pl
   source_at i n e = (laws.tiles.listed s connect choice n plane).0 (contains_from_among n picked (get_among n picked i e))
 
   -- two places with one first pixel are one
-  pub same_place : (i j m n : ℕ) → slice_get picked i ≡ Some m → slice_get picked j ≡ Some n → (sums_of s connect m).first ≡ (sums_of s connect n).first → i ≡ j
+  pub same_place : (i j m n : ℕ) → slice_get picked i ≡ Some m → slice_get picked j ≡ Some n
+      → (sums_of s connect m).first ≡ (sums_of s connect n).first → i ≡ j
   same_place i j m n a b e = go (cases_order i j)
     where
       go : (i ≡ j) ⊎ ((i < j) ⊎ (j < i)) → i ≡ j
       go (inl k) = k
-      go (inr (inl k)) = let l : (sums_of s connect m).first < (sums_of s connect n).first = laws.tiles.in_order s connect choice i j m n plane k a b in absurd (omega arith)
-      go (inr (inr k)) = let l : (sums_of s connect n).first < (sums_of s connect m).first = laws.tiles.in_order s connect choice j i n m plane k b a in absurd (omega arith)
+      go (inr (inl k)) =
+          let l : (sums_of s connect m).first < (sums_of s connect n).first = laws.tiles.in_order s connect choice i j m n plane k a b in absurd
+          (omega arith)
+      go (inr (inr k)) =
+          let l : (sums_of s connect n).first < (sums_of s connect m).first = laws.tiles.in_order s connect choice j i n m plane k b a in absurd
+          (omega arith)
 
   -- so are two whose sources share a pixel
-  same_holder : (i j m n q : ℕ) → slice_get picked i ≡ Some m → slice_get picked j ≡ Some n → is_in_node s connect m q ≡ true → is_in_node s connect n q ≡ true → i ≡ j
+  same_holder : (i j m n q : ℕ) → slice_get picked i ≡ Some m → slice_get picked j ≡ Some n → is_in_node s connect m q ≡ true
+      → is_in_node s connect n q ≡ true → i ≡ j
   same_holder i j m n q a b h k = go (cases_eq m n)
     where
       go : (m ≡ n) ⊎ (m ≡ n → ⊥) → i ≡ j
       go (inl e) = same_place i j m n a b (ap (λ (x : ℕ). (sums_of s connect x).first) e)
-      go (inr e) = absurd (laws.disjoint s connect choice m n plane (source_at i m a).0 (source_at j n b).0 (source_at i m a).1 (source_at j n b).1 e q h k)
+      go (inr e) =
+          absurd (laws.disjoint s connect choice m n plane (source_at i m a).0 (source_at j n b).0 (source_at i m a).1 (source_at j n b).1 e q h k)
 
   map_length : length (segmentation s connect choice) ≡ length s.values
   unfolding segmentation segmentation_of
@@ -122,12 +133,14 @@ module _ (laws : MapLaws) (s : Raster) (connect : Connect) (choice : Choice) (pl
     where
       go : (q < length s.values) ⊎ (length s.values ≤ q) → IsNamed q k
       go (inl l) =
-          let g : IsFoundAt (λ n. is_in_node s connect n q) 1 (k + 1) picked = number_gives (λ n. is_in_node s connect n q) 1 (k + 1) picked (sym (map_at q l) ∙ e) (omega arith) in
+          let g : IsFoundAt (λ n. is_in_node s connect n q) 1 (k + 1) picked =
+          number_gives (λ n. is_in_node s connect n q) 1 (k + 1) picked (sym (map_at q l) ∙ e) (omega arith) in
           let n : k + 1 ≡ g.index + 1 = g.number in
           let i : g.index ≡ k = omega arith in
           record { it = g.it; at = subst (λ (x : ℕ). slice_get picked x ≡ Some g.it) i g.at; holds = g.passes }
       go (inr l) =
-          let z : slice_index (segmentation s connect choice) q ≡ 0 = get_or_past (segmentation s connect choice) q 0 (let m : length (segmentation s connect choice) ≡ length s.values = map_length in omega arith) in
+          let z : slice_index (segmentation s connect choice) q ≡ 0 =
+          get_or_past (segmentation s connect choice) q 0 (let m : length (segmentation s connect choice) ≡ length s.values = map_length in omega arith) in
           absurd (omega (arith, e, z))
 
   pub map_from : (q k n : ℕ) → slice_get picked k ≡ Some n → is_in_node s connect n q ≡ true → slice_index (segmentation s connect choice) q ≡ k + 1
@@ -169,11 +182,12 @@ module _ (laws : MapLaws) (d : Detection) (r : Raster) (pieces : List Piece) (pl
   unfolding residual_of
   placed k row e = record { it = g.0; at = g.1; first = sym (first_is R d.connect (k + 1) g.0) ∙ ap (first_pixel r.shape.width) g.2 }
     where
-      there : slice_get (rows_from (catalogue_row R d.connect) 1 (sources R d.connect d.choice)) k ≡ Some (with_number (k + 1) row)
-      there = ap (λ (x : List CatRow). slice_get x k) (same_rows laws.tiles d r pieces plane cover answers rows merged) ∙ get_rows with_number 1 rows k row e
+      there : slice_get (rows_from (catalogue_row R d.connect) 1 (sources R d.connect d.choice)) k ≡ Some (row_with_number (k + 1) row)
+      there =
+          ap (λ (x : List CatRow). slice_get x k) (same_rows laws.tiles d r pieces plane cover answers rows merged) ∙ get_rows row_with_number 1 rows k row e
 
-      g : (n : ℕ) × (slice_get (sources R d.connect d.choice) k ≡ Some n) × (catalogue_row R d.connect (k + 1) n ≡ with_number (k + 1) row)
-      g = row_at (catalogue_row R d.connect) 1 (with_number (k + 1) row) (sources R d.connect d.choice) k there
+      g : (n : ℕ) × (slice_get (sources R d.connect d.choice) k ≡ Some n) × (catalogue_row R d.connect (k + 1) n ≡ row_with_number (k + 1) row)
+      g = row_at (catalogue_row R d.connect) 1 (row_with_number (k + 1) row) (sources R d.connect d.choice) k there
 
   -- which is the source of the piece's row
   pub here_at : (t : Piece) (row : CatRow) (c : Contains pieces t) (f : IsFromPiece d r t row) (k : ℕ) → slice_get rows k ≡ Some row
@@ -201,21 +215,27 @@ module _ (laws : MapLaws) (d : Detection) (r : Raster) (pieces : List Piece) (pl
   index_at t row c f i e =
       let s : IsSourceOfRow laws.tiles d r pieces plane cover answers t row = source_of_row laws.tiles d r pieces plane cover answers t row c f in
       let k : pos i ≡ pos (s.index + 1) =
-      sym e ∙ sym (moved_number t.window f.it) ∙ ap (λ (x : CatRow). x.number) (sym f.moved ∙ s.row_is) ∙ row_number (part t) d.connect (s.index + 1) s.there t.window in
+      sym e ∙ sym (moved_number t.window f.it) ∙ ap (λ (x : CatRow). x.number) (sym f.moved ∙ s.row_is)
+      ∙ row_number (part t) d.connect (s.index + 1) s.there t.window in
       ap unsigned_abs k
 
   module _ (p k : ℕ) where
     there : slice_index (mapped d r) p ≡ k + 1 → (t : Piece) × Contains pieces t × IsMappedBy d r rows t p k
     unfolding residual_of seen_through
-    there e = (t, is.among, record {
-      pixel = seen.it;
-      below = few;
-      place = seen.place;
-      row = row;
-      at = subst (λ (x : ℕ). slice_get rows x ≡ Some row) same at.1;
-      from = own.from;
-      number = sym (moved_number t.window own.from.it) ∙ ap (λ (x : CatRow). x.number) (sym own.from.moved) ∙ row_number (part t) d.connect (own.index + 1) m t.window ∙ ap pos (sym number);
-    })
+    there e = (
+      t,
+      is.among,
+      record {
+        pixel = seen.it;
+        below = few;
+        place = seen.place;
+        row = row;
+        at = subst (λ (x : ℕ). slice_get rows x ≡ Some row) same at.1;
+        from = own.from;
+        number = sym (moved_number t.window own.from.it) ∙ ap (λ (x : CatRow). x.number) (sym own.from.moved) ∙ row_number (part t) d.connect
+            (own.index + 1) m t.window ∙ ap pos (sym number);
+      },
+    )
       where
         n : IsNamed laws R d.connect d.choice whole p k
         n = map_gives laws R d.connect d.choice whole p k e

@@ -1,30 +1,28 @@
 -- The measures of an image's sources in a second image, from its pieces.
-use Rattle.std.proofs.Common.{◌≡◌, ℕ, ◌+◌, ◌*◌, ◌<◌, Bool, true, not, List, [], ◌∷◌, length, map, filter, refl, sym, ◌∙◌, ap, subst, arith}
-use Rattle.std.specs.Prelude.{IsTrue, ℤ, pos, ◌+ℤ◌, ◌↔◌, Contains, Option, Some, is_some, unwrap_or, slice_get, slice_index}
-use Rattle.std.proofs.lemmas.Option.{get_or_from_slice_get}
+use Rattle.std.proofs.Common.{◌≡◌, ℕ, ◌*◌, ◌<◌, true, not, List, length, map, refl, sym, ◌∙◌, ap, subst, arith}
+use Rattle.std.specs.Prelude.{IsTrue, ℤ, pos, ◌+ℤ◌, ◌↔◌, Contains, Option, is_some, unwrap_or}
 use Rattle.comp_tree.specs.declared.shape.Connect.{Connect}
 use Rattle.comp_tree.specs.declared.shape.Shape.{Shape}
 use Rattle.comp_tree.specs.Raster.{Raster, IsPlane, pixels, value_at, is_defined, level}
 use Rattle.comp_tree.specs.Components.{IsReached, is_in_node}
 use Rattle.comp_tree.specs.Nesting.{pixels_of}
 use Rattle.comp_tree.specs.Windows.{Window, IsInside, in_whole, is_in_box, IsShown, Shows, seen_through, SureComponentsAreTheSame}
-use Rattle.comp_tree.proofs.Exported.{ArePaired, at_end, at_more, HasPartnerIn, IsAmong, IsAt, IsRising, among_pixels, at_order, below_from_defined, in_node-defined, in_node_from_among, in_whole-at, in_whole-one, paired_filter, paired_from_rising, paired_map, rising-pixels, some_columns}
+use Rattle.comp_tree.proofs.Exported.{ArePaired, at_end, at_more, HasPartnerIn, IsAmong, IsAt, IsRising, among_pixels, at_order, below_from_defined}
+use Rattle.comp_tree.proofs.Exported.{in_node-defined, in_node_from_among, in_whole-at, in_whole-one, paired_filter, paired_from_rising, paired_map}
+use Rattle.comp_tree.proofs.Exported.{rising-pixels, some_columns}
 use Rattle.mesh_background.specs.Residuals.{residual_of}
 use Rattle.node_sums.specs.Sums.{total, sums_of}
 use Rattle.source_pick.specs.declared.choice.Choice.{Choice}
 use Rattle.source_pick.specs.declared.catalogue.CatRow.{CatRow}
-use Rattle.source_pick.specs.Sources.{sources}
 use Rattle.source_pick.specs.Windows.{Tile, IsTileOf, IsFromTile}
 use Rattle.dual_measure.specs.declared.values.Measure.{Measure}
 use Rattle.dual_measure.specs.Measures.{least_or_zero, greatest_or_zero, seen_of, missing_of, measure_over, measure_of}
-use Rattle.tile_laws.specs.Pieces.{Detection, Piece, searched, AnswersForCore, CoversImage, IsFromPiece, AreMerged}
-use Rattle.tile_laws.specs.SecondImage.{measured, HasMeasuredBox, MeasuresItsCore}
-use Rattle.tile_laws.specs.Laws.{PiecesGiveTheMeasures}
+use Rattle.tile_laws.specs.Pieces.{Detection, Piece, searched, AnswersForCore, CoversImage, AreMerged}
+use Rattle.tile_laws.specs.SecondImage.{HasMeasuredBox, MeasuresItsCore}
 use Rattle.tile_laws.proofs.Sure.{is_sure, sure_in_box, shows_sure}
 use Rattle.tile_laws.proofs.Shown.{first_inside, source_reached, source_pixel_high, shown_pixel}
 use Rattle.tile_laws.proofs.Tiles.{tile_of}
-use Rattle.tile_laws.proofs.Merging.{IsSourceOfRow, source_of_row}
-use Rattle.tile_laws.proofs.Mapping.{MapLaws, whole, piece, here_at, index_at}
+use Rattle.tile_laws.proofs.Mapping.{MapLaws, whole, piece}
 
 -- ---- measures over paired pixels
 
@@ -34,7 +32,9 @@ length_paired R _ _ (at_more {x} {y} {xs} {ys} c rest) = let l : length xs ≡ l
 
 total_paired : (R : ℕ → ℕ → Type 0) (f g : ℕ → ℤ) (ps qs : List ℕ) → ((p q : ℕ) → R p q → f p ≡ g q) → ArePaired R ps qs → total f ps ≡ total g qs
 total_paired R f g _ _ e at_end = refl
-total_paired R f g _ _ e (at_more {x} {y} {xs} {ys} c rest) = ap (λ (z : ℤ). z +ℤ total f xs) (e x y c) ∙ ap (λ (z : ℤ). g y +ℤ z) (total_paired R f g xs ys e rest)
+total_paired R f g _ _ e (at_more {x} {y} {xs} {ys} c rest) =
+    ap (λ (z : ℤ). z +ℤ total f xs) (e x y c)
+    ∙ ap (λ (z : ℤ). g y +ℤ z) (total_paired R f g xs ys e rest)
 
 abbrev of_parts : ℕ → ℕ → ℤ → List ℤ → Measure
 of_parts a b s xs = record {
@@ -47,7 +47,8 @@ of_parts a b s xs = record {
 
 same_parts : (a b x y : ℕ) (s z : ℤ) (xs ys : List ℤ) → a ≡ x → b ≡ y → s ≡ z → xs ≡ ys → of_parts a b s xs ≡ of_parts x y z ys
 same_parts a b x y s z xs ys e f g h =
-    ap (λ (n : ℕ). of_parts n b s xs) e ∙ ap (λ (n : ℕ). of_parts x n s xs) f ∙ ap (λ (n : ℤ). of_parts x y n xs) g ∙ ap (λ (ns : List ℤ). of_parts x y z ns) h
+    ap (λ (n : ℕ). of_parts n b s xs) e ∙ ap (λ (n : ℕ). of_parts x n s xs) f ∙ ap (λ (n : ℤ). of_parts x y n xs) g
+    ∙ ap (λ (ns : List ℤ). of_parts x y z ns) h
 
 module _ (v u : Raster) (R : ℕ → ℕ → Type 0) (same : (p q : ℕ) → R p q → value_at v.values p ≡ value_at u.values q) where
   same_level : (p q : ℕ) → R p q → level v p ≡ level u q
@@ -56,14 +57,17 @@ module _ (v u : Raster) (R : ℕ → ℕ → Type 0) (same : (p q : ℕ) → R p
 
   pub same_measure : (ps qs : List ℕ) → ArePaired R ps qs → measure_over v ps ≡ measure_over u qs
   unfolding measure_over
-  same_measure ps qs c = same_parts (length (seen_of v ps)) (length (missing_of v ps)) (length (seen_of u qs)) (length (missing_of u qs)) (total (level v) (seen_of v ps)) (total (level u) (seen_of u qs))
+  same_measure ps qs c =
+      same_parts (length (seen_of v ps)) (length (missing_of v ps)) (length (seen_of u qs)) (length (missing_of u qs))
+      (total (level v) (seen_of v ps)) (total (level u) (seen_of u qs))
       (map (level v) (seen_of v ps)) (map (level u) (seen_of u qs)) seen_count missing_count sum values
     where
       seen : ArePaired R (seen_of v ps) (seen_of u qs)
       seen = paired_filter R (is_defined v) (is_defined u) ps qs (λ p q k. ap (λ (o : Option ℤ). is_some o) (same p q k)) c
 
       missing : ArePaired R (missing_of v ps) (missing_of u qs)
-      missing = paired_filter R (λ p. not (is_defined v p)) (λ q. not (is_defined u q)) ps qs (λ p q k. ap (λ (o : Option ℤ). not (is_some o)) (same p q k)) c
+      missing =
+          paired_filter R (λ p. not (is_defined v p)) (λ q. not (is_defined u q)) ps qs (λ p q k. ap (λ (o : Option ℤ). not (is_some o)) (same p q k)) c
 
       seen_count : length (seen_of v ps) ≡ length (seen_of u qs)
       seen_count = length_paired R (seen_of v ps) (seen_of u qs) seen
@@ -90,20 +94,26 @@ pub record AreOfSource (r s : Raster) (connect : Connect) (w : Window) (n m p q 
   pub here : is_in_node r connect n p ≡ true
   pub there : is_in_node s connect m q ≡ true
 
-module _ (law : SureComponentsAreTheSame) (r : Raster) (connect : Connect) (choice : Choice) (t : Tile) (n m : ℕ) (plane : IsPlane r) (tile : IsTileOf r connect choice t) (k : IsFromTile r connect choice t n m) where
+module _ (law : SureComponentsAreTheSame) (r : Raster) (connect : Connect) (choice : Choice) (t : Tile) (n m : ℕ) (plane : IsPlane r)
+    (tile : IsTileOf r connect choice t) (k : IsFromTile r connect choice t n m) where
   abbrev pub Of : ℕ → ℕ → Type 0
   Of p q = AreOfSource r t.plane connect t.window n m p q
 
   pub pixels_paired : ArePaired Of (pixels_of r connect n) (pixels_of t.plane connect m)
-  pixels_paired = paired_from_rising Of (λ x. x) (λ x. x) (pixels_of r connect n) (pixels_of t.plane connect m) order (rising_pixels_of r connect n) (rising_pixels_of t.plane connect m) there back
+  pixels_paired =
+      paired_from_rising Of (λ x. x) (λ x. x) (pixels_of r connect n) (pixels_of t.plane connect m) order (rising_pixels_of r connect n)
+      (rising_pixels_of t.plane connect m) there back
     where
       at : (p q : ℕ) → Of p q → IsAt r.shape.width t.plane.shape.width t.window.left t.window.top p q
       at p q c =
           subst (λ (x : ℕ). IsAt r.shape.width t.plane.shape.width t.window.left t.window.top x q) c.place
-          (subst (λ (x : Shape). IsAt r.shape.width x.width t.window.left t.window.top (in_whole r.shape.width t.window q) q) (sym tile.shows.shape_is) (in_whole-at r.shape t.window q tile.shows.inside))
+          (subst (λ (x : Shape). IsAt r.shape.width x.width t.window.left t.window.top (in_whole r.shape.width t.window q) q)
+          (sym tile.shows.shape_is) (in_whole-at r.shape t.window q tile.shows.inside))
 
       order : (p q a b : ℕ) → Of p q → Of a b → (p < a) ↔ (q < b)
-      order p q a b c e = at_order r.shape.width t.plane.shape.width t.window.left t.window.top p q a b (some_columns r.shape) (some_columns t.plane.shape) (at p q c) (at a b e)
+      order p q a b c e =
+          at_order r.shape.width t.plane.shape.width t.window.left t.window.top p q a b (some_columns r.shape) (some_columns t.plane.shape)
+          (at p q c) (at a b e)
 
       there : (p : ℕ) → IsAmong p (pixels_of r connect n) → HasPartnerIn Of p (pixels_of t.plane connect m)
       there p a =
@@ -117,12 +127,19 @@ module _ (law : SureComponentsAreTheSame) (r : Raster) (connect : Connect) (choi
           let i : is_in_node t.plane connect m q ≡ true = in_node_from_among t.plane connect m q a in
           let b : q < length t.plane.values = below_from_defined t.plane q (in_node-defined t.plane connect m q i) in
           let h : is_in_node r connect n (in_whole r.shape.width t.window q) ≡ true = k.moved.pixels q b ∙ i in
-          record { it = in_whole r.shape.width t.window q; among = among_pixels r connect n (in_whole r.shape.width t.window q) h; pair = record { place = refl; below = b; here = h; there = i } }
+          record {
+            it = in_whole r.shape.width t.window q;
+            among = among_pixels r connect n
+                (in_whole r.shape.width t.window q) h;
+            pair = record { place = refl; below = b; here = h; there = i };
+          }
 
 -- ---- the law
 
-module _ (laws : MapLaws) (d : Detection) (r values : Raster) (pieces : List Piece) (plane : IsPlane r) (value_plane : IsPlane values) (same_shape : values.shape ≡ r.shape)
-    (cover : CoversImage r.shape pieces) (answers : (t : Piece) → Contains pieces t → AnswersForCore d r t) (rows : List CatRow) (merged : AreMerged d r pieces rows)
+module _ (laws : MapLaws) (d : Detection) (r values : Raster) (pieces : List Piece) (plane : IsPlane r) (value_plane : IsPlane values)
+    (same_shape : values.shape ≡ r.shape)
+    (cover : CoversImage r.shape pieces) (answers : (t : Piece) → Contains pieces t → AnswersForCore d r t) (rows : List CatRow)
+    (merged : AreMerged d r pieces rows)
     (t : Piece) (among : Contains pieces t) (measures : MeasuresItsCore d r values t) where
   abbrev R : Raster
   R = searched d r
@@ -143,10 +160,12 @@ module _ (laws : MapLaws) (d : Detection) (r values : Raster) (pieces : List Pie
   tile_is = piece laws d r pieces plane cover answers rows merged t among
 
   -- a pixel of the image that is sure in the values has the same value there
-  value_same : (p q : ℕ) → in_whole values.shape.width t.window q ≡ p → p < length V.values → IsTrue (is_sure values t.window d.flat d.mesh p) → value_at V.values p ≡ value_at U.values q
+  value_same : (p q : ℕ) → in_whole values.shape.width t.window q ≡ p → p < length V.values → IsTrue (is_sure values t.window d.flat d.mesh p)
+      → value_at V.values p ≡ value_at U.values q
   unfolding residual_of
   value_same p q e l k =
-      let shows : Shows V U t.window (is_sure values t.window d.flat d.mesh) = shows_sure laws.tiles.background values t.window d.flat d.mesh value_plane inside_values (answers t among).on_mesh in
+      let shows : Shows V U t.window (is_sure values t.window d.flat d.mesh) =
+      shows_sure laws.tiles.background values t.window d.flat d.mesh value_plane inside_values (answers t among).on_mesh in
       let g : IsShown V U t.window p = shows.shown p l k in
       g.same ∙ ap (value_at U.values) (in_whole-one values.shape t.window g.it q inside_values (g.place ∙ sym e))
 
@@ -162,9 +181,12 @@ module _ (laws : MapLaws) (d : Detection) (r values : Raster) (pieces : List Pie
     box = measures first k.from.own (source_pixel_high S d.connect d.choice tile_is.one_each m first k.from.node k.from.source first_in)
 
     -- so has each that the first pixel of a source reaches at the threshold
-    pub reached_values : (p q : ℕ) → in_whole r.shape.width t.window q ≡ p → p < length R.values → IsReached S d.connect d.choice.threshold first q → value_at V.values p ≡ value_at U.values q
+    pub reached_values : (p q : ℕ) → in_whole r.shape.width t.window q ≡ p → p < length R.values → IsReached S d.connect d.choice.threshold first q
+        → value_at V.values p ≡ value_at U.values q
     unfolding residual_of
-    reached_values p q e l path = value_same p q place below (sure_in_box laws.tiles.background values t.window d.flat d.mesh value_plane inside_values (answers t among).on_mesh box.box p box.sure in_box)
+    reached_values p q e l path =
+        value_same p q place below (sure_in_box laws.tiles.background values t.window d.flat d.mesh value_plane inside_values
+        (answers t among).on_mesh box.box p box.sure in_box)
       where
         place : in_whole values.shape.width t.window q ≡ p
         place = ap (λ (x : Shape). in_whole x.width t.window q) same_shape ∙ e

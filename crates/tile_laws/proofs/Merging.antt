@@ -1,7 +1,6 @@
 -- The catalogue of an image, from the catalogues of its pieces.
 use Rattle.std.proofs.Common.{◌≡◌, ℕ, ◌+◌, ◌-◌, ◌*◌, ◌/◌, ◌%◌, ◌<◌, List, [], ◌∷◌, length, map, refl, sym, ◌∙◌, ap, subst, arith}
-use Rattle.std.specs.Prelude.{IsTrue, pos, ◌+ℤ◌, unsigned_abs, Contains, Some, slice_get}
-use Rattle.std.specs.List.{enumerate_from}
+use Rattle.std.specs.Prelude.{IsTrue, Contains, Some, slice_get}
 use Rattle.std.proofs.lemmas.Nat.{div-add-mod'}
 use Rattle.comp_tree.specs.declared.shape.Connect.{Connect}
 use Rattle.comp_tree.specs.Raster.{Raster, IsPlane}
@@ -10,13 +9,13 @@ use Rattle.comp_tree.specs.Windows.{Window, in_whole, is_in_box, seen_through, D
 use Rattle.comp_tree.proofs.Exported.{IsAmong, IsRisingBy}
 use Rattle.mesh_background.specs.Residuals.{residual_of}
 use Rattle.node_sums.specs.Sums.{sums_of}
-use Rattle.source_pick.specs.declared.choice.Choice.{Choice}
 use Rattle.source_pick.specs.declared.catalogue.CatRow.{CatRow}
 use Rattle.source_pick.specs.Sources.{is_source, sources}
-use Rattle.source_pick.specs.Catalogue.{measured_row, catalogue_row, catalogue_of, catalogue}
+use Rattle.source_pick.specs.Catalogue.{measured_row, catalogue_row}
 use Rattle.source_pick.specs.Laws.{SourcesAreListed, SourcesAreInOrder}
 use Rattle.source_pick.specs.Windows.{moved_row, Tile, IsTileOf, IsOwnSource, IsFromTile, EachSourceIsATiles, OwnSourcesAreTheWholes}
-use Rattle.tile_laws.specs.Pieces.{Detection, Piece, searched, detected, AnswersForCore, CoversImage, first_pixel, IsFromPiece, AreMerged, with_number, numbered}
+use Rattle.tile_laws.specs.Pieces.{Detection, Piece, searched, detected, AnswersForCore, CoversImage, first_pixel, IsFromPiece, AreMerged}
+use Rattle.tile_laws.specs.Pieces.{row_with_number, numbered_rows}
 use Rattle.tile_laws.specs.Laws.{PiecesGiveTheCatalogue}
 use Rattle.source_pick.proofs.Exported.{catalogue-is, contains_from_among, among_of, among_get, rising_from_get}
 use Rattle.tile_laws.proofs.Lists.{get_among, among_map, IsImageOf, image_of, rising_equal, rows_from, IsRowOf, row_of, get_rows, rising_rows}
@@ -26,11 +25,11 @@ use Rattle.tile_laws.proofs.Tiles.{tile_of, is_tile}
 -- ---- the rows of one catalogue
 
 -- a row has the number that it is given
-renumbered : (r : Raster) (connect : Connect) (i j n : ℕ) → with_number i (catalogue_row r connect j n) ≡ catalogue_row r connect i n
+renumbered : (r : Raster) (connect : Connect) (i j n : ℕ) → row_with_number i (catalogue_row r connect j n) ≡ catalogue_row r connect i n
 unfolding catalogue_row measured_row
 renumbered r connect i j n = refl
 
-moved_renumbered : (w : Window) (i : ℕ) (row : CatRow) → with_number i (moved_row w row) ≡ moved_row w (with_number i row)
+moved_renumbered : (w : Window) (i : ℕ) (row : CatRow) → row_with_number i (moved_row w row) ≡ moved_row w (row_with_number i row)
 unfolding moved_row
 moved_renumbered w i row = refl
 
@@ -38,32 +37,35 @@ moved_renumbered w i row = refl
 pub first_is : (r : Raster) (connect : Connect) (i n : ℕ) → first_pixel r.shape.width (catalogue_row r connect i n) ≡ (sums_of r connect n).first
 unfolding catalogue_row measured_row
 first_is r connect i n =
-    let e : (sums_of r connect n).first / r.shape.width * r.shape.width + (sums_of r connect n).first % r.shape.width ≡ (sums_of r connect n).first = div-add-mod' (sums_of r connect n).first r.shape.width in
+    let e : (sums_of r connect n).first / r.shape.width * r.shape.width + (sums_of r connect n).first % r.shape.width ≡ (sums_of r connect n).first =
+    div-add-mod' (sums_of r connect n).first r.shape.width in
     let a : (sums_of r connect n).first / r.shape.width + 1 - 1 ≡ (sums_of r connect n).first / r.shape.width = omega arith in
     let b : (sums_of r connect n).first % r.shape.width + 1 - 1 ≡ (sums_of r connect n).first % r.shape.width = omega arith in
-    ap (λ (k : ℕ). k * r.shape.width + ((sums_of r connect n).first % r.shape.width + 1 - 1)) a ∙ ap (λ (k : ℕ). (sums_of r connect n).first / r.shape.width * r.shape.width + k) b ∙ e
+    ap (λ (k : ℕ). k * r.shape.width + ((sums_of r connect n).first % r.shape.width + 1 - 1)) a
+    ∙ ap (λ (k : ℕ). (sums_of r connect n).first / r.shape.width * r.shape.width + k) b ∙ e
 
 -- ---- two lists of rows with the same numbers
 
 plain : CatRow → CatRow
-plain row = with_number 0 row
+plain row = row_with_number 0 row
 
 plain_first : (width : ℕ) (row : CatRow) → first_pixel width (plain row) ≡ first_pixel width row
 unfolding plain
 plain_first width row = refl
 
-numbered_plain : (k : ℕ) (rows : List CatRow) → rows_from with_number k (map plain rows) ≡ rows_from with_number k rows
+numbered_plain : (k : ℕ) (rows : List CatRow) → rows_from row_with_number k (map plain rows) ≡ rows_from row_with_number k rows
 unfolding plain
 numbered_plain k [] = refl
-numbered_plain k (row ∷ rows) = ap (λ (zs : List CatRow). with_number k row ∷ zs) (numbered_plain (k + 1) rows)
+numbered_plain k (row ∷ rows) = ap (λ (zs : List CatRow). row_with_number k row ∷ zs) (numbered_plain (k + 1) rows)
 
-numbered_rows : (r : Raster) (connect : Connect) (k : ℕ) (ns : List ℕ) → rows_from with_number k (map plain (rows_from (catalogue_row r connect) k ns)) ≡ rows_from (catalogue_row r connect) k ns
+rows_numbered : (r : Raster) (connect : Connect) (k : ℕ) (ns : List ℕ)
+    → rows_from row_with_number k (map plain (rows_from (catalogue_row r connect) k ns)) ≡ rows_from (catalogue_row r connect) k ns
 unfolding plain
-numbered_rows r connect k [] = refl
-numbered_rows r connect k (n ∷ ns) =
-    ap (λ (row : CatRow). row ∷ rows_from with_number (k + 1) (map plain (rows_from (catalogue_row r connect) (k + 1) ns)))
-    (ap (with_number k) (renumbered r connect 0 k n) ∙ renumbered r connect k 0 n)
-    ∙ ap (λ (zs : List CatRow). catalogue_row r connect k n ∷ zs) (numbered_rows r connect (k + 1) ns)
+rows_numbered r connect k [] = refl
+rows_numbered r connect k (n ∷ ns) =
+    ap (λ (row : CatRow). row ∷ rows_from row_with_number (k + 1) (map plain (rows_from (catalogue_row r connect) (k + 1) ns)))
+    (ap (row_with_number k) (renumbered r connect 0 k n) ∙ renumbered r connect k 0 n)
+    ∙ ap (λ (zs : List CatRow). catalogue_row r connect k n ∷ zs) (rows_numbered r connect (k + 1) ns)
 
 -- ---- the pieces
 
@@ -98,7 +100,17 @@ module _ (laws : TileLaws) (d : Detection) (r : Raster) (pieces : List Piece) (p
   -- the tile of a source of the image
   pub source_from : (n : ℕ) → IsAmong n (sources R d.connect d.choice) → (t : Piece) × ((m : ℕ) × IsPiecesSource t n m)
   unfolding residual_of
-  source_from n k = (piece.it, (g.2.0, record { among = contains_from_among piece.it pieces piece.among; from = subst (λ (x : Tile). IsFromTile R d.connect d.choice x n g.2.0) (sym piece.image) g.2.1 }))
+  source_from n k = (
+    piece.it,
+    (
+      g.2.0,
+      record {
+        among = contains_from_among piece.it pieces piece.among;
+        from = subst
+            (λ (x : Tile). IsFromTile R d.connect d.choice x n g.2.0) (sym piece.image) g.2.1;
+      },
+    ),
+  )
     where
       is : IsNode R d.connect n × IsTrue (is_source R d.connect d.choice n)
       is = (laws.listed R d.connect d.choice n plane_R).0 (contains_from_among n (sources R d.connect d.choice) k)
@@ -125,8 +137,10 @@ module _ (laws : TileLaws) (d : Detection) (r : Raster) (pieces : List Piece) (p
 
   -- ---- their rows
 
-  listed_there : (t : Piece) (m : ℕ) → Contains pieces t → IsNode (part t) d.connect m → IsTrue (is_source (part t) d.connect d.choice m) → IsAmong m (sources (part t) d.connect d.choice)
-  listed_there t m k node source = among_of m (sources (part t) d.connect d.choice) ((laws.listed (part t) d.connect d.choice m (tile t k).one_each).1 (node, source))
+  listed_there : (t : Piece) (m : ℕ) → Contains pieces t → IsNode (part t) d.connect m → IsTrue (is_source (part t) d.connect d.choice m)
+      → IsAmong m (sources (part t) d.connect d.choice)
+  listed_there t m k node source =
+      among_of m (sources (part t) d.connect d.choice) ((laws.listed (part t) d.connect d.choice m (tile t k).one_each).1 (node, source))
 
   -- the row that a source of the image has in its piece's catalogue, moved
   pub record IsRowThere (t : Piece) (n m : ℕ) : Type 0 where
@@ -162,17 +176,20 @@ module _ (laws : TileLaws) (d : Detection) (r : Raster) (pieces : List Piece) (p
       place = sym k.from.moved.first ∙ sym (first_is R d.connect (j.0 + 1) n) ∙ ap (first_pixel r.shape.width) (k.from.moved.row (j.0 + 1))
 
   -- but for its number it is the row in the image's
-  same_plain : (t : Piece) (n m i j : ℕ) → IsFromTile R d.connect d.choice (tile_of d r t) n m → plain (moved_row t.window (catalogue_row (part t) d.connect j m)) ≡ plain (catalogue_row R d.connect i n)
+  same_plain : (t : Piece) (n m i j : ℕ) → IsFromTile R d.connect d.choice (tile_of d r t) n m
+      → plain (moved_row t.window (catalogue_row (part t) d.connect j m)) ≡ plain (catalogue_row R d.connect i n)
   unfolding plain
-  same_plain t n m i j k = ap (with_number 0) (sym (k.moved.row j)) ∙ renumbered R d.connect 0 j n ∙ sym (renumbered R d.connect 0 i n)
+  same_plain t n m i j k = ap (row_with_number 0) (sym (k.moved.row j)) ∙ renumbered R d.connect 0 j n ∙ sym (renumbered R d.connect 0 i n)
 
-  moved_first : (t : Piece) (j m : ℕ) → first_pixel r.shape.width (moved_row t.window (catalogue_row (part t) d.connect j m)) ≡ in_whole r.shape.width t.window (sums_of (part t) d.connect m).first
+  moved_first : (t : Piece) (j m : ℕ)
+      → first_pixel r.shape.width (moved_row t.window (catalogue_row (part t) d.connect j m)) ≡ in_whole r.shape.width t.window (sums_of (part t) d.connect m).first
   unfolding catalogue_row measured_row moved_row in_whole residual_of seen_through
   moved_first t j m =
       let q : ℕ = (sums_of (part t) d.connect m).first in
       let a : q / t.window.shape.width + 1 + t.window.top - 1 ≡ q / t.window.shape.width + t.window.top = omega arith in
       let b : q % t.window.shape.width + 1 + t.window.left - 1 ≡ q % t.window.shape.width + t.window.left = omega arith in
-      ap (λ (k : ℕ). k * r.shape.width + (q % t.window.shape.width + 1 + t.window.left - 1)) a ∙ ap (λ (k : ℕ). (q / t.window.shape.width + t.window.top) * r.shape.width + k) b
+      ap (λ (k : ℕ). k * r.shape.width + (q % t.window.shape.width + 1 + t.window.left - 1)) a
+      ∙ ap (λ (k : ℕ). (q / t.window.shape.width + t.window.top) * r.shape.width + k) b
 
   -- and the source of a piece's own row
   pub record IsSourceOfRow (t : Piece) (row : CatRow) : Type 0 where
@@ -200,7 +217,9 @@ module _ (laws : TileLaws) (d : Detection) (r : Raster) (pieces : List Piece) (p
           (subst (λ (rows : List CatRow). Contains rows f.it) (catalogue-is (part t) d.connect d.choice) f.listed))
 
       is : IsNode (part t) d.connect e.it × IsTrue (is_source (part t) d.connect d.choice e.it)
-      is = (laws.listed (part t) d.connect d.choice e.it (tile t k).one_each).0 (contains_from_among e.it (sources (part t) d.connect d.choice) (get_among e.it (sources (part t) d.connect d.choice) e.index e.at))
+      is =
+          (laws.listed (part t) d.connect d.choice e.it (tile t k).one_each).0
+          (contains_from_among e.it (sources (part t) d.connect d.choice) (get_among e.it (sources (part t) d.connect d.choice) e.index e.at))
 
       row_is : row ≡ moved_row t.window (catalogue_row (part t) d.connect (e.index + 1) e.it)
       row_is = f.moved ∙ ap (moved_row t.window) (sym e.image)
@@ -209,7 +228,8 @@ module _ (laws : TileLaws) (d : Detection) (r : Raster) (pieces : List Piece) (p
       own = record {
         node = is.0;
         source = is.1;
-        own = subst (λ (p : ℕ). IsTrue (is_in_box r.shape.width t.core p)) (ap (first_pixel r.shape.width) row_is ∙ moved_first t (e.index + 1) e.it) f.own;
+        own = subst (λ (p : ℕ). IsTrue (is_in_box r.shape.width t.core p))
+            (ap (first_pixel r.shape.width) row_is ∙ moved_first t (e.index + 1) e.it) f.own;
       }
 
       n : (n : ℕ) × IsFromTile R d.connect d.choice (tile_of d r t) n e.it
@@ -220,7 +240,9 @@ module _ (laws : TileLaws) (d : Detection) (r : Raster) (pieces : List Piece) (p
     rows_here = rows_from (catalogue_row R d.connect) 1 (sources R d.connect d.choice)
 
     there : (x : CatRow) → IsAmong x (map plain rows_here) → IsAmong x (map plain rows)
-    there x k = subst (λ (y : CatRow). IsAmong y (map plain rows)) same (among_map plain row rows (among_of row rows (merged.all g.0 row g.1.1.among there_row.from)))
+    there x k =
+        subst (λ (y : CatRow). IsAmong y (map plain rows)) same
+        (among_map plain row rows (among_of row rows (merged.all g.0 row g.1.1.among there_row.from)))
       where
         y : IsImageOf plain x rows_here
         y = image_of plain x rows_here k
@@ -257,7 +279,9 @@ module _ (laws : TileLaws) (d : Detection) (r : Raster) (pieces : List Piece) (p
             (among_of s.here (sources R d.connect d.choice) ((laws.listed R d.connect d.choice s.here plane_R).1 (s.from.node, s.from.source)))
 
         row : IsAmong (catalogue_row R d.connect (j.0 + 1) s.here) rows_here
-        row = get_among (catalogue_row R d.connect (j.0 + 1) s.here) rows_here j.0 (get_rows (catalogue_row R d.connect) 1 (sources R d.connect d.choice) j.0 s.here j.1)
+        row =
+            get_among (catalogue_row R d.connect (j.0 + 1) s.here) rows_here j.0
+            (get_rows (catalogue_row R d.connect) 1 (sources R d.connect d.choice) j.0 s.here j.1)
 
         same : plain (catalogue_row R d.connect (j.0 + 1) s.here) ≡ x
         same = sym (same_plain t.0 s.here s.there (j.0 + 1) (s.index + 1) s.from) ∙ ap plain (sym s.row_is) ∙ y.image
@@ -268,27 +292,32 @@ module _ (laws : TileLaws) (d : Detection) (r : Raster) (pieces : List Piece) (p
       (λ y m. let e : IsImageOf plain y zs = image_of plain y zs m in
           let l : first_pixel r.shape.width z < first_pixel r.shape.width e.it = h.0 e.it e.among in
           let a : first_pixel r.shape.width (plain z) ≡ first_pixel r.shape.width z = plain_first r.shape.width z in
-          let b : first_pixel r.shape.width y ≡ first_pixel r.shape.width e.it = ap (first_pixel r.shape.width) (sym e.image) ∙ plain_first r.shape.width e.it in
+          let b : first_pixel r.shape.width y ≡ first_pixel r.shape.width e.it =
+          ap (first_pixel r.shape.width) (sym e.image) ∙ plain_first r.shape.width e.it in
           omega (arith, l, a, b)),
       rising_plain zs h.1,
     )
 
     rising_here : IsRisingBy (first_pixel r.shape.width) rows_here
     unfolding residual_of
-    rising_here = rising_rows (catalogue_row R d.connect) (first_pixel r.shape.width) (λ n. (sums_of R d.connect n).first) (λ k n. first_is R d.connect k n) 1 (sources R d.connect d.choice)
-        (rising_from_get (λ n. (sums_of R d.connect n).first) (sources R d.connect d.choice) (λ i j m n l a b. laws.in_order R d.connect d.choice i j m n plane_R l a b))
+    rising_here =
+        rising_rows (catalogue_row R d.connect) (first_pixel r.shape.width) (λ n. (sums_of R d.connect n).first) (λ k n. first_is R d.connect k n) 1
+        (sources R d.connect d.choice)
+        (rising_from_get (λ n. (sums_of R d.connect n).first) (sources R d.connect d.choice)
+        (λ i j m n l a b. laws.in_order R d.connect d.choice i j m n plane_R l a b))
 
     rising_there : IsRisingBy (first_pixel r.shape.width) rows
     rising_there = rising_from_get (first_pixel r.shape.width) rows (λ i j x y l a b. merged.rise i j x y l a b)
 
-    pub same_rows : rows_here ≡ rows_from with_number 1 rows
+    pub same_rows : rows_here ≡ rows_from row_with_number 1 rows
     same_rows =
-        sym (numbered_rows R d.connect 1 (sources R d.connect d.choice))
-        ∙ ap (rows_from with_number 1) (rising_equal (first_pixel r.shape.width) (map plain rows_here) (map plain rows) (rising_plain rows_here rising_here) (rising_plain rows rising_there) there back)
+        sym (rows_numbered R d.connect 1 (sources R d.connect d.choice))
+        ∙ ap (rows_from row_with_number 1) (rising_equal (first_pixel r.shape.width) (map plain rows_here) (map plain rows)
+        (rising_plain rows_here rising_here) (rising_plain rows rising_there) there back)
         ∙ numbered_plain 1 rows
 
-    pub same_catalogue : detected d r ≡ numbered rows
-    unfolding numbered
+    pub same_catalogue : detected d r ≡ numbered_rows rows
+    unfolding numbered_rows
     same_catalogue = catalogue-is R d.connect d.choice ∙ same_rows
 
 pub pieces_give_the_catalogue : TileLaws → PiecesGiveTheCatalogue

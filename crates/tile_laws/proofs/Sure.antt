@@ -1,22 +1,24 @@
 -- The pixels that a window is sure of, as a test, and the residual that it shows of them.
-use Rattle.std.proofs.Common.{◌≡◌, ℕ, ◌+◌, ◌-◌, ◌*◌, ◌/◌, ◌%◌, ◌<◌, ◌≤◌, Bool, true, false, ◌&&◌, ◌||◌, ◌==◌, not, length, refl, sym, ◌∙◌, ap, subst, arith, ◌⊎◌, inl, inr}
+use Rattle.std.proofs.Common.{◌≡◌, ℕ, ◌+◌, ◌-◌, ◌*◌, ◌/◌, ◌%◌, ◌<◌, ◌≤◌, Bool, true, false, ◌&&◌, ◌||◌, ◌==◌, not, length, refl, sym, ◌∙◌, ap, subst}
+use Rattle.std.proofs.Common.{arith, ◌⊎◌, inl, inr}
 use Rattle.std.specs.Prelude.{IsTrue, nat_le, nat_lt, ℤ, ◌-ℤ◌, Option, Some, None, is_some}
 use Rattle.std.specs.Option.{option_map}
 use Rattle.std.specs.List.{list_all, list_any, range_with_len}
-use Rattle.std.proofs.lemmas.Bool.{and_parts, and_from, or_cases, or_left, or_right, cases_Bool, cases_eq, not-true, not_from_false, le-leb, leb-true, lt-ltb, ltb-true, eq-eqb, eqb-true, true≢false}
+use Rattle.std.proofs.lemmas.Bool.{and_parts, and_from, or_cases, or_left, or_right, cases_Bool, cases_eq, not-true, not_from_false, le-leb, leb-true}
+use Rattle.std.proofs.lemmas.Bool.{lt-ltb, ltb-true, eq-eqb, eqb-true, true≢false}
 use Rattle.std.proofs.lemmas.Nat.{div-add-mod', div-mul-add, mod-mul-add, mul-add-lt}
-use Rattle.std.proofs.lemmas.List.FromFn.{get_or-map-range_with_len}
 use Rattle.comp_tree.specs.declared.shape.Shape.{Shape}
 use Rattle.comp_tree.specs.Raster.{Raster, IsPlane, pixels, value_at, is_defined}
 use Rattle.comp_tree.specs.Windows.{Window, IsInside, Box, in_whole, is_in_box, seen_through, Shows}
-use Rattle.comp_tree.proofs.Exported.{IsAmong, IsWitness, IsAt, all_from, all_gives, among-range, among_from_defined, among_from_range, any_from_among, in_whole-at, in_whole-below, seen-length, seen-shape, seen-value, witness_from_any}
+use Rattle.comp_tree.proofs.Exported.{IsAmong, IsWitness, IsAt, all_from, all_gives, among-range, among_from_defined, among_from_range}
+use Rattle.comp_tree.proofs.Exported.{any_from_among, in_whole-at, in_whole-below, seen-length, seen-shape, seen-value, witness_from_any}
 use Rattle.mesh_background.specs.Mesh.{cells_along, mesh_cell_of}
 use Rattle.mesh_background.specs.Interpolation.{next_cell}
-use Rattle.mesh_background.specs.Residuals.{background, residual_at, residual_of}
+use Rattle.mesh_background.specs.Residuals.{background, residual_of}
 use Rattle.mesh_background.specs.Windows.{IsNeeded, IsClearAlong, HasDefinedCells, IsOnMesh, IsClear, ResidualIsSeen, ClearIsToldFromTheWindow}
 use Rattle.mesh_background.specs.Laws.{NoMeshLeavesThePlane, ResidualIsPlane}
 use Rattle.mesh_background.proofs.Exported.{residual_value}
-use Rattle.tile_laws.specs.Clear.{clear_from, clear_to, clear_box, IsBoxWithin, IsSureBox}
+use Rattle.tile_laws.specs.Clear.{clear_box, IsBoxWithin, IsSureBox}
 use Rattle.tile_laws.proofs.Clear.{from_inside, to_inside, clear_along}
 
 -- ---- boxes
@@ -83,16 +85,20 @@ seen_at r w p a b c d = record {
 
     place : (q / w.shape.width + w.top) * r.shape.width + (q % w.shape.width + w.left) ≡ p
     place =
-        let row : q / w.shape.width ≡ p / r.shape.width - w.top = div-mul-add (p / r.shape.width - w.top) w.shape.width (p % r.shape.width - w.left) (omega arith) in
-        let column : q % w.shape.width ≡ p % r.shape.width - w.left = mod-mul-add (p / r.shape.width - w.top) w.shape.width (p % r.shape.width - w.left) (omega arith) in
+        let row : q / w.shape.width ≡ p / r.shape.width - w.top =
+        div-mul-add (p / r.shape.width - w.top) w.shape.width (p % r.shape.width - w.left) (omega arith) in
+        let column : q % w.shape.width ≡ p % r.shape.width - w.left =
+        mod-mul-add (p / r.shape.width - w.top) w.shape.width (p % r.shape.width - w.left) (omega arith) in
         let e : q / w.shape.width + w.top ≡ p / r.shape.width = omega (arith, row, c) in
         let f : q % w.shape.width + w.left ≡ p % r.shape.width = omega (arith, column, a) in
-        ap (λ (n : ℕ). n * r.shape.width + (q % w.shape.width + w.left)) e ∙ ap (λ (n : ℕ). p / r.shape.width * r.shape.width + n) f ∙ div-add-mod' p r.shape.width
+        ap (λ (n : ℕ). n * r.shape.width + (q % w.shape.width + w.left)) e ∙ ap (λ (n : ℕ). p / r.shape.width * r.shape.width + n) f
+        ∙ div-add-mod' p r.shape.width
 
 clear_seen : (r : Raster) (w : Window) (flat : Bool) (mesh p : ℕ) → IsTrue (is_in_box r.shape.width (clear_box flat mesh r.shape w) p) → IsSeenAt r w p
 clear_seen r w flat mesh p k =
     let e : IsPlacedIn r.shape.width (clear_box flat mesh r.shape w) p = placed_in r.shape.width (clear_box flat mesh r.shape w) p k in
-    seen_at r w p (from_inside flat mesh w.left (p % r.shape.width) e.left) (to_inside flat mesh r.shape.width (w.left + w.shape.width) (p % r.shape.width) e.right)
+    seen_at r w p (from_inside flat mesh w.left (p % r.shape.width) e.left)
+    (to_inside flat mesh r.shape.width (w.left + w.shape.width) (p % r.shape.width) e.right)
     (from_inside flat mesh w.top (p / r.shape.width) e.top) (to_inside flat mesh r.shape.height (w.top + w.shape.height) (p / r.shape.width) e.bottom)
 
 -- ---- the cells that a pixel needs have pixels with values: a test
@@ -104,13 +110,16 @@ needs false mesh x c = nat_le (next_cell mesh x) (c + 2) && nat_le c (next_cell 
 needs_from : (flat : Bool) (mesh x c : ℕ) → IsNeeded flat mesh x c → needs flat mesh x c ≡ true
 unfolding needs
 needs_from true mesh x c e = eq-eqb (x / mesh) c e
-needs_from false mesh x c e = and_from (nat_le (next_cell mesh x) (c + 2)) (nat_le c (next_cell mesh x + 1)) (le-leb (next_cell mesh x) (c + 2) e.0) (le-leb c (next_cell mesh x + 1) e.1)
+needs_from false mesh x c e =
+    and_from (nat_le (next_cell mesh x) (c + 2)) (nat_le c (next_cell mesh x + 1)) (le-leb (next_cell mesh x) (c + 2) e.0)
+    (le-leb c (next_cell mesh x + 1) e.1)
 
 needs_gives : (flat : Bool) (mesh x c : ℕ) → needs flat mesh x c ≡ true → IsNeeded flat mesh x c
 unfolding needs
 needs_gives true mesh x c k = eqb-true (x / mesh) c k
 needs_gives false mesh x c k =
-    let e : (nat_le (next_cell mesh x) (c + 2) ≡ true) × (nat_le c (next_cell mesh x + 1) ≡ true) = and_parts (nat_le (next_cell mesh x) (c + 2)) (nat_le c (next_cell mesh x + 1)) k in
+    let e : (nat_le (next_cell mesh x) (c + 2) ≡ true) × (nat_le c (next_cell mesh x + 1) ≡ true) =
+    and_parts (nat_le (next_cell mesh x) (c + 2)) (nat_le c (next_cell mesh x + 1)) k in
     (leb-true (next_cell mesh x) (c + 2) e.0, leb-true c (next_cell mesh x + 1) e.1)
 
 module _ (r : Raster) (mesh : ℕ) where
@@ -153,29 +162,40 @@ module _ (r : Raster) (mesh : ℕ) where
     has_cells_gives k c d cl dl nc nd = go (or_cases (not (both_needed c d)) (cell_has c d) fine)
       where
         column : column_fine c ≡ true
-        column = all_gives column_fine (range_with_len 0 (cells_along mesh r.shape.width)) c k (among-range 0 (cells_along mesh r.shape.width) c (omega arith) (omega (arith, cl)))
+        column =
+            all_gives column_fine (range_with_len 0 (cells_along mesh r.shape.width)) c k
+            (among-range 0 (cells_along mesh r.shape.width) c (omega arith) (omega (arith, cl)))
 
         fine : is_fine c d ≡ true
-        fine = all_gives (is_fine c) (range_with_len 0 (cells_along mesh r.shape.height)) d column (among-range 0 (cells_along mesh r.shape.height) d (omega arith) (omega (arith, dl)))
+        fine =
+            all_gives (is_fine c) (range_with_len 0 (cells_along mesh r.shape.height)) d column
+            (among-range 0 (cells_along mesh r.shape.height) d (omega arith) (omega (arith, dl)))
 
         needed : both_needed c d ≡ true
-        needed = and_from (needs flat mesh (p % r.shape.width) c) (needs flat mesh (p / r.shape.width) d) (needs_from flat mesh (p % r.shape.width) c nc) (needs_from flat mesh (p / r.shape.width) d nd)
+        needed =
+            and_from (needs flat mesh (p % r.shape.width) c) (needs flat mesh (p / r.shape.width) d) (needs_from flat mesh (p % r.shape.width) c nc)
+            (needs_from flat mesh (p / r.shape.width) d nd)
 
         go : (not (both_needed c d) ≡ true) ⊎ (cell_has c d ≡ true) → HasOne c d
         go (inl e) = absurd (true≢false (sym needed ∙ not-true (both_needed c d) e))
         go (inr e) = cell_has_gives c d e
 
     has_cells_from : HasDefinedCells r flat mesh p → has_cells ≡ true
-    has_cells_from h = all_from column_fine (range_with_len 0 (cells_along mesh r.shape.width)) (λ c m. all_from (is_fine c) (range_with_len 0 (cells_along mesh r.shape.height)) (λ d l. fine c d m l))
+    has_cells_from h =
+        all_from column_fine (range_with_len 0 (cells_along mesh r.shape.width))
+        (λ c m. all_from (is_fine c) (range_with_len 0 (cells_along mesh r.shape.height)) (λ d l. fine c d m l))
       where
-        fine : (c d : ℕ) → IsAmong c (range_with_len 0 (cells_along mesh r.shape.width)) → IsAmong d (range_with_len 0 (cells_along mesh r.shape.height)) → is_fine c d ≡ true
+        fine : (c d : ℕ) → IsAmong c (range_with_len 0 (cells_along mesh r.shape.width))
+            → IsAmong d (range_with_len 0 (cells_along mesh r.shape.height)) → is_fine c d ≡ true
         fine c d m l = go (cases_Bool (both_needed c d))
           where
             cl : c < cells_along mesh r.shape.width
             cl = let e : (0 ≤ c) × (c < 0 + cells_along mesh r.shape.width) = among_from_range 0 (cells_along mesh r.shape.width) c m in omega (arith, e.1)
 
             dl : d < cells_along mesh r.shape.height
-            dl = let e : (0 ≤ d) × (d < 0 + cells_along mesh r.shape.height) = among_from_range 0 (cells_along mesh r.shape.height) d l in omega (arith, e.1)
+            dl =
+                let e : (0 ≤ d) × (d < 0 + cells_along mesh r.shape.height) = among_from_range 0 (cells_along mesh r.shape.height) d l in omega
+                (arith, e.1)
 
             go : (both_needed c d ≡ true) ⊎ (both_needed c d ≡ false) → is_fine c d ≡ true
             go (inr e) = or_left (not (both_needed c d)) (cell_has c d) (not_from_false (both_needed c d) e)
@@ -206,18 +226,26 @@ sure_gives r w flat mesh p k = record { clear = both.0; cells = on_mesh (or_case
     at_value (inl e) = inl (not-true (is_defined r p) e)
     at_value (inr e) = inr (has_cells_gives r mesh flat p e)
 
-    on_mesh : ((mesh == 0) ≡ true) ⊎ ((not (is_defined r p) || has_cells r mesh flat p) ≡ true) → (mesh ≡ 0) ⊎ ((is_defined r p ≡ false) ⊎ HasDefinedCells r flat mesh p)
+    on_mesh : ((mesh == 0) ≡ true) ⊎ ((not (is_defined r p) || has_cells r mesh flat p) ≡ true)
+        → (mesh ≡ 0) ⊎ ((is_defined r p ≡ false) ⊎ HasDefinedCells r flat mesh p)
     on_mesh (inl e) = inl (eqb-true mesh 0 e)
     on_mesh (inr e) = inr (at_value (or_cases (not (is_defined r p)) (has_cells r mesh flat p) e))
 
 sure_from : (r : Raster) (w : Window) (flat : Bool) (mesh p : ℕ) → IsSure r w flat mesh p → IsTrue (is_sure r w flat mesh p)
 unfolding is_sure
-sure_from r w flat mesh p k = and_from (is_in_box r.shape.width (clear_box flat mesh r.shape w) p) ((mesh == 0) || (not (is_defined r p) || has_cells r mesh flat p)) k.clear (go k.cells)
+sure_from r w flat mesh p k =
+    and_from (is_in_box r.shape.width (clear_box flat mesh r.shape w) p) ((mesh == 0) || (not (is_defined r p) || has_cells r mesh flat p)) k.clear
+    (go k.cells)
   where
-    go : (mesh ≡ 0) ⊎ ((is_defined r p ≡ false) ⊎ HasDefinedCells r flat mesh p) → ((mesh == 0) || (not (is_defined r p) || has_cells r mesh flat p)) ≡ true
+    go : (mesh ≡ 0) ⊎ ((is_defined r p ≡ false) ⊎ HasDefinedCells r flat mesh p)
+        → ((mesh == 0) || (not (is_defined r p) || has_cells r mesh flat p)) ≡ true
     go (inl e) = or_left (mesh == 0) (not (is_defined r p) || has_cells r mesh flat p) (eq-eqb mesh 0 e)
-    go (inr (inl e)) = or_right (mesh == 0) (not (is_defined r p) || has_cells r mesh flat p) (or_left (not (is_defined r p)) (has_cells r mesh flat p) (not_from_false (is_defined r p) e))
-    go (inr (inr e)) = or_right (mesh == 0) (not (is_defined r p) || has_cells r mesh flat p) (or_right (not (is_defined r p)) (has_cells r mesh flat p) (has_cells_from r mesh flat p e))
+    go (inr (inl e)) =
+        or_right (mesh == 0) (not (is_defined r p) || has_cells r mesh flat p)
+        (or_left (not (is_defined r p)) (has_cells r mesh flat p) (not_from_false (is_defined r p) e))
+    go (inr (inr e)) =
+        or_right (mesh == 0) (not (is_defined r p) || has_cells r mesh flat p)
+        (or_right (not (is_defined r p)) (has_cells r mesh flat p) (has_cells_from r mesh flat p e))
 
 -- ---- what is clear in the window
 
@@ -232,7 +260,8 @@ pub record BackgroundLaws : Type 0 where
   pub seen : ResidualIsSeen
   pub told : ClearIsToldFromTheWindow
 
-module _ (laws : BackgroundLaws) (r : Raster) (w : Window) (flat : Bool) (mesh : ℕ) (plane : IsPlane r) (inside : IsInside r.shape w) (on : 0 < mesh → IsOnMesh mesh w) where
+module _ (laws : BackgroundLaws) (r : Raster) (w : Window) (flat : Bool) (mesh : ℕ) (plane : IsPlane r) (inside : IsInside r.shape w)
+    (on : 0 < mesh → IsOnMesh mesh w) where
   -- along both sides of a pixel of the clear box
   module _ (p : ℕ) (k : IsTrue (is_in_box r.shape.width (clear_box flat mesh r.shape w) p)) (some : 0 < mesh) where
     placed : IsPlacedIn r.shape.width (clear_box flat mesh r.shape w) p
@@ -267,7 +296,8 @@ module _ (laws : BackgroundLaws) (r : Raster) (w : Window) (flat : Bool) (mesh :
           (subst (λ (n : ℕ). IsClearAlong flat mesh w.top w.shape.height r.shape.height n) at.row (clear_down p clear some))
           (b.defined q.it some (subst (λ (n : ℕ). IsTrue (is_in_box r.shape.width box n)) (sym q.place) k) (ap (λ (o : Option ℤ). is_some o) value ∙ d))
 
-      go : (mesh ≡ 0) ⊎ (mesh ≡ 0 → ⊥) → (is_defined r p ≡ true) ⊎ (is_defined r p ≡ false) → (mesh ≡ 0) ⊎ ((is_defined r p ≡ false) ⊎ HasDefinedCells r flat mesh p)
+      go : (mesh ≡ 0) ⊎ (mesh ≡ 0 → ⊥) → (is_defined r p ≡ true) ⊎ (is_defined r p ≡ false)
+          → (mesh ≡ 0) ⊎ ((is_defined r p ≡ false) ⊎ HasDefinedCells r flat mesh p)
       go (inl e) d = inl e
       go (inr n) (inr d) = inr (inl d)
       go (inr n) (inl d) = inr (inr (subst (λ (x : ℕ). HasDefinedCells r flat mesh x) q.place (told (omega arith) d).defined))
@@ -276,7 +306,8 @@ module _ (laws : BackgroundLaws) (r : Raster) (w : Window) (flat : Bool) (mesh :
   seen_plane = seen-length w r ∙ sym (ap (λ (x : Shape). x.width * x.height) (seen-shape w r))
 
   residual_none : (x : Raster) (p : ℕ) → p < length x.values → is_defined x p ≡ false → value_at (residual_of x mesh flat).values p ≡ None
-  residual_none x p l d = residual_value x mesh flat p l ∙ ap (λ (o : Option ℤ). option_map (λ v. v -ℤ background x mesh flat p) o) (none_from (value_at x.values p) d)
+  residual_none x p l d =
+      residual_value x mesh flat p l ∙ ap (λ (o : Option ℤ). option_map (λ v. v -ℤ background x mesh flat p) o) (none_from (value_at x.values p) d)
 
   module _ (p : ℕ) (k : IsTrue (is_sure r w flat mesh p)) where
     sure : IsSure r w flat mesh p
@@ -320,7 +351,8 @@ module _ (laws : BackgroundLaws) (r : Raster) (w : Window) (flat : Bool) (mesh :
             let some : 0 < mesh = omega arith in
             ap (value_at (residual_of r mesh flat).values) (sym seen.place)
             ∙ sym (laws.seen r w flat mesh seen.it plane inside some (on some) seen.below
-            (subst (λ (x : ℕ). IsClear r w flat mesh x) (sym seen.place) (record { across = clear_across p sure.clear some; along = clear_down p sure.clear some; defined = c })))
+            (subst (λ (x : ℕ). IsClear r w flat mesh x) (sym seen.place)
+            (record { across = clear_across p sure.clear some; along = clear_down p sure.clear some; defined = c })))
 
   pub shows_sure : Shows (residual_of r mesh flat) (residual_of (seen_through w r) mesh flat) w (is_sure r w flat mesh)
   unfolding residual_of
@@ -329,7 +361,8 @@ module _ (laws : BackgroundLaws) (r : Raster) (w : Window) (flat : Bool) (mesh :
     inside = inside;
     shown = λ p l k. record {
       it = (seen p k).it;
-      below = subst (λ (n : ℕ). (seen p k).it < n) (sym (laws.one_each (seen_through w r) mesh flat seen_plane ∙ ap (λ (x : Shape). x.width * x.height) (seen-shape w r))) (seen p k).below;
+      below = subst (λ (n : ℕ). (seen p k).it < n) (sym (laws.one_each (seen_through w r) mesh flat seen_plane ∙ ap
+          (λ (x : Shape). x.width * x.height) (seen-shape w r))) (seen p k).below;
       place = (seen p k).place;
       same = same_residual p k;
     };

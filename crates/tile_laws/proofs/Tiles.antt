@@ -1,6 +1,4 @@
 -- A piece that answers for its core is a tile of the residual.
-use Rattle.std.proofs.Common.{◌≡◌, ℕ, Bool, List, map, refl, subst}
-use Rattle.std.specs.Prelude.{IsTrue, Contains}
 use Rattle.comp_tree.specs.Raster.{Raster, IsPlane}
 use Rattle.comp_tree.specs.Windows.{is_in_box, seen_through, DeepComponentsLieSure}
 use Rattle.mesh_background.specs.Residuals.{residual_of}

@@ -1,10 +1,9 @@
 -- Model: a box as the code has it.
-use Rattle.std.specs.Prelude.{ℕ}
 use Rattle.comp_tree.specs.Windows.{Box}
 use Rattle.tile_laws.specs.declared.extents.Extent.{Extent}
 
-abbrev pub box_of : Extent → Box
-box_of e = record {
+abbrev pub extent_box : Extent → Box
+extent_box e = record {
   left = e.columns.from;
   right = e.columns.to;
   top = e.rows.from;

@@ -1,6 +1,6 @@
 -- Model: an image in pieces. Detection runs over the window of each piece alone, and the rows whose first pixels lie in the piece's core
 -- are put together.
-use Rattle.std.specs.Prelude.{◌≡◌, ℕ, ◌+◌, ◌-◌, ◌*◌, ◌<◌, Bool, true, IsTrue, pos, unsigned_abs, List, length, map, Contains, Some, slice_get, slice_index}
+use Rattle.std.specs.Prelude.{◌≡◌, ℕ, ◌+◌, ◌-◌, ◌*◌, ◌<◌, Bool, true, IsTrue, pos, unsigned_abs, List, map, Contains, Some, slice_get, slice_index}
 use Rattle.std.specs.List.{enumerate_from}
 use Rattle.comp_tree.specs.declared.shape.Connect.{Connect}
 use Rattle.comp_tree.specs.declared.shape.Shape.{Shape}
@@ -82,6 +82,11 @@ pub record ShowsItsCore (connect : Connect) (choice : Choice) (r : Raster) (t : 
 abbrev pub CoversImage : Shape → List Piece → Type 0
 CoversImage whole pieces = (p : ℕ) → p < whole.width * whole.height → (t : Piece) × Contains pieces t × IsTrue (is_in_box whole.width t.core p)
 
+-- and no two of them share a pixel
+abbrev pub CoresAreApart : Shape → List Piece → Type 0
+CoresAreApart whole pieces = (p : ℕ) (t u : Piece) → Contains pieces t → Contains pieces u → IsTrue (is_in_box whole.width t.core p)
+    → IsTrue (is_in_box whole.width u.core p) → t ≡ u
+
 -- ---- how their catalogues are put together
 
 -- the first pixel of a source, from its row in the catalogue of an image with so many columns
@@ -103,12 +108,12 @@ pub record AreMerged (d : Detection) (r : Raster) (pieces : List Piece) (rows : 
       → first_pixel r.shape.width row < first_pixel r.shape.width other
 
 -- a row with another number
-abbrev pub with_number : ℕ → CatRow → CatRow
-with_number number row = record row { number = pos number }
+abbrev pub row_with_number : ℕ → CatRow → CatRow
+row_with_number number row = record row { number = pos number }
 
 -- rows, numbered from 1 on
-unfoldable pub numbered : List CatRow → List CatRow
-numbered rows = map (λ e. with_number e.0 e.1) (enumerate_from 1 rows)
+unfoldable pub numbered_rows : List CatRow → List CatRow
+numbered_rows rows = map (λ e. row_with_number e.0 e.1) (enumerate_from 1 rows)
 
 -- Row k of the merged rows, counted from 0, is a row of the piece, and pixel p of the image has the number of this row in the piece's map
 pub record IsMappedBy (d : Detection) (r : Raster) (rows : List CatRow) (t : Piece) (p k : ℕ) : Type 0 where

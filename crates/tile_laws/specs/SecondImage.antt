@@ -1,5 +1,5 @@
 -- Model: what the sources of an image are in a second one, which is seen through the same windows.
-use Rattle.std.specs.Prelude.{◌≡◌, ℕ, IsTrue, ℤ, List, slice_index}
+use Rattle.std.specs.Prelude.{ℕ, IsTrue, ℤ, slice_index}
 use Rattle.comp_tree.specs.Raster.{Raster, is_at_least}
 use Rattle.comp_tree.specs.Components.{IsReached}
 use Rattle.comp_tree.specs.Windows.{Box, in_whole, is_in_box, seen_through}

@@ -5,6 +5,8 @@ ghost use Rattle.tile_laws.specs.Laws.{
   PiecesGiveTheCatalogue,
   PiecesGiveTheMap,
   PiecesGiveTheMeasures,
+  PiecesCanBeMerged,
+  RowsAreOnePieces,
   FlatBoxesAreSure,
   BoxesAreSureWithoutMesh,
   NoMeshDetectsInTheImage,
@@ -18,11 +20,14 @@ use source_pick::laws::{sources_are_disjoint, sources_are_listed, sources_of_til
 /// Where the cores of an image's pieces cover it, and each piece answers for its core, the catalogue of the image is that of the pieces: of each
 /// the rows whose first pixels lie in its core, moved to the image, in the order of these pixels, and numbered. A pixel has the number of
 /// such a row in the image's segmentation map exactly where a piece's own map gives it this row. In a second image, seen through the same
-/// windows, a source has the measure that the piece gives it.
+/// windows, a source has the measure that the piece gives it. Where no two cores share a pixel the rows can be put together so, and each is
+/// one row of one piece.
 pub fn pieces_give_the_catalogue()
     ensures catalogue { PiecesGiveTheCatalogue }
     ensures map { PiecesGiveTheMap }
     ensures measures { PiecesGiveTheMeasures }
+    ensures merged { PiecesCanBeMerged }
+    ensures one_piece { RowsAreOnePieces }
 {
     residual_is_a_plane();
     no_mesh_leaves_the_plane();

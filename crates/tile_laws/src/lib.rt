@@ -6,4 +6,4 @@ pub mod laws;
 #[cfg(test)]
 mod tests;
 
-pub use extents::{Extent, Span, clear_extent, lies_deep};
+pub use extents::{Extent, Interval, clear_extent, lies_deep};

@@ -15,8 +15,11 @@ fn first_row(left: u32, right: u32) -> Extent
     ensures bottom { result.rows.to ≡ 1 }
 {
     Extent {
-        columns: Span { from: left, to: right },
-        rows: Span { from: 0, to: 1 },
+        columns: Interval {
+            from: left,
+            to: right,
+        },
+        rows: Interval { from: 0, to: 1 },
     }
 }
 
@@ -28,16 +31,22 @@ fn boxes_of_a_window(rt: HostRuntime) -> Result<(), Fail> {
     assert_eq!(rt; (window.width, window.height), (512, 256));
     // columns 128 to 640 and rows 0 to 256: a smooth background wants a cell and a half, but for the image's own edge
     let smooth = clear_extent(false, 64, whole, 128, 0, window);
-    assert_eq!(rt; smooth.columns, Span { from: 224, to: 544 });
-    assert_eq!(rt; smooth.rows, Span { from: 0, to: 160 });
+    assert_eq!(rt; smooth.columns, Interval { from: 224, to: 544 });
+    assert_eq!(rt; smooth.rows, Interval { from: 0, to: 160 });
     let flat = clear_extent(true, 64, whole, 128, 0, window);
-    assert_eq!(rt; flat.columns, Span { from: 128, to: 640 });
+    assert_eq!(rt; flat.columns, Interval { from: 128, to: 640 });
     let without = clear_extent(false, 0, whole, 488, 144, window);
-    assert_eq!(rt; without.columns, Span { from: 488, to: 1000 });
+    assert_eq!(rt;
+        without.columns,
+        Interval {
+            from: 488,
+            to: 1000
+        }
+    );
     // the last cell of the window is cut at column 612, and its last row is the image's
     let cut = clear_extent(true, 100, whole, 100, 144, window);
-    assert_eq!(rt; cut.columns, Span { from: 100, to: 600 });
-    assert_eq!(rt; cut.rows, Span { from: 144, to: 400 });
+    assert_eq!(rt; cut.columns, Interval { from: 100, to: 600 });
+    assert_eq!(rt; cut.rows, Interval { from: 144, to: 400 });
     Ok(())
 }
 

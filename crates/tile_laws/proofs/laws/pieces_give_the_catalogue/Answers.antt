@@ -1,10 +1,17 @@
 use Rattle.tile_laws.proofs.Merging.{pieces_give_the_catalogue}
 use Rattle.tile_laws.proofs.Mapping.{MapLaws, pieces_give_the_map}
+use Rattle.tile_laws.proofs.Existing.{pieces_can_be_merged, rows_are_one_pieces}
 use Rattle.tile_laws.proofs.Backed.{pieces_give_the_measures}
 use Rattle.tile_laws.proofs.laws.pieces_give_the_catalogue.Goals as goal
 
 pub returns : goal.returns
-returns c = record { catalogue = pieces_give_the_catalogue laws.tiles; map = pieces_give_the_map laws; measures = pieces_give_the_measures laws }
+returns c = record {
+  catalogue = pieces_give_the_catalogue laws.tiles;
+  map = pieces_give_the_map laws;
+  measures = pieces_give_the_measures laws;
+  merged = pieces_can_be_merged laws;
+  one_piece = rows_are_one_pieces laws;
+}
   where
     laws : MapLaws
     laws = record {
