@@ -157,7 +157,7 @@ def _add_how(how) -> None:
         type=mesh_side,
         default=64,
         metavar="SIDE",
-        help="side of the background's cells in pixels; 0: one level (default: 64)",
+        help="side of the background's cells in pixels, 8 to 512; 0: one level (default: 64)",
     )
     how.add_argument(
         "--min-area",
@@ -393,7 +393,7 @@ def _count(tasks: List[Task]) -> int:
 
 def run(words: Optional[List[str]] = None) -> None:
     """Does what the words say. Raises Mistake."""
-    given = parser().parse_args(words)
+    given = parser().parse_intermixed_args(words)
     _check(given)
     tasks = [_task(path, given) for path in given.images]
     _check_names(given, tasks)
