@@ -9,6 +9,8 @@ import contextlib
 import os
 import pathlib
 import re
+import secrets
+import shutil
 import stat
 import tempfile
 import typing
@@ -258,24 +260,37 @@ def finished(
 def whole_file(path: typing.Union[str, os.PathLike]) -> typing.Iterator[str]:
     """The temporary name under which a file is written; it gets the name `path` if all goes well, and else is gone.
 
-    Where `path` is something other than a file, such as a pipe or a terminal, it is written as it stands.
+    Where `path` is something other than a file, such as a pipe or a terminal, all is written to it at the end.
     """
-    target = pathlib.Path(os.path.realpath(path))
-    if target.exists() and not stat.S_ISREG(target.stat().st_mode):
-        if target.is_dir():
-            raise Mistake(f"{path} is a folder")
-        yield os.fspath(target)
-        return
     try:
-        handle, name = tempfile.mkstemp(prefix=".maxdetect.", suffix=".part", dir=target.parent)
+        kind = os.stat(path).st_mode
+    except FileNotFoundError:
+        kind = stat.S_IFREG
+    if stat.S_ISDIR(kind):
+        raise Mistake(f"{path} is a folder")
+    if stat.S_ISREG(kind):
+        with _renamed(path) as name:
+            yield name
+        return
+    with tempfile.TemporaryDirectory() as folder:
+        name = os.path.join(folder, "whole")
+        yield name
+        # Writers may remove a file that is there before they write, so the pipe's name isn't given to them.
+        with open(name, "rb") as whole, open(path, "wb") as target:
+            shutil.copyfileobj(whole, target)
+
+
+@contextlib.contextmanager
+def _renamed(path: typing.Union[str, os.PathLike]) -> typing.Iterator[str]:
+    """A new file beside a file, which takes its place at the end, or is gone where that isn't reached."""
+    target = pathlib.Path(os.path.realpath(path))
+    name = os.fspath(target.parent / f".maxdetect.{secrets.token_hex(8)}.part")
+    try:
+        os.close(os.open(name, os.O_CREAT | os.O_EXCL | os.O_WRONLY, 0o666))
     except OSError as error:
         raise OSError(error.errno, error.strerror, os.fspath(path)) from None
-    os.close(handle)
     try:
         yield name
-        mask = os.umask(0)
-        os.umask(mask)
-        os.chmod(name, 0o666 & ~mask)
         os.replace(name, target)
     except BaseException:
         with contextlib.suppress(FileNotFoundError):

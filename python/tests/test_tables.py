@@ -1,5 +1,6 @@
 """Catalogues, maps and regions as files."""
 import os
+import subprocess
 
 import numpy
 import pytest
@@ -161,6 +162,9 @@ def test_whole_or_not_at_all(tmp_path):
             half.write("half")
         raise RuntimeError
     assert path.read_text() == "earlier" and os.listdir(tmp_path) == ["catalogue.csv"]
+    with pytest.raises(FileNotFoundError, match="another"), tables.whole_file(tmp_path / "new.csv"):
+        raise FileNotFoundError("another")
+    assert os.listdir(tmp_path) == ["catalogue.csv"]
     tables.write(catalogue(), path)
     assert path.read_text().startswith("NUMBER,X,Y")
     assert path.stat().st_mode & 0o777 == 0o666 & ~(os.umask(0o22) or os.umask(0o22))
@@ -181,8 +185,19 @@ def test_names_that_no_catalogue_can_have(tmp_path):
     with pytest.raises(OSError) as raised:
         tables.regions(catalogue(), "/proc/sources.reg")
     assert raised.value.filename == "/proc/sources.reg"
-    tables.regions(catalogue(), "/dev/null")
-    assert not os.path.isfile("/dev/null")
+
+
+def test_what_is_no_file_stays_what_it_is(tmp_path):
+    link, pipe = tmp_path / "catalogue.fits", tmp_path / "pipe.csv"
+    link.symlink_to("/dev/null")
+    for write in (tables.regions, tables.write):
+        write(catalogue(), link)
+        assert not os.path.isfile("/dev/null") and os.path.exists("/dev/null")
+    os.mkfifo(pipe)
+    reader = subprocess.Popen(["cat", pipe], stdout=subprocess.PIPE)
+    tables.write(catalogue(), pipe)
+    assert reader.communicate(timeout=60)[0].startswith(b"NUMBER,X,Y")
+    assert sorted(os.listdir(tmp_path)) == ["catalogue.fits", "pipe.csv"]
 
 
 def test_regions(tmp_path):
