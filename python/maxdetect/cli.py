@@ -294,7 +294,7 @@ class _Progress:
 
     def __init__(self, count: int):
         self._bar = None
-        if sys.stderr.isatty():
+        if sys.stderr is not None and sys.stderr.isatty():
             from tqdm import tqdm
 
             self._bar = tqdm(total=count, unit="tile", leave=False)
@@ -386,6 +386,16 @@ def _done(task: Task, given: argparse.Namespace, tiles, progress) -> str:
     return f"{len(table)} sources in {shlex.quote(task.output)}"
 
 
+def _named(task: Task, given: argparse.Namespace, tiles, progress) -> str:
+    """The same; a fault of the system that names no file names the catalogue."""
+    try:
+        return _done(task, given, tiles, progress)
+    except OSError as error:
+        if error.filename or isinstance(error, BrokenPipeError):
+            raise
+        raise Mistake(f"{task.output}: {error.strerror or error}") from None
+
+
 def _count(tasks: List[Task]) -> int:
     """How many tiles there are."""
     return sum(math.prod(-(-side // detection.TILE) for side in field.shape) for task in tasks for field in task.fields)
@@ -409,7 +419,7 @@ def run(words: Optional[List[str]] = None) -> None:
                 if pool and len(tasks) > 1
                 else None
             )
-            for line in detection.tiles.each(files, lambda task: _done(task, given, pool, progress), tasks):
+            for line in detection.tiles.each(files, lambda task: _named(task, given, pool, progress), tasks):
                 print(line, flush=True)
     finally:
         progress.close()
@@ -431,17 +441,22 @@ def told(name: str, work: Callable, words: Optional[List[str]]) -> int:
         text = f"{error.filename}: {error.strerror}" if error.filename else str(error)
     except KeyboardInterrupt:
         return 130
-    print(f"{name}: {' '.join(text.split())}", file=sys.stderr)
+    _say(f"{name}: {' '.join(text.split())}")
     return 2
+
+
+def _say(line: str) -> None:
+    """A line on standard error, where there is one."""
+    with contextlib.suppress(OSError, ValueError):
+        if sys.stderr is not None:
+            print(line, file=sys.stderr, flush=True)
 
 
 def main(words: Optional[List[str]] = None) -> int:
     """The command `maxcat`."""
     warnings.simplefilter("ignore", AstropyWarning)
     warnings.simplefilter("ignore", RuntimeWarning)
-    warnings.showwarning = lambda message, *rest, **more: print(
-        f"maxcat: {' '.join(str(message).split())}", file=sys.stderr
-    )
+    warnings.showwarning = lambda message, *rest, **more: _say(f"maxcat: {' '.join(str(message).split())}")
     return told("maxcat", run, words)
 
 
