@@ -273,7 +273,7 @@ def whole_file(path: typing.Union[str, os.PathLike]) -> typing.Iterator[str]:
             yield name
         return
     with tempfile.TemporaryDirectory() as folder:
-        name = os.path.join(folder, "whole")
+        name = os.path.join(folder, "whole" + pathlib.Path(path).suffix[:16])
         yield name
         # Writers may remove a file that is there before they write, so the pipe's name isn't given to them.
         with open(name, "rb") as whole, open(path, "wb") as target:
@@ -284,7 +284,8 @@ def whole_file(path: typing.Union[str, os.PathLike]) -> typing.Iterator[str]:
 def _renamed(path: typing.Union[str, os.PathLike]) -> typing.Iterator[str]:
     """A new file beside a file, which takes its place at the end, or is gone where that isn't reached."""
     target = pathlib.Path(os.path.realpath(path))
-    name = os.fspath(target.parent / f".maxdetect.{secrets.token_hex(8)}.part")
+    # With the same end of the name, by which writers choose a form.
+    name = os.fspath(target.parent / f".maxdetect.{secrets.token_hex(8)}.part{target.suffix[:16]}")
     try:
         os.close(os.open(name, os.O_CREAT | os.O_EXCL | os.O_WRONLY, 0o666))
     except OSError as error:
