@@ -1,16 +1,18 @@
 """Times `maxcat` beside one script of SEP that does the same, and a large image's memory, in one run; prints a table
 in Markdown.
 
-usage: /usr/bin/python3 bench/speed.py MAXDETECT [--runs N] [--workers N] [--large SIDE] [--only-large]
+usage: /usr/bin/python3 bench/speed.py MAXDETECT [--runs N] [--workers N] [--side SIDE] [--large [SIDE]] [--only-large]
 
 MAXDETECT is the built program. The image is a star field of 4096 x 4096 floating-point numbers with 42,000 stars, of
 which some 33,000 are found. The script of SEP reads it, estimates the background, extracts with the same threshold
 and least area, measures isophotal and Kron fluxes with errors, a circle and half-light radii, and writes a catalogue
-in FITS. The least time of N runs counts (3 if left out); memory is the greatest peak of a process. With --large an
+in FITS. The least time of N runs counts (3 if left out); memory is the most that all processes of a run held together,
+mapped files among it. With --side the image has another side, and with --large an
 image of SIDE x SIDE pixels (10,000 if no number follows) goes through `maxcat` as well. Run it with nothing else
 running.
 """
 import argparse
+import contextlib
 import os
 import pathlib
 import subprocess
@@ -84,21 +86,45 @@ def field(path, side):
     os.unlink(f"{path}.npy")
 
 
-def run(command, environment=None):
-    """Seconds by the clock, peak megabytes of the greatest process, and what is printed."""
-    start = time.perf_counter()
-    result = subprocess.run(
-        ["/usr/bin/time", "-f", "%M", *command], capture_output=True, text=True, env=environment, check=False
-    )
-    seconds = time.perf_counter() - start
-    if result.returncode != 0:
-        sys.exit(f"{command} ended with {result.returncode}: {result.stderr}")
-    return seconds, int(result.stderr.split()[-1]) / 1024, result.stdout
+def descendants(process):
+    """The numbers of a process and of all that it started and that are still there."""
+    yield process
+    for listed in pathlib.Path(f"/proc/{process}/task").glob("*/children"):
+        for child in listed.read_text().split():
+            yield from descendants(int(child))
 
 
-def best(command, count, environment=None):
+def held(process):
+    """The megabytes that a process and all that it started hold together; what they share counts once."""
+    kilobytes = 0
+    for number in descendants(process):
+        with contextlib.suppress(OSError):
+            for line in pathlib.Path(f"/proc/{number}/smaps_rollup").read_text().splitlines():
+                if line.startswith("Pss:"):
+                    kilobytes += int(line.split()[1])
+    return kilobytes / 1024
+
+
+def run(command, environment):
+    """Seconds by the clock, and the most megabytes that were held at one of the looks, twenty a second."""
+    start, peak = time.perf_counter(), 0.0
+    with tempfile.TemporaryFile() as said:
+        process = subprocess.Popen(command, stdout=subprocess.DEVNULL, stderr=said, env=environment)
+        while process.poll() is None:
+            with contextlib.suppress(OSError):
+                peak = max(peak, held(process.pid))
+            time.sleep(0.05)
+        seconds = time.perf_counter() - start
+        if process.returncode != 0:
+            said.seek(0)
+            sys.exit(f"{command} ended with {process.returncode}: {said.read().decode()}")
+    return seconds, peak
+
+
+def best(command, count, environment):
+    """The least time of some runs, and the greatest memory."""
     results = [run(command, environment) for _ in range(count)]
-    return min(seconds for seconds, _, _ in results), max(peak for _, peak, _ in results)
+    return min(seconds for seconds, _ in results), max(peak for _, peak in results)
 
 
 def main():
@@ -108,6 +134,7 @@ def main():
     parser.add_argument("--workers", type=int, default=4)
     parser.add_argument("--large", type=int, nargs="?", const=10000)
     parser.add_argument("--only-large", action="store_true")
+    parser.add_argument("--side", type=int, default=4096)
     given = parser.parse_args()
     environment = {
         **os.environ,
@@ -128,8 +155,8 @@ def main():
 
         maxcat = [sys.executable, "-m", "maxdetect.cli", image, "-o", catalogue]
         if not given.only_large:
-            field(image, 4096)
-            label = "4096 x 4096"
+            field(image, given.side)
+            label = f"{given.side} x {given.side}"
             yardstick = row(
                 label, "SEP, one script", [sys.executable, "-c", "\n".join(SEP), image, catalogue], given.runs
             )

@@ -13,11 +13,15 @@ SKY, SIGMA, SIDE = 100.0, 2.0, 200
 
 def gaussian(x, y, flux, wide=1.8, narrow=1.8, angle=0.0, shape=(SIDE, SIDE)):
     """A Gaussian of this flux, with places from 0, standard deviations in pixels and an angle in degrees."""
-    rows, columns = numpy.mgrid[: shape[0], : shape[1]]
+    image, reach = numpy.zeros(shape), int(8 * wide) + 1
+    top, left = max(int(y) - reach, 0), max(int(x) - reach, 0)
+    part = image[top : int(y) + reach + 1, left : int(x) + reach + 1]
+    rows, columns = numpy.mgrid[top : top + part.shape[0], left : left + part.shape[1]]
     turned = numpy.radians(angle)
     along = (columns - x) * numpy.cos(turned) + (rows - y) * numpy.sin(turned)
     across = (rows - y) * numpy.cos(turned) - (columns - x) * numpy.sin(turned)
-    return flux / (2 * numpy.pi * wide * narrow) * numpy.exp(-((along / wide) ** 2 + (across / narrow) ** 2) / 2)
+    part[:] = flux / (2 * numpy.pi * wide * narrow) * numpy.exp(-((along / wide) ** 2 + (across / narrow) ** 2) / 2)
+    return image
 
 
 def found(image, threshold):
