@@ -170,7 +170,7 @@ def imported(place, version):
 def offered(place, name, *words):
     """The options that completion offers behind these words."""
     script = place.prefix / "share/bash-completion/completions" / name
-    lines = f'. {script}; COMP_WORDS=({name} {" ".join(words)} --); COMP_CWORD={len(words) + 1}; _{name}'
+    lines = f'. {script} || exit; COMP_WORDS=({name} {" ".join(words)} --); COMP_CWORD={len(words) + 1}; _{name}'
     shown = done(["bash", "-c", lines + '; printf "%s\\n" "${COMPREPLY[@]}"'], env=place.environment())
     return set(shown.decode().split())
 
