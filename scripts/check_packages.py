@@ -142,13 +142,12 @@ def first_look(place, work):
     (work / "field.fits").write_bytes(field)
     bin_folder = place.prefix / "bin"
     options = {"env": environment, "cwd": work}
-    line = done([bin_folder / "maxcat", "field.fits", "-o", "field.csv"], **options).decode()
+    picture = ["--plot", "sources.png"] if importlib.util.find_spec("matplotlib") else []
+    line = done([bin_folder / "maxcat", "field.fits", "-o", "field.csv", *picture], **options).decode()
     found = re.fullmatch(r"(\d+) sources in field\.csv\n", line)
     rows = (work / "field.csv").read_text().splitlines()
     if not found or not 100 < int(found[1]) < 200 or len(rows) != int(found[1]) + 1:
         raise Amiss(f"maxcat says {line!r} of a star field, and writes {len(rows)} lines")
-    if importlib.util.find_spec("matplotlib"):
-        done([bin_folder / "maxcat", "field.fits", "--plot", "sources.png"], **options)
     words = "detect --threshold 34 --min-area 5 --mesh 64 --connect 8".split()
     sources = done([bin_folder / "maxdetect", *words], env=environment, input=field)
     survey = done([bin_folder / "maxsurvey", "add", "NORTH", "list"], env=environment, input=sources).decode()
