@@ -44,7 +44,9 @@ ALL_ABOVE = {"detect, all above": ["detect", "--threshold", "-1000000", "--min-a
 MANY_VALUES = {
     "60,000 values, evenly, 1024 x 1024": (1024, lambda rng: rng.randrange(60_000)),
     "noise of sigma 10,000, 2048 x 2048": (2048, lambda rng: round(rng.gauss(0, 10_000))),
+    "60,000 values, evenly, 2048 x 2048": (2048, lambda rng: rng.randrange(60_000)),
     "noise of sigma 1,000,000, 1024 x 1024": (1024, lambda rng: round(rng.gauss(0, 1_000_000))),
+    "noise of sigma 1,000,000, 2048 x 2048": (2048, lambda rng: round(rng.gauss(0, 1_000_000))),
 }
 # The yardstick of each job.
 YARDSTICKS = {"tree": "union-find in C++", "detect": "Source Extractor"}

@@ -1,4 +1,4 @@
-"""Runs the blocks of code in docs/COOKBOOK.md, one after the other in one folder.
+"""Runs the blocks of code in a document, by default docs/COOKBOOK.md, one after the other in one folder.
 
 usage: /usr/bin/python3 scripts/cookbook.py MAXDETECT [DOCUMENT]      (MAXDETECT is the built program)
 
@@ -46,6 +46,20 @@ def surroundings(folder, program):
     return {**os.environ, **paths, "MAXDETECT": program, "MAXDETECT_HOME": os.fspath(TOP)}
 
 
+def furnished(folder, program):
+    """A folder in which a block finds what stands at the top of the repository under the same names."""
+    kitchen = folder / "kitchen"
+    kitchen.mkdir()
+    survey = [pathlib.Path(program).with_name("maxsurvey"), TOP / "crates" / "maxsurvey" / "out" / "maxsurvey"]
+    links = {"examples": TOP / "examples", "python": TOP / "python", "maxcat": folder / "tools" / "maxcat"}
+    links.update(
+        {"maxdetect": pathlib.Path(program), "maxsurvey": next((it for it in survey if it.exists()), survey[1])}
+    )
+    for name, place in links.items():
+        (kitchen / name).symlink_to(place)
+    return kitchen
+
+
 def lines(text):
     """The lines without what can't be seen at their ends."""
     return [line.rstrip() for line in text.strip().splitlines()]
@@ -66,15 +80,14 @@ def run(language, code, told, folder, environment):
 def main():
     program = os.fspath(pathlib.Path(sys.argv[1]).resolve())
     document = pathlib.Path(sys.argv[2]) if len(sys.argv) > 2 else TOP / "docs" / "COOKBOOK.md"
-    missing = [name for name in ("numpy", "astropy", "scipy", "sep") if not is_there(name)]
+    missing = [name for name in ("numpy", "astropy", "scipy", "sep", "tqdm", "matplotlib") if not is_there(name)]
     if missing:
         print(f"skipped: scripts/cookbook.py wants {', '.join(missing)} (Debian: python3-NAME)")
         return
     count = 0
     with tempfile.TemporaryDirectory() as name:
-        kitchen = pathlib.Path(name) / "kitchen"
-        kitchen.mkdir()
         environment = surroundings(pathlib.Path(name), program)
+        kitchen = furnished(pathlib.Path(name), program)
         for language, code, told in BLOCK.findall(document.read_text(encoding="utf-8")):
             missing = [name for name in wanted(code) if not is_there(name)]
             if missing:

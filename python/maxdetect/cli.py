@@ -10,7 +10,7 @@ import shlex
 import sys
 import tempfile
 import warnings
-from typing import Callable, List, Optional
+from typing import Callable, List, Optional, Tuple
 
 import numpy
 from astropy.io import fits
@@ -68,6 +68,13 @@ MESH = _whole(0, 1024)
 above_zero = _number(0, True)
 
 
+def _crop(text: str) -> Tuple[int, ...]:
+    sides = tuple(int(side) for side in text.split(","))
+    if len(sides) != 4 or sides[0] > sides[1] or sides[2] > sides[3]:
+        raise argparse.ArgumentTypeError(f"{text} isn't XMIN,XMAX,YMIN,YMAX")
+    return sides
+
+
 def _finite(text: str) -> float:
     if not math.isfinite(float(text)):
         raise argparse.ArgumentTypeError(f"{text} isn't a finite number")
@@ -89,6 +96,7 @@ def parser() -> argparse.ArgumentParser:
     out.add_argument("--map", help="the segmentation map, as FITS: for each pixel the number of its source")
     out.add_argument("--regions", metavar="REG", help="ellipses for DS9")
     out.add_argument("--plot", metavar="PNG", help="a picture of the image and its sources")
+    out.add_argument("--crop", type=_crop, metavar="XMIN,XMAX,YMIN,YMAX", help="the part for --plot, in pixels from 1")
     out.add_argument("--zeropoint", type=_finite, metavar="Z", help="the magnitude of a flux of 1: adds magnitudes")
     what = made.add_argument_group("what is read")
     what.add_argument(
@@ -147,9 +155,9 @@ def parser() -> argparse.ArgumentParser:
     how.add_argument(
         "--workers",
         type=_whole(1, MOST_WORKERS),
-        default=1,
+        default=min(4, os.cpu_count() or 1),
         metavar="N",
-        help="images and tiles at work at once (default: 1)",
+        help="images and tiles at work at once; 1 takes the least memory (default: as many as processors, at most 4)",
     )
     return made
 
@@ -204,15 +212,14 @@ def _field(plane: images.Plane, given: argparse.Namespace) -> detection.Field:
         local=given.rms == "local",
         gain=given.gain or _from_header(measured, "GAIN"),
         saturation=given.saturation if given.saturation is not None else _from_header(measured, "SATURATE"),
-        workers=given.workers,
+        workers=1 if beside or len(given.images) > 1 else given.workers,
     )
     return detection.Field(plane, settings, **others)
 
 
 def _task(path: str, given: argparse.Namespace) -> Task:
-    planes = (
-        images.all_opened(path, given.plane) if given.hdu == "all" else [images.opened(path, given.hdu, given.plane)]
-    )
+    every = given.hdu == "all"
+    planes = images.all_opened(path, given.plane) if every else [images.opened(path, given.hdu, given.plane)]
     return Task(path, given.output or _default_output(path), [_field(plane, given) for plane in planes])
 
 
@@ -230,6 +237,10 @@ def _check_names(given: argparse.Namespace, tasks: List[Task]) -> None:
             raise Mistake(f"{output} can't be written")
     for task in tasks:
         tables.format_of(task.output)
+    if given.crop:
+        (xmin, xmax, ymin, ymax), (height, width) = given.crop, tasks[0].fields[0].shape
+        if xmax < 1 or ymax < 1 or xmin > width or ymin > height:
+            raise Mistake(f"--crop: it has no pixel of the image of {width} x {height}")
 
 
 def _check(given: argparse.Namespace) -> None:
@@ -242,6 +253,8 @@ def _check(given: argparse.Namespace) -> None:
         raise Mistake("--plot is for one HDU; name it with --hdu")
     if given.plot and pathlib.Path(given.plot).suffix.lower() != ".png":
         raise Mistake(f"{given.plot}: a picture's name ends in .png")
+    if given.crop and not given.plot:
+        raise Mistake("--crop wants a --plot")
     if given.weight_type and not given.weight:
         raise Mistake("--weight-type wants a --weight")
     if given.weight and given.rms == "local":
@@ -336,7 +349,7 @@ def _done(task: Task, given: argparse.Namespace, tiles, progress) -> str:
         if given.plot:
             from . import pictures
 
-            pictures.draw(task.fields[0].image(slice(None)), maps[0], table, given.plot)
+            pictures.draw(task.fields[0].image(slice(None)), maps[0], table, given.plot, crop=given.crop)
         if given.regions:
             tables.regions(table, given.regions)
         tables.write(table, task.output)
@@ -395,6 +408,7 @@ def told(name: str, work: Callable, words: Optional[List[str]]) -> int:
 def main(words: Optional[List[str]] = None) -> int:
     """The command `maxcat`."""
     warnings.simplefilter("ignore", AstropyWarning)
+    warnings.simplefilter("ignore", RuntimeWarning)
     warnings.showwarning = lambda message, *rest, **more: print(
         f"maxcat: {' '.join(str(message).split())}", file=sys.stderr
     )

@@ -21,18 +21,17 @@ All other values lie from -2^36 to 2^36. For an image of floating-point numbers 
 
 `catalogue` and `segments` are those of the command `maxdetect detect --threshold 2 --contrast 300`.
 """
+import math
 import operator
 import os
 import pathlib
 import shutil
 import subprocess
 import tempfile
-import warnings
 
 import numpy
 from astropy.io import fits
 from astropy.table import Table
-from astropy.utils.exceptions import AstropyWarning
 
 from .errors import Mistake
 
@@ -315,13 +314,28 @@ def read(file):
 
 def _answer(output, reading=read):
     """What the program wrote just now, read so."""
-    with output, warnings.catch_warnings():
-        # astropy warns of a file that is cut short, and reads on.
-        warnings.simplefilter("error", AstropyWarning)
+    with output:
         try:
+            _check_whole(output)
             return reading(output)
-        except (AstropyWarning, OSError, KeyError, ValueError, TypeError, IndexError):
+        except (OSError, KeyError, ValueError, TypeError, IndexError):
             raise Refusal(None, None, "truncated", "what maxdetect wrote is cut short") from None
+
+
+def _check_whole(file):
+    """Raises ValueError where a file ends within an HDU. astropy would warn and read on, and threads can't catch
+    warnings.
+    """
+    size = os.fstat(file.fileno()).st_size
+    place = 0
+    while place < size:
+        header = fits.Header.fromfile(file)
+        sides = [header[f"NAXIS{axis}"] for axis in range(1, header["NAXIS"] + 1)]
+        place = file.tell() - (-(abs(header["BITPIX"]) // 8 * math.prod(sides) if sides else 0) // 2880) * 2880
+        file.seek(place)
+    if place != size or not size:
+        raise ValueError("the file ends within an HDU")
+    file.seek(0)
 
 
 def _read_plane(file):

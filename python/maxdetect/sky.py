@@ -120,7 +120,7 @@ def _first_row(band: numpy.ndarray, mesh: int, rng: numpy.random.Generator) -> T
     quant = quantum(sample)
     if quant:
         sample = sample + ((rng.random(sample.shape) - 0.5) * quant).astype(sample.dtype)
-    sample = numpy.sort(sample, axis=1)
+    sample = numpy.sort(numpy.where(numpy.isfinite(sample), sample, sample.dtype.type(numpy.nan)), axis=1)
     count = numpy.isfinite(sample).sum(axis=1)
 
     def part(of):

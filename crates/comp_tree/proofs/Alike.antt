@@ -1,22 +1,20 @@
--- Two planes with the same pixels of at least one level: at this level and above their components are the same.
-use Rattle.std.proofs.Common.{◌≡◌, ℕ, ◌<◌, Bool, true, length, sym, ◌∙◌, ap, subst, inl}
+-- Two planes with the same pixels of at least one level: each such pixel is paired with itself, so at this level and above their
+-- components are the same.
+use Rattle.std.proofs.Common.{◌≡◌, ℕ, ◌<◌, Bool, true, length, refl, sym, ◌∙◌, ap, subst, arith}
 use Rattle.std.specs.Prelude.{IsTrue, ℤ, int_le, Option, pos, unwrap_or, filter}
 use Rattle.std.specs.List.{range_with_len}
 use Rattle.comp_tree.specs.declared.shape.Connect.{Connect}
-use Rattle.comp_tree.specs.Raster.{Raster, pixels, value_at, at_least, is_defined, level, is_at_least}
+use Rattle.comp_tree.specs.Raster.{Raster, pixels, value_at, at_least, level, is_at_least}
 use Rattle.comp_tree.specs.Grid.{are_neighbours, IsAdjacency}
-use Rattle.comp_tree.specs.Joined.{Joined}
-use Rattle.comp_tree.specs.Components.{IsReached, reaches, representative, nodes, node_of, is_in_node}
+use Rattle.comp_tree.specs.Components.{reaches, nodes, node_of, is_in_node}
 use Rattle.comp_tree.specs.Laws.{top_of}
 use Rattle.comp_tree.specs.Nesting.{pixels_of}
-use Rattle.comp_tree.proofs.Levels.{int_le_refl}
 use Rattle.comp_tree.proofs.SameBools.{same_bool}
 use Rattle.comp_tree.proofs.Adjacent.{adjacent_ends, adjacent_from}
-use Rattle.comp_tree.proofs.Joining.{joined_wider, joined_within, joined_pair}
-use Rattle.comp_tree.proofs.Reaching.{defined_from_at_least, reaches-is_IsReached}
-use Rattle.comp_tree.proofs.Ordering.{ordered-same_place}
-use Rattle.comp_tree.proofs.Components.{top-representative}
-use Rattle.comp_tree.proofs.Nodes.{IsPlace, IsRepresentative, at_least-lower, is_representative-parts, level_from_at_least, node_of-is, nodes-ordered, reaches_end, representative-is, representative-unique}
+use Rattle.comp_tree.proofs.Reaching.{defined_from_at_least}
+use Rattle.comp_tree.proofs.Nodes.{at_least-lower, level_from_at_least, reaches_end, reaches_start}
+use Rattle.comp_tree.proofs.Along.{turned, HasPartnerBeside, ArePairedAbove, IsReachedThere, AreCounterparts, along_reached, along_counterpart}
+use Rattle.comp_tree.proofs.Along.{counterparts_in_node}
 
 -- what two such planes share
 pub record AlikeAbove (r s : Raster) (h : ℤ) : Type 0 where
@@ -25,14 +23,21 @@ pub record AlikeAbove (r s : Raster) (h : ℤ) : Type 0 where
   pub one : (p : ℕ) → IsTrue (is_at_least r h p) → value_at r.values p ≡ value_at s.values p
   pub other : (p : ℕ) → IsTrue (is_at_least s h p) → value_at r.values p ≡ value_at s.values p
 
+-- a pixel of at least h with itself
+abbrev pub InPlace : Raster → ℤ → ℕ → ℕ → Type 0
+InPlace r h p q = (p ≡ q) × IsTrue (is_at_least r h p)
+
 -- ---- threshold sets
 
+-- this holds both ways
 pub above_sym : (r s : Raster) (h : ℤ) → AlikeAbove r s h → AlikeAbove s r h
 above_sym r s h a = record { width = sym a.width; size = sym a.size; one = λ p k. sym (a.other p k); other = λ p k. sym (a.one p k) }
 
-pub above_high : (r s : Raster) (h k : ℤ) (p : ℕ) → AlikeAbove r s h → int_le h k ≡ true → IsTrue (is_at_least r k p) → IsTrue (is_at_least s k p)
-above_high r s h k p a l m = subst (λ (v : Option ℤ). at_least k v ≡ true) (a.one p (at_least-lower r h k p l m)) m
+-- what has at least h in one plane has it in the other
+above_high : (r s : Raster) (h : ℤ) (p : ℕ) → AlikeAbove r s h → IsTrue (is_at_least r h p) → IsTrue (is_at_least s h p)
+above_high r s h p a k = subst (λ (v : Option ℤ). at_least h v ≡ true) (a.one p k) k
 
+-- a pixel of at least h has one level
 pub above_level : (r s : Raster) (h : ℤ) (p : ℕ) → AlikeAbove r s h → IsTrue (is_at_least r h p) → level r p ≡ level s p
 unfolding level
 above_level r s h p a k = ap (λ (v : Option ℤ). unwrap_or v (pos 0)) (a.one p k)
@@ -41,56 +46,53 @@ above_level r s h p a k = ap (λ (v : Option ℤ). unwrap_or v (pos 0)) (a.one p
 pub reached_high : (r : Raster) (connect : Connect) (h k : ℤ) (p q : ℕ) → int_le h k ≡ true → IsTrue (reaches r connect k p q) → IsTrue (is_at_least r h q)
 reached_high r connect h k p q l m = at_least-lower r h k q l (reaches_end r connect k p q m)
 
--- ---- reach
+-- both planes have the same number of pixels
+pub above_pixels : (r s : Raster) (h : ℤ) → AlikeAbove r s h → pixels r ≡ pixels s
+unfolding pixels
+above_pixels r s h a = ap (range_with_len 0) a.size
 
-pub above_reached : (r s : Raster) (connect : Connect) (h k : ℤ) (p q : ℕ) → AlikeAbove r s h → int_le h k ≡ true → IsTrue (reaches r connect k p q) → IsTrue (reaches s connect k p q)
-above_reached r s connect h k p q a l m = (reaches-is_IsReached s connect k p q).1 (joined_within pair inside)
+-- ---- the pairs
+
+-- adjacent pixels of at least h are adjacent in the other plane
+step_above : (r s : Raster) (connect : Connect) (h : ℤ) (p x : ℕ) → AlikeAbove r s h → IsTrue (is_at_least r h p) → IsTrue (is_at_least r h x)
+    → IsAdjacency r.values r.shape.width connect p x → IsAdjacency s.values s.shape.width connect p x
+step_above r s connect h p x a k l e = adjacent_from s.values s.shape.width connect p x
+    (defined_from_at_least s h p (above_high r s h p a k)) (defined_from_at_least s h x (above_high r s h x a l))
+    (subst (λ (w : ℕ). IsTrue (are_neighbours connect w p x)) a.width (adjacent_ends r.values r.shape.width connect p x e).2)
+
+-- the pixels of at least h are paired in place
+pub in_place_above : (r s : Raster) (connect : Connect) (h : ℤ) → AlikeAbove r s h → ArePairedAbove r s connect h (InPlace r h)
+in_place_above r s connect h a = record {
+  high = λ p q c. c.1;
+  same = λ p q c. subst (λ (x : ℕ). value_at r.values p ≡ value_at s.values x) c.0 (a.one p c.1);
+  order = λ p q x b c d. let u : p ≡ q = c.0 in let v : x ≡ b = d.0 in (λ l. omega (arith, u, v, l), λ l. omega (arith, u, v, l));
+  there = there;
+  back = back;
+}
   where
-    path : IsReached r connect k p q
-    path = (reaches-is_IsReached r connect k p q).0 m
+    there : (p q x : ℕ) → InPlace r h p q → IsAdjacency r.values r.shape.width connect p x → IsTrue (is_at_least r h x)
+        → HasPartnerBeside s connect (InPlace r h) x q
+    there p q x c e k =
+        let g : IsAdjacency s.values s.shape.width connect p x = step_above r s connect h p x a c.1 k e in
+        record { it = x; adjacent = subst (λ (y : ℕ). IsAdjacency s.values s.shape.width connect y x) c.0 g; pair = (refl, k) }
 
-    inside : Joined (λ x. IsTrue (is_at_least s k x)) (IsAdjacency r.values r.shape.width connect) p q
-    inside = joined_wider (λ x i. above_high r s h k x a l i) path
-
-    pair : (x y : ℕ) → IsTrue (is_at_least s k x) → IsTrue (is_at_least s k y) → IsAdjacency r.values r.shape.width connect x y
-        → Joined (λ x. IsTrue (is_at_least s k x)) (IsAdjacency s.values s.shape.width connect) x y
-    pair x y hx hy e = joined_pair x y hx hy (inl (adjacent_from s.values s.shape.width connect x y (defined_from_at_least s k x hx) (defined_from_at_least s k y hy)
-        (subst (λ (w : ℕ). IsTrue (are_neighbours connect w x y)) a.width (adjacent_ends r.values r.shape.width connect x y e).2)))
-
-pub above_reaches : (r s : Raster) (connect : Connect) (h k : ℤ) (p q : ℕ) → AlikeAbove r s h → int_le h k ≡ true → reaches r connect k p q ≡ reaches s connect k p q
-above_reaches r s connect h k p q a l =
-    same_bool (reaches r connect k p q) (reaches s connect k p q) (above_reached r s connect h k p q a l) (above_reached s r connect h k p q (above_sym r s h a) l)
-
--- ---- representatives
-
-pub above_representative : (r s : Raster) (connect : Connect) (h : ℤ) (p : ℕ) → AlikeAbove r s h → IsTrue (is_at_least r h p) → representative r connect p ≡ representative s connect p
-above_representative r s connect h p a k =
-    representative-unique s connect p (representative r connect p) (representative s connect p) there
-    (representative-is s connect p (defined_from_at_least s h p (above_high r s h h p a (int_le_refl h) k)))
-  where
-    low : int_le h (level r p) ≡ true
-    low = level_from_at_least r h p k
-
-    same : level r p ≡ level s p
-    same = above_level r s h p a k
-
-    low_there : int_le h (level s p) ≡ true
-    low_there = subst (λ (z : ℤ). int_le h z ≡ true) same low
-
-    at_p : IsRepresentative r connect p (representative r connect p)
-    at_p = representative-is r connect p (defined_from_at_least r h p k)
-
-    back : (t : ℕ) → IsTrue (reaches s connect (level s p) p t) → IsTrue (reaches r connect (level r p) p t)
-    back t m = subst (λ (z : ℤ). IsTrue (reaches r connect z p t)) (sym same) (above_reached s r connect h (level s p) p t (above_sym r s h a) low_there m)
-
-    there : IsRepresentative s connect p (representative r connect p)
-    there = record {
-      reached = subst (λ (z : ℤ). IsTrue (reaches s connect z p (representative r connect p))) same
-          (above_reached r s connect h (level r p) p (representative r connect p) a low at_p.reached);
-      same_level = sym (above_level r s h (representative r connect p) a (reached_high r connect h (level r p) p (representative r connect p) low at_p.reached))
-          ∙ at_p.same_level ∙ same;
-      least = λ t m e. at_p.least t (back t m) (above_level r s h t a (reached_high r connect h (level r p) p t low (back t m)) ∙ e ∙ sym same);
+    back : (p q b : ℕ) → InPlace r h p q → IsAdjacency s.values s.shape.width connect q b → IsTrue (is_at_least s h b)
+        → HasPartnerBeside r connect (turned (InPlace r h)) b p
+    back p q b c e k = record {
+      it = b;
+      adjacent = step_above s r connect h p b (above_sym r s h a) (above_high r s h p a c.1) k
+          (subst (λ (y : ℕ). IsAdjacency s.values s.shape.width connect y b) (sym c.0) e);
+      pair = (refl, above_high s r h b (above_sym r s h a) k);
     }
+
+-- what is reached at a level of at least h is reached in the other plane
+pub above_reached : (r s : Raster) (connect : Connect) (h k : ℤ) (p q : ℕ) → AlikeAbove r s h → int_le h k ≡ true → IsTrue (reaches r connect k p q)
+    → IsTrue (reaches s connect k p q)
+above_reached r s connect h k p q a l m = subst (λ (x : ℕ). IsTrue (reaches s connect k p x)) (sym g.pair.0) g.reached
+  where
+    g : IsReachedThere s connect k (InPlace r h) p q
+    g = along_reached r s connect h (InPlace r h) (in_place_above r s connect h a) k p p q l
+        (refl, at_least-lower r h k p l (reaches_start r connect k p q m)) m
 
 -- ---- nodes
 
@@ -101,57 +103,59 @@ pub record IsCounterpart (r s : Raster) (connect : Connect) (h : ℤ) (n m : ℕ
   pub top : top_of r connect n ≡ top_of s connect m
   pub high : IsTrue (is_at_least r h (top_of r connect n))
 
--- each node of at least h has one
-pub counterpart : (r s : Raster) (connect : Connect) (h : ℤ) (n : ℕ) → AlikeAbove r s h → n < length (nodes r connect) → IsTrue (is_at_least r h (top_of r connect n))
+-- so the two are counterparts along the pairs
+pub pair_in_place : (r s : Raster) (connect : Connect) (h : ℤ) (n m : ℕ) → IsCounterpart r s connect h n m → AreCounterparts r s connect (InPlace r h) n m
+pair_in_place r s connect h n m c = record { one = c.one; other = c.other; top = (c.top, c.high) }
+
+-- and the other way round
+pub counterpart_in_place : (r s : Raster) (connect : Connect) (h : ℤ) (n m : ℕ) → AreCounterparts r s connect (InPlace r h) n m
+    → IsCounterpart r s connect h n m
+counterpart_in_place r s connect h n m c = record { one = c.one; other = c.other; top = c.top.0; high = c.top.1 }
+
+-- each node of at least h has a counterpart
+pub counterpart : (r s : Raster) (connect : Connect) (h : ℤ) (n : ℕ) → AlikeAbove r s h → n < length (nodes r connect)
+    → IsTrue (is_at_least r h (top_of r connect n))
     → IsCounterpart r s connect h n (node_of s connect (top_of r connect n))
-counterpart r s connect h n a hn k = record {
-  one = hn;
-  other = place.below;
-  top = sym (place.it_is ∙ sym (above_representative r s connect h (top_of r connect n) a k) ∙ own.1);
-  high = k;
-}
-  where
-    own : IsTrue (is_defined r (top_of r connect n)) × (representative r connect (top_of r connect n) ≡ top_of r connect n)
-    own = is_representative-parts r connect (top_of r connect n) (top-representative r connect n hn)
+counterpart r s connect h n a hn k =
+    counterpart_in_place r s connect h n (node_of s connect (top_of r connect n))
+    (along_counterpart r s connect h (InPlace r h) (in_place_above r s connect h a) n (top_of r connect n) hn (refl, k))
 
-    place : IsPlace (nodes s connect) (representative s connect (top_of r connect n)) (node_of s connect (top_of r connect n))
-    place = node_of-is s connect (top_of r connect n) (defined_from_at_least s h (top_of r connect n) (above_high r s h h (top_of r connect n) a (int_le_refl h) k))
-
-pub counterpart_sym : (r s : Raster) (connect : Connect) (h : ℤ) (n m : ℕ) → AlikeAbove r s h → IsCounterpart r s connect h n m → IsCounterpart s r connect h m n
+-- the other way round too
+pub counterpart_sym : (r s : Raster) (connect : Connect) (h : ℤ) (n m : ℕ) → AlikeAbove r s h → IsCounterpart r s connect h n m
+    → IsCounterpart s r connect h m n
 counterpart_sym r s connect h n m a c = record {
   one = c.other;
   other = c.one;
   top = sym c.top;
-  high = subst (λ (p : ℕ). IsTrue (is_at_least s h p)) c.top (above_high r s h h (top_of r connect n) a (int_le_refl h) c.high);
+  high = subst (λ (p : ℕ). IsTrue (is_at_least s h p)) c.top (above_high r s h (top_of r connect n) a c.high);
 }
 
--- and only one
-pub counterpart_unique : (r s : Raster) (connect : Connect) (h : ℤ) (n m k : ℕ) → IsCounterpart r s connect h n m → IsCounterpart r s connect h n k → m ≡ k
-counterpart_unique r s connect h n m k c d = ordered-same_place s (nodes s connect) m k (nodes-ordered s connect) c.other d.other (sym c.top ∙ d.top)
-
--- both have one level, of at least h
-pub counterpart_low : (r s : Raster) (connect : Connect) (h : ℤ) (n m : ℕ) → IsCounterpart r s connect h n m → int_le h (level r (top_of r connect n)) ≡ true
-counterpart_low r s connect h n m c = level_from_at_least r h (top_of r connect n) c.high
-
-pub counterpart_level : (r s : Raster) (connect : Connect) (h : ℤ) (n m : ℕ) → AlikeAbove r s h → IsCounterpart r s connect h n m → level r (top_of r connect n) ≡ level s (top_of s connect m)
-counterpart_level r s connect h n m a c = above_level r s h (top_of r connect n) a c.high ∙ ap (level s) c.top
-
--- their components are the same
-pub counterpart_in_node : (r s : Raster) (connect : Connect) (h : ℤ) (n m q : ℕ) → AlikeAbove r s h → IsCounterpart r s connect h n m → is_in_node r connect n q ≡ is_in_node s connect m q
+-- each pixel of a node whose representative has at least h has at least h
+inside_high : (r : Raster) (connect : Connect) (h : ℤ) (n q : ℕ) → IsTrue (is_at_least r h (top_of r connect n)) → is_in_node r connect n q ≡ true
+    → IsTrue (is_at_least r h q)
 unfolding is_in_node
-counterpart_in_node r s connect h n m q a c =
-    above_reaches r s connect h (level r (top_of r connect n)) (top_of r connect n) q a (level_from_at_least r h (top_of r connect n) c.high)
-    ∙ ap (λ (z : ℤ). reaches s connect z (top_of r connect n) q) (above_level r s h (top_of r connect n) a c.high)
-    ∙ ap (λ (p : ℕ). reaches s connect (level s p) p q) c.top
+inside_high r connect h n q k m =
+    reached_high r connect h (level r (top_of r connect n)) (top_of r connect n) q (level_from_at_least r h (top_of r connect n) k) m
 
-pub counterpart_test : (r s : Raster) (connect : Connect) (h : ℤ) (n m : ℕ) → AlikeAbove r s h → IsCounterpart r s connect h n m → is_in_node r connect n ≡ is_in_node s connect m
-counterpart_test r s connect h n m a c = λ i q. counterpart_in_node r s connect h n m q a c i
+-- the components of counterparts are the same
+pub counterpart_test : (r s : Raster) (connect : Connect) (h : ℤ) (n m : ℕ) → AlikeAbove r s h → IsCounterpart r s connect h n m
+    → is_in_node r connect n ≡ is_in_node s connect m
+counterpart_test r s connect h n m a c = λ i q. at q i
+  where
+    same : (q : ℕ) → IsTrue (is_at_least r h q) → is_in_node r connect n q ≡ is_in_node s connect m q
+    same q k = counterparts_in_node r s connect h (InPlace r h) (in_place_above r s connect h a) n m q q (pair_in_place r s connect h n m c) (refl, k)
 
-pub above_pixels : (r s : Raster) (h : ℤ) → AlikeAbove r s h → pixels r ≡ pixels s
-unfolding pixels
-above_pixels r s h a = ap (range_with_len 0) a.size
+    back : IsCounterpart s r connect h m n
+    back = counterpart_sym r s connect h n m a c
 
-pub counterpart_pixels : (r s : Raster) (connect : Connect) (h : ℤ) (n m : ℕ) → AlikeAbove r s h → IsCounterpart r s connect h n m → pixels_of r connect n ≡ pixels_of s connect m
+    at : (q : ℕ) → is_in_node r connect n q ≡ is_in_node s connect m q
+    at q =
+        same_bool (is_in_node r connect n q) (is_in_node s connect m q) (λ k. sym (same q (inside_high r connect h n q c.high k)) ∙ k)
+        (λ k. same q (above_high s r h q (above_sym r s h a) (inside_high s connect h m q back.high k)) ∙ k)
+
+-- and so are the lists of their pixels
+pub counterpart_pixels : (r s : Raster) (connect : Connect) (h : ℤ) (n m : ℕ) → AlikeAbove r s h → IsCounterpart r s connect h n m
+    → pixels_of r connect n ≡ pixels_of s connect m
 unfolding pixels_of
 counterpart_pixels r s connect h n m a c =
     ap (λ (f : ℕ → Bool). filter f (pixels r)) (counterpart_test r s connect h n m a c) ∙ ap (filter (is_in_node s connect m)) (above_pixels r s h a)

@@ -26,8 +26,8 @@ mod Canonical
 mod Shapes
 mod Writing
 mod SameBools
-mod Alike
 mod Paired
 mod Along
+mod Alike
 mod Windows
 pub mod Exported

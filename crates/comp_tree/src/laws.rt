@@ -81,8 +81,9 @@ pub fn last_is_representative()
     ensures { LastAtOwnLevelIsRepresentative }
 {}
 
-/// A component that lies with its neighbours among pixels that a window shows is the same in the whole plane and in the window, and whether
-/// one lies so is told from the window as well as from the whole.
+/// A component that lies with its neighbours among the pixels that a window shows is the same in the window and in the whole
+/// plane, and whether one lies so can be told from either. The plane that is seen through a window shows all its pixels, and
+/// a component deep in a box of such pixels lies so.
 pub fn sure_components_are_the_same()
     ensures window { WindowShowsItsPixels }
     ensures seen { SureComponentsAreSeen }

@@ -1,3 +1,6 @@
+ghost use Rattle.std.specs.Prelude.{◌≡◌, ◌<◌};
+ghost use Rattle.comp_tree.specs.Windows.{Window, in_whole};
+
 use super::*;
 use dev_io::OutOfMemory;
 use std::alloc::Global;
@@ -161,4 +164,33 @@ fn links_of_a_forest(rt: HostRuntime) {
     assert!(rt; is_forest(&plane, 0, forest.parents()));
     // pixel 1 is later than pixel 2
     assert!(rt; !is_forest(&plane, 0, &[NONE, NONE, 1]));
+}
+
+// The pixel of a plane of four columns that stands at pixel q of its window of this shape, from column 1 of row 0 on.
+#[tactic(auto, unfolding(crate::specs::Windows::in_whole))]
+fn place_in_whole(shape: Shape, q: u32) -> u32
+    requires { q < 9 }
+    ensures { let w : Window = record { left = 1; top = 0; shape = shape } in result ≡ in_whole 4 w q }
+{
+    q / shape.width * 4 + (q % shape.width + 1)
+}
+
+// The last three columns of a plane: the component of 6, 7 and 9 lies in them with its neighbours, so its nodes are the same, each at its place.
+#[test]
+fn nodes_of_a_window(rt: HostRuntime) {
+    let shape = Shape::of(4, 3).expect(&rt, "a shape");
+    let values = [1, 1, 1, 1, 1, 1, 7, 9, 1, 1, 6, 1];
+    let plane = plane_of(rt.alloc(), shape, &values).expect(&rt, "memory");
+    let part = Shape::of(3, 3).expect(&rt, "a shape");
+    let seen = plane_of(rt.alloc(), part, &[1, 1, 1, 1, 7, 9, 1, 6, 1]).expect(&rt, "memory");
+    let tree = plain_tree(rt.alloc(), &plane, Connect::Eight).expect(&rt, "memory");
+    let window = plain_tree(rt.alloc(), &seen, Connect::Eight).expect(&rt, "memory");
+    assert_eq!(rt; tree.rows().len(), 4);
+    assert_eq!(rt; window.rows().len(), 4);
+    for (row, there) in tree.rows().iter().zip(window.rows().iter()).skip(1) {
+        assert!(rt; there.rep < 9);
+        assert_eq!(rt; row.level, there.level);
+        assert_eq!(rt; row.rep, place_in_whole(part, there.rep));
+        assert_eq!(rt; row.parent, there.parent);
+    }
 }

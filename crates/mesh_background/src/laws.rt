@@ -40,8 +40,9 @@ pub fn residual_is_a_plane()
     ensures in_range { ResidualIsInRange }
 {}
 
-/// Where a window's corner stands on the mesh, and the cells on which a pixel's background depends lie whole in the window and have defined
-/// pixels, the background and the residual are the same in the window. So its residual shows that of the whole there.
+/// Where a window's corner stands on the mesh, and the cells on which a pixel's background depends lie whole in the window and
+/// have defined pixels, the background and the residual are the same in the window. So its residual shows that of the whole
+/// there, and which pixels these are can be told from the window.
 pub fn residual_is_seen()
     ensures background { BackgroundIsSeen }
     ensures residual { ResidualIsSeen }

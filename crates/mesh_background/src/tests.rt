@@ -112,6 +112,19 @@ fn the_filter_looks_at_the_rows_above_and_below(rt: HostRuntime) -> Result<(), F
     Ok(())
 }
 
+// The cells of the first plane have the numbers 1, 9, 5, 9, 3 and 3; the second plane is its window from the third cell on. From
+// pixel 7 on the background depends on cells of the window alone, and the residual is the same. Pixel 6 has one cell of margin,
+// which isn't enough.
+#[test]
+fn residual_of_a_window(rt: HostRuntime) -> Result<(), Fail> {
+    let plane = plane_of(rt.alloc(), 12, 1, &[1, 1, 9, 9, 5, 5, 9, 9, 3, 3, 3, 3])?;
+    let left = [0, -1, 5, 3, -3, -3, 3, 5, 0, 0, 0, 0];
+    try_residual(&rt, rt.alloc(), &plane, 2, false, &left)?;
+    let window = plane_of(rt.alloc(), 8, 1, &[5, 5, 9, 9, 3, 3, 3, 3])?;
+    let there = [0, 0, 4, 5, 0, 0, 0, 0];
+    try_residual(&rt, rt.alloc(), &window, 2, false, &there)
+}
+
 // The background is 2 2 2 3 3 in both rows.
 #[test]
 fn smooth_residual(rt: HostRuntime) -> Result<(), Fail> {

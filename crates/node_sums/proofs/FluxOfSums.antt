@@ -37,17 +37,17 @@ entry_is r connect sums n entry e g =
     sym (get_or_from_slice_get sums n entry entry g) ∙ ap (λ (xs : List Sums). get_or xs n entry) e
     ∙ get_or-map-range_with_len (sums_of r connect) 0 (length (nodes r connect)) n n entry inside (omega arith)
 
--- the flux by the definition is that by the sums
-pub of_node : (r : Raster) (connect : Connect) (n : ℕ) → (sums_of r connect n).r -ℤ base_of (tree_of r connect) n *ℤ pos (sums_of r connect n).area ≡ flux_of r connect n
+-- the flux by the sums of a node is the flux by the definition
+pub sums-flux : (r : Raster) (connect : Connect) (n : ℕ) → (sums_of r connect n).r -ℤ base_of (tree_of r connect) n *ℤ pos (sums_of r connect n).area ≡ flux_of r connect n
 unfolding sums_of sums_over flux_of
-of_node r connect n = sym (total-less (level r) (base_of (tree_of r connect) n) (pixels_of r connect n))
+sums-flux r connect n = sym (total-less (level r) (base_of (tree_of r connect) n) (pixels_of r connect n))
 
 pub flux-is : (r : Raster) (connect : Connect) (tree : ComponentTree) (sums : List Sums) (n : ℕ) (entry : Sums) → tree ≡ tree_of r connect → sums ≡ sums_in r connect
     → slice_get sums n ≡ Some entry → entry.r -ℤ base_of tree n *ℤ pos entry.area ≡ flux_of r connect n
 flux-is r connect tree sums n entry e f g =
     ap (λ (s : Sums). s.r -ℤ base_of tree n *ℤ pos s.area) (entry_is r connect sums n entry f g)
     ∙ ap (λ (t : ComponentTree). (sums_of r connect n).r -ℤ base_of t n *ℤ pos (sums_of r connect n).area) e
-    ∙ of_node r connect n
+    ∙ sums-flux r connect n
 
 -- ---- the sums of some plane's tree
 

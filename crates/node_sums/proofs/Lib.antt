@@ -7,4 +7,5 @@ mod AreaSteps
 mod Totals
 mod Fluxes
 mod FluxOfSums
+mod Floors
 pub mod Exported

@@ -1,155 +1,188 @@
 -- The law of locality: planes that agree near the pixels of at least the threshold have the same sources.
-use Rattle.std.proofs.Common.{◌≡◌, ℕ, ◌+◌, Bool, cond, List, [], ◌∷◌, ◌++◌, map, refl, sym, ◌∙◌, ap, subst, subst₂, inl}
-use Rattle.std.specs.Prelude.{Option, Some, unwrap_or}
-use Rattle.std.specs.List.{flat_map, position_from, enumerate_from}
+use Rattle.std.proofs.Common.{◌≡◌, ℕ, ◌<◌, true, map, refl, sym, ◌∙◌, ap, subst, arith}
+use Rattle.std.specs.Prelude.{IsTrue, ℤ, pos, ◌+ℤ◌, Option, unwrap_or, ◌↔◌}
+use Rattle.std.specs.List.{enumerate_from, position_from}
+use Rattle.std.proofs.lemmas.Int.{ints}
 use Rattle.comp_tree.specs.declared.shape.Connect.{Connect}
-use Rattle.comp_tree.specs.Raster.{Raster, IsPlane, pixels}
-use Rattle.comp_tree.specs.Components.{is_in_node}
-use Rattle.comp_tree.specs.Laws.{top_of}
-use Rattle.comp_tree.proofs.Exported.{IsAmong, IsCounterpart, counterpart_in_node, above_pixels}
-use Rattle.node_sums.specs.declared.entry.Sums.{Sums}
+use Rattle.comp_tree.specs.Raster.{Raster, IsPlane, at_least, pixels, is_at_least}
+use Rattle.comp_tree.specs.Components.{node_of, is_in_node}
+use Rattle.comp_tree.specs.Laws.{IsNode, top_of}
+use Rattle.comp_tree.specs.Windows.{Window}
+use Rattle.comp_tree.proofs.Exported.{AlikeAbove, AlikeAlong, AreCounterparts, ArePaired, HasPartnerIn, InPlace, IsAmong, IsAt, turned, above_pixels}
+use Rattle.comp_tree.proofs.Exported.{along_counterpart}
+use Rattle.comp_tree.proofs.Exported.{along_sym, counterpart_in_place, counterpart_test, paired_enumerated, paired_from_rising, paired_map, paired_position}
+use Rattle.comp_tree.proofs.Exported.{below_from_defined, defined_from_at_least}
 use Rattle.node_sums.specs.Sums.{sums_of}
+use Rattle.node_sums.proofs.Exported.{y_small}
 use Rattle.source_pick.specs.declared.choice.Choice.{Choice}
 use Rattle.source_pick.specs.declared.catalogue.CatRow.{CatRow}
-use Rattle.source_pick.specs.Sources.{sources_at, sources}
+use Rattle.source_pick.specs.Sources.{is_source, sources}
 use Rattle.source_pick.specs.Segmentation.{source_number_at, segmentation_of, segmentation}
 use Rattle.source_pick.specs.Catalogue.{catalogue_row, catalogue_of, catalogue}
-use Rattle.source_pick.specs.Locality.{SourcesAreLocal}
-use Rattle.source_pick.proofs.Listing.{IsSourceAt, sources_at-one, sources_at-none, among_sources_at}
-use Rattle.source_pick.proofs.Alike.{Alike, alike_from, alike_sym, HasCounterpart}
-use Rattle.source_pick.proofs.AlikeSums.{sums_same, row_same}
-use Rattle.source_pick.proofs.AlikeSources.{find_counterpart, source_up, source_there}
+use Rattle.source_pick.specs.Locality.{AgreeNearHigh, SourcesAreLocal}
+use Rattle.source_pick.specs.Windows.{moved_row}
+use Rattle.source_pick.proofs.HighNodes.{top_high}
+use Rattle.source_pick.proofs.Rows.{same_row}
+use Rattle.source_pick.proofs.AlongSums.{along_first}
+use Rattle.source_pick.proofs.AlongSources.{along_source_there}
+use Rattle.source_pick.proofs.MovedRows.{StandApart, along_row}
+use Rattle.source_pick.proofs.Pairing.{source_from_among, among_sources, sources_rise}
+use Rattle.source_pick.proofs.AlongInPlace.{in_place_alike, in_place_along}
 
--- lists of nodes, each the counterpart of the other's at its place
-pub data AreCounterparts (r s : Raster) (connect : Connect) (choice : Choice) : List ℕ → List ℕ → Type 0 where
-  at_end : AreCounterparts r s connect choice [] []
-  at_more : {n m : ℕ} {xs ys : List ℕ} → IsCounterpart r s connect choice.threshold n m → AreCounterparts r s connect choice xs ys → AreCounterparts r s connect choice (n ∷ xs) (m ∷ ys)
+-- ---- rows that stay where they are
 
-append_counterparts : (r s : Raster) (connect : Connect) (choice : Choice) (xs ys us vs : List ℕ) → AreCounterparts r s connect choice xs ys → AreCounterparts r s connect choice us vs
-    → AreCounterparts r s connect choice (xs ++ us) (ys ++ vs)
-append_counterparts r s connect choice _ _ us vs at_end k = k
-append_counterparts r s connect choice _ _ us vs (at_more {n} {m} {xs} {ys} c rest) k = at_more c (append_counterparts r s connect choice xs ys us vs rest k)
+-- the window that is the whole plane
+abbrev all_of : Raster → Window
+all_of s = record { left = 0; top = 0; shape = s.shape }
 
--- ---- the lists of the sources
+stays : (z : ℤ) → z +ℤ pos 0 ≡ z
+stays z = omega (arith, ints)
 
-record SourceThere (r s : Raster) (connect : Connect) (choice : Choice) (p n : ℕ) : Type 0 where
-  pub it : ℕ
-  pub counterpart : IsCounterpart r s connect choice.threshold n it
-  pub is : IsSourceAt s connect choice p it
+-- moves no row
+unmoved : (s : Raster) (row : CatRow) → moved_row (all_of s) row ≡ row
+unfolding moved_row
+unmoved s row = same_row (moved_row (all_of s) row) row refl refl refl refl refl refl (stays row.xmin) (stays row.xmax) (stays row.ymin) (stays row.ymax)
+    (stays row.xfirst)
+    (stays row.yfirst) (stays row.xcen) (stays row.ycen) refl refl refl
 
-source_at_there : (r s : Raster) (connect : Connect) (choice : Choice) (p n : ℕ) → IsPlane r → IsPlane s → Alike r s connect choice.threshold → IsSourceAt r connect choice p n
-    → SourceThere r s connect choice p n
-source_at_there r s connect choice p n plane_r plane_s a k = record {
-  it = c.it;
-  counterpart = c.is;
-  is = record {
-    node = c.is.other;
-    source = source_there r s connect choice n c.it plane_r plane_s a c.is k.source;
-    first = sym (ap (λ (x : Sums). x.first) (sums_same r s connect choice.threshold n c.it a c.is)) ∙ k.first;
-  };
-}
-  where
-    c : HasCounterpart r s connect choice.threshold n
-    c = find_counterpart r s connect choice n a k.node (source_up r connect choice n plane_r k.node k.source)
+-- ---- the definitions
 
-sources_at_same : (r s : Raster) (connect : Connect) (choice : Choice) (p : ℕ) → IsPlane r → IsPlane s → Alike r s connect choice.threshold
-    → AreCounterparts r s connect choice (sources_at r connect choice p) (sources_at s connect choice p)
-sources_at_same r s connect choice p plane_r plane_s a = go (sources_at r connect choice p) refl
-  where
-    cons_nil : (n : ℕ) → n ∷ [] ≡ [] → ⊥
-    cons_nil n e = cc
+-- the rows of the sources, numbered from 1
+pub catalogue-is : (r : Raster) (connect : Connect) (choice : Choice)
+    → catalogue r connect choice ≡ map (λ e. catalogue_row r connect e.0 e.1) (enumerate_from 1 (sources r connect choice))
+unfolding catalogue catalogue_of
+catalogue-is r connect choice = refl
 
-    go : (xs : List ℕ) → sources_at r connect choice p ≡ xs → AreCounterparts r s connect choice (sources_at r connect choice p) (sources_at s connect choice p)
-    go [] u = subst₂ (AreCounterparts r s connect choice) (sym u) (sym (sources_at-none s connect choice p none_there)) at_end
-      where
-        none_there : (m : ℕ) → IsSourceAt s connect choice p m → ⊥
-        none_there m k =
-            let d : SourceThere s r connect choice p m = source_at_there s r connect choice p m plane_s plane_r (alike_sym r s connect choice.threshold a) k in
-            cons_nil d.it (sym (sources_at-one r connect choice p d.it plane_r d.is) ∙ u)
-    go (n ∷ xs) u =
-        subst₂ (AreCounterparts r s connect choice) (sym (sources_at-one r connect choice p n plane_r k)) (sym (sources_at-one s connect choice p d.it plane_s d.is))
-        (at_more d.counterpart at_end)
-      where
-        k : IsSourceAt r connect choice p n
-        k = among_sources_at r connect choice p n (subst (λ (ys : List ℕ). IsAmong n ys) (sym u) (inl refl))
+-- the numbers of all pixels
+pub segmentation-is : (r : Raster) (connect : Connect) (choice : Choice)
+    → segmentation r connect choice ≡ map (source_number_at r connect (sources r connect choice)) (pixels r)
+unfolding segmentation segmentation_of
+segmentation-is r connect choice = refl
 
-        d : SourceThere r s connect choice p n
-        d = source_at_there r s connect choice p n plane_r plane_s a k
-
-sources_over_same : (r s : Raster) (connect : Connect) (choice : Choice) (ps : List ℕ) → IsPlane r → IsPlane s → Alike r s connect choice.threshold
-    → AreCounterparts r s connect choice (flat_map (sources_at r connect choice) ps) (flat_map (sources_at s connect choice) ps)
-sources_over_same r s connect choice [] plane_r plane_s a = at_end
-sources_over_same r s connect choice (p ∷ ps) plane_r plane_s a =
-    append_counterparts r s connect choice (sources_at r connect choice p) (sources_at s connect choice p) (flat_map (sources_at r connect choice) ps) (flat_map (sources_at s connect choice) ps)
-    (sources_at_same r s connect choice p plane_r plane_s a) (sources_over_same r s connect choice ps plane_r plane_s a)
-
-pub sources_same : (r s : Raster) (connect : Connect) (choice : Choice) → IsPlane r → IsPlane s → Alike r s connect choice.threshold
-    → AreCounterparts r s connect choice (sources r connect choice) (sources s connect choice)
-unfolding sources
-sources_same r s connect choice plane_r plane_s a =
-    subst (λ (ps : List ℕ). AreCounterparts r s connect choice (flat_map (sources_at r connect choice) (pixels r)) (flat_map (sources_at s connect choice) ps))
-    (above_pixels r s choice.threshold a.above) (sources_over_same r s connect choice (pixels r) plane_r plane_s a)
-
--- ---- what is told of such lists
-
-map_same : {X : Type 0} (r s : Raster) (connect : Connect) (choice : Choice) (f g : ℕ → X) (xs ys : List ℕ)
-    → ((n m : ℕ) → IsCounterpart r s connect choice.threshold n m → f n ≡ g m) → AreCounterparts r s connect choice xs ys → map f xs ≡ map g ys
-map_same r s connect choice f g _ _ e at_end = refl
-map_same r s connect choice f g _ _ e (at_more {n} {m} {xs} {ys} c rest) = ap (λ x. x ∷ map f xs) (e n m c) ∙ ap (λ zs. g m ∷ zs) (map_same r s connect choice f g xs ys e rest)
-
-position_same : (r s : Raster) (connect : Connect) (choice : Choice) (p i : ℕ) (xs ys : List ℕ) → Alike r s connect choice.threshold → AreCounterparts r s connect choice xs ys
-    → position_from (λ n. is_in_node r connect n p) i xs ≡ position_from (λ n. is_in_node s connect n p) i ys
-position_same r s connect choice p i _ _ a at_end = refl
-position_same r s connect choice p i _ _ a (at_more {n} {m} {xs} {ys} c rest) =
-    ap (λ (b : Bool). cond b (Some i) (position_from (λ k. is_in_node r connect k p) (i + 1) xs)) (counterpart_in_node r s connect choice.threshold n m p a.above c)
-    ∙ ap (λ (o : Option ℕ). cond (is_in_node s connect m p) (Some i) o) (position_same r s connect choice p (i + 1) xs ys a rest)
-
-number_same : (r s : Raster) (connect : Connect) (choice : Choice) (p : ℕ) (xs ys : List ℕ) → Alike r s connect choice.threshold → AreCounterparts r s connect choice xs ys
-    → source_number_at r connect xs p ≡ source_number_at s connect ys p
+-- the number of a pixel: the place of the source that has it
+pub number-is : (r : Raster) (connect : Connect) (choice : Choice) (p : ℕ)
+    → source_number_at r connect (sources r connect choice) p ≡ unwrap_or (position_from (λ n. is_in_node r connect n p) 1 (sources r connect choice)) 0
 unfolding source_number_at
-number_same r s connect choice p xs ys a c = ap (λ (o : Option ℕ). unwrap_or o 0) (position_same r s connect choice p 1 xs ys a c)
-
-numbers_same : (r s : Raster) (connect : Connect) (choice : Choice) (xs ys : List ℕ) → Alike r s connect choice.threshold → AreCounterparts r s connect choice xs ys
-    → segmentation_of r connect xs ≡ segmentation_of s connect ys
-unfolding segmentation_of
-numbers_same r s connect choice xs ys a c = ap (λ (f : ℕ → ℕ). map f (pixels r)) tests ∙ ap (map (source_number_at s connect ys)) (above_pixels r s choice.threshold a.above)
-  where
-    tests : source_number_at r connect xs ≡ source_number_at s connect ys
-    tests = λ i p. number_same r s connect choice p xs ys a c i
-
-rows_from_same : (r s : Raster) (connect : Connect) (choice : Choice) (number : ℕ) (xs ys : List ℕ) → IsPlane r → IsPlane s → Alike r s connect choice.threshold → AreCounterparts r s connect choice xs ys
-    → map (λ e. catalogue_row r connect e.0 e.1) (enumerate_from number xs) ≡ map (λ e. catalogue_row s connect e.0 e.1) (enumerate_from number ys)
-rows_from_same r s connect choice number _ _ plane_r plane_s a at_end = refl
-rows_from_same r s connect choice number _ _ plane_r plane_s a (at_more {n} {m} {xs} {ys} c rest) =
-    ap (λ (row : CatRow). row ∷ map (λ e. catalogue_row r connect e.0 e.1) (enumerate_from (number + 1) xs)) (row_same r s connect choice.threshold number n m plane_r plane_s a c)
-    ∙ ap (λ (rows : List CatRow). catalogue_row s connect number m ∷ rows) (rows_from_same r s connect choice (number + 1) xs ys plane_r plane_s a rest)
-
-rows_same : (r s : Raster) (connect : Connect) (choice : Choice) (xs ys : List ℕ) → IsPlane r → IsPlane s → Alike r s connect choice.threshold → AreCounterparts r s connect choice xs ys
-    → catalogue_of r connect xs ≡ catalogue_of s connect ys
-unfolding catalogue_of
-rows_same r s connect choice xs ys plane_r plane_s a c = rows_from_same r s connect choice 1 xs ys plane_r plane_s a c
+number-is r connect choice p = refl
 
 -- ---- the law
 
-segmentation-is : (r : Raster) (connect : Connect) (choice : Choice) → segmentation r connect choice ≡ segmentation_of r connect (sources r connect choice)
-unfolding segmentation
-segmentation-is r connect choice = refl
+module _ (r s : Raster) (connect : Connect) (choice : Choice) (plane_r : IsPlane r) (plane_s : IsPlane s)
+    (agree : AgreeNearHigh r s connect choice.threshold) where
+  -- counterparts in place
+  abbrev Same : ℕ → ℕ → Type 0
+  Same = AreCounterparts r s connect (InPlace r choice.threshold)
 
-catalogue-is : (r : Raster) (connect : Connect) (choice : Choice) → catalogue r connect choice ≡ catalogue_of r connect (sources r connect choice)
-unfolding catalogue
-catalogue-is r connect choice = refl
+  above : AlikeAbove r s choice.threshold
+  above = in_place_alike r s connect choice.threshold plane_r plane_s agree
+
+  along : AlikeAlong r s connect choice.threshold (InPlace r choice.threshold)
+  along = in_place_along r s connect choice.threshold plane_r plane_s agree
+
+  back_along : AlikeAlong s r connect choice.threshold (turned (InPlace r choice.threshold))
+  back_along = along_sym r s connect choice.threshold (InPlace r choice.threshold) along
+
+  -- a source of one plane has its counterpart among the sources of the other
+  there : (n : ℕ) → IsAmong n (sources r connect choice) → HasPartnerIn Same n (sources s connect choice)
+  there n m = record {
+    it = node_of s connect (top_of r connect n);
+    among = among_sources s connect choice (node_of s connect (top_of r connect n)) plane_s c.other
+        (along_source_there r s connect choice (InPlace r choice.threshold) n (node_of s connect (top_of r connect n)) plane_r plane_s along c k.1);
+    pair = c;
+  }
+    where
+      k : IsNode r connect n × IsTrue (is_source r connect choice n)
+      k = source_from_among r connect choice n plane_r m
+
+      c : Same n (node_of s connect (top_of r connect n))
+      c = along_counterpart r s connect choice.threshold (InPlace r choice.threshold) along.above n (top_of r connect n) k.0
+          (refl, top_high r connect choice n plane_r k.0 k.1)
+
+  -- and the other way round
+  back : (m : ℕ) → IsAmong m (sources s connect choice) → HasPartnerIn (turned Same) m (sources r connect choice)
+  back m i = record {
+    it = node_of r connect (top_of s connect m);
+    among = among_sources r connect choice (node_of r connect (top_of s connect m)) plane_r c.other
+        (along_source_there s r connect choice (turned (InPlace r choice.threshold)) m (node_of r connect (top_of s connect m)) plane_s plane_r back_along c
+        k.1);
+    pair = record { one = c.other; other = c.one; top = c.top };
+  }
+    where
+      k : IsNode s connect m × IsTrue (is_source s connect choice m)
+      k = source_from_among s connect choice m plane_s i
+
+      high_there : IsTrue (is_at_least s choice.threshold (top_of s connect m))
+      high_there = top_high s connect choice m plane_s k.0 k.1
+
+      high : IsTrue (is_at_least r choice.threshold (top_of s connect m))
+      high = subst (λ (v : Option ℤ). at_least choice.threshold v ≡ true) (sym (above.other (top_of s connect m) high_there)) high_there
+
+      c : AreCounterparts s r connect (turned (InPlace r choice.threshold)) m (node_of r connect (top_of s connect m))
+      c = along_counterpart s r connect choice.threshold (turned (InPlace r choice.threshold)) back_along.above m (top_of s connect m) k.0 (refl, high)
+
+  -- counterparts have one least pixel
+  first_same : (n m : ℕ) → Same n m → (sums_of r connect n).first ≡ (sums_of s connect m).first
+  first_same n m c = (along_first r s connect choice.threshold (InPlace r choice.threshold) along n m plane_r plane_s c).0
+
+  order : (n m a b : ℕ) → Same n m → Same a b
+      → ((sums_of r connect n).first < (sums_of r connect a).first) ↔ ((sums_of s connect m).first < (sums_of s connect b).first)
+  order n m a b c d =
+      let e : (sums_of r connect n).first ≡ (sums_of s connect m).first = first_same n m c in
+      let f : (sums_of r connect a).first ≡ (sums_of s connect b).first = first_same a b d in
+      ((λ l. omega (arith, e, f, l)), (λ l. omega (arith, e, f, l)))
+
+  -- so the sources are paired, one after the other
+  both : ArePaired Same (sources r connect choice) (sources s connect choice)
+  both = paired_from_rising Same (λ n. (sums_of r connect n).first) (λ m. (sums_of s connect m).first) (sources r connect choice) (sources s connect choice)
+      order
+      (sources_rise r connect choice plane_r) (sources_rise s connect choice plane_s) there back
+
+  -- each pixel has one number
+  number_same : (p : ℕ) → source_number_at r connect (sources r connect choice) p ≡ source_number_at s connect (sources s connect choice) p
+  number_same p =
+      number-is r connect choice p
+      ∙ ap (λ (o : Option ℕ). unwrap_or o 0)
+      (paired_position Same (λ n. is_in_node r connect n p) (λ m. is_in_node s connect m p) 1 (sources r connect choice) (sources s connect choice)
+      (λ n m c i. counterpart_test r s connect choice.threshold n m above (counterpart_in_place r s connect choice.threshold n m c) i p) both)
+      ∙ sym (number-is s connect choice p)
+
+  numbers_same : segmentation r connect choice ≡ segmentation s connect choice
+  numbers_same =
+      segmentation-is r connect choice
+      ∙ ap (λ (f : ℕ → ℕ). map f (pixels r)) (λ i p. number_same p i)
+      ∙ ap (map (source_number_at s connect (sources s connect choice))) (above_pixels r s choice.threshold above)
+      ∙ sym (segmentation-is s connect choice)
+
+  -- partners stand at one place
+  apart : StandApart r s (all_of s) (InPlace r choice.threshold)
+  apart = record {
+    place = place;
+    few_rows = λ p q c. y_small r p plane_r (below_from_defined r p (defined_from_at_least r choice.threshold p c.1));
+  }
+    where
+      place : (p q : ℕ) → InPlace r choice.threshold p q → IsAt r.shape.width s.shape.width 0 0 p q
+      place p q c = subst (λ (x : ℕ). IsAt r.shape.width s.shape.width 0 0 p x) c.0
+          (subst (λ (w : ℕ). IsAt r.shape.width w 0 0 p p) above.width (record { column = omega arith; row = omega arith }))
+
+  -- they have one row
+  row_same : (number n m : ℕ) → Same n m → catalogue_row r connect number n ≡ catalogue_row s connect number m
+  row_same number n m c =
+      along_row r s (all_of s) connect choice.threshold (InPlace r choice.threshold) along apart n m plane_r plane_s c number
+      ∙ unmoved s (catalogue_row s connect number m)
+
+  rows_same : catalogue r connect choice ≡ catalogue s connect choice
+  rows_same =
+      catalogue-is r connect choice
+      ∙ paired_enumerated Same (catalogue_row r connect) (catalogue_row s connect) 1 (sources r connect choice) (sources s connect choice) row_same both
+      ∙ sym (catalogue-is s connect choice)
 
 pub sources_are_local : SourcesAreLocal
 sources_are_local r s connect choice plane_r plane_s agree = record {
-  least = map_same r s connect choice (λ n. (sums_of r connect n).first) (λ n. (sums_of s connect n).first) (sources r connect choice) (sources s connect choice)
-      (λ n m c. ap (λ (x : Sums). x.first) (sums_same r s connect choice.threshold n m a c)) both;
-  representatives = map_same r s connect choice (top_of r connect) (top_of s connect) (sources r connect choice) (sources s connect choice) (λ n m c. c.top) both;
-  numbers = segmentation-is r connect choice ∙ numbers_same r s connect choice (sources r connect choice) (sources s connect choice) a both ∙ sym (segmentation-is s connect choice);
-  rows = catalogue-is r connect choice ∙ rows_same r s connect choice (sources r connect choice) (sources s connect choice) plane_r plane_s a both ∙ sym (catalogue-is s connect choice);
+  least = paired_map (AreCounterparts r s connect (InPlace r choice.threshold)) (λ n. (sums_of r connect n).first) (λ m. (sums_of s connect m).first)
+      (sources r connect choice) (sources s connect choice) (first_same r s connect choice plane_r plane_s agree)
+      (both r s connect choice plane_r plane_s agree);
+  representatives = paired_map (AreCounterparts r s connect (InPlace r choice.threshold)) (top_of r connect) (top_of s connect)
+      (sources r connect choice) (sources s connect choice) (λ n m c. c.top.0) (both r s connect choice plane_r plane_s agree);
+  numbers = numbers_same r s connect choice plane_r plane_s agree;
+  rows = rows_same r s connect choice plane_r plane_s agree;
 }
-  where
-    a : Alike r s connect choice.threshold
-    a = alike_from r s connect choice.threshold plane_r plane_s agree
-
-    both : AreCounterparts r s connect choice (sources r connect choice) (sources s connect choice)
-    both = sources_same r s connect choice plane_r plane_s a

@@ -1,5 +1,6 @@
 -- Sums over paired pixels whose columns and rows differ by a constant, and the catalogue rows that are made of them.
-use Rattle.std.proofs.Common.{◌≡◌, ℕ, ◌+◌, ◌-◌, ◌*◌, ◌^◌, ◌<◌, ◌≤◌, zero, suc, min, max, Bool, true, false, cond, List, [], ◌∷◌, length, refl, sym, ◌∙◌, ap, arith}
+use Rattle.std.proofs.Common.{◌≡◌, ℕ, ◌+◌, ◌-◌, ◌*◌, ◌^◌, ◌<◌, ◌≤◌, zero, suc, min, max, Bool, true, false, cond, List, [], ◌∷◌, length, refl, sym, ◌∙◌, ap}
+use Rattle.std.proofs.Common.{arith}
 use Rattle.std.specs.Prelude.{ℤ, pos, negsuc, ◌+ℤ◌, ◌-ℤ◌, ◌*ℤ◌, ◌≤ℤ◌, sum_by}
 use Rattle.std.specs.Ordering.{int_eq}
 use Rattle.std.proofs.lemmas.Int.{ints}
@@ -11,11 +12,13 @@ use Rattle.node_sums.specs.Sums.{total, least, greatest}
 use Rattle.source_pick.specs.Catalogue.{floor_of, centre_of, spread_of}
 use Rattle.source_pick.proofs.Means.{plus_times, minus_times, times_plus, times_suc}
 use Rattle.source_pick.proofs.AlongSums.{length_paired}
-use Rattle.source_pick.proofs.Floors.{times-sum, floor-moved}
+use Rattle.node_sums.proofs.Exported.{times-sum, floor-moved}
 
 -- ---- sums
 
-pub sum_moved : (R : ℕ → ℕ → Type 0) (f g : ℕ → ℕ) (c : ℕ) (ps qs : List ℕ) → ((p q : ℕ) → R p q → f p ≡ g q + c) → ArePaired R ps qs → sum_by f ps ≡ sum_by g qs + c * length qs
+-- a sum of numbers that are all moved by c
+pub sum_moved : (R : ℕ → ℕ → Type 0) (f g : ℕ → ℕ) (c : ℕ) (ps qs : List ℕ) → ((p q : ℕ) → R p q → f p ≡ g q + c) → ArePaired R ps qs
+    → sum_by f ps ≡ sum_by g qs + c * length qs
 sum_moved R f g c _ _ e at_end = omega arith
 sum_moved R f g c _ _ e (at_more {x} {y} {xs} {ys} k rest) =
     let a : sum_by f (x ∷ xs) ≡ f x + sum_by f xs = sum_by-cons f x xs in
@@ -25,10 +28,13 @@ sum_moved R f g c _ _ e (at_more {x} {y} {xs} {ys} k rest) =
     let l : c * suc (length ys) ≡ c * length ys + c = omega arith in
     omega (arith, a, b, d, ih, l)
 
+-- a product of two sums
 times_out : (a b c d : ℕ) → (a + c) * (b + d) ≡ a * b + d * a + c * b + c * d
 times_out a b c d = omega arith
 
-pub products_moved : (R : ℕ → ℕ → Type 0) (f g u v : ℕ → ℕ) (c d : ℕ) (ps qs : List ℕ) → ((p q : ℕ) → R p q → f p ≡ g q + c) → ((p q : ℕ) → R p q → u p ≡ v q + d) → ArePaired R ps qs
+-- a sum of products of numbers that are moved by c and by d
+pub products_moved : (R : ℕ → ℕ → Type 0) (f g u v : ℕ → ℕ) (c d : ℕ) (ps qs : List ℕ) → ((p q : ℕ) → R p q → f p ≡ g q + c)
+    → ((p q : ℕ) → R p q → u p ≡ v q + d) → ArePaired R ps qs
     → sum_by (λ p. f p * u p) ps ≡ sum_by (λ q. g q * v q) qs + d * sum_by g qs + c * sum_by v qs + c * d * length qs
 products_moved R f g u v c d _ _ e h at_end = omega arith
 products_moved R f g u v c d _ _ e h (at_more {x} {y} {xs} {ys} k rest) =
@@ -38,12 +44,14 @@ products_moved R f g u v c d _ _ e h (at_more {x} {y} {xs} {ys} k rest) =
     let bv : sum_by v (y ∷ ys) ≡ v y + sum_by v ys = sum_by-cons v y ys in
     let both : f x * u x ≡ (g y + c) * (v y + d) = ap (λ (n : ℕ). n * u x) (e x y k) ∙ ap (λ (n : ℕ). (g y + c) * n) (h x y k) in
     let out : (g y + c) * (v y + d) ≡ g y * v y + d * g y + c * v y + c * d = times_out (g y) (v y) c d in
-    let ih : sum_by (λ p. f p * u p) xs ≡ sum_by (λ q. g q * v q) ys + d * sum_by g ys + c * sum_by v ys + c * d * length ys = products_moved R f g u v c d xs ys e h rest in
+    let ih : sum_by (λ p. f p * u p) xs ≡ sum_by (λ q. g q * v q) ys + d * sum_by g ys + c * sum_by v ys + c * d * length ys =
+    products_moved R f g u v c d xs ys e h rest in
     let dg : d * sum_by g (y ∷ ys) ≡ d * g y + d * sum_by g ys = ap (λ (n : ℕ). d * n) bg ∙ omega arith in
     let cv : c * sum_by v (y ∷ ys) ≡ c * v y + c * sum_by v ys = ap (λ (n : ℕ). c * n) bv ∙ omega arith in
     let l : c * d * suc (length ys) ≡ c * d * length ys + c * d = omega arith in
     omega (arith, a, b, both, out, ih, dg, cv, l)
 
+-- the least of a list that has one member more
 least_step : (f g : ℕ → ℕ) (c a b : ℕ) (xs ys : List ℕ) → length xs ≡ length ys → a ≡ b + c → a ≤ 2 ^ 32 - 1 → (0 < length ys → least f xs ≡ least g ys + c)
     → min a (least f xs) ≡ min b (least g ys) + c
 least_step f g c a b [] [] l e u ih = omega arith
@@ -51,12 +59,15 @@ least_step f g c a b [] (y ∷ ys) l e u ih = absurd (omega arith)
 least_step f g c a b (x ∷ xs) [] l e u ih = absurd (omega arith)
 least_step f g c a b (x ∷ xs) (y ∷ ys) l e u ih = let k : least f (x ∷ xs) ≡ least g (y ∷ ys) + c = ih (omega arith) in omega (arith, e, k)
 
-pub least_moved : (R : ℕ → ℕ → Type 0) (f g : ℕ → ℕ) (c : ℕ) (ps qs : List ℕ) → ((p q : ℕ) → R p q → f p ≡ g q + c) → ((p q : ℕ) → R p q → f p ≤ 2 ^ 32 - 1) → ArePaired R ps qs
+-- so the least number moves by c
+pub least_moved : (R : ℕ → ℕ → Type 0) (f g : ℕ → ℕ) (c : ℕ) (ps qs : List ℕ) → ((p q : ℕ) → R p q → f p ≡ g q + c) → ((p q : ℕ) → R p q → f p ≤ 2 ^ 32 - 1)
+    → ArePaired R ps qs
     → 0 < length qs → least f ps ≡ least g qs + c
 least_moved R f g c _ _ e u at_end some = absurd (omega arith)
 least_moved R f g c _ _ e u (at_more {x} {y} {xs} {ys} k rest) some =
     least_step f g c (f x) (g y) xs ys (length_paired R xs ys rest) (e x y k) (u x y k) (least_moved R f g c xs ys e u rest)
 
+-- the greatest of a list that has one member more
 greatest_step : (f g : ℕ → ℕ) (c a b : ℕ) (xs ys : List ℕ) → length xs ≡ length ys → a ≡ b + c → (0 < length ys → greatest f xs ≡ greatest g ys + c)
     → max a (greatest f xs) ≡ max b (greatest g ys) + c
 greatest_step f g c a b [] [] l e ih = omega arith
@@ -64,13 +75,16 @@ greatest_step f g c a b [] (y ∷ ys) l e ih = absurd (omega arith)
 greatest_step f g c a b (x ∷ xs) [] l e ih = absurd (omega arith)
 greatest_step f g c a b (x ∷ xs) (y ∷ ys) l e ih = let k : greatest f (x ∷ xs) ≡ greatest g (y ∷ ys) + c = ih (omega arith) in omega (arith, e, k)
 
+-- and so does the greatest
 pub greatest_moved : (R : ℕ → ℕ → Type 0) (f g : ℕ → ℕ) (c : ℕ) (ps qs : List ℕ) → ((p q : ℕ) → R p q → f p ≡ g q + c) → ArePaired R ps qs
     → 0 < length qs → greatest f ps ≡ greatest g qs + c
 greatest_moved R f g c _ _ e at_end some = absurd (omega arith)
 greatest_moved R f g c _ _ e (at_more {x} {y} {xs} {ys} k rest) some =
     greatest_step f g c (f x) (g y) xs ys (length_paired R xs ys rest) (e x y k) (greatest_moved R f g c xs ys e rest)
 
-pub total_moved : (R : ℕ → ℕ → Type 0) (i j : ℕ → ℤ) (f g : ℕ → ℕ) (c : ℕ) (ps qs : List ℕ) → ((p q : ℕ) → R p q → i p ≡ j q) → ((p q : ℕ) → R p q → f p ≡ g q + c) → ArePaired R ps qs
+-- a sum of values times places: it moves by the sum of the values times c
+pub total_moved : (R : ℕ → ℕ → Type 0) (i j : ℕ → ℤ) (f g : ℕ → ℕ) (c : ℕ) (ps qs : List ℕ) → ((p q : ℕ) → R p q → i p ≡ j q)
+    → ((p q : ℕ) → R p q → f p ≡ g q + c) → ArePaired R ps qs
     → total (λ p. i p *ℤ pos (f p)) ps ≡ total (λ q. j q *ℤ pos (g q)) qs +ℤ total j qs *ℤ pos c
 total_moved R i j f g c _ _ e h at_end = let z : pos 0 *ℤ pos c ≡ pos (0 * c) = pos-*ℤ-pos 0 c in omega (arith, ints, z)
 total_moved R i j f g c _ _ e h (at_more {x} {y} {xs} {ys} k rest) =
@@ -82,12 +96,16 @@ total_moved R i j f g c _ _ e h (at_more {x} {y} {xs} {ys} k rest) =
 
 -- ---- spreads
 
+-- what a variance or a covariance is a quotient of stays
 spread_difference : (area products first second c d : ℕ)
-    → pos (area * (products + d * first + c * second + c * d * area)) -ℤ pos ((first + c * area) * (second + d * area)) ≡ pos (area * products) -ℤ pos (first * second)
+    → pos (area * (products + d * first + c * second + c * d * area)) -ℤ pos ((first + c * area) * (second + d * area))
+    ≡ pos (area * products) -ℤ pos (first * second)
 spread_difference area products first second c d =
-    let a : area * (products + d * first + c * second + c * d * area) + first * second ≡ area * products + (first + c * area) * (second + d * area) = omega arith in
+    let a : area * (products + d * first + c * second + c * d * area) + first * second ≡ area * products + (first + c * area) * (second + d * area) =
+    omega arith in
     omega (arith, ints, a)
 
+-- so variances and covariances stay
 pub spread_moved : (area products first second c d : ℕ)
     → spread_of area (products + d * first + c * second + c * d * area) (first + c * area) (second + d * area) ≡ spread_of area products first second
 unfolding spread_of
@@ -95,10 +113,12 @@ spread_moved area products first second c d = ap (λ (z : ℤ). floor_of (pos 10
 
 -- ---- centres
 
+-- a number that isn't 0 is above it
 positive : (f : ℕ) → (pos f ≡ pos 0 → ⊥) → 0 < f
 positive zero k = absurd (k refl)
 positive (suc n) k = omega arith
 
+-- a centre moves by c, which is 1000 * c in thousandths, with a flux and without one
 pub centre_moved : (moment : ℤ) (sum : ℕ) (flux : ℤ) (area c : ℕ) → pos 0 ≤ℤ flux → 0 < area
     → centre_of (moment +ℤ flux *ℤ pos c) (sum + c * area) flux area ≡ centre_of moment sum flux area +ℤ pos (1000 * c)
 unfolding centre_of
@@ -116,7 +136,8 @@ centre_moved moment sum flux area c low some = go (int_eq flux (pos 0)) refl
         let b : pos 1000 *ℤ (moment +ℤ pos f *ℤ pos c) ≡ pos 1000 *ℤ moment +ℤ pos 1000 *ℤ (pos f *ℤ pos c) = times-sum 1000 moment (pos f *ℤ pos c) in
         let d : pos 1000 *ℤ (pos f *ℤ pos c) ≡ pos (1000 * (f * c)) = ap (λ (z : ℤ). pos 1000 *ℤ z) a ∙ pos-*ℤ-pos 1000 (f * c) in
         let e : 1000 * (f * c) ≡ f * (1000 * c) = omega arith in
-        ap (λ (z : ℤ). floor_of z (pos f)) (b ∙ ap (λ (z : ℤ). pos 1000 *ℤ moment +ℤ z) (d ∙ ap pos e)) ∙ floor-moved (pos 1000 *ℤ moment) f (1000 * c) (positive f k)
+        ap (λ (z : ℤ). floor_of z (pos f)) (b ∙ ap (λ (z : ℤ). pos 1000 *ℤ moment +ℤ z) (d ∙ ap pos e))
+        ∙ floor-moved (pos 1000 *ℤ moment) f (1000 * c) (positive f k)
 
     go : (b : Bool) → int_eq flux (pos 0) ≡ b
         → cond b (floor_of (pos (1000 * (sum + c * area))) (pos area)) (floor_of (pos 1000 *ℤ (moment +ℤ flux *ℤ pos c)) flux)

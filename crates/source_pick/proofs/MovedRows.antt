@@ -11,11 +11,12 @@ use Rattle.comp_tree.proofs.Exported.{IsAmong, among_pixels, top_inside, AlikeAl
 use Rattle.node_sums.specs.declared.entry.Sums.{Sums}
 use Rattle.node_sums.specs.Sums.{x_of, y_of, total, sums_over, sums_of}
 use Rattle.node_sums.specs.Flux.{base_of, flux_of}
-use Rattle.node_sums.proofs.Exported.{of_node, never_negative, x_small}
+use Rattle.node_sums.proofs.Exported.{sums-flux, never_negative, x_small}
 use Rattle.source_pick.specs.Catalogue.{centre_of, spread_of, measured_row, catalogue_row}
 use Rattle.source_pick.specs.Windows.{moved_row}
 use Rattle.source_pick.proofs.Rows.{same_row}
-use Rattle.source_pick.proofs.AlongSums.{total_paired, length_paired, highest_paired, along_pixels, along_node_level, along_base, along_flux, along_first}
+use Rattle.source_pick.proofs.AlongSums.{sums-area, total_paired, length_paired, highest_paired, along_pixels, along_node_level, along_base, along_flux}
+use Rattle.source_pick.proofs.AlongSums.{along_first}
 use Rattle.source_pick.proofs.Moved.{sum_moved, products_moved, least_moved, greatest_moved, total_moved, spread_moved, centre_moved, moment_moved}
 
 -- ---- rows from sums
@@ -37,7 +38,9 @@ pub record AreMovedSums (left top : ℕ) (s t : Sums) : Type 0 where
   pub ymax : s.ymax ≡ t.ymax + top
   pub peak : s.peak ≡ t.peak
 
-centre_from : (rx base total flux there : ℤ) (sum moved area same c : ℕ) → there ≡ rx +ℤ total *ℤ pos c → moved ≡ sum + c * area → same ≡ area → flux ≡ total -ℤ base *ℤ pos area
+-- a centre, from sums that are moved
+centre_from : (rx base total flux there : ℤ) (sum moved area same c : ℕ) → there ≡ rx +ℤ total *ℤ pos c → moved ≡ sum + c * area → same ≡ area
+    → flux ≡ total -ℤ base *ℤ pos area
     → pos 0 ≤ℤ flux → 0 < area → centre_of (there -ℤ base *ℤ pos moved) moved flux same ≡ centre_of (rx -ℤ base *ℤ pos sum) sum flux area +ℤ pos (1000 * c)
 centre_from rx base total flux there sum moved area same c e f g h low some =
     ap (λ (z : ℤ). centre_of (z -ℤ base *ℤ pos moved) moved flux same) e
@@ -46,7 +49,9 @@ centre_from rx base total flux there sum moved area same c e f g h low some =
     ∙ ap (λ (z : ℤ). centre_of z (sum + c * area) flux area) (moment_moved rx base total flux sum area c h)
     ∙ centre_moved (rx -ℤ base *ℤ pos sum) sum flux area c low some
 
-spread_from : (area same products there first one second other c d : ℕ) → same ≡ area → there ≡ products + d * first + c * second + c * d * area → one ≡ first + c * area → other ≡ second + d * area
+-- and a variance or covariance
+spread_from : (area same products there first one second other c d : ℕ) → same ≡ area → there ≡ products + d * first + c * second + c * d * area
+    → one ≡ first + c * area → other ≡ second + d * area
     → spread_of same there one other ≡ spread_of area products first second
 spread_from area same products there first one second other c d e f g h =
     ap (λ (n : ℕ). spread_of n there one other) e
@@ -55,11 +60,14 @@ spread_from area same products there first one second other c d e f g h =
     ∙ ap (λ (n : ℕ). spread_of area (products + d * first + c * second + c * d * area) (first + c * area) n) h
     ∙ spread_moved area products first second c d
 
-pub row_moved : (number : ℕ) (level base flux : ℤ) (wide : ℕ) (w : Window) (narrow : ℕ) (s t : Sums) → AreMovedSums w.left w.top s t → IsAt wide narrow w.left w.top s.first t.first
+-- so the row is moved
+pub row_moved : (number : ℕ) (level base flux : ℤ) (wide : ℕ) (w : Window) (narrow : ℕ) (s t : Sums) → AreMovedSums w.left w.top s t
+    → IsAt wide narrow w.left w.top s.first t.first
     → flux ≡ t.r -ℤ base *ℤ pos t.area → pos 0 ≤ℤ flux → 0 < t.area
     → measured_row number level base flux wide s ≡ moved_row w (measured_row number level base flux narrow t)
 unfolding measured_row moved_row
-row_moved number level base flux wide w narrow s t m place e low some = same_row (measured_row number level base flux wide s) (moved_row w (measured_row number level base flux narrow t))
+row_moved number level base flux wide w narrow s t m place e low some =
+    same_row (measured_row number level base flux wide s) (moved_row w (measured_row number level base flux narrow t))
     refl refl refl (ap pos m.area) refl m.peak (ap pos m.xmin) (ap pos m.xmax) (ap pos m.ymin) (ap pos m.ymax)
     (ap pos (let c : s.first % wide ≡ t.first % narrow + w.left = place.column in omega (arith, c)))
     (ap pos (let c : s.first / wide ≡ t.first / narrow + w.top = place.row in omega (arith, c)))
@@ -71,6 +79,7 @@ row_moved number level base flux wide w narrow s t m place e low some = same_row
 
 -- ---- the sums of counterparts
 
+-- a list with a member is not empty
 not_empty : (ps : List ℕ) (x : ℕ) → IsAmong x ps → 0 < length ps
 not_empty [] x h = absurd h
 not_empty (y ∷ ys) x h = omega arith
@@ -81,13 +90,16 @@ pub record StandApart (r s : Raster) (w : Window) (R : ℕ → ℕ → Type 0) :
   pub few_rows : (p q : ℕ) → R p q → y_of r p ≤ 65535
 
 module _ (r s : Raster) (w : Window) (R : ℕ → ℕ → Type 0) (apart : StandApart r s w R) where
+  -- columns and rows of pairs differ by the corner
   across : (p q : ℕ) → R p q → x_of r p ≡ x_of s q + w.left
   across p q c = let e : p % r.shape.width ≡ q % s.shape.width + w.left = (apart.place p q c).column in omega (arith, e)
 
   down : (p q : ℕ) → R p q → y_of r p ≡ y_of s q + w.top
   down p q c = let e : p / r.shape.width ≡ q / s.shape.width + w.top = (apart.place p q c).row in omega (arith, e)
 
-  sums_over-moved : (ps qs : List ℕ) → ((p q : ℕ) → R p q → level r p ≡ level s q) → ArePaired R ps qs → 0 < length qs → AreMovedSums w.left w.top (sums_over r ps) (sums_over s qs)
+  -- so the sums over paired pixels are moved
+  sums_over-moved : (ps qs : List ℕ) → ((p q : ℕ) → R p q → level r p ≡ level s q) → ArePaired R ps qs → 0 < length qs
+      → AreMovedSums w.left w.top (sums_over r ps) (sums_over s qs)
   unfolding sums_over
   sums_over-moved ps qs same c some = record {
     area = length_paired R ps qs c;
@@ -109,30 +121,34 @@ module _ (r s : Raster) (w : Window) (R : ℕ → ℕ → Type 0) (apart : Stand
       small : (x : ℕ) → x ≤ 65535 → x ≤ 2 ^ 32 - 1
       small x l = omega arith
 
+-- the sums of a node are those over its pixels
 sums-are : (r : Raster) (connect : Connect) (n : ℕ) → sums_over r (pixels_of r connect n) ≡ sums_of r connect n
 unfolding sums_of
 sums-are r connect n = refl
 
-sums-area : (r : Raster) (connect : Connect) (n : ℕ) → (sums_of r connect n).area ≡ length (pixels_of r connect n)
-unfolding sums_of sums_over
-sums-area r connect n = refl
-
 module _ (r s : Raster) (w : Window) (connect : Connect) (h : ℤ) (R : ℕ → ℕ → Type 0) (a : AlikeAlong r s connect h R) (apart : StandApart r s w R) where
-  pub along_row : (n m : ℕ) → IsPlane r → IsPlane s → AreCounterparts r s connect R n m → (number : ℕ) → catalogue_row r connect number n ≡ moved_row w (catalogue_row s connect number m)
+  -- so the row of a counterpart is moved
+  pub along_row : (n m : ℕ) → IsPlane r → IsPlane s → AreCounterparts r s connect R n m → (number : ℕ)
+      → catalogue_row r connect number n ≡ moved_row w (catalogue_row s connect number m)
   unfolding catalogue_row
   along_row n m plane_r plane_s c number =
-      ap (λ (z : ℤ). measured_row number z (base_of (tree_of r connect) n) (flux_of r connect n) r.shape.width (sums_of r connect n)) (along_node_level r s connect h R a n m c)
-      ∙ ap (λ (z : ℤ). measured_row number (level_of_node s connect m) z (flux_of r connect n) r.shape.width (sums_of r connect n)) (along_base r s connect h R a n m plane_r plane_s c)
-      ∙ ap (λ (z : ℤ). measured_row number (level_of_node s connect m) (base_of (tree_of s connect) m) z r.shape.width (sums_of r connect n)) (along_flux r s connect h R a n m plane_r plane_s c)
-      ∙ row_moved number (level_of_node s connect m) (base_of (tree_of s connect) m) (flux_of s connect m) r.shape.width w s.shape.width (sums_of r connect n) (sums_of s connect m)
+      ap (λ (z : ℤ). measured_row number z (base_of (tree_of r connect) n) (flux_of r connect n) r.shape.width (sums_of r connect n))
+      (along_node_level r s connect h R a n m c)
+      ∙ ap (λ (z : ℤ). measured_row number (level_of_node s connect m) z (flux_of r connect n) r.shape.width (sums_of r connect n))
+      (along_base r s connect h R a n m plane_r plane_s c)
+      ∙ ap (λ (z : ℤ). measured_row number (level_of_node s connect m) (base_of (tree_of s connect) m) z r.shape.width (sums_of r connect n))
+      (along_flux r s connect h R a n m plane_r plane_s c)
+      ∙ row_moved number (level_of_node s connect m) (base_of (tree_of s connect) m) (flux_of s connect m) r.shape.width w s.shape.width (sums_of r connect n)
+      (sums_of s connect m)
       moved (apart.place (sums_of r connect n).first (sums_of s connect m).first (along_first r s connect h R a n m plane_r plane_s c))
-      (sym (of_node s connect m)) (never_negative s connect m plane_s c.other) (subst (λ (k : ℕ). 0 < k) (sym (sums-area s connect m)) some)
+      (sym (sums-flux s connect m)) (never_negative s connect m plane_s c.other) (subst (λ (k : ℕ). 0 < k) (sym (sums-area s connect m)) some)
     where
       some : 0 < length (pixels_of s connect m)
       some = not_empty (pixels_of s connect m) (top_of s connect m) (among_pixels s connect m (top_of s connect m) (top_inside s connect m c.other))
 
       over : AreMovedSums w.left w.top (sums_over r (pixels_of r connect n)) (sums_over s (pixels_of s connect m))
-      over = sums_over-moved r s w R apart (pixels_of r connect n) (pixels_of s connect m) (along_level r s connect h R a) (along_pixels r s connect h R a n m c) some
+      over = sums_over-moved r s w R apart (pixels_of r connect n) (pixels_of s connect m) (along_level r s connect h R a.above)
+          (along_pixels r s connect h R a n m c) some
 
       moved : AreMovedSums w.left w.top (sums_of r connect n) (sums_of s connect m)
       moved = subst (λ (x : Sums). AreMovedSums w.left w.top x (sums_of s connect m)) (sums-are r connect n)

@@ -1,35 +1,31 @@
 -- The law of windows, and the law of tiles.
 use Rattle.std.proofs.Common.{◌≡◌, ℕ, ◌<◌, Bool, true, length, refl, sym, ◌∙◌, subst, inl}
-use Rattle.std.specs.Prelude.{IsTrue, ℤ, int_le, Option, Contains}
+use Rattle.std.specs.Prelude.{IsTrue, ℤ, Option, Contains}
 use Rattle.comp_tree.specs.declared.shape.Connect.{Connect}
 use Rattle.comp_tree.specs.Raster.{Raster, IsPlane, at_least, is_at_least, level}
 use Rattle.comp_tree.specs.Joined.{here}
-use Rattle.comp_tree.specs.Components.{IsReached, nodes, node_of, is_in_node}
+use Rattle.comp_tree.specs.Components.{IsReached, node_of, is_in_node}
 use Rattle.comp_tree.specs.Laws.{top_of}
-use Rattle.comp_tree.specs.Nesting.{level_of_node}
 use Rattle.comp_tree.specs.Windows.{Window, in_whole, Shows, IsShown, LiesSure, LiesSureIn}
-use Rattle.comp_tree.proofs.Exported.{AlikeAlong, AreCounterparts, AreSurePair, IsReachedThere, IsAt, along_counterpart, along_sym, counterparts_in_node, counterparts_sym, pair_at, sure_same, window_along, sure_components_are_seen, in_whole-one, window_whole_below, turned, below_from_defined, defined_from_at_least, joined_trans, joined_sym, reaches-is_IsReached, same_bool, top-defined, int_le-from}
+use Rattle.comp_tree.proofs.Exported.{AlikeAlong, AreCounterparts, AreSurePair, IsReachedThere, IsAt, along_counterpart, along_sym, counterparts_in_node}
+use Rattle.comp_tree.proofs.Exported.{counterparts_sym, pair_at, sure_same, window_along, sure_components_are_seen, in_whole-one, window_whole_below, turned}
+use Rattle.comp_tree.proofs.Exported.{below_from_defined, defined_from_at_least, joined_trans, joined_sym, reaches-is_IsReached, same_bool, top-defined}
+use Rattle.comp_tree.proofs.Exported.{int_le-from}
 use Rattle.comp_tree.proofs.Exported as Nodes
 use Rattle.node_sums.specs.Sums.{sums_of}
-use Rattle.node_sums.proofs.Exported.{level-of_node, y_small}
+use Rattle.node_sums.proofs.Exported.{y_small}
 use Rattle.source_pick.specs.declared.choice.Choice.{Choice}
-use Rattle.source_pick.specs.Sources.{is_source}
-use Rattle.source_pick.specs.Windows.{IsMovedNode, IsSureSource, IsSureSourceIn, SureSourcesAreSeen, SeenSourcesAreSure, Tile, IsTileOf, IsFromTile, EachSourceIsATiles, OwnSourcesAreTheWholes, OwnSourcesAreDistinct}
+use Rattle.source_pick.specs.Windows.{IsMovedNode, IsSureSource, IsSureSourceIn, SureSourcesAreSeen, SeenSourcesAreSure, Tile, IsTileOf, IsFromTile}
+use Rattle.source_pick.specs.Windows.{EachSourceIsATiles, OwnSourcesAreTheWholes, OwnSourcesAreDistinct}
 use Rattle.source_pick.proofs.Listing.{same_source, first_inside, first_below}
-use Rattle.source_pick.proofs.AlikeSources.{source_up}
+use Rattle.source_pick.proofs.HighNodes.{top_high}
 use Rattle.source_pick.proofs.AlongSums.{along_first, reached_in_node}
 use Rattle.source_pick.proofs.AlongSources.{along_source_there}
 use Rattle.source_pick.proofs.MovedRows.{StandApart, along_row}
 
--- the pixel that represents a source has at least the threshold
-top_high : (r : Raster) (connect : Connect) (choice : Choice) (n : ℕ) → IsPlane r → n < length (nodes r connect) → is_source r connect choice n ≡ true
-    → IsTrue (is_at_least r choice.threshold (top_of r connect n))
-top_high r connect choice n plane hn k =
-    Nodes.at_least-from r choice.threshold (top_of r connect n) (top-defined r connect n hn)
-    (subst (λ (z : ℤ). int_le choice.threshold z ≡ true) (level-of_node r connect n hn) (int_le-from choice.threshold (level_of_node r connect n) (source_up r connect choice n plane hn k)))
-
 -- each pixel of such a node is reached from the pixel that represents it, at the threshold
-in_node_reached : (r : Raster) (connect : Connect) (h : ℤ) (n p : ℕ) → IsTrue (is_at_least r h (top_of r connect n)) → is_in_node r connect n p ≡ true → IsReached r connect h (top_of r connect n) p
+pub in_node_reached : (r : Raster) (connect : Connect) (h : ℤ) (n p : ℕ) → IsTrue (is_at_least r h (top_of r connect n)) → is_in_node r connect n p ≡ true
+    → IsReached r connect h (top_of r connect n) p
 unfolding is_in_node
 in_node_reached r connect h n p k i =
     (reaches-is_IsReached r connect h (top_of r connect n) p).0
@@ -38,12 +34,14 @@ in_node_reached r connect h n p k i =
 module _ (r s : Raster) (w : Window) (connect : Connect) (h : ℤ) (sure : ℕ → Bool) (plane_r : IsPlane r) (plane_s : IsPlane s) (shows : Shows r s w sure) where
   -- ---- the pairs of the window
 
+  -- pairs of the window stand apart by its corner
   pair_apart : StandApart r s w (AreSurePair r s w connect h sure)
   pair_apart = record {
     place = λ p q c. subst (λ (x : ℕ). IsAt r.shape.width s.shape.width w.left w.top x q) c.place (pair_at r s w connect h sure plane_r plane_s shows q);
     few_rows = λ p q c. y_small r p plane_r (below_from_defined r p (defined_from_at_least r h p c.high));
   }
 
+  -- so a counterpart is the node, moved
   moved_node : (n m : ℕ) → AreCounterparts r s connect (AreSurePair r s w connect h sure) n m → IsMovedNode r s w connect n m
   moved_node n m c = record {
     pixels = same;
@@ -59,21 +57,24 @@ module _ (r s : Raster) (w : Window) (connect : Connect) (h : ℤ) (sure : ℕ �
         where
           there : is_in_node r connect n (in_whole r.shape.width w q) ≡ true → is_in_node s connect m q ≡ true
           there k =
-              let t : IsReachedThere s connect (level r (top_of r connect n)) (AreSurePair r s w connect h sure) (top_of s connect m) (in_whole r.shape.width w q) =
+              let t : IsReachedThere s connect (level r (top_of r connect n)) (AreSurePair r s w connect h sure) (top_of s connect m)
+              (in_whole r.shape.width w q) =
               reached_in_node r s connect h (AreSurePair r s w connect h sure) along n m (in_whole r.shape.width w q) c k in
               subst (λ (x : ℕ). is_in_node s connect m x ≡ true) (in_whole-one r.shape w t.it q shows.inside t.pair.place)
-              (sym (counterparts_in_node r s connect h (AreSurePair r s w connect h sure) along n m (in_whole r.shape.width w q) t.it c t.pair) ∙ k)
+              (sym (counterparts_in_node r s connect h (AreSurePair r s w connect h sure) along.above n m (in_whole r.shape.width w q) t.it c t.pair) ∙ k)
 
           back : is_in_node s connect m q ≡ true → is_in_node r connect n (in_whole r.shape.width w q) ≡ true
           back k =
               let t : IsReachedThere r connect (level s (top_of s connect m)) (turned (AreSurePair r s w connect h sure)) (top_of r connect n) q =
               reached_in_node s r connect h (turned (AreSurePair r s w connect h sure)) (along_sym r s connect h (AreSurePair r s w connect h sure) along) m n q
-              (counterparts_sym r s connect h (AreSurePair r s w connect h sure) along n m c) k in
+              (counterparts_sym r s connect h (AreSurePair r s w connect h sure) along.above n m c) k in
               subst (λ (x : ℕ). is_in_node r connect n x ≡ true) (sym t.pair.place)
-              (counterparts_in_node r s connect h (AreSurePair r s w connect h sure) along n m t.it q c t.pair ∙ k)
+              (counterparts_in_node r s connect h (AreSurePair r s w connect h sure) along.above n m t.it q c t.pair ∙ k)
 
+-- a sure source of the whole is one of the window
 pub sure_sources_are_seen : SureSourcesAreSeen
-sure_sources_are_seen r s w connect choice sure n plane_r plane_s shows k = (node_of s connect g.it, is, moved_node r s w connect choice.threshold sure plane_r plane_s shows n (node_of s connect g.it) c)
+sure_sources_are_seen r s w connect choice sure n plane_r plane_s shows k =
+    (node_of s connect g.it, is, moved_node r s w connect choice.threshold sure plane_r plane_s shows n (node_of s connect g.it) c)
   where
     along : AlikeAlong r s connect choice.threshold (AreSurePair r s w connect choice.threshold sure)
     along = window_along r s w connect choice.threshold sure plane_r plane_s shows
@@ -91,7 +92,8 @@ sure_sources_are_seen r s w connect choice sure n plane_r plane_s shows k = (nod
     g = shows.shown (top_of r connect n) below top_sure
 
     c : AreCounterparts r s connect (AreSurePair r s w connect choice.threshold sure) n (node_of s connect g.it)
-    c = along_counterpart r s connect choice.threshold (AreSurePair r s w connect choice.threshold sure) along n g.it k.node (record { place = g.place; below = g.below; high = high; lies = k.lies })
+    c = along_counterpart r s connect choice.threshold (AreSurePair r s w connect choice.threshold sure) along.above n g.it k.node
+        (record { place = g.place; below = g.below; high = high; lies = k.lies })
 
     place : in_whole r.shape.width w (top_of s connect (node_of s connect g.it)) ≡ top_of r connect n
     place = c.top.place
@@ -102,12 +104,15 @@ sure_sources_are_seen r s w connect choice sure n plane_r plane_s shows k = (nod
     is : IsSureSourceIn r s w connect choice sure (node_of s connect g.it)
     is = record {
       node = c.other;
-      source = along_source_there r s connect choice (AreSurePair r s w connect choice.threshold sure) n (node_of s connect g.it) plane_r plane_s along c k.source;
+      source = along_source_there r s connect choice (AreSurePair r s w connect choice.threshold sure) n (node_of s connect g.it) plane_r plane_s along c
+          k.source;
       top_sure = sure_there;
-      lies = (sure_components_are_seen r s w connect choice.threshold sure (top_of s connect (node_of s connect g.it)) plane_r plane_s shows c.top.below sure_there).0
+      lies = (sure_components_are_seen r s w connect choice.threshold sure (top_of s connect (node_of s connect g.it)) plane_r plane_s shows c.top.below
+          sure_there).0
           (subst (λ (x : ℕ). LiesSure r connect choice.threshold sure x) (sym place) k.lies);
     }
 
+-- and the other way round
 pub seen_sources_are_sure : SeenSourcesAreSure
 seen_sources_are_sure r s w connect choice sure m plane_r plane_s shows k =
     (node_of r connect p, is, moved_node r s w connect choice.threshold sure plane_r plane_s shows (node_of r connect p) m c)
@@ -126,13 +131,14 @@ seen_sources_are_sure r s w connect choice sure m plane_r plane_s shows k =
 
     high : IsTrue (is_at_least r choice.threshold p)
     high = subst (λ (v : Option ℤ). at_least choice.threshold v ≡ true)
-        (sym (sure_same r s w connect choice.threshold sure plane_r plane_s shows (top_of s connect m) below k.top_sure)) (top_high s connect choice m plane_s k.node k.source)
+        (sym (sure_same r s w connect choice.threshold sure plane_r plane_s shows (top_of s connect m) below k.top_sure))
+        (top_high s connect choice m plane_s k.node k.source)
 
     lies : LiesSure r connect choice.threshold sure p
     lies = (sure_components_are_seen r s w connect choice.threshold sure (top_of s connect m) plane_r plane_s shows below k.top_sure).1 k.lies
 
     turned_c : AreCounterparts s r connect (turned (AreSurePair r s w connect choice.threshold sure)) m (node_of r connect p)
-    turned_c = along_counterpart s r connect choice.threshold (turned (AreSurePair r s w connect choice.threshold sure)) back m p k.node
+    turned_c = along_counterpart s r connect choice.threshold (turned (AreSurePair r s w connect choice.threshold sure)) back.above m p k.node
         (record { place = refl; below = below; high = high; lies = lies })
 
     c : AreCounterparts r s connect (AreSurePair r s w connect choice.threshold sure) (node_of r connect p) m
@@ -141,13 +147,16 @@ seen_sources_are_sure r s w connect choice sure m plane_r plane_s shows k =
     is : IsSureSource r connect choice sure (node_of r connect p)
     is = record {
       node = c.one;
-      source = along_source_there s r connect choice (turned (AreSurePair r s w connect choice.threshold sure)) m (node_of r connect p) plane_s plane_r back turned_c k.source;
+      source = along_source_there s r connect choice (turned (AreSurePair r s w connect choice.threshold sure)) m (node_of r connect p) plane_s plane_r back
+          turned_c k.source;
       lies = c.top.lies;
     }
 
 -- ---- tiles
 
-lies_from_reached : (r : Raster) (connect : Connect) (h : ℤ) (sure : ℕ → Bool) (p q : ℕ) → IsReached r connect h p q → LiesSure r connect h sure q → LiesSure r connect h sure p
+-- what reaches a component that lies sure belongs to it
+lies_from_reached : (r : Raster) (connect : Connect) (h : ℤ) (sure : ℕ → Bool) (p q : ℕ) → IsReached r connect h p q → LiesSure r connect h sure q
+    → LiesSure r connect h sure p
 lies_from_reached r connect h sure p q path lies a k = lies a (joined_trans (joined_sym path) k)
 
 -- the pixel of a tile that stands for a pixel of its core
@@ -157,20 +166,24 @@ record IsInCore (r : Raster) (connect : Connect) (choice : Choice) (t : Tile) (p
   pub place : in_whole r.shape.width t.window it ≡ p
   pub lies : LiesSure r connect choice.threshold t.sure p
 
-in_core : (r : Raster) (connect : Connect) (choice : Choice) (t : Tile) (p : ℕ) → IsPlane r → IsTileOf r connect choice t → p < length r.values → IsTrue (t.core p)
+-- each pixel of a core of at least the threshold is shown, and its component lies sure
+in_core : (r : Raster) (connect : Connect) (choice : Choice) (t : Tile) (p : ℕ) → IsPlane r → IsTileOf r connect choice t → p < length r.values
+    → IsTrue (t.core p)
     → IsTrue (is_at_least r choice.threshold p) → IsInCore r connect choice t p
 in_core r connect choice t p plane tile l k high = record {
   it = g.it;
   below = g.below;
   place = g.place;
   lies = subst (λ (x : ℕ). LiesSure r connect choice.threshold t.sure x) g.place
-      ((sure_components_are_seen r t.plane t.window connect choice.threshold t.sure g.it plane tile.one_each tile.shows g.below (subst (λ (x : ℕ). IsTrue (t.sure x)) (sym g.place) (tile.core_sure p k))).1
+      ((sure_components_are_seen r t.plane t.window connect choice.threshold t.sure g.it plane tile.one_each tile.shows g.below
+      (subst (λ (x : ℕ). IsTrue (t.sure x)) (sym g.place) (tile.core_sure p k))).1
       (tile.answers g.it (subst (λ (x : ℕ). IsTrue (t.core x)) (sym g.place) k) (subst (λ (v : Option ℤ). at_least choice.threshold v ≡ true) g.same high)));
 }
   where
     g : IsShown r t.plane t.window p
     g = tile.shows.shown p l (tile.core_sure p k)
 
+-- the tile is the one whose core has the least pixel
 pub each_source_is_a_tiles : EachSourceIsATiles
 each_source_is_a_tiles r connect choice tiles n plane tile cover hn k = (
   t,
@@ -215,6 +228,7 @@ each_source_is_a_tiles r connect choice tiles n plane tile cover hn k = (
     m = sure_sources_are_seen r t.plane t.window connect choice t.sure n plane is_tile.one_each is_tile.shows
         (record { node = hn; source = k; lies = lies_from_reached r connect choice.threshold t.sure (top_of r connect n) first path here_core.lies })
 
+-- an own source is a sure one
 pub own_sources_are_the_wholes : OwnSourcesAreTheWholes
 own_sources_are_the_wholes r connect choice t m plane tile k = (n.0, record { node = n.1.node; source = n.1.source; from = k; moved = n.2 })
   where
@@ -243,11 +257,13 @@ own_sources_are_the_wholes r connect choice t m plane tile k = (n.0, record { no
       lies = λ b x. lies_first b (joined_trans (joined_sym path) x);
     })
 
+-- two tiles with it would share its least pixel
 pub own_sources_are_distinct : OwnSourcesAreDistinct
 own_sources_are_distinct r connect choice t u n m k plane tile_t tile_u apart f g = (same, one)
   where
     same : t ≡ u
-    same = apart (sums_of r connect n).first (subst (λ (x : ℕ). IsTrue (t.core x)) (sym f.moved.first) f.from.own) (subst (λ (x : ℕ). IsTrue (u.core x)) (sym g.moved.first) g.from.own)
+    same = apart (sums_of r connect n).first (subst (λ (x : ℕ). IsTrue (t.core x)) (sym f.moved.first) f.from.own)
+        (subst (λ (x : ℕ). IsTrue (u.core x)) (sym g.moved.first) g.from.own)
 
     h : IsFromTile r connect choice t n k
     h = subst (λ (x : Tile). IsFromTile r connect choice x n k) (sym same) g
@@ -255,4 +271,10 @@ own_sources_are_distinct r connect choice t u n m k plane tile_t tile_u apart f 
     one : m ≡ k
     one = same_source t.plane connect choice (sums_of t.plane connect m).first m k tile_t.one_each
         (record { node = f.from.node; source = f.from.source; first = refl })
-        (record { node = h.from.node; source = h.from.source; first = in_whole-one r.shape t.window (sums_of t.plane connect k).first (sums_of t.plane connect m).first tile_t.shows.inside (sym h.moved.first ∙ f.moved.first) })
+        (record {
+          node = h.from.node;
+          source = h.from.source;
+          first =
+              in_whole-one r.shape t.window (sums_of t.plane connect k).first (sums_of t.plane connect m).first tile_t.shows.inside
+              (sym h.moved.first ∙ f.moved.first);
+        })

@@ -110,7 +110,8 @@ OwnSourcesAreTheWholes = (r : Raster) (connect : Connect) (choice : Choice) (t :
 
 -- where no pixel is in two cores, a source of the whole is one source of one tile
 abbrev pub OwnSourcesAreDistinct : Type 0
-OwnSourcesAreDistinct = (r : Raster) (connect : Connect) (choice : Choice) (t u : Tile) (n m k : ℕ) → IsPlane r → IsTileOf r connect choice t → IsTileOf r connect choice u
+OwnSourcesAreDistinct = (r : Raster) (connect : Connect) (choice : Choice) (t u : Tile) (n m k : ℕ)
+    → IsPlane r → IsTileOf r connect choice t → IsTileOf r connect choice u
     → ((p : ℕ) → IsTrue (t.core p) → IsTrue (u.core p) → t ≡ u)
     → IsFromTile r connect choice t n m → IsFromTile r connect choice u n k → (t ≡ u) × (m ≡ k)
 

@@ -7,7 +7,14 @@ ghost use Rattle.source_pick.specs.Laws.{
   SourcesAreListed,
   SourcesAreInOrder,
 };
-ghost use Rattle.source_pick.specs.Windows.{SureSourcesAreSeen, SeenSourcesAreSure, EachSourceIsATiles, OwnSourcesAreTheWholes, OwnSourcesAreDistinct, TilesGiveTheCatalogue};
+ghost use Rattle.source_pick.specs.Windows.{
+  SureSourcesAreSeen,
+  SeenSourcesAreSure,
+  EachSourceIsATiles,
+  OwnSourcesAreTheWholes,
+  OwnSourcesAreDistinct,
+  TilesGiveTheCatalogue,
+};
 ghost use Rattle.source_pick.specs.Locality.{SourcesAreLocal, KeptIsAPlane, KeptHasTheSameSources};
 
 /// No two entries share a pixel.

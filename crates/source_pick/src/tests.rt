@@ -139,6 +139,32 @@ fn sources_of_small_planes(rt: HostRuntime) -> Result<(), Fail> {
                 1, 5, 5, 3, 0, 5, 1, 2, 1, 2, 1, 1, 1333, 1333, 222, 222, -112,
             ]],
         },
+        // a plane, and its window from the second column and row on: the source and its neighbours lie in it, so its row is the same
+        // but for the places, which are moved by one, and the centre by 1000
+        Case {
+            width: 4,
+            height: 4,
+            values: &[2, 2, 2, 2, 2, 2, 2, 2, 2, 2, 7, 9, 2, 2, 6, 2],
+            threshold: 5,
+            contrast: 1000,
+            nodes: &[1],
+            map: &[0, 0, 0, 0, 0, 0, 0, 0, 0, 0, 1, 1, 0, 0, 1, 0],
+            rows: &[[
+                1, 6, 2, 3, 16, 9, 3, 4, 3, 4, 3, 3, 3437, 3250, 222, 222, -112,
+            ]],
+        },
+        Case {
+            width: 3,
+            height: 3,
+            values: &[2, 2, 2, 2, 7, 9, 2, 6, 2],
+            threshold: 5,
+            contrast: 1000,
+            nodes: &[1],
+            map: &[0, 0, 0, 0, 1, 1, 0, 1, 0],
+            rows: &[[
+                1, 6, 2, 3, 16, 9, 2, 3, 2, 3, 2, 2, 2437, 2250, 222, 222, -112,
+            ]],
+        },
     ];
     for (number, case) in cases.iter().enumerate() {
         let plane = plane_of(rt.alloc(), case.width, case.height, case.values)?;

@@ -11,21 +11,18 @@ mod nodes;
 mod numbers;
 mod rows;
 
-ghost use Rattle.std.specs.Prelude.{◌≡◌, ◌⊎◌, length, filter, IfOk};
+ghost use Rattle.std.specs.Prelude.{◌≡◌, ◌⊎◌, length, IfOk};
 ghost use Rattle.comp_tree.specs.declared.shape.Connect.{Connect};
 ghost use Rattle.comp_tree.specs.declared.shape.Connect.TheVariants.{Four, Eight};
-ghost use Rattle.comp_tree.specs.Raster.{pixels as all_pixels};
 ghost use Rattle.comp_tree.specs.Components.{tree_of};
 ghost use Rattle.comp_tree.specs.Forest.{IsForest};
 ghost use Rattle.comp_tree.specs.Forest.{StandsForAll};
-ghost use Rattle.tree_canon.specs.Canonical.{is_canonical};
 
 use comp_tree::{Forest, Plane, Tree};
 use dev_io::OutOfMemory;
 use nodes::number_nodes;
-use rows::{find_canonical, find_in_parts, set_parents};
+use rows::{find_canonical, set_parents};
 use std::alloc::Global;
-use std::thread::Threads;
 
 /// The component tree of a plane, from a forest that stands for all its adjacencies under connectivity 4 or 8. The call isn't
 /// told which of the two, so the links decide the tree. It takes one pass over the pixels to find the nodes, one to number the
@@ -37,45 +34,11 @@ pub fn canon(alloc: Global, plane: &Plane, forest: &Forest) -> Result<Tree, OutO
     requires stands { StandsForAll plane.now Four forest.now ⊎ StandsForAll plane.now Eight forest.now }
     ensures { IfOk result (λ tree. (connect : Connect) → StandsForAll plane.now connect forest.now → tree ≡ tree_of plane.now connect) }
 {
-    let pixels = find_canonical(alloc, plane, forest.parents())?;
-    tree_by(alloc, plane, forest, &pixels)
-}
-
-/// The same tree. The nodes are looked for in `parts` bands of pixels, each in a thread of its own where one can be made; 0 counts
-/// as 1.
-pub fn canon_in_parts<R: Threads + Sync>(
-    rt: &R,
-    alloc: Global,
-    plane: &Plane,
-    forest: &Forest,
-    parts: u32,
-) -> Result<Tree, OutOfMemory>
-    requires one_each { length forest.now ≡ length plane.now.values }
-    requires forest { IsForest plane.now.values 0 forest.now }
-    requires stands { StandsForAll plane.now Four forest.now ⊎ StandsForAll plane.now Eight forest.now }
-    ensures { IfOk result (λ tree. (connect : Connect) → StandsForAll plane.now connect forest.now → tree ≡ tree_of plane.now connect) }
-{
-    let pixels = find_in_parts(rt, alloc, plane, forest.parents(), parts)?;
-    tree_by(alloc, plane, forest, &pixels)
-}
-
-// The tree whose nodes' pixels are known.
-fn tree_by(
-    alloc: Global,
-    plane: &Plane,
-    forest: &Forest,
-    pixels: &[u32],
-) -> Result<Tree, OutOfMemory>
-    requires one_each { length forest.now ≡ length plane.now.values }
-    requires forest { IsForest plane.now.values 0 forest.now }
-    requires stands { StandsForAll plane.now Four forest.now ⊎ StandsForAll plane.now Eight forest.now }
-    requires canonical { pixels.now ≡ filter (is_canonical plane.now forest.now) (all_pixels plane.now) }
-    ensures { IfOk result (λ tree. (connect : Connect) → StandsForAll plane.now connect forest.now → tree ≡ tree_of plane.now connect) }
-{
     let shape = plane.shape();
     let links = forest.parents();
-    let mut made = number_nodes(alloc, plane, links, pixels)?;
-    set_parents(links, &made.numbers, pixels, &mut made.rows);
+    let pixels = find_canonical(alloc, plane, links)?;
+    let mut made = number_nodes(alloc, plane, links, &pixels)?;
+    set_parents(links, &made.numbers, &pixels, &mut made.rows);
     Ok(Tree::of(shape, made.rows, made.numbers))
 }
 

@@ -1,19 +1,17 @@
 //! The rows of the nodes: one for each canonical pixel, which is a defined pixel whose link is `NONE` or has a smaller value (the
 //! level roots of Wilkinson et al. 2008).
 
-ghost use Rattle.std.specs.Prelude.{◌≡◌, ◌*◌, ◌<◌, ◌≤◌, length, map, filter, All, IfOk};
+ghost use Rattle.std.specs.Prelude.{◌≡◌, ◌<◌, length, map, filter, All, IfOk};
 ghost use Rattle.comp_tree.specs.Raster.{pixels as all_pixels};
 ghost use Rattle.comp_tree.specs.Components.{in_order};
 ghost use Rattle.comp_tree.specs.Forest.{IsForest};
-ghost use Rattle.tree_canon.specs.Canonical.{is_canonical as is_canonical_in, canonical_between, canonical_in_band, loose_row, with_parent};
+ghost use Rattle.tree_canon.specs.Canonical.{is_canonical as is_canonical_in, loose_row, with_parent};
 ghost use Rattle.tree_canon.specs.Places.{ArePixelsFrom, AreNumberedBy};
 
 use crate::numbers::node_number_at;
 use comp_tree::{NONE, NodeRow, Plane};
 use dev_io::OutOfMemory;
 use std::alloc::Global;
-use std::thread;
-use std::thread::Threads;
 
 /// The canonical pixels, in the order of pixel numbers.
 pub(crate) fn find_canonical(
@@ -25,82 +23,10 @@ pub(crate) fn find_canonical(
     requires forest { IsForest plane.now.values 0 links.now }
     ensures { IfOk result (λ found. found.items ≡ filter (is_canonical_in plane.now links.now) (all_pixels plane.now)) }
 {
-    find_between(alloc, plane, links, 0, plane.shape().pixels() as usize)
-}
-
-/// The same pixels, looked for in `parts` bands of pixels, each in a thread of its own where one can be made; 0 counts as 1.
-pub(crate) fn find_in_parts<R: Threads + Sync>(
-    rt: &R,
-    alloc: Global,
-    plane: &Plane,
-    links: &[u32],
-    parts: u32,
-) -> Result<Vec<u32>, OutOfMemory>
-    requires one_each { length links.now ≡ length plane.now.values }
-    requires forest { IsForest plane.now.values 0 links.now }
-    ensures { IfOk result (λ found. found.items ≡ filter (is_canonical_in plane.now links.now) (all_pixels plane.now)) }
-{
-    let count = plane.shape().pixels() as usize;
-    let size = count.div_ceil(parts.max(1) as usize).max(1);
-    let bands = thread::map_indices(
-        rt,
-        alloc,
-        count.div_ceil(size),
-        &|band: usize| -> Result<Vec<u32>, OutOfMemory>
-            requires { (length links.now ≡ length plane.now.values)
-                × IsForest plane.now.values 0 links.now
-                × (0 < size)
-                × (band * size < length plane.now.values) }
-            ensures { IfOk result (λ found. found.items ≡ canonical_in_band plane.entry.now links.entry.now size band) }
-        { find_in_band(alloc, plane, links, size, band) },
-    )?;
     let mut found = Vec::new(alloc);
-    for band in bands {
-        let mut band = band?;
-        found.append(&mut band)?;
-    }
-    Ok(found)
-}
-
-// The canonical pixels of a band, where each band has `size` pixels, or fewer at the end.
-fn find_in_band(
-    alloc: Global,
-    plane: &Plane,
-    links: &[u32],
-    size: usize,
-    band: usize,
-) -> Result<Vec<u32>, OutOfMemory>
-    requires one_each { length links.now ≡ length plane.now.values }
-    requires forest { IsForest plane.now.values 0 links.now }
-    requires size { 0 < size }
-    requires inside { band * size < length plane.now.values }
-    ensures { IfOk result (λ found. found.items ≡ canonical_in_band plane.now links.now size band) }
-{
-    let first = band * size;
-    let end = first + size.min(plane.shape().pixels() as usize - first);
-    find_between(alloc, plane, links, first, end)
-}
-
-// The canonical pixels from `first` up to `end`.
-fn find_between(
-    alloc: Global,
-    plane: &Plane,
-    links: &[u32],
-    first: usize,
-    end: usize,
-) -> Result<Vec<u32>, OutOfMemory>
-    requires one_each { length links.now ≡ length plane.now.values }
-    requires forest { IsForest plane.now.values 0 links.now }
-    requires order { first ≤ end }
-    requires inside { end ≤ length plane.now.values }
-    ensures { IfOk result (λ found. found.items ≡ canonical_between plane.now links.now first end) }
-{
-    // A plane tells with its shape that it has few pixels.
-    let _shape = plane.shape();
-    let mut found = Vec::new(alloc);
-    for p in first..end {
-        if is_canonical(plane, links, p as u32) {
-            found.push(p as u32)?;
+    for p in 0..plane.shape().pixels() {
+        if is_canonical(plane, links, p) {
+            found.push(p)?;
         }
     }
     Ok(found)

@@ -5,12 +5,10 @@ ghost use Rattle.std.specs.Prelude.{◌≡◌, ◌<◌, length, IsTrue};
 ghost use Rattle.comp_tree.specs.Components.{tree_of};
 ghost use Rattle.tree_canon.specs.Fitting.{IsFit, AreFit};
 
-use crate::{canon, canon_in_parts};
+use crate::canon;
 use comp_tree::{Connect, Forest, NONE, Plane, Shape, Tree, plain_tree};
 use dev_io::OutOfMemory;
 use std::alloc::Global;
-use std::process::Abort;
-use std::thread::Threads;
 
 // Whether the link of a pixel leads to a smaller pixel of its node, or from the node's representative to the parent.
 fn is_fit(plane: &Plane, connect: Connect, tree: &Tree, links: &[u32], p: u32) -> bool
@@ -55,14 +53,13 @@ fn are_fit(plane: &Plane, connect: Connect, tree: &Tree, links: &[u32]) -> bool
     true
 }
 
-// The tree by `canon`, and the tree in three parts, where the links fit.
-fn trees_from<R: Threads + Sync>(
-    rt: &R,
+// The tree by `canon`, where the links fit.
+fn tree_from(
     alloc: Global,
     plane: &Plane,
     connect: Connect,
     links: &[u32],
-) -> Result<Option<(Tree, Tree)>, OutOfMemory> {
+) -> Result<Option<Tree>, OutOfMemory> {
     let tree = plain_tree(alloc, plane, connect)?;
     let shape = plane.shape();
     if links.len() != shape.pixels() as usize || !are_fit(plane, connect, &tree, links) {
@@ -71,9 +68,8 @@ fn trees_from<R: Threads + Sync>(
     let mut parents = Vec::new(alloc);
     parents.extend_from_slice(links)?;
     let forest = Forest::of(parents);
-    let whole = canon(alloc, plane, &forest)?;
-    let in_parts = canon_in_parts(rt, alloc, plane, &forest, 3)?;
-    Ok(Some((whole, in_parts)))
+    let found = canon(alloc, plane, &forest)?;
+    Ok(Some(found))
 }
 
 #[derive(Drop)]
@@ -164,19 +160,12 @@ fn trees_from_links(rt: HostRuntime) {
                 plane.set(p as u32, Some(*value));
             }
         }
-        let found = trees_from(&rt, rt.alloc(), &plane, case.connect, case.links).expect(
-            &rt, "memory",
-        );
-        let (whole, in_parts) = found.expect(&rt, "links that fit");
-        compare(&rt, number, &whole, case);
-        compare(&rt, number, &in_parts, case);
-    }
-}
-
-fn compare(rt: &impl Abort, number: usize, tree: &Tree, case: &Case) {
-    assert_eq!(rt; tree.rows().len(), case.rows.len(), "case {number}");
-    assert!(rt; tree.node_of() == case.node_of, "case {number}");
-    for (row, wanted) in tree.rows().iter().zip(case.rows.iter()) {
-        assert_eq!(rt; (row.level, row.rep, row.parent), *wanted, "case {number}");
+        let found = tree_from(rt.alloc(), &plane, case.connect, case.links).expect(&rt, "memory");
+        let tree = found.expect(&rt, "links that fit");
+        assert_eq!(rt; tree.rows().len(), case.rows.len(), "case {number}");
+        assert!(rt; tree.node_of() == case.node_of, "case {number}");
+        for (row, wanted) in tree.rows().iter().zip(case.rows.iter()) {
+            assert_eq!(rt; (row.level, row.rep, row.parent), *wanted, "case {number}");
+        }
     }
 }

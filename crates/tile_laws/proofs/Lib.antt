@@ -1,0 +1,11 @@
+mod Clear
+mod Sure
+mod Lists
+mod Tiles
+mod Merging
+mod Boxes
+mod Shown
+mod Mapping
+mod Depth
+mod Measured
+mod Backed

@@ -1,0 +1,5 @@
+pub mod Pieces
+pub mod Clear
+pub mod Laws
+pub mod Extents
+pub mod SecondImage

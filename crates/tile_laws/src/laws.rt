@@ -1,0 +1,49 @@
+//! The law of an image in pieces. Each part is the contract of a function that does nothing but name the laws from which it follows, and
+//! speaks of the definitions alone.
+
+ghost use Rattle.tile_laws.specs.Laws.{
+  PiecesGiveTheCatalogue,
+  PiecesGiveTheMap,
+  PiecesGiveTheMeasures,
+  FlatBoxesAreSure,
+  BoxesAreSureWithoutMesh,
+  NoMeshDetectsInTheImage,
+  PiecesGiveThePlanesCatalogue,
+};
+
+use comp_tree::laws::sure_components_are_the_same;
+use mesh_background::laws::{no_mesh_leaves_the_plane, residual_is_a_plane, residual_is_seen};
+use source_pick::laws::{sources_are_disjoint, sources_are_listed, sources_of_tiles};
+
+/// Where the cores of an image's pieces cover it, and each piece answers for its core, the catalogue of the image is that of the pieces: of each
+/// the rows whose first pixels lie in its core, moved to the image, in the order of these pixels, and numbered. A pixel has the number of
+/// such a row in the image's segmentation map exactly where a piece's own map gives it this row. In a second image, seen through the same
+/// windows, a source has the measure that the piece gives it.
+pub fn pieces_give_the_catalogue()
+    ensures catalogue { PiecesGiveTheCatalogue }
+    ensures map { PiecesGiveTheMap }
+    ensures measures { PiecesGiveTheMeasures }
+{
+    residual_is_a_plane();
+    no_mesh_leaves_the_plane();
+    residual_is_seen();
+    sure_components_are_the_same();
+    sources_are_listed();
+    sources_are_disjoint();
+    sources_of_tiles();
+}
+
+/// Which boxes are sure: with a flat background those in the clear box, and without a mesh those in the window.
+pub fn boxes_are_sure()
+    ensures flat { FlatBoxesAreSure }
+    ensures without { BoxesAreSureWithoutMesh }
+{}
+
+/// Without a mesh detection works on the image itself, and its catalogue is that of its windows.
+pub fn pieces_give_the_planes_catalogue()
+    ensures image { NoMeshDetectsInTheImage }
+    ensures catalogue { PiecesGiveThePlanesCatalogue }
+{
+    no_mesh_leaves_the_plane();
+    pieces_give_the_catalogue();
+}

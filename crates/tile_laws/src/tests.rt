@@ -1,0 +1,104 @@
+ghost use Rattle.std.specs.Prelude.{◌≡◌};
+
+use super::*;
+use comp_tree::{Connect, Plane, Shape, plain_tree};
+use node_sums::sums;
+use source_pick::{Choice, cells, pick, row};
+use std::alloc::Global;
+use std::test::Fail;
+
+// The columns from `left` up to `right` of the first row.
+fn first_row(left: u32, right: u32) -> Extent
+    ensures from { result.columns.from ≡ left }
+    ensures to { result.columns.to ≡ right }
+    ensures top { result.rows.from ≡ 0 }
+    ensures bottom { result.rows.to ≡ 1 }
+{
+    Extent {
+        columns: Span { from: left, to: right },
+        rows: Span { from: 0, to: 1 },
+    }
+}
+
+#[test]
+fn boxes_of_a_window(rt: HostRuntime) -> Result<(), Fail> {
+    let whole = Shape::of(1000, 400).ok_or("a shape")?;
+    let window = Shape::of(512, 256).ok_or("a shape")?;
+    assert_eq!(rt; (whole.width, whole.height), (1000, 400));
+    assert_eq!(rt; (window.width, window.height), (512, 256));
+    // columns 128 to 640 and rows 0 to 256: a smooth background wants a cell and a half, but for the image's own edge
+    let smooth = clear_extent(false, 64, whole, 128, 0, window);
+    assert_eq!(rt; smooth.columns, Span { from: 224, to: 544 });
+    assert_eq!(rt; smooth.rows, Span { from: 0, to: 160 });
+    let flat = clear_extent(true, 64, whole, 128, 0, window);
+    assert_eq!(rt; flat.columns, Span { from: 128, to: 640 });
+    let without = clear_extent(false, 0, whole, 488, 144, window);
+    assert_eq!(rt; without.columns, Span { from: 488, to: 1000 });
+    // the last cell of the window is cut at column 612, and its last row is the image's
+    let cut = clear_extent(true, 100, whole, 100, 144, window);
+    assert_eq!(rt; cut.columns, Span { from: 100, to: 600 });
+    assert_eq!(rt; cut.rows, Span { from: 144, to: 400 });
+    Ok(())
+}
+
+#[test]
+fn components_of_a_window(rt: HostRuntime) -> Result<(), Fail> {
+    let whole = Shape::of(6, 1).ok_or("a shape")?;
+    let window = Shape::of(4, 1).ok_or("a shape")?;
+    assert_eq!(rt; (whole.width, whole.height), (6, 1));
+    assert_eq!(rt; (window.width, window.height), (4, 1));
+    let seen = clear_extent(false, 0, whole, 2, 0, window);
+    assert!(rt; lies_deep(&first_row(4, 5), &seen, whole));
+    assert!(rt; lies_deep(&first_row(3, 6), &seen, whole));
+    assert!(rt; !lies_deep(&first_row(2, 4), &seen, whole));
+    Ok(())
+}
+
+// The catalogue's numbers of source `number` of a plane of one row, which has six sources at most.
+fn numbers_of(alloc: Global, width: u32, values: &[i64], number: u32) -> Result<[i64; 17], Fail> {
+    let shape = Shape::of(width, 1).ok_or("a shape")?;
+    let plane = plane_of(alloc, shape, values)?;
+    let choice = Choice {
+        threshold: 2,
+        min_area: 1,
+        min_flux: 0,
+        contrast: 5,
+    };
+    let tree = plain_tree(alloc, &plane, Connect::Four)?;
+    let found = sums(alloc, &plane, &tree)?;
+    let picked = pick(alloc, &tree, &found, &choice)?;
+    if number == 0 || number > 6 || number as usize > picked.len() {
+        return Err(Fail::from("no such source"));
+    }
+    let n = picked[number as usize - 1];
+    if n as usize >= tree.rows().len() {
+        return Err(Fail::from("no such node"));
+    }
+    Ok(cells(&row(&tree, &found, number, n)))
+}
+
+// A plane of this shape, whose first pixels are these.
+fn plane_of(alloc: Global, shape: Shape, values: &[i64]) -> Result<Plane, Fail> {
+    let mut plane = Plane::blank(alloc, shape)?;
+    for (p, value) in values.iter().enumerate() {
+        if *value > 0 && *value < 256 && p < plane.shape().pixels() as usize {
+            plane.set(p as u32, Some(*value));
+        }
+    }
+    Ok(plane)
+}
+
+// One star in column 1 and one in column 4, counted from 0; the windows have columns 0 to 3, and 2 to 5.
+#[test]
+fn sources_of_two_windows(rt: HostRuntime) -> Result<(), Fail> {
+    let whole = [1, 6, 1, 1, 5, 1];
+    let first = [1, 6, 1, 1, 5, 6, 2, 2, 1, 1, 2, 1, 2000, 1000, 0, 0, 0];
+    let second = [2, 5, 1, 1, 4, 5, 5, 5, 1, 1, 5, 1, 5000, 1000, 0, 0, 0];
+    assert_eq!(rt; numbers_of(rt.alloc(), 6, &whole, 1)?, first);
+    assert_eq!(rt; numbers_of(rt.alloc(), 6, &whole, 2)?, second);
+    assert_eq!(rt; numbers_of(rt.alloc(), 4, &whole[..4], 1)?, first);
+    // the same row, two columns further left, and with the number that it has in its window
+    let seen = [1, 5, 1, 1, 4, 5, 3, 3, 1, 1, 3, 1, 3000, 1000, 0, 0, 0];
+    assert_eq!(rt; numbers_of(rt.alloc(), 4, &whole[2..], 1)?, seen);
+    Ok(())
+}

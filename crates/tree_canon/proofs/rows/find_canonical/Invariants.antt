@@ -1,0 +1,6 @@
+use Rattle.std.proofs.Common.{◌≡◌}
+use Rattle.tree_canon.proofs.Finding.{listed}
+use Rattle.tree_canon.proofs.rows.find_canonical.Given as goal
+
+abbrev pub invariant-loop-p : goal.invariant-loop-p
+invariant-loop-p l = l.found.items ≡ listed l.plane l.links l.p

@@ -1,0 +1,252 @@
+"""The command `maxcat`, from files to files."""
+import os
+import subprocess
+import sys
+
+import numpy
+import pytest
+from astropy.io import fits
+from astropy.table import Table
+from astropy.wcs import WCS
+
+from conftest import TOP
+from maxdetect import cli, detection
+
+
+def header(**cards):
+    """A header with a WCS, a second of arc to a pixel."""
+    wcs = WCS(naxis=2)
+    wcs.wcs.ctype, wcs.wcs.crval, wcs.wcs.crpix = ["RA---TAN", "DEC--TAN"], [150.0, 2.0], [128.5, 128.5]
+    wcs.wcs.cdelt = [-1 / 3600, 1 / 3600]
+    return fits.Header({**wcs.to_header(), "BUNIT": "electron", "GAIN": 1.0, **cards})
+
+
+@pytest.fixture
+def here(tmp_path, monkeypatch, stars):
+    """A folder with the star field as image.fits."""
+    monkeypatch.chdir(tmp_path)
+    fits.writeto("image.fits", stars[0], header())
+    return tmp_path
+
+
+def catalogue(*words):
+    assert cli.main([str(word) for word in words]) == 0
+    return Table.read(words[words.index("-o") + 1])
+
+
+def told(capsys, *words):
+    """The one line that a mistake is told in."""
+    before = sorted(os.listdir("."))
+    assert cli.main([str(word) for word in words]) == 2
+    out, err = capsys.readouterr()
+    assert out == "" and err.startswith("maxcat: ") and err.endswith("\n") and err.count("\n") == 1
+    assert sorted(os.listdir(".")) == before
+    return err
+
+
+def nearest(table, places):
+    """The rows of the sources at these places, counted from 0, and how far off they are."""
+    apart = numpy.hypot(
+        *(numpy.asarray(table[name])[None] - 1 - places[:, axis, None] for axis, name in enumerate("XY"))
+    )
+    return table[apart.argmin(axis=1)], apart.min(axis=1)
+
+
+def test_a_star_field(here, stars, capsys):
+    table = catalogue("image.fits", "-o", "cat.fits", "--map", "map.fits", "--regions", "all.reg", "--zeropoint", 30)
+    assert capsys.readouterr().out == f"{len(table)} sources in cat.fits\n"
+    _, places, fluxes = stars
+    own, apart = nearest(table, places)
+    assert 25 <= len(table) <= 27 and apart.max() < 0.3
+    assert numpy.asarray(own["FLUX_KRON"]) / fluxes == pytest.approx(1, abs=0.15)
+    assert numpy.median(own["FLUX_KRON"] / fluxes) == pytest.approx(1, abs=0.02)
+    assert numpy.asarray(own["MAG_KRON"]) == pytest.approx(30 - 2.5 * numpy.log10(own["FLUX_KRON"]))
+    right, declination = WCS(header()).all_pix2world(own["X"], own["Y"], 1)
+    assert numpy.asarray(own["RA"]) == pytest.approx(right) and numpy.asarray(own["DEC"]) == pytest.approx(declination)
+    segments = fits.getdata("map.fits")
+    assert segments.dtype == ">i4" and segments.shape == (256, 256) and WCS(fits.getheader("map.fits")).has_celestial
+    assert (numpy.bincount(segments.ravel())[1:] == table["AREA"]).all()
+    assert open("all.reg").read().count("ellipse(") == len(table)
+    assert not [name for name in os.listdir(".") if name.endswith(".part")]
+
+
+@pytest.mark.parametrize("words", [[], ["--smooth"], ["--rms", "local"], ["--mesh", 0], ["--mesh", 30]])
+def test_tiles_give_what_the_whole_gives(here, monkeypatch, words):
+    whole = catalogue("image.fits", "-o", "whole.fits", "--map", "whole.map.fits", *words)
+    monkeypatch.setattr(detection, "TILE", 90)
+    monkeypatch.setattr(detection.Settings, "tile", 90)
+    monkeypatch.setattr(
+        detection.Settings.__init__, "__defaults__", (*detection.Settings.__init__.__defaults__[:-2], 90, 1)
+    )
+    tiled = catalogue("image.fits", "-o", "tiled.fits", "--map", "tiled.map.fits", "--workers", 3, *words)
+    assert len(whole) == len(tiled) > 20
+    for name in whole.colnames[:17]:
+        assert (whole[name] == tiled[name]).all(), name
+    assert (fits.getdata("whole.map.fits") == fits.getdata("tiled.map.fits")).all()
+
+
+def test_forms_and_default_names(here):
+    for name in ("cat.csv", "cat.ecsv", "cat.xml"):
+        assert cli.main(["image.fits", "-o", name]) == 0 and os.path.getsize(name) > 1000
+    os.mkdir("deep")
+    os.rename("image.fits", "deep/an image.fits.gz")
+    os.link("deep/an image.fits.gz", "deep/b.fits")
+    assert cli.main(["deep/b.fits", "deep/an image.fits.gz"]) in (0, 2)
+    assert cli.main(["deep/b.fits"]) == 0 and os.path.exists("deep/b.cat.fits")
+
+
+def test_undefined_pixels_and_a_mask(here, stars):
+    image, places, _ = stars
+    x, y = (int(at) for at in places[12])
+    image = image.astype("f8")
+    image[y - 9 : y + 10, x - 9 : x + 10] = numpy.nan
+    fits.writeto("nan.fits", image)
+    fits.writeto("mask.fits", (~numpy.isfinite(image)).astype("u1"))
+    one = catalogue("nan.fits", "-o", "one.fits", "--gain", 1)
+    assert nearest(one, places[12:13])[1] > 5 and nearest(one, numpy.delete(places, 12, 0))[1].max() < 0.3
+    other = catalogue("image.fits", "-o", "other.fits", "--mask", "mask.fits")
+    assert len(one) == len(other) and numpy.allclose(one["FLUX_KRON"], other["FLUX_KRON"], rtol=1e-4)
+
+
+def test_several_ccds_at_once(here, stars):
+    image = stars[0]
+    ccds = [fits.CompImageHDU(image, header(), name="A", quantize_level=0, compression_type="GZIP_1")]
+    ccds += [fits.ImageHDU(image[::-1].copy(), header(), name="B"), fits.ImageHDU(image[:200].astype("i2"), header())]
+    fits.HDUList([fits.PrimaryHDU(), *ccds]).writeto("mosaic.fits")
+    table = catalogue("mosaic.fits", "--hdu", "all", "-o", "cat.fits", "--map", "map.fits", "--workers", 2)
+    assert [str(name) for name in dict.fromkeys(table["EXTENSION"])] == ["A", "B", "3"]
+    with fits.open("map.fits") as maps:
+        for number, name in enumerate(("A", "B", "3"), 1):
+            rows = table[table["EXTENSION"] == name]
+            assert len(rows) > 18 and maps[number].data.max() == len(rows) and "RA" in rows.colnames
+            assert (numpy.bincount(maps[number].data.ravel())[1:] == rows["AREA"]).all()
+    alone = catalogue("mosaic.fits", "--hdu", "B", "-o", "b.fits")
+    assert (alone["FLUX"] == table[table["EXTENSION"] == "B"]["FLUX"]).all()
+
+
+def test_a_plane_of_a_cube(here, stars, capsys):
+    fits.writeto("cube.fits", numpy.stack([stars[0][::-1], stars[0]]), header())
+    assert "2 planes" in told(capsys, "cube.fits")
+    one, other = catalogue("cube.fits", "--plane", 2, "-o", "a.fits"), catalogue("image.fits", "-o", "b.fits")
+    assert (one["FLUX"] == other["FLUX"]).all() and numpy.allclose(one["RA"], other["RA"])
+
+
+@pytest.mark.parametrize("kind", ["rms", "variance", "weight"])
+def test_noise_that_is_not_even(here, stars, kind):
+    rng, noise = numpy.random.default_rng(9), numpy.full((256, 256), 30.0)
+    noise[:, 128:] = 90
+    image = stars[0] + rng.normal(0, (noise**2 - 900) ** 0.5)
+    fits.writeto("uneven.fits", image.astype("f4"))
+    fits.writeto("noise.fits", {"rms": noise, "variance": noise**2, "weight": 5 / noise**2}[kind].astype("f4"))
+    plain, found = (
+        catalogue("uneven.fits", "-o", "cat.fits", *more)
+        for more in ([], ["--weight", "noise.fits", "--weight-type", kind])
+    )
+    right = [numpy.asarray(table["X"]) > 132 for table in (plain, found)]
+    assert right[0].sum() > right[1].sum() and 8 <= right[1].sum() <= 14
+    own, apart = nearest(found, stars[1][stars[1][:, 0] < 120])
+    assert apart.max() < 0.3 and numpy.median(own["FLUXERR_ISO"] / numpy.sqrt(own["AREA"])) == pytest.approx(
+        30, rel=0.1
+    )
+    local = catalogue("uneven.fits", "-o", "cat.fits", "--rms", "local", "--mesh", 32)
+    assert (numpy.asarray(local["X"]) > 150).sum() < 16
+
+
+def test_a_sky_that_slopes_to_the_edge(here):
+    rng = numpy.random.default_rng(10)
+    sky = numpy.repeat(900 * (1 + numpy.linspace(0, 0.5, 512)[None, :]), 256, axis=0)
+    fits.writeto("slope.fits", rng.poisson(sky).astype("f4"))
+    assert len(catalogue("slope.fits", "-o", "cat.fits")) <= 3
+
+
+def test_measured_in_another_image(here, stars):
+    fits.writeto("red.fits", 2 * stars[0])
+    one, other = catalogue("image.fits", "-o", "a.fits"), catalogue(
+        "image.fits", "-o", "b.fits", "--measure", "red.fits:0"
+    )
+    assert (one["FLUX"] == other["FLUX"]).all()
+    assert numpy.allclose(other["FLUX_APER"], 2 * one["FLUX_APER"], rtol=0.02, atol=60)
+
+
+def test_a_source_at_the_edge_stays_within(here, stars):
+    fits.writeto("cut.fits", stars[0][:, int(stars[1][0, 0]) :])
+    table = catalogue("cut.fits", "-o", "cat.fits", "--map", "map.fits")
+    assert table["XMIN"].min() == 1 and (table["FLAGS"][table["XMIN"] == 1] & 1).all()
+    assert (table["FLAGS"][table["XMIN"] > 3] & 16 == 0).all()
+
+
+WRONG = [
+    (["none.fits"], "none.fits"),
+    (["image.fits", "-o", "cat.txt"], "cat.txt"),
+    (["image.fits", "-o", "no/cat.fits"], "no/cat.fits"),
+    (["image.fits", "-o", "image.fits"], "image.fits is read"),
+    (["image.fits", "-o", "./cat.fits", "--map", "cat.fits"], "twice"),
+    (["image.fits", "--map", "image.fits"], "image.fits is read"),
+    (["image.fits", "--hdu", "3"], "no HDU 3"),
+    (["image.fits", "--hdu", "SCI"], "no HDU SCI"),
+    (["image.fits", "--plane", "2"], "no plane 2"),
+    (["image.fits", "--mesh", "-1"], "--mesh"),
+    (["image.fits", "--mesh", "x"], "--mesh"),
+    (["image.fits", "--sigmas", "-2"], "--sigmas"),
+    (["image.fits", "--sigmas", "nan"], "--sigmas"),
+    (["image.fits", "--sigmas", "1e300"], "threshold"),
+    (["image.fits", "--zeropoint", "inf"], "--zeropoint"),
+    (["image.fits", "--workers", "0"], "--workers"),
+    (["image.fits", "--what"], "--what"),
+    ([], "IMAGE"),
+    (["image.fits", "image.fits", "-o", "cat.fits"], "one image"),
+    (["image.fits", "--weight", "small.fits"], "differ in width or height"),
+    (["image.fits", "--mask", "none.fits:1"], "none.fits"),
+    (["image.fits", "--measure", "image.fits:4"], "no HDU 4"),
+    (["image.fits", "--weight-type", "rms"], "--weight"),
+    (["image.fits", "--hdu", "all", "--plot", "a.png"], "--plot"),
+    (["image.fits", "--plot", "a.jpg"], "a.jpg"),
+    (["image.fits", "--crop", "1,9,1,9"], "--plot"),
+    (["image.fits", "--plot", "a.png", "--crop", "1,9,5"], "--crop"),
+    (["image.fits", "--plot", "a.png", "--crop", "900,990,1,5"], "--crop"),
+    (["flat.fits"], "no noise"),
+    (["nothing.fits"], "no pixel"),
+    (["text.fits"], "text.fits"),
+]
+
+
+@pytest.mark.parametrize("words, text", WRONG, ids=[" ".join(words) or "nothing" for words, _ in WRONG])
+def test_mistakes_are_one_line_and_leave_nothing(here, capsys, words, text):
+    fits.writeto("small.fits", numpy.zeros((9, 9), dtype="f4"))
+    fits.writeto("flat.fits", numpy.zeros((90, 90), dtype="f4"))
+    fits.writeto("nothing.fits", numpy.full((90, 90), numpy.nan, dtype="f4"))
+    (here / "text.fits").write_text("text\n")
+    assert text in told(capsys, *words)
+
+
+def test_a_program_that_fails_leaves_nothing(here, capsys, monkeypatch):
+    (here / "killed").write_text("#!/bin/sh\nkill -9 $$\n")
+    (here / "killed").chmod(0o755)
+    monkeypatch.setenv("MAXDETECT", str(here / "killed"))
+    assert "signal 9" in told(capsys, "image.fits", "--map", "map.fits", "--workers", "2")
+
+
+def test_the_launcher(here):
+    result = subprocess.run([TOP / "maxcat", "--version"], capture_output=True, text=True, check=True)
+    assert result.stdout.startswith("maxcat ")
+    environment = {**os.environ, "PYTHONPATH": str(TOP / "python")}
+    for words, status in (["--help"], 0), (["none.fits"], 2):
+        command = [sys.executable, "-m", "maxdetect.cli", *words]
+        result = subprocess.run(command, capture_output=True, text=True, check=False, env=environment)
+        assert result.returncode == status and "Traceback" not in result.stderr
+
+
+def test_prepare(here, capsys):
+    words = [sys.executable, TOP / "examples" / "prepare.py"]
+    result = subprocess.run([*words, "image.fits", "pre pared.fits"], capture_output=True, text=True, check=True)
+    assert result.stdout == (
+        "maxdetect detect --threshold 68 --min-area 5 --connect 8 --mesh 64 < 'pre pared.fits' > sources.fits\n"
+    )
+    prepared = fits.getheader("pre pared.fits")
+    assert (
+        prepared["BITPIX"] == 32
+        and "BUNIT" not in prepared
+        and 30 / prepared["MAXSCALE"] == pytest.approx(30, rel=0.05)
+    )
+    result = subprocess.run([*words, "image.fits", "image.fits"], capture_output=True, text=True, check=False)
+    assert result.returncode == 2 and result.stderr.startswith("prepare: ")
