@@ -78,6 +78,11 @@ class _Pixels(typing.NamedTuple):
         """The sum of the weights over each source, by number."""
         return numpy.bincount(self.numbers, weights, self.length).astype("f8", copy=False)
 
+    def among(self, chosen: numpy.ndarray) -> "_Pixels":
+        """Those of an image's pixels that are chosen."""
+        here = chosen.ravel()[self.places]
+        return self if here.all() else _Pixels(self.places[here], self.numbers[here], self.length)
+
     def having(self, chosen: numpy.ndarray) -> numpy.ndarray:
         """Whether one of a source's pixels is chosen, by number."""
         found = numpy.zeros(self.length, dtype=bool)
@@ -141,14 +146,15 @@ def sky(
     `mesh` pixels (with `mesh` 0 it is one number): means, which the light of faint sources draws up. By how much SEP
     tells, from the residual's pixels that lie at least four pixels from every source, or closer where these are too
     few; the median over its cells is taken off everywhere. The background is an array of the image's shape. The noise
-    is one standard deviation of a pixel: one number, or with `local` an array. Raises ValueError where no pixel has a
-    value.
+    is one standard deviation of a pixel: one number, or with `local` an array. Where no pixel has a value both are
+    NaN.
     """
     if mesh < 0:
         raise ValueError(f"mesh is 0 or a number of pixels, not {mesh}")
     undefined = _undefined(image, mask)
     if undefined.all():
-        raise ValueError("no pixel of the image has a value")
+        unknown = numpy.full(undefined.shape, numpy.nan, dtype="f4")
+        return unknown, unknown if local else numpy.nan
     if level is None:
         level = _level(numpy.ma.MaskedArray(numpy.ma.getdata(image), mask=undefined), mesh)
     left_out = _left_out(numpy.asarray(segments), undefined)
@@ -199,7 +205,7 @@ def _residual(image: numpy.ndarray, background: Numbers, undefined: numpy.ndarra
 def _isophotal(
     pixels: _Pixels, residual: numpy.ndarray, noise: Numbers, gain: typing.Optional[float]
 ) -> typing.Tuple[numpy.ndarray, numpy.ndarray]:
-    """The sums over the sources' pixels and their errors, by number."""
+    """The sums over the sources' defined pixels and their errors, by number; NaN where there are none."""
     flux = pixels.summed(residual.ravel()[pixels.places])
     if numpy.ndim(noise) == 0:
         variance = pixels.summed(numpy.full(len(pixels.places), float(noise) ** 2))
@@ -207,7 +213,8 @@ def _isophotal(
         variance = pixels.summed(noise.ravel()[pixels.places].astype("f8") ** 2)
     if gain:
         variance += numpy.maximum(flux, 0) / gain
-    return flux, numpy.sqrt(variance)
+    seen = numpy.bincount(pixels.numbers, minlength=pixels.length) > 0
+    return numpy.where(seen, flux, numpy.nan), numpy.where(seen, numpy.sqrt(variance), numpy.nan)
 
 
 def _flags(pixels, image, undefined, catalogue, numbers, saturation, threshold) -> numpy.ndarray:
@@ -239,6 +246,12 @@ def _half_light(residual, x, y, reach, flux, alone) -> numpy.ndarray:
     return half
 
 
+def _where_seen(flux, error, told):
+    """What SEP tells of apertures, with NaN for those of which no pixel has a value."""
+    seen = (told & sep.APER_ALLMASKED) == 0
+    return numpy.where(seen, flux, numpy.nan), numpy.where(seen, error, numpy.nan), told
+
+
 def measured(
     image: numpy.ndarray,
     background: Numbers,
@@ -267,7 +280,8 @@ def measured(
     Columns: X, Y, FLUX_ISO, FLUXERR_ISO, FLUX_KRON, FLUXERR_KRON, KRON_RADIUS (half the long axis of the ellipse, in
     pixels), FLUX_APER, FLUXERR_APER, A, B, THETA, FWHM (the diameter that holds half of the Kron flux: that of a
     Gaussian is its full width at half its height; NaN where there is none) and FLAGS, a sum of the bits in `FLAGS`.
-    Errors are standard deviations; they know nothing of the background's error.
+    Errors are standard deviations; they know nothing of the background's error. Fluxes are NaN where no pixel has a
+    value.
     """
     shape = numpy.shape(image)
     if numpy.shape(segments) != shape:
@@ -283,7 +297,7 @@ def measured(
     numbers = numpy.asarray(catalogue["NUMBER"], dtype="i4")
     within = segments.ravel()[places]
     pixels = _Pixels(places, within, int(max(within.max(initial=0), numbers.max(initial=0))) + 1)
-    flux, error = _isophotal(pixels, residual, noise, gain)
+    flux, error = _isophotal(pixels.among(~undefined), residual, noise, gain)
     flags = _flags(pixels, image, undefined, catalogue, numbers, saturation, threshold)
     apertures = _apertures(residual, noise, undefined, segments, catalogue, gain, aperture, kron)
     table = Table({"X": numpy.asarray(catalogue["XCEN"]) / 1000, "Y": numpy.asarray(catalogue["YCEN"]) / 1000})
@@ -311,9 +325,10 @@ def _apertures(
     # Noise may leave no light to average over, or a mean that lies outside of where it was sought.
     radius = numpy.where(numpy.isfinite(radius) & (radius > 0), numpy.minimum(radius, KRON_REACH), 0)
     radius = numpy.maximum(kron * radius, kron)
-    flux, error, told = sep.sum_ellipse(residual, *shape, radius, err=noise, gain=gain, subpix=1, **alone)
-    in_circle, circle_error, _ = sep.sum_circle(residual, x, y, aperture, err=noise, gain=gain, subpix=5, **alone)
-    half = _half_light(residual, x, y, radius * long / 2, flux, alone)
+    how = {"err": noise, "gain": gain, **alone}
+    flux, error, told = _where_seen(*sep.sum_ellipse(residual, *shape, radius, subpix=1, **how))
+    in_circle, circle_error, _ = _where_seen(*sep.sum_circle(residual, x, y, aperture, subpix=5, **how))
+    half = _half_light(residual, x, y, radius * long / 2, numpy.nan_to_num(flux), alone)
     flags = CROWDED * ((told & sep.APER_HASMASKED) != 0) | BEYOND * ((told & sep.APER_TRUNC) != 0)
     return {
         "FLUX_KRON": flux,

@@ -172,6 +172,19 @@ def test_pixels_without_noise_are_undefined():
     assert one["FLAGS"][0] & photometry.UNDEFINED
 
 
+def test_sources_without_a_value():
+    """As where they are measured in another image that doesn't reach as far."""
+    image = SKY + gaussian(60, 100, 10000.0) + gaussian(140, 100, 10000.0)
+    segments, catalogue = found(image, 110)
+    for other in (numpy.where(numpy.arange(SIDE) < 100, image, numpy.nan), image * numpy.nan):
+        background, noise = photometry.sky(other, segments)
+        table = photometry.measured(other, background, noise, segments, catalogue, gain=1.0)
+        for name in ("FLUX_ISO", "FLUXERR_ISO", "FLUX_KRON", "FLUXERR_KRON", "FLUX_APER", "FLUXERR_APER", "FWHM"):
+            assert numpy.isnan(table[name][1]) and numpy.isnan(table[name][0]) == numpy.isnan(other).all()
+        assert table["FLAGS"][1] & photometry.UNDEFINED
+    assert table["X"][0] == pytest.approx(61, abs=0.01)
+
+
 def test_no_sources():
     image = numpy.full((30, 20), SKY)
     table = photometry.measured(image, SKY, SIGMA, *found(image, 200))
@@ -209,7 +222,7 @@ def test_sky_where_sources_are_everywhere():
     image = numpy.random.default_rng(7).normal(SKY, SIGMA, (128, 128))
     background, _ = photometry.sky(image, numpy.ones(image.shape, dtype="i4"))
     assert background[64, 64] == pytest.approx(SKY, abs=1)
-    with pytest.raises(ValueError):
-        photometry.sky(image * numpy.nan, numpy.zeros(image.shape, dtype="i4"))
+    background, noise = photometry.sky(image * numpy.nan, numpy.zeros(image.shape, dtype="i4"))
+    assert numpy.isnan(background).all() and numpy.isnan(noise)
     with pytest.raises(ValueError):
         photometry.sky(image, numpy.zeros(image.shape, dtype="i4"), -1)
