@@ -126,3 +126,15 @@ def test_what_is_refused():
         maxdetect.detect_tiles(numpy.zeros((8, 8)), 1)
     with pytest.raises(maxdetect.Refusal, match="threshold"):
         maxdetect.detect_tiles(numpy.zeros((8, 8), dtype="i4"), 2**40)
+
+
+@pytest.mark.parametrize("tile", [128, 256])
+def test_tiles_of_a_crowd(tile):
+    rng = numpy.random.default_rng(11)
+    light = numpy.zeros((520, 500))
+    light[rng.integers(0, 520, 2000), rng.integers(0, 500, 2000)] = 10 ** rng.uniform(2.5, 4.5, 2000)
+    image = rng.poisson(900 + ndimage.gaussian_filter(light, 1.5) + ndimage.gaussian_filter(light, 9)).astype("i4")
+    options = dict(min_area=5, connect=8, mesh=64)
+    whole = maxdetect.detect(image, 68, **options)
+    assert len(whole[0]) > 500
+    are_the_same(whole, maxdetect.detect_tiles(image, 68, tile, **options))
