@@ -28,6 +28,7 @@ results are proved; the sky, the scaling and the photometry around it are not. E
 with status 2; nothing is written then.
 """
 MOST_WORKERS = 64
+MOST_SIGMAS = 1e6
 
 
 class Parser(argparse.ArgumentParser):
@@ -64,8 +65,22 @@ def _whole(least: int, most: int):
     return parse
 
 
-MESH = _whole(0, 1024)
+def mesh_side(text: str) -> int:
+    """The side of the background's cells, or 0."""
+    least, most = detection.LEAST_MESH, detection.MOST_MESH
+    if int(text) != 0 and not least <= int(text) <= most:
+        raise argparse.ArgumentTypeError(f"{text} is neither 0 nor a whole number from {least} to {most}")
+    return int(text)
+
+
 above_zero = _number(0, True)
+
+
+def sigmas(text: str) -> float:
+    """A threshold in deviations of the noise."""
+    if not 0 < float(text) <= MOST_SIGMAS:
+        raise argparse.ArgumentTypeError(f"{text} isn't a number above 0 and up to {MOST_SIGMAS:g}")
+    return float(text)
 
 
 def _crop(text: str) -> Tuple[int, ...]:
@@ -126,7 +141,7 @@ def parser() -> argparse.ArgumentParser:
     how = made.add_argument_group("how sources are found")
     how.add_argument(
         "--sigmas",
-        type=above_zero,
+        type=sigmas,
         metavar="S",
         help="the threshold, in deviations of the noise (default: 2.25; 1.375 with --smooth)",
     )
@@ -137,7 +152,7 @@ def parser() -> argparse.ArgumentParser:
     )
     how.add_argument(
         "--mesh",
-        type=MESH,
+        type=mesh_side,
         default=64,
         metavar="SIDE",
         help="side of the background's cells in pixels; 0: one level (default: 64)",
@@ -195,13 +210,8 @@ def _from_header(plane: images.Plane, keyword: str) -> Optional[float]:
 def _field(plane: images.Plane, given: argparse.Namespace) -> detection.Field:
     """An image with what belongs to it."""
     beside = given.hdu == "all"
-    others = {
-        name: images.matching(text, plane, None, beside)
-        for name, text in (("mask", given.mask), ("weights", given.weight))
-        if text
-    }
-    if given.measure:
-        others["values"] = images.matching(given.measure, plane, None, beside)
+    texts = (("mask", given.mask), ("weights", given.weight), ("values", given.measure))
+    others = {name: images.matching(text, plane, given.plane, beside) for name, text in texts if text}
     measured = others.get("values", plane)
     settings = detection.Settings(
         sigmas=given.sigmas,
@@ -244,7 +254,10 @@ def _check_names(given: argparse.Namespace, tasks: List[Task]) -> None:
 
 
 def _check(given: argparse.Namespace) -> None:
-    """Options that don't go together."""
+    """Names that are empty, and options that don't go together."""
+    for name in ("output", "map", "regions", "plot", "weight", "mask", "measure"):
+        if getattr(given, name) == "":
+            raise Mistake(f"--{name} has an empty name")
     if len(given.images) > 1:
         for name in ("output", "map", "regions", "plot"):
             if getattr(given, name):
@@ -315,9 +328,7 @@ def _map_headers(task: Task) -> List[bytes]:
     """The headers of the maps' HDUs: the first is the primary where it is the only one."""
     headers = []
     for field in task.fields:
-        hdu = tables.map_hdu(
-            numpy.zeros((1, 1), dtype="i4"), field.plane.header, field.plane.name or f"HDU{field.plane.number}"
-        )
+        hdu = tables.map_hdu(numpy.zeros((1, 1), dtype="i4"), field.plane.header, _extension(field, task))
         if len(task.fields) == 1:
             hdu = fits.PrimaryHDU(hdu.data, hdu.header)
         hdu.header["NAXIS1"], hdu.header["NAXIS2"] = field.shape[1], field.shape[0]
@@ -329,9 +340,16 @@ def _map_headers(task: Task) -> List[bytes]:
     )
 
 
-def _finished(table: Table, field: detection.Field, given: argparse.Namespace) -> Table:
+def _extension(field: detection.Field, task: Task) -> str:
+    """The name of an image's HDU where no other has it, and else its number."""
+    name = field.plane.name
+    alone = [other.plane.name for other in task.fields].count(name) == 1
+    return name if name and alone else str(field.plane.number)
+
+
+def _finished(table: Table, field: detection.Field, task: Task, given: argparse.Namespace) -> Table:
     plane = field.plane
-    extension = (plane.name or str(plane.number)) if given.hdu == "all" else None
+    extension = _extension(field, task) if given.hdu == "all" else None
     return tables.finished(
         table, plane.header, zeropoint=given.zeropoint, unit=(field.values or plane).unit, extension=extension
     )
@@ -343,7 +361,7 @@ def _done(task: Task, given: argparse.Namespace, tiles, progress) -> str:
         found = []
         for field, segments in zip(task.fields, maps):
             table = detection.sources(field, tiles, segments=segments, progress=progress)
-            found.append(_finished(table, field, given))
+            found.append(_finished(table, field, task, given))
         table = found[0] if len(found) == 1 else vstack(found, metadata_conflicts="silent")
         table.meta["VERSION"] = f"maxcat {__version__}"
         if given.plot:

@@ -17,6 +17,9 @@ from .tiles import Box
 TILE = 2048
 # Cells beyond the image's edges, and beyond a tile's.
 CELLS = 2
+# The cells' sides: noise is told from fewer pixels badly, and of wider ones a tile with its margins is too large for
+# the program.
+LEAST_MESH, MOST_MESH = 8, 512
 # What a weight map has.
 KINDS = ("rms", "variance", "weight")
 
@@ -39,6 +42,10 @@ class Settings:
     saturation: Optional[float] = None
     tile: int = TILE
     workers: int = 1
+
+    def __post_init__(self):
+        if self.mesh and not LEAST_MESH <= self.mesh <= MOST_MESH:
+            raise ValueError(f"mesh is 0, or from {LEAST_MESH} to {MOST_MESH}, not {self.mesh}")
 
     @property
     def threshold(self) -> int:
@@ -217,7 +224,9 @@ def sky_of(field: Field) -> sky.Sky:
             field.image, field.shape, field.settings.mesh or 64, None if field.weights is None else field.relative
         )
     except ValueError as error:
-        raise Mistake(f"{field.plane.label}: {error}") from None
+        beside = [other.label for other in (field.mask, field.weights) if other is not None]
+        with_them = f" (with {' and '.join(beside)})" if beside else ""
+        raise Mistake(f"{field.plane.label}{with_them}: {error}") from None
     if not found.noise > 0:
         raise Mistake(f"{field.plane.label}: it has no noise to tell sources from")
     return found

@@ -63,11 +63,15 @@ class Plane:
     held as a whole.
     """
 
-    def __init__(self, path: str, hdu, number: int, plane: Optional[int]):
-        self.path, self.number, self.name = os.fspath(path), number, hdu.name
+    def __init__(self, path: str, hdu, number: int, plane: Optional[int], beside: bool = False):
+        self.path, self.number = os.fspath(path), number
+        # astropy gives a compressed image without a name this one.
+        self.name = "" if hdu.name == "COMPRESSED_IMAGE" else hdu.name
         self.header, sides = hdu.header.copy(), hdu.shape
         self.shape = tuple(sides[-2:])
         planes = int(numpy.prod(sides[:-2], dtype=int))
+        if beside and planes == 1:
+            plane = None
         if plane is None and planes > 1:
             raise Mistake(f"{self.label}: it has {planes} planes; say which with --plane")
         if not 1 <= (plane or 1) <= planes:
@@ -150,13 +154,15 @@ def _number(hdus: fits.HDUList, path: str, which: Name) -> int:
     return number
 
 
-def opened(path: str, which: Name = None, plane: Optional[int] = None) -> Plane:
-    """The image of an HDU: that with this number or name, or the first that has one. Raises Mistake."""
+def opened(path: str, which: Name = None, plane: Optional[int] = None, beside: bool = False) -> Plane:
+    """The image of an HDU: that with this number or name, or the first that has one. With `beside` the plane counts for
+    cubes alone. Raises Mistake.
+    """
     with _opened(path) as hdus:
         number = _number(hdus, path, which)
         if not _is_image(hdus[number]):
             raise Mistake(f"{path}: its HDU {which if which is not None else number} has no image of two axes")
-        return Plane(path, hdus[number], number, plane)
+        return Plane(path, hdus[number], number, plane, beside)
 
 
 def all_opened(path: str, plane: Optional[int] = None) -> List[Plane]:
@@ -188,7 +194,7 @@ def matching(text: str, like: Plane, plane: Optional[int] = None, beside: bool =
     of the same number.
     """
     path, which = split_name(text)
-    other = opened(path, like.number if which is None and beside else which, plane)
+    other = opened(path, like.number if which is None and beside else which, plane, True)
     if other.shape != like.shape:
         sides = [f"{it.label} {it.shape[1]} x {it.shape[0]}" for it in (other, like)]
         raise Mistake(f"the images differ in width or height: {sides[0]}, {sides[1]}")

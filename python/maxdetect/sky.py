@@ -21,6 +21,9 @@ SAMPLED = 32
 # The part of a cell that has to be left for its level to count.
 ENOUGH = 0.1
 
+# The noise that 32-bit floating-point numbers have room for.
+LEAST_NOISE, MOST_NOISE = 1e-15, 1e15
+
 Reader = Callable[[slice], numpy.ndarray]
 
 
@@ -131,10 +134,17 @@ def _first_row(band: numpy.ndarray, mesh: int, rng: numpy.random.Generator) -> T
     middle = part(0.5)
     return (
         middle,
-        numpy.sqrt(numpy.maximum((middle - part(0.1587)) ** 2 - quant**2 / 12, quant**2 / 12)),
+        _less_rounding(middle - part(0.1587), quant),
         count,
         numpy.full(len(count), quant),
     )
+
+
+def _less_rounding(deviation: numpy.ndarray, quant: float) -> numpy.ndarray:
+    """Deviations without what spreading the values over their steps added, but not less than that."""
+    with numpy.errstate(all="ignore"):
+        spread = numpy.float64(quant) ** 2 / 12
+        return numpy.sqrt(numpy.maximum(deviation**2 - spread, spread))
 
 
 def _whole_cells(side: int, mesh: int) -> int:
@@ -282,6 +292,9 @@ def of(read: Reader, shape: Tuple[int, int], mesh: int = 64, relative: Optional[
     guess, deviation = _guess(
         [(row[0] - zero, *row[1:]) for row in first], shape, mesh, ENOUGH * min(mesh, SAMPLED) ** 2
     )
+    middle = float(numpy.median(deviation))
+    if middle and not LEAST_NOISE < middle < MOST_NOISE:
+        raise ValueError(f"its noise of {middle:.3g} is too far from 1; scale the image")
     if relative is not None:
         deviation = _in_units(deviation, relative, bands, mesh)
     columns, second = slice(0, shape[1]), []

@@ -124,11 +124,27 @@ def test_several_ccds_at_once(here, stars):
     assert (alone["FLUX"] == table[table["EXTENSION"] == "B"]["FLUX"]).all()
 
 
+def test_hdus_without_a_name_of_their_own(here, stars):
+    part = stars[0][:100]
+    hdus = [
+        fits.CompImageHDU(part, quantize_level=0, compression_type="GZIP_1"),
+        fits.ImageHDU(part, name="C"),
+        fits.ImageHDU(part, name="C"),
+    ]
+    fits.HDUList([fits.PrimaryHDU(), *hdus, fits.ImageHDU(part, name="D")]).writeto("mosaic.fits")
+    table = catalogue("mosaic.fits", "--hdu", "all", "-o", "cat.fits", "--map", "map.fits")
+    assert [str(name) for name in dict.fromkeys(table["EXTENSION"])] == ["1", "2", "3", "D"]
+    with fits.open("map.fits") as maps:
+        assert [hdu.name for hdu in maps[1:]] == ["1", "2", "3", "D"]
+
+
 def test_a_plane_of_a_cube(here, stars, capsys):
     fits.writeto("cube.fits", numpy.stack([stars[0][::-1], stars[0]]), header())
     assert "2 planes" in told(capsys, "cube.fits")
     one, other = catalogue("cube.fits", "--plane", 2, "-o", "a.fits"), catalogue("image.fits", "-o", "b.fits")
     assert (one["FLUX"] == other["FLUX"]).all() and numpy.allclose(one["RA"], other["RA"])
+    both = catalogue("cube.fits", "--plane", 2, "--measure", "cube.fits", "-o", "c.fits")
+    assert numpy.allclose(both["FLUX_APER"], one["FLUX_APER"], rtol=0.02, atol=60)
 
 
 @pytest.mark.parametrize("kind", ["rms", "variance", "weight"])
@@ -189,7 +205,14 @@ WRONG = [
     (["image.fits", "--mesh", "x"], "--mesh"),
     (["image.fits", "--sigmas", "-2"], "--sigmas"),
     (["image.fits", "--sigmas", "nan"], "--sigmas"),
-    (["image.fits", "--sigmas", "1e300"], "threshold"),
+    (["image.fits", "--sigmas", "1e300"], "--sigmas"),
+    (["image.fits", "--mesh", "1"], "--mesh"),
+    (["image.fits", "--mesh", "1024"], "--mesh"),
+    (["image.fits", "--weight", ""], "--weight has an empty name"),
+    (["image.fits", "-o", ""], "--output has an empty name"),
+    (["huge.fits"], "scale the image"),
+    (["tiny.fits"], "scale the image"),
+    (["image.fits", "--mask", "ones.fits"], "ones.fits"),
     (["image.fits", "--zeropoint", "inf"], "--zeropoint"),
     (["image.fits", "--workers", "0"], "--workers"),
     (["image.fits", "--what"], "--what"),
@@ -215,6 +238,9 @@ def test_mistakes_are_one_line_and_leave_nothing(here, capsys, words, text):
     fits.writeto("small.fits", numpy.zeros((9, 9), dtype="f4"))
     fits.writeto("flat.fits", numpy.zeros((90, 90), dtype="f4"))
     fits.writeto("nothing.fits", numpy.full((90, 90), numpy.nan, dtype="f4"))
+    fits.writeto("ones.fits", numpy.ones((256, 256), dtype="u1"))
+    fits.writeto("huge.fits", fits.getdata("image.fits").astype("f8") * 1e200)
+    fits.writeto("tiny.fits", fits.getdata("image.fits") * 1e-30)
     (here / "text.fits").write_text("text\n")
     assert text in told(capsys, *words)
 
