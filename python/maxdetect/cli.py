@@ -96,12 +96,8 @@ def _finite(text: str) -> float:
     return float(text)
 
 
-def parser() -> argparse.ArgumentParser:
-    """The command's options."""
-    made = Parser(prog="maxcat", description=DESCRIPTION, epilog=EPILOG, allow_abbrev=False)
-    made.add_argument("--version", action="version", version=f"maxcat {__version__}")
-    made.add_argument("images", metavar="IMAGE", nargs="+", help="a FITS image of any kind that astropy reads")
-    out = made.add_argument_group("what is written")
+def _add_written(out) -> None:
+    """The options that say what is written."""
     out.add_argument(
         "-o",
         "--output",
@@ -113,7 +109,10 @@ def parser() -> argparse.ArgumentParser:
     out.add_argument("--plot", metavar="PNG", help="a picture of the image and its sources")
     out.add_argument("--crop", type=_crop, metavar="XMIN,XMAX,YMIN,YMAX", help="the part for --plot, in pixels from 1")
     out.add_argument("--zeropoint", type=_finite, metavar="Z", help="the magnitude of a flux of 1: adds magnitudes")
-    what = made.add_argument_group("what is read")
+
+
+def _add_read(what) -> None:
+    """The options that say what is read."""
     what.add_argument(
         "--hdu",
         metavar="all|N|NAME",
@@ -138,7 +137,10 @@ def parser() -> argparse.ArgumentParser:
     what.add_argument(
         "--saturation", type=_finite, help="pixels from this value on are flagged (default: the header's SATURATE)"
     )
-    how = made.add_argument_group("how sources are found")
+
+
+def _add_how(how) -> None:
+    """The options that say how sources are found."""
     how.add_argument(
         "--sigmas",
         type=sigmas,
@@ -155,7 +157,7 @@ def parser() -> argparse.ArgumentParser:
         type=mesh_side,
         default=64,
         metavar="SIDE",
-        help="side of the background's cells in pixels; 0: one level (default: 64)",
+        help="side of the background's cells in pixels, 8 to 512; 0: one level (default: 64)",
     )
     how.add_argument(
         "--min-area",
@@ -174,6 +176,16 @@ def parser() -> argparse.ArgumentParser:
         metavar="N",
         help="images and tiles at work at once; 1 takes the least memory (default: as many as processors, at most 4)",
     )
+
+
+def parser() -> argparse.ArgumentParser:
+    """The command's options."""
+    made = Parser(prog="maxcat", description=DESCRIPTION, epilog=EPILOG, allow_abbrev=False)
+    made.add_argument("--version", action="version", version=f"maxcat {__version__}")
+    made.add_argument("images", metavar="IMAGE", nargs="+", help="a FITS image of any kind that astropy reads")
+    _add_written(made.add_argument_group("what is written"))
+    _add_read(made.add_argument_group("what is read"))
+    _add_how(made.add_argument_group("how sources are found"))
     return made
 
 
@@ -282,7 +294,7 @@ class _Progress:
 
     def __init__(self, count: int):
         self._bar = None
-        if sys.stderr.isatty():
+        if sys.stderr is not None and sys.stderr.isatty():
             from tqdm import tqdm
 
             self._bar = tqdm(total=count, unit="tile", leave=False)
@@ -374,6 +386,16 @@ def _done(task: Task, given: argparse.Namespace, tiles, progress) -> str:
     return f"{len(table)} sources in {shlex.quote(task.output)}"
 
 
+def _named(task: Task, given: argparse.Namespace, tiles, progress) -> str:
+    """The same; a fault of the system that names no file names the catalogue."""
+    try:
+        return _done(task, given, tiles, progress)
+    except OSError as error:
+        if error.filename or isinstance(error, BrokenPipeError):
+            raise
+        raise Mistake(f"{task.output}: {error.strerror or error}") from None
+
+
 def _count(tasks: List[Task]) -> int:
     """How many tiles there are."""
     return sum(math.prod(-(-side // detection.TILE) for side in field.shape) for task in tasks for field in task.fields)
@@ -381,7 +403,7 @@ def _count(tasks: List[Task]) -> int:
 
 def run(words: Optional[List[str]] = None) -> None:
     """Does what the words say. Raises Mistake."""
-    given = parser().parse_args(words)
+    given = parser().parse_intermixed_args(words)
     _check(given)
     tasks = [_task(path, given) for path in given.images]
     _check_names(given, tasks)
@@ -397,7 +419,7 @@ def run(words: Optional[List[str]] = None) -> None:
                 if pool and len(tasks) > 1
                 else None
             )
-            for line in detection.tiles.each(files, lambda task: _done(task, given, pool, progress), tasks):
+            for line in detection.tiles.each(files, lambda task: _named(task, given, pool, progress), tasks):
                 print(line, flush=True)
     finally:
         progress.close()
@@ -419,17 +441,22 @@ def told(name: str, work: Callable, words: Optional[List[str]]) -> int:
         text = f"{error.filename}: {error.strerror}" if error.filename else str(error)
     except KeyboardInterrupt:
         return 130
-    print(f"{name}: {' '.join(text.split())}", file=sys.stderr)
+    _say(f"{name}: {' '.join(text.split())}")
     return 2
+
+
+def _say(line: str) -> None:
+    """A line on standard error, where there is one."""
+    with contextlib.suppress(OSError, ValueError):
+        if sys.stderr is not None:
+            print(line, file=sys.stderr, flush=True)
 
 
 def main(words: Optional[List[str]] = None) -> int:
     """The command `maxcat`."""
     warnings.simplefilter("ignore", AstropyWarning)
     warnings.simplefilter("ignore", RuntimeWarning)
-    warnings.showwarning = lambda message, *rest, **more: print(
-        f"maxcat: {' '.join(str(message).split())}", file=sys.stderr
-    )
+    warnings.showwarning = lambda message, *rest, **more: _say(f"maxcat: {' '.join(str(message).split())}")
     return told("maxcat", run, words)
 
 

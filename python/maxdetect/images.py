@@ -5,6 +5,7 @@ HDUs are counted from 0, as astropy does, and planes of a cube from 1, as FITS c
 import contextlib
 import os
 import pathlib
+import threading
 import warnings
 from typing import Iterator, List, Optional, Tuple, Union
 
@@ -76,7 +77,7 @@ class Plane:
             raise Mistake(f"{self.label}: it has {planes} planes; say which with --plane")
         if not 1 <= (plane or 1) <= planes:
             raise Mistake(f"{self.label}: it has no plane {plane}, but {planes}")
-        self._plane, self._values = (plane or 1) - 1, None
+        self._plane, self._values, self._lock = (plane or 1) - 1, None, threading.Lock()
         self._stored = self._place(hdu)
         if self._stored and self._stored[1] + self._stored[0].itemsize * planes * self.shape[0] * self.shape[
             1
@@ -102,7 +103,10 @@ class Plane:
         return str(self.header.get("BUNIT", "")).strip() or None
 
     def __getstate__(self):
-        return {**self.__dict__, "_values": None}
+        return {**self.__dict__, "_values": None, "_lock": None}
+
+    def __setstate__(self, state):
+        self.__dict__.update(state, _lock=threading.Lock())
 
     def window(self, rows: slice, columns: slice = slice(None)) -> numpy.ndarray:
         """The pixels of some rows and columns, NaN where they are undefined: 32 bits where these hold the stored
@@ -110,10 +114,12 @@ class Plane:
         """
         if self._stored:
             return self._mapped(rows, columns)
-        if self._values is None:
-            with _opened(self.path) as hdus:
-                data = hdus[self.number].data
-                self._values = _floats(data.reshape((-1,) + self.shape)[self._plane])
+        # Threads share it; one of them reads it.
+        with self._lock:
+            if self._values is None:
+                with _opened(self.path) as hdus:
+                    data = hdus[self.number].data
+                    self._values = _floats(data.reshape((-1,) + self.shape)[self._plane])
         return self._values[rows, columns].copy()
 
     def _mapped(self, rows, columns):

@@ -25,6 +25,7 @@ import math
 import operator
 import os
 import pathlib
+import re
 import shutil
 import subprocess
 import tempfile
@@ -160,19 +161,15 @@ def _words(command, options):
 
 def _refusal(words, status, note):
     """The exception for a status and its line on standard error."""
-    if status == 1 and note.startswith("usage: word "):
-        number = int(note.split()[2])
+    usage, refused = re.fullmatch(r"usage: word (\d+)", note), re.fullmatch(r"refused: (\d+) (\S+)(.*)", note)
+    if status == 1 and usage:
+        number = int(usage[1])
         option = words[number - 2] if 2 <= number <= len(words) else ""
-        text = (
-            f"{option.lstrip('-').replace('-', '_')} isn't given a value that it takes"
-            if option.startswith("--")
-            else note
-        )
-        return Refusal(status, number, "usage", text)
-    if status == 2 and note.startswith("refused: "):
-        number, name, *place = note.split()[1:]
-        text = FAULTS.get(int(number), "the input is refused")
-        return Refusal(status, int(number), name, " ".join([text, *place]))
+        text = f"{option.lstrip('-').replace('-', '_')} isn't given a value that it takes"
+        return Refusal(status, number, "usage", text if option.startswith("--") else note)
+    if status == 2 and refused:
+        text = FAULTS.get(int(refused[1]), "the input is refused") + refused[3]
+        return Refusal(status, int(refused[1]), refused[2], text)
     if status < 0:
         return Refusal(None, None, "killed", f"signal {-status} ended maxdetect")
     if status in (3, 4, 5):
@@ -312,14 +309,17 @@ def read(file):
     return Table(columns, names=names, descriptions=[DESCRIPTIONS.get(name, "") for name in names]), segments
 
 
-def _answer(output, reading=read):
-    """What the program wrote just now, read so."""
+def _answer(output, shape, reading=read):
+    """What the program wrote just now of an image of this shape, read so: its last part is an image too."""
     with output:
         try:
             _check_whole(output)
-            return reading(output)
-        except (OSError, KeyError, ValueError, TypeError, IndexError):
-            raise Refusal(None, None, "truncated", "what maxdetect wrote is cut short") from None
+            found = reading(output)
+        except (OSError, EOFError, KeyError, ValueError, TypeError, IndexError, AttributeError, fits.VerifyError):
+            raise Refusal(None, None, "truncated", "what maxdetect wrote is cut short, or no FITS file") from None
+    if numpy.shape(found[-1]) != tuple(shape):
+        raise Refusal(None, None, "truncated", "what maxdetect wrote is of another image")
+    return found
 
 
 def _check_whole(file):
@@ -341,7 +341,7 @@ def _check_whole(file):
 def _read_plane(file):
     """The values of what `maxdetect filter` wrote."""
     with fits.open(file, memmap=False, do_not_scale_image_data=True) as hdus:
-        return _native(hdus[0].data)
+        return (_native(hdus[0].data),)
 
 
 def detect(
@@ -387,14 +387,16 @@ def detect(
     """
     options = dict(threshold=threshold, min_area=min_area, min_flux=min_flux, contrast=contrast)
     options.update(mesh=mesh, flat=int(flat), connect=connect, strips=strips, workers=workers)
-    return _answer(_run(program, _words("detect", options), _file(image, blank)))
+    return _answer(_run(program, _words("detect", options), _file(image, blank)), numpy.shape(image))
 
 
 def detect_stored(stored, threshold, *, program=None, **options):
     """The same as `detect` of an array of 32-bit numbers in which LEAST stands for an undefined pixel, without a look
     at its range.
     """
-    return _answer(_run(program, _words("detect", {"threshold": threshold, **options}), _stored_file(stored)))
+    return _answer(
+        _run(program, _words("detect", {"threshold": threshold, **options}), _stored_file(stored)), stored.shape
+    )
 
 
 def measure(
@@ -434,7 +436,8 @@ def measure(
     """
     options = dict(values=1, threshold=threshold, min_area=min_area, min_flux=min_flux, contrast=contrast)
     options.update(mesh=mesh, flat=int(flat), connect=connect, strips=strips, workers=workers)
-    return _answer(_run(program, _words("measure", options), _file(image, blank), _file(values, blank, extension=True)))
+    bands = _file(image, blank), _file(values, blank, extension=True)
+    return _answer(_run(program, _words("measure", options), *bands), numpy.shape(image))
 
 
 def filter(
@@ -468,7 +471,8 @@ def filter(
     """
     options = dict(rule=rule, min_area=min_area, max_area=max_area, min_flux=min_flux, min_fill=min_fill)
     options.update(mesh=mesh, flat=int(flat), connect=connect, strips=strips, workers=workers)
-    values = _answer(_run(program, _words("filter", options), _file(image, blank)), _read_plane)
+    output = _run(program, _words("filter", options), _file(image, blank))
+    (values,) = _answer(output, numpy.shape(image), _read_plane)
     if blank is None and not isinstance(image, numpy.ma.MaskedArray):
         return values
     undefined = _checked(image, blank)[1]

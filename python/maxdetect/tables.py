@@ -92,6 +92,8 @@ WCS_CARDS = re.compile(
     r"|C(TYPE|RVAL|RPIX|DELT|UNIT|ROTA|RDER|SYER)[12]|(PC|CD)[12]_[12]|PC00[12]00[12]|(PV|PS)[12]_\d+"
     r"|[ABD]P?_(ORDER|DMAX|\d+_\d+))[A-Z]?"
 )
+# Those of them that are numbers.
+WCS_NUMBERS = re.compile(r"C(RVAL|RPIX|DELT|ROTA)[12]|(PC|CD)[12]_[12]|PC00[12]00[12]|PV[12]_\d+|LONPOLE|LATPOLE")
 # Cards of a table's `meta` that FITS keeps for the structure of a file.
 STRUCTURE = re.compile(
     r"SIMPLE|XTENSION|BITPIX|NAXIS\d*|PCOUNT|GCOUNT|TFIELDS|EXTNAME|END|CHECKSUM|DATASUM"
@@ -111,6 +113,10 @@ def _wcs(header: typing.Union[None, fits.Header, WCS]) -> typing.Optional[WCS]:
     if header is None or isinstance(header, WCS):
         return header if header is not None and header.has_celestial else None
     try:
+        for card in header.cards:
+            # wcslib passes over such a card, and takes 0 for its value.
+            if WCS_NUMBERS.fullmatch(card.keyword) and isinstance(card.value, (str, bool)):
+                raise ValueError(f"{card.keyword} is no number")
         with warnings.catch_warnings():
             warnings.simplefilter("ignore", FITSFixedWarning)
             wcs = WCS(header, naxis=2)
@@ -260,7 +266,10 @@ def whole_file(path: typing.Union[str, os.PathLike]) -> typing.Iterator[str]:
             raise Mistake(f"{path} is a folder")
         yield os.fspath(target)
         return
-    handle, name = tempfile.mkstemp(prefix=f".{target.name}.", suffix=".part", dir=target.parent)
+    try:
+        handle, name = tempfile.mkstemp(prefix=".maxdetect.", suffix=".part", dir=target.parent)
+    except OSError as error:
+        raise OSError(error.errno, error.strerror, os.fspath(path)) from None
     os.close(handle)
     try:
         yield name

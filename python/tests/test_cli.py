@@ -86,6 +86,7 @@ def test_tiles_give_what_the_whole_gives(here, monkeypatch, words):
 
 
 def test_forms_and_default_names(here):
+    assert cli.main(["image.fits", "--workers", "2", "--mesh", "32", "image.fits"]) == 2
     for name in ("cat.csv", "cat.ecsv", "cat.xml"):
         assert cli.main(["image.fits", "-o", name]) == 0 and os.path.getsize(name) > 1000
     os.mkdir("deep")

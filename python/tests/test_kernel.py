@@ -150,3 +150,22 @@ def test_a_program_that_is_not_there_is_told(tmp_path):
         maxdetect.tree(SMALL, program=os.fspath(tmp_path / "none"))
     with pytest.raises(maxdetect.Refusal, match="status 7"):
         maxdetect.tree(SMALL, program=script(tmp_path, "echo what >&2; exit 7\n"))
+
+
+@pytest.mark.parametrize("note", ["usage: word xx", "refused: 12", "refused: xx yy", ""])
+@pytest.mark.parametrize("status", [1, 2, 9])
+def test_other_words_of_a_program_are_told(tmp_path, status, note):
+    with pytest.raises(maxdetect.Refusal, match=f"status {status}"):
+        maxdetect.tree(SMALL, program=script(tmp_path, f"echo '{note}' >&2; exit {status}\n"))
+
+
+def test_other_outputs_of_a_program_are_told(tmp_path):
+    maxdetect.save(numpy.zeros((3, 3), dtype="i4"), str(tmp_path / "other.fits"))
+    for text in ("head -c 5760 /dev/zero", f"cat '{tmp_path}/other.fits'", f"cat '{tmp_path}/other.fits' /dev/null"):
+        for call in (lambda program: maxdetect.detect(SMALL, 1, program=program), filtered):
+            with pytest.raises(maxdetect.Refusal, match="truncated"):
+                call(script(tmp_path, text + "\n"))
+
+
+def filtered(program):
+    return maxdetect.filter(SMALL, "direct", program=program)

@@ -81,9 +81,10 @@ def test_without_a_wcs():
     assert table["FLUX_ISO"].unit == units.adu
 
 
-def test_a_wcs_that_cannot_be_read_is_warned_of():
+@pytest.mark.parametrize("cards", [{"CTYPE1": "RA---XYZ"}, {"CRVAL1": "hello"}, {"CDELT2": True}, {"CD1_1": "1"}])
+def test_a_wcs_that_cannot_be_read_is_warned_of(cards):
     with pytest.warns(UserWarning, match="no sky coordinates"):
-        table = tables.finished(catalogue(), header(CTYPE1="RA---XYZ"))
+        table = tables.finished(catalogue(), header(**cards))
     assert "RA" not in table.colnames
 
 
@@ -174,6 +175,12 @@ def test_names_that_no_catalogue_can_have(tmp_path):
     (tmp_path / "folder.csv").mkdir()
     with pytest.raises(Mistake, match="folder"):
         tables.write(catalogue(), tmp_path / "folder.csv")
+    longest = tmp_path / ("n" * 250 + ".csv")
+    tables.write(catalogue(), longest)
+    assert longest.exists()
+    with pytest.raises(OSError) as raised:
+        tables.regions(catalogue(), "/proc/sources.reg")
+    assert raised.value.filename == "/proc/sources.reg"
     tables.regions(catalogue(), "/dev/null")
     assert not os.path.isfile("/dev/null")
 
