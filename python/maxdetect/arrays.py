@@ -32,6 +32,23 @@ class ArrayPlane:
         return values
 
 
+def _numbers(image, label: str) -> numpy.ndarray:
+    """An image, or whatever numpy makes one of, if it has numbers."""
+    array = numpy.asanyarray(image)
+    if array.dtype.kind not in "biuf":
+        raise TypeError(f"{label} has numbers, not {array.dtype}")
+    return array
+
+
+def _check(settings: typing.Dict[str, typing.Any]) -> None:
+    """Raises ValueError for a setting that `maxcat` wouldn't take either."""
+    sigmas, least = settings.get("sigmas"), settings.get("min_area", 5)
+    if sigmas is not None and not 0 < sigmas <= 1e6:
+        raise ValueError(f"sigmas is a number above 0 and at most 1e6, not {sigmas}")
+    if least < 1 or least != int(least):
+        raise ValueError(f"min_area is a whole number of pixels from 1 on, not {least}")
+
+
 def catalogue(
     image: numpy.ndarray,
     *,
@@ -53,7 +70,9 @@ def catalogue(
     """
     if rms not in ("even", "local"):
         raise ValueError(f"rms is even or local, not {rms}")
-    weights = None if noise is None else ArrayPlane(noise, "the noise")
+    _check(settings)
+    image = _numbers(image, "an image")
+    weights = None if noise is None else ArrayPlane(_numbers(noise, "the noise"), "the noise")
     if weights is not None and weights.shape != numpy.shape(image):
         raise ValueError(f"the noise has the sides {weights.shape}, the image {numpy.shape(image)}")
     plane = ArrayPlane(image)

@@ -53,3 +53,22 @@ def test_noise_maps():
         catalogue(image, rms="uneven")
     with pytest.raises(ValueError):
         catalogue(image[0])
+
+
+def test_what_is_not_taken():
+    image, _ = star_field()
+    for settings in (
+        {"sigmas": -1},
+        {"sigmas": numpy.nan},
+        {"mesh": -3},
+        {"mesh": 4},
+        {"min_area": 0},
+        {"min_area": 1.5},
+    ):
+        with pytest.raises(ValueError):
+            catalogue(image, **settings)
+    with pytest.raises(TypeError):
+        catalogue(image + 1j)
+    with pytest.raises(TypeError):
+        catalogue([["a", "b"]])
+    assert len(catalogue(image.tolist())[0]) == len(catalogue(image)[0])
