@@ -2,7 +2,8 @@
 
 Each call starts the built program once; the bytes stay in memory where the system has files there. Wanted are numpy
 and astropy. The program is the one that `program=` names, else the one that the environment's MAXDETECT names, else
-`maxdetect` on the PATH, else the repository's own, which is then proved and built first where it isn't there yet.
+the package's own `bin/maxdetect` where it was installed with one, else `maxdetect` on the PATH, else the repository's
+own, which is then proved and built first where it isn't there yet.
 
 An image is a two-dimensional array of whole numbers of any integer type, row by row: `image[y, x]`, as astropy reads
 it. Pixels that are masked (a numpy masked array) or have the value `blank` are undefined: they belong to no source.
@@ -125,14 +126,15 @@ class NoProgram(Mistake, FileNotFoundError):
 
 
 def find_program(program=None):
-    """The path of the program: `program`, or where MAXDETECT, the PATH or the repository has it."""
+    """The path of the program: `program`, or where MAXDETECT, the package, the PATH or the repository has it."""
     named = program or os.environ.get("MAXDETECT")
     if named:
         return os.fspath(named)
-    found = shutil.which("maxdetect")
+    package = pathlib.Path(__file__).resolve().parent
+    found = shutil.which(package / "bin" / "maxdetect") or shutil.which("maxdetect")
     if found:
-        return found
-    top = pathlib.Path(__file__).resolve().parent.parent.parent
+        return os.fspath(found)
+    top = package.parent.parent
     build = top / "scripts" / "build"
     if not build.exists():
         raise NoProgram("maxdetect isn't on the PATH; name it by program= or in the environment's MAXDETECT")
