@@ -5,6 +5,10 @@ whose core holds its first pixel. It is the same source in the window as in the 
 threshold set in which it lies has all its neighbours among the window's sure pixels: those whose background is made
 of cells that lie whole in the window. A component that reaches further is looked at again in a window that holds it;
 where that would have more pixels than the program takes, its sources are cut.
+
+That such tiles give the catalogue and the map of the whole is a law, for images that the program could take as a whole:
+`pieces_give_the_catalogue` of the crate `tile_laws`. This module isn't proved to keep its premises; tests compare tiles
+with the whole.
 """
 import concurrent.futures
 import contextlib
