@@ -162,10 +162,12 @@ def sky(
         left_out = undefined
     # 32 bits hold the residual, where they may not hold the values themselves.
     residual = _residual(image, level, undefined)
+    unit = _unit(numpy.abs(residual[::7, ::7][~left_out[::7, ::7]]))
+    residual *= numpy.float32(1 / unit)
     side = mesh or max(residual.shape)
     found = sep.Background(residual, mask=left_out, bw=side, bh=side)
-    noise = found.rms(dtype="f4") if local else found.globalrms
-    return level + numpy.float32(found.globalback), noise
+    noise = found.rms(dtype="f4") * numpy.float32(unit) if local else found.globalrms * unit
+    return level + numpy.float32(found.globalback * unit), noise
 
 
 def ellipses(catalogue: Table) -> typing.Tuple[numpy.ndarray, numpy.ndarray, numpy.ndarray]:
@@ -190,6 +192,17 @@ def _noise(noise: Numbers, shape: typing.Tuple[int, int]) -> Numbers:
     if numpy.shape(noise) != shape:
         raise ValueError(f"the noise has the sides {numpy.shape(noise)}, the image {shape}")
     return numpy.ascontiguousarray(noise, dtype="f4")
+
+
+def _unit(values: Numbers) -> float:
+    """The power of two next to the median of what is positive, or 1 where nothing is.
+
+    SEP squares numbers of 32 bits, which have no room for the squares of an image in very small or very large units.
+    Over a power of two all numbers keep their digits.
+    """
+    values = numpy.asarray(values, dtype="f8").ravel()
+    values = values[numpy.isfinite(values) & (values > 0)]
+    return 2.0 ** round(float(numpy.log2(numpy.median(values)))) if values.size else 1.0
 
 
 def _residual(image: numpy.ndarray, background: Numbers, undefined: numpy.ndarray) -> numpy.ndarray:
@@ -297,14 +310,17 @@ def measured(
     numbers = numpy.asarray(catalogue["NUMBER"], dtype="i4")
     within = segments.ravel()[places]
     pixels = _Pixels(places, within, int(max(within.max(initial=0), numbers.max(initial=0))) + 1)
+    unit = _unit(noise)
+    residual *= numpy.float32(1 / unit)
+    noise, gain = noise / (unit if numpy.ndim(noise) == 0 else numpy.float32(unit)), gain and gain * unit
     flux, error = _isophotal(pixels.among(~undefined), residual, noise, gain)
     flags = _flags(pixels, image, undefined, catalogue, numbers, saturation, threshold)
     apertures = _apertures(residual, noise, undefined, segments, catalogue, gain, aperture, kron)
     table = Table({"X": numpy.asarray(catalogue["XCEN"]) / 1000, "Y": numpy.asarray(catalogue["YCEN"]) / 1000})
-    table["FLUX_ISO"], table["FLUXERR_ISO"] = flux[numbers], error[numbers]
+    table["FLUX_ISO"], table["FLUXERR_ISO"] = flux[numbers] * unit, error[numbers] * unit
     more = apertures.pop("FLAGS")
     for name, values in apertures.items():
-        table[name] = values
+        table[name] = values * unit if name.startswith("FLUX") else values
     table["FLAGS"] = (flags | more).astype("i4")
     return table
 

@@ -22,7 +22,7 @@ SAMPLED = 32
 ENOUGH = 0.1
 
 # The noise that 32-bit floating-point numbers have room for.
-LEAST_NOISE, MOST_NOISE = 1e-15, 1e15
+LEAST_NOISE, MOST_NOISE = 1e-30, 1e30
 
 Reader = Callable[[slice], numpy.ndarray]
 
@@ -230,8 +230,11 @@ def _second_row(residual, relative, deviation, quant, mesh):
     count = keep.sum(axis=(0, 2))
     kept = noise * keep
     mean = kept.sum(axis=0).sum(axis=1, dtype="f8") / numpy.maximum(count, 1)
+    # Squares are taken in units of the deviation: 32 bits don't hold those of an image in very small or large units.
+    unit = numpy.where(deviation > 0, deviation, 1.0)
+    kept *= (1 / unit).astype("f4")[:, None]
     square = numpy.einsum("ijk,ijk->j", kept, kept).astype("f8") / numpy.maximum(count, 1)
-    spread = numpy.sqrt(numpy.maximum(square - mean**2, 0)) / KEPT
+    spread = unit * numpy.sqrt(numpy.maximum(square - (mean / unit) ** 2, 0)) / KEPT
     if relative is not None:
         mean = (_in_cells(numpy.where(finite, residual, 0), mesh, 0) * keep).sum(
             axis=(0, 2), dtype="f8"

@@ -72,3 +72,12 @@ def test_what_is_not_taken():
     with pytest.raises(TypeError):
         catalogue([["a", "b"]])
     assert len(catalogue(image.tolist())[0]) == len(catalogue(image)[0])
+
+
+@pytest.mark.parametrize("unit", [1e-25, 1e25])
+def test_images_in_very_small_and_very_large_units(stars, unit):
+    base, its_map = catalogue(stars[0])
+    found, segments = catalogue((stars[0].astype("f8") * unit).astype("f4"))
+    assert (segments == its_map).all() and len(found) == 25
+    for name in ("FLUX_ISO", "FLUXERR_ISO", "FLUX_KRON", "FLUXERR_KRON", "FLUX_APER", "FLUXERR_APER"):
+        assert numpy.allclose(found[name] / unit, base[name], rtol=1e-3), name
