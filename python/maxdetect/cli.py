@@ -3,6 +3,8 @@ import argparse
 import concurrent.futures
 import contextlib
 import dataclasses
+import errno
+import itertools
 import math
 import os
 import pathlib
@@ -10,7 +12,7 @@ import shlex
 import sys
 import tempfile
 import warnings
-from typing import Callable, List, Optional, Tuple
+from typing import Callable, Dict, List, Optional, Tuple
 
 import numpy
 from astropy.io import fits
@@ -245,6 +247,14 @@ def _task(path: str, given: argparse.Namespace) -> Task:
     return Task(path, given.output or _default_output(path), [_field(plane, given) for plane in planes])
 
 
+def _writable(output: str) -> bool:
+    """A file of this name can be made or replaced, or what has it takes what is written, as a pipe does."""
+    if os.path.exists(output) and not os.path.isfile(output):
+        return not os.path.isdir(output) and os.access(output, os.W_OK)
+    folder = os.path.dirname(os.path.realpath(output))
+    return os.path.isdir(folder) and os.access(folder, os.W_OK)
+
+
 def _check_names(given: argparse.Namespace, tasks: List[Task]) -> None:
     """No output is an input or another output, and each can be written."""
     inputs = list(given.images) + [images.split_name(it)[0] for it in (given.weight, given.mask, given.measure) if it]
@@ -254,8 +264,7 @@ def _check_names(given: argparse.Namespace, tasks: List[Task]) -> None:
             raise Mistake(f"{output} is read, so it can't be written")
         if any(images.same(output, it) for it in outputs[:number]):
             raise Mistake(f"{output} is to be written twice")
-        folder = os.path.dirname(os.path.realpath(output))
-        if os.path.isdir(output) or not os.path.isdir(folder) or not os.access(folder, os.W_OK):
+        if not _writable(output):
             raise Mistake(f"{output} can't be written")
     for task in tasks:
         tables.format_of(task.output)
@@ -309,31 +318,63 @@ class _Progress:
 
 
 @contextlib.contextmanager
+def _about(path: str):
+    """A fault of the system within that names no file names this one."""
+    try:
+        yield
+    except OSError as error:
+        if error.filename or isinstance(error, BrokenPipeError):
+            raise
+        raise Mistake(f"{path}: {error.strerror or error}") from None
+
+
+def _make_room(file, size: int) -> None:
+    """Makes a file so long that is open for writing. The disk has room for it then: where an array in a file finds it
+    full, a signal ends the command.
+    """
+    try:
+        os.posix_fallocate(file.fileno(), 0, size)
+    except AttributeError:
+        file.truncate(size)
+    except OSError as error:
+        if error.errno not in (errno.EINVAL, errno.ENODEV, errno.ENOSYS, errno.EOPNOTSUPP):
+            raise
+        file.truncate(size)
+
+
+@contextlib.contextmanager
 def _scratch_map(shape):
     """A map in a file of its own that goes away."""
     with tempfile.TemporaryFile() as file:
-        file.truncate(4 * shape[0] * shape[1])
+        with _about(tempfile.gettempdir()):
+            _make_room(file, 4 * shape[0] * shape[1])
         yield numpy.memmap(file, "i4", "r+", shape=shape)
 
 
 @contextlib.contextmanager
-def _maps(task: Task, given: argparse.Namespace):
-    """For each field the map that is to be filled, or None; where a map is asked for its file appears at the end."""
-    if not given.map:
-        with contextlib.ExitStack() as stack:
-            yield [stack.enter_context(_scratch_map(field.shape)) if given.plot else None for field in task.fields]
-        return
-    with tables.whole_file(given.map) as name:
-        headers = _map_headers(task)
-        with open(name, "wb") as file:
-            places = []
-            for header, field in zip(headers, task.fields):
-                file.write(header)
-                places.append(file.tell())
-                size = 4 * field.shape[0] * field.shape[1]
-                file.seek(-(-size // 2880) * 2880, os.SEEK_CUR)
-            file.truncate()
-        yield [numpy.memmap(name, ">i4", "r+", place, field.shape) for place, field in zip(places, task.fields)]
+def _maps(task: Task, given: argparse.Namespace, name: Optional[str]):
+    """For each field the map that is to be filled, or None; the file of this name has them, where there is one."""
+    with contextlib.ExitStack() as stack:
+        if name is not None:
+            yield _maps_in(name, task, given)
+        elif given.plot:
+            yield [stack.enter_context(_scratch_map(field.shape)) for field in task.fields]
+        else:
+            yield [None for _ in task.fields]
+
+
+def _maps_in(name: str, task: Task, given: argparse.Namespace) -> List[numpy.ndarray]:
+    """The fields' maps, full of zeros, in a FITS file that is made for them."""
+    headers, shapes = _map_headers(task), [field.shape for field in task.fields]
+    sizes = [-(-4 * height * width // 2880) * 2880 for height, width in shapes]
+    ends = list(itertools.accumulate(len(header) + size for header, size in zip(headers, sizes)))
+    places = [end - size for end, size in zip(ends, sizes)]
+    with _about(given.map), open(name, "wb") as file:
+        _make_room(file, ends[-1])
+        for header, place in zip(headers, places):
+            file.seek(place - len(header))
+            file.write(header)
+    return [numpy.memmap(name, ">i4", "r+", place, shape) for place, shape in zip(places, shapes)]
 
 
 def _map_headers(task: Task) -> List[bytes]:
@@ -367,33 +408,33 @@ def _finished(table: Table, field: detection.Field, task: Task, given: argparse.
     )
 
 
+def _write(table: Table, task: Task, given: argparse.Namespace, maps, names: Dict[str, str]) -> None:
+    """Writes all but the map, each file under the name that it has for now."""
+    if given.plot:
+        from . import pictures
+
+        image = task.fields[0].image(slice(None))
+        with _about(given.plot):
+            pictures.draw(image, maps[0], table, names[given.plot], crop=given.crop)
+    if given.regions:
+        with _about(given.regions):
+            tables.regions(table, names[given.regions])
+    with _about(task.output):
+        tables.write(table, names[task.output])
+
+
 def _done(task: Task, given: argparse.Namespace, tiles, progress) -> str:
     """Finds and writes a file's sources, and says so."""
-    with _maps(task, given) as maps:
+    wanted = [task.output, *(it for it in (given.map, given.regions, given.plot) if it)]
+    with _about(task.output), tables.whole_files(wanted) as names, _maps(task, given, names.get(given.map)) as maps:
         found = []
         for field, segments in zip(task.fields, maps):
             table = detection.sources(field, tiles, segments=segments, progress=progress)
             found.append(_finished(table, field, task, given))
         table = found[0] if len(found) == 1 else vstack(found, metadata_conflicts="silent")
         table.meta["VERSION"] = f"maxcat {__version__}"
-        if given.plot:
-            from . import pictures
-
-            pictures.draw(task.fields[0].image(slice(None)), maps[0], table, given.plot, crop=given.crop)
-        if given.regions:
-            tables.regions(table, given.regions)
-        tables.write(table, task.output)
+        _write(table, task, given, maps, names)
     return f"{len(table)} sources in {shlex.quote(task.output)}"
-
-
-def _named(task: Task, given: argparse.Namespace, tiles, progress) -> str:
-    """The same; a fault of the system that names no file names the catalogue."""
-    try:
-        return _done(task, given, tiles, progress)
-    except OSError as error:
-        if error.filename or isinstance(error, BrokenPipeError):
-            raise
-        raise Mistake(f"{task.output}: {error.strerror or error}") from None
 
 
 def _count(tasks: List[Task]) -> int:
@@ -419,7 +460,7 @@ def run(words: Optional[List[str]] = None) -> None:
                 if pool and len(tasks) > 1
                 else None
             )
-            for line in detection.tiles.each(files, lambda task: _named(task, given, pool, progress), tasks):
+            for line in detection.tiles.each(files, lambda task: _done(task, given, pool, progress), tasks):
                 print(line, flush=True)
     finally:
         progress.close()

@@ -1,4 +1,5 @@
 """The command `maxcat`, from files to files."""
+import errno
 import os
 import subprocess
 import sys
@@ -10,7 +11,7 @@ from astropy.table import Table
 from astropy.wcs import WCS
 
 from conftest import TOP
-from maxdetect import cli, detection
+from maxdetect import cli, detection, tables
 
 
 def header(**cards):
@@ -277,3 +278,39 @@ def test_prepare(here, capsys):
     )
     result = subprocess.run([*words, "image.fits", "image.fits"], capture_output=True, text=True, check=False)
     assert result.returncode == 2 and result.stderr.startswith("prepare: ")
+
+
+ALL = ["image.fits", "-o", "cat.fits", "--map", "map.fits", "--regions", "all.reg", "--plot", "all.png"]
+
+
+def failing(number):
+    """A function that ends with this fault of the system."""
+
+    def fails(*given, **more):
+        raise OSError(number, os.strerror(number))
+
+    return fails
+
+
+def test_a_full_disk(here, capsys, monkeypatch):
+    monkeypatch.setattr(os, "posix_fallocate", failing(errno.ENOSPC))
+    assert told(capsys, *ALL) == "maxcat: map.fits: No space left on device\n"
+    assert "No space left on device" in told(capsys, "image.fits", "--plot", "all.png")
+    monkeypatch.setattr(os, "posix_fallocate", failing(errno.EOPNOTSUPP))
+    table = catalogue(*ALL)
+    assert fits.getdata("map.fits").max() == len(table)
+
+
+@pytest.mark.parametrize("written, name", [("write", "cat.fits"), ("regions", "all.reg")])
+def test_all_files_or_none(here, capsys, monkeypatch, written, name):
+    monkeypatch.setattr(tables, written, failing(errno.ENOSPC))
+    assert told(capsys, *ALL) == f"maxcat: {name}: No space left on device\n"
+    (here / "cat.fits").write_text("earlier")
+    told(capsys, *ALL)
+    assert (here / "cat.fits").read_text() == "earlier"
+
+
+def test_what_is_no_file_takes_a_map(here, capsys):
+    table = catalogue("image.fits", "-o", "cat.fits", "--map", "/dev/null")
+    assert capsys.readouterr().out == f"{len(table)} sources in cat.fits\n" and not os.path.isfile("/dev/null")
+    assert "none/map.fits can't be written" in told(capsys, "image.fits", "--map", "none/map.fits")
