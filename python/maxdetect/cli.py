@@ -9,8 +9,10 @@ import math
 import os
 import pathlib
 import shlex
+import signal
 import sys
 import tempfile
+import threading
 import warnings
 from typing import Callable, Dict, List, Optional, Tuple
 
@@ -27,7 +29,7 @@ and sky coordinates where the header has them.
 """
 EPILOG = """HDUs are counted from 0, planes and pixels from 1. The sources are found by the program maxdetect, whose
 results are proved; the sky, the scaling and the photometry around it are not. Errors are one line on standard error,
-with status 2; nothing is written then.
+with status 2; nothing is written then. Where one of several images is at fault, the others are done.
 """
 MOST_WORKERS = 64
 MOST_SIGMAS = 1e6
@@ -299,20 +301,23 @@ def _check(given: argparse.Namespace) -> None:
 
 
 class _Progress:
-    """A bar on a terminal, and nothing elsewhere."""
+    """A bar on a terminal, and nothing elsewhere. Once it is closed, work that goes on in threads ends by it."""
 
     def __init__(self, count: int):
-        self._bar = None
+        self._bar, self._closed = None, False
         if sys.stderr is not None and sys.stderr.isatty():
             from tqdm import tqdm
 
             self._bar = tqdm(total=count, unit="tile", leave=False)
 
     def __call__(self, count: int) -> None:
+        if self._closed:
+            raise Mistake("the command has ended")
         if self._bar is not None:
             self._bar.update(count)
 
     def close(self) -> None:
+        self._closed = True
         if self._bar is not None:
             self._bar.close()
 
@@ -442,48 +447,68 @@ def _count(tasks: List[Task]) -> int:
     return sum(math.prod(-(-side // detection.TILE) for side in field.shape) for task in tasks for field in task.fields)
 
 
-def run(words: Optional[List[str]] = None) -> None:
-    """Does what the words say. Raises Mistake."""
+def _attempted(work: Callable, *given):
+    """What some work gives, or the fault that a user can put right."""
+    try:
+        return work(*given)
+    except BrokenPipeError:
+        raise
+    except (Mistake, MemoryError, OSError) as fault:
+        return fault
+
+
+def run(words: Optional[List[str]] = None) -> bool:
+    """Does what the words say, and tells for each image what came of it: False where one of several wasn't done.
+    Raises Mistake.
+    """
     given = parser().parse_intermixed_args(words)
     _check(given)
-    tasks = [_task(path, given) for path in given.images]
-    _check_names(given, tasks)
-    kernel.find_program()
-    progress = _Progress(_count(tasks))
-    try:
-        with contextlib.ExitStack() as stack:
-            pool = None
-            if given.workers > 1:
-                pool = stack.enter_context(concurrent.futures.ThreadPoolExecutor(given.workers))
-            files = (
-                stack.enter_context(concurrent.futures.ThreadPoolExecutor(given.workers))
-                if pool and len(tasks) > 1
-                else None
-            )
-            for line in detection.tiles.each(files, lambda task: _done(task, given, pool, progress), tasks):
-                print(line, flush=True)
-    finally:
-        progress.close()
+    tasks = [_attempted(_task, path, given) for path in given.images]
+    good = [task for task in tasks if isinstance(task, Task)]
+    _check_names(given, good)
+    if good:
+        kernel.find_program()
+    progress, all_done = _Progress(_count(good)), True
+    with contextlib.ExitStack() as stack:
+        pool, files = (
+            stack.enter_context(concurrent.futures.ThreadPoolExecutor(given.workers)) if wanted else None
+            for wanted in (given.workers > 1, given.workers > 1 and len(good) > 1)
+        )
+        stack.callback(progress.close)
+
+        def work(task):
+            return _attempted(_done, task, given, pool, progress) if isinstance(task, Task) else task
+
+        for answer in detection.tiles.each(files, work, tasks):
+            if isinstance(answer, str):
+                print(answer, flush=True)
+            else:
+                _say(f"maxcat: {_text(answer)}")
+                all_done = False
+    return all_done
+
+
+def _text(fault: Exception) -> str:
+    """What is told of a fault, in one line."""
+    if isinstance(fault, MemoryError):
+        return "memory is wanted"
+    if isinstance(fault, OSError) and not isinstance(fault, Mistake) and fault.filename:
+        return f"{fault.filename}: {fault.strerror}"
+    return " ".join(str(fault).split())
 
 
 def told(name: str, work: Callable, words: Optional[List[str]]) -> int:
-    """The status of a command: 0, or 2 where a mistake is told in one line."""
+    """The status of a command: 0, or 2 where some work is told not to be done or a mistake is told in one line."""
     try:
-        work(words)
-        return 0
-    except Mistake as mistake:
-        text = str(mistake)
-    except MemoryError:
-        text = "memory is wanted"
+        done = _attempted(work, words)
     except BrokenPipeError:
         os.dup2(os.open(os.devnull, os.O_WRONLY), sys.stdout.fileno())
         return 141
-    except OSError as error:
-        text = f"{error.filename}: {error.strerror}" if error.filename else str(error)
     except KeyboardInterrupt:
         return 130
-    _say(f"{name}: {' '.join(text.split())}")
-    return 2
+    if isinstance(done, Exception):
+        _say(f"{name}: {_text(done)}")
+    return 2 if done is False or isinstance(done, Exception) else 0
 
 
 def _say(line: str) -> None:
@@ -493,12 +518,37 @@ def _say(line: str) -> None:
             print(line, file=sys.stderr, flush=True)
 
 
+@contextlib.contextmanager
+def _ended_by_signals():
+    """Within, the signals that batch systems and closed terminals send end the command as an exit does, so that it
+    leaves no half of a file. A signal that is ignored before, as by nohup, stays ignored.
+    """
+    numbers = [getattr(signal, name) for name in ("SIGTERM", "SIGHUP") if hasattr(signal, name)]
+    alone = threading.current_thread() is threading.main_thread()
+    taken = [number for number in numbers if alone and signal.getsignal(number) is signal.SIG_DFL]
+
+    def end(number, frame):
+        # One is enough: another would end the cleaning up.
+        for each in taken:
+            signal.signal(each, signal.SIG_IGN)
+        raise SystemExit(128 + number)
+
+    try:
+        for number in taken:
+            signal.signal(number, end)
+        yield
+    finally:
+        for number in taken:
+            signal.signal(number, signal.SIG_DFL)
+
+
 def main(words: Optional[List[str]] = None) -> int:
     """The command `maxcat`."""
     warnings.simplefilter("ignore", AstropyWarning)
     warnings.simplefilter("ignore", RuntimeWarning)
     warnings.showwarning = lambda message, *rest, **more: _say(f"maxcat: {' '.join(str(message).split())}")
-    return told("maxcat", run, words)
+    with _ended_by_signals():
+        return told("maxcat", run, words)
 
 
 if __name__ == "__main__":

@@ -1,8 +1,10 @@
 """The command `maxcat`, from files to files."""
 import errno
 import os
+import signal
 import subprocess
 import sys
+import time
 
 import numpy
 import pytest
@@ -314,3 +316,51 @@ def test_what_is_no_file_takes_a_map(here, capsys):
     table = catalogue("image.fits", "-o", "cat.fits", "--map", "/dev/null")
     assert capsys.readouterr().out == f"{len(table)} sources in cat.fits\n" and not os.path.isfile("/dev/null")
     assert "none/map.fits can't be written" in told(capsys, "image.fits", "--map", "none/map.fits")
+
+
+@pytest.mark.parametrize("workers", [1, 3])
+def test_bad_images_among_good_ones(here, capsys, workers):
+    fits.writeto("flat.fits", numpy.zeros((90, 90), dtype="f4"))
+    os.link("image.fits", "last.fits")
+    assert cli.main(["none.fits", "image.fits", "flat.fits", "last.fits", "--workers", str(workers)]) == 2
+    out, err = capsys.readouterr()
+    assert [line.split()[-1] for line in out.splitlines()] == ["image.cat.fits", "last.cat.fits"]
+    assert [text in line for text, line in zip(("none.fits", "flat.fits"), err.splitlines())] == [True, True]
+    assert err.count("\n") == 2 and sorted(os.listdir(".")) == [
+        *("flat.fits", "image.cat.fits", "image.fits", "last.cat.fits", "last.fits")
+    ]
+
+
+@pytest.mark.parametrize("workers, images", [(1, 1), (2, 1), (2, 2)])
+@pytest.mark.parametrize("number", [signal.SIGTERM, signal.SIGHUP])
+def test_a_signal_leaves_nothing(here, number, workers, images):
+    (here / "slow").write_text("#!/bin/sh\ntouch started\nexec sleep 2\n")
+    (here / "slow").chmod(0o755)
+    os.link("image.fits", "other.fits")
+    environment = {**os.environ, "PYTHONPATH": str(TOP / "python"), "MAXDETECT": str(here / "slow")}
+    words = ["image.fits", "other.fits"][:images] + ([] if images > 1 else ALL[1:])
+    command = [sys.executable, "-m", "maxdetect.cli", *words, "--workers", str(workers)]
+    before = sorted(os.listdir("."))
+    # The tests may run where it is ignored, as by nohup.
+    heard = {"preexec_fn": lambda: signal.signal(number, signal.SIG_DFL)}
+    with subprocess.Popen(command, env=environment, **heard) as running:
+        while not os.path.exists("started"):
+            assert running.poll() is None
+            time.sleep(0.05)
+        assert [name for name in os.listdir(".") if ".part" in name]
+        running.send_signal(number)
+    assert running.returncode == 128 + number
+    assert sorted(os.listdir(".")) == sorted([*before, "started"])
+
+
+@pytest.mark.parametrize("number", [signal.SIGTERM, signal.SIGHUP])
+def test_signals_are_as_before(monkeypatch, number):
+    seen = []
+    monkeypatch.setattr(cli, "run", lambda words: seen.append(signal.getsignal(number)))
+    earlier = signal.signal(number, signal.SIG_DFL)
+    try:
+        assert cli.main([]) == 0 and signal.getsignal(number) is signal.SIG_DFL is not seen[0]
+        signal.signal(number, signal.SIG_IGN)
+        assert cli.main([]) == 0 and seen[1] is signal.getsignal(number) is signal.SIG_IGN
+    finally:
+        signal.signal(number, earlier)
