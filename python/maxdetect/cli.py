@@ -413,6 +413,15 @@ def _finished(table: Table, field: detection.Field, task: Task, given: argparse.
     )
 
 
+def _joined(found: List[Table]) -> Table:
+    """The rows of all fields, with the cards that are alike in all of them."""
+    table = found[0] if len(found) == 1 else vstack(found, metadata_conflicts="silent")
+    cards = found[0].meta.items()
+    table.meta = {name: value for name, value in cards if all(other.meta.get(name) == value for other in found)}
+    table.meta["VERSION"] = f"maxcat {__version__}"
+    return table
+
+
 def _write(table: Table, task: Task, given: argparse.Namespace, maps, names: Dict[str, str]) -> None:
     """Writes all but the map, each file under the name that it has for now."""
     if given.plot:
@@ -436,8 +445,7 @@ def _done(task: Task, given: argparse.Namespace, tiles, progress) -> str:
         for field, segments in zip(task.fields, maps):
             table = detection.sources(field, tiles, segments=segments, progress=progress)
             found.append(_finished(table, field, task, given))
-        table = found[0] if len(found) == 1 else vstack(found, metadata_conflicts="silent")
-        table.meta["VERSION"] = f"maxcat {__version__}"
+        table = _joined(found)
         _write(table, task, given, maps, names)
     return f"{len(table)} sources in {shlex.quote(task.output)}"
 

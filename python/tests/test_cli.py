@@ -142,6 +142,18 @@ def test_hdus_without_a_name_of_their_own(here, stars):
         assert [hdu.name for hdu in maps[1:]] == ["1", "2", "3", "D"]
 
 
+def test_the_card_with_the_noise(here, stars):
+    hdus = [fits.ImageHDU(scale * stars[0], name=name) for scale, name in ((1, "A"), (2, "B"))]
+    fits.HDUList([fits.PrimaryHDU(), *hdus]).writeto("mosaic.fits")
+    fits.writeto("noise.fits", numpy.full((256, 256), 30, dtype="f4"))
+    one, all_of_them, weighted = (
+        catalogue(*words, "-o", "cat.fits").meta
+        for words in (["image.fits"], ["mosaic.fits", "--hdu", "all"], ["image.fits", "--weight", "noise.fits"])
+    )
+    assert one["SIGMA"] == pytest.approx(30, rel=0.1) and not {"SIGMA"} & {*all_of_them, *weighted}
+    assert one["THRESH"] == all_of_them["THRESH"] == weighted["THRESH"] == 68
+
+
 def test_a_plane_of_a_cube(here, stars, capsys):
     fits.writeto("cube.fits", numpy.stack([stars[0][::-1], stars[0]]), header())
     assert "2 planes" in told(capsys, "cube.fits")
