@@ -276,8 +276,12 @@ def whole_file(path: typing.Union[str, os.PathLike]) -> typing.Iterator[str]:
         name = os.path.join(folder, "whole" + pathlib.Path(path).suffix[:16])
         yield name
         # Writers may remove a file that is there before they write, so the pipe's name isn't given to them.
-        with open(name, "rb") as whole, open(path, "wb") as target:
-            shutil.copyfileobj(whole, target)
+        try:
+            with open(name, "rb") as whole, open(path, "wb") as target:
+                shutil.copyfileobj(whole, target)
+        except OSError as error:
+            error.filename = os.fspath(path)
+            raise
 
 
 @contextlib.contextmanager
