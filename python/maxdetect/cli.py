@@ -3,14 +3,18 @@ import argparse
 import concurrent.futures
 import contextlib
 import dataclasses
+import errno
+import itertools
 import math
 import os
 import pathlib
 import shlex
+import signal
 import sys
 import tempfile
+import threading
 import warnings
-from typing import Callable, List, Optional, Tuple
+from typing import Callable, Dict, List, Optional, Tuple
 
 import numpy
 from astropy.io import fits
@@ -25,7 +29,7 @@ and sky coordinates where the header has them.
 """
 EPILOG = """HDUs are counted from 0, planes and pixels from 1. The sources are found by the program maxdetect, whose
 results are proved; the sky, the scaling and the photometry around it are not. Errors are one line on standard error,
-with status 2; nothing is written then.
+with status 2; nothing is written then. Where one of several images is at fault, the others are done.
 """
 MOST_WORKERS = 64
 MOST_SIGMAS = 1e6
@@ -245,6 +249,14 @@ def _task(path: str, given: argparse.Namespace) -> Task:
     return Task(path, given.output or _default_output(path), [_field(plane, given) for plane in planes])
 
 
+def _writable(output: str) -> bool:
+    """A file of this name can be made or replaced, or what has it takes what is written, as a pipe does."""
+    if os.path.exists(output) and not os.path.isfile(output):
+        return not os.path.isdir(output) and os.access(output, os.W_OK)
+    folder = os.path.dirname(os.path.realpath(output))
+    return os.path.isdir(folder) and os.access(folder, os.W_OK)
+
+
 def _check_names(given: argparse.Namespace, tasks: List[Task]) -> None:
     """No output is an input or another output, and each can be written."""
     inputs = list(given.images) + [images.split_name(it)[0] for it in (given.weight, given.mask, given.measure) if it]
@@ -254,8 +266,7 @@ def _check_names(given: argparse.Namespace, tasks: List[Task]) -> None:
             raise Mistake(f"{output} is read, so it can't be written")
         if any(images.same(output, it) for it in outputs[:number]):
             raise Mistake(f"{output} is to be written twice")
-        folder = os.path.dirname(os.path.realpath(output))
-        if os.path.isdir(output) or not os.path.isdir(folder) or not os.access(folder, os.W_OK):
+        if not _writable(output):
             raise Mistake(f"{output} can't be written")
     for task in tasks:
         tables.format_of(task.output)
@@ -290,50 +301,85 @@ def _check(given: argparse.Namespace) -> None:
 
 
 class _Progress:
-    """A bar on a terminal, and nothing elsewhere."""
+    """A bar on a terminal, and nothing elsewhere. Once it is closed, work that goes on in threads ends by it."""
 
     def __init__(self, count: int):
-        self._bar = None
+        self._bar, self._closed = None, False
         if sys.stderr is not None and sys.stderr.isatty():
             from tqdm import tqdm
 
             self._bar = tqdm(total=count, unit="tile", leave=False)
 
     def __call__(self, count: int) -> None:
+        if self._closed:
+            raise Mistake("the command has ended")
         if self._bar is not None:
             self._bar.update(count)
 
     def close(self) -> None:
+        self._closed = True
         if self._bar is not None:
             self._bar.close()
+
+
+@contextlib.contextmanager
+def _about(path: str):
+    """A fault of the system within that names no file names this one."""
+    try:
+        yield
+    except OSError as error:
+        if error.filename or isinstance(error, BrokenPipeError):
+            raise
+        raise Mistake(f"{path}: {error.strerror or error}") from None
+
+
+def _make_room(file, size: int) -> None:
+    """Makes a file so long that is open for writing. The disk has room for it then: where an array in a file finds it
+    full, a signal ends the command.
+    """
+    try:
+        os.posix_fallocate(file.fileno(), 0, size)
+    except AttributeError:
+        file.truncate(size)
+    except OSError as error:
+        if error.errno not in (errno.EINVAL, errno.ENODEV, errno.ENOSYS, errno.EOPNOTSUPP):
+            raise
+        file.truncate(size)
 
 
 @contextlib.contextmanager
 def _scratch_map(shape):
     """A map in a file of its own that goes away."""
     with tempfile.TemporaryFile() as file:
-        file.truncate(4 * shape[0] * shape[1])
+        with _about(tempfile.gettempdir()):
+            _make_room(file, 4 * shape[0] * shape[1])
         yield numpy.memmap(file, "i4", "r+", shape=shape)
 
 
 @contextlib.contextmanager
-def _maps(task: Task, given: argparse.Namespace):
-    """For each field the map that is to be filled, or None; where a map is asked for its file appears at the end."""
-    if not given.map:
-        with contextlib.ExitStack() as stack:
-            yield [stack.enter_context(_scratch_map(field.shape)) if given.plot else None for field in task.fields]
-        return
-    with tables.whole_file(given.map) as name:
-        headers = _map_headers(task)
-        with open(name, "wb") as file:
-            places = []
-            for header, field in zip(headers, task.fields):
-                file.write(header)
-                places.append(file.tell())
-                size = 4 * field.shape[0] * field.shape[1]
-                file.seek(-(-size // 2880) * 2880, os.SEEK_CUR)
-            file.truncate()
-        yield [numpy.memmap(name, ">i4", "r+", place, field.shape) for place, field in zip(places, task.fields)]
+def _maps(task: Task, given: argparse.Namespace, name: Optional[str]):
+    """For each field the map that is to be filled, or None; the file of this name has them, where there is one."""
+    with contextlib.ExitStack() as stack:
+        if name is not None:
+            yield _maps_in(name, task, given)
+        elif given.plot:
+            yield [stack.enter_context(_scratch_map(field.shape)) for field in task.fields]
+        else:
+            yield [None for _ in task.fields]
+
+
+def _maps_in(name: str, task: Task, given: argparse.Namespace) -> List[numpy.ndarray]:
+    """The fields' maps, full of zeros, in a FITS file that is made for them."""
+    headers, shapes = _map_headers(task), [field.shape for field in task.fields]
+    sizes = [-(-4 * height * width // 2880) * 2880 for height, width in shapes]
+    ends = list(itertools.accumulate(len(header) + size for header, size in zip(headers, sizes)))
+    places = [end - size for end, size in zip(ends, sizes)]
+    with _about(given.map), open(name, "wb") as file:
+        _make_room(file, ends[-1])
+        for header, place in zip(headers, places):
+            file.seek(place - len(header))
+            file.write(header)
+    return [numpy.memmap(name, ">i4", "r+", place, shape) for place, shape in zip(places, shapes)]
 
 
 def _map_headers(task: Task) -> List[bytes]:
@@ -367,33 +413,41 @@ def _finished(table: Table, field: detection.Field, task: Task, given: argparse.
     )
 
 
+def _joined(found: List[Table]) -> Table:
+    """The rows of all fields, with the cards that are alike in all of them."""
+    table = found[0] if len(found) == 1 else vstack(found, metadata_conflicts="silent")
+    cards = found[0].meta.items()
+    table.meta = {name: value for name, value in cards if all(other.meta.get(name) == value for other in found)}
+    table.meta["VERSION"] = f"maxcat {__version__}"
+    return table
+
+
+def _write(table: Table, task: Task, given: argparse.Namespace, maps, names: Dict[str, str]) -> None:
+    """Writes all but the map, each file under the name that it has for now."""
+    if given.plot:
+        from . import pictures
+
+        image = task.fields[0].image(slice(None))
+        with _about(given.plot):
+            pictures.draw(image, maps[0], table, names[given.plot], crop=given.crop)
+    if given.regions:
+        with _about(given.regions):
+            tables.regions(table, names[given.regions])
+    with _about(task.output):
+        tables.write(table, names[task.output])
+
+
 def _done(task: Task, given: argparse.Namespace, tiles, progress) -> str:
     """Finds and writes a file's sources, and says so."""
-    with _maps(task, given) as maps:
+    wanted = [task.output, *(it for it in (given.map, given.regions, given.plot) if it)]
+    with _about(task.output), tables.whole_files(wanted) as names, _maps(task, given, names.get(given.map)) as maps:
         found = []
         for field, segments in zip(task.fields, maps):
             table = detection.sources(field, tiles, segments=segments, progress=progress)
             found.append(_finished(table, field, task, given))
-        table = found[0] if len(found) == 1 else vstack(found, metadata_conflicts="silent")
-        table.meta["VERSION"] = f"maxcat {__version__}"
-        if given.plot:
-            from . import pictures
-
-            pictures.draw(task.fields[0].image(slice(None)), maps[0], table, given.plot, crop=given.crop)
-        if given.regions:
-            tables.regions(table, given.regions)
-        tables.write(table, task.output)
+        table = _joined(found)
+        _write(table, task, given, maps, names)
     return f"{len(table)} sources in {shlex.quote(task.output)}"
-
-
-def _named(task: Task, given: argparse.Namespace, tiles, progress) -> str:
-    """The same; a fault of the system that names no file names the catalogue."""
-    try:
-        return _done(task, given, tiles, progress)
-    except OSError as error:
-        if error.filename or isinstance(error, BrokenPipeError):
-            raise
-        raise Mistake(f"{task.output}: {error.strerror or error}") from None
 
 
 def _count(tasks: List[Task]) -> int:
@@ -401,48 +455,68 @@ def _count(tasks: List[Task]) -> int:
     return sum(math.prod(-(-side // detection.TILE) for side in field.shape) for task in tasks for field in task.fields)
 
 
-def run(words: Optional[List[str]] = None) -> None:
-    """Does what the words say. Raises Mistake."""
+def _attempted(work: Callable, *given):
+    """What some work gives, or the fault that a user can put right."""
+    try:
+        return work(*given)
+    except BrokenPipeError:
+        raise
+    except (Mistake, MemoryError, OSError) as fault:
+        return fault
+
+
+def run(words: Optional[List[str]] = None) -> bool:
+    """Does what the words say, and tells for each image what came of it: False where one of several wasn't done.
+    Raises Mistake.
+    """
     given = parser().parse_intermixed_args(words)
     _check(given)
-    tasks = [_task(path, given) for path in given.images]
-    _check_names(given, tasks)
-    kernel.find_program()
-    progress = _Progress(_count(tasks))
-    try:
-        with contextlib.ExitStack() as stack:
-            pool = None
-            if given.workers > 1:
-                pool = stack.enter_context(concurrent.futures.ThreadPoolExecutor(given.workers))
-            files = (
-                stack.enter_context(concurrent.futures.ThreadPoolExecutor(given.workers))
-                if pool and len(tasks) > 1
-                else None
-            )
-            for line in detection.tiles.each(files, lambda task: _named(task, given, pool, progress), tasks):
-                print(line, flush=True)
-    finally:
-        progress.close()
+    tasks = [_attempted(_task, path, given) for path in given.images]
+    good = [task for task in tasks if isinstance(task, Task)]
+    _check_names(given, good)
+    if good:
+        kernel.find_program()
+    progress, all_done = _Progress(_count(good)), True
+    with contextlib.ExitStack() as stack:
+        pool, files = (
+            stack.enter_context(concurrent.futures.ThreadPoolExecutor(given.workers)) if wanted else None
+            for wanted in (given.workers > 1, given.workers > 1 and len(good) > 1)
+        )
+        stack.callback(progress.close)
+
+        def work(task):
+            return _attempted(_done, task, given, pool, progress) if isinstance(task, Task) else task
+
+        for answer in detection.tiles.each(files, work, tasks):
+            if isinstance(answer, str):
+                print(answer, flush=True)
+            else:
+                _say(f"maxcat: {_text(answer)}")
+                all_done = False
+    return all_done
+
+
+def _text(fault: Exception) -> str:
+    """What is told of a fault, in one line."""
+    if isinstance(fault, MemoryError):
+        return "memory is wanted"
+    if isinstance(fault, OSError) and not isinstance(fault, Mistake) and fault.filename:
+        return f"{fault.filename}: {fault.strerror}"
+    return " ".join(str(fault).split())
 
 
 def told(name: str, work: Callable, words: Optional[List[str]]) -> int:
-    """The status of a command: 0, or 2 where a mistake is told in one line."""
+    """The status of a command: 0, or 2 where some work is told not to be done or a mistake is told in one line."""
     try:
-        work(words)
-        return 0
-    except Mistake as mistake:
-        text = str(mistake)
-    except MemoryError:
-        text = "memory is wanted"
+        done = _attempted(work, words)
     except BrokenPipeError:
         os.dup2(os.open(os.devnull, os.O_WRONLY), sys.stdout.fileno())
         return 141
-    except OSError as error:
-        text = f"{error.filename}: {error.strerror}" if error.filename else str(error)
     except KeyboardInterrupt:
         return 130
-    _say(f"{name}: {' '.join(text.split())}")
-    return 2
+    if isinstance(done, Exception):
+        _say(f"{name}: {_text(done)}")
+    return 2 if done is False or isinstance(done, Exception) else 0
 
 
 def _say(line: str) -> None:
@@ -452,12 +526,37 @@ def _say(line: str) -> None:
             print(line, file=sys.stderr, flush=True)
 
 
+@contextlib.contextmanager
+def _ended_by_signals():
+    """Within, the signals that batch systems and closed terminals send end the command as an exit does, so that it
+    leaves no half of a file. A signal that is ignored before, as by nohup, stays ignored.
+    """
+    numbers = [getattr(signal, name) for name in ("SIGTERM", "SIGHUP") if hasattr(signal, name)]
+    alone = threading.current_thread() is threading.main_thread()
+    taken = [number for number in numbers if alone and signal.getsignal(number) is signal.SIG_DFL]
+
+    def end(number, frame):
+        # One is enough: another would end the cleaning up.
+        for each in taken:
+            signal.signal(each, signal.SIG_IGN)
+        raise SystemExit(128 + number)
+
+    try:
+        for number in taken:
+            signal.signal(number, end)
+        yield
+    finally:
+        for number in taken:
+            signal.signal(number, signal.SIG_DFL)
+
+
 def main(words: Optional[List[str]] = None) -> int:
     """The command `maxcat`."""
     warnings.simplefilter("ignore", AstropyWarning)
     warnings.simplefilter("ignore", RuntimeWarning)
     warnings.showwarning = lambda message, *rest, **more: _say(f"maxcat: {' '.join(str(message).split())}")
-    return told("maxcat", run, words)
+    with _ended_by_signals():
+        return told("maxcat", run, words)
 
 
 if __name__ == "__main__":

@@ -243,8 +243,8 @@ def sources(
     """The sources of a field with their photometry, in columns and rows of the image, numbered by their first pixels.
 
     Tiles run in the executor. `segments`, an array of the image's shape full of zeros, gets the map. `progress` is
-    called with 1 for each tile, after a first call with 0. The table's meta has the noise (SIGMA) and the program's
-    threshold (THRESH).
+    called with 1 for each tile, after a first call with 0. The table's meta has the program's threshold (THRESH), and
+    the noise (SIGMA) where there is no weight map.
     """
     detector = Detector(field, sky_of(field), program, segments is not None)
     cores = detector.plan.cores()
@@ -253,7 +253,10 @@ def sources(
     progress(0)
     table, cut = tiles.gathered(tiles.each(executor, _Tile(detector), cores), segments, progress)
     table["FLAGS"] |= numpy.where(cut, photometry.CUT, 0).astype(table["FLAGS"].dtype)
-    table.meta.update(SIGMA=detector.sky.noise, THRESH=field.settings.threshold)
+    table.meta["THRESH"] = field.settings.threshold
+    # With a weight map the sky's noise is a factor, and no noise of the image.
+    if field.weights is None:
+        table.meta["SIGMA"] = detector.sky.noise
     return table
 
 

@@ -27,7 +27,7 @@ from astropy.wcs.utils import wcs_to_celestial_frame
 from .errors import Mistake
 from .photometry import FLAGS
 
-__all__ = ["FORMATS", "finished", "format_of", "map_hdu", "regions", "whole_file", "write", "write_map"]
+__all__ = ["FORMATS", "finished", "format_of", "map_hdu", "regions", "whole_file", "whole_files", "write", "write_map"]
 
 # How a catalogue is written, by the end of its name.
 FORMATS = {
@@ -276,8 +276,12 @@ def whole_file(path: typing.Union[str, os.PathLike]) -> typing.Iterator[str]:
         name = os.path.join(folder, "whole" + pathlib.Path(path).suffix[:16])
         yield name
         # Writers may remove a file that is there before they write, so the pipe's name isn't given to them.
-        with open(name, "rb") as whole, open(path, "wb") as target:
-            shutil.copyfileobj(whole, target)
+        try:
+            with open(name, "rb") as whole, open(path, "wb") as target:
+                shutil.copyfileobj(whole, target)
+        except OSError as error:
+            error.filename = os.fspath(path)
+            raise
 
 
 @contextlib.contextmanager
@@ -293,10 +297,23 @@ def _renamed(path: typing.Union[str, os.PathLike]) -> typing.Iterator[str]:
     try:
         yield name
         os.replace(name, target)
-    except BaseException:
+    except BaseException as error:
         with contextlib.suppress(FileNotFoundError):
             os.unlink(name)
+        if isinstance(error, OSError) and error.filename == name:
+            error.filename = os.fspath(path)
         raise
+
+
+@contextlib.contextmanager
+def whole_files(paths: typing.Iterable[str]) -> typing.Iterator[typing.Dict[str, str]]:
+    """For each of several files the temporary name under which it is written; they get their own names together at
+    the end, or are gone.
+    """
+    with contextlib.ExitStack() as stack:
+        # The last to be entered is the first to be written: a pipe may fail, and files be gone then.
+        last = sorted(paths, key=lambda path: os.path.exists(path) and not os.path.isfile(path))
+        yield {path: stack.enter_context(whole_file(path)) for path in last}
 
 
 def format_of(path: typing.Union[str, os.PathLike]) -> str:

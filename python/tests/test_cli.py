@@ -1,7 +1,10 @@
 """The command `maxcat`, from files to files."""
+import errno
 import os
+import signal
 import subprocess
 import sys
+import time
 
 import numpy
 import pytest
@@ -10,7 +13,7 @@ from astropy.table import Table
 from astropy.wcs import WCS
 
 from conftest import TOP
-from maxdetect import cli, detection
+from maxdetect import cli, detection, tables
 
 
 def header(**cards):
@@ -137,6 +140,18 @@ def test_hdus_without_a_name_of_their_own(here, stars):
     assert [str(name) for name in dict.fromkeys(table["EXTENSION"])] == ["1", "2", "3", "D"]
     with fits.open("map.fits") as maps:
         assert [hdu.name for hdu in maps[1:]] == ["1", "2", "3", "D"]
+
+
+def test_the_card_with_the_noise(here, stars):
+    hdus = [fits.ImageHDU(scale * stars[0], name=name) for scale, name in ((1, "A"), (2, "B"))]
+    fits.HDUList([fits.PrimaryHDU(), *hdus]).writeto("mosaic.fits")
+    fits.writeto("noise.fits", numpy.full((256, 256), 30, dtype="f4"))
+    one, all_of_them, weighted = (
+        catalogue(*words, "-o", "cat.fits").meta
+        for words in (["image.fits"], ["mosaic.fits", "--hdu", "all"], ["image.fits", "--weight", "noise.fits"])
+    )
+    assert one["SIGMA"] == pytest.approx(30, rel=0.1) and not {"SIGMA"} & {*all_of_them, *weighted}
+    assert one["THRESH"] == all_of_them["THRESH"] == weighted["THRESH"] == 68
 
 
 def test_a_plane_of_a_cube(here, stars, capsys):
@@ -277,3 +292,87 @@ def test_prepare(here, capsys):
     )
     result = subprocess.run([*words, "image.fits", "image.fits"], capture_output=True, text=True, check=False)
     assert result.returncode == 2 and result.stderr.startswith("prepare: ")
+
+
+ALL = ["image.fits", "-o", "cat.fits", "--map", "map.fits", "--regions", "all.reg", "--plot", "all.png"]
+
+
+def failing(number):
+    """A function that ends with this fault of the system."""
+
+    def fails(*given, **more):
+        raise OSError(number, os.strerror(number))
+
+    return fails
+
+
+def test_a_full_disk(here, capsys, monkeypatch):
+    monkeypatch.setattr(os, "posix_fallocate", failing(errno.ENOSPC))
+    assert told(capsys, *ALL) == "maxcat: map.fits: No space left on device\n"
+    assert "No space left on device" in told(capsys, "image.fits", "--plot", "all.png")
+    monkeypatch.setattr(os, "posix_fallocate", failing(errno.EOPNOTSUPP))
+    table = catalogue(*ALL)
+    assert fits.getdata("map.fits").max() == len(table)
+
+
+@pytest.mark.parametrize("written, name", [("write", "cat.fits"), ("regions", "all.reg")])
+def test_all_files_or_none(here, capsys, monkeypatch, written, name):
+    monkeypatch.setattr(tables, written, failing(errno.ENOSPC))
+    assert told(capsys, *ALL) == f"maxcat: {name}: No space left on device\n"
+    (here / "cat.fits").write_text("earlier")
+    told(capsys, *ALL)
+    assert (here / "cat.fits").read_text() == "earlier"
+
+
+def test_what_is_no_file_takes_a_map(here, capsys):
+    table = catalogue("image.fits", "-o", "cat.fits", "--map", "/dev/null")
+    assert capsys.readouterr().out == f"{len(table)} sources in cat.fits\n" and not os.path.isfile("/dev/null")
+    assert "none/map.fits can't be written" in told(capsys, "image.fits", "--map", "none/map.fits")
+
+
+@pytest.mark.parametrize("workers", [1, 3])
+def test_bad_images_among_good_ones(here, capsys, workers):
+    fits.writeto("flat.fits", numpy.zeros((90, 90), dtype="f4"))
+    os.link("image.fits", "last.fits")
+    assert cli.main(["none.fits", "image.fits", "flat.fits", "last.fits", "--workers", str(workers)]) == 2
+    out, err = capsys.readouterr()
+    assert [line.split()[-1] for line in out.splitlines()] == ["image.cat.fits", "last.cat.fits"]
+    assert [text in line for text, line in zip(("none.fits", "flat.fits"), err.splitlines())] == [True, True]
+    assert err.count("\n") == 2 and sorted(os.listdir(".")) == [
+        *("flat.fits", "image.cat.fits", "image.fits", "last.cat.fits", "last.fits")
+    ]
+
+
+@pytest.mark.parametrize("workers, images", [(1, 1), (2, 1), (2, 2)])
+@pytest.mark.parametrize("number", [signal.SIGTERM, signal.SIGHUP])
+def test_a_signal_leaves_nothing(here, number, workers, images):
+    (here / "slow").write_text("#!/bin/sh\ntouch started\nexec sleep 2\n")
+    (here / "slow").chmod(0o755)
+    os.link("image.fits", "other.fits")
+    environment = {**os.environ, "PYTHONPATH": str(TOP / "python"), "MAXDETECT": str(here / "slow")}
+    words = ["image.fits", "other.fits"][:images] + ([] if images > 1 else ALL[1:])
+    command = [sys.executable, "-m", "maxdetect.cli", *words, "--workers", str(workers)]
+    before = sorted(os.listdir("."))
+    # The tests may run where it is ignored, as by nohup.
+    heard = {"preexec_fn": lambda: signal.signal(number, signal.SIG_DFL)}
+    with subprocess.Popen(command, env=environment, **heard) as running:
+        while not os.path.exists("started"):
+            assert running.poll() is None
+            time.sleep(0.05)
+        assert [name for name in os.listdir(".") if ".part" in name]
+        running.send_signal(number)
+    assert running.returncode == 128 + number
+    assert sorted(os.listdir(".")) == sorted([*before, "started"])
+
+
+@pytest.mark.parametrize("number", [signal.SIGTERM, signal.SIGHUP])
+def test_signals_are_as_before(monkeypatch, number):
+    seen = []
+    monkeypatch.setattr(cli, "run", lambda words: seen.append(signal.getsignal(number)))
+    earlier = signal.signal(number, signal.SIG_DFL)
+    try:
+        assert cli.main([]) == 0 and signal.getsignal(number) is signal.SIG_DFL is not seen[0]
+        signal.signal(number, signal.SIG_IGN)
+        assert cli.main([]) == 0 and seen[1] is signal.getsignal(number) is signal.SIG_IGN
+    finally:
+        signal.signal(number, earlier)

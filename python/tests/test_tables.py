@@ -170,6 +170,20 @@ def test_whole_or_not_at_all(tmp_path):
     assert path.stat().st_mode & 0o777 == 0o666 & ~(os.umask(0o22) or os.umask(0o22))
 
 
+def test_several_files_appear_together(tmp_path):
+    one, pipe = str(tmp_path / "one.csv"), str(tmp_path / "pipe.csv")
+    os.symlink("/dev/full", pipe)
+    for paths in ([one, pipe], [pipe, one]):
+        with pytest.raises(OSError, match="No space.*pipe.csv"), tables.whole_files(paths) as names:
+            for name in names.values():
+                tables.write(catalogue(), name)
+        assert os.listdir(tmp_path) == ["pipe.csv"]
+    with tables.whole_files([one]) as names:
+        tables.write(catalogue(), names[one])
+        assert not os.path.exists(one)
+    assert sorted(os.listdir(tmp_path)) == ["one.csv", "pipe.csv"]
+
+
 def test_names_that_no_catalogue_can_have(tmp_path):
     for name in ("catalogue", "catalogue.txt"):
         with pytest.raises(Mistake, match="ends in .fits"):
