@@ -256,7 +256,7 @@ def test_mistakes_are_one_line_and_leave_nothing(here, capsys, words, text):
     fits.writeto("nothing.fits", numpy.full((90, 90), numpy.nan, dtype="f4"))
     fits.writeto("ones.fits", numpy.ones((256, 256), dtype="u1"))
     fits.writeto("huge.fits", fits.getdata("image.fits").astype("f8") * 1e200)
-    fits.writeto("tiny.fits", fits.getdata("image.fits") * 1e-30)
+    fits.writeto("tiny.fits", fits.getdata("image.fits") * 1e-36)
     (here / "text.fits").write_text("text\n")
     assert text in told(capsys, *words)
 
