@@ -6,7 +6,7 @@ use Rattle.std.proofs.lemmas.List.{length-map}
 use Rattle.comp_tree.specs.declared.shape.Connect.{Connect}
 use Rattle.comp_tree.specs.Raster.{Raster, IsPlane, is_defined, level}
 use Rattle.comp_tree.specs.Components.{reaches, representative, nodes, node_of, no_node, is_candidate, parent_of, row_of, tree_of, is_in_node}
-use Rattle.comp_tree.specs.Laws.{top_of, LiesWithin, LiesStrictlyWithin, PixelsBelongToTheirAncestors, parent_in, IsAncestor, parent, above, AncestorsAreTheLargerNodes, ParentIsTheSmallestLargerNode, RootsHaveNoLargerNode, CandidatesOfOneLevelHaveOneNode}
+use Rattle.comp_tree.specs.Laws.{top_of, IsNestedIn, LiesStrictlyWithin, PixelsBelongToTheirAncestors, parent_in, IsAncestor, parent, above, AncestorsAreTheLargerNodes, ParentIsTheSmallestLargerNode, RootsHaveNoLargerNode, CandidatesOfOneLevelHaveOneNode}
 use Rattle.comp_tree.proofs.Reaching.{defined_from_at_least}
 use Rattle.comp_tree.proofs.Levels.{int_le_antisym, int_le_from_lt, int_lt_irrefl, int_lt_le, cases_int}
 use Rattle.comp_tree.proofs.Ordering.{ordered-at, earlier-level}
@@ -222,14 +222,14 @@ parent_is_the_smallest_larger_node r connect k n plane hk hn e = (larger_from_an
     listed = omega (arith, length-rows r connect)
 
     -- an ancestor is the parent, or one of the parent's ancestors
-    around_parent : (m j : ℕ) → j ≡ n → IsAncestor (tree_of r connect).rows m j → LiesWithin r connect k m
+    around_parent : (m j : ℕ) → j ≡ n → IsAncestor (tree_of r connect).rows m j → IsNestedIn r connect k m
     around_parent m _ same (parent j f h) =
-        subst (λ (x : ℕ). LiesWithin r connect k x) (sym e ∙ ap (parent_in (tree_of r connect).rows) (sym same) ∙ f) (λ q x. x)
+        subst (λ (x : ℕ). IsNestedIn r connect k x) (sym e ∙ ap (parent_in (tree_of r connect).rows) (sym same) ∙ f) (λ q x. x)
     around_parent m _ same (above i j f h rest) =
         (larger_from_ancestor r connect m k plane hk
         (subst (λ (x : ℕ). IsAncestor (tree_of r connect).rows m x) (sym f ∙ ap (parent_in (tree_of r connect).rows) same ∙ e) rest)).0
 
-    within_each : (m : ℕ) → m < length (nodes r connect) → LiesStrictlyWithin r connect n m → LiesWithin r connect k m
+    within_each : (m : ℕ) → m < length (nodes r connect) → LiesStrictlyWithin r connect n m → IsNestedIn r connect k m
     within_each m hm w = around_parent m n refl ((ancestors_are_the_larger_nodes r connect m n plane hm hn).0 w)
 
 pub roots_have_no_larger_node : RootsHaveNoLargerNode

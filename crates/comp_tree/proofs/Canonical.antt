@@ -6,7 +6,7 @@ use Rattle.comp_tree.specs.declared.shape.Connect.{Connect}
 use Rattle.comp_tree.specs.Raster.{Raster, IsPlane, value_at, is_defined, level, is_at_least}
 use Rattle.comp_tree.specs.Grid.{IsAdjacency}
 use Rattle.comp_tree.specs.Joined.{Joined}
-use Rattle.comp_tree.specs.Forest.{no_node, IsHigh, link_of, IsForest, IsLast, stop, go, HaveSameLast, StandsFor}
+use Rattle.comp_tree.specs.Forest.{no_node, IsHigh, link_of, IsForest, WayEndsAt, stop, go, HaveSameLast, StandsFor}
 use Rattle.comp_tree.specs.Components.{reaches, representative, is_candidate, parent_of, node_of}
 use Rattle.comp_tree.specs.Laws.{EachWalkHasOneLast, LastAtOwnLevelIsRepresentative}
 use Rattle.comp_tree.proofs.Joining.{joined_wider}
@@ -51,7 +51,7 @@ module _ (r : Raster) (connect : Connect) (links : List ℕ) (plane : IsPlane r)
   own p d = high_from (level r p) p (Nodes.at_least-own r p d)
 
   -- the last pixel of a walk at the level of its start is the representative of its start
-  pub last_is : (p z : ℕ) → IsTrue (is_defined r p) → IsLast r.values 0 links (level r p) p z → z ≡ representative r connect p
+  pub last_is : (p z : ℕ) → IsTrue (is_defined r p) → WayEndsAt r.values 0 links (level r p) p z → z ≡ representative r connect p
   last_is p z d l = Nodes.representative-unique r connect p z (representative r connect p)
       (record {
         reached = reaches_from (level r p) p z k.joined;
@@ -63,9 +63,9 @@ module _ (r : Raster) (connect : Connect) (links : List ℕ) (plane : IsPlane r)
         k : IsRepresentative r.values 0 (length links) (IsAdjacency r.values r.shape.width connect) (level r p) p z
         k = last_representative r.values 0 links (level r p) forest small (IsAdjacency r.values r.shape.width connect) p z stands (value-level r p d) l
 
-  pub last_own : (p : ℕ) → IsTrue (is_defined r p) → IsLast r.values 0 links (level r p) p (representative r connect p)
-  last_own p d = let l : (z : ℕ) × IsLast r.values 0 links (level r p) p z = last_there r.values 0 links (level r p) forest small p (own p d) in
-      subst (λ (z : ℕ). IsLast r.values 0 links (level r p) p z) (last_is p l.0 d l.1) l.1
+  pub last_own : (p : ℕ) → IsTrue (is_defined r p) → WayEndsAt r.values 0 links (level r p) p (representative r connect p)
+  last_own p d = let l : (z : ℕ) × WayEndsAt r.values 0 links (level r p) p z = last_there r.values 0 links (level r p) forest small p (own p d) in
+      subst (λ (z : ℕ). WayEndsAt r.values 0 links (level r p) p z) (last_is p l.0 d l.1) l.1
 
   -- a pixel represents its component exactly where its link is none or lower
   pub representative_from_link : (p : ℕ) → IsTrue (is_defined r p) → IsFalse (is_at_least r (level r p) (link_of 0 links p)) → representative r connect p ≡ p
@@ -74,7 +74,7 @@ module _ (r : Raster) (connect : Connect) (links : List ℕ) (plane : IsPlane r)
   pub link_from_representative : (p : ℕ) → IsTrue (is_defined r p) → representative r connect p ≡ p → IsFalse (is_at_least r (level r p) (link_of 0 links p))
   link_from_representative p d e = on (is_at_least r (level r p) (link_of 0 links p)) refl
     where
-      circle : (q : ℕ) → q ≡ p → IsLast r.values 0 links (level r p) p q → IsTrue (is_at_least r (level r p) (link_of 0 links p)) → ⊥
+      circle : (q : ℕ) → q ≡ p → WayEndsAt r.values 0 links (level r p) p q → IsTrue (is_at_least r (level r p) (link_of 0 links p)) → ⊥
       circle q s (stop g n) u = n (high_from (level r p) (link_of 0 links p) u)
       circle q s (go g l) u =
           let next : IsHigh r.values 0 (length links) (level r p) (link_of 0 links p) = high_from (level r p) (link_of 0 links p) u in
@@ -110,7 +110,7 @@ module _ (r : Raster) (connect : Connect) (links : List ℕ) (plane : IsPlane r)
       p_in = high_from (level r (link_of 0 links p)) p (Nodes.at_least-from r (level r (link_of 0 links p)) p d (int_le_from_lt (level r (link_of 0 links p)) (level r p) lower))
 
       joined : IsTrue (reaches r connect (level r (link_of 0 links p)) (link_of 0 links p) p)
-      joined = let l : IsLast r.values 0 links (level r (link_of 0 links p)) (link_of 0 links p) (representative r connect (link_of 0 links p)) = last_own (link_of 0 links p) dl in
+      joined = let l : WayEndsAt r.values 0 links (level r (link_of 0 links p)) (link_of 0 links p) (representative r connect (link_of 0 links p)) = last_own (link_of 0 links p) dl in
           reaches_from (level r (link_of 0 links p)) (link_of 0 links p) p
           ((stands.joins (level r (link_of 0 links p)) (link_of 0 links p) p at_link p_in).0 (representative r connect (link_of 0 links p), (l, go p_in l)))
 
@@ -136,8 +136,8 @@ module _ (r : Raster) (connect : Connect) (links : List ℕ) (plane : IsPlane r)
               same : HaveSameLast r.values 0 links (level r s) s p
               same = (stands.joins (level r s) s p s_in p_at).1 (joined_from (level r s) s p m.reaches_it)
 
-              s_last : IsLast r.values 0 links (level r s) s p
-              s_last = subst (λ (x : ℕ). IsLast r.values 0 links (level r s) s x)
+              s_last : WayEndsAt r.values 0 links (level r s) s p
+              s_last = subst (λ (x : ℕ). WayEndsAt r.values 0 links (level r s) s x)
                   (last_same r.values 0 links (level r s) p same.0 p same.1.1 (stop p_at link_out)) same.1.0
 
               above : int_le (level r p) (level r s) ≡ true
@@ -148,7 +148,7 @@ module _ (r : Raster) (connect : Connect) (links : List ℕ) (plane : IsPlane r)
 
 pub each_walk_has_one_last : EachWalkHasOneLast
 each_walk_has_one_last values first links h p small forest high =
-    let last : (z : ℕ) × IsLast values first links h p z = last_there values first links h forest small p high in
+    let last : (z : ℕ) × WayEndsAt values first links h p z = last_there values first links h forest small p high in
     (last.0, last.1, λ y k. last_same values first links h p y last.0 k last.1)
 
 pub last_at_own_level : LastAtOwnLevelIsRepresentative

@@ -6,7 +6,7 @@ use Rattle.comp_tree.specs.declared.shape.Connect.{Connect}
 use Rattle.comp_tree.specs.Raster.{Raster, pixels, level, is_defined}
 use Rattle.comp_tree.specs.Components.{nodes, is_in_node}
 use Rattle.comp_tree.specs.Nesting.{pixels_of, lies_within}
-use Rattle.comp_tree.specs.Laws.{top_of, LiesWithin, LiesWithinIsInclusion}
+use Rattle.comp_tree.specs.Laws.{top_of, IsNestedIn, LiesWithinIsInclusion}
 use Rattle.comp_tree.proofs.Members.{IsAmong, among-filter, among_from_filter}
 use Rattle.comp_tree.proofs.Reaching.{among_from_defined}
 use Rattle.comp_tree.proofs.Components.{top-here}
@@ -43,11 +43,11 @@ in_node_from_among r connect n q m = (among_from_filter (is_in_node r connect n)
 
 -- ---- the test
 
-pub within_from_test : (r : Raster) (connect : Connect) (n m : ℕ) → lies_within r connect n m ≡ true → LiesWithin r connect n m
+pub within_from_test : (r : Raster) (connect : Connect) (n m : ℕ) → lies_within r connect n m ≡ true → IsNestedIn r connect n m
 unfolding lies_within
 within_from_test r connect n m h = λ q k. all_gives (is_in_node r connect m) (pixels_of r connect n) q h (among_pixels r connect n q k)
 
-pub test_from_within : (r : Raster) (connect : Connect) (n m : ℕ) → LiesWithin r connect n m → lies_within r connect n m ≡ true
+pub test_from_within : (r : Raster) (connect : Connect) (n m : ℕ) → IsNestedIn r connect n m → lies_within r connect n m ≡ true
 unfolding lies_within
 test_from_within r connect n m h = all_from (is_in_node r connect m) (pixels_of r connect n) (λ q k. h q (in_node_from_among r connect n q k))
 

@@ -4,7 +4,7 @@ use Rattle.std.proofs.lemmas.Bool.Decides.{nat_tests}
 use Rattle.std.specs.Coded.{le_prop}
 use Rattle.comp_tree.specs.declared.shape.Shape.{Shape}
 use Rattle.comp_tree.specs.Limits.{IsWithinLimits}
-use Rattle.comp_tree.specs.Shapes.{is_within, shape_if, shape_of}
+use Rattle.comp_tree.specs.Shapes.{fits_limits, shape_if, shape_of}
 
 abbrev sided : (width height : ℕ) → IsWithinLimits width height → Shape
 sided width height limits = record { width = width; height = height; within_limits = limits }
@@ -23,8 +23,8 @@ same_sides width height w h limits others p q =
 pub shape_by_sides : (s t : Shape) → s.width ≡ t.width → s.height ≡ t.height → s ≡ t
 shape_by_sides s t p q = same_sides s.width s.height t.width t.height s.within_limits t.within_limits p q
 
-within_from : (width height : ℕ) → IsWithinLimits width height → is_within width height ≡ true
-unfolding is_within
+within_from : (width height : ℕ) → IsWithinLimits width height → fits_limits width height ≡ true
+unfolding fits_limits
 within_from width height limits =
     let columns = limits.some_columns in
     let rows = limits.some_rows in
@@ -41,4 +41,4 @@ shape_if-true width height false limits s h p q = absurd (cc)
 pub shape_of_sides : (width height : ℕ) (s : Shape) → s.width ≡ width → s.height ≡ height → shape_of width height ≡ Some s
 unfolding shape_of
 shape_of_sides width height s p q =
-    shape_if-true width height (is_within width height) _ s (within_from width height (subst (λ x. IsWithinLimits x height) p (subst (λ y. IsWithinLimits s.width y) q s.within_limits))) p q
+    shape_if-true width height (fits_limits width height) _ s (within_from width height (subst (λ x. IsWithinLimits x height) p (subst (λ y. IsWithinLimits s.width y) q s.within_limits))) p q

@@ -1,7 +1,7 @@
 -- Model: links of the pixels of some whole rows, and what they stand for.
 use Rattle.std.specs.Prelude.{◌≡◌, ℕ, ◌-◌, List, length, Option, ℤ, ◌⊎◌, ◌↔◌, slice_index_or}
 pub use Rattle.comp_tree.specs.Limits.{no_node}
-pub use Rattle.comp_tree.specs.Raster.{value_at, IsDefined, IsAtLeast, is_before, IsBefore}
+pub use Rattle.comp_tree.specs.Raster.{value_at, HasValue, ReachesLevel, is_before, ComesBefore}
 pub use Rattle.comp_tree.specs.Grid.{IsWithin}
 use Rattle.comp_tree.specs.declared.shape.Connect.{Connect}
 use Rattle.comp_tree.specs.Raster.{Raster}
@@ -9,18 +9,18 @@ use Rattle.comp_tree.specs.Grid.{IsAdjacency}
 use Rattle.comp_tree.specs.Joined.{Joined}
 
 -- a is earlier than b
-abbrev pub IsEarlier : List (Option ℤ) → ℕ → ℕ → Type 0
-IsEarlier values a b = IsBefore (value_at values a) a (value_at values b) b
+abbrev pub ComesEarlier : List (Option ℤ) → ℕ → ℕ → Type 0
+ComesEarlier values a b = ComesBefore (value_at values a) a (value_at values b) b
 
 -- p is one of these pixels, and defined
 pub record IsPixel (values : List (Option ℤ)) (first count p : ℕ) : Type 0 where
   pub within : IsWithin first count p
-  pub value : IsDefined (value_at values p)
+  pub value : HasValue (value_at values p)
 
 -- p is one of these pixels, and its value is at least h
 pub record IsHigh (values : List (Option ℤ)) (first count : ℕ) (h : ℤ) (p : ℕ) : Type 0 where
   pub within : IsWithin first count p
-  pub value : IsAtLeast h (value_at values p)
+  pub value : ReachesLevel h (value_at values p)
 
 -- ---- links
 
@@ -34,25 +34,25 @@ pub record IsLink (first : ℕ) (links : List ℕ) (p q : ℕ) : Type 0 where
   pub link : link_of first links p ≡ q
 
 -- the link of p is none, or one of these pixels and earlier
-abbrev pub IsKept : List (Option ℤ) → ℕ → List ℕ → ℕ → Type 0
-IsKept values first links p =
+abbrev pub LinksToEarlier : List (Option ℤ) → ℕ → List ℕ → ℕ → Type 0
+LinksToEarlier values first links p =
     (link_of first links p ≡ no_node)
-    ⊎ (IsWithin first (length links) (link_of first links p) × IsEarlier values (link_of first links p) p)
+    ⊎ (IsWithin first (length links) (link_of first links p) × ComesEarlier values (link_of first links p) p)
 
 -- the links of all these pixels are so. So an undefined pixel links to none, and nothing links to it
 pub record IsForest (values : List (Option ℤ)) (first : ℕ) (links : List ℕ) : Type 0 where
-  pub earlier : (p : ℕ) → IsWithin first (length links) p → IsKept values first links p
+  pub earlier : (p : ℕ) → IsWithin first (length links) p → LinksToEarlier values first links p
 
 -- z is the last pixel that is high on the walk from p along the links, p included
-pub data IsLast (values : List (Option ℤ)) (first : ℕ) (links : List ℕ) (h : ℤ) : ℕ → ℕ → Type 0 where
+pub data WayEndsAt (values : List (Option ℤ)) (first : ℕ) (links : List ℕ) (h : ℤ) : ℕ → ℕ → Type 0 where
   stop : {p : ℕ} → IsHigh values first (length links) h p → (IsHigh values first (length links) h (link_of first links p) → ⊥)
-      → IsLast values first links h p p
-  go : {p z : ℕ} → IsHigh values first (length links) h p → IsLast values first links h (link_of first links p) z
-      → IsLast values first links h p z
+      → WayEndsAt values first links h p p
+  go : {p z : ℕ} → IsHigh values first (length links) h p → WayEndsAt values first links h (link_of first links p) z
+      → WayEndsAt values first links h p z
 
 -- the walks from p and from q have the same last pixel of value at least h
 abbrev pub HaveSameLast : List (Option ℤ) → ℕ → List ℕ → ℤ → ℕ → ℕ → Type 0
-HaveSameLast values first links h p q = (z : ℕ) × (IsLast values first links h p z × IsLast values first links h q z)
+HaveSameLast values first links h p q = (z : ℕ) × (WayEndsAt values first links h p z × WayEndsAt values first links h q z)
 
 -- ---- what links stand for
 

@@ -7,7 +7,7 @@ pub use Rattle.comp_tree.specs.ComponentTree.{parent_in}
 use Rattle.comp_tree.specs.Raster.{Raster, IsPlane, is_at_least, level, is_defined}
 use Rattle.comp_tree.specs.Components.{IsReached, no_node, reaches, nodes, node_of, is_candidate, is_in_node, tree_of, representative}
 use Rattle.comp_tree.specs.Nesting.{lies_within}
-use Rattle.comp_tree.specs.Forest.{IsHigh, IsForest, IsLast, StandsForAll}
+use Rattle.comp_tree.specs.Forest.{IsHigh, IsForest, WayEndsAt, StandsForAll}
 
 -- n is the number of a node
 abbrev pub IsNode : Raster → Connect → ℕ → Type 0
@@ -53,17 +53,17 @@ NodesAreDistinct = (r : Raster) (connect : Connect) (m n : ℕ) → IsNode r con
 -- ---- how components lie in each other
 
 -- the component of n lies within that of m
-abbrev pub LiesWithin : Raster → Connect → ℕ → ℕ → Type 0
-LiesWithin r connect n m = (q : ℕ) → IsIn r connect n q → IsIn r connect m q
+abbrev pub IsNestedIn : Raster → Connect → ℕ → ℕ → Type 0
+IsNestedIn r connect n m = (q : ℕ) → IsIn r connect n q → IsIn r connect m q
 
 -- the test whether it does passes exactly where it does
 abbrev pub LiesWithinIsInclusion : Type 0
-LiesWithinIsInclusion = (r : Raster) (connect : Connect) (n m : ℕ) → IsTrue (lies_within r connect n m) ↔ LiesWithin r connect n m
+LiesWithinIsInclusion = (r : Raster) (connect : Connect) (n m : ℕ) → IsTrue (lies_within r connect n m) ↔ IsNestedIn r connect n m
 
 -- the component of n lies within that of m, which has a pixel more
 abbrev pub LiesStrictlyWithin : Raster → Connect → ℕ → ℕ → Type 0
 LiesStrictlyWithin r connect n m =
-    LiesWithin r connect n m × ((q : ℕ) × IsIn r connect m q × IsFalse (is_in_node r connect n q))
+    IsNestedIn r connect n m × ((q : ℕ) × IsIn r connect m q × IsFalse (is_in_node r connect n q))
 
 -- no pixel belongs to both
 abbrev pub AreDisjoint : Raster → Connect → ℕ → ℕ → Type 0
@@ -72,7 +72,7 @@ AreDisjoint r connect n m = (q : ℕ) → IsIn r connect n q → IsIn r connect 
 -- two components of nodes are nested or disjoint
 abbrev pub NodesAreNestedOrDisjoint : Type 0
 NodesAreNestedOrDisjoint = (r : Raster) (connect : Connect) (m n : ℕ) → IsNode r connect m → IsNode r connect n
-    → LiesWithin r connect m n ⊎ (LiesWithin r connect n m ⊎ AreDisjoint r connect m n)
+    → IsNestedIn r connect m n ⊎ (IsNestedIn r connect n m ⊎ AreDisjoint r connect m n)
 
 -- node m is met on the way from the parent of n upwards
 pub data IsAncestor (rows : List NodeRow) (m : ℕ) : ℕ → Type 0 where
@@ -90,7 +90,7 @@ abbrev pub ParentIsTheSmallestLargerNode : Type 0
 ParentIsTheSmallestLargerNode = (r : Raster) (connect : Connect) (k n : ℕ)
     → IsPlane r → IsNode r connect k → IsNode r connect n → parent_of_node r connect n ≡ k
     → LiesStrictlyWithin r connect n k
-    × ((m : ℕ) → IsNode r connect m → LiesStrictlyWithin r connect n m → LiesWithin r connect k m)
+    × ((m : ℕ) → IsNode r connect m → LiesStrictlyWithin r connect n m → IsNestedIn r connect k m)
 
 -- and around the component of a root there is no strictly larger one
 abbrev pub RootsHaveNoLargerNode : Type 0
@@ -116,11 +116,11 @@ PixelsBelongToTheirAncestors = (r : Raster) (connect : Connect) (n q : ℕ)
 abbrev pub EachWalkHasOneLast : Type 0
 EachWalkHasOneLast = (values : List (Option ℤ)) (first : ℕ) (links : List ℕ) (h : ℤ) (p : ℕ)
     → first + length links ≤ no_node → IsForest values first links → IsHigh values first (length links) h p
-    → (z : ℕ) × IsLast values first links h p z × ((y : ℕ) → IsLast values first links h p y → y ≡ z)
+    → (z : ℕ) × WayEndsAt values first links h p z × ((y : ℕ) → WayEndsAt values first links h p y → y ≡ z)
 
 -- where a forest stands for all adjacencies of a plane, p's last ancestor at its own level is its representative
 abbrev pub LastAtOwnLevelIsRepresentative : Type 0
 LastAtOwnLevelIsRepresentative = (r : Raster) (connect : Connect) (links : List ℕ)
     → IsPlane r → length links ≡ length r.values → IsForest r.values 0 links
     → StandsForAll r connect links
-    → (p : ℕ) → IsTrue (is_defined r p) → IsLast r.values 0 links (level r p) p (representative r connect p)
+    → (p : ℕ) → IsTrue (is_defined r p) → WayEndsAt r.values 0 links (level r p) p (representative r connect p)

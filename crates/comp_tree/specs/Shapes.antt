@@ -10,11 +10,11 @@ abbrev pub is_side : ℕ → Bool
 is_side n = nat_lt 0 n && nat_le n 65535
 
 -- both sides are, and there are at most 2 ^ 24 pixels
-unfoldable pub is_within : ℕ → ℕ → Bool
-is_within width height = (is_side width && is_side height) && nat_le (width * height) (2 ^ 24)
+unfoldable pub fits_limits : ℕ → ℕ → Bool
+fits_limits width height = (is_side width && is_side height) && nat_le (width * height) (2 ^ 24)
 
-pub limits_from : (width height : ℕ) → is_within width height ≡ true → IsWithinLimits width height
-unfolding is_within
+pub limits_from : (width height : ℕ) → fits_limits width height ≡ true → IsWithinLimits width height
+unfolding fits_limits
 limits_from width height h = record {
   some_columns = grind (arith, nat_tests);
   some_rows = grind (arith, nat_tests);
@@ -29,4 +29,4 @@ shape_if width height false limits = None
 
 -- the shape of these sides, where they are within the limits
 unfoldable pub shape_of : ℕ → ℕ → Option Shape
-shape_of width height = shape_if width height (is_within width height) (limits_from width height)
+shape_of width height = shape_if width height (fits_limits width height) (limits_from width height)

@@ -3,7 +3,7 @@ use Rattle.std.proofs.Common.{◌≡◌, ℕ, List, Bool, true, false, refl, sym
 use Rattle.std.specs.Prelude.{◌↔◌, IsSome, Option, Some, None, option_and_then}
 use Rattle.comp_tree.specs.declared.shape.Shape.{Shape}
 use Rattle.comp_tree.specs.Limits.{IsWithinLimits}
-use Rattle.comp_tree.specs.Shapes.{is_within, limits_from, shape_if, shape_of}
+use Rattle.comp_tree.specs.Shapes.{fits_limits, limits_from, shape_if, shape_of}
 use Rattle.comp_tree.proofs.Exported.{shape_of_sides}
 use Rattle.detect_top.specs.declared.options.Setting.TheVariants.{Width, Height}
 use Rattle.detect_top.specs.Options.{side_in}
@@ -19,7 +19,7 @@ no_shape h = absurd (cc)
 pub shape_is : (width height : ℕ) (result : Option Shape) → (IsSome result ↔ IsWithinLimits width height) → IfSome result (λ s. (s.width ≡ width) × (s.height ≡ height)) → result ≡ shape_of width height
 unfolding shape_of
 shape_is width height (Some s) accepted sides = sym (shape_of_sides width height s sides.0 sides.1)
-shape_is width height None accepted sides = none_if width height (is_within width height) (limits_from width height) (λ limits. no_shape (accepted.1 limits))
+shape_is width height None accepted sides = none_if width height (fits_limits width height) (limits_from width height) (λ limits. no_shape (accepted.1 limits))
 
 pub shape_by : (words : List (List ℕ)) (n : ℕ) (width height : Option ℕ) → width ≡ given side_in words n Width → height ≡ given side_in words n Height
     → option_and_then (λ w. option_and_then (shape_of w) height) width ≡ shape_given words n

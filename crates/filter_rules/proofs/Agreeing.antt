@@ -6,7 +6,7 @@ use Rattle.std.proofs.lemmas.Bool.{and_parts, and_from, leb-true, le-leb}
 use Rattle.comp_tree.specs.declared.shape.Connect.{Connect}
 use Rattle.comp_tree.specs.Raster.{Raster, IsPlane, pixels}
 use Rattle.comp_tree.specs.Components.{nodes, is_in_node, tree_of}
-use Rattle.comp_tree.specs.Laws.{LiesWithin}
+use Rattle.comp_tree.specs.Laws.{IsNestedIn}
 use Rattle.comp_tree.proofs.Exported.{int_le-true, int_le-from, within_from_test, same_bool}
 use Rattle.node_sums.specs.declared.entry.Sums.{Sums}
 use Rattle.node_sums.specs.Sums.{sums_of, sums_over}
@@ -25,7 +25,7 @@ area_is : (r : Raster) (connect : Connect) (n : ℕ) → (sums_of r connect n).a
 unfolding sums_of sums_over
 area_is r connect n = refl
 
-pixels_grow : (r : Raster) (connect : Connect) (m n : ℕ) → LiesWithin r connect n m → length (pixels_of r connect n) ≤ length (pixels_of r connect m)
+pixels_grow : (r : Raster) (connect : Connect) (m n : ℕ) → IsNestedIn r connect n m → length (pixels_of r connect n) ≤ length (pixels_of r connect m)
 unfolding pixels_of
 pixels_grow r connect m n w = length_grows (is_in_node r connect n) (is_in_node r connect m) (pixels r) (λ p h. w p h)
 
@@ -66,7 +66,7 @@ satisfies_grows r connect criterion m n plane hm hn most none a h =
     admits-from criterion (sums_of r connect m) (flux_of r connect m) most none (omega (arith, area_is r connect m, few_in r connect m plane))
     (record { large = omega (arith, k.large, area_is r connect m, area_is r connect n, pixels_grow r connect m n w); bright = omega (arith, ints, k.bright, flux_grows r connect m n plane hm hn w) })
   where
-    w : LiesWithin r connect n m
+    w : IsNestedIn r connect n m
     w = within_from_test r connect n m (within_from_above r connect n m plane hn hm a)
 
     k : IsAdmitted criterion (sums_of r connect n) (flux_of r connect n)

@@ -2,7 +2,7 @@
 use Rattle.std.specs.Prelude.{◌≡◌, ℕ, ◌^◌, IsTrue, Some}
 use Rattle.comp_tree.specs.declared.shape.Connect.{Connect}
 use Rattle.comp_tree.specs.Raster.{Raster, IsPlane, is_defined}
-use Rattle.comp_tree.specs.Laws.{IsNode, IsIn, LiesWithin}
+use Rattle.comp_tree.specs.Laws.{IsNode, IsIn, IsNestedIn}
 use Rattle.filter_rules.specs.declared.rule.Rule.{Rule}
 use Rattle.filter_rules.specs.declared.rule.Rule.TheVariants.{Min, Max, Direct}
 use Rattle.filter_rules.specs.declared.rule.Criterion.{Criterion}
@@ -20,7 +20,7 @@ pub record IsSmallestHolder (r : Raster) (connect : Connect) (rule : Rule) (crit
   pub node : IsNode r connect n
   pub kept : IsTrue (is_kept r connect rule criterion n)
   pub holds : IsIn r connect n p
-  pub least : (m : ℕ) → IsNode r connect m → IsTrue (is_kept r connect rule criterion m) → IsIn r connect m p → LiesWithin r connect n m
+  pub least : (m : ℕ) → IsNode r connect m → IsTrue (is_kept r connect rule criterion m) → IsIn r connect m p → IsNestedIn r connect n m
 
 -- there is such a node for each defined pixel, and it is the one that the definition of the filtered plane takes
 abbrev pub EachPixelHasASmallestHolder : Type 0

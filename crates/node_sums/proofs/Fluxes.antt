@@ -8,7 +8,7 @@ use Rattle.comp_tree.specs.Raster.{Raster, IsPlane, pixels, level}
 use Rattle.comp_tree.specs.ComponentTree.{ComponentTree, parent_in, no_node}
 use Rattle.comp_tree.specs.Components.{nodes, is_in_node, row_of, tree_of}
 use Rattle.comp_tree.specs.Nesting.{level_in, pixels_of}
-use Rattle.comp_tree.specs.Laws.{IsAncestor, parent, above, top_of, LiesWithin}
+use Rattle.comp_tree.specs.Laws.{IsAncestor, parent, above, top_of, IsNestedIn}
 use Rattle.comp_tree.proofs.Exported.{IsAmong, int_le-true, int_lt-true, top_inside, among_pixels, in_node_from_among, length-rows, parent-of_node, parent-candidate, below_no_node}
 use Rattle.comp_tree.proofs.Exported as Nodes
 use Rattle.node_sums.specs.Sums.{total}
@@ -96,7 +96,7 @@ ancestor_level r connect m _ plane hn (above k n e l rest) = go (base-case r con
         omega (arith, ints)
 
 -- a node within another has at least its base
-base_grows : (r : Raster) (connect : Connect) (m n : ℕ) → IsPlane r → m < length (nodes r connect) → n < length (nodes r connect) → LiesWithin r connect n m
+base_grows : (r : Raster) (connect : Connect) (m n : ℕ) → IsPlane r → m < length (nodes r connect) → n < length (nodes r connect) → IsNestedIn r connect n m
     → base_of (tree_of r connect) m ≤ℤ base_of (tree_of r connect) n
 base_grows r connect m n plane hm hn w = go (cases_order m n)
   where

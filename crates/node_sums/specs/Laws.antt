@@ -4,13 +4,13 @@ use Rattle.comp_tree.specs.declared.shape.Connect.{Connect}
 use Rattle.comp_tree.specs.Raster.{Raster, IsPlane, level}
 use Rattle.comp_tree.specs.ComponentTree.{parent_in, no_node}
 use Rattle.comp_tree.specs.Components.{nodes, is_in_node, tree_of}
-use Rattle.comp_tree.specs.Laws.{LiesWithin}
+use Rattle.comp_tree.specs.Laws.{IsNestedIn}
 use Rattle.node_sums.specs.Flux.{flux_of}
 
 -- a node within another has at most its flux
 abbrev pub FluxGrowsWithTheComponent : Type 0
 FluxGrowsWithTheComponent = (r : Raster) (connect : Connect) (m n : ℕ) → IsPlane r → m < length (nodes r connect) → n < length (nodes r connect)
-    → LiesWithin r connect n m → flux_of r connect n ≤ℤ flux_of r connect m
+    → IsNestedIn r connect n m → flux_of r connect n ≤ℤ flux_of r connect m
 
 -- the flux of a node is never negative
 abbrev pub FluxIsNeverNegative : Type 0

@@ -5,7 +5,7 @@ use Rattle.std.proofs.lemmas.Bool.{not-false}
 use Rattle.std.proofs.lemmas.Bool.Decides.{nat_tests}
 use Rattle.comp_tree.specs.declared.shape.Shape.{Shape}
 use Rattle.comp_tree.specs.Limits.{IsWithinLimits}
-use Rattle.comp_tree.specs.Shapes.{is_within, shape_if, shape_of, limits_from}
+use Rattle.comp_tree.specs.Shapes.{fits_limits, shape_if, shape_of, limits_from}
 use Rattle.fits_hdu.specs.declared.answer.Hdu.{Hdu}
 use Rattle.fits_hdu.specs.Headers.{found}
 use Rattle.fits_hdu.specs.Finding.{find_of}
@@ -34,7 +34,7 @@ shape_kept None (Some t) s h = let same : t ≡ s = cc in ap Some same
 
 has_sides : (hdu : Hdu) (shape : Shape) → checked hdu ≡ Ok shape → HasSides shape hdu.width hdu.height
 unfolding checked shape_of
-has_sides hdu shape is = sides_if hdu.width hdu.height (is_within hdu.width hdu.height) (limits_from hdu.width hdu.height) shape (shape_kept (image_fault hdu) (shape_of hdu.width hdu.height) shape is)
+has_sides hdu shape is = sides_if hdu.width hdu.height (fits_limits hdu.width hdu.height) (limits_from hdu.width hdu.height) shape (shape_kept (image_fault hdu) (shape_of hdu.width hdu.height) shape is)
 
 record HasPlane (hdu : Hdu) : Type 0 where
   two : 2 ≤ hdu.naxis

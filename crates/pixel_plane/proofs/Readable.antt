@@ -6,7 +6,7 @@ use Rattle.std.proofs.lemmas.Bool.{or_cases, not-false}
 use Rattle.std.specs.Ordering.{int_eq}
 use Rattle.comp_tree.proofs.Exported.{int_eq-true, int_le-true, shape_of_sides}
 use Rattle.comp_tree.specs.declared.shape.Shape.{Shape}
-use Rattle.comp_tree.specs.Shapes.{is_within}
+use Rattle.comp_tree.specs.Shapes.{fits_limits}
 use Rattle.fits_card.specs.declared.number.Whole.{Whole}
 use Rattle.fits_card.specs.declared.number.Whole.TheVariants.{Is, NotWhole, Beyond, Unreadable}
 use Rattle.fits_hdu.specs.declared.answer.Hdu.{Hdu}
@@ -45,7 +45,7 @@ and_second false b h = absurd (cc)
 pub readable : (hdu : Hdu) → image_fault hdu ≡ None → IsReadable hdu
 unfolding image_fault
 readable hdu h =
-    let tests = none_passed (is_other hdu.kind) (has_no_pixels hdu) (not (is_within hdu.width hdu.height)) (not (is_stored_size hdu.bitpix)) (not (is_one hdu.bscale)) (not (is_zero_point hdu.bzero)) (not (is_blank_or_none hdu.blank)) h in
+    let tests = none_passed (is_other hdu.kind) (has_no_pixels hdu) (not (fits_limits hdu.width hdu.height)) (not (is_stored_size hdu.bitpix)) (not (is_one hdu.bscale)) (not (is_zero_point hdu.bzero)) (not (is_blank_or_none hdu.blank)) h in
     record { kind = tests.0; pixels = tests.1; size = not-false _ tests.2; zero = not-false _ tests.3 }
 
 bits_from : (bitpix : ℤ) → is_stored_size bitpix ≡ true → bitpix ≡ pos 8 ⊎ (bitpix ≡ pos 16 ⊎ (bitpix ≡ pos 32 ⊎ bitpix ≡ pos 64))

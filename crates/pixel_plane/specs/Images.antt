@@ -3,7 +3,7 @@ use Rattle.std.specs.Prelude.{◌^◌, Bool, true, false, ◌||◌, ◌&&◌, �
 use Rattle.std.specs.Prelude.{List, [], ◌∷◌, Option, Some, None, Result, Ok, Err, if◌then◌else◌}
 use Rattle.std.specs.Ordering.{int_eq}
 use Rattle.comp_tree.specs.declared.shape.Shape.{Shape}
-use Rattle.comp_tree.specs.Shapes.{is_within, shape_of}
+use Rattle.comp_tree.specs.Shapes.{fits_limits, shape_of}
 use Rattle.fits_card.specs.declared.number.Whole.{Whole}
 use Rattle.fits_card.specs.declared.number.Whole.TheVariants.{Is}
 use Rattle.fits_hdu.specs.declared.answer.Hdu.{Hdu}
@@ -44,7 +44,7 @@ unfoldable pub image_fault : Hdu → Option ImageFault
 image_fault hdu = first_fault (
     (is_other hdu.kind, NotImage)
     ∷ (has_no_pixels hdu, NoImage)
-    ∷ (not (is_within hdu.width hdu.height), ImageTooLarge)
+    ∷ (not (fits_limits hdu.width hdu.height), ImageTooLarge)
     ∷ (not (is_stored_size hdu.bitpix), Bitpix)
     ∷ (not (is_one hdu.bscale), Bscale)
     ∷ (not (is_zero_point hdu.bzero), Bzero)

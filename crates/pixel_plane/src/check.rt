@@ -1,7 +1,7 @@
 //! Whether an HDU is an image that can be read.
 ghost use Rattle.std.specs.Prelude.{◌≡◌, ◌<◌, IfOk, IfSome, IsTrue, is_some};
 ghost use Rattle.std.specs.Result.{result_err};
-ghost use Rattle.comp_tree.specs.Shapes.{is_within};
+ghost use Rattle.comp_tree.specs.Shapes.{fits_limits};
 ghost use Rattle.pixel_plane.specs.Images.{checked, image_fault};
 
 use crate::ImageFault;
@@ -49,9 +49,9 @@ fn image_shape(hdu: &Hdu) -> Result<Shape, ImageFault>
 }
 
 // The shape of these sides, where they are within the limits.
-#[tactic(auto, unfolding(comp_tree::specs::Shapes::is_within))]
+#[tactic(auto, unfolding(comp_tree::specs::Shapes::fits_limits))]
 fn shape_of(width: u64, height: u64) -> Option<Shape>
-    ensures accepted { is_some result ≡ is_within width height }
+    ensures accepted { is_some result ≡ fits_limits width height }
     ensures sides { IfSome result (λ shape. (shape.width ≡ width) × (shape.height ≡ height)) }
 {
     if width > 65_535 || height > 65_535 {

@@ -6,7 +6,7 @@ use Rattle.comp_tree.specs.declared.shape.Connect.{Connect}
 use Rattle.comp_tree.specs.Raster.{Raster, IsPlane, level}
 use Rattle.comp_tree.specs.ComponentTree.{no_node}
 use Rattle.comp_tree.specs.Components.{reaches, nodes, node_of, tree_of, is_in_node}
-use Rattle.comp_tree.specs.Laws.{top_of, parent_of_node, LiesWithin}
+use Rattle.comp_tree.specs.Laws.{top_of, parent_of_node, IsNestedIn}
 use Rattle.comp_tree.specs.Nesting.{level_of_node}
 use Rattle.comp_tree.proofs.Exported.{int_le-from, int_le-true, length-rows, top_inside, below_no_node, AlikeAlong, AreCounterparts, IsReachedThere, along_sym}
 use Rattle.comp_tree.proofs.Exported.{along_low, along_reached, along_counterpart, counterparts_sym, counterparts_unique, counterparts_in_node, turned}
@@ -103,10 +103,10 @@ along_way_there : (r s : Raster) (connect : Connect) (h : ℤ) (R : ℕ → ℕ 
     → IsOnWay (tree_of r connect).rows e n → IsOnWay (tree_of s connect).rows d m
 along_way_there r s connect h R n m e d plane_r plane_s a c k w = way_from_within s connect d m plane_s k.other c.other moved
   where
-    within : LiesWithin r connect n e
+    within : IsNestedIn r connect n e
     within = within_from_way r connect e n plane_r k.one c.one w
 
-    moved : LiesWithin s connect m d
+    moved : IsNestedIn s connect m d
     moved q i =
         let t : IsReachedThere r connect (level s (top_of s connect m)) (turned R) (top_of r connect n) q =
         reached_in_node s r connect h (turned R) (along_sym r s connect h R a) m n q (counterparts_sym r s connect h R a.above n m c) i in

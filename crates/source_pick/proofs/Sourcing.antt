@@ -5,7 +5,7 @@ use Rattle.std.proofs.lemmas.Bool.{true≢false, and_parts, and_from, not-true, 
 use Rattle.comp_tree.specs.declared.shape.Connect.{Connect}
 use Rattle.comp_tree.specs.Raster.{Raster, IsPlane}
 use Rattle.comp_tree.specs.Components.{nodes, is_in_node, tree_of}
-use Rattle.comp_tree.specs.Laws.{IsAncestor, parent, parent_of_node, IsNode, LiesWithin}
+use Rattle.comp_tree.specs.Laws.{IsAncestor, parent, parent_of_node, IsNode, IsNestedIn}
 use Rattle.source_pick.specs.declared.choice.Choice.{Choice}
 use Rattle.source_pick.specs.Sources.{is_entry, is_split, has_strong_sibling, contains_split, is_source}
 use Rattle.comp_tree.specs.Nesting.{lies_within}
@@ -129,7 +129,7 @@ each_entry_holds_a_source r connect choice e plane he is_e = go (last_passing (�
 
     go : IsLastPassing (λ x. lies_within r connect x e && is_split r connect choice x) (length (nodes r connect))
         ⊎ ((x : ℕ) → x < length (nodes r connect) → lies_within r connect x e && is_split r connect choice x ≡ false)
-        → (n : ℕ) × IsNode r connect n × IsTrue (is_source r connect choice n) × LiesWithin r connect n e
+        → (n : ℕ) × IsNode r connect n × IsTrue (is_source r connect choice n) × IsNestedIn r connect n e
     go (inr none) = (e, he, source_from r connect choice e (record { stands = inl is_e; whole = whole }), λ q k. k)
       where
         whole : contains_split r connect choice e ≡ false

@@ -8,7 +8,7 @@ use Rattle.comp_tree.specs.Raster.{Raster, IsPlane, level}
 use Rattle.comp_tree.specs.ComponentTree.{parent_in}
 use Rattle.comp_tree.specs.Components.{nodes, is_in_node, tree_of}
 use Rattle.comp_tree.specs.Nesting.{level_of_node}
-use Rattle.comp_tree.specs.Laws.{IsAncestor, parent, above, top_of, LiesWithin}
+use Rattle.comp_tree.specs.Laws.{IsAncestor, parent, above, top_of, IsNestedIn}
 use Rattle.comp_tree.proofs.Exported.{top_inside, length-rows, ancestors_are_the_larger_nodes}
 use Rattle.node_sums.proofs.Exported.{goes_down, holders_are_nested, ancestor_smaller, level-of_node, level_at_least}
 use Rattle.source_pick.specs.Passes.{IsOnWay}
@@ -16,8 +16,8 @@ use Rattle.source_pick.specs.Passes.{IsOnWay}
 -- ---- ways upwards
 
 pub within_from_way : (r : Raster) (connect : Connect) (m n : ℕ) → IsPlane r → m < length (nodes r connect) → n < length (nodes r connect)
-    → IsOnWay (tree_of r connect).rows m n → LiesWithin r connect n m
-within_from_way r connect m n plane hm hn (inl e) = subst (λ (x : ℕ). LiesWithin r connect n x) e (λ q k. k)
+    → IsOnWay (tree_of r connect).rows m n → IsNestedIn r connect n m
+within_from_way r connect m n plane hm hn (inl e) = subst (λ (x : ℕ). IsNestedIn r connect n x) e (λ q k. k)
 within_from_way r connect m n plane hm hn (inr a) = ((ancestors_are_the_larger_nodes r connect m n plane hm hn).1 a).0
 
 -- of two nodes that share a pixel one is on the way from the other
@@ -31,7 +31,7 @@ way_from_shared r connect m n q plane hm hn in_m in_n = go (cases_order m n)
     go (inr (inr l)) = inr (inr (holders_are_nested r connect n m q plane l hm in_n in_m))
 
 pub way_from_within : (r : Raster) (connect : Connect) (m n : ℕ) → IsPlane r → m < length (nodes r connect) → n < length (nodes r connect)
-    → LiesWithin r connect n m → IsOnWay (tree_of r connect).rows m n
+    → IsNestedIn r connect n m → IsOnWay (tree_of r connect).rows m n
 way_from_within r connect m n plane hm hn w = go (cases_order m n)
   where
     in_n : is_in_node r connect n (top_of r connect n) ≡ true

@@ -2,7 +2,7 @@
 use Rattle.std.specs.Prelude.{◌≡◌, ℕ, ◌<◌, ◌↔◌, IsTrue, Contains, Some, slice_get}
 use Rattle.comp_tree.specs.declared.shape.Connect.{Connect}
 use Rattle.comp_tree.specs.Raster.{Raster, IsPlane}
-use Rattle.comp_tree.specs.Laws.{IsNode, LiesWithin, AreDisjoint}
+use Rattle.comp_tree.specs.Laws.{IsNode, IsNestedIn, AreDisjoint}
 use Rattle.node_sums.specs.Sums.{sums_of}
 use Rattle.source_pick.specs.declared.choice.Choice.{Choice}
 use Rattle.source_pick.specs.Sources.{is_entry, is_source, sources}
@@ -20,7 +20,7 @@ SourcesAreDisjoint = (r : Raster) (connect : Connect) (choice : Choice) (m n : �
 -- a source lies in each entry
 abbrev pub EachEntryHoldsASource : Type 0
 EachEntryHoldsASource = (r : Raster) (connect : Connect) (choice : Choice) (e : ℕ) → IsPlane r → IsNode r connect e
-    → IsTrue (is_entry r connect choice e) → (n : ℕ) × IsNode r connect n × IsTrue (is_source r connect choice n) × LiesWithin r connect n e
+    → IsTrue (is_entry r connect choice e) → (n : ℕ) × IsNode r connect n × IsTrue (is_source r connect choice n) × IsNestedIn r connect n e
 
 -- each source stands in the list of the sources, and nothing else does
 abbrev pub SourcesAreListed : Type 0

@@ -5,9 +5,9 @@ use Rattle.std.proofs.lemmas.Bool.{cases_eq, cases_lt}
 use Rattle.std.proofs.lemmas.Grind.{get_or_after_one}
 use Rattle.std.proofs.lemmas.Int.{ints}
 use Rattle.std.proofs.lemmas.List.{length-drop}
-use Rattle.comp_tree.specs.Raster.{IsAtLeast, IsBefore, value_at}
+use Rattle.comp_tree.specs.Raster.{ReachesLevel, ComesBefore, value_at}
 use Rattle.comp_tree.specs.Joined.{IsPairOf, Joined, Or}
-use Rattle.comp_tree.specs.Forest.{no_node, link_of, IsWithin, IsHigh, IsLink, IsEarlier, IsForest, StandsFor, JoinSame}
+use Rattle.comp_tree.specs.Forest.{no_node, link_of, IsWithin, IsHigh, IsLink, ComesEarlier, IsForest, StandsFor, JoinSame}
 use Rattle.comp_tree.specs.Grid.{IsAdjacency}
 use Rattle.tree_join.specs.Boundary.{IsBoundary}
 use Rattle.tree_join.specs.Cuts.{IsCutBoundary, IsRowOf}
@@ -19,8 +19,8 @@ use Rattle.tree_join.proofs.Exported.{strip_inside, strip_low}
 use Rattle.strip_crew.proofs.Copying.{row_under, copied_all, all_stand}
 
 -- a level that both pixels of a link reach
-common_level : (v w : Option ℤ) (a b : ℕ) → IsBefore v a w b → (h : ℤ) × (IsAtLeast h v × IsAtLeast h w)
-common_level (Some h) w a b e = let itself : IsAtLeast h (Some h) = int_le-from h h (omega (arith, ints)) in (h, (itself, at_least_up h (Some h) w a b e itself))
+common_level : (v w : Option ℤ) (a b : ℕ) → ComesBefore v a w b → (h : ℤ) × (ReachesLevel h v × ReachesLevel h w)
+common_level (Some h) w a b e = let itself : ReachesLevel h (Some h) = int_le-from h h (omega (arith, ints)) in (h, (itself, at_least_up h (Some h) w a b e itself))
 common_level None w a b e = absurd (true≢false (sym e))
 
 module _ (plan : Plan) (is_plan : IsPlan plan) where
@@ -72,8 +72,8 @@ module _ (plan : Plan) (is_plan : IsPlan plan) where
     linked : (p q : ℕ) → IsLink 0 links p q → q ≢ no_node → (h : ℤ) × Joined (IsHigh values 0 (length links) h) Pairs p q
     linked p q link some = ⊎_elim
         (λ (none : link_of 0 links p ≡ no_node). absurd (some (sym link.link ∙ none)))
-        (λ (kept : IsWithin 0 (length links) (link_of 0 links p) × IsEarlier values (link_of 0 links p) p).
-        let s : IsWithin 0 (length links) q × IsEarlier values q p = subst (λ (x : ℕ). IsWithin 0 (length links) x × IsEarlier values x p) link.link kept in
+        (λ (kept : IsWithin 0 (length links) (link_of 0 links p) × ComesEarlier values (link_of 0 links p) p).
+        let s : IsWithin 0 (length links) q × ComesEarlier values q p = subst (λ (x : ℕ). IsWithin 0 (length links) x × ComesEarlier values x p) link.link kept in
         let level = common_level (value_at values q) (value_at values p) q p s.1 in (
           level.0,
           ((stands_gives values 0 links copied.forest small Pairs copied.stands).same level.0 p q).0

@@ -6,7 +6,7 @@ use Rattle.std.proofs.lemmas.List.{get_or-take, get_or-drop, length-take, length
 use Rattle.comp_tree.specs.declared.shape.Connect.{Connect}
 use Rattle.comp_tree.specs.Raster.{Raster}
 use Rattle.comp_tree.specs.Joined.{Or}
-use Rattle.comp_tree.specs.Forest.{no_node, link_of, IsWithin, IsLink, IsEarlier, IsForest, IsKept, JoinSame}
+use Rattle.comp_tree.specs.Forest.{no_node, link_of, IsWithin, IsLink, ComesEarlier, IsForest, LinksToEarlier, JoinSame}
 use Rattle.tree_join.specs.Boundary.{IsBoundary}
 use Rattle.strip_crew.specs.Boundaries.{IsAcross, AreRows, AreApart, IsRowsPair, IsGroup, IsGroupJoined}
 use Rattle.comp_tree.proofs.Exported.{same_sym, same_trans, same_or, same_pairs}
@@ -76,23 +76,23 @@ module _ (plane : Raster) (connect : Connect) (first_row : ℕ) (links rows : Li
   whole_apart : AreApart width first (left ++ right) rows
   whole_apart = subst (λ (l : List ℕ). AreApart width first l rows) is group.apart
 
-  left_kept : (p : ℕ) → IsWithin first (length left) p → IsKept values first left p
+  left_kept : (p : ℕ) → IsWithin first (length left) p → LinksToEarlier values first left p
   left_kept p w = let e = link_left first left right p w in let q : ℕ = link_of first (left ++ right) p in let high : p < first + length left = w.high in ⊎_elim
       (λ (n : q ≡ no_node). inl (sym e ∙ n))
-      (λ (s : IsWithin first (length (left ++ right)) q × IsEarlier values q p). let low : first ≤ q = s.0.low in let top : q < first + (length left + length right) = rw length-append at s.0.high in
+      (λ (s : IsWithin first (length (left ++ right)) q × ComesEarlier values q p). let low : first ≤ q = s.0.low in let top : q < first + (length left + length right) = rw length-append at s.0.high in
       let fits = group.fits in let small = group.small in let c = counts in ⊎_elim
-      (λ (stays : q < first + length left). inr (subst (λ (x : ℕ). IsWithin first (length left) x × IsEarlier values x p) e (record { low = low; high = stays }, s.1)))
+      (λ (stays : q < first + length left). inr (subst (λ (x : ℕ). IsWithin first (length left) x × ComesEarlier values x p) e (record { low = low; high = stays }, s.1)))
       (λ (leaves : first + length left ≤ q). absurd (whole_apart.apart k p q near (record { within = part_left first left right p w; link = refl }) (λ n. omega arith) (inl (omega (arith, at), omega (arith, at)))))
       (cases_lt q (first + length left)))
       (whole.earlier p (part_left first left right p w))
 
-  right_kept : (p : ℕ) → IsWithin (first + length left) (length right) p → IsKept values (first + length left) right p
+  right_kept : (p : ℕ) → IsWithin (first + length left) (length right) p → LinksToEarlier values (first + length left) right p
   right_kept p w = let e = link_right first left right p w in let q : ℕ = link_of first (left ++ right) p in let low : first + length left ≤ p = w.low in ⊎_elim
       (λ (n : q ≡ no_node). inl (sym e ∙ n))
-      (λ (s : IsWithin first (length (left ++ right)) q × IsEarlier values q p). let top : q < first + (length left + length right) = rw length-append at s.0.high in
+      (λ (s : IsWithin first (length (left ++ right)) q × ComesEarlier values q p). let top : q < first + (length left + length right) = rw length-append at s.0.high in
       let fits = group.fits in let small = group.small in let c = counts in ⊎_elim
       (λ (leaves : q < first + length left). absurd (whole_apart.apart k p q near (record { within = part_right first left right p w; link = refl }) (λ n. omega arith) (inr (omega (arith, at), omega (arith, at)))))
-      (λ (stays : first + length left ≤ q). inr (subst (λ (x : ℕ). IsWithin (first + length left) (length right) x × IsEarlier values x p) e (record { low = stays; high = omega arith }, s.1)))
+      (λ (stays : first + length left ≤ q). inr (subst (λ (x : ℕ). IsWithin (first + length left) (length right) x × ComesEarlier values x p) e (record { low = stays; high = omega arith }, s.1)))
       (cases_lt q (first + length left)))
       (whole.earlier p (part_right first left right p w))
 

@@ -3,7 +3,7 @@ use Rattle.std.proofs.Common.{◌≡◌, ℕ, ◌+◌, ◌-◌, ◌<◌, ◌≤�
 use Rattle.std.specs.Prelude.{nat_lt, ◌&&◌}
 use Rattle.std.proofs.lemmas.Bool.{cases_lt, and_from, and_parts, true≢false}
 use Rattle.comp_tree.specs.Joined.{IsPairOf}
-use Rattle.comp_tree.specs.Forest.{no_node, value_at, IsDefined, IsLink, JoinSame, StandsFor}
+use Rattle.comp_tree.specs.Forest.{no_node, value_at, HasValue, IsLink, JoinSame, StandsFor}
 use Rattle.comp_tree.specs.Counts.{count_below, count_defined}
 use Rattle.comp_tree.specs.Grid.{are_adjacent, are_neighbours, IsInner}
 use Rattle.strip_flood.specs.Queue.{IsEmpty}
@@ -18,11 +18,11 @@ use Rattle.strip_flood.proofs.Retiring.{contains_some}
 use Rattle.strip_flood.proofs.Seeing.{open_list}
 use Rattle.strip_flood.proofs.Counting.{sum_same, count_same, lt_true, le_false}
 
-some_by : (v : Option ℤ) → (IsDefined v → ⊥) → is_some v ≡ false
+some_by : (v : Option ℤ) → (HasValue v → ⊥) → is_some v ≡ false
 some_by (Some v) f = absurd (f refl)
 some_by None f = refl
 
-defined_cases : (v : Option ℤ) → IsDefined v ⊎ (IsDefined v → ⊥)
+defined_cases : (v : Option ℤ) → HasValue v ⊎ (HasValue v → ⊥)
 defined_cases (Some v) = inl refl
 defined_cases None = inr (λ d. true≢false (sym d))
 
@@ -56,8 +56,8 @@ module _ (g : Ground) (s : State) (ok : IsRanked g) (turning : IsTurning g s) (e
 
   seen_is_defined : (i : ℕ) → i < length g.ranks → nat_lt 0 (slice_index s.cursors i) ≡ is_some (value_at g.values (g.first + i))
   seen_is_defined i l = subst (λ j. nat_lt 0 (slice_index s.cursors j) ≡ is_some (value_at g.values (g.first + i))) at (⊎_elim
-      (λ (d : IsDefined (value_at g.values (g.first + i))). lt_true 0 (cursor_of g s.cursors (g.first + i)) (all (g.first + i) inside (ok.there (g.first + i) inside d)) ∙ sym d)
-      (λ (n : IsDefined (value_at g.values (g.first + i)) → ⊥). le_false 0 (cursor_of g s.cursors (g.first + i)) (⊎_elim
+      (λ (d : HasValue (value_at g.values (g.first + i))). lt_true 0 (cursor_of g s.cursors (g.first + i)) (all (g.first + i) inside (ok.there (g.first + i) inside d)) ∙ sym d)
+      (λ (n : HasValue (value_at g.values (g.first + i)) → ⊥). le_false 0 (cursor_of g s.cursors (g.first + i)) (⊎_elim
       (λ (some : 0 < cursor_of g s.cursors (g.first + i)). absurd (n (ok.value (g.first + i) inside (turning.fair.seen (g.first + i) inside some))))
       (λ (no_more : cursor_of g s.cursors (g.first + i) ≤ 0). no_more)
       (cases_lt 0 (cursor_of g s.cursors (g.first + i)))) ∙ sym (some_by (value_at g.values (g.first + i)) n))
@@ -87,7 +87,7 @@ module _ (g : Ground) (s : State) (ok : IsRanked g) (turning : IsTurning g s) (e
             let e : ends g.connect ≤ 8 = ends_small g.connect in
             let both : (is_some (value_at g.values (g.first + i)) && is_some (value_at g.values (g.first + j)) ≡ true) × (are_neighbours g.connect g.width (g.first + i) (g.first + j) ≡ true)
             = and_parts (is_some (value_at g.values (g.first + i)) && is_some (value_at g.values (g.first + j))) (are_neighbours g.connect g.width (g.first + i) (g.first + j)) t in
-            let some : IsDefined (value_at g.values (g.first + i)) = (and_parts (is_some (value_at g.values (g.first + i))) (is_some (value_at g.values (g.first + j))) both.0).0 in
+            let some : HasValue (value_at g.values (g.first + i)) = (and_parts (is_some (value_at g.values (g.first + i))) (is_some (value_at g.values (g.first + j))) both.0).0 in
             let at : g.first + i - g.first ≡ i = omega arith in
             let f : slice_index s.cursors i ≡ 10 = subst (λ k. slice_index s.cursors k ≡ 10) at (finished (g.first + i) wi (ok.there (g.first + i) wi some)) in omega arith
 

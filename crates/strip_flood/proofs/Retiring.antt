@@ -1,7 +1,7 @@
 -- A finished pixel is taken out, and a rank that ran empty is closed.
 use Rattle.std.proofs.Common.{◌≡◌, ℕ, zero, suc, ◌+◌, ◌-◌, ◌<◌, ◌≤◌, List, [], ◌∷◌, length, set, slice_index, Contains, Option, Some, None, MatchOption, ℤ, inl, inr, refl, sym, subst, ap, ◌∙◌, ⊎_elim, arith, get_or-set_same, get_or}
 use Rattle.std.proofs.lemmas.Bool.{cases_eq, cases_lt}
-use Rattle.comp_tree.specs.Forest.{no_node, IsEarlier}
+use Rattle.comp_tree.specs.Forest.{no_node, ComesEarlier}
 use Rattle.strip_flood.specs.Queue.{IsEmpty, IsHighestRank, IsFront, IsPopped}
 use Rattle.strip_flood.specs.Flood.{Ground, State, state, list_at, ends, rank_of, cursor_of, IsInQueue, IsEarliestKept, IsOpen, IsRanked, IsKeptAt, IsFair, IsBusyBut, IsTurning, IsTop, IsAtFront}
 use Rattle.strip_flood.proofs.Flow.{item_read}
@@ -77,7 +77,7 @@ module _ (g : Ground) (s : State) (ok : IsRanked g) (turning : IsTurning g s) (r
         hung : State
         hung = state s.lists s.cursors (set s.earliest r no_node) (set s.links (e - g.first) p)
 
-        earlier : IsEarlier g.values p e
+        earlier : ComesEarlier g.values p e
         earlier = let kr : rank_of g e ≡ r = k.rank in let kf : cursor_of g s.cursors e ≡ 10 = k.finished in let l : r < g.size = retire_low in
             let ne : p ≡ e → ⊥ = (λ (same : p ≡ e). let x : cursor_of g s.cursors p ≡ 10 = ap (λ y. cursor_of g s.cursors y) same ∙ k.finished in let h : cursor_of g s.cursors p < 10 = top.queued.high in omega arith) in
             ok.same p e top.queued.inside k.inside (omega arith) (omega arith) (omega arith)
@@ -146,7 +146,7 @@ module _ (g : Ground) (s : State) (ok : IsRanked g) (fair : IsFair g s) (r : ℕ
         (λ (ne : t ≡ r → ⊥). highest.some (above t (omega arith)))
         (cases_eq t r))) (cases_lt t r)
 
-    earlier : IsEarlier g.values (g.first + i) e
+    earlier : ComesEarlier g.values (g.first + i) e
     earlier = let a : rank_of g (g.first + i) ≡ t = it.0 in let b : rank_of g e ≡ r = k.rank in let l : t < r = less in
         ok.less (g.first + i) e it.1.inside k.inside (omega arith) (omega arith)
 

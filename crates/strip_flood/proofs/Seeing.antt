@@ -2,7 +2,7 @@
 use Rattle.std.proofs.Common.{◌≡◌, ℕ, ◌+◌, ◌-◌, ◌<◌, ◌≤◌, List, [], ◌∷◌, ◌++◌, length, set, slice_index, is_some, ◌&&◌, true, ℤ, ◌⊎◌, inl, inr, refl, sym, subst, ap, ◌∙◌, ⊎_elim, arith, length-append}
 use Rattle.std.proofs.lemmas.Bool.{cases_eq, cases_lt, and_from, and_parts}
 use Rattle.comp_tree.specs.Joined.{Joined}
-use Rattle.comp_tree.specs.Forest.{no_node, value_at, IsDefined, IsAtLeast}
+use Rattle.comp_tree.specs.Forest.{no_node, value_at, HasValue, ReachesLevel}
 use Rattle.comp_tree.specs.Grid.{are_neighbours}
 use Rattle.strip_flood.specs.Queue.{IsNowhere, IsEmpty, IsFront}
 use Rattle.strip_flood.specs.Flood.{Ground, State, state, list_at, ends, direction, IsOf, rank_of, cursor_of, IsInQueue, IsOpen, IsRanked, IsFair, IsTurning, IsTop, IsAtFront, IsNeighbour, HasNone}
@@ -82,7 +82,7 @@ module _ (g : Ground) (s : State) (ok : IsRanked g) (turning : IsTurning g s) wh
         through : High g h p → Joined (High g h) (Adj g) x n
         through hp = joined_trans ((turning.fair.joining.sound h).opens x p hx hp o (inl top.queued)) (joined_pair p n hp hn (inl inner))
 
-        by_p : IsAtLeast h (value_at g.values p) ⊎ (IsAtLeast h (value_at g.values p) → ⊥) → Joined (High g h) (Adj g) x n
+        by_p : ReachesLevel h (value_at g.values p) ⊎ (ReachesLevel h (value_at g.values p) → ⊥) → Joined (High g h) (Adj g) x n
         by_p (inl l) = through (record { within = top.queued.inside; value = l })
         by_p (inr m) = absurd (m (ok.up h x p hx.within top.queued.inside (open_below x o) ranked hx.value))
 
@@ -119,7 +119,7 @@ module _ (g : Ground) (s : State) (ok : IsRanked g) (turning : IsTurning g s) wh
     pub none_undefined : (k n : ℕ) → IsNeighbour g.connect g.width g.first (length g.ranks) p k n → g.size ≤ rank_of g n → (y : ℕ) → Adj g p y → direction g.connect g.width p y ≡ k → ⊥
     none_undefined k n next high y i d = let e : y ≡ n = is_n k n y next i d in
         let both : (is_some (value_at g.values p) && is_some (value_at g.values y) ≡ true) × (are_neighbours g.connect g.width p y ≡ true) = and_parts (is_some (value_at g.values p) && is_some (value_at g.values y)) (are_neighbours g.connect g.width p y) i.adjacent in
-        let there : IsDefined (value_at g.values y) = (and_parts (is_some (value_at g.values p)) (is_some (value_at g.values y)) both.0).1 in
+        let there : HasValue (value_at g.values y) = (and_parts (is_some (value_at g.values p)) (is_some (value_at g.values y)) both.0).1 in
         let low : rank_of g y < g.size = ok.there y i.other there in
         let low_n : rank_of g n < g.size = subst (λ x. rank_of g x < g.size) e low in omega arith
 

@@ -3,7 +3,7 @@ use Rattle.std.proofs.Common.{◌≡◌, ℕ, ◌+◌, ◌-◌, ◌<◌, ◌≤�
 use Rattle.std.proofs.lemmas.Bool.{cases_eq, cases_lt}
 use Rattle.comp_tree.specs.Joined.{Joined, Or, Only}
 use Rattle.strip_flood.specs.Joining.{Both, With, Without, IsSound, IsComplete}
-use Rattle.comp_tree.specs.Forest.{no_node, IsEarlier, IsWithin, IsHigh, link_of, IsLink, IsForest}
+use Rattle.comp_tree.specs.Forest.{no_node, ComesEarlier, IsWithin, IsHigh, link_of, IsLink, IsForest}
 use Rattle.comp_tree.specs.Grid.{IsInner}
 use Rattle.strip_flood.specs.Flood.{Ground, State, state, list_at, ends, direction, IsOf, rank_of, cursor_of, IsInQueue, IsEarliestKept, IsOpen, IsLooked, IsRanked, IsListed, IsKeptAt, IsFair}
 use Rattle.strip_flood.proofs.Joining.{close_sound, close_complete, end_complete}
@@ -187,7 +187,7 @@ module _ (g : Ground) (s : State) (ok : IsRanked g) (fair : IsFair g s) (r e : �
       (cases_eq t r)
 
 -- The pixel a, whose link is no_node, is hung under the earlier b.
-module _ (g : Ground) (s : State) (ok : IsRanked g) (fair : IsFair g s) (a b : ℕ) (wa : IsOf g a) (wb : IsOf g b) (unhung : link_of g.first s.links a ≡ no_node) (earlier : IsEarlier g.values b a) where
+module _ (g : Ground) (s : State) (ok : IsRanked g) (fair : IsFair g s) (a b : ℕ) (wa : IsOf g a) (wb : IsOf g b) (unhung : link_of g.first s.links a ≡ no_node) (earlier : ComesEarlier g.values b a) where
   links : List ℕ
   links = s.links
 
@@ -214,7 +214,7 @@ module _ (g : Ground) (s : State) (ok : IsRanked g) (fair : IsFair g s) (a b : �
 
 -- The kept pixel of a rank is hung under the queued pixel q.
 module _ (g : Ground) (s : State) (ok : IsRanked g) (fair : IsFair g s) (r e q : ℕ) (low : r < g.size) (is : slice_index s.earliest r ≡ e) (some : e ≡ no_node → ⊥)
-    (queued : IsInQueue g s.cursors q) (earlier : IsEarlier g.values q e)
+    (queued : IsInQueue g s.cursors q) (earlier : ComesEarlier g.values q e)
     (between : (h : ℤ) (x : ℕ) → IsOpen g s.cursors s.earliest x → (x ≡ e → ⊥) → High g h e → High g h x → High g h q) where
   pub hang_fair : IsFair g (state s.lists s.cursors (set s.earliest r no_node) (set s.links (e - g.first) q))
   hang_fair = record {
@@ -339,7 +339,7 @@ module _ (g : Ground) (s : State) (ok : IsRanked g) (fair : IsFair g s) (r p : �
       (looked_cases g s.cursors fair.cursors_length p 10 queued.inside x y b)
 
   -- It is hung under the kept pixel of its rank, which is earlier.
-  module _ (e : ℕ) (is : slice_index s.earliest r ≡ e) (some : e ≡ no_node → ⊥) (earlier : IsEarlier g.values e p) where
+  module _ (e : ℕ) (is : slice_index s.earliest r ≡ e) (some : e ≡ no_node → ⊥) (earlier : ComesEarlier g.values e p) where
     pub under_fair : IsFair g (state (set s.lists r rest) (set s.cursors (p - g.first) 10) s.earliest (set s.links (p - g.first) e))
     under_fair = record {
       cursors_length = rw length-set fair.cursors_length;

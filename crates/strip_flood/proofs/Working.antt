@@ -9,7 +9,7 @@ use Rattle.std.proofs.lemmas.Option.{slice_get_past, slice_get-get_or}
 use Rattle.std.specs.declared.alloc.Global.{Global}
 use Rattle.std.specs.declared.vec.Vec.{Vec}
 use Rattle.comp_tree.specs.declared.shape.Connect.{Connect}
-use Rattle.comp_tree.specs.Forest.{Agree, no_node, value_at, IsDefined, IsAtLeast, IsBefore, IsWithin, link_of, IsForest, StandsFor}
+use Rattle.comp_tree.specs.Forest.{Agree, no_node, value_at, HasValue, ReachesLevel, ComesBefore, IsWithin, link_of, IsForest, StandsFor}
 use Rattle.comp_tree.specs.Limits.{IsWithinLimits}
 use Rattle.comp_tree.specs.Raster.{Raster}
 use Rattle.comp_tree.specs.Counts.{count_below, sum_below, count_defined}
@@ -35,27 +35,27 @@ module _ (levels : List ℤ) (rising : IsRising levels) where
   level_there : (r : ℕ) → r < length levels → slice_get levels r ≡ Some (get_or levels r (pos 0))
   level_there r l = slice_get-get_or levels r (pos 0) l
 
-  pub level_defined : (r : ℕ) → r < length levels → IsDefined (slice_get levels r)
-  level_defined r l = subst IsDefined (sym (level_there r l)) refl
+  pub level_defined : (r : ℕ) → r < length levels → HasValue (slice_get levels r)
+  level_defined r l = subst HasValue (sym (level_there r l)) refl
 
-  pub defined_level : (r : ℕ) → IsDefined (slice_get levels r) → r < length levels
-  defined_level r d = ⊎_elim (λ (l : r < length levels). l) (λ (m : length levels ≤ r). absurd (true≢false (sym (subst IsDefined (slice_get_past levels r m) d)))) (cases_lt r (length levels))
+  pub defined_level : (r : ℕ) → HasValue (slice_get levels r) → r < length levels
+  defined_level r d = ⊎_elim (λ (l : r < length levels). l) (λ (m : length levels ≤ r). absurd (true≢false (sym (subst HasValue (slice_get_past levels r m) d)))) (cases_lt r (length levels))
 
-  pub level_less : (r t p q : ℕ) → r < t → t < length levels → IsBefore (slice_get levels r) p (slice_get levels t) q
-  level_less r t p q l h = subst₂ (λ v w. IsBefore v p w q) (sym (level_there r (omega arith))) (sym (level_there t h)) (before_is (Some (get_or levels r (pos 0))) (Some (get_or levels t (pos 0))) p q (inl (rising.less r t l h)))
+  pub level_less : (r t p q : ℕ) → r < t → t < length levels → ComesBefore (slice_get levels r) p (slice_get levels t) q
+  level_less r t p q l h = subst₂ (λ v w. ComesBefore v p w q) (sym (level_there r (omega arith))) (sym (level_there t h)) (before_is (Some (get_or levels r (pos 0))) (Some (get_or levels t (pos 0))) p q (inl (rising.less r t l h)))
 
-  pub level_same : (r t p q : ℕ) → r ≡ t → t < length levels → p < q → IsBefore (slice_get levels r) p (slice_get levels t) q
-  level_same r t p q e h l = subst (λ x. IsBefore (slice_get levels x) p (slice_get levels t) q) (sym e)
-      (subst (λ v. IsBefore v p v q) (sym (level_there t h)) (before_is (Some (get_or levels t (pos 0))) (Some (get_or levels t (pos 0))) p q (inr (refl, l))))
+  pub level_same : (r t p q : ℕ) → r ≡ t → t < length levels → p < q → ComesBefore (slice_get levels r) p (slice_get levels t) q
+  level_same r t p q e h l = subst (λ x. ComesBefore (slice_get levels x) p (slice_get levels t) q) (sym e)
+      (subst (λ v. ComesBefore v p v q) (sym (level_there t h)) (before_is (Some (get_or levels t (pos 0))) (Some (get_or levels t (pos 0))) p q (inr (refl, l))))
 
-  at_least_less : (h a b : ℤ) → a <ℤ b → IsAtLeast h (Some a) → IsAtLeast h (Some b)
+  at_least_less : (h a b : ℤ) → a <ℤ b → ReachesLevel h (Some a) → ReachesLevel h (Some b)
   at_least_less h a b l m = let k : h ≤ℤ a = int_le-true h a m in int_le-from h b (omega (arith, ints))
 
-  pub level_up : (h : ℤ) (r t : ℕ) → r ≤ t → t < length levels → IsAtLeast h (slice_get levels r) → IsAtLeast h (slice_get levels t)
+  pub level_up : (h : ℤ) (r t : ℕ) → r ≤ t → t < length levels → ReachesLevel h (slice_get levels r) → ReachesLevel h (slice_get levels t)
   level_up h r t l m a = ⊎_elim
-      (λ (e : r ≡ t). subst (λ x. IsAtLeast h (slice_get levels x)) e a)
+      (λ (e : r ≡ t). subst (λ x. ReachesLevel h (slice_get levels x)) e a)
       (λ (ne : r ≡ t → ⊥). let lt : r < t = omega arith in let lr : r < length levels = omega arith in
-      subst (IsAtLeast h) (sym (level_there t m)) (at_least_less h (get_or levels r (pos 0)) (get_or levels t (pos 0)) (rising.less r t lt m) (subst (IsAtLeast h) (level_there r lr) a)))
+      subst (ReachesLevel h) (sym (level_there t m)) (at_least_less h (get_or levels r (pos 0)) (get_or levels t (pos 0)) (rising.less r t lt m) (subst (ReachesLevel h) (level_there r lr) a)))
       (cases_eq r t)
 
 -- the job's ranks tell the order of the plane's values in the strip
@@ -71,11 +71,11 @@ module _ (values : List (Option ℤ)) (width : ℕ) (connect : Connect) (first :
   job_ranked = record {
     wide = pos_width;
     small = small;
-    there = λ p w d. defined_level levels rising (get_or ranks (p - first) 0) (subst IsDefined (value_is p w) d);
-    value = λ p w l. subst IsDefined (sym (value_is p w)) (level_defined levels rising (get_or ranks (p - first) 0) l);
-    up = λ h p q wp wq l m a. subst (IsAtLeast h) (sym (value_is q wq)) (level_up levels rising h (get_or ranks (p - first) 0) (get_or ranks (q - first) 0) l m (subst (IsAtLeast h) (value_is p wp) a));
-    less = λ p q wp wq l m. subst₂ (λ v w. IsBefore v p w q) (sym (value_is p wp)) (sym (value_is q wq)) (level_less levels rising (get_or ranks (p - first) 0) (get_or ranks (q - first) 0) p q l m);
-    same = λ p q wp wq e m l. subst₂ (λ v w. IsBefore v p w q) (sym (value_is p wp)) (sym (value_is q wq)) (level_same levels rising (get_or ranks (p - first) 0) (get_or ranks (q - first) 0) p q e m l);
+    there = λ p w d. defined_level levels rising (get_or ranks (p - first) 0) (subst HasValue (value_is p w) d);
+    value = λ p w l. subst HasValue (sym (value_is p w)) (level_defined levels rising (get_or ranks (p - first) 0) l);
+    up = λ h p q wp wq l m a. subst (ReachesLevel h) (sym (value_is q wq)) (level_up levels rising h (get_or ranks (p - first) 0) (get_or ranks (q - first) 0) l m (subst (ReachesLevel h) (value_is p wp) a));
+    less = λ p q wp wq l m. subst₂ (λ v w. ComesBefore v p w q) (sym (value_is p wp)) (sym (value_is q wq)) (level_less levels rising (get_or ranks (p - first) 0) (get_or ranks (q - first) 0) p q l m);
+    same = λ p q wp wq e m l. subst₂ (λ v w. ComesBefore v p w q) (sym (value_is p wp)) (sym (value_is q wq)) (level_same levels rising (get_or ranks (p - first) 0) (get_or ranks (q - first) 0) p q e m l);
   }
 
 -- before the first turn

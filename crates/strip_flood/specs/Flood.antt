@@ -3,7 +3,7 @@ use Rattle.std.specs.Prelude.{◌≡◌, ℕ, ◌+◌, ◌-◌, ◌*◌, ◌/◌
 use Rattle.std.specs.Prelude.{Bool, ◌&&◌, IsTrue, List, [], length, slice_index, Contains, Option, ℤ, ◌⊎◌}
 use Rattle.comp_tree.specs.declared.shape.Connect.{Connect}
 use Rattle.comp_tree.specs.declared.shape.Connect.TheVariants.{Four, Eight}
-use Rattle.comp_tree.specs.Forest.{no_node, value_at, IsDefined, IsAtLeast, IsEarlier, IsWithin, IsHigh, link_of, IsLink, IsForest}
+use Rattle.comp_tree.specs.Forest.{no_node, value_at, HasValue, ReachesLevel, ComesEarlier, IsWithin, IsHigh, link_of, IsLink, IsForest}
 use Rattle.comp_tree.specs.Counts.{count_below, sum_below}
 use Rattle.comp_tree.specs.Grid.{are_neighbours, are_adjacent, IsInner}
 use Rattle.strip_flood.specs.Joining.{IsSound, IsComplete}
@@ -84,12 +84,12 @@ pub record IsLooked (g : Ground) (cursors : List ℕ) (x y : ℕ) : Type 0 where
 pub record IsRanked (g : Ground) : Type 0 where
   pub wide : 0 < g.width
   pub small : g.first + length g.ranks ≤ no_node
-  pub there : (p : ℕ) → IsOf g p → IsDefined (value_at g.values p) → rank_of g p < g.size
-  pub value : (p : ℕ) → IsOf g p → rank_of g p < g.size → IsDefined (value_at g.values p)
+  pub there : (p : ℕ) → IsOf g p → HasValue (value_at g.values p) → rank_of g p < g.size
+  pub value : (p : ℕ) → IsOf g p → rank_of g p < g.size → HasValue (value_at g.values p)
   pub up : (h : ℤ) (p q : ℕ) → IsOf g p → IsOf g q → rank_of g p ≤ rank_of g q → rank_of g q < g.size
-      → IsAtLeast h (value_at g.values p) → IsAtLeast h (value_at g.values q)
-  pub less : (p q : ℕ) → IsOf g p → IsOf g q → rank_of g p < rank_of g q → rank_of g q < g.size → IsEarlier g.values p q
-  pub same : (p q : ℕ) → IsOf g p → IsOf g q → rank_of g p ≡ rank_of g q → rank_of g q < g.size → p < q → IsEarlier g.values p q
+      → ReachesLevel h (value_at g.values p) → ReachesLevel h (value_at g.values q)
+  pub less : (p q : ℕ) → IsOf g p → IsOf g q → rank_of g p < rank_of g q → rank_of g q < g.size → ComesEarlier g.values p q
+  pub same : (p q : ℕ) → IsOf g p → IsOf g q → rank_of g p ≡ rank_of g q → rank_of g q < g.size → p < q → ComesEarlier g.values p q
 
 -- the lists have the queued pixels, each by its place in the list of its rank
 pub record IsListed (g : Ground) (lists : List (List ℕ)) (cursors : List ℕ) : Type 0 where

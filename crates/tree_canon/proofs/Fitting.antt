@@ -7,7 +7,7 @@ use Rattle.comp_tree.specs.declared.shape.Connect.{Connect}
 use Rattle.comp_tree.specs.Raster.{Raster, IsPlane, value_at, is_defined, is_at_least, level}
 use Rattle.comp_tree.specs.Grid.{IsAdjacency}
 use Rattle.comp_tree.specs.Joined.{Joined}
-use Rattle.comp_tree.specs.Forest.{no_node, IsHigh, IsBefore, IsEarlier, link_of, IsForest, IsLast, stop, go, HaveSameLast}
+use Rattle.comp_tree.specs.Forest.{no_node, IsHigh, ComesBefore, ComesEarlier, link_of, IsForest, WayEndsAt, stop, go, HaveSameLast}
 use Rattle.comp_tree.specs.declared.shape.Connect.TheVariants.{Four, Eight}
 use Rattle.comp_tree.specs.declared.tree.NodeRow.{NodeRow}
 use Rattle.comp_tree.specs.Components.{reaches, representative, is_representative, nodes, node_of, parent_of, row_of, tree_of, is_candidate, is_in_node}
@@ -45,7 +45,7 @@ module _ (r : Raster) (connect : Connect) (links : List ℕ) (plane : IsPlane r)
   record IsStep (p : ℕ) : Type 0 where
     defined : IsTrue (is_defined r p)
     link_defined : IsTrue (is_defined r (link_of 0 links p))
-    earlier : IsEarlier r.values (link_of 0 links p) p
+    earlier : ComesEarlier r.values (link_of 0 links p) p
     reached : IsTrue (reaches r connect (level r (link_of 0 links p)) (link_of 0 links p) p)
 
   -- the link of a pixel that represents its node is a candidate of the greatest value
@@ -83,10 +83,10 @@ module _ (r : Raster) (connect : Connect) (links : List ℕ) (plane : IsPlane r)
       on n (Nodes.root none) f = absurd (below_no_node r connect (node_of r connect (link_of 0 links p)) plane (Nodes.node_of-is r connect (link_of 0 links p) dl).below f)
       on n (Nodes.child q c high) f = of_same q c high f
 
-  earlier_from : (a b : ℕ) → IsTrue (is_defined r a) → IsTrue (is_defined r b) → (level r a <ℤ level r b) ⊎ ((level r a ≡ level r b) × (a < b)) → IsEarlier r.values a b
+  earlier_from : (a b : ℕ) → IsTrue (is_defined r a) → IsTrue (is_defined r b) → (level r a <ℤ level r b) ⊎ ((level r a ≡ level r b) × (a < b)) → ComesEarlier r.values a b
   earlier_from a b da db k =
-      subst (λ (v : Option ℤ). IsBefore v a (value_at r.values b) b) (sym (value-level r a da))
-      (subst (λ (v : Option ℤ). IsBefore (Some (level r a)) a v b) (sym (value-level r b db)) (before_is (Some (level r a)) (Some (level r b)) a b k))
+      subst (λ (v : Option ℤ). ComesBefore v a (value_at r.values b) b) (sym (value-level r a da))
+      (subst (λ (v : Option ℤ). ComesBefore (Some (level r a)) a v b) (sym (value-level r b db)) (before_is (Some (level r a)) (Some (level r b)) a b k))
 
   step : (p : ℕ) → p < length r.values → link_of 0 links p ≢ no_node → IsStep p
   step p lt some = on (fit p lt)
@@ -132,7 +132,7 @@ module _ (r : Raster) (connect : Connect) (links : List ℕ) (plane : IsPlane r)
   }
 
   -- a walk stays in one component
-  walked : (h : ℤ) (p z : ℕ) → IsLast r.values 0 links h p z → IsTrue (reaches r connect h p z)
+  walked : (h : ℤ) (p z : ℕ) → WayEndsAt r.values 0 links h p z → IsTrue (reaches r connect h p z)
   walked h p z (stop g n) = Nodes.reaches_here r connect h p g.value
   walked h p z (go g l) =
       let next : IsHigh r.values 0 (length links) h (link_of 0 links p) = last_start r.values 0 links h fit_forest (let e : 0 + length links ≤ no_node = omega (arith, few) in e) (link_of 0 links p) z l in
@@ -143,7 +143,7 @@ module _ (r : Raster) (connect : Connect) (links : List ℕ) (plane : IsPlane r)
       (Nodes.reaches_lower r connect h (level r (link_of 0 links p)) (link_of 0 links p) p (Nodes.level_from_at_least r h (link_of 0 links p) next.value) k.reached))
       (walked h (link_of 0 links p) z l)
 
-  ended : (h : ℤ) (p z : ℕ) → IsLast r.values 0 links h p z → IsHigh r.values 0 (length links) h z × (IsHigh r.values 0 (length links) h (link_of 0 links z) → ⊥)
+  ended : (h : ℤ) (p z : ℕ) → WayEndsAt r.values 0 links h p z → IsHigh r.values 0 (length links) h z × (IsHigh r.values 0 (length links) h (link_of 0 links z) → ⊥)
   ended h p z (stop g n) = (g, n)
   ended h p z (go g l) = ended h (link_of 0 links p) z l
 
@@ -241,7 +241,7 @@ module _ (r : Raster) (connect : Connect) (links : List ℕ) (plane : IsPlane r)
           let m = bottom_of h a.0 ea.0.value in
           let across = Nodes.reaches_trans r connect h a.0 q b.0 (Nodes.reaches_trans r connect h a.0 p q (Nodes.reaches_sym r connect h p a.0 (walked h p a.0 a.1)) k) (walked h q b.0 b.1) in
           let same : b.0 ≡ a.0 = at_bottom h b.0 m.0 eb.0 eb.1 (bottom_moved h a.0 b.0 m.0 across m.1) ∙ sym (at_bottom h a.0 m.0 ea.0 ea.1 m.1) in
-          (a.0, (a.1, subst (λ (z : ℕ). IsLast r.values 0 links h q z) same b.1))
+          (a.0, (a.1, subst (λ (z : ℕ). WayEndsAt r.values 0 links h q z) same b.1))
 
 -- ---- reading a tree
 

@@ -10,7 +10,7 @@ use Rattle.comp_tree.specs.declared.shape.Connect.TheVariants.{Four, Eight}
 use Rattle.comp_tree.specs.declared.tree.NodeRow.{NodeRow}
 use Rattle.comp_tree.specs.ComponentTree.{ComponentTree, IsWellFormed}
 use Rattle.comp_tree.specs.Raster.{Raster, IsPlane, value_at, at_least, is_defined, is_at_least, level, pixels}
-use Rattle.comp_tree.specs.Forest.{no_node, IsHigh, link_of, IsForest, IsLast, stop, go, HaveSameLast}
+use Rattle.comp_tree.specs.Forest.{no_node, IsHigh, link_of, IsForest, WayEndsAt, stop, go, HaveSameLast}
 use Rattle.comp_tree.specs.Grid.{IsAdjacency}
 use Rattle.comp_tree.specs.Joined.{Joined}
 use Rattle.comp_tree.specs.Components.{reaches, representative, is_representative, in_order, nodes, node_of, parent_of, row_of, tree_of, is_candidate}
@@ -92,9 +92,9 @@ module _ (r : Raster) (connect : Connect) (links : List ℕ) (plane : IsPlane r)
       same_level : level r (link_of 0 links p) ≡ level r p
       same_level = level-value r (link_of 0 links p) (level r p) value
 
-      on : (z : ℕ) → IsLast r.values 0 links (level r p) p z → z ≡ representative r connect (link_of 0 links p)
+      on : (z : ℕ) → WayEndsAt r.values 0 links (level r p) p z → z ≡ representative r connect (link_of 0 links p)
       on z (stop g n) = absurd (n high)
-      on z (go g l) = last_is r connect links plane whole forest stands (link_of 0 links p) z dl (subst (λ (h : ℤ). IsLast r.values 0 links h (link_of 0 links p) z) (sym same_level) l)
+      on z (go g l) = last_is r connect links plane whole forest stands (link_of 0 links p) z dl (subst (λ (h : ℤ). WayEndsAt r.values 0 links h (link_of 0 links p) z) (sym same_level) l)
 
   module _ (numbers : List ℕ) (numbering : IsNumbering r links numbers) where
     abbrev Numbered : ℕ → Type 0
@@ -160,7 +160,7 @@ module _ (r : Raster) (connect : Connect) (links : List ℕ) (plane : IsPlane r)
         nowhere : (h : ℤ) → IsHigh r.values 0 (length links) h (link_of 0 links p) → ⊥
         nowhere h g = let b = g.within.high in omega (arith, none, b, small)
 
-        itself : (h : ℤ) (z : ℕ) → IsLast r.values 0 links h p z → z ≡ p
+        itself : (h : ℤ) (z : ℕ) → WayEndsAt r.values 0 links h p z → z ≡ p
         itself h z (stop g n) = refl
         itself h z (go g l) = absurd (nowhere h (last_start r.values 0 links h forest small (link_of 0 links p) z l))
 
@@ -177,8 +177,8 @@ module _ (r : Raster) (connect : Connect) (links : List ℕ) (plane : IsPlane r)
                 (high_from (level r q) p (Nodes.reaches_end r connect (level r q) q p m.reaches_it))).1
                 (joined_from (level r q) q p m.reaches_it)
 
-            q_last : IsLast r.values 0 links (level r q) q p
-            q_last = subst (λ (x : ℕ). IsLast r.values 0 links (level r q) q x) (itself (level r q) same.0 same.1.1) same.1.0
+            q_last : WayEndsAt r.values 0 links (level r q) q p
+            q_last = subst (λ (x : ℕ). WayEndsAt r.values 0 links (level r q) q x) (itself (level r q) same.0 same.1.1) same.1.0
 
             above : int_le (level r p) (level r q) ≡ true
             above = elim (last_earlier r.values 0 links (level r q) forest small q p q_last) [

@@ -6,13 +6,13 @@ use Rattle.std.proofs.lemmas.List.{get_or-set_same, get_or-set_other, length-set
 use Rattle.std.proofs.lemmas.Grind.{get_or_default_zero}
 use Rattle.comp_tree.specs.Joined.{Joined, Or, Only}
 use Rattle.comp_tree.specs.Counts.{rank}
-use Rattle.comp_tree.specs.Forest.{no_node, value_at, IsDefined, IsAtLeast, IsWithin, IsHigh, IsEarlier, link_of, IsLink, IsForest, JoinSame, IsPixel}
+use Rattle.comp_tree.specs.Forest.{no_node, value_at, HasValue, ReachesLevel, IsWithin, IsHigh, ComesEarlier, link_of, IsLink, IsForest, JoinSame, IsPixel}
 use Rattle.tree_join.specs.Skips.{IsSkip, AreSkips, IsPutDown, IsLeft, IsNoted}
 use Rattle.tree_join.specs.Walks.{AreLike, IsWalk, IsUp}
 use Rattle.tree_join.proofs.Shorter.{at_least_value}
 use Rattle.comp_tree.proofs.Exported.{int_le_refl, joined_wider, joined_trans, joined_sym, joined_left, joined_pair, joined_pairs, joined_within, joined_first, joined_second, at_only, at_least_not_before, before_defined, before_irrefl, before_trans, before_other, same_itself, same_trans, same_sym, same_or, same_turned, high_up, rank_less}
 
-own_value : (v : Option ℤ) → IsDefined v → IsAtLeast (unwrap_or v (pos 0)) v
+own_value : (v : Option ℤ) → HasValue v → ReachesLevel (unwrap_or v (pos 0)) v
 own_value (Some v) d = int_le_refl v
 own_value None d = absurd (true≢false (sym d))
 
@@ -32,7 +32,7 @@ module _ (values : List (Option ℤ)) (first count : ℕ) where
   skip_none E x p = record { pixel = p; joins = λ h g. Joined.here g }
 
   -- two skips, one after the other
-  pub skip_on : (E : ℕ → ℕ → Type 0) (x y z : ℕ) → IsEarlier values z y → IsSkip values first count E x y → IsSkip values first count E y z → IsSkip values first count E x z
+  pub skip_on : (E : ℕ → ℕ → Type 0) (x y z : ℕ) → ComesEarlier values z y → IsSkip values first count E x y → IsSkip values first count E y z → IsSkip values first count E x z
   skip_on E x y z e k l = record { pixel = l.pixel; joins = λ h g. joined_trans (k.joins h (high_up values first count h z y e k.pixel.within g)) (l.joins h g) }
 
   -- a pixel is high at its own value
@@ -84,7 +84,7 @@ module _ (values : List (Option ℤ)) (first count : ℕ) where
 
   -- A skip that stands on a pair too is true without it, where it leads higher than the pair's earlier pixel: there this pixel
   -- isn't high, so the pair adds nothing, and at lower levels no less is joined.
-  pub skip_alone : (E : ℕ → ℕ → Type 0) (a b x y : ℕ) → (IsAtLeast (unwrap_or (value_at values y) (pos 0)) (value_at values b) → ⊥)
+  pub skip_alone : (E : ℕ → ℕ → Type 0) (a b x y : ℕ) → (ReachesLevel (unwrap_or (value_at values y) (pos 0)) (value_at values b) → ⊥)
       → IsSkip values first count (Or E (Only a b)) x y → IsSkip values first count E x y
   skip_alone E a b x y low k = record {
     pixel = k.pixel;
@@ -100,15 +100,15 @@ module _ (values : List (Option ℤ)) (first count : ℕ) where
     alone u v hu hv (inr o) = absurd (low (subst (IsHigh values first count own) o.1 hv).value)
 
   -- nor is its end earlier than that pixel
-  pub above_late : (b y : ℕ) → IsPixel values first count b → IsPixel values first count y → (IsAtLeast (unwrap_or (value_at values y) (pos 0)) (value_at values b) → ⊥) → IsEarlier values y b → ⊥
+  pub above_late : (b y : ℕ) → IsPixel values first count b → IsPixel values first count y → (ReachesLevel (unwrap_or (value_at values y) (pos 0)) (value_at values b) → ⊥) → ComesEarlier values y b → ⊥
   above_late b y pb py low e = low (high_up values first count (unwrap_or (value_at values y) (pos 0)) y b e pb.within (own_high y py)).value
 
   -- ---- a pair, where its first pixel is replaced by one that the other is not later than
 
-  late_high : (b c : ℕ) → IsPixel values first count c → (IsEarlier values c b → ⊥) → (h : ℤ) → IsHigh values first count h b → IsHigh values first count h c
+  late_high : (b c : ℕ) → IsPixel values first count c → (ComesEarlier values c b → ⊥) → (h : ℤ) → IsHigh values first count h b → IsHigh values first count h c
   late_high b c pc late h g = record { within = pc.within; value = at_least_not_before h (value_at values c) (value_at values b) c b pc.value late g.value }
 
-  pub pair_up : (E : ℕ → ℕ → Type 0) (a b c : ℕ) → IsSkip values first count E a c → (IsEarlier values c b → ⊥)
+  pub pair_up : (E : ℕ → ℕ → Type 0) (a b c : ℕ) → IsSkip values first count E a c → (ComesEarlier values c b → ⊥)
       → JoinSame values first count (Or E (Only c b)) (Or E (Only a b))
   pair_up E a b c k late = record { same = λ h p q. (joined_within (there h), joined_within (back h)) } where
     there : (h : ℤ) (x y : ℕ) → IsHigh values first count h x → IsHigh values first count h y → Or E (Only c b) x y → Joined (IsHigh values first count h) (Or E (Only a b)) x y
@@ -124,14 +124,14 @@ module _ (values : List (Option ℤ)) (first count : ℕ) where
         joined_trans (joined_pairs (λ u v e. inl e) (k.joins h hc)) (joined_second E (Only c b) c b hc hb (refl, refl)))
 
   -- a pixel that is not earlier than b has no lower rank
-  pub late_rank : (b c : ℕ) → IsPixel values first count b → IsPixel values first count c → (IsEarlier values c b → ⊥) → rank values first count b ≤ rank values first count c
+  pub late_rank : (b c : ℕ) → IsPixel values first count b → IsPixel values first count c → (ComesEarlier values c b → ⊥) → rank values first count b ≤ rank values first count c
   late_rank b c pb pc late = ⊎_elim
       (λ (e : c ≡ b). subst (λ x. rank values first count b ≤ rank values first count x) (sym e) (omega arith))
       (λ (ne : c ≡ b → ⊥). let l : rank values first count b < rank values first count c
       = rank_less values first count c b pb.within (before_other (value_at values c) (value_at values b) c b pc.value pb.value ne late) in omega arith)
       (cases_eq c b)
 
-  pub earlier_late : (a b : ℕ) → IsEarlier values a b → IsEarlier values b a → ⊥
+  pub earlier_late : (a b : ℕ) → ComesEarlier values a b → ComesEarlier values b a → ⊥
   earlier_late a b e f = before_irrefl (value_at values a) a (before_trans (value_at values a) (value_at values b) (value_at values a) a b a e f)
 
 -- The link of a pixel, read with the default 0, is a skip.
@@ -144,12 +144,12 @@ module _ (values : List (Option ℤ)) (first : ℕ) (start links : List ℕ) (fo
   link_read : link_of first links a ≡ get_or links (a - first) 0
   link_read = get_or_default_zero links (a - first) no_node (let low : first ≤ a = wa.low in let high : a < first + length links = wa.high in omega arith)
 
-  fits : IsWithin first (length links) (get_or links (a - first) 0) × IsEarlier values (get_or links (a - first) 0) a
-  fits = subst (λ q. IsWithin first (length links) q × IsEarlier values q a) link_read (⊎_elim
+  fits : IsWithin first (length links) (get_or links (a - first) 0) × ComesEarlier values (get_or links (a - first) 0) a
+  fits = subst (λ q. IsWithin first (length links) q × ComesEarlier values q a) link_read (⊎_elim
       (λ (e : link_of first links a ≡ no_node). absurd (ne (sym link_read ∙ e)))
-      (λ (e : IsWithin first (length links) (link_of first links a) × IsEarlier values (link_of first links a) a). e) (forest.earlier a wa))
+      (λ (e : IsWithin first (length links) (link_of first links a) × ComesEarlier values (link_of first links a) a). e) (forest.earlier a wa))
 
-  pub link_earlier : IsEarlier values (get_or links (a - first) 0) a
+  pub link_earlier : ComesEarlier values (get_or links (a - first) 0) a
   link_earlier = fits.1
 
   pub link_within : IsWithin first (length links) (get_or links (a - first) 0)
@@ -179,7 +179,7 @@ module _ (values : List (Option ℤ)) (first : ℕ) (links : List ℕ) (forest :
       let ne : get_or links (c - first) 0 ≡ no_node → ⊥ = λ e. more (sym next ∙ e) in
       let on : IsSkip values first (length links) (IsLink first links) c d
       = subst (IsSkip values first (length links) (IsLink first links) c) next (link_skip values first links links forest small refl same c own_skip.pixel ne) in
-      let early : IsEarlier values d c = subst (λ y. IsEarlier values y c) next (link_earlier values first links links forest small refl same c own_skip.pixel ne) in
+      let early : ComesEarlier values d c = subst (λ y. ComesEarlier values y c) next (link_earlier values first links links forest small refl same c own_skip.pixel ne) in
       skip_on values first (length links) (IsLink first links) a c d early own_skip on
 
 -- What a climb from p keeps: start are the links at its start, and p and b are still to be joined.
@@ -190,7 +190,7 @@ pub record IsClimbing (values : List (Option ℤ)) (first : ℕ) (start links fr
   pub near_skip : IsSkip values first (length start) (IsLink first start) near at
   pub far_skip : IsSkip values first (length start) (IsLink first start) far at
   pub walk : IsWalk values first start from to p b
-  pub late : IsEarlier values at b → ⊥
+  pub late : ComesEarlier values at b → ⊥
 
 -- from the last mark, or from a pixel that is one now
 mark_skip : (values : List (Option ℤ)) (first count : ℕ) (E : ℕ → ℕ → Type 0) (before at mark : ℕ) → IsSkip values first count E before at → (mark ≡ before) ⊎ (mark ≡ at) → IsSkip values first count E mark at
@@ -224,7 +224,7 @@ module _ (values : List (Option ℤ)) (first : ℕ) (start : List ℕ) (p b : �
 
   -- the walk of the pixel at hand and b
   pub climb_on : (links from to : List ℕ) (at : ℕ) → length links ≡ length start → AreLike values first start links → IsSkip values first (length start) (IsLink first start) p at
-      → (IsEarlier values at b → ⊥) → IsWalk values first start from to p b → IsWalk values first links from to at b
+      → (ComesEarlier values at b → ⊥) → IsWalk values first start from to p b → IsWalk values first links from to at b
   climb_on links from to at e l k late w = record {
     kept = record {
       inside = subst (λ n. first + n ≤ length values) (sym e) w.kept.inside;

@@ -6,7 +6,7 @@ use Rattle.std.proofs.lemmas.Bool.{true≢false}
 use Rattle.std.proofs.lemmas.Grind.{get_or_default_zero}
 use Rattle.comp_tree.specs.Joined.{Joined, Only}
 use Rattle.comp_tree.specs.Raster.{Raster, level}
-use Rattle.comp_tree.specs.Forest.{no_node, value_at, IsAtLeast, IsWithin, IsHigh, IsEarlier, link_of, IsLink, IsForest, JoinSame, IsPixel}
+use Rattle.comp_tree.specs.Forest.{no_node, value_at, ReachesLevel, IsWithin, IsHigh, ComesEarlier, link_of, IsLink, IsForest, JoinSame, IsPixel}
 use Rattle.comp_tree.proofs.Exported.{links_before, links_after, link_hung, forest_hung, joined_trans, joined_sym, joined_pair, joined_within, at_only, int_le-true, int_le-from, before_defined, before_irrefl, before_trans, high_up}
 
 -- At one level: c is the link of a, and d that of c. L holds before a is linked to d, and M after it.
@@ -31,19 +31,19 @@ module _ (High : ℕ → Type 0) (L M : ℕ → ℕ → Type 0) (a c d : ℕ) wh
         (old x y l)
 
 -- what is at least the value of a defined pixel is at least all that this pixel is
-pub at_least_value : (h : ℤ) (v w : Option ℤ) → IsAtLeast (unwrap_or v (pos 0)) w → IsAtLeast h v → IsAtLeast h w
+pub at_least_value : (h : ℤ) (v w : Option ℤ) → ReachesLevel (unwrap_or v (pos 0)) w → ReachesLevel h v → ReachesLevel h w
 at_least_value h (Some v) (Some w) e l = let a : v ≤ℤ w = int_le-true v w e in let b : h ≤ℤ v = int_le-true h v l in int_le-from h w (omega (arith, ints))
 at_least_value h (Some v) None e l = absurd (true≢false (sym e))
 at_least_value h None w e l = absurd (true≢false (sym l))
 
 -- the test of the code says so of the values of c and w
-pub high_read : (r : Raster) (c : ℕ) (h : ℤ) (w : Option ℤ) → h ≡ level r c → IsAtLeast h w → IsAtLeast (unwrap_or (value_at r.values c) (pos 0)) w
+pub high_read : (r : Raster) (c : ℕ) (h : ℤ) (w : Option ℤ) → h ≡ level r c → ReachesLevel h w → ReachesLevel (unwrap_or (value_at r.values c) (pos 0)) w
 unfolding level
-high_read r c h w e a = subst (λ z. IsAtLeast z w) e a
+high_read r c h w e a = subst (λ z. ReachesLevel z w) e a
 
-pub low_read : (r : Raster) (c : ℕ) (h : ℤ) (w : Option ℤ) → h ≡ level r c → IsAtLeast (unwrap_or (value_at r.values c) (pos 0)) w → IsAtLeast h w
+pub low_read : (r : Raster) (c : ℕ) (h : ℤ) (w : Option ℤ) → h ≡ level r c → ReachesLevel (unwrap_or (value_at r.values c) (pos 0)) w → ReachesLevel h w
 unfolding level
-low_read r c h w e a = subst (λ z. IsAtLeast z w) (sym e) a
+low_read r c h w e a = subst (λ z. ReachesLevel z w) (sym e) a
 
 -- The code reads the links with the default 0.
 module _ (values : List (Option ℤ)) (first : ℕ) (links : List ℕ) (forest : IsForest values first links) (small : first + length links ≤ no_node)
@@ -52,19 +52,19 @@ module _ (values : List (Option ℤ)) (first : ℕ) (links : List ℕ) (forest :
   read_link : (x : ℕ) → IsWithin first (length links) x → link_of first links x ≡ get_or links (x - first) 0
   read_link x w = get_or_default_zero links (x - first) no_node (let low : first ≤ x = w.low in let high : x < first + length links = w.high in omega arith)
 
-  link_fits : (x q : ℕ) → IsWithin first (length links) x → get_or links (x - first) 0 ≡ q → (q ≡ no_node → ⊥) → IsWithin first (length links) q × IsEarlier values q x
-  link_fits x q w e ne = subst (λ z. IsWithin first (length links) z × IsEarlier values z x) (read_link x w ∙ e) (⊎_elim
+  link_fits : (x q : ℕ) → IsWithin first (length links) x → get_or links (x - first) 0 ≡ q → (q ≡ no_node → ⊥) → IsWithin first (length links) q × ComesEarlier values q x
+  link_fits x q w e ne = subst (λ z. IsWithin first (length links) z × ComesEarlier values z x) (read_link x w ∙ e) (⊎_elim
       (λ (n : link_of first links x ≡ no_node). absurd (ne (sym e ∙ (sym (read_link x w) ∙ n))))
-      (λ (f : IsWithin first (length links) (link_of first links x) × IsEarlier values (link_of first links x) x). f)
+      (λ (f : IsWithin first (length links) (link_of first links x) × ComesEarlier values (link_of first links x) x). f)
       (forest.earlier x w))
 
-  c_fits : IsWithin first (length links) c × IsEarlier values c a
+  c_fits : IsWithin first (length links) c × ComesEarlier values c a
   c_fits = link_fits a c pa.within link linked
 
-  d_fits : IsWithin first (length links) d × IsEarlier values d c
+  d_fits : IsWithin first (length links) d × ComesEarlier values d c
   d_fits = link_fits c d c_fits.0 next more
 
-  pub past_earlier : IsEarlier values d a
+  pub past_earlier : ComesEarlier values d a
   past_earlier = before_trans (value_at values d) (value_at values c) (value_at values a) d c a d_fits.1 c_fits.1
 
   pub past_pixel : IsPixel values first (length links) d
@@ -73,7 +73,7 @@ module _ (values : List (Option ℤ)) (first : ℕ) (links : List ℕ) (forest :
   pub past_forest : IsForest values first (set links (a - first) d)
   past_forest = forest_hung first links a d pa.within values forest d_fits.0 past_earlier
 
-  pub past_same : IsAtLeast (unwrap_or (value_at values c) (pos 0)) (value_at values d)
+  pub past_same : ReachesLevel (unwrap_or (value_at values c) (pos 0)) (value_at values d)
       → JoinSame values first (length links) (IsLink first (set links (a - first) d)) (IsLink first links)
   past_same high = record {
     same = λ h p q. move_past (IsHigh values first (length links) h) (IsLink first links) (IsLink first (set links (a - first) d)) a c d
@@ -87,6 +87,6 @@ module _ (values : List (Option ℤ)) (first : ℕ) (links : List ℕ) (forest :
 
     still_c_to_d : IsLink first (set links (a - first) d) c d
     still_c_to_d = ⊎_elim
-        (λ (o : Only a c c d). absurd (before_irrefl (value_at values a) a (subst (λ x. IsEarlier values x a) o.0 c_fits.1)))
+        (λ (o : Only a c c d). absurd (before_irrefl (value_at values a) a (subst (λ x. ComesEarlier values x a) o.0 c_fits.1)))
         (λ (m : IsLink first (set links (a - first) d) c d). m)
         (links_before first links a d pa.within c (read_link a pa.within ∙ link) c d c_to_d)

@@ -1,7 +1,7 @@
 -- Bookkeeping: the moves of the walk that joins two pixels, and the pairs that a row of pixels is joined by.
 use Rattle.std.specs.Prelude.{◌≡◌, ℕ, max, cond, is_some, ◌-◌, ◌+◌, ◌*◌, ◌<◌, ◌≤◌, ◌⊎◌, List, length, Option, Some, None, ℤ}
 use Rattle.comp_tree.specs.Joined.{Or, Only}
-use Rattle.comp_tree.specs.Forest.{no_node, value_at, IsDefined, link_of, IsEarlier, IsLink, JoinSame}
+use Rattle.comp_tree.specs.Forest.{no_node, value_at, HasValue, link_of, ComesEarlier, IsLink, JoinSame}
 use Rattle.comp_tree.specs.Counts.{count_defined, rank}
 
 -- the greater rank of two pixels
@@ -19,7 +19,7 @@ pub record IsMoved (values : List (Option ℤ)) (first : ℕ) (old new : List �
 
 -- the link of a is none, or earlier than b
 abbrev pub IsLastAbove : List (Option ℤ) → ℕ → List ℕ → ℕ → ℕ → Type 0
-IsLastAbove values first links a b = (link_of first links a ≡ no_node) ⊎ IsEarlier values (link_of first links a) b
+IsLastAbove values first links a b = (link_of first links a ≡ no_node) ⊎ ComesEarlier values (link_of first links a) b
 
 -- What a turn from a and b counts: at most `most` for each rank that it leaves behind, and where it is the last one, as many again.
 abbrev pub IsSpent : List (Option ℤ) → ℕ → ℕ → ℕ → ℕ → ℕ → ℕ → ℕ → Option (ℕ × ℕ) → Type 0
@@ -31,8 +31,8 @@ pub record IsSpan (values : List (Option ℤ)) (low high p u v : ℕ) : Type 0 w
   pub above : low ≤ u
   pub below : u < high
   pub same : v ≡ p
-  pub one : IsDefined (value_at values u)
-  pub other : IsDefined (value_at values v)
+  pub one : HasValue (value_at values u)
+  pub other : HasValue (value_at values v)
 
 -- how many such pairs there are
 abbrev pub span_size : List (Option ℤ) → ℕ → ℕ → ℕ → ℕ

@@ -1,7 +1,7 @@
 -- Bookkeeping: what a walk needs and keeps, and its steps.
 use Rattle.std.specs.Prelude.{ℕ, ◌+◌, ◌^◌, ◌≤◌, List, length, Option, ℤ}
 use Rattle.comp_tree.specs.Joined.{Or, Only}
-use Rattle.comp_tree.specs.Forest.{IsEarlier, IsForest, IsPixel, IsLink, JoinSame}
+use Rattle.comp_tree.specs.Forest.{ComesEarlier, IsForest, IsPixel, IsLink, JoinSame}
 use Rattle.tree_join.specs.Skips.{IsSkip, AreSkips}
 
 -- the links of some pixels of a plane, in the order of a forest
@@ -24,7 +24,7 @@ pub record AreReady (values : List (Option ℤ)) (first : ℕ) (links from to : 
 pub record IsPair (values : List (Option ℤ)) (first count a b : ℕ) : Type 0 where
   pub one : IsPixel values first count a
   pub other : IsPixel values first count b
-  pub late : IsEarlier values a b → ⊥
+  pub late : ComesEarlier values a b → ⊥
 
 -- within a walk: a and b are still to be joined, and each skip is true of the links together with this pair
 pub record IsWalk (values : List (Option ℤ)) (first : ℕ) (links from to : List ℕ) (a b : ℕ) : Type 0 where
@@ -35,5 +35,5 @@ pub record IsWalk (values : List (Option ℤ)) (first : ℕ) (links from to : Li
 -- a step up from at, to a pixel that is not earlier than b
 pub record IsUp (values : List (Option ℤ)) (first : ℕ) (links : List ℕ) (at b next : ℕ) : Type 0 where
   pub skip : IsSkip values first (length links) (IsLink first links) at next
-  pub earlier : IsEarlier values next at
-  pub late : IsEarlier values next b → ⊥
+  pub earlier : ComesEarlier values next at
+  pub late : ComesEarlier values next b → ⊥

@@ -3,7 +3,7 @@
 ghost use Rattle.std.specs.Prelude.{◌≡◌, ℕ, ◌+◌, ◌*◌, ◌<◌, ◌≤◌, length, slice_index, MatchOption, IfSome};
 ghost use Rattle.comp_tree.specs.Joined.{Or, Only};
 ghost use Rattle.comp_tree.specs.Counts.{count_defined, rank};
-ghost use Rattle.comp_tree.specs.Forest.{no_node, IsEarlier, IsForest, IsPixel, IsLink, JoinSame, link_of};
+ghost use Rattle.comp_tree.specs.Forest.{no_node, ComesEarlier, IsForest, IsPixel, IsLink, JoinSame, link_of};
 ghost use Rattle.tree_join.specs.Moves.{IsEnded, IsMoved, IsLastAbove, IsSpent};
 ghost use Rattle.tree_join.specs.Skips.{IsSkip};
 ghost use Rattle.tree_join.specs.Walks.{AreLinks, AreLike, AreReady, IsPair, IsWalk, IsUp};
@@ -39,7 +39,7 @@ pub(crate) fn link_past<M: Ledger>(
         (link_of first parents.new p ≡ no_node)
         (λ next. link_of first parents.new p ≡ next) }
     ensures skip { IfSome result (λ next. IsSkip plane.now.values first (length parents.old) (IsLink first parents.old) p next) }
-    ensures earlier { IfSome result (λ next. IsEarlier plane.now.values next p) }
+    ensures earlier { IfSome result (λ next. ComesEarlier plane.now.values next p) }
     ensures more { looks.old + 1 ≤ looks.new }
     ensures looks { looks.new ≤ looks.old + 2 }
 {
@@ -186,7 +186,7 @@ fn hang<M: Ledger>(
 ) -> Option<(u32, u32)>
     requires links { AreLinks plane.now.values first parents.old }
     requires pair { IsPair plane.now.values first (length parents.old) a b }
-    requires order { IsEarlier plane.now.values b a }
+    requires order { ComesEarlier plane.now.values b a }
     requires last { IsLastAbove plane.now.values first parents.old a b }
     ensures forest { IsForest plane.now.values first parents.new }
     ensures moved { MatchOption result

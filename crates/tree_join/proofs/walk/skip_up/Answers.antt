@@ -4,7 +4,7 @@ use Rattle.std.proofs.lemmas.Int.{to_z-of_z}
 use Rattle.std.specs.Prelude.{unwrap_or, pos}
 use mir.Val.{SFits}
 use Rattle.comp_tree.specs.Joined.{Or, Only}
-use Rattle.comp_tree.specs.Forest.{value_at, IsAtLeast, IsLink}
+use Rattle.comp_tree.specs.Forest.{value_at, ReachesLevel, IsLink}
 use Rattle.tree_join.specs.Skips.{IsSkip}
 use Rattle.tree_join.proofs.walk.skip_up.Goals as goal
 use Rattle.tree_join.proofs.Shorter.{low_read}
@@ -13,7 +13,7 @@ use Rattle.tree_join.proofs.Climbing.{skip_told, skip_alone, above_late}
 pub returns-clause-up : goal.returns-clause-up
 returns-clause-up g c =
     let fits : SFits w64 c.level.result = search rules in
-    let low : IsAtLeast (unwrap_or (value_at c.args.plane.now.values c.in-Some.there) (pos 0)) (value_at c.args.plane.now.values c.args.b) → ⊥
+    let low : ReachesLevel (unwrap_or (value_at c.args.plane.now.values c.in-Some.there) (pos 0)) (value_at c.args.plane.now.values c.args.b) → ⊥
     = λ e. true≢false (sym (low_read c.args.plane.now _ (to_z w64 (of_z w64 c.level.result)) (value_at c.args.plane.now.values c.args.b) (to_z-of_z w64 c.level.result fits ∙ c.level.ensures) e) ∙ (sym c.is_at_least.ensures ∙ c.if-is_at_least.false)) in
     let told : IsSkip c.args.plane.now.values c.args.first (length c.args._parents.now) (Or (IsLink c.args.first c.args._parents.now) (Only c.args.at c.args.b)) c.args.at c.in-Some.there
     = skip_told c.args.plane.now.values c.args.first (length c.args._parents.now) (Or (IsLink c.args.first c.args._parents.now) (Only c.args.at c.args.b)) c.args.skips.now.from c.args.skips.now.to c.args.at _
