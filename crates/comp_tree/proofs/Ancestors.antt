@@ -8,7 +8,7 @@ use Rattle.comp_tree.specs.Raster.{Raster, IsPlane, is_defined, level}
 use Rattle.comp_tree.specs.Components.{reaches, representative, nodes, node_of, no_node, is_candidate, parent_of, row_of, tree_of, is_in_node}
 use Rattle.comp_tree.specs.Laws.{top_of, IsNestedIn, LiesStrictlyWithin, PixelsBelongToTheirAncestors, parent_in, IsAncestor, parent, above, AncestorsAreTheLargerNodes, ParentIsTheSmallestLargerNode, RootsHaveNoLargerNode, CandidatesOfOneLevelHaveOneNode}
 use Rattle.comp_tree.proofs.Reaching.{defined_from_at_least}
-use Rattle.comp_tree.proofs.Levels.{int_le_antisym, int_le_from_lt, int_lt_irrefl, int_lt_le, cases_int}
+use Rattle.lemmas.proofs.Exported.{int_le_antisym, int_le_from_lt, int_lt_irrefl, int_lt_le, cases_int}
 use Rattle.comp_tree.proofs.Ordering.{ordered-at, earlier-level}
 use Rattle.comp_tree.proofs.Finding.{length-nodes-le}
 use Rattle.comp_tree.proofs.Nodes

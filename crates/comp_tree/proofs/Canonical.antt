@@ -10,7 +10,7 @@ use Rattle.comp_tree.specs.Forest.{no_node, IsHigh, link_of, IsForest, WayEndsAt
 use Rattle.comp_tree.specs.Components.{reaches, representative, is_candidate, parent_of, node_of}
 use Rattle.comp_tree.specs.Laws.{EachWalkHasOneLast, LastAtOwnLevelIsRepresentative}
 use Rattle.comp_tree.proofs.Joining.{joined_wider}
-use Rattle.comp_tree.proofs.Levels.{int_le_refl, int_lt_le, int_le_from_lt, cases_int}
+use Rattle.lemmas.proofs.Exported.{int_le_refl, int_lt_le, int_le_from_lt, cases_int}
 use Rattle.comp_tree.proofs.Ordering.{earlier-level}
 use Rattle.comp_tree.proofs.Reaching.{reaches-is_IsReached, below_from_defined, defined_from_at_least}
 use Rattle.comp_tree.proofs.Walks.{last_same, last_there, link_earlier}

@@ -1,8 +1,13 @@
 -- The lemmas of this crate that crates above use. Its other modules of lemmas are its own.
-pub use Rattle.comp_tree.proofs.Levels.{cases_int, int_eq-from, int_eq-true, int_eq_refl, int_le-false, int_le-from, int_le-true, int_le_antisym}
-pub use Rattle.comp_tree.proofs.Levels.{int_le_from_lt, int_le_refl, int_le_trans, int_lt-false, int_lt-from, int_lt-from_not_le, int_lt-true, int_lt_le}
-pub use Rattle.comp_tree.proofs.Members.{IsAmong, IsWitness, all_from_among, among-filter, among-range, among_from_filter, among_from_range, any_from_among}
-pub use Rattle.comp_tree.proofs.Members.{find_none, find_some, witness_from_any}
+
+-- lemmas of the crate below, for those that stand on this one
+pub use Rattle.lemmas.proofs.Exported.{ArePaired, HasPartnerIn, IsAmong, IsRising, IsRisingBy, IsWitness, all_from_among, among-filter, among-range}
+pub use Rattle.lemmas.proofs.Exported.{among_from_filter, among_from_range, any_from_among, at_end, at_more, cases_int, find_none, find_some, int_eq-from}
+pub use Rattle.lemmas.proofs.Exported.{int_eq-true, int_eq_refl, int_le-false, int_le-from, int_le-true, int_le_antisym, int_le_from_lt, int_le_refl}
+pub use Rattle.lemmas.proofs.Exported.{int_le_trans, int_lt-false, int_lt-from, int_lt-from_not_le, int_lt-true, int_lt_le, paired_append, paired_enumerated}
+pub use Rattle.lemmas.proofs.Exported.{paired_filter, paired_flat_map, paired_from_rising, paired_map, paired_position, rising-filter, rising-pixels}
+pub use Rattle.lemmas.proofs.Exported.{rising-range, same_bool, witness_from_any}
+
 pub use Rattle.comp_tree.proofs.Order.{at_least_cases, at_least_defined, at_least_not_before, at_least_up, before_defined, before_irrefl, before_is}
 pub use Rattle.comp_tree.proofs.Order.{before_other, before_trans, none_is_undefined}
 pub use Rattle.comp_tree.proofs.Joining.{along_joined, at_only, joined_first, joined_left, joined_pair, joined_pairs, joined_second, joined_sym, joined_trans}
@@ -33,13 +38,6 @@ pub use Rattle.comp_tree.proofs.Representatives.{before_level, last_earlier, las
 pub use Rattle.comp_tree.proofs.Canonical.{last_is, last_own, level-value, link_from_representative, parent_from_link, representative_from_link, value-level}
 pub use Rattle.comp_tree.proofs.Shapes.{shape_of_sides}
 pub use Rattle.comp_tree.proofs.Writing.{written_all, written_itself, written_next, written_none}
-pub use Rattle.comp_tree.proofs.SameBools.{same_bool}
--- lists whose members stand in pairs, one after the other: so are what ++ and filter make of them, and map, flat_map, enumerations and places make
--- the same of both
-pub use Rattle.comp_tree.proofs.Paired.{ArePaired, at_end, at_more, paired_append, paired_enumerated, paired_filter, paired_flat_map, paired_map}
-pub use Rattle.comp_tree.proofs.Paired.{paired_position}
--- lists that rise by a number of each member, and hold the pairs' members, are paired where the pairs keep the order
-pub use Rattle.comp_tree.proofs.Paired.{HasPartnerIn, IsRising, IsRisingBy, paired_from_rising, rising-filter, rising-pixels, rising-range}
 -- two planes whose pixels of at least a level stand in pairs: partners have one level, reach the same partners, and their representatives are
 -- partners; nodes that partners represent are counterparts, of one level and with paired pixels
 pub use Rattle.comp_tree.proofs.Along.{AlikeAlong, AreCounterparts, ArePairedAbove, HasLikeBeside, HasPartnerBeside, IsReachedThere, along_counterpart}

@@ -1,5 +1,3 @@
-mod Levels
-mod Members
 mod Order
 mod Joining
 mod Labels
@@ -25,8 +23,6 @@ mod Representatives
 mod Canonical
 mod Shapes
 mod Writing
-mod SameBools
-mod Paired
 mod Along
 mod Alike
 mod Windows

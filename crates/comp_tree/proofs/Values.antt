@@ -7,7 +7,7 @@ use Rattle.std.proofs.lemmas.List.{get_or-map, map-set}
 use Rattle.comp_tree.specs.Limits.{IsWithinRange}
 use Rattle.comp_tree.specs.Raster.{HasValuesInRange, value_at}
 use Rattle.comp_tree.specs.Stored.{undefined_number, pixel_of}
-use Rattle.comp_tree.proofs.Levels.{int_eq-true}
+use Rattle.lemmas.proofs.Exported.{int_eq-true}
 
 none_some : (v : ℤ) → (let o : Option (Option ℤ) = None in o) ≡ Some (Some v) → ⊥
 none_some v h = cc

@@ -15,7 +15,7 @@ use Rattle.comp_tree.specs.Components.{IsReached}
 use Rattle.comp_tree.specs.Windows.{Window, IsInside, in_whole, seen_through, IsShown, Shows, IsSureAround, LiesSure, LiesSureIn, ReachesTheSame}
 use Rattle.comp_tree.specs.Windows.{WindowShowsItsPixels, SureComponentsAreSeen, SureComponentsAreTheSame, Box, is_in_box, IsDeep, IsDeepIn}
 use Rattle.comp_tree.specs.Windows.{DeepComponentsLieSure}
-use Rattle.comp_tree.proofs.Levels.{int_le_refl}
+use Rattle.lemmas.proofs.Exported.{int_le_refl}
 use Rattle.comp_tree.proofs.Adjacent.{adjacent_ends, adjacent_from, neighbours_four, neighbours_eight}
 use Rattle.comp_tree.proofs.Joining.{joined_left, joined_right, joined_trans, joined_pair, along_joined}
 use Rattle.comp_tree.proofs.Reaching.{below_from_defined, defined_from_at_least, reaches-is_IsReached}
