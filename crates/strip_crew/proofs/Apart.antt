@@ -10,9 +10,9 @@ use Rattle.comp_tree.specs.Joined.{IsPairOf, Joined, Or}
 use Rattle.comp_tree.specs.Forest.{no_node, link_of, IsWithin, IsHigh, IsLink, ComesEarlier, IsForest, StandsFor, JoinSame}
 use Rattle.comp_tree.specs.Grid.{IsAdjacency}
 use Rattle.tree_join.specs.Boundary.{IsBoundary}
-use Rattle.tree_join.specs.Cuts.{IsCutBoundary, IsRowOf}
+use Rattle.tree_join.specs.Strips.{IsRowOf, IsStripPair, IsCutBoundary}
 use Rattle.strip_crew.specs.Run.{Plan}
-use Rattle.strip_crew.specs.Copied.{IsPairBelow, AreCopied, IsPlan}
+use Rattle.strip_crew.specs.Copied.{AreCopied, IsPlan}
 use Rattle.strip_crew.specs.Boundaries.{IsAcross, AreRows, AreApart, IsRowsPair}
 use Rattle.comp_tree.proofs.Exported.{along_joined, joined_pair, joined_sym, int_le-from, at_least_up, same_trans, same_pairs, stands_gives}
 use Rattle.tree_join.proofs.Exported.{strip_inside, strip_low}
@@ -58,7 +58,7 @@ module _ (plan : Plan) (is_plan : IsPlan plan) where
 
   module _ (links : List ℕ) (copied : AreCopied plan (length cut) links) where
     abbrev Pairs : ℕ → ℕ → Type 0
-    Pairs = IsPairBelow values width plan.connect cut (length cut)
+    Pairs = IsStripPair values width plan.connect cut (length cut)
 
     small : 0 + length links ≤ no_node
     small = let n = copied_all plan is_plan links copied in let m = is_plan.plane in let few = plan.plane.shape.within_limits.few_pixels in omega arith

@@ -7,14 +7,15 @@ use Rattle.comp_tree.specs.declared.shape.Shape.{Shape}
 use Rattle.comp_tree.specs.Joined.{Or}
 use Rattle.comp_tree.specs.Forest.{no_node, value_at, IsWithin, IsLink, IsForest, StandsFor, JoinSame}
 use Rattle.comp_tree.specs.Grid.{are_adjacent, IsAdjacency, IsInner}
-use Rattle.tree_join.specs.Groups.{IsInside}
-use Rattle.tree_join.specs.Cuts.{IsCut, IsCutBoundary, IsRowOf, IsStripPair}
+use Rattle.tree_join.specs.Groups.{HasPairsWithin}
+use Rattle.tree_join.specs.Cuts.{IsCut}
+use Rattle.tree_join.specs.Strips.{IsRowOf, IsStripPair, IsCutBoundary}
 use Rattle.comp_tree.proofs.Exported.{same_trans, same_or, same_pairs, stands_from, stands_gives}
 use Rattle.tree_join.proofs.Exported.{forest_groups, groups_stand, cut_all}
 use Rattle.strip_flood.specs.Jobs.{JobView, IsStanding, IsStandingWhereFlooded}
 use Rattle.comp_tree.specs.Raster.{Raster, IsPlane}
 use Rattle.strip_crew.specs.Run.{Plan, IsJobOf, row_at, plan_of}
-use Rattle.strip_crew.specs.Copied.{IsPairBelow, AreCopied, IsPlan}
+use Rattle.strip_crew.specs.Copied.{AreCopied, IsPlan}
 
 or_same : {A : Type 0} (l : List A) (j : ℕ) (d e : A) → j < length l → get_or l j d ≡ get_or l j e
 or_same [] j d e h = absurd (omega arith)
@@ -149,7 +150,7 @@ module _ (plan : Plan) (is_plan : IsPlan plan) where
     other_defined : (p q : ℕ) → are_adjacent values width connect p q ≡ true → is_some (value_at values q) ≡ true
     other_defined p q a = (and_parts _ _ (and_parts _ _ a).0).1
 
-    there : (p q : ℕ) → Or (IsPairBelow values width connect cut i) New p q → IsPairBelow values width connect cut (i + 1) p q
+    there : (p q : ℕ) → Or (IsStripPair values width connect cut i) New p q → IsStripPair values width connect cut (i + 1) p q
     there p q (inl e) = record { adjacent = e.adjacent; strip = e.strip; low = (let l = e.low in omega arith); one = e.one; other = e.other }
     there p q (inr e) = record {
       adjacent = e.adjacent;
@@ -159,7 +160,7 @@ module _ (plan : Plan) (is_plan : IsPlan plan) where
       other = to_row q e.other.low (let l = e.other.high in let s = span in omega arith);
     }
 
-    back : (p q : ℕ) → IsPairBelow values width connect cut (i + 1) p q → Or (IsPairBelow values width connect cut i) New p q
+    back : (p q : ℕ) → IsStripPair values width connect cut (i + 1) p q → Or (IsStripPair values width connect cut i) New p q
     back p q e = ⊎_elim
         (λ (same : e.strip ≡ i). inr (let one = subst (λ (x : ℕ). IsRowOf cut x (p / width)) same e.one in let other = subst (λ (x : ℕ). IsRowOf cut x (q / width)) same e.other in record {
           adjacent = e.adjacent;
@@ -176,19 +177,19 @@ module _ (plan : Plan) (is_plan : IsPlan plan) where
         let forest' : IsForest values (0 + length links) more = subst (λ (x : ℕ). IsForest values x more) (sym at) forest in
         let stands' : StandsFor values (0 + length links) more New = subst (λ (x : ℕ). StandsFor values x more New) (sym at) stands in
         let both = forest_groups values 0 links more small copied.forest forest' in
-        let old_inside : IsInside 0 (length links) (IsPairBelow values width connect cut i) = record {
+        let old_inside : HasPairsWithin 0 (length links) (IsStripPair values width connect cut i) = record {
           one = λ p q e. subst (λ (x : ℕ). IsWithin 0 x p) (sym copied.count) (pair_low p e.strip e.low e.one);
           other = λ p q e. subst (λ (x : ℕ). IsWithin 0 x q) (sym copied.count) (pair_low q e.strip e.low e.other);
         } in
-        let new_inside : IsInside (0 + length links) (length more) New = record {
+        let new_inside : HasPairsWithin (0 + length links) (length more) New = record {
           one = λ p q e. record { low = (let l = e.one.low in omega arith); high = (let l = e.one.high in omega arith) };
           other = λ p q e. record { low = (let l = e.other.low in omega arith); high = (let l = e.other.high in omega arith) };
         } in
-        let all = groups_stand values 0 links more small copied.forest forest' (IsPairBelow values width connect cut i) New old_inside new_inside copied.stands stands' in
+        let all = groups_stand values 0 links more small copied.forest forest' (IsStripPair values width connect cut i) New old_inside new_inside copied.stands stands' in
         record {
           count = omega (arith, length-append links more, copied.count, span);
           forest = both;
-          stands = stands_pairs values 0 (links ++ more) (Or (IsPairBelow values width connect cut i) New) (IsPairBelow values width connect cut (i + 1)) both (omega (arith, length-append links more)) there back all;
+          stands = stands_pairs values 0 (links ++ more) (Or (IsStripPair values width connect cut i) New) (IsStripPair values width connect cut (i + 1)) both (omega (arith, length-append links more)) there back all;
         }
 
     -- what a flooded job says, at the plan's own words
@@ -228,9 +229,9 @@ module _ (plan : Plan) (is_plan : IsPlan plan) where
       let top : row_at plan (length cut) ≡ plan.plane.shape.height = past_or cut (length cut) plan.plane.shape.height (omega arith) in
       let small : length links ≤ 2 ^ 24 = (let c = copied.count in let b = top_small (row_at plan (length cut)) (row_top (length cut)) in omega arith) in
       let n : ℕ = length links in
-      let B : ℕ → ℕ → Type 0 = IsCutBoundary values width connect cut (length cut) in let S : ℕ → ℕ → Type 0 = IsStripPair values width connect cut in let L : ℕ → ℕ → Type 0 = IsPairBelow values width connect cut (length cut) in
-      let strips : JoinSame values 0 n (IsLink 0 links) S = same_trans values 0 n (IsLink 0 links) L S (stands_gives values 0 links copied.forest (omega arith) L copied.stands)
-      (same_pairs values 0 n L S (λ x y e. record { adjacent = e.adjacent; strip = e.strip; one = e.one; other = e.other }) (λ x y e. record { adjacent = e.adjacent; strip = e.strip; low = e.one.inside; one = e.one; other = e.other })) in
+      let B : ℕ → ℕ → Type 0 = IsCutBoundary values width connect cut (length cut) in
+      let S : ℕ → ℕ → Type 0 = IsStripPair values width connect cut (length cut) in
+      let strips : JoinSame values 0 n (IsLink 0 links) S = stands_gives values 0 links copied.forest (omega arith) S copied.stands in
       let all : JoinSame values 0 n (IsLink 0 new) (IsAdjacency values width connect) = same_trans values 0 n (IsLink 0 new) (Or (IsLink 0 links) B) (IsAdjacency values width connect) joined
       (same_trans values 0 n (Or (IsLink 0 links) B) (Or S B) (IsAdjacency values width connect) (same_or values 0 n (IsLink 0 links) S B strips) (cut_all values width connect plan.plane.shape.height cut is_plan.cut n)) in
       stands_from values 0 new forest (omega arith) (IsAdjacency values width connect) (subst (λ (x : ℕ). JoinSame values 0 x (IsLink 0 new) (IsAdjacency values width connect)) (sym long) all)

@@ -18,7 +18,7 @@ use tree_join::join_row;
 // Joins the links at the boundary above `row`, and counts in two new counters.
 fn join_boundary_by<L: Ledger, M: Ledger>(
     moves: Blank,
-    looks: Blank,
+    reads: Blank,
     parents: &mut [u32],
     plane: &Plane,
     connect: Connect,
@@ -26,7 +26,7 @@ fn join_boundary_by<L: Ledger, M: Ledger>(
     row: u32,
 )
     requires moves { (moves.name ≡ L.name) × (moves.parts ≡ L.parts) × (0 < moves.parts) }
-    requires looks { (looks.name ≡ M.name) × (looks.parts ≡ M.parts) × (0 < looks.parts) }
+    requires reads { (reads.name ≡ M.name) × (reads.parts ≡ M.parts) × (0 < reads.parts) }
     requires rows { first_row * plane.now.shape.width + length parents.old ≤ length plane.now.values }
     requires below { first_row < row }
     requires inside { (row + 1) * plane.now.shape.width
@@ -39,9 +39,9 @@ fn join_boundary_by<L: Ledger, M: Ledger>(
         (IsBoundary plane.now.values plane.now.shape.width connect row)) }
 {
     let mut moves = Steps::<L>::start(moves);
-    let mut looks = Steps::<M>::start(looks);
+    let mut reads = Steps::<M>::start(reads);
     join_row(
-        parents, plane, connect, first_row, row, &mut moves, &mut looks,
+        parents, plane, connect, first_row, row, &mut moves, &mut reads,
     );
 }
 

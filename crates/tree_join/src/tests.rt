@@ -45,7 +45,7 @@ fn join_by<L: Ledger, M: Ledger>(
     requires other { (other.name ≡ M.name) × (other.parts ≡ M.parts) × (0 < other.parts) }
 {
     let mut moves = Steps::<L>::start(one);
-    let mut looks = Steps::<M>::start(other);
+    let mut reads = Steps::<M>::start(other);
     let shape = plane.shape();
     for row in rows {
         let row = *row;
@@ -55,7 +55,7 @@ fn join_by<L: Ledger, M: Ledger>(
         if row == 0 || row >= shape.height {
             return false;
         }
-        join_row(parents, plane, connect, 0, row, &mut moves, &mut looks);
+        join_row(parents, plane, connect, 0, row, &mut moves, &mut reads);
     }
     true
 }
@@ -220,8 +220,8 @@ fn a_walk_goes_on_at_a_link_between_its_pixels(rt: HostRuntime) {
 fn skip_by<M: Ledger>(blank: Blank, skips: &Skips, reach: Reach, at: u32) -> Option<u32>
     requires blank { (blank.name ≡ M.name) × (blank.parts ≡ M.parts) × (0 < blank.parts) }
 {
-    let mut looks = Steps::<M>::start(blank);
-    skips.told(reach, at, &mut looks)
+    let mut reads = Steps::<M>::start(blank);
+    skips.told(reach, at, &mut reads)
 }
 
 // The pixel that is put down for this one.
@@ -268,7 +268,7 @@ fn walks_skip_no_further_than_they_may(rt: HostRuntime) {
 fn link_by<M: Ledger>(blank: Blank, parents: &mut [u32], plane: &Plane, p: u32) -> Option<u32>
     requires blank { (blank.name ≡ M.name) × (blank.parts ≡ M.parts) × (0 < blank.parts) }
 {
-    let mut looks = Steps::<M>::start(blank);
+    let mut reads = Steps::<M>::start(blank);
     let shape = plane.shape();
     if parents.len() != shape.pixels() as usize || !is_forest(plane, 0, parents) {
         return None;
@@ -276,7 +276,7 @@ fn link_by<M: Ledger>(blank: Blank, parents: &mut [u32], plane: &Plane, p: u32) 
     if p >= shape.pixels() || !plane.is_defined(p) {
         return None;
     }
-    link_past(parents, plane, 0, p, &mut looks)
+    link_past(parents, plane, 0, p, &mut reads)
 }
 
 // Links `p` past its link, if the links are a forest and `p` is defined.
