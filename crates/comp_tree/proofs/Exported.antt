@@ -7,7 +7,6 @@ pub use Rattle.lemmas.proofs.Exported.{int_eq-true, int_eq_refl, int_le-false, i
 pub use Rattle.lemmas.proofs.Exported.{int_le_trans, int_lt-false, int_lt-from, int_lt-from_not_le, int_lt-true, int_lt_le, paired_append, paired_enumerated}
 pub use Rattle.lemmas.proofs.Exported.{paired_filter, paired_flat_map, paired_from_rising, paired_map, paired_position, rising-filter, rising-pixels}
 pub use Rattle.lemmas.proofs.Exported.{rising-range, same_bool, witness_from_any}
-
 pub use Rattle.comp_tree.proofs.Order.{at_least_cases, at_least_defined, at_least_not_before, at_least_up, before_defined, before_irrefl, before_is}
 pub use Rattle.comp_tree.proofs.Order.{before_other, before_trans, none_is_undefined}
 pub use Rattle.comp_tree.proofs.Joining.{along_joined, at_only, joined_first, joined_left, joined_pair, joined_pairs, joined_second, joined_sym, joined_trans}
