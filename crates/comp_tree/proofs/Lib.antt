@@ -14,7 +14,7 @@ mod Ancestors
 mod OneTree
 mod WellFormed
 mod Values
-mod Ranks
+mod CountsBelow
 mod Walks
 mod Sames
 mod Agreeing

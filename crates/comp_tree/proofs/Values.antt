@@ -24,7 +24,8 @@ in_range-blank zero p v h = absurd (none_some v h)
 in_range-blank (suc n) zero v h = absurd (undefined_some v h)
 in_range-blank (suc n) (suc p) v h = in_range-blank n p v h
 
-pub in_range-set : (xs : List (Option ℤ)) (p : ℕ) (value : Option ℤ) → HasValuesInRange xs → IfSome value (λ v. IsWithinRange v) → HasValuesInRange (slice_set xs p value)
+pub in_range-set : (xs : List (Option ℤ)) (p : ℕ) (value : Option ℤ) → HasValuesInRange xs → IfSome value (λ v. IsWithinRange v)
+    → HasValuesInRange (slice_set xs p value)
 in_range-set [] p value old new q v h = old q v h
 in_range-set (x ∷ xs) zero value old new zero v h = go value new h
   where
@@ -68,12 +69,14 @@ in_range-read (x ∷ xs) zero h = in_range-get (map pixel_of (x ∷ xs)) 0 (pixe
 in_range-read (x ∷ xs) (suc p) h = in_range-read xs p (λ j v e. h (suc j) v e)
 
 -- the pixel that is kept as this number, read from a plane
-pub in_range-number : (numbers : List ℤ) (p : ℕ) (number d : ℤ) → p < length numbers → HasValuesInRange (map pixel_of numbers) → number ≡ get_or numbers p d → IfSome (pixel_of number) (λ v. IsWithinRange v)
+pub in_range-number : (numbers : List ℤ) (p : ℕ) (number d : ℤ) → p < length numbers → HasValuesInRange (map pixel_of numbers) → number ≡ get_or numbers p d
+    → IfSome (pixel_of number) (λ v. IsWithinRange v)
 in_range-number numbers p number d below h e =
     subst (λ o. IfSome o (λ v. IsWithinRange v)) (get_or-map pixel_of numbers p d None below ∙ ap pixel_of (sym e)) (in_range-read numbers p h)
 
 -- a number that was put in is read as the pixel that it was put in for
-pub pixels-set : (numbers : List ℤ) (p : ℕ) (number : ℤ) (value : Option ℤ) → pixel_of number ≡ value → map pixel_of (set numbers p number) ≡ slice_set (map pixel_of numbers) p value
+pub pixels-set : (numbers : List ℤ) (p : ℕ) (number : ℤ) (value : Option ℤ) → pixel_of number ≡ value
+    → map pixel_of (set numbers p number) ≡ slice_set (map pixel_of numbers) p value
 pixels-set numbers p number value e = map-set pixel_of numbers p number ∙ ap (λ (v : Option ℤ). slice_set (map pixel_of numbers) p v) e
 
 -- one value more is kept

@@ -519,5 +519,6 @@ deep_components_lie_sure r s w connect h box sure q plane known deep b path a l 
         × (p / r.shape.width ≤ a / r.shape.width + 1) × (a / r.shape.width ≤ p / r.shape.width + 1) =
         beside connect r.shape.width p a n in
         box_from r.shape.width box a
-        (deep_beside box.left box.right r.shape.width (p % r.shape.width) (a % r.shape.width) d.across (mod_below a r.shape.width (some_columns r.shape)) g.0 g.1)
+        (deep_beside box.left box.right r.shape.width (p % r.shape.width) (a % r.shape.width) d.across
+        (mod_below a r.shape.width (some_columns r.shape)) g.0 g.1)
         (deep_beside box.top box.bottom r.shape.height (p / r.shape.width) (a / r.shape.width) d.along row_few g.2 g.3)
