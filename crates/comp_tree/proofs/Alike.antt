@@ -9,7 +9,7 @@ use Rattle.comp_tree.specs.Grid.{are_neighbours, IsAdjacency}
 use Rattle.comp_tree.specs.Components.{reaches, nodes, node_of, is_in_node}
 use Rattle.comp_tree.specs.Laws.{top_of}
 use Rattle.comp_tree.specs.Nesting.{pixels_of}
-use Rattle.comp_tree.proofs.SameBools.{same_bool}
+use Rattle.lemmas.proofs.Exported.{same_bool}
 use Rattle.comp_tree.proofs.Adjacent.{adjacent_ends, adjacent_from}
 use Rattle.comp_tree.proofs.Reaching.{defined_from_at_least}
 use Rattle.comp_tree.proofs.Nodes.{at_least-lower, level_from_at_least, reaches_end, reaches_start}

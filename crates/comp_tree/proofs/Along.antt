@@ -11,8 +11,8 @@ use Rattle.comp_tree.specs.Joined.{IsPairOf}
 use Rattle.comp_tree.specs.Components.{reaches, representative, nodes, node_of, is_in_node}
 use Rattle.comp_tree.specs.Laws.{top_of}
 use Rattle.comp_tree.specs.Nesting.{pixels_of}
-use Rattle.comp_tree.proofs.SameBools.{same_bool}
-use Rattle.comp_tree.proofs.Members.{IsAmong}
+use Rattle.lemmas.proofs.Exported.{same_bool}
+use Rattle.lemmas.proofs.Exported.{IsAmong}
 use Rattle.comp_tree.proofs.Adjacent.{adjacent_turned}
 use Rattle.comp_tree.proofs.Joining.{joined_pair, along_joined}
 use Rattle.comp_tree.proofs.Reaching.{defined_from_at_least, reaches-is_IsReached}
@@ -21,7 +21,7 @@ use Rattle.comp_tree.proofs.Components.{top-representative}
 use Rattle.comp_tree.proofs.Nesting.{among_pixels, in_node_from_among}
 use Rattle.comp_tree.proofs.Nodes.{IsPlace, IsRepresentative, at_least-lower, is_representative-parts, level_from_at_least, node_of-is, nodes-ordered}
 use Rattle.comp_tree.proofs.Nodes.{reaches_end, reaches_here, reaches_start, reaches_trans, representative-is, representative-unique}
-use Rattle.comp_tree.proofs.Paired.{ArePaired, HasPartnerIn, IsRising, paired_from_rising, rising-pixels}
+use Rattle.lemmas.proofs.Exported.{ArePaired, HasPartnerIn, IsRising, paired_from_rising, rising-pixels}
 
 -- the pairs in their other order
 abbrev pub turned : (ℕ → ℕ → Type 0) → ℕ → ℕ → Type 0

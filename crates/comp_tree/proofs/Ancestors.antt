@@ -6,9 +6,10 @@ use Rattle.std.proofs.lemmas.List.{length-map}
 use Rattle.comp_tree.specs.declared.shape.Connect.{Connect}
 use Rattle.comp_tree.specs.Raster.{Raster, IsPlane, is_defined, level}
 use Rattle.comp_tree.specs.Components.{reaches, representative, nodes, node_of, no_node, is_candidate, parent_of, row_of, tree_of, is_in_node}
-use Rattle.comp_tree.specs.Laws.{top_of, IsNestedIn, LiesStrictlyWithin, PixelsBelongToTheirAncestors, parent_in, IsAncestor, parent, above, AncestorsAreTheLargerNodes, ParentIsTheSmallestLargerNode, RootsHaveNoLargerNode, CandidatesOfOneLevelHaveOneNode}
+use Rattle.comp_tree.specs.Laws.{top_of, IsNestedIn, LiesStrictlyWithin, PixelsBelongToTheirAncestors, parent_in, IsAncestor, parent, above}
+use Rattle.comp_tree.specs.Laws.{AncestorsAreTheLargerNodes, ParentIsTheSmallestLargerNode, RootsHaveNoLargerNode, CandidatesOfOneLevelHaveOneNode}
 use Rattle.comp_tree.proofs.Reaching.{defined_from_at_least}
-use Rattle.comp_tree.proofs.Levels.{int_le_antisym, int_le_from_lt, int_lt_irrefl, int_lt_le, cases_int}
+use Rattle.lemmas.proofs.Exported.{int_le_antisym, int_le_from_lt, int_lt_irrefl, int_lt_le, cases_int}
 use Rattle.comp_tree.proofs.Ordering.{ordered-at, earlier-level}
 use Rattle.comp_tree.proofs.Finding.{length-nodes-le}
 use Rattle.comp_tree.proofs.Nodes
@@ -21,7 +22,8 @@ slice_index-map f [] n h = absurd (omega arith)
 slice_index-map f (x ∷ xs) zero h = refl
 slice_index-map f (x ∷ xs) (suc n) h = slice_index-map f xs n (omega arith)
 
-pub parent_in-rows : (r : Raster) (connect : Connect) (xs : List ℕ) (n : ℕ) → n < length xs → parent_in (map (row_of r connect) xs) n ≡ parent_of r connect (slice_index xs n)
+pub parent_in-rows : (r : Raster) (connect : Connect) (xs : List ℕ) (n : ℕ) → n < length xs
+    → parent_in (map (row_of r connect) xs) n ≡ parent_of r connect (slice_index xs n)
 unfolding row_of
 parent_in-rows r connect [] n h = absurd (omega arith)
 parent_in-rows r connect (x ∷ xs) zero h = refl
@@ -68,12 +70,14 @@ candidate-within r connect m n hm hn k = (
 pub candidate_from_within : (r : Raster) (connect : Connect) (m n : ℕ) → m < length (nodes r connect) → n < length (nodes r connect)
     → LiesStrictlyWithin r connect n m → Nodes.IsCandidate r connect (top_of r connect n) (top_of r connect m)
 unfolding is_in_node
-candidate_from_within r connect m n hm hn w = record { lower = lower (cases_int (level r (top_of r connect m)) (level r (top_of r connect n))); reaches_it = to_n }
+candidate_from_within r connect m n hm hn w =
+    record { lower = lower (cases_int (level r (top_of r connect m)) (level r (top_of r connect n))); reaches_it = to_n }
   where
     to_n : IsTrue (reaches r connect (level r (top_of r connect m)) (top_of r connect m) (top_of r connect n))
     to_n = w.0 (top_of r connect n) (top-here r connect n hn)
 
-    lower : (int_lt (level r (top_of r connect m)) (level r (top_of r connect n)) ≡ true) ⊎ (int_le (level r (top_of r connect n)) (level r (top_of r connect m)) ≡ true)
+    lower : (int_lt (level r (top_of r connect m)) (level r (top_of r connect n)) ≡ true)
+        ⊎ (int_le (level r (top_of r connect n)) (level r (top_of r connect m)) ≡ true)
         → int_lt (level r (top_of r connect m)) (level r (top_of r connect n)) ≡ true
     lower (inl k) = k
     lower (inr k) =
@@ -84,7 +88,8 @@ candidate_from_within r connect m n hm hn w = record { lower = lower (cases_int 
         ∙ w.1.2))
 
 -- what lies within is transitive
-within_trans : (r : Raster) (connect : Connect) (k m n : ℕ) → LiesStrictlyWithin r connect n k → LiesStrictlyWithin r connect k m → LiesStrictlyWithin r connect n m
+within_trans : (r : Raster) (connect : Connect) (k m n : ℕ) → LiesStrictlyWithin r connect n k → LiesStrictlyWithin r connect k m
+    → LiesStrictlyWithin r connect n m
 within_trans r connect k m n a b = ((λ q x. b.0 q (a.0 q x)), (b.1.0, b.1.1, outside (is_in_node r connect n b.1.0) refl))
   where
     outside : (t : Bool) → is_in_node r connect n b.1.0 ≡ t → is_in_node r connect n b.1.0 ≡ false
@@ -101,10 +106,12 @@ pub parent-candidate : (r : Raster) (connect : Connect) (k n : ℕ) → IsPlane 
 parent-candidate r connect k n plane hn hk e = go (parent_of r connect (top_of r connect n)) (Nodes.parent-case r connect (top_of r connect n)) e
   where
     of_node : (q : ℕ) → IsTrue (is_candidate r connect (top_of r connect n) q)
-        → ((s : ℕ) → IsTrue (is_candidate r connect (top_of r connect n) s) → int_le (level r s) (level r q) ≡ true) → node_of r connect q ≡ k → IsParent r connect k n
+        → ((s : ℕ) → IsTrue (is_candidate r connect (top_of r connect n) s) → int_le (level r s) (level r q) ≡ true) → node_of r connect q ≡ k
+        → IsParent r connect k n
     of_node q c top f = record {
       candidate = record {
-        lower = subst (λ (l : ℤ). int_lt l (level r (top_of r connect n)) ≡ true) (sym same_level) (Nodes.candidate-parts r connect (top_of r connect n) q c).lower;
+        lower = subst (λ (l : ℤ). int_lt l (level r (top_of r connect n)) ≡ true) (sym same_level)
+            (Nodes.candidate-parts r connect (top_of r connect n) q c).lower;
         reaches_it = subst (λ (l : ℤ). IsTrue (reaches r connect l (top_of r connect k) (top_of r connect n))) (sym same_level)
             (Nodes.reaches_trans r connect (level r q) (top_of r connect k) q (top_of r connect n)
             (Nodes.reaches_sym r connect (level r q) q (top_of r connect k) to_top) (Nodes.candidate-parts r connect (top_of r connect n) q c).reaches_it);
@@ -113,7 +120,8 @@ parent-candidate r connect k n plane hn hk e = go (parent_of r connect (top_of r
     }
       where
         d : IsTrue (is_defined r q)
-        d = defined_from_at_least r (level r q) q (Nodes.reaches_start r connect (level r q) q (top_of r connect n) (Nodes.candidate-parts r connect (top_of r connect n) q c).reaches_it)
+        d = defined_from_at_least r (level r q) q
+            (Nodes.reaches_start r connect (level r q) q (top_of r connect n) (Nodes.candidate-parts r connect (top_of r connect n) q c).reaches_it)
 
         top_is : top_of r connect k ≡ representative r connect q
         top_is = ap (λ j. get_or (nodes r connect) j 0) (sym f) ∙ (Nodes.node_of-is r connect q d).it_is
@@ -134,14 +142,17 @@ pub parent_below : (r : Raster) (connect : Connect) (k n : ℕ) → n < length (
 parent_below r connect k n hn hk low = go (cases_order k n)
   where
     go : (k ≡ n) ⊎ ((k < n) ⊎ (n < k)) → k < n
-    go (inl e) = absurd (int_lt_irrefl (level r (top_of r connect n)) (subst (λ (j : ℕ). int_lt (level r (top_of r connect j)) (level r (top_of r connect n)) ≡ true) e low))
+    go (inl e) =
+        absurd (int_lt_irrefl (level r (top_of r connect n))
+        (subst (λ (j : ℕ). int_lt (level r (top_of r connect j)) (level r (top_of r connect n)) ≡ true) e low))
     go (inr (inl l)) = l
     go (inr (inr l)) =
         absurd (int_lt_le (level r (top_of r connect k)) (level r (top_of r connect n)) low
         (earlier-level r (top_of r connect n) (top_of r connect k) (ordered-at r (nodes r connect) n k (Nodes.nodes-ordered r connect) l hk)))
 
 -- an ancestor's component is larger
-larger_from_ancestor : (r : Raster) (connect : Connect) (m n : ℕ) → IsPlane r → n < length (nodes r connect) → IsAncestor (tree_of r connect).rows m n → LiesStrictlyWithin r connect n m
+larger_from_ancestor : (r : Raster) (connect : Connect) (m n : ℕ) → IsPlane r → n < length (nodes r connect) → IsAncestor (tree_of r connect).rows m n
+    → LiesStrictlyWithin r connect n m
 larger_from_ancestor r connect m _ plane hn (parent n e h) =
     let hm : m < length (nodes r connect) = omega (arith, length-rows r connect) in
     candidate-within r connect m n hm hn (parent-candidate r connect m n plane hn hm (sym (parent-of_node r connect n hn) ∙ e)).candidate
@@ -162,21 +173,24 @@ ancestor_by r connect (suc fuel) m n plane f hm hn c =
     listed = Nodes.candidate-from r connect (top_of r connect n) (top_of r connect m) c
 
     at_parent : (k : ℕ) → k < length (nodes r connect) → parent_of r connect (top_of r connect n) ≡ k → IsParent r connect k n
-        → (k < fuel → m < length (nodes r connect) → k < length (nodes r connect) → Nodes.IsCandidate r connect (top_of r connect k) (top_of r connect m) → IsAncestor (tree_of r connect).rows m k)
+        → (k < fuel → m < length (nodes r connect) → k < length (nodes r connect) → Nodes.IsCandidate r connect (top_of r connect k) (top_of r connect m)
+        → IsAncestor (tree_of r connect).rows m k)
         → IsAncestor (tree_of r connect).rows m n
     at_parent k hk e p ih = split (cases_int (level r (top_of r connect m)) (level r (top_of r connect k)))
       where
         named : parent_in (tree_of r connect).rows n ≡ k
         named = parent-of_node r connect n hn ∙ e
 
-        split : (int_lt (level r (top_of r connect m)) (level r (top_of r connect k)) ≡ true) ⊎ (int_le (level r (top_of r connect k)) (level r (top_of r connect m)) ≡ true)
+        split : (int_lt (level r (top_of r connect m)) (level r (top_of r connect k)) ≡ true)
+            ⊎ (int_le (level r (top_of r connect k)) (level r (top_of r connect m)) ≡ true)
             → IsAncestor (tree_of r connect).rows m n
         split (inl l) =
             above k n named (let x : length (tree_of r connect).rows ≡ length (nodes r connect) = length-rows r connect in omega arith)
             (ih (let x : k < n = parent_below r connect k n hn hk p.candidate.lower in omega arith) hm hk
             (record {
               lower = l;
-              reaches_it = Nodes.reaches_trans r connect (level r (top_of r connect m)) (top_of r connect m) (top_of r connect n) (top_of r connect k) c.reaches_it
+              reaches_it = Nodes.reaches_trans r connect (level r (top_of r connect m)) (top_of r connect m) (top_of r connect n)
+                  (top_of r connect k) c.reaches_it
                   (Nodes.reaches_sym r connect (level r (top_of r connect m)) (top_of r connect k) (top_of r connect n)
                   (Nodes.reaches_lower r connect (level r (top_of r connect m)) (level r (top_of r connect k)) (top_of r connect k) (top_of r connect n)
                   (int_le_from_lt (level r (top_of r connect m)) (level r (top_of r connect k)) l) p.candidate.reaches_it));
@@ -200,7 +214,8 @@ ancestor_by r connect (suc fuel) m n plane f hm hn c =
                 ∙ number m hm
 
     go : (j : ℕ) → Nodes.ParentCase r connect (top_of r connect n) j → parent_of r connect (top_of r connect n) ≡ j
-        → ((k : ℕ) → k < fuel → m < length (nodes r connect) → k < length (nodes r connect) → Nodes.IsCandidate r connect (top_of r connect k) (top_of r connect m) → IsAncestor (tree_of r connect).rows m k)
+        → ((k : ℕ) → k < fuel → m < length (nodes r connect) → k < length (nodes r connect)
+        → Nodes.IsCandidate r connect (top_of r connect k) (top_of r connect m) → IsAncestor (tree_of r connect).rows m k)
         → IsAncestor (tree_of r connect).rows m n
     go j (Nodes.root none) e ih = absurd (none (top_of r connect m) listed)
     go j (Nodes.child q cq top) e ih =
@@ -261,7 +276,8 @@ pixels_belong_to_their_ancestors r connect n q plane hn d = (upwards, downwards)
     q_here : IsTrue (is_in_node r connect (node_of r connect q) q)
     q_here = (node-component r connect q q d).0 (Nodes.reaches_here r connect (level r q) q (Nodes.at_least-own r q d))
 
-    upwards : IsTrue (reaches r connect (level r (top_of r connect n)) (top_of r connect n) q) → (node_of r connect q ≡ n) ⊎ IsAncestor (tree_of r connect).rows n (node_of r connect q)
+    upwards : IsTrue (reaches r connect (level r (top_of r connect n)) (top_of r connect n) q)
+        → (node_of r connect q ≡ n) ⊎ IsAncestor (tree_of r connect).rows n (node_of r connect q)
     upwards k = split (cases_int (level r (top_of r connect n)) (level r q))
       where
         low : int_le (level r (top_of r connect n)) (level r q) ≡ true

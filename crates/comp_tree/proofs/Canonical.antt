@@ -10,7 +10,7 @@ use Rattle.comp_tree.specs.Forest.{no_node, IsHigh, link_of, IsForest, WayEndsAt
 use Rattle.comp_tree.specs.Components.{reaches, representative, is_candidate, parent_of, node_of}
 use Rattle.comp_tree.specs.Laws.{EachWalkHasOneLast, LastAtOwnLevelIsRepresentative}
 use Rattle.comp_tree.proofs.Joining.{joined_wider}
-use Rattle.comp_tree.proofs.Levels.{int_le_refl, int_lt_le, int_le_from_lt, cases_int}
+use Rattle.lemmas.proofs.Exported.{int_le_refl, int_lt_le, int_le_from_lt, cases_int}
 use Rattle.comp_tree.proofs.Ordering.{earlier-level}
 use Rattle.comp_tree.proofs.Reaching.{reaches-is_IsReached, below_from_defined, defined_from_at_least}
 use Rattle.comp_tree.proofs.Walks.{last_same, last_there, link_earlier}
@@ -41,10 +41,12 @@ module _ (r : Raster) (connect : Connect) (links : List ℕ) (plane : IsPlane r)
     value = k;
   }
 
-  reaches_from : (h : ℤ) (p q : ℕ) → Joined (IsHigh r.values 0 (length links) h) (IsAdjacency r.values r.shape.width connect) p q → IsTrue (reaches r connect h p q)
+  reaches_from : (h : ℤ) (p q : ℕ) → Joined (IsHigh r.values 0 (length links) h) (IsAdjacency r.values r.shape.width connect) p q
+      → IsTrue (reaches r connect h p q)
   reaches_from h p q j = (reaches-is_IsReached r connect h p q).1 (joined_wider (λ x g. g.value) j)
 
-  joined_from : (h : ℤ) (p q : ℕ) → IsTrue (reaches r connect h p q) → Joined (IsHigh r.values 0 (length links) h) (IsAdjacency r.values r.shape.width connect) p q
+  joined_from : (h : ℤ) (p q : ℕ) → IsTrue (reaches r connect h p q)
+      → Joined (IsHigh r.values 0 (length links) h) (IsAdjacency r.values r.shape.width connect) p q
   joined_from h p q k = joined_wider (high_from h) ((reaches-is_IsReached r connect h p q).0 k)
 
   own : (p : ℕ) → IsTrue (is_defined r p) → IsHigh r.values 0 (length links) (level r p) p
@@ -92,7 +94,8 @@ module _ (r : Raster) (connect : Connect) (links : List ℕ) (plane : IsPlane r)
   pub parent_from_link : (p : ℕ) → IsTrue (is_defined r p) → representative r connect p ≡ p → IsTrue (is_defined r (link_of 0 links p))
       → parent_of r connect p ≡ node_of r connect (link_of 0 links p)
   parent_from_link p d e dl =
-      Nodes.parent-is r connect p (link_of 0 links p) (Nodes.candidate-from r connect p (link_of 0 links p) (record { lower = lower; reaches_it = joined })) highest
+      Nodes.parent-is r connect p (link_of 0 links p)
+      (Nodes.candidate-from r connect p (link_of 0 links p) (record { lower = lower; reaches_it = joined })) highest
     where
       low : IsFalse (is_at_least r (level r p) (link_of 0 links p))
       low = link_from_representative p d e
@@ -107,10 +110,12 @@ module _ (r : Raster) (connect : Connect) (links : List ℕ) (plane : IsPlane r)
       at_link = own (link_of 0 links p) dl
 
       p_in : IsHigh r.values 0 (length links) (level r (link_of 0 links p)) p
-      p_in = high_from (level r (link_of 0 links p)) p (Nodes.at_least-from r (level r (link_of 0 links p)) p d (int_le_from_lt (level r (link_of 0 links p)) (level r p) lower))
+      p_in = high_from (level r (link_of 0 links p)) p
+          (Nodes.at_least-from r (level r (link_of 0 links p)) p d (int_le_from_lt (level r (link_of 0 links p)) (level r p) lower))
 
       joined : IsTrue (reaches r connect (level r (link_of 0 links p)) (link_of 0 links p) p)
-      joined = let l : WayEndsAt r.values 0 links (level r (link_of 0 links p)) (link_of 0 links p) (representative r connect (link_of 0 links p)) = last_own (link_of 0 links p) dl in
+      joined = let l : WayEndsAt r.values 0 links (level r (link_of 0 links p)) (link_of 0 links p) (representative r connect (link_of 0 links p)) =
+          last_own (link_of 0 links p) dl in
           reaches_from (level r (link_of 0 links p)) (link_of 0 links p) p
           ((stands.joins (level r (link_of 0 links p)) (link_of 0 links p) p at_link p_in).0 (representative r connect (link_of 0 links p), (l, go p_in l)))
 

@@ -1,5 +1,3 @@
-mod Levels
-mod Members
 mod Order
 mod Joining
 mod Labels
@@ -16,7 +14,7 @@ mod Ancestors
 mod OneTree
 mod WellFormed
 mod Values
-mod Ranks
+mod CountsBelow
 mod Walks
 mod Sames
 mod Agreeing
@@ -25,8 +23,6 @@ mod Representatives
 mod Canonical
 mod Shapes
 mod Writing
-mod SameBools
-mod Paired
 mod Along
 mod Alike
 mod Windows

@@ -7,7 +7,7 @@ use Rattle.comp_tree.specs.Raster.{Raster, pixels, level, is_defined}
 use Rattle.comp_tree.specs.Components.{nodes, is_in_node}
 use Rattle.comp_tree.specs.Nesting.{pixels_of, lies_within}
 use Rattle.comp_tree.specs.Laws.{top_of, IsNestedIn, LiesWithinIsInclusion}
-use Rattle.comp_tree.proofs.Members.{IsAmong, among-filter, among_from_filter}
+use Rattle.lemmas.proofs.Exported.{IsAmong, among-filter, among_from_filter}
 use Rattle.comp_tree.proofs.Reaching.{among_from_defined}
 use Rattle.comp_tree.proofs.Components.{top-here}
 use Rattle.comp_tree.proofs.Nodes

@@ -12,9 +12,11 @@ sided width height limits = record { width = width; height = height; within_limi
 one_limits : (width height : ℕ) → IsProp (IsWithinLimits width height)
 one_limits width height = hlevel le_prop
 
-same_sides : (width height w h : ℕ) (limits : IsWithinLimits width height) (others : IsWithinLimits w h) → width ≡ w → height ≡ h → sided width height limits ≡ sided w h others
+same_sides : (width height w h : ℕ) (limits : IsWithinLimits width height) (others : IsWithinLimits w h) → width ≡ w → height ≡ h
+    → sided width height limits ≡ sided w h others
 same_sides width height w h limits others p q =
-    let one : (more : IsWithinLimits width height) → sided width height limits ≡ sided width height more = λ more. ap (sided width height) (one_limits width height limits more) in
+    let one : (more : IsWithinLimits width height) → sided width height limits ≡ sided width height more =
+    λ more. ap (sided width height) (one_limits width height limits more) in
     let rows : (more : IsWithinLimits width h) → sided width height limits ≡ sided width h more =
     subst (λ (y : ℕ). (more : IsWithinLimits width y) → sided width height limits ≡ sided width y more) q one in
     subst (λ (x : ℕ). (more : IsWithinLimits x h) → sided width height limits ≡ sided x h more) p rows others
@@ -33,7 +35,8 @@ within_from width height limits =
     let few_pixels = limits.few_pixels in
     grind (arith, nat_tests)
 
-shape_if-true : (width height : ℕ) (within : Bool) (limits : within ≡ true → IsWithinLimits width height) (s : Shape) → within ≡ true → s.width ≡ width → s.height ≡ height → shape_if width height within limits ≡ Some s
+shape_if-true : (width height : ℕ) (within : Bool) (limits : within ≡ true → IsWithinLimits width height) (s : Shape) → within ≡ true → s.width ≡ width
+    → s.height ≡ height → shape_if width height within limits ≡ Some s
 shape_if-true width height true limits s h p q = ap Some (sym (shape_by_sides s (sided width height (limits refl)) p q))
 shape_if-true width height false limits s h p q = absurd (cc)
 
@@ -41,4 +44,5 @@ shape_if-true width height false limits s h p q = absurd (cc)
 pub shape_of_sides : (width height : ℕ) (s : Shape) → s.width ≡ width → s.height ≡ height → shape_of width height ≡ Some s
 unfolding shape_of
 shape_of_sides width height s p q =
-    shape_if-true width height (fits_limits width height) _ s (within_from width height (subst (λ x. IsWithinLimits x height) p (subst (λ y. IsWithinLimits s.width y) q s.within_limits))) p q
+    shape_if-true width height (fits_limits width height) _ s
+    (within_from width height (subst (λ x. IsWithinLimits x height) p (subst (λ y. IsWithinLimits s.width y) q s.within_limits))) p q

@@ -15,7 +15,7 @@ use Rattle.comp_tree.specs.Components.{IsReached}
 use Rattle.comp_tree.specs.Windows.{Window, IsInside, in_whole, seen_through, IsShown, Shows, IsSureAround, LiesSure, LiesSureIn, ReachesTheSame}
 use Rattle.comp_tree.specs.Windows.{WindowShowsItsPixels, SureComponentsAreSeen, SureComponentsAreTheSame, Box, is_in_box, IsDeep, IsDeepIn}
 use Rattle.comp_tree.specs.Windows.{DeepComponentsLieSure}
-use Rattle.comp_tree.proofs.Levels.{int_le_refl}
+use Rattle.lemmas.proofs.Exported.{int_le_refl}
 use Rattle.comp_tree.proofs.Adjacent.{adjacent_ends, adjacent_from, neighbours_four, neighbours_eight}
 use Rattle.comp_tree.proofs.Joining.{joined_left, joined_right, joined_trans, joined_pair, along_joined}
 use Rattle.comp_tree.proofs.Reaching.{below_from_defined, defined_from_at_least, reaches-is_IsReached}
@@ -519,5 +519,6 @@ deep_components_lie_sure r s w connect h box sure q plane known deep b path a l 
         × (p / r.shape.width ≤ a / r.shape.width + 1) × (a / r.shape.width ≤ p / r.shape.width + 1) =
         beside connect r.shape.width p a n in
         box_from r.shape.width box a
-        (deep_beside box.left box.right r.shape.width (p % r.shape.width) (a % r.shape.width) d.across (mod_below a r.shape.width (some_columns r.shape)) g.0 g.1)
+        (deep_beside box.left box.right r.shape.width (p % r.shape.width) (a % r.shape.width) d.across
+        (mod_below a r.shape.width (some_columns r.shape)) g.0 g.1)
         (deep_beside box.top box.bottom r.shape.height (p / r.shape.width) (a / r.shape.width) d.along row_few g.2 g.3)

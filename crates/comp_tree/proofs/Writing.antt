@@ -1,5 +1,6 @@
 -- Planes that are written pixel by pixel: at the end each pixel is the one that was asked for.
-use Rattle.std.proofs.Common.{◌≡◌, ℕ, ◌+◌, ◌<◌, ◌≤◌, List, length, map, get_or, set, refl, sym, ap, ◌∙◌, arith, ◌⊎◌, inl, inr, get_or-set_other, get_or-set_same}
+use Rattle.std.proofs.Common.{◌≡◌, ℕ, ◌+◌, ◌<◌, ◌≤◌, List, length, map, get_or, set, refl, sym, ap, ◌∙◌, arith, ◌⊎◌, inl, inr, get_or-set_other}
+use Rattle.std.proofs.Common.{get_or-set_same}
 use Rattle.std.specs.Prelude.{ℤ, Option, None}
 use Rattle.std.specs.List.{range_with_len}
 use Rattle.std.proofs.lemmas.Bool.{cases_lt}
@@ -28,10 +29,12 @@ written_next r old new f n m v h lt e is next = record {
         let same : p ≡ n = omega arith in
         ap (λ (q : ℕ). get_or (set old.values n v) q None) same ∙ get_or-set_same old.values n v None (omega arith) ∙ e ∙ ap f (sym same)
 
-pub written_all : (r new : Raster) (f : ℕ → Option ℤ) (n : ℕ) → IsWritten r f n new → length r.values ≤ n → new ≡ record { shape = r.shape; values = map f (pixels r) }
+pub written_all : (r new : Raster) (f : ℕ → Option ℤ) (n : ℕ) → IsWritten r f n new → length r.values ≤ n
+    → new ≡ record { shape = r.shape; values = map f (pixels r) }
 unfolding pixels
 written_all r new f n h le =
-    let vs : new.values ≡ map f (range_with_len 0 (length r.values)) = fill_by_all f new.values (length r.values) None h.one_each (λ k lt. h.written k (omega arith)) in
+    let vs : new.values ≡ map f (range_with_len 0 (length r.values)) =
+    fill_by_all f new.values (length r.values) None h.one_each (λ k lt. h.written k (omega arith)) in
     λ i. record { shape = h.shape_is i; values = vs i }
 
 pub written_itself : (r new : Raster) (n : ℕ) → IsWritten r (value_at r.values) n new → length r.values ≤ n → new ≡ r

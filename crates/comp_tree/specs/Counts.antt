@@ -1,6 +1,6 @@
 -- Model: counts of pixels.
 use Rattle.std.specs.Prelude.{ℕ, zero, suc, Bool, cond, is_some, ◌+◌, List, Option, ℤ}
-use Rattle.comp_tree.specs.Raster.{value_at, is_before}
+use Rattle.comp_tree.specs.Raster.{value_at}
 
 -- how many numbers below n pass the test
 abbrev pub count_below : (ℕ → Bool) → ℕ → ℕ
@@ -15,8 +15,3 @@ sum_below f (suc n) = sum_below f n + f n
 -- how many of the count pixels from first on are defined
 abbrev pub count_defined : List (Option ℤ) → ℕ → ℕ → ℕ
 count_defined values first count = count_below (λ k. is_some (value_at values (first + k))) count
-
--- how many of these pixels are earlier than p
-abbrev pub rank : List (Option ℤ) → ℕ → ℕ → ℕ → ℕ
-rank values first count p =
-    count_below (λ k. is_before (value_at values (first + k)) (first + k) (value_at values p) p) count

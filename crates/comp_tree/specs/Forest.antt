@@ -68,7 +68,3 @@ StandsForAll r connect links = StandsFor r.values 0 links (IsAdjacency r.values 
 -- E and F join the same pixels at each level
 pub record JoinSame (values : List (Option ℤ)) (first count : ℕ) (E F : ℕ → ℕ → Type 0) : Type 0 where
   pub same : (h : ℤ) (p q : ℕ) → Joined (IsHigh values first count h) E p q ↔ Joined (IsHigh values first count h) F p q
-
--- both planes have the same values at the count pixels from first on
-pub record Agree (values others : List (Option ℤ)) (first count : ℕ) : Type 0 where
-  pub same : (p : ℕ) → IsWithin first count p → value_at values p ≡ value_at others p

@@ -6,6 +6,7 @@ pub mod Grid
 pub mod Joined
 pub mod Forest
 pub mod Counts
+pub mod EarlierCounts
 pub mod ComponentTree
 pub mod Reaches
 pub mod Components

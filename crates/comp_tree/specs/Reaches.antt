@@ -2,15 +2,10 @@
 -- value that can be computed, as the least pixel that is reached, read this test. The pixels get labels, at first each its own;
 -- a pair gives all that have its first pixel's label its second one's. In the end pixels have the same label exactly where the
 -- pairs lead from one to the other.
-use Rattle.std.specs.Prelude.{ℕ, Bool, cond, ◌&&◌, ◌||◌, ◌==◌, List, [], ◌∷◌, map, filter, flat_map, ℤ}
-use Rattle.std.specs.List.{list_any}
+use Rattle.std.specs.Prelude.{ℕ, Bool, cond, ◌&&◌, ◌==◌, List, [], ◌∷◌, map, filter, flat_map, ℤ}
 use Rattle.comp_tree.specs.declared.shape.Connect.{Connect}
 use Rattle.comp_tree.specs.Raster.{Raster, pixels, is_at_least}
 use Rattle.comp_tree.specs.Grid.{are_adjacent}
-
--- a list of pairs has the pair of a and b, in either order
-unfoldable pub is_pair : List (ℕ × ℕ) → ℕ → ℕ → Bool
-is_pair pairs a b = list_any (λ e. (e.0 == a) && (e.1 == b) || (e.0 == b) && (e.1 == a)) pairs
 
 abbrev pub relabel : ℕ × ℕ → (ℕ → ℕ) → ℕ → ℕ
 relabel e label p = cond (label p == label e.0) (label e.1) (label p)

@@ -1,4 +1,4 @@
--- Model: how a plane keeps its pixels: a defined pixel as its value, and an undefined one as a number that is no value.
+-- Bookkeeping: how a plane keeps its pixels: a defined pixel as its value, and an undefined one as a number that is no value.
 use Rattle.std.specs.Prelude.{◌^◌, ℤ, pos, neg_ℤ, Option, Some, None, cond}
 use Rattle.std.specs.Ordering.{int_eq}
 

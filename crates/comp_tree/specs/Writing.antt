@@ -1,4 +1,4 @@
--- Model: planes that are written pixel by pixel.
+-- Bookkeeping: planes that are written pixel by pixel.
 use Rattle.std.specs.Prelude.{◌≡◌, ℕ, ◌<◌, ℤ, length, Option}
 use Rattle.comp_tree.specs.Raster.{Raster, value_at}
 

@@ -11,8 +11,9 @@ use arrayvec::ArrayVec;
 /// Whether they are defined is not asked.
 pub fn neighbours(shape: Shape, connect: Connect, p: u32) -> ArrayVec<u32, 8>
     requires { p < shape.width * shape.height }
-    ensures { result.items
-        ≡ filter (are_neighbours connect shape.width p) (range_with_len 0 (shape.width * shape.height)) }
+    ensures { result.items ≡ filter
+        (are_neighbours connect shape.width p)
+        (range_with_len 0 (shape.width * shape.height)) }
 {
     let y = p / shape.width;
     let first = y.saturating_sub(1);

@@ -47,7 +47,8 @@ impl Model for Tree {
 impl Tree {
     /// A tree of these rows, in which every number is that of a pixel or of a row, or `NONE`.
     pub fn of(shape: Shape, rows: Vec<NodeRow>, node_of: Vec<u32>) -> Tree
-        requires { IsWellFormed (record { shape = shape; rows = rows.items; node_of = node_of.items }) }
+        requires { IsWellFormed
+            (record { shape = shape; rows = rows.items; node_of = node_of.items }) }
         ensures { result ≡ record { shape = shape; rows = rows.items; node_of = node_of.items } }
     {
         Tree {

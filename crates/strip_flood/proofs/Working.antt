@@ -9,12 +9,12 @@ use Rattle.std.proofs.lemmas.Option.{slice_get_past, slice_get-get_or}
 use Rattle.std.specs.declared.alloc.Global.{Global}
 use Rattle.std.specs.declared.vec.Vec.{Vec}
 use Rattle.comp_tree.specs.declared.shape.Connect.{Connect}
-use Rattle.comp_tree.specs.Forest.{Agree, no_node, value_at, HasValue, ReachesLevel, ComesBefore, IsWithin, link_of, IsForest, StandsFor}
+use Rattle.comp_tree.specs.Forest.{no_node, value_at, HasValue, ReachesLevel, ComesBefore, IsWithin, link_of, IsForest, StandsFor}
 use Rattle.comp_tree.specs.Limits.{IsWithinLimits}
 use Rattle.comp_tree.specs.Raster.{Raster}
 use Rattle.comp_tree.specs.Counts.{count_below, sum_below, count_defined}
 use Rattle.comp_tree.specs.Grid.{are_adjacent, are_neighbours, IsInner}
-use Rattle.comp_tree.proofs.Exported.{before_is, int_le-true, int_le-from, stands_inner_agree, forest_agree}
+use Rattle.comp_tree.proofs.Exported.{Agree, before_is, int_le-true, int_le-from, stands_inner_agree, forest_agree}
 use Rattle.strip_flood.specs.declared.strip.Strip.{Strip}
 use Rattle.strip_flood.specs.declared.flood.Flood.{Flood}
 use Rattle.strip_flood.specs.Flood.{Ground, as_ground, list_at, direction, IsOf, rank_of, cursor_of, IsInQueue, IsEarliestKept, IsOpen, IsRanked, IsFair, IsTurning, HasOffsets, seen_count, is_looked, looks}

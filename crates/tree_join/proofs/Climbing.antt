@@ -5,12 +5,12 @@ use Rattle.std.proofs.lemmas.Bool.{cases_eq, true≢false}
 use Rattle.std.proofs.lemmas.List.{get_or-set_same, get_or-set_other, length-set, get_or-replicate, length-replicate}
 use Rattle.std.proofs.lemmas.Grind.{get_or_default_zero}
 use Rattle.comp_tree.specs.Joined.{Joined, Or, Only}
-use Rattle.comp_tree.specs.Counts.{rank}
+use Rattle.comp_tree.specs.EarlierCounts.{earlier_count}
 use Rattle.comp_tree.specs.Forest.{no_node, value_at, HasValue, ReachesLevel, IsWithin, IsHigh, ComesEarlier, link_of, IsLink, IsForest, JoinSame, IsPixel}
 use Rattle.tree_join.specs.Skips.{IsSkip, AreSkips, IsPutDown, IsLeft, IsNoted}
 use Rattle.tree_join.specs.Walks.{AreLike, IsWalk, IsUp}
 use Rattle.tree_join.proofs.Shorter.{at_least_value}
-use Rattle.comp_tree.proofs.Exported.{int_le_refl, joined_wider, joined_trans, joined_sym, joined_left, joined_pair, joined_pairs, joined_within, joined_first, joined_second, at_only, at_least_not_before, before_defined, before_irrefl, before_trans, before_other, same_itself, same_trans, same_sym, same_or, same_turned, high_up, rank_less}
+use Rattle.comp_tree.proofs.Exported.{int_le_refl, joined_wider, joined_trans, joined_sym, joined_left, joined_pair, joined_pairs, joined_within, joined_first, joined_second, at_only, at_least_not_before, before_defined, before_irrefl, before_trans, before_other, same_itself, same_trans, same_sym, same_or, same_turned, high_up, earlier_count_less}
 
 own_value : (v : Option ℤ) → HasValue v → ReachesLevel (unwrap_or v (pos 0)) v
 own_value (Some v) d = int_le_refl v
@@ -123,12 +123,12 @@ module _ (values : List (Option ℤ)) (first count : ℕ) where
         (let hb : IsHigh values first count h b = subst (IsHigh values first count h) o.1 hy in let hc : IsHigh values first count h c = late_high b c k.pixel late h hb in
         joined_trans (joined_pairs (λ u v e. inl e) (k.joins h hc)) (joined_second E (Only c b) c b hc hb (refl, refl)))
 
-  -- a pixel that is not earlier than b has no lower rank
-  pub late_rank : (b c : ℕ) → IsPixel values first count b → IsPixel values first count c → (ComesEarlier values c b → ⊥) → rank values first count b ≤ rank values first count c
-  late_rank b c pb pc late = ⊎_elim
-      (λ (e : c ≡ b). subst (λ x. rank values first count b ≤ rank values first count x) (sym e) (omega arith))
-      (λ (ne : c ≡ b → ⊥). let l : rank values first count b < rank values first count c
-      = rank_less values first count c b pb.within (before_other (value_at values c) (value_at values b) c b pc.value pb.value ne late) in omega arith)
+  -- a pixel that is not earlier than b has no fewer earlier ones
+  pub late_not_less : (b c : ℕ) → IsPixel values first count b → IsPixel values first count c → (ComesEarlier values c b → ⊥) → earlier_count values first count b ≤ earlier_count values first count c
+  late_not_less b c pb pc late = ⊎_elim
+      (λ (e : c ≡ b). subst (λ x. earlier_count values first count b ≤ earlier_count values first count x) (sym e) (omega arith))
+      (λ (ne : c ≡ b → ⊥). let l : earlier_count values first count b < earlier_count values first count c
+      = earlier_count_less values first count c b pb.within (before_other (value_at values c) (value_at values b) c b pc.value pb.value ne late) in omega arith)
       (cases_eq c b)
 
   pub earlier_late : (a b : ℕ) → ComesEarlier values a b → ComesEarlier values b a → ⊥
@@ -248,8 +248,8 @@ module _ (values : List (Option ℤ)) (first : ℕ) (start : List ℕ) (p b : �
     pub climb_walk : IsWalk values first links from to at b
     climb_walk = climb_on links from to at w.same_length w.like w.here w.late w.walk
 
-    pub climb_nearer : (new : List ℕ) (next : ℕ) → length new ≡ length links → IsUp values first links at b next → rank values first (length new) next < rank values first (length links) at
-    climb_nearer new next e u = subst (λ n. rank values first n next < rank values first (length links) at) (sym e) (rank_less values first (length links) at next u.skip.pixel.within u.earlier)
+    pub climb_nearer : (new : List ℕ) (next : ℕ) → length new ≡ length links → IsUp values first links at b next → earlier_count values first (length new) next < earlier_count values first (length links) at
+    climb_nearer new next e u = subst (λ n. earlier_count values first n next < earlier_count values first (length links) at) (sym e) (earlier_count_less values first (length links) at next u.skip.pixel.within u.earlier)
 
     module _ (new : List ℕ) (e : length new ≡ length links) (l : AreLike values first links new) where
       pub climb_like : AreLike values first start new
@@ -293,8 +293,8 @@ module _ (values : List (Option ℤ)) (first : ℕ) (start : List ℕ) (p b : �
           late = u.late;
         }
 
-        pub climb_rank : rank values first (length start) next < rank values first (length start) at
-        climb_rank = rank_less values first (length start) at next up.pixel.within u.earlier
+        pub climb_less : earlier_count values first (length start) next < earlier_count values first (length start) at
+        climb_less = earlier_count_less values first (length start) at next up.pixel.within u.earlier
 
 -- the pair is the same one turned
 pub joined_turned : (values : List (Option ℤ)) (first : ℕ) (start new : List ℕ) (p q : ℕ) → JoinSame values first (length start) (IsLink first new) (Or (IsLink first start) (Only q p))

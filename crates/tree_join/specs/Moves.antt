@@ -2,11 +2,12 @@
 use Rattle.std.specs.Prelude.{◌≡◌, ℕ, max, cond, is_some, ◌-◌, ◌+◌, ◌*◌, ◌<◌, ◌≤◌, ◌⊎◌, List, length, Option, Some, None, ℤ}
 use Rattle.comp_tree.specs.Joined.{Or, Only}
 use Rattle.comp_tree.specs.Forest.{no_node, value_at, HasValue, link_of, ComesEarlier, IsLink, JoinSame}
-use Rattle.comp_tree.specs.Counts.{count_defined, rank}
+use Rattle.comp_tree.specs.Counts.{count_defined}
+use Rattle.comp_tree.specs.EarlierCounts.{earlier_count}
 
--- the greater rank of two pixels
+-- the greater number of earlier pixels that one of two has
 abbrev pub furthest : List (Option ℤ) → ℕ → ℕ → ℕ → ℕ → ℕ
-furthest values first count a b = max (rank values first count a) (rank values first count b)
+furthest values first count a b = max (earlier_count values first count a) (earlier_count values first count b)
 
 -- What one move does with the links and the two pixels at hand: it ends the walk, or gives the two pixels that are left
 -- to join. Either way it joins what was joined before, and the pair.
@@ -21,7 +22,7 @@ pub record IsMoved (values : List (Option ℤ)) (first : ℕ) (old new : List �
 abbrev pub IsLastAbove : List (Option ℤ) → ℕ → List ℕ → ℕ → ℕ → Type 0
 IsLastAbove values first links a b = (link_of first links a ≡ no_node) ⊎ ComesEarlier values (link_of first links a) b
 
--- What a turn from a and b counts: at most `most` for each rank that it leaves behind, and where it is the last one, as many again.
+-- What a turn from a and b counts: at most `most` for each earlier pixel that it leaves behind, and where it is the last one, as many again.
 abbrev pub IsSpent : List (Option ℤ) → ℕ → ℕ → ℕ → ℕ → ℕ → ℕ → ℕ → Option (ℕ × ℕ) → Type 0
 IsSpent values first count a b most old new None = new ≤ old + most * furthest values first count a b + most
 IsSpent values first count a b most old new (Some rest) = new + most * furthest values first count rest.0 rest.1 ≤ old + most * furthest values first count a b

@@ -2,7 +2,8 @@
 
 ghost use Rattle.std.specs.Prelude.{◌≡◌, ℕ, ◌+◌, ◌*◌, ◌<◌, ◌≤◌, length, slice_index, MatchOption, IfSome};
 ghost use Rattle.comp_tree.specs.Joined.{Or, Only};
-ghost use Rattle.comp_tree.specs.Counts.{count_defined, rank};
+ghost use Rattle.comp_tree.specs.Counts.{count_defined};
+ghost use Rattle.comp_tree.specs.EarlierCounts.{earlier_count};
 ghost use Rattle.comp_tree.specs.Forest.{no_node, ComesEarlier, IsForest, IsPixel, IsLink, JoinSame, link_of};
 ghost use Rattle.tree_join.specs.Moves.{IsEnded, IsMoved, IsLastAbove, IsSpent};
 ghost use Rattle.tree_join.specs.Skips.{IsSkip};
@@ -157,11 +158,11 @@ fn climb<L: Ledger, M: Ledger>(
     ensures last { IsLastAbove plane.now.values first parents.new result b }
     ensures walk { IsWalk plane.now.values first parents.new skips.new.from skips.new.to result b }
     ensures later { moves.old ≤ moves.new }
-    ensures cost { moves.new + rank plane.now.values first (length parents.old) result
-        ≤ moves.old + rank plane.now.values first (length parents.old) p }
+    ensures cost { moves.new + earlier_count plane.now.values first (length parents.old) result
+        ≤ moves.old + earlier_count plane.now.values first (length parents.old) p }
     ensures each { moves.new + looks.old ≤ moves.old + looks.new }
-    ensures looks { looks.new + 4 * rank plane.now.values first (length parents.old) result
-        ≤ looks.old + 4 * rank plane.now.values first (length parents.old) p + 4 }
+    ensures looks { looks.new + 4 * earlier_count plane.now.values first (length parents.old) result
+        ≤ looks.old + 4 * earlier_count plane.now.values first (length parents.old) p + 4 }
 {
     let mut at = p;
     let mut near = p;

@@ -1,7 +1,7 @@
 use Rattle.std.proofs.Common.{length, arith, ◌<◌}
-use Rattle.comp_tree.specs.Counts.{rank}
+use Rattle.comp_tree.specs.EarlierCounts.{earlier_count}
 use Rattle.tree_join.proofs.walk.climb.Goals as goal
-use Rattle.tree_join.proofs.Climbing.{climb_none, climb_walk, climb_like, climb_more, climb_rank, climb_nearer, climb_ended}
+use Rattle.tree_join.proofs.Climbing.{climb_none, climb_walk, climb_like, climb_more, climb_less, climb_nearer, climb_ended}
 
 pub loop-next-init : goal.loop-next-init
 loop-next-init g c = record {
@@ -21,8 +21,8 @@ loop-next-smaller g c = climb_nearer c.args.plane.now.values c.args.first c.args
 
 pub loop-next-preserved : goal.loop-next-preserved
 loop-next-preserved g c =
-    let less : rank c.args.plane.now.values c.args.first (length c.args.parents.now) c.in-Some.next < rank c.args.plane.now.values c.args.first (length c.args.parents.now) c.loop-next.at
-    = climb_rank c.args.plane.now.values c.args.first c.args.parents.now c.args.p c.args.b c.loop-next.parents c.loop-next.skips.from c.loop-next.skips.to c.loop-next.near c.loop-next.far c.loop-next.at c.loop-next.invariant.climbing
+    let less : earlier_count c.args.plane.now.values c.args.first (length c.args.parents.now) c.in-Some.next < earlier_count c.args.plane.now.values c.args.first (length c.args.parents.now) c.loop-next.at
+    = climb_less c.args.plane.now.values c.args.first c.args.parents.now c.args.p c.args.b c.loop-next.parents c.loop-next.skips.from c.loop-next.skips.to c.loop-next.near c.loop-next.far c.loop-next.at c.loop-next.invariant.climbing
     c.next_up.new.parents c.next_up.auto.parents c.next_up.ensures.like c.pass-near.new.self.from c.pass-near.new.self.to c.pass-far.new.self.from c.pass-far.new.self.to c.in-Some.next c.pass-near.result c.pass-far.result c.in-Some.ensures.up in
     record {
       climbing = climb_more c.args.plane.now.values c.args.first c.args.parents.now c.args.p c.args.b c.loop-next.parents c.loop-next.skips.from c.loop-next.skips.to c.loop-next.near c.loop-next.far c.loop-next.at c.loop-next.invariant.climbing

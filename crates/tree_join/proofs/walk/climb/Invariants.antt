@@ -1,5 +1,5 @@
 use Rattle.std.proofs.Common.{◌+◌, ◌*◌, ◌≤◌, length}
-use Rattle.comp_tree.specs.Counts.{rank}
+use Rattle.comp_tree.specs.EarlierCounts.{earlier_count}
 use Rattle.tree_join.proofs.Climbing.{IsClimbing}
 use Rattle.tree_join.proofs.walk.climb.Given as goal
 
@@ -7,10 +7,10 @@ abbrev pub invariant-loop-next : goal.invariant-loop-next
 invariant-loop-next g l = record {
   climbing : IsClimbing l.plane.values l.first l.initial.parents l.parents l.skips.from l.skips.to l.p l.b l.near l.far l.at;
   later : l.initial.moves ≤ l.moves;
-  cost : l.moves + rank l.plane.values l.first (length l.initial.parents) l.at ≤ l.initial.moves + rank l.plane.values l.first (length l.initial.parents) l.p;
+  cost : l.moves + earlier_count l.plane.values l.first (length l.initial.parents) l.at ≤ l.initial.moves + earlier_count l.plane.values l.first (length l.initial.parents) l.p;
   each : l.moves + l.initial.looks ≤ l.initial.moves + l.looks;
-  looks : l.looks + 4 * rank l.plane.values l.first (length l.initial.parents) l.at ≤ l.initial.looks + 4 * rank l.plane.values l.first (length l.initial.parents) l.p;
+  looks : l.looks + 4 * earlier_count l.plane.values l.first (length l.initial.parents) l.at ≤ l.initial.looks + 4 * earlier_count l.plane.values l.first (length l.initial.parents) l.p;
 }
 
 abbrev pub decreases-loop-next : goal.decreases-loop-next
-decreases-loop-next g l = rank l.plane.values l.first (length l.parents) l.at
+decreases-loop-next g l = earlier_count l.plane.values l.first (length l.parents) l.at

@@ -9,8 +9,12 @@ use Rattle.comp_tree.proofs.plane.Plane.blank.Goals as goal
 pub invariant_of-result : goal.invariant_of-result
 invariant_of-result c =
     let items : c.in_ok-numbers.numbers.items ≡ replicate c.pixels-count.result undefined_number = c.in_ok-numbers.ensures.items_if_clones_equal (λ y e. e) in
-    let pixels : map pixel_of c.in_ok-numbers.numbers.items ≡ replicate c.pixels-count.result None = ap (map pixel_of) items ∙ pixels-replicate c.pixels-count.result in
-    (ap length items ∙ length-replicate c.pixels-count.result undefined_number ∙ c.pixels-count.ensures.product, subst HasValuesInRange (sym pixels) (in_range-blank c.pixels-count.result))
+    let pixels : map pixel_of c.in_ok-numbers.numbers.items ≡ replicate c.pixels-count.result None =
+    ap (map pixel_of) items ∙ pixels-replicate c.pixels-count.result in (
+      ap length items ∙ length-replicate c.pixels-count.result undefined_number
+          ∙ c.pixels-count.ensures.product,
+      subst HasValuesInRange (sym pixels) (in_range-blank c.pixels-count.result),
+    )
 
 pub returns-clause-undefined : goal.returns-clause-undefined
 returns-clause-undefined c =

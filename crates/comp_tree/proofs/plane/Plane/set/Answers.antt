@@ -22,4 +22,5 @@ returns c =
     let fits : SFits w64 c.number_of.result = search rules in
     let numbers : _ = c.self.inside.numbers.items in
     rw (← c.self.view_is, to_z-of_z w64 c.number_of.result fits)
-    (ap (λ vs. let r : Raster = record { shape = c.self.inside.shape; values = vs } in r) (pixels-set numbers c.args.p c.number_of.result c.args.value c.number_of.ensures))
+    (ap (λ vs. let r : Raster = record { shape = c.self.inside.shape; values = vs } in r)
+    (pixels-set numbers c.args.p c.number_of.result c.args.value c.number_of.ensures))

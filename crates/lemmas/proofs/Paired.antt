@@ -4,7 +4,7 @@ use Rattle.std.proofs.Common.{inr}
 use Rattle.std.specs.Prelude.{Option, Some, filter, flat_map, ◌↔◌, ⊤}
 use Rattle.std.proofs.lemmas.Bool.{true≢false}
 use Rattle.std.specs.List.{enumerate_from, position_from, range_with_len}
-use Rattle.comp_tree.proofs.Members.{IsAmong, among_from_filter, among_from_range}
+use Rattle.lemmas.proofs.Members.{IsAmong, among_from_filter, among_from_range}
 
 -- the members are pairs of R, one after the other
 pub data ArePaired {X Y : Type 0} (R : X → Y → Type 0) : List X → List Y → Type 0 where
