@@ -1,13 +1,17 @@
 -- Values of a plane stay within their range, and are read as they were kept.
-use Rattle.std.proofs.Common.{◌≡◌, ◌∙◌, ℕ, zero, suc, ◌<◌, Bool, true, false, cond, List, [], ◌∷◌, length, map, get_or, set, refl, sym, ap, subst, arith}
-use Rattle.std.specs.Prelude.{ℤ, Option, Some, None, IfSome, replicate, slice_get, slice_set}
+use Rattle.std.proofs.Common.{◌≡◌, ◌∙◌, ℕ, zero, suc, ◌+◌, ◌*◌, ◌^◌, ◌==◌, ◌≢◌, ◌<◌, Bool, true, false, cond, ◌&&◌, List, [], ◌∷◌, ◌++◌, length, map, take, get_or, set, refl, sym, ap, subst, eq-eqb, arith}
+use Rattle.std.specs.Prelude.{ℤ, pos, neg_ℤ, int_le, if◌then◌else◌, Option, Some, None, IfSome, replicate, slice_get, slice_set}
 use Rattle.std.specs.Ordering.{int_eq}
 use Rattle.std.proofs.lemmas.Int.{ints}
-use Rattle.std.proofs.lemmas.List.{get_or-map, map-set}
+use Rattle.std.specs.List.{list_all}
+use Rattle.std.proofs.lemmas.List.{get_or-map, map-set, map-append, take_more}
+use Rattle.std.proofs.lemmas.List.Folds.{list_all_more}
 use Rattle.comp_tree.specs.Limits.{IsWithinRange}
-use Rattle.comp_tree.specs.Raster.{HasValuesInRange, value_at}
+use Rattle.comp_tree.specs.declared.shape.Shape.{Shape}
+use Rattle.comp_tree.specs.Raster.{Raster, HasValuesInRange, value_at, is_pixel_value, raster_of}
 use Rattle.comp_tree.specs.Stored.{undefined_number, pixel_of}
-use Rattle.lemmas.proofs.Exported.{int_eq-true}
+use Rattle.lemmas.proofs.Exported.{int_eq-true, int_le-true}
+use Rattle.std.proofs.lemmas.Bool.{and_parts, ne_eqb}
 
 none_some : (v : ℤ) → (let o : Option (Option ℤ) = None in o) ≡ Some (Some v) → ⊥
 none_some v h = cc
@@ -74,3 +78,41 @@ in_range-number numbers p number d below h e =
 pub pixels-set : (numbers : List ℤ) (p : ℕ) (number : ℤ) (value : Option ℤ) → pixel_of number ≡ value
     → map pixel_of (set numbers p number) ≡ slice_set (map pixel_of numbers) p value
 pixels-set numbers p number value e = map-set pixel_of numbers p number ∙ ap (λ (v : Option ℤ). slice_set (map pixel_of numbers) p v) e
+
+-- one value more is kept
+pub kept_more : (numbers : List ℤ) (values : List (Option ℤ)) (i : ℕ) (number : ℤ) (d : Option ℤ) → i < length values
+    → (map pixel_of numbers ≡ take i values) × (list_all is_pixel_value (take i values) ≡ true)
+    → pixel_of number ≡ get_or values i d → is_pixel_value (get_or values i d) ≡ true
+    → (map pixel_of (numbers ++ number ∷ []) ≡ take (i + 1) values) × (list_all is_pixel_value (take (i + 1) values) ≡ true)
+kept_more numbers values i number d within before here may = (
+  map-append pixel_of numbers (number ∷ []) ∙ ap (λ l. l ++ pixel_of number ∷ []) before.0 ∙ ap (λ v. take i values ++ v ∷ []) here ∙ sym (take_more values i d within),
+  list_all_more is_pixel_value values i d within ∙ ap (λ b. b && is_pixel_value (get_or values i d)) before.1 ∙ may,
+)
+
+-- ---- planes of given values
+
+pub of_other_count : (shape : Shape) (values : List (Option ℤ)) → length values ≢ shape.width * shape.height → raster_of shape values ≡ None
+unfolding raster_of
+of_other_count shape values other = let e : length values == shape.width * shape.height ≡ false = ne_eqb _ _ other in rw e refl
+
+pub of_other_values : (shape : Shape) (values : List (Option ℤ)) → list_all is_pixel_value values ≡ false → raster_of shape values ≡ None
+unfolding raster_of
+of_other_values shape values other = go (length values == shape.width * shape.height)
+  where
+    go : (b : Bool) → (if b && list_all is_pixel_value values then Some (record { shape = shape; values = values }) else (let o : Option Raster = None in o)) ≡ None
+    go true = rw other refl
+    go false = refl
+
+pub of_values : (shape : Shape) (values : List (Option ℤ)) → length values ≡ shape.width * shape.height → list_all is_pixel_value values ≡ true
+    → raster_of shape values ≡ Some (record { shape = shape; values = values })
+unfolding raster_of
+of_values shape values count may = let e : length values == shape.width * shape.height ≡ true = eq-eqb _ _ count in rw (e, may) refl
+
+pub in_range-of_test : (values : List (Option ℤ)) → list_all is_pixel_value values ≡ true → HasValuesInRange values
+in_range-of_test [] may p v h = absurd (none_some v h)
+in_range-of_test (x ∷ xs) may zero v h =
+    let same : x ≡ Some v = cc in
+    let test : is_pixel_value (Some v) ≡ true = ap is_pixel_value (sym same) ∙ (and_parts (is_pixel_value x) (list_all is_pixel_value xs) may).0 in
+    let sides : _ = and_parts (int_le (neg_ℤ (pos (2 ^ 37))) v) (int_le v (pos (2 ^ 37))) test in
+    record { low = int_le-true _ _ sides.0; high = int_le-true _ _ sides.1 }
+in_range-of_test (x ∷ xs) may (suc p) v h = in_range-of_test xs (and_parts (is_pixel_value x) (list_all is_pixel_value xs) may).1 p v h

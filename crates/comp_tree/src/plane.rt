@@ -1,8 +1,10 @@
 //! Planes: images of whole numbers with undefined pixels.
 
-ghost use Rattle.std.specs.Prelude.{◌≡◌, ℕ, ◌*◌, ◌<◌, length, None, replicate, slice_set, IfOk, IfSome};
+ghost use Rattle.std.specs.Prelude.{◌≡◌, ℕ, ◌*◌, ◌<◌, true, length, map, None, is_some, replicate, slice_set, IfOk, IfSome};
+ghost use Rattle.std.specs.List.{list_all};
 ghost use Rattle.comp_tree.specs.Limits.{IsWithinRange};
 ghost use Rattle.comp_tree.specs.Stored.{pixel_of as pixel_kept_as};
+ghost use Rattle.comp_tree.specs.Raster.{is_pixel_value as may_stand, raster_of};
 ghost use Rattle.comp_tree.specs.Raster.{Raster, HasValuesInRange, value_at, is_defined, level, is_at_least, is_earlier};
 
 use crate::shape::Shape;
@@ -26,6 +28,7 @@ pub struct Plane {
 
 impl Model for Plane {
     ghost use Rattle.std.specs.Prelude.{◌≡◌, ◌*◌, length, map};
+    ghost use Rattle.comp_tree.specs.Raster.{is_pixel_value as may_stand, raster_of};
     ghost use Rattle.comp_tree.specs.Raster.{Raster, HasValuesInRange};
     ghost use Rattle.comp_tree.specs.Stored.{pixel_of};
 
@@ -46,6 +49,24 @@ impl Plane {
         let count = shape.pixels() as usize;
         let numbers = vec![in alloc; UNDEFINED; count]?;
         Ok(Plane { shape, numbers })
+    }
+
+    /// The plane of these values, row by row. There is none where there isn't one value for each pixel, or where one lies
+    /// outside the range.
+    pub fn of(
+        alloc: Global,
+        shape: Shape,
+        values: &[Option<i64>],
+    ) -> Result<Option<Plane>, OutOfMemory>
+        ensures { IfOk result (λ plane. plane ≡ raster_of shape values.now) }
+    {
+        if values.len() != shape.pixels() as usize {
+            return Ok(None);
+        }
+        match numbers_of(alloc, values)? {
+            Some(numbers) => Ok(Some(Plane { shape, numbers })),
+            None => Ok(None),
+        }
     }
 
     /// A second plane with the same pixels. The one error is that memory was refused.
@@ -138,6 +159,32 @@ fn pixel_of(number: i64) -> Option<i64>
         None
     } else {
         Some(number)
+    }
+}
+
+// The numbers that pixels with these values are kept as, if they may have them.
+fn numbers_of(alloc: Global, values: &[Option<i64>]) -> Result<Option<Vec<i64>>, OutOfMemory>
+    ensures there { IfOk result (λ numbers. is_some numbers ≡ list_all may_stand values.now) }
+    ensures kept { IfOk result (λ numbers. IfSome numbers (λ v. map pixel_kept_as v.items ≡ values.now)) }
+{
+    let mut numbers = Vec::with_capacity(alloc, values.len())?;
+    for value in values {
+        if !is_pixel_value(*value) {
+            return Ok(None);
+        }
+        numbers.push(number_of(*value))?;
+    }
+    Ok(Some(numbers))
+}
+
+// Whether a pixel may have this value, or none.
+fn is_pixel_value(value: Option<i64>) -> bool
+    ensures test { result ≡ may_stand value }
+    ensures in_range { result ≡ true → IfSome value (λ v. IsWithinRange v) }
+{
+    match value {
+        Some(v) => -(1 << 37) <= v && v <= 1 << 37,
+        None => true,
     }
 }
 

@@ -4,6 +4,7 @@ ghost use Rattle.comp_tree.specs.Windows.{Window, in_whole};
 use super::*;
 use dev_io::OutOfMemory;
 use std::alloc::Global;
+use std::test::Fail;
 
 #[derive(Drop)]
 struct Case<'a> {
@@ -26,6 +27,22 @@ fn plane_of(alloc: Global, shape: Shape, values: &[i64]) -> Result<Plane, OutOfM
         }
     }
     Ok(plane)
+}
+
+// A plane of given values, and what makes none: too few values, and one behind each bound of the range.
+#[test]
+fn planes_of_values(rt: HostRuntime) -> Result<(), Fail> {
+    let shape = Shape::of(2, 1).ok_or("a shape")?;
+    let plane = Plane::of(rt.alloc(), shape, &[Some(-7), None])?.ok_or("a plane")?;
+    assert_eq!(rt; plane.shape().pixels(), 2);
+    assert_eq!(rt; plane.get(0), Some(-7));
+    assert_eq!(rt; plane.get(1), None);
+    let most = 1 << 37;
+    assert!(rt; Plane::of(rt.alloc(), shape, &[Some(most), Some(-most)])?.is_some());
+    assert!(rt; Plane::of(rt.alloc(), shape, &[Some(0)])?.is_none());
+    assert!(rt; Plane::of(rt.alloc(), shape, &[Some(0), Some(most + 1)])?.is_none());
+    assert!(rt; Plane::of(rt.alloc(), shape, &[Some(-most - 1), Some(0)])?.is_none());
+    Ok(())
 }
 
 // Worked examples, among them plateaus, undefined pixels and pixels that touch at a corner.

@@ -1,0 +1,32 @@
+use Rattle.std.proofs.Common.{◌≡◌, ◌∙◌, ◌*◌, true, false, length, map, Some, ap, sym, subst}
+use Rattle.std.specs.List.{list_all}
+use Rattle.std.proofs.lemmas.List.{length-map}
+use Rattle.comp_tree.specs.Stored.{pixel_of as pixel_kept_as}
+use Rattle.comp_tree.specs.Raster.{is_pixel_value as may_stand}
+use Rattle.comp_tree.specs.Raster.{HasValuesInRange}
+use Rattle.comp_tree.proofs.Values.{of_other_count, of_other_values, of_values, in_range-of_test}
+use Rattle.comp_tree.proofs.plane.Plane.of.Goals as goal
+
+pub returns-then-values-pixels : goal.returns-then-values-pixels
+returns-then-values-pixels c = sym (of_other_count c.args.shape c.args.values.now (λ e. c.if-values-pixels.true (e ∙ sym c.pixels.ensures.product)))
+
+pub invariant_of-result : goal.invariant_of-result
+invariant_of-result c =
+    let kept : map pixel_kept_as c.in-Some.numbers.items ≡ c.args.values.now = rw c.in-Some.is at c.in_ok-numbers.ensures.kept in
+    let there : true ≡ list_all may_stand c.args.values.now = rw c.in-Some.is at c.in_ok-numbers.ensures.there in
+    let count : length c.args.values.now ≡ c.args.shape.width * c.args.shape.height = c.if-values-pixels.false ∙ c.pixels.ensures.product in (
+      sym (length-map c.in-Some.numbers.items pixel_kept_as) ∙ ap length kept ∙ count,
+      subst (λ l. HasValuesInRange l) (sym kept) (in_range-of_test c.args.values.now (sym there)),
+    )
+
+pub returns-in-Some : goal.returns-in-Some
+returns-in-Some c =
+    let kept : map pixel_kept_as c.in-Some.numbers.items ≡ c.args.values.now = rw c.in-Some.is at c.in_ok-numbers.ensures.kept in
+    let there : true ≡ list_all may_stand c.args.values.now = rw c.in-Some.is at c.in_ok-numbers.ensures.there in
+    let count : length c.args.values.now ≡ c.args.shape.width * c.args.shape.height = c.if-values-pixels.false ∙ c.pixels.ensures.product in
+    ap (λ l. Some (record { shape = c.args.shape; values = l })) kept ∙ sym (of_values c.args.shape c.args.values.now count (sym there))
+
+pub returns-in-None : goal.returns-in-None
+returns-in-None c =
+    let there : false ≡ list_all may_stand c.args.values.now = rw c.in-None.is at c.in_ok-numbers.ensures.there in
+    sym (of_other_values c.args.shape c.args.values.now (sym there))
