@@ -12,7 +12,7 @@ use Rattle.tree_join.specs.Skips.{IsSkip, AreSkips, IsPutDown, IsLeft, IsNoted}
 use Rattle.tree_join.specs.Walks.{AreLike, IsWalk, IsUp}
 use Rattle.tree_join.proofs.Shorter.{at_least_value}
 use Rattle.comp_tree.proofs.Exported.{int_le_refl, joined_wider, joined_trans, joined_sym, joined_left, joined_pair, joined_pairs, joined_within}
-use Rattle.comp_tree.proofs.Exported.{joined_first, joined_second, at_only, at_least_not_before, before_defined, before_irrefl, before_trans, before_other}
+use Rattle.comp_tree.proofs.Exported.{joined_first, joined_second, at_only, at_least_not_before, before_defined, before_other}
 use Rattle.comp_tree.proofs.Exported.{same_itself, same_trans, same_sym, same_or, same_turned, high_up, earlier_count_less}
 
 own_value : (v : Option ℤ) → HasValue v → ReachesLevel (unwrap_or v (pos 0)) v

@@ -8,7 +8,7 @@ use Rattle.comp_tree.specs.Joined.{Joined, Only}
 use Rattle.comp_tree.specs.Raster.{Raster, level}
 use Rattle.comp_tree.specs.Forest.{no_node, value_at, ReachesLevel, IsWithin, IsHigh, ComesEarlier, link_of, IsLink, IsForest, JoinSame, IsPixel}
 use Rattle.comp_tree.proofs.Exported.{links_before, links_after, link_hung, forest_hung, joined_trans, joined_sym, joined_pair, joined_within, at_only}
-use Rattle.comp_tree.proofs.Exported.{int_le-true, int_le-from, before_defined, before_irrefl, before_trans, high_up}
+use Rattle.comp_tree.proofs.Exported.{int_le-true, int_le-from, before_irrefl, before_trans, high_up}
 
 -- At one level: c is the link of a, and d that of c. L holds before a is linked to d, and M after it.
 module _ (High : ℕ → Type 0) (L M : ℕ → ℕ → Type 0) (a c d : ℕ) where
