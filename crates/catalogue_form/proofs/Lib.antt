@@ -1,0 +1,3 @@
+mod ReadBack
+mod RowByRow
+pub mod Exported
