@@ -2,12 +2,15 @@
 
 usage: python3 scripts/check_documents.py      (at the top of the repository; exit status 1 where something is amiss)
 
-Each crate is named in docs/PROVED.md and docs/ARCHITECTURE.md, and each file of definitions in docs/DEFINITIONS.md; each name that DEFINITIONS
-explains is one of its file's; each file that a document links to or names is there; and no two documents share a paragraph.
+Each crate is named in docs/PROVED.md and docs/ARCHITECTURE.md; each name that docs/DEFINITIONS.md explains is a
+definition's; each file that a document links to or names is there; and no two documents share a paragraph. What is
+amiss among the definitions themselves `scripts/definitions.py --check` says.
 """
 import pathlib
 import re
 import sys
+
+from definitions import definitions
 
 TOP = pathlib.Path(__file__).resolve().parent.parent
 LONG = 12
@@ -21,16 +24,6 @@ def crates():
             yield entry[0]
 
 
-def definition_files(crate):
-    """The topics of a crate's specs/, as its Lib.antt names them."""
-    lib = TOP / "crates" / crate / "specs" / "Lib.antt"
-    if lib.exists():
-        for line in lib.read_text(encoding="utf-8").splitlines():
-            words = line.split()
-            if words[:2] == ["pub", "mod"]:
-                yield words[2]
-
-
 def documents():
     """The documents' names and texts."""
     for path in [TOP / "README.md", *sorted((TOP / "docs").glob("*.md")), *sorted((TOP / "bench").glob("*.md"))]:
@@ -38,7 +31,8 @@ def documents():
 
 
 def paragraphs(text):
-    """What a reader reads as one piece: a paragraph, an item of a list or a row of a table, in small letters without marks. Code isn't looked at."""
+    """What a reader reads as one piece: a paragraph, an item of a list or a row of a table, in small letters
+    without marks. Code isn't looked at."""
     prose = re.sub(r"^```.*?^```", "", text, flags=re.M | re.S)
     for piece in re.split(r"\n\s*\n|\n(?=\s*- |\|)", prose):
         words = re.findall(r"[a-z0-9_]+", piece.lower())
@@ -52,21 +46,15 @@ def missing_names(text):
         for name in ("docs/PROVED.md", "docs/ARCHITECTURE.md"):
             if f"`{crate}`" not in text[name]:
                 yield f"{name} says nothing of the crate {crate}"
-        for topic in definition_files(crate):
-            if f"**`{crate}/specs/{topic}`**" not in text["docs/DEFINITIONS.md"]:
-                yield f"docs/DEFINITIONS.md says nothing of crates/{crate}/specs/{topic}.antt"
 
 
 def unknown_names(text):
-    """Names that DEFINITIONS explains under a file that doesn't have them."""
-    file = known = ""
-    for line in text["docs/DEFINITIONS.md"].splitlines():
-        heading, item = re.match(r"\*\*`(\S+)`\*\*", line), re.match(r"- `([^`]+)`", line)
-        if heading:
-            file = f"crates/{heading[1]}.antt"
-            known = (TOP / file).read_text(encoding="utf-8") if (TOP / file).exists() else ""
-        elif item and not re.search(rf"(?<![\w']){re.escape(item[1])}(?![\w'])", known):
-            yield f"docs/DEFINITIONS.md explains {item[1]}, which {file} doesn't have"
+    """Names that DEFINITIONS explains and no file of specs/ has."""
+    known = {one.name for one in definitions()} | set(crates())
+    _, _, explained = text["docs/DEFINITIONS.md"].partition("\n## What a reviewer cites\n")
+    for name in re.findall(r"`([\w'-]+)`", explained):
+        if name not in known:
+            yield f"docs/DEFINITIONS.md explains {name}, which no file of specs/ has"
 
 
 def broken_links(text):
@@ -96,7 +84,7 @@ def main():
     for line in found:
         print(line)
     if not found:
-        print("the documents name each crate and each file of definitions, and share no paragraph")
+        print("the documents name each crate, explain definitions that are there, and share no paragraph")
     return 1 if found else 0
 
 
