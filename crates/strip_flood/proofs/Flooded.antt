@@ -4,7 +4,8 @@ use Rattle.std.proofs.Common.{subst, ◌∙◌, ⊎_elim, arith}
 use Rattle.std.specs.Prelude.{nat_lt, ◌&&◌}
 use Rattle.std.proofs.lemmas.Bool.{cases_lt, and_from, and_parts, true≢false}
 use Rattle.comp_tree.specs.Joined.{IsPairOf}
-use Rattle.comp_tree.specs.Forest.{no_node, value_at, HasValue, IsLink, JoinSame, StandsFor}
+use Rattle.comp_tree.specs.Forest.{no_node, value_at, IsLink, JoinSame, StandsFor}
+use Rattle.comp_tree.specs.Defined.{HasValue}
 use Rattle.comp_tree.specs.Counts.{count_below, count_defined}
 use Rattle.comp_tree.specs.Grid.{are_adjacent, are_neighbours, IsInner}
 use Rattle.level_queue.specs.Queue.{IsEmpty}

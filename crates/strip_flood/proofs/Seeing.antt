@@ -3,7 +3,8 @@ use Rattle.std.proofs.Common.{◌≡◌, ℕ, ◌+◌, ◌-◌, ◌<◌, ◌≤�
 use Rattle.std.proofs.Common.{subst, ap, ◌∙◌, ⊎_elim, arith, length-append}
 use Rattle.std.proofs.lemmas.Bool.{cases_eq, cases_lt, and_from, and_parts}
 use Rattle.comp_tree.specs.Joined.{Joined}
-use Rattle.comp_tree.specs.Forest.{no_node, value_at, HasValue, ReachesLevel}
+use Rattle.comp_tree.specs.Forest.{no_node, value_at, ReachesLevel}
+use Rattle.comp_tree.specs.Defined.{HasValue}
 use Rattle.comp_tree.specs.Grid.{are_neighbours}
 use Rattle.level_queue.specs.Queue.{IsEmpty, IsFront}
 use Rattle.strip_flood.proofs.Adapting.{IsNowhere}

@@ -11,7 +11,8 @@ use Rattle.std.proofs.lemmas.Option.{slice_get_past, slice_get-get_or}
 use Rattle.std.specs.declared.alloc.Global.{Global}
 use Rattle.std.specs.declared.vec.Vec.{Vec}
 use Rattle.comp_tree.specs.declared.shape.Connect.{Connect}
-use Rattle.comp_tree.specs.Forest.{no_node, value_at, HasValue, ReachesLevel, ComesBefore, IsWithin, link_of, IsForest, StandsFor}
+use Rattle.comp_tree.specs.Forest.{no_node, value_at, ReachesLevel, ComesBefore, IsWithin, link_of, IsForest, StandsFor}
+use Rattle.comp_tree.specs.Defined.{HasValue}
 use Rattle.comp_tree.specs.Limits.{IsWithinLimits}
 use Rattle.comp_tree.specs.Raster.{Raster}
 use Rattle.comp_tree.specs.Counts.{count_below, sum_below, count_defined}

@@ -7,8 +7,9 @@ use Rattle.std.proofs.lemmas.List.{get_or-set_same, get_or-set_other, length-set
 use Rattle.std.proofs.lemmas.Grind.{get_or_default_zero}
 use Rattle.comp_tree.specs.Joined.{Joined, Or, Only}
 use Rattle.comp_tree.specs.EarlierCounts.{earlier_count}
-use Rattle.comp_tree.specs.Forest.{no_node, value_at, HasValue, ReachesLevel, IsWithin, IsHigh, ComesEarlier, link_of, IsLink, IsForest, JoinSame, IsPixel}
-use Rattle.tree_join.specs.Skips.{IsSkip, AreSkips, IsPutDown, IsLeft, IsNoted}
+use Rattle.comp_tree.specs.Forest.{no_node, value_at, ReachesLevel, IsWithin, IsHigh, ComesEarlier, link_of, IsLink, IsForest, JoinSame}
+use Rattle.comp_tree.specs.Defined.{HasValue}
+use Rattle.tree_join.specs.Skips.{IsPixel, IsSkip, AreSkips, IsPutDown, IsLeft, IsNoted}
 use Rattle.tree_join.specs.Walks.{AreLike, IsWalk, IsUp}
 use Rattle.tree_join.proofs.Shorter.{at_least_value}
 use Rattle.comp_tree.proofs.Exported.{int_le_refl, joined_wider, joined_trans, joined_sym, joined_left, joined_pair, joined_pairs, joined_within}

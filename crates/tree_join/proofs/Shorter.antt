@@ -6,7 +6,8 @@ use Rattle.std.proofs.lemmas.Bool.{true≢false}
 use Rattle.std.proofs.lemmas.Grind.{get_or_default_zero}
 use Rattle.comp_tree.specs.Joined.{Joined, Only}
 use Rattle.comp_tree.specs.Raster.{Raster, level}
-use Rattle.comp_tree.specs.Forest.{no_node, value_at, ReachesLevel, IsWithin, IsHigh, ComesEarlier, link_of, IsLink, IsForest, JoinSame, IsPixel}
+use Rattle.comp_tree.specs.Forest.{no_node, value_at, ReachesLevel, IsWithin, IsHigh, ComesEarlier, link_of, IsLink, IsForest, JoinSame}
+use Rattle.tree_join.specs.Skips.{IsPixel}
 use Rattle.comp_tree.proofs.Exported.{links_before, links_after, link_hung, forest_hung, joined_trans, joined_sym, joined_pair, joined_within, at_only}
 use Rattle.comp_tree.proofs.Exported.{int_le-true, int_le-from, before_irrefl, before_trans, high_up}
 

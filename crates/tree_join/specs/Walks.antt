@@ -1,8 +1,8 @@
 -- Bookkeeping: what a walk needs and keeps, and its steps.
 use Rattle.std.specs.Prelude.{ℕ, ◌+◌, ◌^◌, ◌≤◌, List, length, Option, ℤ}
 use Rattle.comp_tree.specs.Joined.{Or, Only}
-use Rattle.comp_tree.specs.Forest.{ComesEarlier, IsForest, IsPixel, IsLink, JoinSame}
-use Rattle.tree_join.specs.Skips.{IsSkip, AreSkips}
+use Rattle.comp_tree.specs.Forest.{ComesEarlier, IsForest, IsLink, JoinSame}
+use Rattle.tree_join.specs.Skips.{IsPixel, IsSkip, AreSkips}
 
 -- the links of some pixels of a plane, in the order of a forest
 pub record AreLinks (values : List (Option ℤ)) (first : ℕ) (links : List ℕ) : Type 0 where

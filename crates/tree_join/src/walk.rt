@@ -4,9 +4,9 @@ ghost use Rattle.std.specs.Prelude.{◌≡◌, ℕ, ◌+◌, ◌*◌, ◌<◌, �
 ghost use Rattle.comp_tree.specs.Joined.{Or, Only};
 ghost use Rattle.comp_tree.specs.Counts.{count_defined};
 ghost use Rattle.comp_tree.specs.EarlierCounts.{earlier_count};
-ghost use Rattle.comp_tree.specs.Forest.{no_node, ComesEarlier, IsForest, IsPixel, IsLink, JoinSame, link_of};
+ghost use Rattle.comp_tree.specs.Forest.{no_node, ComesEarlier, IsForest, IsLink, JoinSame, link_of};
+ghost use Rattle.tree_join.specs.Skips.{IsPixel, IsSkip};
 ghost use Rattle.tree_join.specs.Moves.{IsEnded, IsMoved, IsLastAbove, IsSpent};
-ghost use Rattle.tree_join.specs.Skips.{IsSkip};
 ghost use Rattle.tree_join.specs.Walks.{AreLinks, AreLike, HaveTrueSkips, IsLaterPair, IsWalk, IsUp};
 
 use crate::skips::{Reach, Skips};
