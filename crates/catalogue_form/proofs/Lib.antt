@@ -1,3 +1,4 @@
 mod ReadBack
 mod RowByRow
+mod Tables
 pub mod Exported
