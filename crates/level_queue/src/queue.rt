@@ -137,7 +137,7 @@ impl LevelQueue {
     }
 }
 
-/// What may be moved to another thread, and shared with it. That the queue is so is proved here, where its arrays are known.
+// What may be moved to another thread, and shared with it. That the queue is so is proved here, where its arrays are known.
 trait CrossesThreads: Send + Sync {}
 
 impl CrossesThreads for LevelQueue {}

@@ -29,7 +29,7 @@ impl<T> Model for RawArray<T> {
 }
 
 impl<T> RawArray<T> {
-    /// `len` empty places, whose memory is left as it is.
+    // `len` empty places, whose memory is left as it is.
     pub(crate) fn new(alloc: Global, len: usize) -> Result<Self, AllocError>
         requires { FitsInBlock T.row len }
         ensures { IfOk result (λ array. array ≡ replicate len None) }
@@ -58,7 +58,7 @@ impl<T> RawArray<T> {
         self.places.put(index, item);
     }
 
-    /// Moves the value out, which leaves the place empty.
+    // Moves the value out, which leaves the place empty.
     #[inline]
     pub(crate) fn take(&mut self, index: usize) -> T
     where

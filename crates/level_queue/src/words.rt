@@ -23,7 +23,7 @@ impl Model for Words {
 }
 
 impl Words {
-    /// `len` words that are 0.
+    // `len` words that are 0.
     pub(crate) fn new(alloc: Global, len: usize) -> Result<Self, AllocError>
         requires { len ≤ 2 ^ 24 }
         ensures { IfOk result (λ words. words ≡ replicate len 0) }
@@ -51,7 +51,7 @@ impl Words {
         self.array.write(index, word);
     }
 
-    /// Whether the bit is set.
+    // Whether the bit is set.
     #[inline]
     pub(crate) fn has(&self, index: usize) -> bool
         requires { index / 64 < length self.now }
@@ -60,7 +60,7 @@ impl Words {
         (self.get(index / 64) >> (index % 64)) & 1 == 1
     }
 
-    /// Sets the bit, and answers whether its word was 0.
+    // Sets the bit, and answers whether its word was 0.
     #[inline]
     pub(crate) fn mark(&mut self, index: usize) -> bool
         requires { index / 64 < length self.old }
@@ -72,7 +72,7 @@ impl Words {
         old == 0
     }
 
-    /// Clears the bit, and answers whether its word is 0 now.
+    // Clears the bit, and answers whether its word is 0 now.
     #[inline]
     pub(crate) fn clear(&mut self, index: usize) -> bool
         requires { index / 64 < length self.old }
@@ -84,7 +84,7 @@ impl Words {
         left == 0
     }
 
-    /// The last bit of the word that is set.
+    // The last bit of the word that is set.
     #[inline]
     pub(crate) fn last_of(&self, index: usize) -> usize
         requires small { index < 2 ^ 24 }

@@ -1,9 +1,7 @@
 -- Model: the boundaries in a group of strips: the first rows of all its strips but the first.
-use Rattle.std.specs.Prelude.{◌≡◌, ◌≢◌, ℕ, ◌+◌, ◌*◌, ◌<◌, ◌≤◌, ◌⊎◌, List, Option, ℤ, length, slice_index}
+use Rattle.std.specs.Prelude.{◌≢◌, ℕ, ◌+◌, ◌*◌, ◌<◌, ◌≤◌, ◌⊎◌, List, Option, ℤ, length, slice_index}
 use Rattle.comp_tree.specs.declared.shape.Connect.{Connect}
-use Rattle.comp_tree.specs.Raster.{Raster}
-use Rattle.comp_tree.specs.Joined.{Or}
-use Rattle.comp_tree.specs.Forest.{no_node, IsLink, IsForest, JoinSame}
+use Rattle.comp_tree.specs.Forest.{no_node, IsLink}
 use Rattle.tree_join.specs.Boundary.{IsBoundary}
 
 -- one of the pixels lies above the start of the row, and the other doesn't

@@ -1,11 +1,9 @@
 -- Model: the rule of the claims table, and what each of its steps tells.
 use Rattle.std.specs.Prelude.{◌≡◌, ◌≢◌, ℕ, ◌+◌, ◌<◌, ◌≤◌, Bool, true, false, List, [], ◌∷◌}
-use Rattle.std.specs.Prelude.{map, length, max, slice_index, Some, None, IsSomeAnd, ◌*◌, min, Result, IfOk}
+use Rattle.std.specs.Prelude.{map, length, max, slice_index, Some, None}
 use mathlib.Core.Option.{Option, some}
 use lib.ListN.{get_elem?}
 use Rattle.atomic_table.specs.Table.{State, Me, Step, rest}
-use Rattle.atomic_table.specs.Seated.{TableId}
-use Rattle.atomic_table.specs.declared.shared.Seat.{Seat}
 use Rattle.comp_tree.specs.Counts.{sum_below}
 use Rattle.strip_flood.specs.Jobs.{JobView}
 use Rattle.comp_tree.specs.Raster.{Raster}

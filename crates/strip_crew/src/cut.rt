@@ -36,7 +36,7 @@ pub fn even_cut(alloc: Global, height: u32, strips: u32) -> Result<Vec<u32>, Out
 // How often the strips are divided into halves that are joined at once: there are up to 64 such groups.
 const FORKS: u32 = 6;
 
-// Joins all strips of a cut, whose links lie one after the other.
+/// Joins all strips of a cut, whose links lie one after the other.
 pub fn join_cut<R: Threads + Sync>(
     rt: &R,
     links: &mut [u32],

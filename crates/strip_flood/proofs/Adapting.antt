@@ -1,5 +1,5 @@
 -- What a call of the queue does, in the words of the flooding.
-use Rattle.std.proofs.Common.{◌≡◌, ℕ, zero, suc, ◌<◌, ◌++◌, List, [], ◌∷◌, length, set, drop, replicate, Contains, Option, Some, None, MatchOption, refl, sym}
+use Rattle.std.proofs.Common.{◌≡◌, ℕ, zero, suc, ◌++◌, List, [], ◌∷◌, set, drop, replicate, Contains, Option, Some, MatchOption, refl, sym}
 use Rattle.std.proofs.Common.{subst, ap, ◌∙◌, arith, slice_index}
 use Rattle.std.specs.List.{slice_get}
 use Rattle.std.proofs.lemmas.Grind.{get_or_default_zero}

@@ -8,7 +8,6 @@ use Rattle.strip_flood.proofs.Adapting.{IsPopped}
 use Rattle.strip_flood.specs.Flood.{Ground, FloodState, state_with, list_at, direction_count, rank_of, cursor_of, IsInQueue, IsEarliestKept, IsOpen, IsRanked}
 use Rattle.strip_flood.specs.Flood.{IsKeptAt, IsFair, IsBusyBut, IsTurning, IsTop, IsAtFront}
 use Rattle.strip_flood.proofs.Flow.{item_read}
-use Rattle.strip_flood.proofs.Listing.{list_old}
 use Rattle.strip_flood.proofs.Stepping.{High, not_none, kept_there, none_kept, hang_fair, end_fair, under_fair, keep_fair}
 
 set_set : (xs : List ℕ) (i a b : ℕ) → set (set xs i a) i b ≡ set xs i b

@@ -1,10 +1,10 @@
-// The flooding of a strip.
-//
-// It goes on from the front of the highest rank that has queued pixels. That pixel looks at one neighbour after the other. A
-// neighbour that was not seen is queued, and where it is higher, the flooding goes on from it. A pixel that looked in all
-// directions is finished: it leaves the queue and is linked. Of the finished pixels of a rank that has queued ones, the
-// earliest is kept, and the others are linked to it. When the rank runs empty, its kept pixel is linked to the front of the next
-// rank. Only then is the queue asked for its highest rank: else the pixel to go on from is known.
+//! The flooding of a strip.
+//!
+//! It goes on from the front of the highest rank that has queued pixels. That pixel looks at one neighbour after the other. A
+//! neighbour that was not seen is queued, and where it is higher, the flooding goes on from it. A pixel that looked in all
+//! directions is finished: it leaves the queue and is linked. Of the finished pixels of a rank that has queued ones, the
+//! earliest is kept, and the others are linked to it. When the rank runs empty, its kept pixel is linked to the front of the next
+//! rank. Only then is the queue asked for its highest rank: else the pixel to go on from is known.
 
 ghost use Rattle.std.specs.Prelude.{◌^◌, ◌≡◌, ◌≢◌, ℕ, ◌+◌, ◌-◌, ◌%◌, ◌<◌, ◌≤◌, length, IfOk, IfSome, MatchOption, slice_set, slice_index, [], true, false};
 ghost use Rattle.comp_tree.specs.Forest.{no_node, IsForest};
@@ -19,22 +19,22 @@ use level_queue::LevelQueue;
 use std::alloc::Global;
 use std::sync::ledger::Ledger;
 
-/// The cursor of a finished pixel.
+// The cursor of a finished pixel.
 const FINISHED: u8 = 10;
 
 /// What the flooding of a strip changes.
 #[derive(Drop)]
 pub struct Flood {
-    /// The pixels that were seen and are not finished, each by its place in the strip.
+    // The pixels that were seen and are not finished, each by its place in the strip.
     pub(crate) queue: LevelQueue,
-    /// For each pixel 0 until it is seen, then the number of its next direction and 1, and `FINISHED` in the end.
+    // For each pixel 0 until it is seen, then the number of its next direction and 1, and `FINISHED` in the end.
     pub(crate) cursors: Vec<u8>,
-    /// For each rank that has queued pixels, the earliest of its finished ones, or `NONE`.
+    // For each rank that has queued pixels, the earliest of its finished ones, or `NONE`.
     pub(crate) earliest: Vec<u32>,
     pub(crate) links: Vec<u32>,
 }
 
-/// The pixel that the flooding is at, the front of the highest rank.
+// The pixel that the flooding is at, the front of the highest rank.
 #[derive(Clone, Copy)]
 struct Current {
     rank: u32,
@@ -42,7 +42,7 @@ struct Current {
 }
 
 impl Flood {
-    /// The memory for a strip of so many pixels and ranks. No other call takes any.
+    // The memory for a strip of so many pixels and ranks. No other call takes any.
     pub(crate) fn new(alloc: Global, count: u32, ranks: u32) -> Result<Flood, OutOfMemory>
         requires count { count ≤ 2 ^ 24 }
         requires ranks { ranks ≤ 2 ^ 24 }
@@ -60,8 +60,8 @@ impl Flood {
         })
     }
 
-    /// Looks at the neighbour `n`, to which the cursor leads, and queues it where it is defined and was not seen. It tells where
-    /// the flooding goes on, if that is not the current pixel.
+    // Looks at the neighbour `n`, to which the cursor leads, and queues it where it is defined and was not seen. It tells where
+    // the flooding goes on, if that is not the current pixel.
     #[inline]
     fn see<A: Ledger, B: Ledger>(
         &mut self,
@@ -101,7 +101,7 @@ impl Flood {
         Some(Current { rank, pixel: n })
     }
 
-    /// Looks where the cursor leads, if there is a pixel. It tells where the flooding goes on, if that is not the current pixel.
+    // Looks where the cursor leads, if there is a pixel. It tells where the flooding goes on, if that is not the current pixel.
     #[inline]
     fn look<A: Ledger, B: Ledger>(
         &mut self,
@@ -128,8 +128,8 @@ impl Flood {
         self.see(strip, at, cursor, n, queued, looked)
     }
 
-    /// Looks in all directions that are left, up to the first that leads to a higher pixel, from a pixel with all nine around it in
-    /// the strip. It tells where the flooding goes on, if that is not the current pixel.
+    // Looks in all directions that are left, up to the first that leads to a higher pixel, from a pixel with all nine around it in
+    // the strip. It tells where the flooding goes on, if that is not the current pixel.
     fn look_inside<A: Ledger, B: Ledger>(
         &mut self,
         strip: &Strip,
@@ -162,7 +162,7 @@ impl Flood {
         None
     }
 
-    /// Does the same from any pixel.
+    // Does the same from any pixel.
     fn look_at_edge<A: Ledger, B: Ledger>(
         &mut self,
         strip: &Strip,
@@ -194,8 +194,8 @@ impl Flood {
         None
     }
 
-    /// Looks in all directions that are left, up to the first that leads to a higher pixel. It tells where the flooding goes on,
-    /// if that is not the current pixel.
+    // Looks in all directions that are left, up to the first that leads to a higher pixel. It tells where the flooding goes on,
+    // if that is not the current pixel.
     #[inline]
     fn look_around<A: Ledger, B: Ledger>(
         &mut self,
@@ -219,7 +219,7 @@ impl Flood {
         self.look_at_edge(strip, at, queued, looked)
     }
 
-    /// Takes out the current pixel, which has no direction left. It is linked to the kept pixel of its rank, or kept in its place.
+    // Takes out the current pixel, which has no direction left. It is linked to the kept pixel of its rank, or kept in its place.
     fn retire(&mut self, strip: &Strip, at: Current)
         requires strip { IsStrip strip.now }
         requires between { IsBetweenTurns strip.now self.old }
@@ -247,8 +247,8 @@ impl Flood {
         self.earliest[at.rank as usize] = at.pixel;
     }
 
-    /// Closes a rank that ran empty: its kept pixel is linked to the front of the highest rank, where the flooding goes on, if there
-    /// is one.
+    // Closes a rank that ran empty: its kept pixel is linked to the front of the highest rank, where the flooding goes on, if there
+    // is one.
     fn close(&mut self, strip: &Strip, rank: u32) -> Option<Current>
         requires strip { IsStrip strip.now }
         requires items { self.old.queue.items ≡ length strip.now.ranks.items }
@@ -276,8 +276,8 @@ impl Flood {
         Some(Current { rank: next, pixel })
     }
 
-    /// Takes out the current pixel, which has no direction left, and closes its rank where it was the last. It tells where the
-    /// flooding goes on, if a pixel is queued.
+    // Takes out the current pixel, which has no direction left, and closes its rank where it was the last. It tells where the
+    // flooding goes on, if a pixel is queued.
     fn finish(&mut self, strip: &Strip, at: Current) -> Option<Current>
         requires strip { IsStrip strip.now }
         requires between { IsBetweenTurns strip.now self.old }
@@ -296,7 +296,7 @@ impl Flood {
         self.close(strip, at.rank)
     }
 
-    /// One turn of the flooding, from the current pixel. It tells where the flooding goes on, if a pixel is queued.
+    // One turn of the flooding, from the current pixel. It tells where the flooding goes on, if a pixel is queued.
     fn turn<A: Ledger, B: Ledger>(
         &mut self,
         strip: &Strip,
@@ -318,7 +318,7 @@ impl Flood {
         self.finish(strip, at)
     }
 
-    /// Goes on from the current pixel until no pixel is queued.
+    // Goes on from the current pixel until no pixel is queued.
     fn drain<A: Ledger, B: Ledger>(
         &mut self,
         strip: &Strip,
@@ -339,7 +339,7 @@ impl Flood {
         }
     }
 
-    /// Floods the component of the pixel `p`, if it is defined and was not seen.
+    // Floods the component of the pixel `p`, if it is defined and was not seen.
     fn flood_from<A: Ledger, B: Ledger>(
         &mut self,
         strip: &Strip,
@@ -369,7 +369,7 @@ impl Flood {
         self.drain(strip, Current { rank, pixel: p }, queued, looked);
     }
 
-    /// Floods the strip: the links then stand for its adjacencies.
+    // Floods the strip: the links then stand for its adjacencies.
     pub(crate) fn run<A: Ledger, B: Ledger>(
         &mut self,
         strip: &Strip,

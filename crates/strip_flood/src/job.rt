@@ -1,4 +1,4 @@
-// A strip's job: all that its flooding takes, and then its links.
+//! A strip's job: all that its flooding takes, and then its links.
 
 ghost use Rattle.std.specs.Prelude.{◌≡◌, ◌+◌, ◌-◌, ◌*◌, ◌<◌, ◌≤◌, length, true, false, IfOk};
 ghost use Rattle.comp_tree.specs.Forest.{no_node};

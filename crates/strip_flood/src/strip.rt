@@ -1,4 +1,4 @@
-// A strip of a plane as its flooding reads it.
+//! A strip of a plane as its flooding reads it.
 
 ghost use Rattle.std.specs.Prelude.{◌≡◌, ◌*◌, ◌+◌, ◌%◌, ◌<◌, ◌≤◌, length, true, MatchOption};
 ghost use Rattle.strip_flood.specs.Flood.{direction_count, cell, rank_of, IsOf, IsNeighbour, HasNone, HasOffsets, IsInterior};
@@ -11,17 +11,17 @@ use comp_tree::Connect;
 pub struct Strip {
     pub(crate) connect: Connect,
     pub(crate) width: u32,
-    /// The strip's first pixel.
+    // The strip's first pixel.
     pub(crate) first: u32,
-    /// The rank of each pixel, from 0 for the least value. An undefined pixel has `NONE`.
+    // The rank of each pixel, from 0 for the least value. An undefined pixel has `NONE`.
     pub(crate) ranks: Vec<u32>,
-    /// The value of each rank.
+    // The value of each rank.
     pub(crate) levels: Vec<i64>,
-    /// How far the pixel in each direction lies behind the first of the nine around and at a pixel.
+    // How far the pixel in each direction lies behind the first of the nine around and at a pixel.
     pub(crate) offsets: [u32; 8],
 }
 
-/// The number of directions in which a pixel may have a neighbour.
+// The number of directions in which a pixel may have a neighbour.
 pub(crate) fn directions(connect: Connect) -> u8
     ensures all { result ≡ direction_count connect }
     ensures few { result ≤ 8 }
@@ -32,7 +32,7 @@ pub(crate) fn directions(connect: Connect) -> u8
     }
 }
 
-/// The cell that direction `k` leads to, of the nine around and at a pixel, counted row by row.
+// The cell that direction `k` leads to, of the nine around and at a pixel, counted row by row.
 fn cell_at(connect: Connect, k: u32) -> u32
     requires { k < direction_count connect }
     ensures cell { result ≡ cell connect k }
@@ -44,7 +44,7 @@ fn cell_at(connect: Connect, k: u32) -> u32
     }
 }
 
-/// How far the pixel in each direction lies behind the first of the nine around and at a pixel.
+// How far the pixel in each direction lies behind the first of the nine around and at a pixel.
 pub(crate) fn offsets(connect: Connect, width: u32) -> [u32; 8]
     requires { width ≤ 65535 }
     ensures { HasOffsets connect width result }
@@ -57,7 +57,7 @@ pub(crate) fn offsets(connect: Connect, width: u32) -> [u32; 8]
 }
 
 impl Strip {
-    /// The number of the strip's pixels.
+    // The number of the strip's pixels.
     pub(crate) fn count(&self) -> u32
         requires { IsStrip self.now }
         ensures all { result ≡ length self.now.ranks.items }
@@ -65,7 +65,7 @@ impl Strip {
         self.ranks.len() as u32
     }
 
-    /// The rank of a pixel, if it is defined.
+    // The rank of a pixel, if it is defined.
     pub(crate) fn rank(&self, p: u32) -> Option<u32>
         requires strip { IsStrip self.now }
         requires inside { IsOf (ground_of self.now) p }
@@ -80,7 +80,7 @@ impl Strip {
         }
     }
 
-    /// The strip's pixel in direction `k` from `p`, a pixel of this column.
+    // The strip's pixel in direction `k` from `p`, a pixel of this column.
     pub(crate) fn neighbour(&self, p: u32, column: u32, k: u32) -> Option<u32>
         requires strip { IsStrip self.now }
         requires inside { IsOf (ground_of self.now) p }
@@ -103,7 +103,7 @@ impl Strip {
         }
         Some(sum - self.width - 1)
     }
-    /// Whether all nine pixels around and at this one lie in the strip.
+    // Whether all nine pixels around and at this one lie in the strip.
     #[inline]
     pub(crate) fn is_interior(&self, p: u32) -> bool
         requires strip { IsStrip self.now }
@@ -118,7 +118,7 @@ impl Strip {
         column > 0 && column + 1 < self.width
     }
 
-    /// The pixel in direction `k` from one that has all nine around it in the strip.
+    // The pixel in direction `k` from one that has all nine around it in the strip.
     #[inline]
     pub(crate) fn inner_neighbour(&self, p: u32, k: u32) -> u32
         requires strip { IsStrip self.now }

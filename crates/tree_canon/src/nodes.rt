@@ -12,7 +12,7 @@ use comp_tree::{NodeRow, Plane};
 use dev_io::OutOfMemory;
 use std::alloc::Global;
 
-/// The rows of the nodes in their order, and the number of each pixel's node, `NONE` for an undefined pixel.
+// The rows of the nodes in their order, and the number of each pixel's node, `NONE` for an undefined pixel.
 #[derive(Drop)]
 pub(crate) struct Numbered {
     pub(crate) rows: Vec<NodeRow>,
@@ -38,8 +38,8 @@ fn number_by_order(
     Ok(Numbered { rows, numbers })
 }
 
-/// The rows without the parents and the numbers, from the canonical pixels: by counting where their levels lie close together, and
-/// else by sorting.
+// The rows without the parents and the numbers, from the canonical pixels: by counting where their levels lie close together, and
+// else by sorting.
 pub(crate) fn number_nodes(
     alloc: Global,
     plane: &Plane,

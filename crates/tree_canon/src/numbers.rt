@@ -9,7 +9,7 @@ use comp_tree::{NONE, NodeRow, Plane};
 use dev_io::OutOfMemory;
 use std::alloc::Global;
 
-/// The number of each pixel's node, and `NONE` for an undefined pixel. The rows are those of the canonical pixels, in order.
+// The number of each pixel's node, and `NONE` for an undefined pixel. The rows are those of the canonical pixels, in order.
 pub(crate) fn number_pixels(
     alloc: Global,
     plane: &Plane,
@@ -28,7 +28,7 @@ pub(crate) fn number_pixels(
     Ok(numbers)
 }
 
-/// The number that a list has for a pixel. `NONE` lies outside every list, so its number is `NONE`.
+// The number that a list has for a pixel. `NONE` lies outside every list, so its number is `NONE`.
 #[inline]
 pub(crate) fn node_number_at(numbers: &[u32], p: u32) -> u32
     ensures { result ≡ number_in numbers.now p }
@@ -48,7 +48,7 @@ fn number_rows(rows: &[NodeRow], numbers: &mut [u32])
     }
 }
 
-/// Gives each pixel without a number that of its link. A link within a level leads to a smaller pixel, so one pass is enough.
+// Gives each pixel without a number that of its link. A link within a level leads to a smaller pixel, so one pass is enough.
 pub(crate) fn number_others(links: &[u32], numbers: &mut [u32])
     requires one_each { length numbers.old ≡ length links.now }
     requires few { length links.now ≤ 2 ^ 24 }

@@ -13,7 +13,7 @@ use comp_tree::{NONE, NodeRow, Plane};
 use dev_io::OutOfMemory;
 use std::alloc::Global;
 
-/// The canonical pixels, in the order of pixel numbers.
+// The canonical pixels, in the order of pixel numbers.
 pub(crate) fn find_canonical(
     alloc: Global,
     plane: &Plane,
@@ -47,7 +47,7 @@ fn is_canonical(plane: &Plane, links: &[u32], p: u32) -> bool
     !plane.is_at_least(plane.level(p), link)
 }
 
-/// The row of a canonical pixel, as yet without its parent.
+// The row of a canonical pixel, as yet without its parent.
 #[inline]
 pub(crate) fn loose(plane: &Plane, p: u32) -> NodeRow
     requires { p < length plane.now.values }
@@ -72,7 +72,7 @@ fn rows_of(alloc: Global, plane: &Plane, pixels: &[u32]) -> Result<Vec<NodeRow>,
     Ok(rows)
 }
 
-/// The rows of some pixels, sorted by level and pixel.
+// The rows of some pixels, sorted by level and pixel.
 pub(crate) fn sorted_rows(
     alloc: Global,
     plane: &Plane,
@@ -86,8 +86,8 @@ pub(crate) fn sorted_rows(
     Ok(rows)
 }
 
-/// Gives each row its parent: the node of its pixel's link, and `NONE` where that is `NONE`. It goes by the pixels, in their order,
-/// since their links and numbers then lie close together in memory.
+// Gives each row its parent: the node of its pixel's link, and `NONE` where that is `NONE`. It goes by the pixels, in their order,
+// since their links and numbers then lie close together in memory.
 pub(crate) fn set_parents(links: &[u32], numbers: &[u32], pixels: &[u32], rows: &mut [NodeRow])
     requires within { All (λ p. p < length links.now) pixels.now }
     requires one_each { length numbers.now ≡ length links.now }
