@@ -21,7 +21,7 @@ from astropy.io import fits
 from astropy.table import Table, vstack
 from astropy.utils.exceptions import AstropyWarning
 
-from . import __version__, detection, images, kernel, tables
+from . import __version__, adding, detection, images, kernel, surveys, tables
 from .errors import Mistake
 
 DESCRIPTION = """Finds the sources of an image and writes a catalogue: positions, fluxes with errors, ellipses, flags,
@@ -112,6 +112,14 @@ def _add_written(out) -> None:
     out.add_argument("--regions", metavar="REG", help="ellipses for DS9")
     out.add_argument("--plot", metavar="PNG", help="a picture of the image and its sources")
     out.add_argument("--crop", type=_crop, metavar="XMIN,XMAX,YMIN,YMAX", help="the part for --plot, in pixels from 1")
+    out.add_argument("--survey", metavar="FILE", help="the file of a survey, to which maxsurvey adds what is found")
+    out.add_argument("--field", metavar="NAME", help="the field's name there (default: the image's name)")
+    out.add_argument(
+        "--survey-unit",
+        type=above_zero,
+        metavar="U",
+        help="a whole number of flux there, in the image's unit (default: 1)",
+    )
     out.add_argument("--zeropoint", type=_finite, metavar="Z", help="the magnitude of a flux of 1: adds magnitudes")
 
 
@@ -203,6 +211,7 @@ class Task:
     path: str
     output: str
     fields: List[detection.Field]
+    survey_field: Optional[str] = None
 
 
 def _default_output(path: str) -> str:
@@ -246,7 +255,20 @@ def _field(plane: images.Plane, given: argparse.Namespace) -> detection.Field:
 def _task(path: str, given: argparse.Namespace) -> Task:
     every = given.hdu == "all"
     planes = images.all_opened(path, given.plane) if every else [images.opened(path, given.hdu, given.plane)]
-    return Task(path, given.output or _default_output(path), [_field(plane, given) for plane in planes])
+    return Task(
+        path,
+        given.output or _default_output(path),
+        [_field(plane, given) for plane in planes],
+        _survey_field(path, given) if given.survey else None,
+    )
+
+
+def _survey_field(path: str, given: argparse.Namespace) -> str:
+    """The field of the survey to which an image belongs: the one that is named, or by the image's own name."""
+    name = given.field or pathlib.Path(_default_output(path)).name.removesuffix(".cat.fits")
+    if not surveys.NAME.fullmatch(name):
+        raise Mistake(f"{name!r} is no field's name: 1 to 16 letters, digits, underscores or hyphens; give --field")
+    return name
 
 
 def _writable(output: str) -> bool:
@@ -270,6 +292,10 @@ def _check_names(given: argparse.Namespace, tasks: List[Task]) -> None:
             raise Mistake(f"{output} can't be written")
     for task in tasks:
         tables.format_of(task.output)
+    named = [task.survey_field for task in tasks if task.survey_field]
+    for name in named:
+        if named.count(name) > 1:
+            raise Mistake(f"two images would be the survey's field {name}")
     if given.crop:
         (xmin, xmax, ymin, ymax), (height, width) = given.crop, tasks[0].fields[0].shape
         if xmax < 1 or ymax < 1 or xmin > width or ymin > height:
@@ -278,11 +304,11 @@ def _check_names(given: argparse.Namespace, tasks: List[Task]) -> None:
 
 def _check(given: argparse.Namespace) -> None:
     """Names that are empty, and options that don't go together."""
-    for name in ("output", "map", "regions", "plot", "weight", "mask", "measure"):
+    for name in ("output", "map", "regions", "plot", "weight", "mask", "measure", "survey", "field"):
         if getattr(given, name) == "":
             raise Mistake(f"--{name} has an empty name")
     if len(given.images) > 1:
-        for name in ("output", "map", "regions", "plot"):
+        for name in ("output", "map", "regions", "plot", "field"):
             if getattr(given, name):
                 raise Mistake(f"--{name} is for one image, not {len(given.images)}")
     if given.plot and given.hdu == "all":
@@ -291,6 +317,10 @@ def _check(given: argparse.Namespace) -> None:
         raise Mistake(f"{given.plot}: a picture's name ends in .png")
     if given.crop and not given.plot:
         raise Mistake("--crop wants a --plot")
+    if (given.field or given.survey_unit) and not given.survey:
+        raise Mistake(f"--{'field' if given.field else 'survey-unit'} wants a --survey")
+    if given.survey and given.hdu == "all":
+        raise Mistake("--survey is for one HDU of each image; name it with --hdu")
     if given.weight_type and not given.weight:
         raise Mistake("--weight-type wants a --weight")
     if given.weight and given.rms == "local":
@@ -447,6 +477,8 @@ def _done(task: Task, given: argparse.Namespace, tiles, progress) -> str:
             found.append(_finished(table, field, task, given))
         table = _joined(found)
         _write(table, task, given, maps, names)
+        if task.survey_field:
+            adding.add(given.survey, task.survey_field, table, unit=given.survey_unit or 1.0)
     return f"{len(table)} sources in {shlex.quote(task.output)}"
 
 
@@ -476,6 +508,8 @@ def run(words: Optional[List[str]] = None) -> bool:
     _check_names(given, good)
     if good:
         kernel.find_program()
+        if given.survey:
+            adding.find_survey_program()
     progress, all_done = _Progress(_count(good)), True
     with contextlib.ExitStack() as stack:
         pool, files = (

@@ -1,0 +1,115 @@
+"""From a catalogue of `maxcat` to a field of a survey: what `maxsurvey` reads of it, and the call that adds it."""
+import contextlib
+import io
+import os
+import pathlib
+import re
+import shutil
+import subprocess
+from typing import Optional, Union
+
+import numpy
+from astropy.io import fits
+from astropy.table import Table
+
+from . import surveys
+from .errors import Mistake
+from .kernel import NoProgram
+
+__all__ = ["add", "find_survey_program", "survey_file"]
+
+# The kinds of the catalogue's columns: 32 bits, or 64.
+WIDE = {"LEVEL", "BASE", "FLUX", "PEAK", "XVAR", "YVAR", "XYCOV"}
+GREATEST = 2.0**62
+CAUSES = {
+    3: "the catalogue couldn't be read",
+    4: "its output failed",
+    5: "memory is wanted",
+    6: "the file couldn't be opened or written: no permission, no room, damage, or another process that has it",
+}
+
+
+def find_survey_program(program: Optional[str] = None) -> str:
+    """The path of maxsurvey: `program`, or where MAXSURVEY, the package, the PATH or the repository has it. Raises
+    NoProgram.
+    """
+    package = pathlib.Path(__file__).resolve().parent
+    built = package.parent.parent / "crates" / "maxsurvey" / "out" / "maxsurvey"
+    found = (
+        program
+        or os.environ.get("MAXSURVEY")
+        or shutil.which(package / "bin" / "maxsurvey")
+        or shutil.which("maxsurvey")
+        or (built if built.exists() else None)
+    )
+    if not found:
+        raise NoProgram("maxsurvey isn't on the PATH; name it in the environment's MAXSURVEY, or build it")
+    return os.fspath(found)
+
+
+def _whole_fluxes(table: Table, unit: float) -> numpy.ndarray:
+    """The fluxes in units of `unit`, as whole numbers."""
+    name = "FLUX_ISO" if "FLUX_ISO" in table.colnames else "FLUX"
+    fluxes = numpy.rint(numpy.ma.asarray(table[name]).filled(0).astype("f8") / unit)
+    if not numpy.all(numpy.abs(fluxes) < GREATEST):
+        raise Mistake(f"a flux is no whole number of {unit:g} below 2^62; name another --survey-unit")
+    return fluxes.astype("i8")
+
+
+def survey_file(table: Table, unit: float = 1.0) -> bytes:
+    """A catalogue as the bytes that `maxsurvey add` reads: the form of `maxdetect detect`, without its map.
+
+    FLUX is FLUX_ISO, the sum above the background over the source's pixels, in whole numbers of `unit`, which is in the
+    image's units; so fields whose noise differs can be ranked together. LEVEL, BASE and PEAK stay as the program saw
+    them. Rows are numbered anew, from 1.
+    """
+    columns = []
+    for name in surveys.COLUMNS:
+        if name == "NUMBER":
+            values = numpy.arange(1, len(table) + 1)
+        else:
+            values = _whole_fluxes(table, unit) if name == "FLUX" else numpy.asarray(table[name])
+        kind = "K" if name in WIDE else "J"
+        columns.append(fits.Column(name, kind, array=values.astype("i8" if kind == "K" else "i4")))
+    catalogue = fits.BinTableHDU.from_columns(columns, nrows=len(table), name="SOURCES")
+    written = io.BytesIO()
+    fits.HDUList([fits.PrimaryHDU(), fits.ImageHDU(numpy.zeros((1, 1), "i4")), catalogue]).writeto(written)
+    return written.getvalue()
+
+
+@contextlib.contextmanager
+def _alone(path: str):
+    """Within, no other process that asks so has the file: the lock is the one on `PATH.lock`, which `flock` takes in
+    a shell.
+    """
+    try:
+        import fcntl
+    except ImportError:
+        yield
+        return
+    with open(path + ".lock", "a", encoding="ascii") as lock:
+        fcntl.flock(lock, fcntl.LOCK_EX)
+        yield
+
+
+def add(
+    path: Union[str, os.PathLike], field: str, table: Table, *, unit: float = 1.0, program: Optional[str] = None
+) -> None:
+    """Gives a catalogue to a field of the survey in this file, through `maxsurvey`; what the field had is replaced.
+
+    Raises Mistake where the name is none, the program isn't there, or it answers a fault; the survey is then as it
+    was.
+    """
+    path = os.fspath(path)
+    if not surveys.NAME.fullmatch(field):
+        raise Mistake(f"{field!r} is no field's name: 1 to 16 letters, digits, underscores or hyphens")
+    words = [find_survey_program(program), "--file", path, "add", field]
+    written = survey_file(table, unit)
+    with _alone(path):
+        try:
+            done = subprocess.run(words, input=written, stdout=subprocess.DEVNULL, stderr=subprocess.PIPE, check=False)
+        except OSError as error:
+            raise NoProgram(f"{words[0]} can't be run: {error.strerror}") from None
+    if done.returncode != 0:
+        note = re.sub(r"\s+", " ", done.stderr.decode("utf-8", "replace")).strip()
+        raise Mistake(f"{path}: maxsurvey answers {note or done.returncode}: {CAUSES.get(done.returncode, 'refused')}")

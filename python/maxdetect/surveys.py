@@ -1,0 +1,241 @@
+"""The file of a survey, as `maxsurvey --file` keeps it: read-only, as a mapping from fields to catalogues.
+
+The file is an SQLite database with a strict table `source`: for each field its name and the bytes of its rows, 17
+whole numbers of 64 bits each, the most significant byte first. Nothing is written but by `Survey.seal`, which puts a
+sum of each field's bytes into a table of its own beside it; the program goes on to work with such a file.
+"""
+import collections.abc
+import hashlib
+import os
+import pathlib
+import re
+import sqlite3
+import urllib.parse
+from typing import Dict, Iterable, Iterator, List, Mapping, Optional, Tuple, Union
+
+import numpy
+from astropy import units
+from astropy.io import fits
+from astropy.table import Table, vstack
+from astropy.wcs import WCS
+
+from . import tables
+from .errors import Mistake
+
+__all__ = ["COLUMNS", "Survey", "survey"]
+
+# The cells of a row, in their order.
+COLUMNS = ("NUMBER LEVEL BASE AREA FLUX PEAK XMIN XMAX YMIN YMAX XFIRST YFIRST XCEN YCEN XVAR YVAR XYCOV").split()
+ROW = 8 * len(COLUMNS)
+SUMS = "CREATE TABLE IF NOT EXISTS source_sum (field TEXT NOT NULL PRIMARY KEY, sum TEXT NOT NULL) STRICT"
+NAME = re.compile(r"[A-Za-z0-9_-]{1,16}")
+
+Skies = Mapping[str, Union[fits.Header, WCS]]
+
+
+class Survey(collections.abc.Mapping):
+    """The catalogues of a survey's fields, by their names: `survey["NORTH"]` is an astropy `Table`.
+
+    A catalogue has a row for each source, the 17 columns of `maxdetect detect`, all of them 64-bit whole numbers, and
+    X and Y, the centre in pixels from 1; each column has its unit and a description. Iteration gives the names in
+    their order. The file is opened read-only at each look, so what another process adds is seen at the next one, and
+    no look makes a file, or locks one for longer than it takes. Raises Mistake where the file isn't a survey's, or a
+    field's rows have another form.
+
+    >>> import maxdetect
+    >>> opened = maxdetect.survey("survey.db")                                      # doctest: +SKIP
+    >>> opened["NORTH"]["NUMBER", "FLUX"], list(opened)                             # doctest: +SKIP
+    """
+
+    def __init__(self, path: Union[str, os.PathLike]):
+        self.path = os.fspath(path)
+        self._asked("SELECT count(*) FROM source")
+
+    def _asked(self, text: str, *values) -> List[Tuple]:
+        """The rows that a question gives."""
+        try:
+            with _opened(self.path) as found:
+                return list(found.connection.execute(text, values))
+        except sqlite3.Error as error:
+            raise Mistake(f"{self.path}: {_cause(error)}") from None
+
+    def __iter__(self) -> Iterator[str]:
+        return iter([_name(self.path, name) for name, in self._asked("SELECT field FROM source ORDER BY field")])
+
+    def __len__(self) -> int:
+        return self._asked("SELECT count(*) FROM source")[0][0]
+
+    def __contains__(self, name) -> bool:
+        return isinstance(name, str) and bool(self._asked("SELECT 1 FROM source WHERE field = ?", name))
+
+    def __getitem__(self, name: str) -> Table:
+        return tables.finished(self._plain(name), None)
+
+    def _plain(self, name: str) -> Table:
+        """A field's catalogue without units."""
+        found = self._asked("SELECT cells FROM source WHERE field = ?", name)
+        if not found:
+            raise KeyError(name)
+        return _catalogue(self.path, name, found[0][0])
+
+    def table(self, names: Optional[Iterable[str]] = None, sky: Optional[Skies] = None) -> Table:
+        """The sources of all fields, or of those that are named, as one table with the column FIELD in front.
+
+        With `sky`, the header or WCS of fields by their names, there are RA and DEC, in degrees in the ICRS; they are
+        NaN in the fields that it doesn't name.
+        """
+        found = [_with_field(name, self._plain(name), sky) for name in (self if names is None else names)]
+        if not found:
+            found = [_with_field("", _empty(), sky)]
+        return found[0] if len(found) == 1 else vstack(found, metadata_conflicts="silent")
+
+    def brightest(self, count: int, sky: Optional[Skies] = None) -> Table:
+        """The sources of the greatest FLUX among all fields, in the order of `maxsurvey brightest`: of equal fluxes
+        the field whose name comes first goes first, and within a field the smaller number.
+        """
+        best: Optional[Table] = None
+        for name in self:
+            rows = _with_field(name, self._plain(name), sky)
+            rows = rows[numpy.argsort(-rows["FLUX"], kind="stable")[:count]]
+            best = rows if best is None else vstack([best, rows], metadata_conflicts="silent")
+            best = best[numpy.argsort(-best["FLUX"], kind="stable")[:count]]
+        return self.table([], sky) if best is None else best
+
+    # ---- sums
+
+    def seal(self) -> int:
+        """Puts a sum of each field's bytes into the file, in a table `source_sum`, and answers how many there are.
+
+        `changed` tells later which fields aren't what they were: by `maxsurvey`, by another program, or by a disk
+        that lost bits, which SQLite itself doesn't tell.
+        """
+        try:
+            with _Connection(sqlite3.connect(self.path)) as found, found.connection as writing:
+                writing.execute(SUMS)
+                writing.execute("DELETE FROM source_sum")
+                rows = [(name, _sum(cells)) for name, cells in writing.execute("SELECT field, cells FROM source")]
+                writing.executemany("INSERT INTO source_sum VALUES (?, ?)", rows)
+        except sqlite3.Error as error:
+            raise Mistake(f"{self.path}: {_cause(error)}") from None
+        return len(rows)
+
+    def changed(self) -> List[str]:
+        """The names of the fields that aren't what they were when the file was sealed: others, new ones, and those
+        that are gone. Raises Mistake where it never was.
+        """
+        if not self._asked("SELECT 1 FROM sqlite_master WHERE type = 'table' AND name = 'source_sum'"):
+            raise Mistake(f"{self.path} was never sealed")
+        sealed = dict(self._asked("SELECT field, sum FROM source_sum"))
+        now = {name: _sum(cells) for name, cells in self._asked("SELECT field, cells FROM source")}
+        return sorted(name for name in {*sealed, *now} if sealed.get(name) != now.get(name))
+
+
+def survey(path: Union[str, os.PathLike]) -> Survey:
+    """The survey in this file, read-only. Raises Mistake where there is none."""
+    return Survey(path)
+
+
+# ---- the file
+
+
+class _Connection:
+    """A connection that is closed at the end of a block."""
+
+    def __init__(self, connection: sqlite3.Connection):
+        self.connection = connection
+
+    def __enter__(self) -> "_Connection":
+        return self
+
+    def __exit__(self, *error) -> None:
+        self.connection.close()
+
+
+def _opened(path: str) -> _Connection:
+    """The file, open for reading. Where its folder can't be written and no log stands beside it, SQLite is told that
+    nobody else writes.
+    """
+    if not os.path.isfile(path):
+        raise Mistake(f"{path} is a folder" if os.path.isdir(path) else f"{path}: there is no such file")
+    whole = urllib.parse.quote(os.path.abspath(path))
+    folder, log = os.path.dirname(os.path.abspath(path)), path + "-wal"
+    alone = not os.access(folder, os.W_OK) and not (os.path.exists(log) and os.path.getsize(log))
+    return _Connection(sqlite3.connect(f"file:{whole}?mode=ro" + ("&immutable=1" if alone else ""), uri=True))
+
+
+def _cause(error: sqlite3.Error) -> str:
+    """What an error of SQLite means for whoever opened a survey."""
+    text = str(error)
+    if "no such table" in text or "no such column" in text or "not a database" in text:
+        return "this is no survey's file"
+    if "locked" in text or "busy" in text:
+        return "another process has the file; try again"
+    if "unable to open" in text or "readonly" in text:
+        return "the file can't be opened"
+    return text
+
+
+def _name(path: str, name) -> str:
+    if not isinstance(name, str) or not NAME.fullmatch(name):
+        raise Mistake(f"{path}: {name!r} is no field's name")
+    return name
+
+
+def _sum(cells) -> str:
+    return hashlib.sha256(cells if isinstance(cells, bytes) else str(cells).encode()).hexdigest()
+
+
+# ---- catalogues
+
+
+def _empty() -> Table:
+    return Table({name: numpy.zeros(0, dtype="i8") for name in COLUMNS})
+
+
+def _catalogue(path: str, name: str, cells) -> Table:
+    """A field's rows, which are numbered from 1."""
+    if not isinstance(cells, bytes) or len(cells) % ROW:
+        raise Mistake(f"{path}: the rows of the field {name} have another form")
+    numbers = numpy.frombuffer(cells, dtype=">i8").astype("i8").reshape(-1, len(COLUMNS))
+    if not numpy.array_equal(numbers[:, 0], numpy.arange(1, len(numbers) + 1)):
+        raise Mistake(f"{path}: the rows of the field {name} aren't numbered by their places")
+    return Table(numbers, names=COLUMNS) if len(numbers) else _empty()
+
+
+def _with_field(name: str, catalogue: Table, sky: Optional[Skies]) -> Table:
+    """A field's catalogue with its name in front, its centres in pixels and, where there is a sky, its places."""
+    header = None if sky is None else sky.get(name)
+    table = tables.finished(catalogue, header)
+    if sky is not None and header is None:
+        for axis, text in (("RA", "right ascension"), ("DEC", "declination")):
+            table[axis] = numpy.full(len(table), numpy.nan)
+            table[axis].unit, table[axis].description = units.deg, f"{text} of the centre in the ICRS"
+    table.add_column(numpy.full(len(table), name, dtype="U16"), index=0, name="FIELD")
+    table["FIELD"].description = "name of the field"
+    return table
+
+
+def fields_of(path: Union[str, os.PathLike]) -> Dict[str, fits.Header]:
+    """The headers of fields, by a table with the columns FIELD and IMAGE: CSV, ECSV, FITS or VOTable. IMAGE is the
+    name of a FITS file, from the table's own folder on, whose first HDU with a celestial WCS counts.
+    """
+    try:
+        listed = Table.read(path)
+    except (OSError, ValueError, TypeError) as error:
+        raise Mistake(f"{path}: this table can't be read ({' '.join(str(error).split())[:80]})") from None
+    if not {"FIELD", "IMAGE"} <= set(listed.colnames):
+        raise Mistake(f"{path}: a table of fields has the columns FIELD and IMAGE")
+    folder = pathlib.Path(path).resolve().parent
+    return {str(row["FIELD"]): _celestial(folder / str(row["IMAGE"])) for row in listed}
+
+
+def _celestial(path: pathlib.Path) -> fits.Header:
+    """The first header of a file that has celestial coordinates."""
+    try:
+        with fits.open(path, memmap=True) as hdus:
+            for hdu in hdus:
+                if "CTYPE1" in hdu.header and "CTYPE2" in hdu.header:
+                    return hdu.header.copy()
+    except OSError as error:
+        raise Mistake(f"{path}: {error.strerror or 'no FITS file'}") from None
+    raise Mistake(f"{path}: no header has sky coordinates")

@@ -1,0 +1,316 @@
+"""Surveys: reading the file that maxsurvey keeps, adding to it, matching, and exporting."""
+import os
+import shutil
+import sqlite3
+import struct
+import subprocess
+
+import numpy
+import pytest
+from astropy.io import fits
+from astropy.table import Table
+from astropy.wcs import WCS
+
+import maxdetect
+from maxdetect import adding, cli, exporting, surveys
+from maxdetect.errors import Mistake
+
+SCHEMA = "CREATE TABLE IF NOT EXISTS source (field TEXT NOT NULL PRIMARY KEY, cells BLOB NOT NULL) STRICT"
+
+
+def cells(*rows):
+    """Rows as the program keeps them."""
+    return b"".join(struct.pack(">17q", *row) for row in rows)
+
+
+def row(number, flux, x=1000, y=1000):
+    return (number, 9, 4, 3, flux, 8, 1, 2, 1, 2, 1, 1, x, y, 0, 0, 0)
+
+
+def kept(path, **fields):
+    """The file of a survey with these fields' bytes."""
+    with sqlite3.connect(path) as file:
+        file.execute(SCHEMA)
+        file.executemany("INSERT INTO source VALUES (?, ?)", fields.items())
+    file.close()
+    return path
+
+
+@pytest.fixture
+def two(tmp_path):
+    return kept(tmp_path / "two.db", SOUTH=cells(row(1, 50), row(2, 70)), NORTH=cells(row(1, 70, 2500, 1500)))
+
+
+def sky(at=150.0):
+    wcs = WCS(naxis=2)
+    wcs.wcs.ctype, wcs.wcs.crval, wcs.wcs.crpix = ["RA---TAN", "DEC--TAN"], [at, 2.0], [1.0, 1.0]
+    wcs.wcs.cdelt = [-1 / 3600, 1 / 3600]
+    return wcs
+
+
+# ---- reading
+
+
+def test_a_survey_is_a_mapping(two):
+    opened = maxdetect.survey(two)
+    assert list(opened) == ["NORTH", "SOUTH"] and len(opened) == 2
+    assert "NORTH" in opened and "WEST" not in opened and 7 not in opened
+    table = opened["SOUTH"]
+    assert table["FLUX"].tolist() == [50, 70] and table["NUMBER"].tolist() == [1, 2]
+    assert str(table["AREA"].unit) == "pix" and table["FLUX"].description
+    assert opened["NORTH"]["X", "Y"].as_array().tolist() == [(2.5, 1.5)]
+    with pytest.raises(KeyError):
+        opened["WEST"]
+
+
+def test_what_another_process_adds_is_seen(two):
+    opened = maxdetect.survey(two)
+    kept(two, EAST=cells(row(1, 5)))
+    assert list(opened) == ["EAST", "NORTH", "SOUTH"]
+
+
+def test_all_fields_as_one_table(two):
+    table = maxdetect.survey(two).table()
+    assert table["FIELD", "NUMBER", "FLUX"].as_array().tolist() == [
+        ("NORTH", 1, 70),
+        ("SOUTH", 1, 50),
+        ("SOUTH", 2, 70),
+    ]
+    assert maxdetect.survey(two).table(["SOUTH"])["FLUX"].tolist() == [50, 70]
+    assert len(maxdetect.survey(two).table([])) == 0
+
+
+def test_the_brightest_are_those_of_the_program(two):
+    opened = maxdetect.survey(two)
+    assert opened.brightest(2)["FIELD", "NUMBER"].as_array().tolist() == [("NORTH", 1), ("SOUTH", 2)]
+    assert opened.brightest(9)["FLUX"].tolist() == [70, 70, 50]
+
+
+def test_places_in_the_sky(two):
+    table = maxdetect.survey(two).table(sky={"NORTH": sky()})
+    assert table["RA"][0] == pytest.approx(150 - 1.5 / 3600, abs=1e-6)
+    assert table["DEC"][0] == pytest.approx(2 + 0.5 / 3600, abs=1e-9)
+    assert numpy.isnan(table["RA"][1:]).all() and str(table["RA"].unit) == "deg"
+
+
+def test_an_empty_field_and_an_empty_survey(tmp_path):
+    assert len(maxdetect.survey(kept(tmp_path / "one.db", A=b""))["A"]) == 0
+    nothing = maxdetect.survey(kept(tmp_path / "none.db"))
+    assert list(nothing) == [] and len(nothing.table()) == 0 and len(nothing.brightest(3)) == 0
+    assert "FIELD" in nothing.table().colnames
+
+
+@pytest.mark.parametrize("blob", [b"123", cells(row(2, 5)), cells(row(1, 5)) + b"x", None])
+def test_rows_of_another_form(tmp_path, blob):
+    path = tmp_path / "other.db"
+    with sqlite3.connect(path) as file:
+        file.execute("CREATE TABLE source (field TEXT, cells BLOB)")
+        file.execute("INSERT INTO source VALUES ('A', ?)", (blob,))
+    file.close()
+    with pytest.raises(Mistake, match="field A"):
+        maxdetect.survey(path)["A"]
+
+
+def test_what_is_no_survey(tmp_path):
+    (tmp_path / "text").write_text("no database, but longer than a header of one" * 9)
+    with sqlite3.connect(tmp_path / "empty.db") as file:
+        file.execute("CREATE TABLE t (a)")
+    file.close()
+    for name, cause in (("text", "no survey"), ("empty.db", "no survey"), ("none.db", "no such file"), ("", "folder")):
+        with pytest.raises(Mistake, match=cause):
+            maxdetect.survey(tmp_path / name)
+    assert not (tmp_path / "none.db").exists()
+
+
+def test_a_name_that_is_none(tmp_path):
+    with pytest.raises(Mistake, match="no field's name"):
+        list(maxdetect.survey(kept(tmp_path / "a.db", **{"A B": b""})))
+
+
+def test_a_file_in_a_folder_that_cannot_be_written(two):
+    os.chmod(two.parent, 0o555)
+    try:
+        assert maxdetect.survey(two)["NORTH"]["FLUX"].tolist() == [70]
+    finally:
+        os.chmod(two.parent, 0o755)
+
+
+def test_sums_tell_what_changed(two):
+    opened = maxdetect.survey(two)
+    with pytest.raises(Mistake, match="never sealed"):
+        opened.changed()
+    assert opened.seal() == 2 and opened.changed() == []
+    with sqlite3.connect(two) as file:
+        file.execute("UPDATE source SET cells = ? WHERE field = 'NORTH'", (cells(row(1, 71)),))
+        file.execute("INSERT INTO source VALUES ('EAST', ?)", (b"",))
+        file.execute("DELETE FROM source WHERE field = 'SOUTH'")
+    file.close()
+    assert opened.changed() == ["EAST", "NORTH", "SOUTH"]
+    assert opened.seal() == 2 and opened.changed() == []
+
+
+# ---- matching
+
+
+def test_sources_at_one_place():
+    one = Table({"RA": [10.0, 20.0, numpy.nan], "DEC": [0.0, 0.0, 0.0], "ID": [1, 2, 3]})
+    other = Table({"RA": [20.0001, 10.1], "DEC": [0.0, 0.0], "NAME": ["b", "a"]})
+    found = maxdetect.match(one, other, 1.0)
+    assert found["ID"].tolist() == [2] and found["NAME"].tolist() == ["b"]
+    assert found["SEPARATION"][0] == pytest.approx(0.36, abs=1e-3) and str(found["SEPARATION"].unit) == "arcsec"
+    assert len(maxdetect.match(one[2:], other, 1.0)) == 0 and len(maxdetect.match(one, other[:0], 1.0)) == 0
+    with pytest.raises(Mistake, match="no RA and DEC"):
+        maxdetect.match(one, Table({"X": [1]}), 1.0)
+
+
+# ---- adding
+
+
+@pytest.fixture
+def program():
+    found = os.environ.get("MAXSURVEY") or shutil.which("maxsurvey")
+    if not found:
+        pytest.skip("the environment's MAXSURVEY names no program")
+    return found
+
+
+def listed(program, path):
+    return subprocess.run([program, "--file", path, "list"], stdout=subprocess.PIPE, check=True, text=True).stdout
+
+
+def test_a_catalogue_is_added_and_read_back(tmp_path, stars, program):
+    table, _ = maxdetect.catalogue(stars[0])
+    path = tmp_path / "s.db"
+    maxdetect.add(path, "STARS", table)
+    opened = maxdetect.survey(path)
+    found = opened["STARS"]
+    assert found["NUMBER"].tolist() == list(range(1, len(table) + 1))
+    assert found["FLUX"].tolist() == numpy.rint(numpy.asarray(table["FLUX_ISO"])).astype(int).tolist()
+    assert found["XCEN"].tolist() == table["XCEN"].tolist()
+    assert listed(program, path) == f"STARS {len(table)} {sum(found['FLUX'].tolist())}\n"
+    maxdetect.add(path, "STARS", table[:3], unit=10)
+    assert len(opened["STARS"]) == 3 and opened["STARS"]["FLUX"][0] == round(table["FLUX_ISO"][0] / 10)
+    assert opened.seal() == 1
+    assert listed(program, path).startswith("STARS 3 ")
+
+
+def test_what_is_not_added(tmp_path, stars, program, monkeypatch):
+    table, _ = maxdetect.catalogue(stars[0])
+    with pytest.raises(Mistake, match="no field's name"):
+        maxdetect.add(tmp_path / "s.db", "A B", table)
+    with pytest.raises(Mistake, match="no whole number"):
+        maxdetect.add(tmp_path / "s.db", "A", table, unit=1e-300)
+    assert os.listdir(tmp_path) == []
+    (tmp_path / "text").write_text("no database, but longer than a header of one" * 9)
+    with pytest.raises(Mistake, match="keeper fault"):
+        maxdetect.add(tmp_path / "text", "A", table)
+    with pytest.raises(Mistake, match="can't be run"):
+        maxdetect.add(tmp_path / "s.db", "A", table, program=tmp_path / "text")
+    for name in ("MAXSURVEY", "PATH"):
+        monkeypatch.setenv(name, "")
+    monkeypatch.setattr(adding, "__file__", str(tmp_path / "a" / "b" / "c.py"))
+    with pytest.raises(Mistake, match="maxsurvey isn't on the PATH"):
+        maxdetect.add(tmp_path / "s.db", "A", table)
+
+
+def test_maxcat_adds_what_it_found(tmp_path, monkeypatch, stars, program, capsys):
+    monkeypatch.chdir(tmp_path)
+    fits.writeto("a.fits", stars[0], sky().to_header())
+    fits.writeto("b.fits", stars[0][:128])
+    assert cli.main(["a.fits", "b.fits", "--survey", "s.db"]) == 0
+    opened = maxdetect.survey("s.db")
+    assert list(opened) == ["a", "b"] and len(opened["a"]) == len(Table.read("a.cat.fits"))
+    assert cli.main(["a.fits", "--survey", "s.db", "--field", "NORTH", "--survey-unit", "100"]) == 0
+    assert opened["NORTH"]["FLUX"][0] == round(opened["a"]["FLUX"][0] / 100)
+    capsys.readouterr()
+
+
+@pytest.mark.parametrize(
+    "words, cause",
+    [
+        (["--field", "A"], "--field wants a --survey"),
+        (["--survey-unit", "2"], "--survey-unit wants a --survey"),
+        (["--survey", "s.db", "--hdu", "all"], "--survey is for one HDU"),
+        (["--survey", "s.db", "--field", "A B"], "no field's name"),
+        (["--survey", ""], "--survey has an empty name"),
+        (["--survey", "s.db", "--survey-unit", "0"], "--survey-unit"),
+    ],
+)
+def test_mistakes_of_maxcat(tmp_path, monkeypatch, stars, capsys, words, cause):
+    monkeypatch.chdir(tmp_path)
+    fits.writeto("image.fits", stars[0])
+    assert cli.main(["image.fits", *words]) == 2
+    out, err = capsys.readouterr()
+    assert cause in err and err.count("\n") == 1 and out == "" and os.listdir(".") == ["image.fits"]
+
+
+def test_two_images_for_one_field(tmp_path, monkeypatch, stars, program, capsys):
+    monkeypatch.chdir(tmp_path)
+    os.mkdir("other")
+    fits.writeto("a.fits", stars[0])
+    fits.writeto("other/a.fits", stars[0])
+    assert cli.main(["a.fits", "other/a.fits", "--survey", "s.db"]) == 2
+    assert "two images would be the survey's field a" in capsys.readouterr().err
+
+
+# ---- exporting
+
+
+def exported(capsys, *words):
+    status = cli.told("maxdetect survey", exporting.run, [str(word) for word in words])
+    out, err = capsys.readouterr()
+    return status, out, err
+
+
+def test_export_to_tables(two, tmp_path, capsys):
+    for end in ("fits", "csv", "ecsv", "vot"):
+        path = tmp_path / f"all.{end}"
+        assert exported(capsys, two, "-o", path) == (0, f"3 sources of 2 fields in {path}\n", "")
+        assert Table.read(path)["FLUX"].tolist() == [70, 50, 70]
+    assert exported(capsys, two, "-o", path, "--field", "SOUTH", "--brightest", 1)[0] == 0
+    assert Table.read(path)["FIELD", "NUMBER"].as_array().tolist() == [("SOUTH", 2)]
+    assert exported(capsys, two) == (0, "NORTH 1 70\nSOUTH 2 120\n", "")
+
+
+def test_export_to_a_database_with_places(two, tmp_path, capsys):
+    fits.writeto(tmp_path / "north.fits", numpy.zeros((4, 4)), sky().to_header())
+    (tmp_path / "fields.csv").write_text("FIELD,IMAGE\nNORTH,north.fits\n")
+    assert exported(capsys, two, "-o", tmp_path / "plain.db", "--sky", tmp_path / "fields.csv")[0] == 0
+    with sqlite3.connect(tmp_path / "plain.db") as file:
+        found = file.execute("SELECT FIELD, NUMBER, FLUX, DEC FROM sources ORDER BY FIELD, NUMBER").fetchall()
+        indexes = [name for name, in file.execute("SELECT name FROM sqlite_master WHERE type = 'index'")]
+    file.close()
+    assert [it[:3] for it in found] == [("NORTH", 1, 70), ("SOUTH", 1, 50), ("SOUTH", 2, 70)]
+    assert found[0][3] == pytest.approx(2 + 0.5 / 3600) and found[1][3] is None
+    assert sorted(indexes) == ["sources_by_field", "sources_by_flux", "sources_by_place"]
+
+
+def test_seal_and_check(two, capsys):
+    assert exported(capsys, two, "--seal") == (0, "2 fields sealed\n", "")
+    assert exported(capsys, two, "--check") == (0, "", "")
+    with sqlite3.connect(two) as file:
+        file.execute("UPDATE source SET cells = x'' WHERE field = 'NORTH'")
+    file.close()
+    assert exported(capsys, two, "--check") == (2, "changed: NORTH\n", "")
+
+
+@pytest.mark.parametrize(
+    "words, cause",
+    [
+        (["-o", "all.txt"], "a catalogue's name ends in"),
+        (["--field", "WEST"], "has no field WEST"),
+        (["--sky", "none.csv"], "can't be read"),
+        (["--brightest", "0"], "--brightest"),
+        (["--check"], "was never sealed"),
+        (["-o", "two.db"], "is read, so it can't be written"),
+    ],
+)
+def test_mistakes_of_the_export(two, monkeypatch, capsys, words, cause):
+    monkeypatch.chdir(two.parent)
+    status, out, err = exported(capsys, "two.db", *words)
+    assert status == 2 and cause in err and err.count("\n") == 1 and out == ""
+    assert sorted(name for name in os.listdir(".") if not name.startswith("two.db-")) == ["two.db"]
+
+
+def test_the_columns_are_the_programs():
+    assert surveys.COLUMNS == list(maxdetect.DESCRIPTIONS)[:17]
