@@ -1,7 +1,7 @@
 -- Model: links of the pixels of some whole rows, and what they stand for.
 use Rattle.std.specs.Prelude.{◌≡◌, ℕ, ◌-◌, List, length, Option, ℤ, ◌⊎◌, ◌↔◌, slice_index_or}
 pub use Rattle.comp_tree.specs.Limits.{no_node}
-pub use Rattle.comp_tree.specs.Raster.{value_at, HasValue, ReachesLevel, is_before, ComesBefore}
+pub use Rattle.comp_tree.specs.Raster.{value_at, ReachesLevel, is_before, ComesBefore}
 pub use Rattle.comp_tree.specs.Grid.{IsWithin}
 use Rattle.comp_tree.specs.declared.shape.Connect.{Connect}
 use Rattle.comp_tree.specs.Raster.{Raster}
@@ -11,11 +11,6 @@ use Rattle.comp_tree.specs.Joined.{Joined}
 -- a is earlier than b
 abbrev pub ComesEarlier : List (Option ℤ) → ℕ → ℕ → Type 0
 ComesEarlier values a b = ComesBefore (value_at values a) a (value_at values b) b
-
--- p is one of these pixels, and defined
-pub record IsPixel (values : List (Option ℤ)) (first count p : ℕ) : Type 0 where
-  pub within : IsWithin first count p
-  pub value : HasValue (value_at values p)
 
 -- p is one of these pixels, and its value is at least h
 pub record IsHigh (values : List (Option ℤ)) (first count : ℕ) (h : ℤ) (p : ℕ) : Type 0 where

@@ -44,7 +44,8 @@ impl Plane {
     /// A plane in which every pixel is undefined.
     pub fn blank(alloc: Global, shape: Shape) -> Result<Plane, OutOfMemory>
         ensures shape { IfOk result (λ plane. plane.shape ≡ shape) }
-        ensures undefined { IfOk result (λ plane. plane.values ≡ replicate (shape.width * shape.height) None) }
+        ensures undefined { IfOk result
+            (λ plane. plane.values ≡ replicate (shape.width * shape.height) None) }
     {
         let count = shape.pixels() as usize;
         let numbers = vec![in alloc; UNDEFINED; count]?;

@@ -2,8 +2,6 @@ ghost use Rattle.std.specs.Prelude.{◌≡◌, ◌<◌};
 ghost use Rattle.comp_tree.specs.Windows.{Window, in_whole};
 
 use super::*;
-use dev_io::OutOfMemory;
-use std::alloc::Global;
 use std::test::Fail;
 
 #[derive(Drop)]
@@ -11,22 +9,10 @@ struct Case<'a> {
     width: u32,
     height: u32,
     connect: Connect,
-    // -1 stands for an undefined pixel
-    values: &'a [i64],
+    values: &'a [Option<i64>],
     // level, representative and parent of each node
     rows: &'a [(i64, u32, u32)],
     node_of: &'a [u32],
-}
-
-// A plane of these values.
-fn plane_of(alloc: Global, shape: Shape, values: &[i64]) -> Result<Plane, OutOfMemory> {
-    let mut plane = Plane::blank(alloc, shape)?;
-    for (p, value) in values.iter().enumerate() {
-        if *value >= 0 && *value < 100 && p < plane.shape().pixels() as usize {
-            plane.set(p as u32, Some(*value));
-        }
-    }
-    Ok(plane)
 }
 
 // A plane of given values, and what makes none: too few values, and one behind each bound of the range.
@@ -53,7 +39,7 @@ fn trees_of_small_planes(rt: HostRuntime) {
             width: 3,
             height: 1,
             connect: Connect::Four,
-            values: &[1, 2, 1],
+            values: &[Some(1), Some(2), Some(1)],
             rows: &[(1, 0, NONE), (2, 1, 0)],
             node_of: &[0, 1, 0],
         },
@@ -61,7 +47,7 @@ fn trees_of_small_planes(rt: HostRuntime) {
             width: 1,
             height: 1,
             connect: Connect::Four,
-            values: &[0],
+            values: &[Some(0)],
             rows: &[(0, 0, NONE)],
             node_of: &[0],
         },
@@ -69,7 +55,7 @@ fn trees_of_small_planes(rt: HostRuntime) {
             width: 2,
             height: 2,
             connect: Connect::Four,
-            values: &[9, 0, 0, 9],
+            values: &[Some(9), Some(0), Some(0), Some(9)],
             rows: &[(0, 1, NONE), (9, 0, 0), (9, 3, 0)],
             node_of: &[1, 0, 0, 2],
         },
@@ -77,7 +63,7 @@ fn trees_of_small_planes(rt: HostRuntime) {
             width: 2,
             height: 2,
             connect: Connect::Eight,
-            values: &[9, 0, 0, 9],
+            values: &[Some(9), Some(0), Some(0), Some(9)],
             rows: &[(0, 1, NONE), (9, 0, 0)],
             node_of: &[1, 0, 0, 1],
         },
@@ -85,7 +71,7 @@ fn trees_of_small_planes(rt: HostRuntime) {
             width: 2,
             height: 1,
             connect: Connect::Four,
-            values: &[-1, -1],
+            values: &[None, None],
             rows: &[],
             node_of: &[NONE, NONE],
         },
@@ -93,7 +79,7 @@ fn trees_of_small_planes(rt: HostRuntime) {
             width: 3,
             height: 1,
             connect: Connect::Four,
-            values: &[5, -1, 5],
+            values: &[Some(5), None, Some(5)],
             rows: &[(5, 0, NONE), (5, 2, NONE)],
             node_of: &[0, NONE, 1],
         },
@@ -101,7 +87,7 @@ fn trees_of_small_planes(rt: HostRuntime) {
             width: 3,
             height: 2,
             connect: Connect::Four,
-            values: &[1, 5, 1, 7, 1, 1],
+            values: &[Some(1), Some(5), Some(1), Some(7), Some(1), Some(1)],
             rows: &[(1, 0, NONE), (5, 1, 0), (7, 3, 0)],
             node_of: &[0, 1, 0, 2, 0, 0],
         },
@@ -109,7 +95,7 @@ fn trees_of_small_planes(rt: HostRuntime) {
             width: 3,
             height: 2,
             connect: Connect::Eight,
-            values: &[1, 5, 1, 7, 1, 1],
+            values: &[Some(1), Some(5), Some(1), Some(7), Some(1), Some(1)],
             rows: &[(1, 0, NONE), (5, 1, 0), (7, 3, 1)],
             node_of: &[0, 1, 0, 2, 0, 0],
         },
@@ -117,14 +103,26 @@ fn trees_of_small_planes(rt: HostRuntime) {
             width: 3,
             height: 3,
             connect: Connect::Four,
-            values: &[5, 0, 6, 5, 2, 6, 3, 3, 3],
+            values: &[
+                Some(5),
+                Some(0),
+                Some(6),
+                Some(5),
+                Some(2),
+                Some(6),
+                Some(3),
+                Some(3),
+                Some(3),
+            ],
             rows: &[(0, 1, NONE), (2, 4, 0), (3, 6, 1), (5, 0, 2), (6, 2, 2)],
             node_of: &[3, 0, 4, 3, 1, 4, 2, 2, 2],
         },
     ];
     for (number, case) in cases.iter().enumerate() {
         let shape = Shape::of(case.width, case.height).expect(&rt, "a shape");
-        let plane = plane_of(rt.alloc(), shape, case.values).expect(&rt, "memory");
+        let plane = Plane::of(rt.alloc(), shape, case.values)
+            .expect(&rt, "memory")
+            .expect(&rt, "a plane");
         let tree = plain_tree(rt.alloc(), &plane, case.connect).expect(&rt, "memory");
         assert!(rt; tree.shape() == shape, "case {number}");
         assert_eq!(rt; tree.rows().len(), case.rows.len(), "case {number}");
@@ -149,7 +147,13 @@ fn shapes_have_limits(rt: HostRuntime) {
 #[test]
 fn pixels_of_a_plane(rt: HostRuntime) {
     let shape = Shape::of(3, 2).expect(&rt, "a shape");
-    let plane = plane_of(rt.alloc(), shape, &[5, -1, 6, 5, 0, 7]).expect(&rt, "memory");
+    let plane = Plane::of(
+        rt.alloc(),
+        shape,
+        &[Some(5), None, Some(6), Some(5), Some(0), Some(7)],
+    )
+    .expect(&rt, "memory")
+    .expect(&rt, "a plane");
     assert_eq!(rt; plane.shape().pixels(), 6);
     assert_eq!(rt; plane.get(2), Some(6));
     assert_eq!(rt; plane.get(1), None);
@@ -173,7 +177,9 @@ fn neighbours_in_rising_order(rt: HostRuntime) {
 #[test]
 fn links_of_a_forest(rt: HostRuntime) {
     let shape = Shape::of(3, 1).expect(&rt, "a shape");
-    let plane = plane_of(rt.alloc(), shape, &[1, 2, 1]).expect(&rt, "memory");
+    let plane = Plane::of(rt.alloc(), shape, &[Some(1), Some(2), Some(1)])
+        .expect(&rt, "memory")
+        .expect(&rt, "a plane");
     assert_eq!(rt; plane.shape().pixels(), 3);
     let links = [NONE, 2, 0].to_vec(rt.alloc()).expect(&rt, "memory");
     let forest = Forest::of(links);
@@ -196,10 +202,41 @@ fn place_in_whole(shape: Shape, q: u32) -> u32
 #[test]
 fn nodes_of_a_window(rt: HostRuntime) {
     let shape = Shape::of(4, 3).expect(&rt, "a shape");
-    let values = [1, 1, 1, 1, 1, 1, 7, 9, 1, 1, 6, 1];
-    let plane = plane_of(rt.alloc(), shape, &values).expect(&rt, "memory");
+    let values = [
+        Some(1),
+        Some(1),
+        Some(1),
+        Some(1),
+        Some(1),
+        Some(1),
+        Some(7),
+        Some(9),
+        Some(1),
+        Some(1),
+        Some(6),
+        Some(1),
+    ];
+    let plane = Plane::of(rt.alloc(), shape, &values)
+        .expect(&rt, "memory")
+        .expect(&rt, "a plane");
     let part = Shape::of(3, 3).expect(&rt, "a shape");
-    let seen = plane_of(rt.alloc(), part, &[1, 1, 1, 1, 7, 9, 1, 6, 1]).expect(&rt, "memory");
+    let seen = Plane::of(
+        rt.alloc(),
+        part,
+        &[
+            Some(1),
+            Some(1),
+            Some(1),
+            Some(1),
+            Some(7),
+            Some(9),
+            Some(1),
+            Some(6),
+            Some(1),
+        ],
+    )
+    .expect(&rt, "memory")
+    .expect(&rt, "a plane");
     let tree = plain_tree(rt.alloc(), &plane, Connect::Eight).expect(&rt, "memory");
     let window = plain_tree(rt.alloc(), &seen, Connect::Eight).expect(&rt, "memory");
     assert_eq!(rt; tree.rows().len(), 4);

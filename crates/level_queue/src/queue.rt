@@ -1,6 +1,6 @@
 //! The queue: a list for each rank, whose items are linked in one array of links.
 ghost use Rattle.std.specs.Prelude.{◌≡◌, ℕ, ◌+◌, ◌^◌, ◌<◌, ◌≤◌, [], ◌∷◌, ◌++◌, length, drop, slice_get, IfOk, MatchOption};
-ghost use Rattle.level_queue.specs.Queue.{list_of, with_list, empty_queue, IsQueued, AllEmpty, IsHighest, StandsOnce};
+ghost use Rattle.level_queue.specs.Queue.{list_at, with_list, empty_queue, IsQueued, IsEmpty, IsHighestRank, IsFront, StandsOnce};
 
 use crate::rank_set::RankSet;
 use crate::raw_array::RawArray;
@@ -59,7 +59,7 @@ impl LevelQueue {
         requires rank { rank < length self.old.lists }
         requires item { item < self.old.items }
         requires free { ¬ IsQueued self.old item }
-        ensures appended { self.new ≡ with_list self.old rank (list_of self.old rank ++ item ∷ []) }
+        ensures appended { self.new ≡ with_list self.old rank (list_at self.old.lists rank ++ item ∷ []) }
         ensures ticked { queued.new ≡ queued.old + 1 }
     {
         queued.tick();
@@ -70,7 +70,7 @@ impl LevelQueue {
         requires rank { rank < length self.old.lists }
         requires item { item < self.old.items }
         requires free { ¬ IsQueued self.old item }
-        ensures { self.new ≡ with_list self.old rank (list_of self.old rank ++ item ∷ []) }
+        ensures { self.new ≡ with_list self.old rank (list_at self.old.lists rank ++ item ∷ []) }
     {
         let at = rank as usize;
         if self.used.contains(at) {
@@ -90,7 +90,7 @@ impl LevelQueue {
     /// The greatest rank whose list isn't empty. It reads four words, however many ranks there are.
     #[inline]
     pub fn highest(&self) -> Option<u32>
-        ensures { MatchOption result (AllEmpty self.now) (IsHighest self.now) }
+        ensures { MatchOption result (IsEmpty self.now.lists) (IsHighestRank self.now.lists) }
     {
         match self.used.greatest() {
             Some(rank) => Some(rank as u32),
@@ -102,8 +102,9 @@ impl LevelQueue {
     #[inline]
     pub fn front(&self, rank: u32) -> Option<u32>
         requires { rank < length self.now.lists }
-        ensures first { result ≡ slice_get (list_of self.now rank) 0 }
-        ensures once { StandsOnce self.now }
+        ensures { MatchOption result
+            (list_at self.now.lists rank ≡ [])
+            (IsFront self.now.lists rank) }
     {
         let at = rank as usize;
         if self.used.contains(at) {
@@ -117,8 +118,9 @@ impl LevelQueue {
     #[inline]
     pub fn pop_front(&mut self, rank: u32) -> Option<u32>
         requires { rank < length self.old.lists }
-        ensures first { result ≡ slice_get (list_of self.old rank) 0 }
-        ensures rest { self.new ≡ with_list self.old rank (drop 1 (list_of self.old rank)) }
+        ensures first { result ≡ slice_get (list_at self.old.lists rank) 0 }
+        ensures rest { self.new ≡ with_list self.old rank (drop 1 (list_at self.old.lists rank)) }
+        ensures once { StandsOnce self.old }
     {
         let at = rank as usize;
         if !self.used.contains(at) {

@@ -1,13 +1,16 @@
 -- Each kind of step keeps the counts.
-use Rattle.std.proofs.Common.{◌≡◌, ℕ, ◌+◌, ◌<◌, ◌≤◌, ◌≢◌, min, List, [], ◌∷◌, ◌++◌, length, set, sym, refl, ap, ◌∙◌, subst, ⊎_elim, arith, length-append, Option, Some, None}
+use Rattle.std.proofs.Common.{◌≡◌, ℕ, ◌+◌, ◌<◌, ◌≤◌, ◌≢◌, min, List, [], ◌∷◌, ◌++◌, length, set, sym, refl, ap, ◌∙◌, subst, ⊎_elim, arith, length-append}
+use Rattle.std.proofs.Common.{Option, Some, None}
 use mathlib.Core.Logic.{dite}
 use native.Mathlib.Decide.{dec_le}
 use mathlib.Core.Option.{some}
 use lib.ListN.{get_elem?}
 use Rattle.atomic_table.proofs.Lists.{at_set, set_else, at_snoc}
 use Rattle.comp_tree.specs.Counts.{sum_below}
-use Rattle.strip_crew.specs.Counting.{SeatClaims, fresh, spent, claims, passes, gives_back, splits, joins, total_weight, weight_of, count_of, past_of, due_of, hands_of, holds_of, one_if_some, one_if_is, Counts}
-use Rattle.strip_crew.proofs.Lists.{no_items, total_alone, total_same, total_append, total_set, term_le, terms_le, total_one, below_one, below_next, only, only_same, below_only}
+use Rattle.strip_crew.specs.Counting.{SeatClaims, fresh, spent, after_claim, after_pass, after_give_back, after_split, after_join, total_weight, weight_of}
+use Rattle.strip_crew.specs.Counting.{count_of, past_of, due_of, hands_of, holds_of, one_if_some, one_if_is, Counts}
+use Rattle.strip_crew.proofs.Lists.{no_items, total_alone, total_same, total_append, total_set, term_le, terms_le, total_one, below_one, below_next, only}
+use Rattle.strip_crew.proofs.Lists.{only_same, below_only}
 
 abbrev value_or : Option ℕ → ℕ
 value_or None = 0
@@ -23,10 +26,13 @@ abbrev pub EndsWith : ℕ → SeatClaims → Type 0
 EndsWith r c = (before : List ℕ) × (c.claimed ≡ before ++ r ∷ [])
 
 -- a fact on each seat, after a change of one
-each_set : (P : SeatClaims → Type 0) (cs : List SeatClaims) (j : ℕ) (d : SeatClaims) → P d → ((i : ℕ) (e : SeatClaims) → get_elem? cs i ≡ some e → P e) → (i : ℕ) (e : SeatClaims) → get_elem? (set cs j d) i ≡ some e → P e
-each_set P cs j d here others i e found = ⊎_elim (λ (t : (i ≡ j) × (d ≡ e)). subst P t.1 here) (λ (t : (i ≢ j) × (get_elem? cs i ≡ some e)). others i e t.1) (at_set cs j i d e found)
+each_set : (P : SeatClaims → Type 0) (cs : List SeatClaims) (j : ℕ) (d : SeatClaims) → P d → ((i : ℕ) (e : SeatClaims) → get_elem? cs i ≡ some e → P e)
+    → (i : ℕ) (e : SeatClaims) → get_elem? (set cs j d) i ≡ some e → P e
+each_set P cs j d here others i e found =
+    ⊎_elim (λ (t : (i ≡ j) × (d ≡ e)). subst P t.1 here) (λ (t : (i ≢ j) × (get_elem? cs i ≡ some e)). others i e t.1) (at_set cs j i d e found)
 
-each_snoc : (P : SeatClaims → Type 0) (cs : List SeatClaims) (d : SeatClaims) → P d → ((i : ℕ) (e : SeatClaims) → get_elem? cs i ≡ some e → P e) → (i : ℕ) (e : SeatClaims) → get_elem? (cs ++ d ∷ []) i ≡ some e → P e
+each_snoc : (P : SeatClaims → Type 0) (cs : List SeatClaims) (d : SeatClaims) → P d → ((i : ℕ) (e : SeatClaims) → get_elem? cs i ≡ some e → P e)
+    → (i : ℕ) (e : SeatClaims) → get_elem? (cs ++ d ∷ []) i ≡ some e → P e
 each_snoc P cs d here others i e found = ⊎_elim (λ (t : get_elem? cs i ≡ some e). others i e t) (λ (t : d ≡ e). subst P t here) (at_snoc cs d e i found)
 
 abbrev Lasts : ℕ → SeatClaims → Type 0
@@ -56,19 +62,28 @@ module _ (n k w0 w1 : ℕ) (cs : List SeatClaims) (o : Counts n k w0 w1 cs) wher
   word1_le = omega (arith, claimed_in_all, o.given)
 
   module _ (j : ℕ) (c : SeatClaims) (at : get_elem? cs j ≡ some c) where
-    pub claims_counts : c.hand ≡ None → 0 < c.due → w0 < n → Counts n k (w0 + 1) w1 (set cs j (claims c w0))
-    claims_counts empty due near = let d : SeatClaims = claims c w0 in record {
+    pub claims_counts : c.hand ≡ None → 0 < c.due → w0 < n → Counts n k (w0 + 1) w1 (set cs j (after_claim c w0))
+    claims_counts empty due near = let d : SeatClaims = after_claim c w0 in record {
       once = λ h. let more : min (w0 + 1) n ≡ min w0 n + 1 = omega arith in let here : min w0 n ≡ w0 = omega arith in
-          omega (arith, total_set (weight_of h) cs j c d at, total_append h c.claimed (w0 ∷ []), o.once h, ap (sum_below h) more, below_next h (min w0 n), ap h here);
+          omega (
+            arith,
+            total_set (weight_of h) cs j c d at,
+            total_append h c.claimed (w0 ∷ []),
+            o.once h,
+            ap (sum_below h) more,
+            below_next h (min w0 n),
+            ap h here,
+          );
       counted = omega (arith, o.counted, total_set count_of cs j c d at, total_set past_of cs j c d at, length-append c.claimed (w0 ∷ []));
-      last = λ i e r. each_set (Lasts r) cs j d (λ is. (c.claimed, ap (λ (x : ℕ). c.claimed ++ x ∷ []) (hand_is w0 r is))) (λ i' e' found is. o.last i' e' r found is) i e;
+      last = λ i e r. each_set (Lasts r) cs j d (λ is. (c.claimed, ap (λ (x : ℕ). c.claimed ++ x ∷ []) (hand_is w0 r is)))
+          (λ i' e' found is. o.last i' e' r found is) i e;
       given = omega (arith, o.given, total_set count_of cs j c d at, total_set hands_of cs j c d at, length-append c.claimed (w0 ∷ []), ap one_if_some empty);
       ends = omega (arith, o.ends, total_set due_of cs j c d at, total_set past_of cs j c d at);
       owing = each_set Owes cs j d (λ _. omega (arith, due)) o.owing;
     }
 
-    pub passes_counts : c.hand ≡ None → 0 < c.due → n ≤ w0 → Counts n k (w0 + 1) w1 (set cs j (passes c))
-    passes_counts empty due far = let d : SeatClaims = passes c in record {
+    pub passes_counts : c.hand ≡ None → 0 < c.due → n ≤ w0 → Counts n k (w0 + 1) w1 (set cs j (after_pass c))
+    passes_counts empty due far = let d : SeatClaims = after_pass c in record {
       once = λ h. let same : min (w0 + 1) n ≡ min w0 n = omega arith in omega (arith, total_set (weight_of h) cs j c d at, o.once h, ap (sum_below h) same);
       counted = omega (arith, o.counted, total_set count_of cs j c d at, total_set past_of cs j c d at);
       last = λ i e r. each_set (Lasts r) cs j d (λ is. o.last j c r at is) (λ i' e' found is. o.last i' e' r found is) i e;
@@ -77,8 +92,8 @@ module _ (n k w0 w1 : ℕ) (cs : List SeatClaims) (o : Counts n k w0 w1 cs) wher
       owing = each_set Owes cs j d (λ _. omega arith) o.owing;
     }
 
-    pub gives_counts : (i : ℕ) → c.hand ≡ Some i → Counts n k w0 (w1 + 1) (set cs j (gives_back c))
-    gives_counts i has = let d : SeatClaims = gives_back c in record {
+    pub gives_counts : (i : ℕ) → c.hand ≡ Some i → Counts n k w0 (w1 + 1) (set cs j (after_give_back c))
+    gives_counts i has = let d : SeatClaims = after_give_back c in record {
       once = λ h. omega (arith, total_set (weight_of h) cs j c d at, o.once h);
       counted = omega (arith, o.counted, total_set count_of cs j c d at, total_set past_of cs j c d at);
       last = λ x e r. each_set (Lasts r) cs j d (λ is. absurd (no_hand r is)) (λ i' e' found is. o.last i' e' r found is) x e;
@@ -87,23 +102,49 @@ module _ (n k w0 w1 : ℕ) (cs : List SeatClaims) (o : Counts n k w0 w1 cs) wher
       owing = each_set Owes cs j d (λ some_claimed. o.owing j c at some_claimed) o.owing;
     }
 
-    pub splits_counts : c.claimed ≡ [] → 0 < c.due → Counts n k w0 w1 (set cs j (splits c) ++ fresh 1 ∷ [])
-    splits_counts empty due = let d : SeatClaims = splits c in let ds : List SeatClaims = set cs j d in let f : SeatClaims = fresh 1 in record {
+    pub splits_counts : c.claimed ≡ [] → 0 < c.due → Counts n k w0 w1 (set cs j (after_split c) ++ fresh 1 ∷ [])
+    splits_counts empty due = let d : SeatClaims = after_split c in let ds : List SeatClaims = set cs j d in let f : SeatClaims = fresh 1 in record {
       once = λ h. omega (arith, total_append (weight_of h) ds (f ∷ []), total_set (weight_of h) cs j c d at, o.once h);
-      counted = omega (arith, o.counted, total_append count_of ds (f ∷ []), total_append past_of ds (f ∷ []), total_set count_of cs j c d at, total_set past_of cs j c d at);
-      last = λ i e r. each_snoc (Lasts r) ds f (λ is. absurd (no_hand r is)) (each_set (Lasts r) cs j d (λ is. o.last j c r at is) (λ i' e' found is. o.last i' e' r found is)) i e;
-      given = omega (arith, o.given, total_append count_of ds (f ∷ []), total_append hands_of ds (f ∷ []), total_set count_of cs j c d at, total_set hands_of cs j c d at);
-      ends = omega (arith, o.ends, due, total_append due_of ds (f ∷ []), total_append past_of ds (f ∷ []), total_set due_of cs j c d at, total_set past_of cs j c d at);
+      counted = omega (
+        arith,
+        o.counted,
+        total_append count_of ds (f ∷ []),
+        total_append past_of ds (f ∷ []),
+        total_set count_of cs j c d at,
+        total_set past_of cs j c d at,
+      );
+      last = λ i e r. each_snoc (Lasts r) ds f (λ is. absurd (no_hand r is))
+          (each_set (Lasts r) cs j d (λ is. o.last j c r at is) (λ i' e' found is. o.last i' e' r found is)) i e;
+      given = omega (
+        arith,
+        o.given,
+        total_append count_of ds (f ∷ []),
+        total_append hands_of ds (f ∷ []),
+        total_set count_of cs j c d at,
+        total_set hands_of cs j c d at,
+      );
+      ends = omega (
+        arith,
+        o.ends,
+        due,
+        total_append due_of ds (f ∷ []),
+        total_append past_of ds (f ∷ []),
+        total_set due_of cs j c d at,
+        total_set past_of cs j c d at,
+      );
       owing = each_snoc Owes ds f (λ z. absurd (omega arith)) (each_set Owes cs j d (λ z. absurd (omega (arith, ap (λ (l : List ℕ). length l) empty))) o.owing);
     }
 
-    pub joins_counts : (l : ℕ) (b : SeatClaims) → get_elem? (set cs j (joins c b)) l ≡ some b → l ≢ j → c.hand ≡ None → b.hand ≡ None → Counts n k w0 w1 (set (set cs j (joins c b)) l spent)
-    joins_counts l b there apart empty free = let d : SeatClaims = joins c b in let ds : List SeatClaims = set cs j d in
+    pub joins_counts : (l : ℕ) (b : SeatClaims) → get_elem? (set cs j (after_join c b)) l ≡ some b → l ≢ j → c.hand ≡ None → b.hand ≡ None
+        → Counts n k w0 w1 (set (set cs j (after_join c b)) l spent)
+    joins_counts l b there apart empty free = let d : SeatClaims = after_join c b in let ds : List SeatClaims = set cs j d in
         let was : get_elem? cs l ≡ some b = sym (set_else cs j l d apart) ∙ there in
-        let both : (g : SeatClaims → ℕ) → total_weight g (set ds l spent) + g b + g c ≡ total_weight g cs + g d + g spent = λ g. omega (arith, total_set g cs j c d at, total_set g ds l b spent there) in record {
+        let both : (g : SeatClaims → ℕ) → total_weight g (set ds l spent) + g b + g c ≡ total_weight g cs + g d + g spent =
+        λ g. omega (arith, total_set g cs j c d at, total_set g ds l b spent there) in record {
           once = λ h. omega (arith, both (weight_of h), total_append h c.claimed b.claimed, o.once h);
           counted = omega (arith, o.counted, both count_of, both past_of, length-append c.claimed b.claimed);
-          last = λ i e r. each_set (Lasts r) ds l spent (λ is. absurd (no_hand r is)) (each_set (Lasts r) cs j d (λ is. absurd (no_hand r is)) (λ i' e' found is. o.last i' e' r found is)) i e;
+          last = λ i e r. each_set (Lasts r) ds l spent (λ is. absurd (no_hand r is))
+              (each_set (Lasts r) cs j d (λ is. absurd (no_hand r is)) (λ i' e' found is. o.last i' e' r found is)) i e;
           given = omega (arith, o.given, both count_of, both hands_of, length-append c.claimed b.claimed, ap one_if_some empty, ap one_if_some free);
           ends = omega (arith, o.ends, both due_of, both past_of);
           owing = each_set Owes ds l spent (λ z. absurd (omega arith)) (each_set Owes cs j d (λ more. dite (dec_le (length c.claimed) 0)
@@ -114,7 +155,8 @@ module _ (n k w0 w1 : ℕ) (cs : List SeatClaims) (o : Counts n k w0 w1 cs) wher
     module _ (all : c.past ≡ k) where
       others : (i : ℕ) (d : SeatClaims) → i ≢ j → get_elem? cs i ≡ some d → length d.claimed ≡ 0
       others i d ne found = dite (dec_le (length d.claimed) 0) (λ h. omega arith)
-          (λ some_claimed. absurd (omega (arith, o.owing i d found (omega arith), o.ends, terms_le past_of cs j i c d ne at found, term_le due_of cs i d found)))
+          (λ some_claimed.
+          absurd (omega (arith, o.owing i d found (omega arith), o.ends, terms_le past_of cs j i c d ne at found, term_le due_of cs i d found)))
 
       pub nothing : (i : ℕ) (d : SeatClaims) → i ≢ j → get_elem? cs i ≡ some d → d.claimed ≡ []
       nothing i d ne found = no_items d.claimed (others i d ne found)

@@ -1,5 +1,6 @@
 -- The seats of a crew, and the jobs that come out of a table.
-use Rattle.std.proofs.Common.{◌≡◌, ℕ, zero, suc, ◌+◌, ◌-◌, ◌<◌, ◌≤◌, Bool, true, false, List, [], ◌∷◌, ◌++◌, All, length, get_or, set, take, drop, refl, sym, ap, ◌∙◌, subst, arith, get_or-set_same, get_or-set_other}
+use Rattle.std.proofs.Common.{◌≡◌, ℕ, zero, suc, ◌+◌, ◌-◌, ◌<◌, ◌≤◌, Bool, true, false, List, [], ◌∷◌, ◌++◌, All, length, get_or, set, take, drop, refl, sym}
+use Rattle.std.proofs.Common.{ap, ◌∙◌, subst, arith, get_or-set_same, get_or-set_other}
 use mathlib.Core.Logic.{dite}
 use native.Mathlib.Decide.{ℕ_discrete}
 use mathlib.Core.Option.{some, some-injective, some-ne-none}
@@ -41,19 +42,23 @@ pasted old new n is same = take_front new (drop (length new) old) n (is ∙ sym 
 pub take_on : {A : Type 0} (xs : List A) (i : ℕ) (x : A) → get_elem? xs i ≡ some x → take (i + 1) xs ≡ take i xs ++ x ∷ []
 take_on [] i x e = absurd (some-ne-none x (sym e))
 take_on (y ∷ ys) zero x e = ap (λ z. z ∷ []) (some-injective y x e)
-take_on {A = A} (y ∷ ys) (suc i) x e = let n : suc i + 1 ≡ suc (i + 1) = omega arith in ap (λ (k : ℕ). take k (y ∷ ys)) n ∙ ap (λ (l : List A). y ∷ l) (take_on ys i x e)
+take_on {A = A} (y ∷ ys) (suc i) x e = let n : suc i + 1 ≡ suc (i + 1) =
+    omega arith in ap (λ (k : ℕ). take k (y ∷ ys)) n ∙ ap (λ (l : List A). y ∷ l) (take_on ys i x e)
 
 -- after place i was emptied, the later places are full and the others empty
-pub emptied_later : (fs : List Bool) (i n : ℕ) → ((k : ℕ) → i ≤ k → k < n → get_or fs k false ≡ true) → (k : ℕ) → i + 1 ≤ k → k < n → get_or (set fs i false) k false ≡ true
+pub emptied_later : (fs : List Bool) (i n : ℕ) → ((k : ℕ) → i ≤ k → k < n → get_or fs k false ≡ true) → (k : ℕ) → i + 1 ≤ k → k < n
+    → get_or (set fs i false) k false ≡ true
 emptied_later fs i n full k low high = get_or-set_other fs i k false false (λ z. omega arith) ∙ full k (omega arith) high
 
-pub emptied_before : (fs : List Bool) (i n : ℕ) → i < n → n ≡ length fs → ((k : ℕ) → k < i → get_or fs k false ≡ false) → (k : ℕ) → k < i + 1 → get_or (set fs i false) k false ≡ false
+pub emptied_before : (fs : List Bool) (i n : ℕ) → i < n → n ≡ length fs → ((k : ℕ) → k < i → get_or fs k false ≡ false) → (k : ℕ) → k < i + 1
+    → get_or (set fs i false) k false ≡ false
 emptied_before fs i n inside is empty k low = dite (ℕ_discrete k i)
     (λ e. subst (λ (x : ℕ). get_or (set fs i false) x false ≡ false) (sym e) (get_or-set_same fs i false false (omega arith)))
     (λ ne. get_or-set_other fs i k false false (λ z. ne (omega arith)) ∙ empty k (omega arith))
 
 -- the first seat after a split
-pub split_keeps : (run : Run) (m m' : Seated) → m ≡ (view (fresh m.0.claim.due) run, []) → m' ≡ (split_left m.0, m.1) → m' ≡ (view (fresh (m.0.claim.due - 1)) run, [])
+pub split_keeps : (run : Run) (m m' : Seated) → m ≡ (view (fresh m.0.claim.due) run, []) → m' ≡ (split_left m.0, m.1)
+    → m' ≡ (view (fresh (m.0.claim.due - 1)) run, [])
 split_keeps run m m' is made = made ∙ ap (λ (x : Seated). (split_left x.0, x.1)) is
 
 pub due_only : (run : Run) (m : Seated) (n : ℕ) → m ≡ (view (fresh n) run, []) → m ≡ (view (fresh m.0.claim.due) run, [])
@@ -62,8 +67,10 @@ due_only run m n is = is ∙ ap (λ (x : ℕ). (view (fresh x) run, [])) (sym (a
 -- a cut has no more strips than rows
 cut_climbs : (height : ℕ) (cut : List ℕ) → IsCut height cut → (i : ℕ) → i < length cut → i ≤ get_or cut i 0
 cut_climbs height cut c zero h = omega arith
-cut_climbs height cut c (suc i) h = let r = c.rises i (omega arith) in let e : i + 1 ≡ suc i = omega arith in let s : get_or cut (i + 1) 0 ≡ get_or cut (suc i) 0 = ap (λ (x : ℕ). get_or cut x 0) e in
+cut_climbs height cut c (suc i) h = let r = c.rises i (omega arith) in let e : i + 1 ≡ suc i =
+    omega arith in let s : get_or cut (i + 1) 0 ≡ get_or cut (suc i) 0 = ap (λ (x : ℕ). get_or cut x 0) e in
     let more = cut_climbs height cut c i (omega arith) in omega arith
 
 pub cut_fits : (height : ℕ) (cut : List ℕ) → IsCut height cut → length cut ≤ height
-cut_fits height cut c = let n : ℕ = length cut - 1 in let some_strip = c.some in let a = cut_climbs height cut c n (omega arith) in let b = c.below n (omega arith) in omega arith
+cut_fits height cut c = let n : ℕ = length cut - 1 in let some_strip = c.some in let a = cut_climbs height cut c n (omega arith) in let b =
+    c.below n (omega arith) in omega arith

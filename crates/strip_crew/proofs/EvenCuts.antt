@@ -1,5 +1,6 @@
 -- The rows of an even cut.
-use Rattle.std.proofs.Common.{◌≡◌, ℕ, ◌+◌, ◌*◌, ◌/◌, ◌<◌, ◌≤◌, ◌++◌, [], ◌∷◌, length, get_or, refl, ap, ◌∙◌, arith, add-mul, one-mul, zero-mul, mul_comm, mul-le-mul_right, mul-le-mul_left}
+use Rattle.std.proofs.Common.{◌≡◌, ℕ, ◌+◌, ◌*◌, ◌/◌, ◌<◌, ◌≤◌, ◌++◌, [], ◌∷◌, length, get_or, refl, ap, ◌∙◌, arith, add-mul, one-mul, zero-mul, mul_comm}
+use Rattle.std.proofs.Common.{mul-le-mul_right, mul-le-mul_left}
 use Rattle.std.proofs.Math.Nat.{div-le_self, div-mul-le_self, div-lt_iff_lt-mul}
 use Rattle.std.proofs.lemmas.Nat.{le-div}
 use Rattle.std.proofs.lemmas.List.FromFn.{get_or-map-range_with_len, length-map-range_with_len, map-range_with_len_more}
@@ -32,7 +33,8 @@ row_rises height count i some_strip few =
     let low : r * count ≤ i * height = div-mul-le_self (i * height) count in
     let here : (r + 1) * count ≡ r * count + count = next_product count r in
     let next : (i + 1) * height ≡ i * height + height = next_product height i in
-    let up : r + 1 ≤ (i + 1) * height / count = le-div (r + 1) ((i + 1) * height) count some_strip (let a : (r + 1) * count ≤ (i + 1) * height = omega arith in a) in
+    let up : r + 1 ≤ (i + 1) * height / count =
+    le-div (r + 1) ((i + 1) * height) count some_strip (let a : (r + 1) * count ≤ (i + 1) * height = omega arith in a) in
     omega arith
 
 row_below : (height count i : ℕ) → 0 < count → count ≤ height → i < count → i * height / count < height
@@ -46,8 +48,10 @@ pub even_is_cut : (height count : ℕ) → 0 < count → count ≤ height → Is
 even_is_cut height count some_strip few =
     let n : length (even_rows height count) ≡ count = rows_length height count count in record {
       some = omega arith;
-      first = row_value height count count 0 some_strip ∙ (let z : 0 * height ≡ 0 = zero-mul height in let a : 0 * height / count ≤ 0 * height = div-le_self (0 * height) count in omega arith);
-      rises = λ i h. (let a = row_value height count count i (omega arith) in let b = row_value height count count (i + 1) (omega arith) in let c = row_rises height count i some_strip few in omega arith);
+      first = row_value height count count 0 some_strip
+          ∙ (let z : 0 * height ≡ 0 = zero-mul height in let a : 0 * height / count ≤ 0 * height = div-le_self (0 * height) count in omega arith);
+      rises = λ i h. (let a = row_value height count count i (omega arith) in let b = row_value height count count (i + 1) (omega arith) in let c =
+          row_rises height count i some_strip few in omega arith);
       below = λ i h. (let a = row_value height count count i (omega arith) in let b = row_below height count i some_strip few (omega arith) in omega arith);
     }
 

@@ -2,7 +2,7 @@
 use Rattle.std.proofs.Common.{◌≡◌, ℕ, ◌<◌, List, [], ◌∷◌, Option, ℤ, length, sym, ap, ◌∙◌, subst}
 use Rattle.strip_flood.specs.Jobs.{JobView}
 use Rattle.strip_crew.specs.Run.{Plan, IsJobOf}
-use Rattle.strip_crew.specs.Claims.{IsFloodedFrom}
+use Rattle.strip_crew.specs.Workers.{IsFloodedFrom}
 
 pub still_job : (plan : Plan) (i : ℕ) (old new : JobView) → IsFloodedFrom old new → IsJobOf plan i old → IsJobOf plan i new
 still_job plan i old new f its =

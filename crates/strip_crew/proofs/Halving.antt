@@ -1,5 +1,6 @@
 -- A group of strips, divided at one of its boundaries, and joined again.
-use Rattle.std.proofs.Common.{◌≡◌, ℕ, ◌+◌, ◌-◌, ◌*◌, ◌/◌, ◌<◌, ◌≤◌, List, ◌++◌, length, get_or, take, drop, Option, ℤ, refl, sym, ap, ◌∙◌, subst, inl, inr, ⊎_elim, arith, length-append, mul-le-mul_right}
+use Rattle.std.proofs.Common.{◌≡◌, ℕ, ◌+◌, ◌-◌, ◌*◌, ◌/◌, ◌<◌, ◌≤◌, List, ◌++◌, length, get_or, take, drop, Option, ℤ, refl, sym, ap, ◌∙◌, subst, inl, inr}
+use Rattle.std.proofs.Common.{⊎_elim, arith, length-append, mul-le-mul_right}
 use Rattle.std.proofs.Math.Nat.{div-lt_iff_lt-mul, le-div_iff_mul-le}
 use Rattle.std.proofs.lemmas.Bool.{cases_eq, cases_lt}
 use Rattle.std.proofs.lemmas.List.{get_or-take, get_or-drop, length-take, length-drop}
@@ -8,16 +9,19 @@ use Rattle.comp_tree.specs.Raster.{Raster}
 use Rattle.comp_tree.specs.Joined.{Or}
 use Rattle.comp_tree.specs.Forest.{no_node, link_of, IsWithin, IsLink, ComesEarlier, IsForest, LinksToEarlier, JoinSame}
 use Rattle.tree_join.specs.Boundary.{IsBoundary}
-use Rattle.strip_crew.specs.Boundaries.{IsAcross, AreRows, AreApart, IsRowsPair, IsGroup, IsGroupJoined}
+use Rattle.strip_crew.specs.Boundaries.{IsAcross, AreRows, AreApart, IsRowsPair}
+use Rattle.strip_crew.specs.Halves.{IsGroup, IsGroupJoined}
 use Rattle.comp_tree.proofs.Exported.{same_sym, same_trans, same_or, same_pairs}
 use Rattle.tree_join.proofs.Exported.{link_left, link_right, part_left, part_right, forest_groups, links_groups, link_inside, groups_same}
 
 -- a group of one strip stays as it is
-pub group_none : (plane : Raster) (connect : Connect) (first_row : ℕ) (links rows : List ℕ) → IsGroup plane first_row links rows → length rows ≡ 0 → IsGroupJoined plane connect first_row rows links links
+pub group_none : (plane : Raster) (connect : Connect) (first_row : ℕ) (links rows : List ℕ) → IsGroup plane first_row links rows → length rows ≡ 0
+    → IsGroupJoined plane connect first_row rows links links
 group_none plane connect first_row links rows group none = record {
   same_length = refl;
   forest = group.forest;
-  joins = same_pairs plane.values first (length links) (IsLink first links) (Or (IsLink first links) (IsRowsPair plane.values plane.shape.width connect rows)) (λ x y e. inl e) back;
+  joins = same_pairs plane.values first (length links) (IsLink first links)
+      (Or (IsLink first links) (IsRowsPair plane.values plane.shape.width connect rows)) (λ x y e. inl e) back;
 } where
   first : ℕ
   first = first_row * plane.shape.width
@@ -41,7 +45,8 @@ pair_within values width connect first_row count rows pos are x y pair =
     let y_high : y < (row + 1) * width = (div-lt_iff_lt-mul pos).0 (omega arith) in
     (record { low = x_low; high = omega arith }, record { low = y_low; high = omega arith })
 
-module _ (plane : Raster) (connect : Connect) (first_row : ℕ) (links rows : List ℕ) (group : IsGroup plane first_row links rows) (k : ℕ) (near : k < length rows)
+module _ (plane : Raster) (connect : Connect) (first_row : ℕ) (links rows : List ℕ) (group : IsGroup plane first_row links rows)
+    (k : ℕ) (near : k < length rows)
     (left right : List ℕ) (is : links ≡ left ++ right) (at : first_row * plane.shape.width + length left ≡ get_or rows k 0 * plane.shape.width) where
   abbrev values : List (Option ℤ)
   values = plane.values
@@ -79,26 +84,35 @@ module _ (plane : Raster) (connect : Connect) (first_row : ℕ) (links rows : Li
   left_kept : (p : ℕ) → IsWithin first (length left) p → LinksToEarlier values first left p
   left_kept p w = let e = link_left first left right p w in let q : ℕ = link_of first (left ++ right) p in let high : p < first + length left = w.high in ⊎_elim
       (λ (n : q ≡ no_node). inl (sym e ∙ n))
-      (λ (s : IsWithin first (length (left ++ right)) q × ComesEarlier values q p). let low : first ≤ q = s.0.low in let top : q < first + (length left + length right) = rw length-append at s.0.high in
+      (λ (s : IsWithin first (length (left ++ right)) q × ComesEarlier values q p). let low : first ≤ q =
+      s.0.low in let top : q < first + (length left + length right) = rw length-append at s.0.high in
       let fits = group.fits in let small = group.small in let c = counts in ⊎_elim
-      (λ (stays : q < first + length left). inr (subst (λ (x : ℕ). IsWithin first (length left) x × ComesEarlier values x p) e (record { low = low; high = stays }, s.1)))
-      (λ (leaves : first + length left ≤ q). absurd (whole_apart.apart k p q near (record { within = part_left first left right p w; link = refl }) (λ n. omega arith) (inl (omega (arith, at), omega (arith, at)))))
+      (λ (stays : q < first + length left). inr
+      (subst (λ (x : ℕ). IsWithin first (length left) x × ComesEarlier values x p) e (record { low = low; high = stays }, s.1)))
+      (λ (leaves : first + length left ≤ q). absurd
+      (whole_apart.apart k p q near (record { within = part_left first left right p w; link = refl }) (λ n. omega arith)
+      (inl (omega (arith, at), omega (arith, at)))))
       (cases_lt q (first + length left)))
       (whole.earlier p (part_left first left right p w))
 
   right_kept : (p : ℕ) → IsWithin (first + length left) (length right) p → LinksToEarlier values (first + length left) right p
   right_kept p w = let e = link_right first left right p w in let q : ℕ = link_of first (left ++ right) p in let low : first + length left ≤ p = w.low in ⊎_elim
       (λ (n : q ≡ no_node). inl (sym e ∙ n))
-      (λ (s : IsWithin first (length (left ++ right)) q × ComesEarlier values q p). let top : q < first + (length left + length right) = rw length-append at s.0.high in
+      (λ (s : IsWithin first (length (left ++ right)) q × ComesEarlier values q p). let top : q < first + (length left + length right) =
+      rw length-append at s.0.high in
       let fits = group.fits in let small = group.small in let c = counts in ⊎_elim
-      (λ (leaves : q < first + length left). absurd (whole_apart.apart k p q near (record { within = part_right first left right p w; link = refl }) (λ n. omega arith) (inr (omega (arith, at), omega (arith, at)))))
-      (λ (stays : first + length left ≤ q). inr (subst (λ (x : ℕ). IsWithin (first + length left) (length right) x × ComesEarlier values x p) e (record { low = stays; high = omega arith }, s.1)))
+      (λ (leaves : q < first + length left). absurd
+      (whole_apart.apart k p q near (record { within = part_right first left right p w; link = refl }) (λ n. omega arith)
+      (inr (omega (arith, at), omega (arith, at)))))
+      (λ (stays : first + length left ≤ q). inr
+      (subst (λ (x : ℕ). IsWithin (first + length left) (length right) x × ComesEarlier values x p) e (record { low = stays; high = omega arith }, s.1)))
       (cases_lt q (first + length left)))
       (whole.earlier p (part_right first left right p w))
 
   front_rows : AreRows width first_row (length left) front
   front_rows = record {
-    rises = λ i j h l. (let a = (front_at i (omega arith)).1 in let b = (front_at j l).1 in let n = (front_at j l).0 in let c = group.cut.rises i j h (omega arith) in omega arith);
+    rises = λ i j h l. (let a = (front_at i (omega arith)).1 in let b = (front_at j l).1 in let n = (front_at j l).0 in let c =
+        group.cut.rises i j h (omega arith) in omega arith);
     low = λ i l. (let a = (front_at i l).1 in let n = (front_at i l).0 in let c = group.cut.low i (omega arith) in omega arith);
     inside = λ i l. (
         let a = (front_at i l).1 in let n = (front_at i l).0 in
@@ -109,7 +123,8 @@ module _ (plane : Raster) (connect : Connect) (first_row : ℕ) (links rows : Li
 
   back_rows : AreRows width row (length right) back
   back_rows = record {
-    rises = λ i j h l. (let a = (back_at i (omega arith)).1 in let b = (back_at j l).1 in let n = (back_at j l).0 in let c = group.cut.rises (k + 1 + i) (k + 1 + j) (omega arith) n in omega arith);
+    rises = λ i j h l. (let a = (back_at i (omega arith)).1 in let b = (back_at j l).1 in let n = (back_at j l).0 in let c =
+        group.cut.rises (k + 1 + i) (k + 1 + j) (omega arith) n in omega arith);
     low = λ i l. (let a = (back_at i l).1 in let n = (back_at i l).0 in let c = group.cut.rises k (k + 1 + i) (omega arith) n in omega arith);
     inside = λ i l. (
         let a = (back_at i l).1 in let n = (back_at i l).0 in
@@ -143,7 +158,8 @@ module _ (plane : Raster) (connect : Connect) (first_row : ℕ) (links rows : Li
     });
   }
 
-  module _ (above below : List ℕ) (above_is : IsGroupJoined plane connect first_row front left above) (below_is : IsGroupJoined plane connect row back right below) where
+  module _ (above below : List ℕ) (above_is : IsGroupJoined plane connect first_row front left above)
+      (below_is : IsGroupJoined plane connect row back right below) where
     base : first + length above ≡ row * width
     base = let e = above_is.same_length in omega (arith, at)
 
@@ -184,13 +200,15 @@ module _ (plane : Raster) (connect : Connect) (first_row : ℕ) (links rows : Li
     pos : 0 < width
     pos = plane.shape.within_limits.some_columns
 
-    front_within : (x y : ℕ) → IsWithin first (length (above ++ below)) x → IsWithin first (length (above ++ below)) y → Or Left Front x y → IsWithin first (length above) x × IsWithin first (length above) y
+    front_within : (x y : ℕ) → IsWithin first (length (above ++ below)) x → IsWithin first (length (above ++ below)) y → Or Left Front x y
+        → IsWithin first (length above) x × IsWithin first (length above) y
     front_within x y wx wy (inl l) = subst (λ (n : ℕ). IsWithin first n x × IsWithin first n y) (sym above_is.same_length)
         (link_inside values first above below new_small above_is.forest below_forest first left front_group.forest x y wy l)
     front_within x y wx wy (inr p) = subst (λ (n : ℕ). IsWithin first n x × IsWithin first n y) (sym above_is.same_length)
         (pair_within values width connect first_row (length left) front pos front_rows x y p)
 
-    back_within : (x y : ℕ) → IsWithin first (length (above ++ below)) x → IsWithin first (length (above ++ below)) y → Or Right Back x y → IsWithin (row * width) (length below) x × IsWithin (row * width) (length below) y
+    back_within : (x y : ℕ) → IsWithin first (length (above ++ below)) x → IsWithin first (length (above ++ below)) y → Or Right Back x y
+        → IsWithin (row * width) (length below) x × IsWithin (row * width) (length below) y
     back_within x y wx wy (inl l) = subst (λ (n : ℕ). IsWithin (row * width) n x × IsWithin (row * width) n y) (sym below_is.same_length)
         (link_inside values first above below new_small above_is.forest below_forest (row * width) right back_group.forest x y wy l)
     back_within x y wx wy (inr p) = subst (λ (n : ℕ). IsWithin (row * width) n x × IsWithin (row * width) n y) (sym below_is.same_length)
@@ -206,7 +224,8 @@ module _ (plane : Raster) (connect : Connect) (first_row : ℕ) (links rows : Li
     halves_same : JoinSame values first (length links) (IsLink first (above ++ below)) (Or (Or Left Front) (Or Right Back))
     halves_same = subst (λ (n : ℕ). JoinSame values first n (IsLink first (above ++ below)) (Or (Or Left Front) (Or Right Back))) halves_length
         (groups_same values first above below new_small above_is.forest below_forest (Or Left Front) (Or Right Back) front_within
-        (λ x y wx wy e. subst (λ (n : ℕ). IsWithin n (length below) x × IsWithin n (length below) y) (sym base) (back_within x y wx wy e)) above_same below_same)
+        (λ x y wx wy e. subst (λ (n : ℕ). IsWithin n (length below) x × IsWithin n (length below) y) (sym base) (back_within x y wx wy e))
+        above_same below_same)
 
     links_same : JoinSame values first (length links) (IsLink first links) (Or Left Right)
     links_same = subst (λ (n : ℕ). JoinSame values first (length links) (IsLink first links) (Or Left (IsLink n right))) at
@@ -215,9 +234,18 @@ module _ (plane : Raster) (connect : Connect) (first_row : ℕ) (links rows : Li
 
     to_all : (x y : ℕ) → Or (Or (Or Left Front) (Or Right Back)) (IsBoundary values width connect row) x y → Or (Or Left Right) All x y
     to_all x y (inl (inl (inl l))) = inl (inl l)
-    to_all x y (inl (inl (inr p))) = let i = front_at p.place p.inside in inr (record { place = p.place; inside = (let n = i.0 in omega arith); boundary = subst (λ (r : ℕ). IsBoundary values width connect r x y) i.1 p.boundary })
+    to_all x y (inl (inl (inr p))) = let i =
+        front_at p.place p.inside in
+        inr (record {
+          place = p.place;
+          inside = (let n = i.0 in omega arith);
+          boundary =
+              subst (λ (r : ℕ). IsBoundary values width connect r x y) i.1 p.boundary;
+        })
     to_all x y (inl (inr (inl l))) = inl (inr l)
-    to_all x y (inl (inr (inr p))) = let i = back_at p.place p.inside in inr (record { place = k + 1 + p.place; inside = i.0; boundary = subst (λ (r : ℕ). IsBoundary values width connect r x y) i.1 p.boundary })
+    to_all x y (inl (inr (inr p))) = let i =
+        back_at p.place p.inside in
+        inr (record { place = k + 1 + p.place; inside = i.0; boundary = subst (λ (r : ℕ). IsBoundary values width connect r x y) i.1 p.boundary })
     to_all x y (inr b) = inr (record { place = k; inside = near; boundary = b })
 
     from_all : (x y : ℕ) → Or (Or Left Right) All x y → Or (Or (Or Left Front) (Or Right Back)) (IsBoundary values width connect row) x y
@@ -225,11 +253,22 @@ module _ (plane : Raster) (connect : Connect) (first_row : ℕ) (links rows : Li
     from_all x y (inl (inr l)) = inl (inr (inl l))
     from_all x y (inr p) = let inside = p.inside in ⊎_elim
         (λ (l : p.place < k). let n = length-take k rows in let h : p.place < length front = omega arith in
-        inl (inl (inr (record { place = p.place; inside = h; boundary = subst (λ (r : ℕ). IsBoundary values width connect r x y) (sym (front_at p.place h).1) p.boundary }))))
+        inl (inl (inr (record {
+          place = p.place;
+          inside = h;
+          boundary =
+              subst (λ (r : ℕ). IsBoundary values width connect r x y) (sym (front_at p.place h).1) p.boundary;
+        }))))
         (λ (high : k ≤ p.place). ⊎_elim
         (λ (e : p.place ≡ k). inr (subst (λ (i : ℕ). IsBoundary values width connect (get_or rows i 0) x y) e p.boundary))
-        (λ (ne : p.place ≡ k → ⊥). let i : ℕ = p.place - (k + 1) in let n = length-drop (k + 1) rows in let h : i < length back = omega arith in let e : k + 1 + i ≡ p.place = omega arith in
-        inl (inr (inr (record { place = i; inside = h; boundary = subst (λ (r : ℕ). IsBoundary values width connect r x y) (sym ((back_at i h).1 ∙ ap (λ (j : ℕ). get_or rows j 0) e)) p.boundary }))))
+        (λ (ne : p.place ≡ k → ⊥). let i : ℕ = p.place - (k + 1) in let n = length-drop (k + 1) rows in let h : i < length back =
+        omega arith in let e : k + 1 + i ≡ p.place = omega arith in
+        inl (inr (inr (record {
+          place = i;
+          inside = h;
+          boundary =
+              subst (λ (r : ℕ). IsBoundary values width connect r x y) (sym ((back_at i h).1 ∙ ap (λ (j : ℕ). get_or rows j 0) e)) p.boundary;
+        }))))
         (cases_eq p.place k))
         (cases_lt p.place k)
 
@@ -237,7 +276,8 @@ module _ (plane : Raster) (connect : Connect) (first_row : ℕ) (links rows : Li
     pub all_joined : (new : List ℕ) → length new ≡ length (above ++ below) → IsForest values first new
         → JoinSame values first (length (above ++ below)) (IsLink first new) (Or (IsLink first (above ++ below)) (IsBoundary values width connect row))
         → IsGroupJoined plane connect first_row rows links new
-    all_joined new long forest joined = let n : ℕ = length links in let Both : ℕ → ℕ → Type 0 = IsLink first (above ++ below) in let Middle : ℕ → ℕ → Type 0 = IsBoundary values width connect row in
+    all_joined new long forest joined = let n : ℕ = length links in let Both : ℕ → ℕ → Type 0 = IsLink first (above ++ below) in let Middle : ℕ → ℕ → Type 0 =
+        IsBoundary values width connect row in
         let Halves : ℕ → ℕ → Type 0 = Or (Or Left Front) (Or Right Back) in record {
           same_length = long ∙ halves_length;
           forest = forest;

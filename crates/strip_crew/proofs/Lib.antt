@@ -1,16 +1,16 @@
-pub mod Lists
-pub mod Counting
-pub mod Core
-pub mod History
-pub mod Keeping
-pub mod Listed
-pub mod Working
-pub mod Jobs
-pub mod Groups
-pub mod Crews
-pub mod Copying
-pub mod EvenCuts
-pub mod Flooded
-pub mod Halving
-pub mod Apart
-pub mod Pixels
+mod Lists
+mod Counting
+mod Core
+mod History
+mod Keeping
+mod Listed
+mod Working
+mod Jobs
+mod Groups
+mod Crews
+mod Copying
+mod EvenCuts
+mod Flooded
+mod Halving
+mod Apart
+mod Pixels

@@ -15,7 +15,8 @@ use Rattle.strip_crew.proofs.Counting.{inside}
 weighs : (l : List ℕ) (place i : ℕ) → get_elem? l place ≡ some i → 0 < total_weight (only i) l
 weighs l place i at = omega (arith, term_le (only i) l place i at, only_same i)
 
-module _ (n k w0 w1 : ℕ) (cs : List SeatClaims) (o : Counts n k w0 w1 cs) (j : ℕ) (c : SeatClaims) (i : ℕ) (at : get_elem? cs j ≡ some c) (has : 0 < total_weight (only i) c.claimed)
+module _ (n k w0 w1 : ℕ) (cs : List SeatClaims) (o : Counts n k w0 w1 cs) (j : ℕ) (c : SeatClaims) (i : ℕ) (at : get_elem? cs j ≡ some c)
+    (has : 0 < total_weight (only i) c.claimed)
     (free : c.hand ≢ Some i) where
   not_held : (l : ℕ) (d : SeatClaims) → get_elem? cs l ≡ some d → d.hand ≡ Some i → ⊥
   not_held l d found held = dite (ℕ_discrete l j)
@@ -43,7 +44,8 @@ module _ (n k w0 w1 : ℕ) (cs : List SeatClaims) (o : Counts n k w0 w1 cs) (j :
 
 pub listed : ListedLaw
 listed run s j v place i o at lists free =
-    let n : ℕ = strips run in let k : ℕ = run.workers in let w0 : ℕ = get_or s.words 0 0 in let w1 : ℕ = get_or s.words 1 0 in let cs : List SeatClaims = map claim_of s.views in let c : SeatClaims = v.claim in
+    let n : ℕ = strips run in let k : ℕ = run.workers in let w0 : ℕ = get_or s.words 0 0 in let w1 : ℕ = get_or s.words 1 0 in let cs : List SeatClaims =
+    map claim_of s.views in let c : SeatClaims = v.claim in
     let there : get_elem? cs j ≡ some c = at_map claim_of s.views j v at in
     let has : 0 < total_weight (only i) c.claimed = weighs c.claimed place i lists in
     let near = inside n k w0 w1 cs o.counts j c i there has in

@@ -67,7 +67,8 @@ module _ {A : Type 0} where
     total_omit (x ∷ xs) (suc j) v e = omega (arith, total_omit xs j v e)
 
     pub total_set : (l : List A) (j : ℕ) (v w : A) → get_elem? l j ≡ some v → total_weight g (set l j w) + g v ≡ total_weight g l + g w
-    total_set l j v w e = omega (arith, total_omit l j v e, total_omit (set l j w) j w (set_here l j w (in_range l j v e)), ap (total_weight g) (omit_set l j w))
+    total_set l j v w e =
+        omega (arith, total_omit l j v e, total_omit (set l j w) j w (set_here l j w (in_range l j v e)), ap (total_weight g) (omit_set l j w))
 
     pub term_le : (l : List A) (j : ℕ) (v : A) → get_elem? l j ≡ some v → g v ≤ total_weight g l
     term_le l j v e = omega (arith, total_omit l j v e)
@@ -79,7 +80,8 @@ module _ {A : Type 0} where
     total_none [] weightless = refl
     total_none (x ∷ xs) weightless = omega (arith, weightless 0 x refl, total_none xs (λ i u e. weightless (suc i) u e))
 
-    pub total_alone : (l : List A) (j : ℕ) (v : A) → get_elem? l j ≡ some v → ((i : ℕ) (u : A) → i ≢ j → get_elem? l i ≡ some u → g u ≡ 0) → total_weight g l ≡ g v
+    pub total_alone : (l : List A) (j : ℕ) (v : A) → get_elem? l j ≡ some v → ((i : ℕ) (u : A) → i ≢ j → get_elem? l i ≡ some u → g u ≡ 0)
+        → total_weight g l ≡ g v
     total_alone l j v e weightless = omega (arith, total_omit l j v e, total_none (omit l j) (λ i u d. let t = was_there l j i u d in weightless t.0 u t.1 t.2))
 
   pub total_same : (f g : A → ℕ) (l : List A) → ((u : A) → f u ≡ g u) → total_weight f l ≡ total_weight g l

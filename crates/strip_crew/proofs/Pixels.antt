@@ -17,7 +17,10 @@ all_rows width count rows one is long = record {
 
 pub all_apart : (width first n : ℕ) (links rows : List ℕ) → links ≡ replicate n no_node → AreApart width first links rows
 all_apart width first n links rows none = record {
-  apart = λ i p q l link some across. some (sym link.link ∙ none_at p (let high : p < first + length links = link.within.high in let low : first ≤ p = link.within.low in omega arith));
+  apart = λ i p q l link some across. some
+      (sym link.link ∙ none_at p (let high : p < first + length links = link.within.high in let low : first ≤ p = link.within.low in omega arith));
 } where
   none_at : (p : ℕ) → p - first < length links → link_of first links p ≡ no_node
-  none_at p l = ap (λ (r : List ℕ). get_or r (p - first) no_node) none ∙ get_or-replicate n (p - first) no_node no_node (let m : length links ≡ n = ap (λ (r : List ℕ). length r) none ∙ length-replicate n no_node in omega arith)
+  none_at p l = ap (λ (r : List ℕ). get_or r (p - first) no_node) none
+      ∙ get_or-replicate n (p - first) no_node no_node (let m : length links ≡ n = ap (λ (r : List ℕ). length r) none ∙ length-replicate n no_node in
+      omega arith)

@@ -25,19 +25,3 @@ pub record IsRowsPair (values : List (Option ℤ)) (width : ℕ) (connect : Conn
   pub place : ℕ
   pub inside : place < length rows
   pub boundary : IsBoundary values width connect (slice_index rows place) p q
-
--- links of a group whose strips are still apart
-pub record IsGroup (plane : Raster) (first_row : ℕ) (links rows : List ℕ) : Type 0 where
-  pub fits : first_row * plane.shape.width + length links ≤ length plane.values
-  pub small : length plane.values ≤ no_node
-  pub cut : AreRows plane.shape.width first_row (length links) rows
-  pub forest : IsForest plane.values (first_row * plane.shape.width) links
-  pub apart : AreApart plane.shape.width (first_row * plane.shape.width) links rows
-
--- they were joined at these rows
-pub record IsGroupJoined (plane : Raster) (connect : Connect) (first_row : ℕ) (rows old new : List ℕ) : Type 0 where
-  pub same_length : length new ≡ length old
-  pub forest : IsForest plane.values (first_row * plane.shape.width) new
-  pub joins : JoinSame plane.values (first_row * plane.shape.width) (length old)
-      (IsLink (first_row * plane.shape.width) new)
-      (Or (IsLink (first_row * plane.shape.width) old) (IsRowsPair plane.values plane.shape.width connect rows))

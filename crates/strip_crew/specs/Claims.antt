@@ -10,8 +10,9 @@ use Rattle.comp_tree.specs.Counts.{sum_below}
 use Rattle.strip_flood.specs.Jobs.{JobView}
 use Rattle.comp_tree.specs.Raster.{Raster}
 use Rattle.strip_crew.specs.Run.{Plan, Run, run_with, no_run, strips, IsSized, IsJobOf}
-use Rattle.strip_crew.specs.Counting.{SeatClaims, claim, fresh, spent, claims, passes, gives_back, splits, joins, total_weight, holds_of, Counts}
-use Rattle.strip_crew.specs.Core.{Reached, Ends}
+use Rattle.strip_crew.specs.Counting.{SeatClaims, open_seat, fresh, spent, after_claim, after_pass, after_give_back, after_split, after_join, total_weight}
+use Rattle.strip_crew.specs.Counting.{holds_of, Counts}
+use Rattle.strip_crew.specs.Core.{Reached, HasEachOnce}
 use Rattle.strip_crew.specs.declared.view.View.{View}
 use Rattle.strip_crew.specs.declared.rule.Key.{Key}
 
@@ -53,72 +54,47 @@ abbrev pub opening_view : Run → View
 opening_view run = view (fresh run.workers) run
 
 -- one more than the greatest number of the list
-abbrev pub top : List ℕ → ℕ
-top [] = 0
-top (x ∷ xs) = max (x + 1) (top xs)
+abbrev pub above_all : List ℕ → ℕ
+above_all [] = 0
+above_all (x ∷ xs) = max (x + 1) (above_all xs)
 
 -- the seat claimed strip i, which is greater than all that it had claimed, and holds its job, which isn't flooded
 abbrev pub TakesStrip : Seated → ℕ → Seated → Type 0
 TakesStrip m i n =
-    (job : JobView) × (n ≡ (view (claims m.0.claim i) m.0.of, (i, job) ∷ m.1)) × IsJobOf m.0.of.plan i job × (job.flooded ≡ false) × (top m.0.claim.claimed ≤ i)
+    (job : JobView) × (n ≡ (view (after_claim m.0.claim i) m.0.of, (i, job) ∷ m.1)) × IsJobOf m.0.of.plan i job × (job.flooded ≡ false)
+    × (above_all m.0.claim.claimed ≤ i)
 
 -- a claim finds a strip, or it lies past the end
-abbrev pub claimed : Step JobView → Seated → ℕ → Seated → Type 0
-claimed st m r n =
+abbrev pub claim_step : Step JobView → Seated → ℕ → Seated → Type 0
+claim_step st m r n =
     (st.slots ≡ strips m.0.of)
     × (strips m.0.of ≤ 65535)
     × (r < strips m.0.of → TakesStrip m r n)
-    × (strips m.0.of ≤ r → n ≡ (view (passes m.0.claim) m.0.of, m.1))
+    × (strips m.0.of ≤ r → n ≡ (view (after_pass m.0.claim) m.0.of, m.1))
 
 -- the strip in hand was given back
-abbrev pub gave : Step JobView → Seated → ℕ → Seated → Type 0
-gave st m r n = n ≡ (view (gives_back m.0.claim) m.0.of, rest m.1)
+abbrev pub give_step : Step JobView → Seated → ℕ → Seated → Type 0
+give_step st m r n = n ≡ (view (after_give_back m.0.claim) m.0.of, rest m.1)
 
 abbrev pub split_left : View → View
-split_left v = view (splits v.claim) v.of
+split_left v = view (after_split v.claim) v.of
 
 abbrev pub split_right : View → View
 split_right v = view (fresh 1) v.of
 
-abbrev pub joined : View → View → View
-joined v w = view (joins v.claim w.claim) v.of
+abbrev pub joined_view : View → View → View
+joined_view v w = view (after_join v.claim w.claim) v.of
 
 abbrev pub spent_view : View
 spent_view = view spent no_run
 
--- the seat may claim: it wasn't joined away, has no strip in hand, and owes a claim past the end
-abbrev pub MayClaim : View → Type 0
-MayClaim v = (v.claim.joined ≡ false) × (v.claim.hand ≡ None) × (0 < v.claim.due)
-
--- the seat of a worker between two claims: no strip in hand, no slot, and one claim past the end due
-abbrev pub IsIdle : Run → Seated → Type 0
-IsIdle run m = m ≡ (view (claim m.0.claim.claimed None 0 1) run, [])
-
 -- the seat of a worker that ended: no strip in hand, no slot, and one claim past the end made
 abbrev pub HasEnded : Run → Seated → Type 0
-HasEnded run m = m ≡ (view (claim m.0.claim.claimed None 1 0) run, [])
+HasEnded run m = m ≡ (view (open_seat m.0.claim.claimed None 1 0) run, [])
 
 -- the run is over this plane
-abbrev pub IsOver : Run → Raster → Type 0
-IsOver run plane = run.plan.plane ≡ plane
-
--- the seat holds slot i alone, of whose job P holds
-abbrev pub HoldsSlot : Seated → ℕ → (JobView → Type 0) → Type 0
-HoldsSlot m i P = (job : JobView) × (m.1 ≡ (i, job) ∷ []) × P job
-
--- the new job is the old one, flooded
-pub record IsFloodedFrom (old new : JobView) : Type 0 where
-  pub flooded : new.flooded ≡ true
-  pub width : new.width ≡ old.width
-  pub height : new.height ≡ old.height
-  pub connect : new.connect ≡ old.connect
-  pub first_row : new.first_row ≡ old.first_row
-  pub end_row : new.end_row ≡ old.end_row
-  pub values : new.values ≡ old.values
-
--- a job of strip i, flooded or not
-abbrev pub IsStripJob : Plan → ℕ → Bool → JobView → Type 0
-IsStripJob plan i flooded job = IsJobOf plan i job × (job.flooded ≡ flooded)
+abbrev pub IsRunOver : Run → Raster → Type 0
+IsRunOver run plane = run.plan.plane ≡ plane
 
 -- what of table's state the last seat knows
 pub record Settled (run : Run) (s : State JobView View) (j : ℕ) (v : View) : Type 0 where
@@ -131,7 +107,7 @@ pub record Settled (run : Run) (s : State JobView View) (j : ℕ) (v : View) : T
   -- every job is home and flooded
   pub home : (i : ℕ) → i < strips run → IsHome run s.homes i true
   -- the events that led here have one claim and one give-back of each strip
-  pub events : Ends (strips run) run.workers (slice_index s.words 0) (slice_index s.words 1) (map claim_of s.views)
+  pub events : HasEachOnce (strips run) run.workers (slice_index s.words 0) (slice_index s.words 1) (map claim_of s.views)
 
 -- the law of the end: where one seat has made all claims past the end and has no strip in hand
 abbrev pub SettleLaw : Type 0
@@ -149,39 +125,3 @@ ListedLaw =
 pub record AreReady (plan : Plan) (first limit : ℕ) (jobs : List JobView) : Type 0 where
   pub count : length jobs + first ≡ limit
   pub each : (i : ℕ) (job : JobView) → get_elem? jobs i ≡ some job → IsJobOf plan (first + i) job × (job.flooded ≡ false)
-
--- the jobs of one group of strips, where each group has so many strips, or fewer at the end
-abbrev pub AreGroup : Plan → ℕ → ℕ → List JobView → Type 0
-AreGroup plan size group = AreReady plan (group * size) (min (group * size + size) (length plan.cut))
-
--- the jobs of all strips, flooded
-pub record AreFlooded (plan : Plan) (jobs : List JobView) : Type 0 where
-  pub count : length jobs ≡ length plan.cut
-  pub each : (i : ℕ) (job : JobView) → get_elem? jobs i ≡ some job → IsJobOf plan i job × (job.flooded ≡ true)
-
--- a place with the seat of a worker that hasn't begun, at this table
-abbrev pub IsRecruit : TableId → Run → Rattle.std.specs.Prelude.Option (Seat JobView View) → Type 0
-IsRecruit table run place = IsSomeAnd place (λ s. (s.table_id ≡ table) × (s.me ≡ (view (fresh 1) run, [])))
-
--- a place with the seat of a worker that ended
-abbrev pub IsVeteran : TableId → Run → Rattle.std.specs.Prelude.Option (Seat JobView View) → Type 0
-IsVeteran table run place = IsSomeAnd place (λ s. (s.table_id ≡ table) × HasEnded run s.me)
-
--- a seat with no strip in hand, that has or took over so many claims past the end
-abbrev pub HasPast : TableId → ℕ → Seat JobView View → Type 0
-HasPast table past s = (s.table_id ≡ table) × (s.me.1 ≡ []) × (s.me.0.claim.joined ≡ false) × (s.me.0.claim.hand ≡ None) × (s.me.0.claim.past ≡ past)
-
--- the groups from group g on: each that was made has the jobs of its strips
-abbrev pub AreParts : {V E : Type 0} → (V → List JobView) → Plan → ℕ → ℕ → List (Result V E) → Type 0
-AreParts items plan size g [] = Unit {0}
-AreParts items plan size g (r ∷ rs) =
-    IfOk r (λ v. AreGroup plan size g (items v)) × AreParts items plan size (g + 1) rs
-
--- what a closed table's words and slots show: where all claims past the end were made
-pub record HasSettled (run : Run) (words : List ℕ) (jobs : List JobView) : Type 0 where
-  pub state : State JobView View
-  pub seat : ℕ
-  pub seen : View
-  pub settled : Settled run state seat seen
-  pub words_are : words ≡ (strips run + run.workers) ∷ strips run ∷ []
-  pub jobs_are : AreFlooded run.plan jobs

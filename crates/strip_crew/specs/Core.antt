@@ -1,6 +1,7 @@
 -- Model: the claims of a run as a machine without threads.
 use Rattle.std.specs.Prelude.{◌≡◌, ◌≢◌, ℕ, ◌+◌, ◌<◌, ◌≤◌, ◌==◌, cond, false, List, [], ◌∷◌, ◌++◌, length, replicate, Some, None, slice_set, slice_index_or}
-use Rattle.strip_crew.specs.Counting.{SeatClaims, fresh, spent, claims, passes, gives_back, splits, joins, total_weight, holds_of, Counts}
+use Rattle.strip_crew.specs.Counting.{SeatClaims, fresh, spent, after_claim, after_pass, after_give_back, after_split, after_join, total_weight, holds_of}
+use Rattle.strip_crew.specs.Counting.{Counts}
 
 -- what a strip is: not yet claimed, in a hand, or given back flooded
 pub data Status : Type 0 where
@@ -47,35 +48,35 @@ after c (Claims j i) =
     record {
       word0 = c.word0 + 1;
       word1 = c.word1;
-      seats = slice_set c.seats j (claims (seat_at c j) i);
+      seats = slice_set c.seats j (after_claim (seat_at c j) i);
       strips = slice_set c.strips i Out;
     }
 after c (Passes j) =
     record {
       word0 = c.word0 + 1;
       word1 = c.word1;
-      seats = slice_set c.seats j (passes (seat_at c j));
+      seats = slice_set c.seats j (after_pass (seat_at c j));
       strips = c.strips;
     }
 after c (Gives j i) =
     record {
       word0 = c.word0;
       word1 = c.word1 + 1;
-      seats = slice_set c.seats j (gives_back (seat_at c j));
+      seats = slice_set c.seats j (after_give_back (seat_at c j));
       strips = slice_set c.strips i Flooded;
     }
 after c (Splits j o) =
     record {
       word0 = c.word0;
       word1 = c.word1;
-      seats = slice_set c.seats j (splits (seat_at c j)) ++ fresh 1 ∷ [];
+      seats = slice_set c.seats j (after_split (seat_at c j)) ++ fresh 1 ∷ [];
       strips = c.strips;
     }
 after c (Joins j o) =
     record {
       word0 = c.word0;
       word1 = c.word1;
-      seats = slice_set (slice_set c.seats j (joins (seat_at c j) (seat_at c o))) o spent;
+      seats = slice_set (slice_set c.seats j (after_join (seat_at c j) (seat_at c o))) o spent;
       strips = c.strips;
     }
 
@@ -89,7 +90,7 @@ abbrev pub status_of : Core → ℕ → Status
 status_of c i = slice_index_or c.strips i Out
 
 -- the rule of the machine
-pub record Keeps (n k : ℕ) (c : Core) : Type 0 where
+pub record KeepsRule (n k : ℕ) (c : Core) : Type 0 where
   pub counts : Counts n k c.word0 c.word1 c.seats
   pub wide : length c.strips ≡ n
   -- a strip from word 0 on is waiting
@@ -115,7 +116,7 @@ is_give i (Joins j o) = 0
 
 -- whatever the machine did, its rule holds, and each strip was claimed at most once and given back at most once
 pub record Lawful (n k : ℕ) (events : List Event) (c : Core) : Type 0 where
-  pub keeps : Keeps n k c
+  pub keeps : KeepsRule n k c
   pub claimed_once : (i : ℕ) → total_weight (is_claim i) events ≤ 1
   pub given_once : (i : ℕ) → total_weight (is_give i) events ≤ 1
   -- a number that is no strip was neither claimed nor given back
@@ -142,7 +143,7 @@ CoreEnds =
     → (i : ℕ) → i < n → (total_weight (is_claim i) events ≡ 1) × (total_weight (is_give i) events ≡ 1)
 
 -- these words and seats are those of the machine after some events, among which each strip was claimed once and given back once
-pub record Ends (n k word0 word1 : ℕ) (cs : List SeatClaims) : Type 0 where
+pub record HasEachOnce (n k word0 word1 : ℕ) (cs : List SeatClaims) : Type 0 where
   pub reached : Reached n k word0 word1 cs
   pub claimed_once : (i : ℕ) → i < n → total_weight (is_claim i) reached.events ≡ 1
   pub given_once : (i : ℕ) → i < n → total_weight (is_give i) reached.events ≡ 1

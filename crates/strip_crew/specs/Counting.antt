@@ -13,32 +13,33 @@ pub record SeatClaims : Type 0 where
   pub due : ℕ
   pub joined : Bool
 
-abbrev pub claim : List ℕ → Option ℕ → ℕ → ℕ → SeatClaims
-claim claimed hand past due = record { claimed = claimed; hand = hand; past = past; due = due; joined = false }
+-- a seat that was not joined away
+abbrev pub open_seat : List ℕ → Option ℕ → ℕ → ℕ → SeatClaims
+open_seat claimed hand past due = record { claimed = claimed; hand = hand; past = past; due = due; joined = false }
 
 -- a new seat, which owes so many claims past the end
 abbrev pub fresh : ℕ → SeatClaims
-fresh due = claim [] None 0 due
+fresh due = open_seat [] None 0 due
 
 -- a seat that was joined away
 abbrev pub spent : SeatClaims
 spent = record { claimed = []; hand = None; past = 0; due = 0; joined = true }
 
--- the change of each kind of step
-abbrev pub claims : SeatClaims → ℕ → SeatClaims
-claims c i = claim (c.claimed ++ i ∷ []) (Some i) c.past c.due
+-- a seat after each kind of step
+abbrev pub after_claim : SeatClaims → ℕ → SeatClaims
+after_claim c i = open_seat (c.claimed ++ i ∷ []) (Some i) c.past c.due
 
-abbrev pub passes : SeatClaims → SeatClaims
-passes c = claim c.claimed c.hand (c.past + 1) (c.due - 1)
+abbrev pub after_pass : SeatClaims → SeatClaims
+after_pass c = open_seat c.claimed c.hand (c.past + 1) (c.due - 1)
 
-abbrev pub gives_back : SeatClaims → SeatClaims
-gives_back c = claim c.claimed None c.past c.due
+abbrev pub after_give_back : SeatClaims → SeatClaims
+after_give_back c = open_seat c.claimed None c.past c.due
 
-abbrev pub splits : SeatClaims → SeatClaims
-splits c = claim c.claimed c.hand c.past (c.due - 1)
+abbrev pub after_split : SeatClaims → SeatClaims
+after_split c = open_seat c.claimed c.hand c.past (c.due - 1)
 
-abbrev pub joins : SeatClaims → SeatClaims → SeatClaims
-joins c d = claim (c.claimed ++ d.claimed) None (c.past + d.past) (c.due + d.due)
+abbrev pub after_join : SeatClaims → SeatClaims → SeatClaims
+after_join c d = open_seat (c.claimed ++ d.claimed) None (c.past + d.past) (c.due + d.due)
 
 -- what the items weigh together
 abbrev pub total_weight : {A : Type 0} → (A → ℕ) → List A → ℕ

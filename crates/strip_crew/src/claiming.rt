@@ -4,8 +4,9 @@ ghost use Rattle.std.specs.Prelude.{◌≡◌, ℕ, ◌<◌, ◌≤◌, [], Some
 ghost use Rattle.atomic_table.specs.Table.{rest};
 ghost use Rattle.strip_flood.specs.Jobs.{SuitsStrip};
 ghost use Rattle.strip_crew.specs.Run.{strips};
-ghost use Rattle.strip_crew.specs.Counting.{fresh, passes, gives_back};
-ghost use Rattle.strip_crew.specs.Claims.{view, TakesStrip, MayClaim, HasEnded, IsOver, HoldsSlot, IsFloodedFrom, IsStripJob};
+ghost use Rattle.strip_crew.specs.Counting.{fresh, after_pass, after_give_back};
+ghost use Rattle.strip_crew.specs.Claims.{view, TakesStrip, HasEnded, IsRunOver};
+ghost use Rattle.strip_crew.specs.Workers.{MayClaim, HoldsSlot, IsFloodedFrom, IsStripJob};
 
 use crate::gate::Gate;
 use crate::rule::{Claim, ClaimSeat, ClaimTable, Give};
@@ -25,7 +26,7 @@ fn claim(table: &ClaimTable, seat: &mut ClaimSeat) -> u64
     ensures few { strips seat.old.me.0.of ≤ 65535 }
     ensures strip { result < strips seat.old.me.0.of → TakesStrip seat.old.me result seat.new.me }
     ensures end { strips seat.old.me.0.of ≤ result →
-        seat.new.me ≡ (view (passes seat.old.me.0.claim) seat.old.me.0.of, seat.old.me.1) }
+        seat.new.me ≡ (view (after_pass seat.old.me.0.claim) seat.old.me.0.of, seat.old.me.1) }
 {
     table.shared.fetch_add::<Claim>(seat, 0, 1)
 }
@@ -56,7 +57,7 @@ fn flood_by<A: Ledger, B: Ledger>(
     requires queued { (queued.name ≡ A.name) × (queued.parts ≡ A.parts) × (0 < queued.parts) }
     requires looked { (looked.name ≡ B.name) × (looked.parts ≡ B.parts) × (0 < looked.parts) }
     requires table { seat.old.table_id ≡ table.now.shared.table_id }
-    requires plane { IsOver seat.old.me.0.of plane.now }
+    requires plane { IsRunOver seat.old.me.0.of plane.now }
     requires held { HoldsSlot seat.old.me strip (IsStripJob seat.old.me.0.of.plan strip false) }
     ensures same { (seat.new.table_id ≡ seat.old.table_id)
         × (seat.new.id ≡ seat.old.id)
@@ -76,7 +77,7 @@ fn flood_by<A: Ledger, B: Ledger>(
 // Floods the job of the slot that the seat holds, in place.
 fn flood(table: &ClaimTable, seat: &mut ClaimSeat, strip: usize, plane: &Plane)
     requires table { seat.old.table_id ≡ table.now.shared.table_id }
-    requires plane { IsOver seat.old.me.0.of plane.now }
+    requires plane { IsRunOver seat.old.me.0.of plane.now }
     requires held { HoldsSlot seat.old.me strip (IsStripJob seat.old.me.0.of.plan strip false) }
     ensures same { (seat.new.table_id ≡ seat.old.table_id)
         × (seat.new.id ≡ seat.old.id)
@@ -94,7 +95,7 @@ fn give(table: &ClaimTable, seat: &mut ClaimSeat, _strip: usize)
     requires hand { seat.old.me.0.claim.hand ≡ Some _strip }
     requires held { HoldsSlot seat.old.me _strip (IsStripJob seat.old.me.0.of.plan _strip true) }
     ensures same { (seat.new.table_id ≡ seat.old.table_id) × (seat.new.id ≡ seat.old.id) }
-    ensures given { seat.new.me ≡ (view (gives_back seat.old.me.0.claim) seat.old.me.0.of, []) }
+    ensures given { seat.new.me ≡ (view (after_give_back seat.old.me.0.claim) seat.old.me.0.of, []) }
 {
     table.shared.fetch_add::<Give>(seat, 1, 1);
 }
@@ -108,7 +109,7 @@ fn give(table: &ClaimTable, seat: &mut ClaimSeat, _strip: usize)
 pub fn worker<G: Gate>(table: &ClaimTable, seat: ClaimSeat, plane: &Plane, gate: &G) -> ClaimSeat
     requires table { seat.table_id ≡ table.now.shared.table_id }
     requires words { table.now.shared.table_id.words ≡ 2 }
-    requires plane { IsOver seat.me.0.of plane.now }
+    requires plane { IsRunOver seat.me.0.of plane.now }
     requires fresh { seat.me ≡ (view (fresh 1) seat.me.0.of, []) }
     ensures same { (result.table_id ≡ seat.table_id) × (result.id ≡ seat.id) }
     ensures ended { HasEnded seat.me.0.of result.me }

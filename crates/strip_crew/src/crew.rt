@@ -8,7 +8,8 @@ ghost use Rattle.comp_tree.specs.Forest.{IsForest, StandsFor};
 ghost use Rattle.strip_crew.specs.Copied.{AreCopied};
 ghost use Rattle.strip_crew.specs.Run.{plan_of, run_with};
 ghost use Rattle.strip_crew.specs.Counting.{fresh};
-ghost use Rattle.strip_crew.specs.Claims.{view, run_of, IsOver, IsRecruit, IsVeteran, HasPast, HasSettled, AreFlooded};
+ghost use Rattle.strip_crew.specs.Claims.{view, run_of, IsRunOver};
+ghost use Rattle.strip_crew.specs.Workers.{AreFlooded, IsRecruit, IsVeteran, HasPast, HasSettled};
 
 use crate::claiming::worker;
 use crate::cut::join_cut;
@@ -53,7 +54,7 @@ fn recruit(
 // Runs the worker whose seat lies in this place, and puts the seat back.
 fn work<G: Gate>(table: &ClaimTable, place: &mut Option<ClaimSeat>, plane: &Plane, gate: &G)
     requires words { table.now.shared.table_id.words ≡ 2 }
-    requires plane { IsOver (run_of table.now.shared.key) plane.now }
+    requires plane { IsRunOver (run_of table.now.shared.key) plane.now }
     requires recruit { IsRecruit table.now.shared.table_id (run_of table.now.shared.key) place.old }
     ensures { IsVeteran table.now.shared.table_id (run_of table.now.shared.key) place.new }
 {
@@ -73,7 +74,7 @@ fn run_workers<R: Threads + Sync, G: Gate>(
 )
     requires workers { 0 < workers }
     requires words { table.now.shared.table_id.words ≡ 2 }
-    requires plane { IsOver (run_of table.now.shared.key) plane.now }
+    requires plane { IsRunOver (run_of table.now.shared.key) plane.now }
     requires recruits { All (IsRecruit table.now.shared.table_id (run_of table.now.shared.key)) places.old }
     ensures { All (IsVeteran table.now.shared.table_id (run_of table.now.shared.key)) places.new }
 {
@@ -83,7 +84,7 @@ fn run_workers<R: Threads + Sync, G: Gate>(
         workers as usize,
         &|_, place: &mut Option<ClaimSeat>|
             requires { (table.now.shared.table_id.words ≡ 2)
-                × IsOver (run_of table.now.shared.key) plane.now
+                × IsRunOver (run_of table.now.shared.key) plane.now
                 × IsRecruit table.now.shared.table_id (run_of table.now.shared.key) place.now }
             ensures { IsVeteran table.entry.now.shared.table_id (run_of table.entry.now.shared.key) place.exit.now }
         { work(table, place, plane, gate) },
@@ -144,6 +145,7 @@ fn copy_links(
 {
     let mut closed = closed;
     let mut links = links;
+    // for its clauses alone: how many pixels a plane has
     let _shape = plane.shape();
     for i in 0..closed.slot_count() {
         let job = closed.take(i);

@@ -51,6 +51,7 @@ pub fn join_cut<R: Threads + Sync>(
     ensures stands { StandsFor plane.now.values 0 links.new
         (IsAdjacency plane.now.values plane.now.shape.width connect) }
 {
+    // for its clauses alone: how many pixels a plane has
     let _shape = plane.shape();
     join_group(rt, links, plane, connect, 0, &cut[1..], FORKS, &OpenGate);
 }

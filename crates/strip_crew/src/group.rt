@@ -4,8 +4,9 @@ ghost use Rattle.std.specs.Prelude.{◌≡◌, ℕ, ◌+◌, ◌*◌, ◌<◌, �
 ghost use Rattle.std.specs.Thread.{IsSync};
 ghost use Rattle.comp_tree.specs.Joined.{Or, Has};
 ghost use Rattle.comp_tree.specs.Forest.{IsForest, IsLink, StandsFor, JoinSame};
-ghost use Rattle.tree_join.specs.Boundary.{IsBoundary};
-ghost use Rattle.strip_crew.specs.Boundaries.{AreRows, AreApart, IsRowsPair, IsGroup, IsGroupJoined};
+ghost use Rattle.tree_join.specs.Boundary.{row_start, IsBoundary};
+ghost use Rattle.strip_crew.specs.Boundaries.{AreRows, AreApart, IsRowsPair};
+ghost use Rattle.strip_crew.specs.Halves.{IsGroup, IsGroupJoined};
 
 use crate::gate::Gate;
 use comp_tree::{Connect, Plane};
@@ -18,7 +19,7 @@ use tree_join::join_row;
 // Joins the links at the boundary above `row`, and counts in two new counters.
 fn join_boundary_by<L: Ledger, M: Ledger>(
     moves: Blank,
-    looks: Blank,
+    reads: Blank,
     parents: &mut [u32],
     plane: &Plane,
     connect: Connect,
@@ -26,36 +27,36 @@ fn join_boundary_by<L: Ledger, M: Ledger>(
     row: u32,
 )
     requires moves { (moves.name ≡ L.name) × (moves.parts ≡ L.parts) × (0 < moves.parts) }
-    requires looks { (looks.name ≡ M.name) × (looks.parts ≡ M.parts) × (0 < looks.parts) }
-    requires rows { first_row * plane.now.shape.width + length parents.old ≤ length plane.now.values }
+    requires reads { (reads.name ≡ M.name) × (reads.parts ≡ M.parts) × (0 < reads.parts) }
+    requires rows { row_start plane.now first_row + length parents.old ≤ length plane.now.values }
     requires below { first_row < row }
-    requires inside { (row + 1) * plane.now.shape.width
-        ≤ first_row * plane.now.shape.width + length parents.old }
-    requires forest { IsForest plane.now.values (first_row * plane.now.shape.width) parents.old }
-    ensures forest { IsForest plane.now.values (first_row * plane.now.shape.width) parents.new }
-    ensures joined { JoinSame plane.now.values (first_row * plane.now.shape.width) (length parents.old)
-        (IsLink (first_row * plane.now.shape.width) parents.new)
-        (Or (IsLink (first_row * plane.now.shape.width) parents.old)
+    requires inside { row_start plane.now (row + 1)
+        ≤ row_start plane.now first_row + length parents.old }
+    requires forest { IsForest plane.now.values (row_start plane.now first_row) parents.old }
+    ensures forest { IsForest plane.now.values (row_start plane.now first_row) parents.new }
+    ensures joined { JoinSame plane.now.values (row_start plane.now first_row) (length parents.old)
+        (IsLink (row_start plane.now first_row) parents.new)
+        (Or (IsLink (row_start plane.now first_row) parents.old)
         (IsBoundary plane.now.values plane.now.shape.width connect row)) }
 {
     let mut moves = Steps::<L>::start(moves);
-    let mut looks = Steps::<M>::start(looks);
+    let mut reads = Steps::<M>::start(reads);
     join_row(
-        parents, plane, connect, first_row, row, &mut moves, &mut looks,
+        parents, plane, connect, first_row, row, &mut moves, &mut reads,
     );
 }
 
 // Joins the links at the boundary above `row`.
 fn join_boundary(parents: &mut [u32], plane: &Plane, connect: Connect, first_row: u32, row: u32)
-    requires rows { first_row * plane.now.shape.width + length parents.old ≤ length plane.now.values }
+    requires rows { row_start plane.now first_row + length parents.old ≤ length plane.now.values }
     requires below { first_row < row }
-    requires inside { (row + 1) * plane.now.shape.width
-        ≤ first_row * plane.now.shape.width + length parents.old }
-    requires forest { IsForest plane.now.values (first_row * plane.now.shape.width) parents.old }
-    ensures forest { IsForest plane.now.values (first_row * plane.now.shape.width) parents.new }
-    ensures joined { JoinSame plane.now.values (first_row * plane.now.shape.width) (length parents.old)
-        (IsLink (first_row * plane.now.shape.width) parents.new)
-        (Or (IsLink (first_row * plane.now.shape.width) parents.old)
+    requires inside { row_start plane.now (row + 1)
+        ≤ row_start plane.now first_row + length parents.old }
+    requires forest { IsForest plane.now.values (row_start plane.now first_row) parents.old }
+    ensures forest { IsForest plane.now.values (row_start plane.now first_row) parents.new }
+    ensures joined { JoinSame plane.now.values (row_start plane.now first_row) (length parents.old)
+        (IsLink (row_start plane.now first_row) parents.new)
+        (Or (IsLink (row_start plane.now first_row) parents.old)
         (IsBoundary plane.now.values plane.now.shape.width connect row)) }
 {
     join_boundary_by::<Brand, Brand>(
@@ -72,8 +73,8 @@ fn join_boundary(parents: &mut [u32], plane: &Plane, connect: Connect, first_row
 // How many pixels there are from the start of `first_row` up to the start of `row`.
 fn pixels_between(plane: &Plane, first_row: u32, row: u32) -> usize
     requires rows { first_row ≤ row }
-    requires inside { row * plane.now.shape.width ≤ length plane.now.values }
-    ensures { first_row * plane.now.shape.width + result ≡ row * plane.now.shape.width }
+    requires inside { row_start plane.now row ≤ length plane.now.values }
+    ensures { row_start plane.now first_row + result ≡ row * plane.now.shape.width }
 {
     let width = plane.shape().width;
     (row * width - first_row * width) as usize
@@ -184,20 +185,21 @@ pub fn join_group<R: Threads + Sync, J: Gate>(
     forks: u32,
     joins: &J,
 )
-    requires fits { first_row * plane.now.shape.width + length parents.old ≤ length plane.now.values }
+    requires fits { row_start plane.now first_row + length parents.old ≤ length plane.now.values }
     requires rows { AreRows plane.now.shape.width first_row (length parents.old) rows.now }
-    requires forest { IsForest plane.now.values (first_row * plane.now.shape.width) parents.old }
-    requires apart { AreApart plane.now.shape.width (first_row * plane.now.shape.width) parents.old rows.now }
-    ensures forest { IsForest plane.now.values (first_row * plane.now.shape.width) parents.new }
-    ensures joined { JoinSame plane.now.values (first_row * plane.now.shape.width) (length parents.old)
-        (IsLink (first_row * plane.now.shape.width) parents.new)
-        (Or (IsLink (first_row * plane.now.shape.width) parents.old)
+    requires forest { IsForest plane.now.values (row_start plane.now first_row) parents.old }
+    requires apart { AreApart plane.now.shape.width (row_start plane.now first_row) parents.old rows.now }
+    ensures forest { IsForest plane.now.values (row_start plane.now first_row) parents.new }
+    ensures joined { JoinSame plane.now.values (row_start plane.now first_row) (length parents.old)
+        (IsLink (row_start plane.now first_row) parents.new)
+        (Or (IsLink (row_start plane.now first_row) parents.old)
         (IsRowsPair plane.now.values plane.now.shape.width connect rows.now)) }
     ensures stands { (E : List (ℕ × ℕ))
-        → StandsFor plane.now.values (first_row * plane.now.shape.width) parents.old (Has E)
-        → StandsFor plane.now.values (first_row * plane.now.shape.width) parents.new
+        → StandsFor plane.now.values (row_start plane.now first_row) parents.old (Has E)
+        → StandsFor plane.now.values (row_start plane.now first_row) parents.new
         (Or (Has E) (IsRowsPair plane.now.values plane.now.shape.width connect rows.now)) }
 {
+    // for its clauses alone: how many pixels a plane has
     let _shape = plane.shape();
     join_strips(rt, plane, connect, first_row, rows, forks, joins, parents);
 }

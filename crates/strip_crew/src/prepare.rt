@@ -3,7 +3,8 @@
 ghost use Rattle.std.specs.Prelude.{◌≡◌, ℕ, ◌+◌, ◌*◌, ◌<◌, ◌≤◌, ◌++◌, min, List, IfOk, OnOk, length, vec_len, slice_index};
 ghost use Rattle.tree_join.specs.Cuts.{IsCut};
 ghost use Rattle.strip_crew.specs.Run.{plan_of, row_at};
-ghost use Rattle.strip_crew.specs.Claims.{AreReady, AreGroup};
+ghost use Rattle.strip_crew.specs.Claims.{AreReady};
+ghost use Rattle.strip_crew.specs.Workers.{AreGroup};
 
 use comp_tree::{Connect, Plane};
 use dev_io::OutOfMemory;

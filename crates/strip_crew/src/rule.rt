@@ -3,7 +3,7 @@
 //! Word 0 counts the claims, and word 1 the strips that were given back. There are five kinds of step and no other: a
 //! claim of a strip, a claim past the end, a give-back, a split of a seat, and a join of two seats.
 
-ghost use Rattle.strip_crew.specs.Claims.{RuleHolds, opening_view, run_of, claimed, gave, split_left, split_right, joined, spent_view};
+ghost use Rattle.strip_crew.specs.Claims.{RuleHolds, opening_view, run_of, claim_step, give_step, split_left, split_right, joined_view, spent_view};
 
 use crate::view::View;
 use atomic_table::{Join, Play, Seat, Split, Table, TableRule};
@@ -44,14 +44,14 @@ pub type ClaimSeat = Seat<StripJob, View>;
 pub struct Claim;
 
 impl Play<StripJob, View> for Claim {
-    ghost then = { claimed };
+    ghost then = { claim_step };
 }
 
 /// The step that gives the strip in hand back, and puts its slot home.
 pub struct Give;
 
 impl Play<StripJob, View> for Give {
-    ghost then = { gave };
+    ghost then = { give_step };
 }
 
 /// The step that makes a seat for one more worker out of a seat that has claimed nothing.
@@ -67,7 +67,7 @@ impl Split<View> for Recruit {
 pub struct Dismiss;
 
 impl Join<View> for Dismiss {
-    ghost both = { joined };
+    ghost both = { joined_view };
 
     ghost spent = { spent_view };
 }

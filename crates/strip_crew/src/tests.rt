@@ -31,13 +31,18 @@ fn even_cuts_round_down(rt: HostRuntime) -> Result<(), Fail> {
 // A plane of 3 x 3 pixels: two hills on a plateau of their own, with a hollow between them.
 fn two_hills(alloc: Global) -> Result<Plane, Fail> {
     let shape = Shape::of(3, 3).ok_or("a shape")?;
-    let mut plane = Plane::blank(alloc, shape)?;
-    for (pixel, value) in [5, 0, 6, 5, 2, 6, 3, 3, 3].iter().enumerate() {
-        if *value >= 0 && *value < 100 && pixel < plane.shape().pixels() as usize {
-            plane.set(pixel as u32, Some(*value));
-        }
-    }
-    Ok(plane)
+    let values = [
+        Some(5),
+        Some(0),
+        Some(6),
+        Some(5),
+        Some(2),
+        Some(6),
+        Some(3),
+        Some(3),
+        Some(3),
+    ];
+    Ok(Plane::of(alloc, shape, &values)?.ok_or("a plane")?)
 }
 
 // The last pixel of at least this value on the walk from `pixel` along the links.
@@ -90,12 +95,7 @@ fn every_cut_stands_for_one_tree(rt: HostRuntime) -> Result<(), Fail> {
 #[test]
 fn strips_are_joined_at_corners_too(rt: HostRuntime) -> Result<(), Fail> {
     let shape = Shape::of(2, 2).ok_or("a shape")?;
-    let mut plane = Plane::blank(rt.alloc(), shape)?;
-    for pixel in [0, 3] {
-        if pixel < plane.shape().pixels() {
-            plane.set(pixel, Some(5));
-        }
-    }
+    let plane = Plane::of(rt.alloc(), shape, &[Some(5), None, None, Some(5)])?.ok_or("a plane")?;
     let cut = even_cut(rt.alloc(), plane.shape().height, 2)?;
     let forest = flood_all(&rt, rt.alloc(), &plane, Connect::Eight, &cut, 1, &OpenGate)?;
     assert_eq!(rt; last(&plane, forest.parents(), 5, 3), 0);

@@ -1,11 +1,12 @@
 -- What the kinds of step do with the work that is left and with the two counts.
-use Rattle.std.proofs.Common.{◌≡◌, ℕ, zero, suc, ◌+◌, ◌-◌, ◌<◌, ◌≤◌, Bool, true, false, List, length, set, slice_index, refl, sym, subst, subst₂, ap, ◌∙◌, ⊎_elim, arith, length-set, get_or-set_same, get_or-set_other}
+use Rattle.std.proofs.Common.{◌≡◌, ℕ, zero, suc, ◌+◌, ◌-◌, ◌<◌, ◌≤◌, Bool, true, false, List, length, set, slice_index, refl, sym, subst, subst₂, ap, ◌∙◌}
+use Rattle.std.proofs.Common.{⊎_elim, arith, length-set, get_or-set_same, get_or-set_other}
 use Rattle.std.specs.Prelude.{nat_lt, ◌&&◌}
 use Rattle.std.proofs.lemmas.Bool.{cases_eq, cases_lt, and_parts, and_from, false_from_ne_true}
 use Rattle.std.proofs.lemmas.Bool.Decides.{nat_tests}
 use Rattle.comp_tree.specs.Counts.{count_below, sum_below}
 use Rattle.comp_tree.specs.Grid.{are_adjacent, IsInner}
-use Rattle.strip_flood.specs.Flood.{Ground, ends, direction, IsOf, cursor_of, work, seen_count, is_looked, looks, IsStep}
+use Rattle.strip_flood.specs.Flood.{Ground, direction_count, direction, IsOf, cursor_of, work, seen_count, looks_from, looks, IsStep}
 use Rattle.strip_flood.proofs.Flow.{IsAround}
 use Rattle.strip_flood.proofs.Directions.{inner_near, inner_direction, direction_once}
 
@@ -40,7 +41,8 @@ count_same t u zero same = refl
 count_same t u (suc n) same = let a : count_below t n ≡ count_below u n = count_same t u n (λ i l. same i (omega arith)) in
     let b : t n ≡ u n = same n (omega arith) in rw (a, b)
 
-pub count_one : (t u : ℕ → Bool) (n i : ℕ) → i < n → t i ≡ false → u i ≡ true → ((j : ℕ) → j < n → (j ≡ i → ⊥) → t j ≡ u j) → count_below u n ≡ count_below t n + 1
+pub count_one : (t u : ℕ → Bool) (n i : ℕ) → i < n → t i ≡ false → u i ≡ true → ((j : ℕ) → j < n → (j ≡ i → ⊥) → t j ≡ u j)
+    → count_below u n ≡ count_below t n + 1
 count_one t u zero i l f g same = absurd (omega arith)
 count_one t u (suc n) i l f g same = ⊎_elim
     (λ (e : i ≡ n). let f' : t n ≡ false = subst (λ x. t x ≡ false) e f in let g' : u n ≡ true = subst (λ x. u x ≡ true) e g in
@@ -109,21 +111,24 @@ module _ (cursors : List ℕ) (i v : ℕ) (within : i < length cursors) where
     turn a b = direction g.connect g.width (g.first + a) (g.first + b) + 1
 
     abbrev row : List ℕ → ℕ → ℕ
-    row cs a = count_below (is_looked g cs a) (length g.ranks)
+    row cs a = count_below (looks_from g cs a) (length g.ranks)
 
     other_rows : (a : ℕ) → (a ≡ i → ⊥) → row cursors a ≡ row (set cursors i v) a
-    other_rows a ne = count_same (is_looked g cursors a) (is_looked g (set cursors i v) a) (length g.ranks) (λ b l. ap (λ c. near a b && nat_lt (turn a b) c) (sym (at_other a ne)))
+    other_rows a ne = count_same (looks_from g cursors a) (looks_from g (set cursors i v) a) (length g.ranks)
+        (λ b l. ap (λ c. near a b && nat_lt (turn a b) c) (sym (at_other a ne)))
 
     at_row : (b : ℕ) (t : Bool) → near i b ≡ t → (near i b ≡ true → nat_lt (turn i b) (slice_index cursors i) ≡ nat_lt (turn i b) v)
-        → is_looked g cursors i b ≡ is_looked g (set cursors i v) i b
+        → looks_from g cursors i b ≡ looks_from g (set cursors i v) i b
     at_row b true e same = ap (λ x. near i b && x) (same e) ∙ ap (λ c. near i b && nat_lt (turn i b) c) (sym at_same)
-    at_row b false e same = subst (λ t. (t && nat_lt (turn i b) (slice_index cursors i)) ≡ (t && nat_lt (turn i b) (slice_index (set cursors i v) i))) (sym e) refl
+    at_row b false e same =
+        subst (λ t. (t && nat_lt (turn i b) (slice_index cursors i)) ≡ (t && nat_lt (turn i b) (slice_index (set cursors i v) i))) (sym e) refl
 
     -- it passed no adjacency
-    pub looks_same : ((b : ℕ) → b < length g.ranks → near i b ≡ true → nat_lt (turn i b) (slice_index cursors i) ≡ nat_lt (turn i b) v) → looks g (set cursors i v) ≡ looks g cursors
+    pub looks_same : ((b : ℕ) → b < length g.ranks → near i b ≡ true → nat_lt (turn i b) (slice_index cursors i) ≡ nat_lt (turn i b) v)
+        → looks g (set cursors i v) ≡ looks g cursors
     looks_same same = sym (sum_same (row cursors) (row (set cursors i v)) (length g.ranks) (λ a l. ⊎_elim
         (λ (e : a ≡ i). subst (λ x. row cursors x ≡ row (set cursors i v) x) (sym e)
-        (count_same (is_looked g cursors i) (is_looked g (set cursors i v) i) (length g.ranks) (λ b m. at_row b (near i b) refl (same b m))))
+        (count_same (looks_from g cursors i) (looks_from g (set cursors i v) i) (length g.ranks) (λ b m. at_row b (near i b) refl (same b m))))
         (λ (ne : a ≡ i → ⊥). other_rows a ne)
         (cases_eq a i)))
 
@@ -131,8 +136,9 @@ module _ (cursors : List ℕ) (i v : ℕ) (within : i < length cursors) where
     pub looks_one : (j : ℕ) → j < length g.ranks → near i j ≡ true → turn i j ≡ slice_index cursors i → v ≡ slice_index cursors i + 1
         → ((b : ℕ) → b < length g.ranks → near i b ≡ true → turn i b ≡ turn i j → b ≡ j) → looks g (set cursors i v) ≡ looks g cursors + 1
     looks_one j lj adjacent here next only = sum_one (row cursors) (row (set cursors i v)) (length g.ranks) i (omega arith)
-        (count_one (is_looked g cursors i) (is_looked g (set cursors i v) i) (length g.ranks) j lj
-        (false_from_ne_true (is_looked g cursors i j) (λ t. let l : turn i j < slice_index cursors i = true_lt (turn i j) (slice_index cursors i) (and_parts (near i j) (nat_lt (turn i j) (slice_index cursors i)) t).1 in omega arith))
+        (count_one (looks_from g cursors i) (looks_from g (set cursors i v) i) (length g.ranks) j lj
+        (false_from_ne_true (looks_from g cursors i j) (λ t. let l : turn i j < slice_index cursors i =
+        true_lt (turn i j) (slice_index cursors i) (and_parts (near i j) (nat_lt (turn i j) (slice_index cursors i)) t).1 in omega arith))
         (and_from (near i j) (nat_lt (turn i j) (slice_index (set cursors i v) i)) adjacent
         (lt_true (turn i j) (slice_index (set cursors i v) i) (let s : slice_index (set cursors i v) i ≡ v = at_same in omega arith)))
         (λ b lb ne. at_row b (near i b) refl (λ t. same_lt (turn i b) (slice_index cursors i) v next (λ e. ne (only b lb t (e ∙ sym here))))))
@@ -155,7 +161,8 @@ module _ (g : Ground) (cursors : List ℕ) (long : length cursors ≡ length g.r
 
   seen_still : 0 < v → (x : ℕ) → IsOf g x → 0 < cursor_of g cursors x → 0 < cursor_of g (set cursors (p - g.first) v) x
   seen_still h x w l = ⊎_elim
-      (λ (e : x - g.first ≡ p - g.first). subst (λ k. 0 < slice_index (set cursors (p - g.first) v) k) (sym e) (subst (λ c. 0 < c) (sym (get_or-set_same cursors (p - g.first) v 0 place)) h))
+      (λ (e : x - g.first ≡ p - g.first). subst (λ k. 0 < slice_index (set cursors (p - g.first) v) k) (sym e)
+      (subst (λ c. 0 < c) (sym (get_or-set_same cursors (p - g.first) v 0 place)) h))
       (λ (ne : x - g.first ≡ p - g.first → ⊥). subst (λ c. 0 < c) (sym (get_or-set_other cursors (p - g.first) (x - g.first) v 0 ne)) l)
       (cases_eq (x - g.first) (p - g.first))
 
@@ -164,7 +171,8 @@ module _ (g : Ground) (cursors : List ℕ) (long : length cursors ≡ length g.r
   step_push q r l z one e = record {
     seen = seen_still (omega arith);
     work = work_up cursors (p - g.first) v place (omega arith);
-    queued = (let o : seen_count (set cursors (p - g.first) v) ≡ seen_count cursors + 1 = seen_one cursors (p - g.first) v place z (omega arith) in omega arith);
+    queued = (let o : seen_count (set cursors (p - g.first) v) ≡ seen_count cursors + 1 = seen_one cursors (p - g.first) v place z (omega arith) in
+        omega arith);
     looked = (let o : looks g (set cursors (p - g.first) v) ≡ looks g cursors = looks_same cursors (p - g.first) v place g long (λ b lb t.
         le_false (direction g.connect g.width (g.first + (p - g.first)) (g.first + b) + 1) (cursor_of g cursors p) (omega arith)
         ∙ sym (le_false (direction g.connect g.width (g.first + (p - g.first)) (g.first + b) + 1) v (omega arith))) in omega arith);
@@ -174,20 +182,29 @@ module _ (g : Ground) (cursors : List ℕ) (long : length cursors ≡ length g.r
   at_p = let a : g.first ≤ p = inside.low in omega arith
 
   -- an adjacency of p
-  near_p : (b : ℕ) → b < length g.ranks → are_adjacent g.values g.width g.connect (g.first + (p - g.first)) (g.first + b) ≡ true → IsInner g.values g.width g.connect g.first (length g.ranks) p (g.first + b)
-  near_p b l t = record { adjacent = subst (λ x. are_adjacent g.values g.width g.connect x (g.first + b) ≡ true) at_p t; one = inside; other = record { low = omega arith; high = omega arith } }
+  near_p : (b : ℕ) → b < length g.ranks → are_adjacent g.values g.width g.connect (g.first + (p - g.first)) (g.first + b) ≡ true
+      → IsInner g.values g.width g.connect g.first (length g.ranks) p (g.first + b)
+  near_p b l t = record {
+    adjacent = subst (λ x. are_adjacent g.values g.width g.connect x (g.first + b) ≡ true) at_p t;
+    one = inside;
+    other =
+        record { low = omega arith; high = omega arith };
+  }
 
   turned_p : (n : ℕ) → direction g.connect g.width (g.first + (p - g.first)) n ≡ direction g.connect g.width p n
   turned_p n = ap (λ x. direction g.connect g.width x n) at_p
 
   -- a pixel that looked in each direction is finished
-  pub step_done : (q l : ℕ) → 0 < g.width → cursor_of g cursors p ≡ ends g.connect + 1 → cursor_of g cursors p ≤ v → IsStep g cursors (set cursors (p - g.first) v) q q l l
+  pub step_done : (q l : ℕ) → 0 < g.width → cursor_of g cursors p ≡ direction_count g.connect + 1 → cursor_of g cursors p ≤ v
+      → IsStep g cursors (set cursors (p - g.first) v) q q l l
   step_done q l wide all h = record {
     seen = seen_still (omega arith);
     work = work_up cursors (p - g.first) v place h;
-    queued = (let o : seen_count (set cursors (p - g.first) v) ≡ seen_count cursors = seen_same cursors (p - g.first) v place (omega arith) (omega arith) in omega arith);
+    queued = (let o : seen_count (set cursors (p - g.first) v) ≡ seen_count cursors = seen_same cursors (p - g.first) v place (omega arith) (omega arith) in
+        omega arith);
     looked = (let o : looks g (set cursors (p - g.first) v) ≡ looks g cursors = looks_same cursors (p - g.first) v place g long (λ b lb t.
-        let d : direction g.connect g.width p (g.first + b) < ends g.connect = inner_direction g.values g.width g.connect g.first (length g.ranks) p (g.first + b) wide (near_p b lb t) in
+        let d : direction g.connect g.width p (g.first + b) < direction_count g.connect =
+        inner_direction g.values g.width g.connect g.first (length g.ranks) p (g.first + b) wide (near_p b lb t) in
         let e : direction g.connect g.width (g.first + (p - g.first)) (g.first + b) ≡ direction g.connect g.width p (g.first + b) = turned_p (g.first + b) in
         lt_true (direction g.connect g.width (g.first + (p - g.first)) (g.first + b) + 1) (cursor_of g cursors p) (omega arith)
         ∙ sym (lt_true (direction g.connect g.width (g.first + (p - g.first)) (g.first + b) + 1) v (omega arith))) in omega arith);
@@ -197,28 +214,38 @@ module _ (g : Ground) (cursors : List ℕ) (long : length cursors ≡ length g.r
   step_less l h = work_less cursors (p - g.first) v place l h
 
   -- a pixel looks in its next direction
-  pub step_look : (q k l m : ℕ) → 0 < g.width → cursor_of g cursors p ≡ k + 1 → v ≡ k + 2 → IsAround g p k l m → IsStep g cursors (set cursors (p - g.first) v) q q l m
+  pub step_look : (q k l m : ℕ) → 0 < g.width → cursor_of g cursors p ≡ k + 1 → v ≡ k + 2 → IsAround g p k l m
+      → IsStep g cursors (set cursors (p - g.first) v) q q l m
   step_look q k l m wide c e around = record {
     seen = seen_still (omega arith);
     work = work_up cursors (p - g.first) v place (omega arith);
-    queued = (let o : seen_count (set cursors (p - g.first) v) ≡ seen_count cursors = seen_same cursors (p - g.first) v place (omega arith) (omega arith) in omega arith);
+    queued = (let o : seen_count (set cursors (p - g.first) v) ≡ seen_count cursors = seen_same cursors (p - g.first) v place (omega arith) (omega arith) in
+        omega arith);
     looked = ⊎_elim
-        (λ (same : (m ≡ l) × ((n : ℕ) → IsInner g.values g.width g.connect g.first (length g.ranks) p n → direction g.connect g.width p n ≡ k → ⊥)). missed same.0 same.1)
-        (λ (more : (m ≡ l + 1) × ((n : ℕ) × (IsInner g.values g.width g.connect g.first (length g.ranks) p n × (direction g.connect g.width p n ≡ k)))). passed more.0 more.1.0 more.1.1.0 more.1.1.1)
+        (λ (same : (m ≡ l) × ((n : ℕ) → IsInner g.values g.width g.connect g.first (length g.ranks) p n → direction g.connect g.width p n ≡ k → ⊥)).
+        missed same.0 same.1)
+        (λ (more : (m ≡ l + 1) × ((n : ℕ) × (IsInner g.values g.width g.connect g.first (length g.ranks) p n × (direction g.connect g.width p n ≡ k)))). passed
+        more.0 more.1.0 more.1.1.0 more.1.1.1)
         around.is;
   } where
-    missed : m ≡ l → ((n : ℕ) → IsInner g.values g.width g.connect g.first (length g.ranks) p n → direction g.connect g.width p n ≡ k → ⊥) → m + looks g cursors ≡ l + looks g (set cursors (p - g.first) v)
+    missed : m ≡ l → ((n : ℕ) → IsInner g.values g.width g.connect g.first (length g.ranks) p n → direction g.connect g.width p n ≡ k → ⊥)
+        → m + looks g cursors ≡ l + looks g (set cursors (p - g.first) v)
     missed ml none = let o : looks g (set cursors (p - g.first) v) ≡ looks g cursors = looks_same cursors (p - g.first) v place g long (λ b lb t.
         same_lt (direction g.connect g.width (g.first + (p - g.first)) (g.first + b) + 1) (cursor_of g cursors p) v (omega arith)
-        (λ z. none (g.first + b) (near_p b lb t) (let d : direction g.connect g.width (g.first + (p - g.first)) (g.first + b) ≡ direction g.connect g.width p (g.first + b) = turned_p (g.first + b) in omega arith))) in omega arith
+        (λ z. none (g.first + b) (near_p b lb t)
+        (let d : direction g.connect g.width (g.first + (p - g.first)) (g.first + b) ≡ direction g.connect g.width p (g.first + b) =
+        turned_p (g.first + b) in omega arith))) in omega arith
 
-    passed : m ≡ l + 1 → (n : ℕ) → IsInner g.values g.width g.connect g.first (length g.ranks) p n → direction g.connect g.width p n ≡ k → m + looks g cursors ≡ l + looks g (set cursors (p - g.first) v)
+    passed : m ≡ l + 1 → (n : ℕ) → IsInner g.values g.width g.connect g.first (length g.ranks) p n → direction g.connect g.width p n ≡ k
+        → m + looks g cursors ≡ l + looks g (set cursors (p - g.first) v)
     passed ml n i d = let low : g.first ≤ n = i.other.low in let high : n < g.first + length g.ranks = i.other.high in
         let at_n : g.first + (n - g.first) ≡ n = omega arith in
-        let dn : direction g.connect g.width (g.first + (p - g.first)) (g.first + (n - g.first)) ≡ k = subst₂ (λ x y. direction g.connect g.width x y ≡ k) (sym at_p) (sym at_n) d in
+        let dn : direction g.connect g.width (g.first + (p - g.first)) (g.first + (n - g.first)) ≡ k =
+        subst₂ (λ x y. direction g.connect g.width x y ≡ k) (sym at_p) (sym at_n) d in
         let one : looks g (set cursors (p - g.first) v) ≡ looks g cursors + 1 = looks_one cursors (p - g.first) v place g long (n - g.first) (omega arith)
         (subst₂ (λ x y. are_adjacent g.values g.width g.connect x y ≡ true) (sym at_p) (sym at_n) i.adjacent) (omega arith) (omega arith)
-        (λ b lb t z. let db : direction g.connect g.width (g.first + (p - g.first)) (g.first + b) ≡ direction g.connect g.width p (g.first + b) = turned_p (g.first + b) in
+        (λ b lb t z. let db : direction g.connect g.width (g.first + (p - g.first)) (g.first + b) ≡ direction g.connect g.width p (g.first + b) =
+        turned_p (g.first + b) in
         let same : g.first + b ≡ n = direction_once g.connect g.width p (g.first + b) n wide
         (inner_near g.values g.width g.connect g.first (length g.ranks) p (g.first + b) (near_p b lb t))
         (inner_near g.values g.width g.connect g.first (length g.ranks) p n i) (omega arith) in omega arith) in omega arith

@@ -1,15 +1,15 @@
-pub mod Joining
-pub mod Flow
-pub mod Listing
-pub mod Directions
-pub mod Stepping
-pub mod Counting
-pub mod Retiring
-pub mod Seeing
-pub mod Looking
-pub mod Flooded
-pub mod Working
-pub mod Numbering
-pub mod Packing
-pub mod Handing
-pub mod Adapting
+mod Joining
+mod Flow
+mod Listing
+mod Directions
+mod Stepping
+mod Counting
+mod Retiring
+mod Seeing
+mod Looking
+mod Flooded
+mod Working
+mod Numbering
+mod Packing
+mod Handing
+mod Adapting

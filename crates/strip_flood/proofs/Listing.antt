@@ -1,5 +1,6 @@
 -- The lists of the queue have the queued pixels, after each kind of step.
-use Rattle.std.proofs.Common.{◌≡◌, ℕ, zero, suc, ◌+◌, ◌-◌, ◌<◌, ◌≤◌, List, [], ◌∷◌, ◌++◌, length, set, get_or, Contains, ◌⊎◌, inl, inr, refl, sym, subst, ap, ◌∙◌, ⊎_elim, arith, get_or-set_same, get_or-set_other}
+use Rattle.std.proofs.Common.{◌≡◌, ℕ, zero, suc, ◌+◌, ◌-◌, ◌<◌, ◌≤◌, List, [], ◌∷◌, ◌++◌, length, set, get_or, Contains, ◌⊎◌, inl, inr, refl, sym, subst, ap}
+use Rattle.std.proofs.Common.{◌∙◌, ⊎_elim, arith, get_or-set_same, get_or-set_other}
 use Rattle.std.proofs.lemmas.Bool.{cases_eq}
 use Rattle.std.proofs.lemmas.List.Elements.{Contains-push, Contains-push_cases, Contains-append_left}
 use Rattle.strip_flood.specs.Flood.{Ground, list_at, IsOf, rank_of, IsInQueue, IsListed}
@@ -24,14 +25,16 @@ Contains-cases xs x y c = at c.0 c.1 c.2 where
   at zero l e = inl (sym e)
   at (suc k) l e = inr (k, omega arith, e)
 
-module _ (g : Ground) (lists : List (List ℕ)) (cursors : List ℕ) (long : length cursors ≡ length g.ranks) (p : ℕ) (inside : IsOf g p) (listed : IsListed g lists cursors) where
+module _ (g : Ground) (lists : List (List ℕ)) (cursors : List ℕ) (long : length cursors ≡ length g.ranks) (p : ℕ) (inside : IsOf g p)
+    (listed : IsListed g lists cursors) where
   at_place : g.first + (p - g.first) ≡ p
   at_place = let a : g.first ≤ p = inside.low in omega arith
 
   place_of : (i : ℕ) → g.first + i ≡ p → i ≡ p - g.first
   place_of i e = omega arith
 
-  pub push_listed : (r : ℕ) → r < length lists → rank_of g p ≡ r → IsListed g (set lists r (list_at lists r ++ (p - g.first) ∷ [])) (set cursors (p - g.first) 1)
+  pub push_listed : (r : ℕ) → r < length lists → rank_of g p ≡ r
+      → IsListed g (set lists r (list_at lists r ++ (p - g.first) ∷ [])) (set cursors (p - g.first) 1)
   push_listed r lt rank = record { to = to; from = from } where
     new : List (List ℕ)
     new = set lists r (list_at lists r ++ (p - g.first) ∷ [])
@@ -43,7 +46,8 @@ module _ (g : Ground) (lists : List (List ℕ)) (cursors : List ℕ) (long : len
     old_to s i c = let o : (rank_of g (g.first + i) ≡ s) × IsInQueue g cursors (g.first + i) = listed.to s i c in (
       o.0,
       ⊎_elim
-          (λ (e : g.first + i ≡ p). subst (λ q. IsInQueue g (set cursors (p - g.first) 1) q) (sym e) (queued_new g cursors long p 1 inside (omega arith) (omega arith)))
+          (λ (e : g.first + i ≡ p). subst (λ q. IsInQueue g (set cursors (p - g.first) 1) q) (sym e)
+          (queued_new g cursors long p 1 inside (omega arith) (omega arith)))
           (λ (ne : g.first + i ≡ p → ⊥). queued_old g cursors long p 1 inside (g.first + i) ne o.1)
           (cases_eq (g.first + i) p),
     )
@@ -54,7 +58,8 @@ module _ (g : Ground) (lists : List (List ℕ)) (cursors : List ℕ) (long : len
         (λ (o : Contains (list_at lists r) i). subst (λ t. To t (g.first + i)) (sym e) (old_to r i o))
         (λ (n : p - g.first ≡ i). let at : p ≡ g.first + i = (let a : g.first + (p - g.first) ≡ p = at_place in omega arith) in
         subst (λ q. To s q) at (rank ∙ sym e, queued_new g cursors long p 1 inside (omega arith) (omega arith)))
-        (Contains-push_cases (list_at lists r) (p - g.first) i (subst (λ l. Contains l i) (ap (λ t. list_at new t) e ∙ list_new lists r (list_at lists r ++ (p - g.first) ∷ []) lt) c)))
+        (Contains-push_cases (list_at lists r) (p - g.first) i
+        (subst (λ l. Contains l i) (ap (λ t. list_at new t) e ∙ list_new lists r (list_at lists r ++ (p - g.first) ∷ []) lt) c)))
         (λ (ne : s ≡ r → ⊥). old_to s i (subst (λ l. Contains l i) (list_old lists r (list_at lists r ++ (p - g.first) ∷ []) s ne) c))
         (cases_eq s r)
 
@@ -70,7 +75,8 @@ module _ (g : Ground) (lists : List (List ℕ)) (cursors : List ℕ) (long : len
         (λ (o : (q ≡ p → ⊥) × IsInQueue g cursors q). in_new q (rank_of g q) (listed.from q o.1))
         (λ (e : q ≡ p). subst (λ x. Contains (list_at new (rank_of g x)) (x - g.first)) (sym e)
         (subst (λ s. Contains (list_at new s) (p - g.first)) (sym rank)
-        (subst (λ l. Contains l (p - g.first)) (sym (list_new lists r (list_at lists r ++ (p - g.first) ∷ []) lt)) (Contains-push (list_at lists r) (p - g.first)))))
+        (subst (λ l. Contains l (p - g.first)) (sym (list_new lists r (list_at lists r ++ (p - g.first) ∷ []) lt))
+        (Contains-push (list_at lists r) (p - g.first)))))
         (queued_cases g cursors long p 1 inside q w)
 
   pub look_listed : (v : ℕ) → 0 < v → v < 10 → IsInQueue g cursors p → IsListed g lists (set cursors (p - g.first) v)
@@ -90,13 +96,15 @@ module _ (g : Ground) (lists : List (List ℕ)) (cursors : List ℕ) (long : len
         (λ (e : q ≡ p). subst (λ x. Contains (list_at lists (rank_of g x)) (x - g.first)) (sym e) (listed.from p queued))
         (queued_cases g cursors long p v inside q w)
 
-  pub pop_listed : (r : ℕ) (rest : List ℕ) → r < length lists → list_at lists r ≡ (p - g.first) ∷ rest → (Contains rest (p - g.first) → ⊥) → IsListed g (set lists r rest) (set cursors (p - g.first) 10)
+  pub pop_listed : (r : ℕ) (rest : List ℕ) → r < length lists → list_at lists r ≡ (p - g.first) ∷ rest → (Contains rest (p - g.first) → ⊥)
+      → IsListed g (set lists r rest) (set cursors (p - g.first) 10)
   pop_listed r rest lt front once = record { to = to; from = from } where
     place : ℕ
     place = p - g.first
 
     rank : rank_of g p ≡ r
-    rank = let o : (rank_of g (g.first + (p - g.first)) ≡ r) × IsInQueue g cursors (g.first + (p - g.first)) = listed.to r (p - g.first) (subst (λ l. Contains l (p - g.first)) (sym front) (Contains-first rest (p - g.first))) in
+    rank = let o : (rank_of g (g.first + (p - g.first)) ≡ r) × IsInQueue g cursors (g.first + (p - g.first)) =
+        listed.to r (p - g.first) (subst (λ l. Contains l (p - g.first)) (sym front) (Contains-first rest (p - g.first))) in
         subst (λ q. rank_of g q ≡ r) at_place o.0
 
     To : ℕ → ℕ → Type 0
@@ -109,10 +117,12 @@ module _ (g : Ground) (lists : List (List ℕ)) (cursors : List ℕ) (long : len
     to : (s i : ℕ) → Contains (list_at (set lists r rest) s) i → To s (g.first + i)
     to s i c = ⊎_elim
         (λ (e : s ≡ r). let there : Contains rest i = subst (λ l. Contains l i) (ap (λ t. list_at (set lists r rest) t) e ∙ list_new lists r rest lt) c in
-        old_to s i (λ ei. once (subst (λ j. Contains rest j) ei there)) (subst (λ t. Contains (list_at lists t) i) (sym e) (subst (λ l. Contains l i) (sym front) (Contains-rest rest (p - g.first) i there))))
+        old_to s i (λ ei. once (subst (λ j. Contains rest j) ei there))
+        (subst (λ t. Contains (list_at lists t) i) (sym e) (subst (λ l. Contains l i) (sym front) (Contains-rest rest (p - g.first) i there))))
         (λ (ne : s ≡ r → ⊥). let there : Contains (list_at lists s) i = subst (λ l. Contains l i) (list_old lists r rest s ne) c in
         old_to s i (λ ei. let o : (rank_of g (g.first + i) ≡ s) × IsInQueue g cursors (g.first + i) = listed.to s i there in
-        ne (sym (subst (λ q. rank_of g q ≡ s) (let a : g.first + (p - g.first) ≡ p = at_place in let b : g.first + i ≡ p = omega arith in b) o.0) ∙ rank)) there)
+        ne (sym (subst (λ q. rank_of g q ≡ s) (let a : g.first + (p - g.first) ≡ p = at_place in let b : g.first + i ≡ p = omega arith in b) o.0)
+        ∙ rank)) there)
         (cases_eq s r)
 
     from : (q : ℕ) → IsInQueue g (set cursors (p - g.first) 10) q → Contains (list_at (set lists r rest) (rank_of g q)) (q - g.first)

@@ -1,11 +1,15 @@
 -- A look from the pixel that the flooding is at.
-use Rattle.std.proofs.Common.{◌≡◌, ℕ, ◌+◌, ◌-◌, ◌<◌, ◌≤◌, List, [], ◌∷◌, ◌++◌, length, set, slice_index, is_some, ◌&&◌, true, ℤ, ◌⊎◌, inl, inr, refl, sym, subst, ap, ◌∙◌, ⊎_elim, arith, length-append}
+use Rattle.std.proofs.Common.{◌≡◌, ℕ, ◌+◌, ◌-◌, ◌<◌, ◌≤◌, List, [], ◌∷◌, ◌++◌, length, set, slice_index, is_some, ◌&&◌, true, ℤ, ◌⊎◌, inl, inr, refl, sym}
+use Rattle.std.proofs.Common.{subst, ap, ◌∙◌, ⊎_elim, arith, length-append}
 use Rattle.std.proofs.lemmas.Bool.{cases_eq, cases_lt, and_from, and_parts}
 use Rattle.comp_tree.specs.Joined.{Joined}
-use Rattle.comp_tree.specs.Forest.{no_node, value_at, HasValue, ReachesLevel}
+use Rattle.comp_tree.specs.Forest.{no_node, value_at, ReachesLevel}
+use Rattle.comp_tree.specs.Defined.{HasValue}
 use Rattle.comp_tree.specs.Grid.{are_neighbours}
-use Rattle.strip_flood.specs.Queue.{IsNowhere, IsEmpty, IsFront}
-use Rattle.strip_flood.specs.Flood.{Ground, State, state, list_at, ends, direction, IsOf, rank_of, cursor_of, IsInQueue, IsOpen, IsRanked, IsFair, IsTurning, IsTop, IsAtFront, IsNeighbour, HasNone}
+use Rattle.level_queue.specs.Queue.{IsEmpty, IsFront}
+use Rattle.strip_flood.proofs.Adapting.{IsNowhere}
+use Rattle.strip_flood.specs.Flood.{Ground, FloodState, state_with, list_at, direction_count, direction, IsOf, rank_of, cursor_of, IsInQueue, IsOpen}
+use Rattle.strip_flood.specs.Flood.{IsRanked, IsFair, IsTurning, IsTop, IsAtFront, IsNeighbour, HasNone}
 use Rattle.comp_tree.proofs.Exported.{joined_trans, joined_pair, at_least_cases, adjacent_from}
 use Rattle.strip_flood.proofs.Flow.{IsSeen, IsAround, cursor_new, queued_new, queued_old}
 use Rattle.strip_flood.proofs.Directions.{inner_near}
@@ -16,7 +20,7 @@ use Rattle.strip_flood.proofs.Retiring.{contains_some}
 pub below : (g : Ground) (n r : ℕ) → (rank_of g n ≡ r) × (r < g.size) → rank_of g n < g.size
 below g n r e = subst (λ t. t < g.size) (sym e.0) e.1
 
-module _ (g : Ground) (s : State) (ok : IsRanked g) (turning : IsTurning g s) where
+module _ (g : Ground) (s : FloodState) (ok : IsRanked g) (turning : IsTurning g s) where
   -- an open pixel's rank has queued ones
   pub open_list : (x : ℕ) → IsOpen g s.cursors s.earliest x → list_at s.lists (rank_of g x) ≡ [] → ⊥
   open_list x (inl q) = contains_some (list_at s.lists (rank_of g x)) (x - g.first) (turning.fair.listed.from x q)
@@ -31,40 +35,47 @@ module _ (g : Ground) (s : State) (ok : IsRanked g) (turning : IsTurning g s) wh
   }
 
   pushed_list : (xs : List ℕ) (x : ℕ) → xs ++ x ∷ [] ≡ [] → ⊥
-  pushed_list xs x e = let l : length (xs ++ x ∷ []) ≡ 0 = ap length e in let m : length (xs ++ x ∷ []) ≡ length xs + 1 = length-append xs (x ∷ []) in omega arith
+  pushed_list xs x e = let l : length (xs ++ x ∷ []) ≡ 0 = ap length e in let m : length (xs ++ x ∷ []) ≡ length xs + 1 =
+      length-append xs (x ∷ []) in omega arith
 
-  push_busy : (r n : ℕ) → r < g.size → (t : ℕ) → t < g.size → (slice_index s.earliest t ≡ no_node → ⊥) → list_at (set s.lists r (list_at s.lists r ++ n ∷ [])) t ≡ [] → ⊥
+  push_busy : (r n : ℕ) → r < g.size → (t : ℕ) → t < g.size → (slice_index s.earliest t ≡ no_node → ⊥)
+      → list_at (set s.lists r (list_at s.lists r ++ n ∷ [])) t ≡ [] → ⊥
   push_busy r n low t lt some e = ⊎_elim
       (λ (same : t ≡ r). pushed_list (list_at s.lists r) n
-      (sym (ap (λ u. list_at (set s.lists r (list_at s.lists r ++ n ∷ [])) u) same ∙ list_new s.lists r (list_at s.lists r ++ n ∷ []) (let l : length s.lists ≡ g.size = turning.fair.lists_length in omega arith)) ∙ e))
+      (sym (ap (λ u. list_at (set s.lists r (list_at s.lists r ++ n ∷ [])) u) same
+      ∙ list_new s.lists r (list_at s.lists r ++ n ∷ []) (let l : length s.lists ≡ g.size = turning.fair.lists_length in omega arith)) ∙ e))
       (λ (ne : t ≡ r → ⊥). turning.busy t lt some (sym (list_old s.lists r (list_at s.lists r ++ n ∷ []) t ne) ∙ e))
       (cases_eq t r)
 
   -- a component is begun
   pub start_turning : (p : ℕ) → IsOf g p → rank_of g p < g.size → cursor_of g s.cursors p ≡ 0 → IsEmpty s.lists
-      → IsTurning g (state (set s.lists (rank_of g p) (list_at s.lists (rank_of g p) ++ (p - g.first) ∷ [])) (set s.cursors (p - g.first) 1) s.earliest s.links)
+      → IsTurning g (state_with (set s.lists (rank_of g p) (list_at s.lists (rank_of g p) ++ (p - g.first) ∷ []))
+      (set s.cursors (p - g.first) 1) s.earliest s.links)
   start_turning p w low z all = record {
     fair = push_fair g s ok turning.fair p (rank_of g p) w refl low z (λ h x hx hp o. absurd (open_list x o (all.empty (rank_of g x))));
     busy = push_busy (rank_of g p) (p - g.first) low;
   }
 
   pub start_pushed : (p r : ℕ) → IsOf g p → (rank_of g p ≡ r) × (r < g.size) → cursor_of g s.cursors p ≡ 0 → IsEmpty s.lists
-      → (lists : List (List ℕ)) → lists ≡ set s.lists r (list_at s.lists r ++ (p - g.first) ∷ []) → IsTurning g (state lists (set s.cursors (p - g.first) 1) s.earliest s.links)
-  start_pushed p r w rank z all lists e = subst (λ l. IsTurning g (state l (set s.cursors (p - g.first) 1) s.earliest s.links)) (sym e)
-      (subst (λ t. IsTurning g (state (set s.lists t (list_at s.lists t ++ (p - g.first) ∷ [])) (set s.cursors (p - g.first) 1) s.earliest s.links)) rank.0
+      → (lists : List (List ℕ)) → lists ≡ set s.lists r (list_at s.lists r ++ (p - g.first) ∷ [])
+      → IsTurning g (state_with lists (set s.cursors (p - g.first) 1) s.earliest s.links)
+  start_pushed p r w rank z all lists e = subst (λ l. IsTurning g (state_with l (set s.cursors (p - g.first) 1) s.earliest s.links)) (sym e)
+      (subst (λ t. IsTurning g (state_with (set s.lists t (list_at s.lists t ++ (p - g.first) ∷ [])) (set s.cursors (p - g.first) 1) s.earliest s.links)) rank.0
       (start_turning p w (below g p r rank) z all))
 
   module _ (p : ℕ) (top : IsTop g s p) where
     -- no open pixel is higher
     open_below : (x : ℕ) → IsOpen g s.cursors s.earliest x → rank_of g x ≤ rank_of g p
-    open_below x o = ⊎_elim (λ (l : rank_of g p < rank_of g x). absurd (open_list x o (top.above (rank_of g x) l))) (λ (m : rank_of g x ≤ rank_of g p). m) (cases_lt (rank_of g p) (rank_of g x))
+    open_below x o = ⊎_elim (λ (l : rank_of g p < rank_of g x). absurd (open_list x o (top.above (rank_of g x) l))) (λ (m : rank_of g x ≤ rank_of g p). m)
+        (cases_lt (rank_of g p) (rank_of g x))
 
     ranked : rank_of g p < g.size
     ranked = turning.fair.seen p top.queued.inside top.queued.low
 
     -- a neighbour that was not seen is queued
     pub see_turning : (n : ℕ) → IsOf g n → are_neighbours g.connect g.width p n ≡ true → rank_of g n < g.size → cursor_of g s.cursors n ≡ 0
-        → IsTurning g (state (set s.lists (rank_of g n) (list_at s.lists (rank_of g n) ++ (n - g.first) ∷ [])) (set s.cursors (n - g.first) 1) s.earliest s.links)
+        → IsTurning g (state_with (set s.lists (rank_of g n) (list_at s.lists (rank_of g n) ++ (n - g.first) ∷ []))
+        (set s.cursors (n - g.first) 1) s.earliest s.links)
     see_turning n w near low z = record {
       fair = push_fair g s ok turning.fair n (rank_of g n) w refl low z joins;
       busy = push_busy (rank_of g n) (n - g.first) low;
@@ -87,13 +98,16 @@ module _ (g : Ground) (s : State) (ok : IsRanked g) (turning : IsTurning g s) wh
         by_p (inr m) = absurd (m (ok.up h x p hx.within top.queued.inside (open_below x o) ranked hx.value))
 
     pub see_pushed : (n r : ℕ) → IsOf g n → are_neighbours g.connect g.width p n ≡ true → (rank_of g n ≡ r) × (r < g.size) → cursor_of g s.cursors n ≡ 0
-        → (lists : List (List ℕ)) → lists ≡ set s.lists r (list_at s.lists r ++ (n - g.first) ∷ []) → IsTurning g (state lists (set s.cursors (n - g.first) 1) s.earliest s.links)
-    see_pushed n r w near rank z lists e = subst (λ l. IsTurning g (state l (set s.cursors (n - g.first) 1) s.earliest s.links)) (sym e)
-        (subst (λ t. IsTurning g (state (set s.lists t (list_at s.lists t ++ (n - g.first) ∷ [])) (set s.cursors (n - g.first) 1) s.earliest s.links)) rank.0
+        → (lists : List (List ℕ)) → lists ≡ set s.lists r (list_at s.lists r ++ (n - g.first) ∷ [])
+        → IsTurning g (state_with lists (set s.cursors (n - g.first) 1) s.earliest s.links)
+    see_pushed n r w near rank z lists e = subst (λ l. IsTurning g (state_with l (set s.cursors (n - g.first) 1) s.earliest s.links)) (sym e)
+        (subst (λ t. IsTurning g (state_with (set s.lists t (list_at s.lists t ++ (n - g.first) ∷ [])) (set s.cursors (n - g.first) 1) s.earliest s.links))
+        rank.0
         (see_turning n w near (below g n r rank) z))
 
     -- looking at n is counted
-    pub see_around : (k n old new : ℕ) → IsNeighbour g.connect g.width g.first (length g.ranks) p k n → rank_of g n < g.size → new ≡ old + 1 → IsAround g p k old new
+    pub see_around : (k n old new : ℕ) → IsNeighbour g.connect g.width g.first (length g.ranks) p k n → rank_of g n < g.size → new ≡ old + 1
+        → IsAround g p k old new
     see_around k n old new next low e = record {
       is = inr (
         e,
@@ -116,9 +130,11 @@ module _ (g : Ground) (s : State) (ok : IsRanked g) (turning : IsTurning g s) wh
     is_n k n y next i d = next.only y i.other (inner_near g.values g.width g.connect g.first (length g.ranks) p y i) d
 
     -- n has no value, so p is not adjacent to it
-    pub none_undefined : (k n : ℕ) → IsNeighbour g.connect g.width g.first (length g.ranks) p k n → g.size ≤ rank_of g n → (y : ℕ) → Adj g p y → direction g.connect g.width p y ≡ k → ⊥
+    pub none_undefined : (k n : ℕ) → IsNeighbour g.connect g.width g.first (length g.ranks) p k n → g.size ≤ rank_of g n → (y : ℕ) → Adj g p y
+        → direction g.connect g.width p y ≡ k → ⊥
     none_undefined k n next high y i d = let e : y ≡ n = is_n k n y next i d in
-        let both : (is_some (value_at g.values p) && is_some (value_at g.values y) ≡ true) × (are_neighbours g.connect g.width p y ≡ true) = and_parts (is_some (value_at g.values p) && is_some (value_at g.values y)) (are_neighbours g.connect g.width p y) i.adjacent in
+        let both : (is_some (value_at g.values p) && is_some (value_at g.values y) ≡ true) × (are_neighbours g.connect g.width p y ≡ true) =
+        and_parts (is_some (value_at g.values p) && is_some (value_at g.values y)) (are_neighbours g.connect g.width p y) i.adjacent in
         let there : HasValue (value_at g.values y) = (and_parts (is_some (value_at g.values p)) (is_some (value_at g.values y)) both.0).1 in
         let low : rank_of g y < g.size = ok.there y i.other there in
         let low_n : rank_of g n < g.size = subst (λ x. rank_of g x < g.size) e low in omega arith
@@ -141,19 +157,21 @@ module _ (g : Ground) (s : State) (ok : IsRanked g) (turning : IsTurning g s) wh
     }
 
   -- the cursor goes on
-  pub look_turning : (p k v : ℕ) → IsInQueue g s.cursors p → cursor_of g s.cursors p ≡ k + 1 → v ≡ k + 2 → k < ends g.connect → IsSeen g s.cursors p k
-      → IsTurning g (state s.lists (set s.cursors (p - g.first) v) s.earliest s.links)
+  pub look_turning : (p k v : ℕ) → IsInQueue g s.cursors p → cursor_of g s.cursors p ≡ k + 1 → v ≡ k + 2 → k < direction_count g.connect
+      → IsSeen g s.cursors p k
+      → IsTurning g (state_with s.lists (set s.cursors (p - g.first) v) s.earliest s.links)
   look_turning p k v queued at e more seen = record {
     fair = look_fair g s ok turning.fair p v queued (omega arith) (omega arith) (λ y i d. seen.seen y i (omega arith));
     busy = turning.busy;
   }
 
 -- a pixel that is no higher is queued behind p, which stays at the front
-push_front : (g : Ground) (s : State) → IsFair g s → (r p n t : ℕ) → IsAtFront g s r p → IsOf g n → cursor_of g s.cursors n ≡ 0 → rank_of g n ≡ t → t ≤ r
-    → IsAtFront g (state (set s.lists t (list_at s.lists t ++ (n - g.first) ∷ [])) (set s.cursors (n - g.first) 1) s.earliest s.links) r p
+push_front : (g : Ground) (s : FloodState) → IsFair g s → (r p n t : ℕ) → IsAtFront g s r p → IsOf g n → cursor_of g s.cursors n ≡ 0 → rank_of g n ≡ t → t ≤ r
+    → IsAtFront g (state_with (set s.lists t (list_at s.lists t ++ (n - g.first) ∷ [])) (set s.cursors (n - g.first) 1) s.earliest s.links) r p
 push_front g s fair r p n t front w z at le = record { top = record { queued = queued; above = above }; rank = front.rank; front = behind } where
   ne : p ≡ n → ⊥
-  ne e = let l : 0 < cursor_of g s.cursors p = front.top.queued.low in let z2 : cursor_of g s.cursors p ≡ 0 = ap (λ x. cursor_of g s.cursors x) e ∙ z in omega arith
+  ne e = let l : 0 < cursor_of g s.cursors p = front.top.queued.low in let z2 : cursor_of g s.cursors p ≡ 0 = ap (λ x. cursor_of g s.cursors x) e ∙ z in
+      omega arith
 
   queued : IsInQueue g (set s.cursors (n - g.first) 1) p
   queued = queued_old g s.cursors fair.cursors_length n 1 w p ne front.top.queued
@@ -169,18 +187,27 @@ push_front g s fair r p n t front w z at le = record { top = record { queued = q
       (λ (e : r ≡ t). record {
         rest = front.front.rest ++ (n - g.first) ∷ [];
         front = ap (λ u. list_at (set s.lists t (list_at s.lists t ++ (n - g.first) ∷ [])) u) e
-            ∙ list_new s.lists t (list_at s.lists t ++ (n - g.first) ∷ []) (let l : length s.lists ≡ g.size = fair.lists_length in let m : r < g.size = low in omega arith)
+            ∙ list_new s.lists t (list_at s.lists t ++ (n - g.first) ∷ []) (let l : length s.lists ≡ g.size = fair.lists_length in let m : r < g.size =
+            low in omega arith)
             ∙ ap (λ xs. xs ++ (n - g.first) ∷ []) (ap (λ u. list_at s.lists u) (sym e) ∙ front.front.front);
       })
-      (λ (other : r ≡ t → ⊥). record { rest = front.front.rest; front = list_old s.lists t (list_at s.lists t ++ (n - g.first) ∷ []) r other ∙ front.front.front })
+      (λ (other : r ≡ t → ⊥). record {
+        rest = front.front.rest;
+        front =
+            list_old s.lists t (list_at s.lists t ++ (n - g.first) ∷ []) r other ∙ front.front.front;
+      })
       (cases_eq r t)
 
-pub pushed_front : (g : Ground) (s : State) → IsFair g s → (r p n t : ℕ) → IsAtFront g s r p → IsOf g n → cursor_of g s.cursors n ≡ 0 → rank_of g n ≡ t → t ≤ r
-    → (lists : List (List ℕ)) → lists ≡ set s.lists t (list_at s.lists t ++ (n - g.first) ∷ []) → IsAtFront g (state lists (set s.cursors (n - g.first) 1) s.earliest s.links) r p
-pushed_front g s fair r p n t front w z at le lists e = subst (λ l. IsAtFront g (state l (set s.cursors (n - g.first) 1) s.earliest s.links) r p) (sym e) (push_front g s fair r p n t front w z at le)
+pub pushed_front : (g : Ground) (s : FloodState) → IsFair g s → (r p n t : ℕ) → IsAtFront g s r p → IsOf g n → cursor_of g s.cursors n ≡ 0 → rank_of g n ≡ t
+    → t ≤ r
+    → (lists : List (List ℕ)) → lists ≡ set s.lists t (list_at s.lists t ++ (n - g.first) ∷ [])
+    → IsAtFront g (state_with lists (set s.cursors (n - g.first) 1) s.earliest s.links) r p
+pushed_front g s fair r p n t front w z at le lists e =
+    subst (λ l. IsAtFront g (state_with l (set s.cursors (n - g.first) 1) s.earliest s.links) r p) (sym e) (push_front g s fair r p n t front w z at le)
 
 -- the cursor of p goes on, and p stays at the front
-pub look_front : (g : Ground) (s : State) → IsFair g s → (r p v : ℕ) → IsAtFront g s r p → 0 < v → v < 10 → IsAtFront g (state s.lists (set s.cursors (p - g.first) v) s.earliest s.links) r p
+pub look_front : (g : Ground) (s : FloodState) → IsFair g s → (r p v : ℕ) → IsAtFront g s r p → 0 < v → v < 10
+    → IsAtFront g (state_with s.lists (set s.cursors (p - g.first) v) s.earliest s.links) r p
 look_front g s fair r p v front low high = record {
   top = record { queued = queued_new g s.cursors fair.cursors_length p v front.top.queued.inside low high; above = front.top.above };
   rank = front.rank;

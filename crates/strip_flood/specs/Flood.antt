@@ -3,12 +3,13 @@ use Rattle.std.specs.Prelude.{◌≡◌, ℕ, ◌+◌, ◌-◌, ◌*◌, ◌/◌
 use Rattle.std.specs.Prelude.{Bool, ◌&&◌, IsTrue, List, [], length, slice_index, Contains, Option, ℤ, ◌⊎◌}
 use Rattle.comp_tree.specs.declared.shape.Connect.{Connect}
 use Rattle.comp_tree.specs.declared.shape.Connect.TheVariants.{Four, Eight}
-use Rattle.comp_tree.specs.Forest.{no_node, value_at, HasValue, ReachesLevel, ComesEarlier, IsWithin, IsHigh, link_of, IsLink, IsForest}
+use Rattle.comp_tree.specs.Forest.{no_node, value_at, ReachesLevel, ComesEarlier, IsWithin, IsHigh, link_of, IsLink, IsForest}
+use Rattle.comp_tree.specs.Defined.{HasValue}
 use Rattle.comp_tree.specs.Counts.{count_below, sum_below}
 use Rattle.comp_tree.specs.Grid.{are_neighbours, are_adjacent, IsInner}
 use Rattle.strip_flood.specs.Joining.{IsSound, IsComplete}
-pub use Rattle.strip_flood.specs.Queue.{list_at}
-use Rattle.strip_flood.specs.Queue.{IsFront}
+pub use Rattle.level_queue.specs.Queue.{list_at}
+use Rattle.level_queue.specs.Queue.{IsFront}
 
 -- what flooding reads: the plane's values, the grid, the strip's first pixel, the rank of each of its pixels, and how many ranks there are
 pub record Ground : Type 0 where
@@ -20,7 +21,7 @@ pub record Ground : Type 0 where
   pub size : ℕ
 
 -- what flooding changes: the queue's lists, each pixel's cursor, the earliest finished pixel of each rank, the links
-pub record State : Type 0 where
+pub record FloodState : Type 0 where
   pub lists : List (List ℕ)
   pub cursors : List ℕ
   pub earliest : List ℕ
@@ -29,13 +30,13 @@ pub record State : Type 0 where
 abbrev pub as_ground : List (Option ℤ) → ℕ → Connect → ℕ → List ℕ → ℕ → Ground
 as_ground values width connect first ranks size = record { values = values; width = width; connect = connect; first = first; ranks = ranks; size = size }
 
-abbrev pub state : List (List ℕ) → List ℕ → List ℕ → List ℕ → State
-state lists cursors earliest links = record { lists = lists; cursors = cursors; earliest = earliest; links = links }
+abbrev pub state_with : List (List ℕ) → List ℕ → List ℕ → List ℕ → FloodState
+state_with lists cursors earliest links = record { lists = lists; cursors = cursors; earliest = earliest; links = links }
 
 -- how many directions there are
-abbrev pub ends : Connect → ℕ
-ends Four = 4
-ends Eight = 8
+abbrev pub direction_count : Connect → ℕ
+direction_count Four = 4
+direction_count Eight = 8
 
 -- the cell, of the nine around a pixel, that a direction leads to
 abbrev pub cell : Connect → ℕ → ℕ
@@ -76,7 +77,7 @@ abbrev pub IsOpen : Ground → List ℕ → List ℕ → ℕ → Type 0
 IsOpen g cursors earliest p = IsInQueue g cursors p ⊎ IsEarliestKept g earliest p
 
 -- an adjacency of the strip that was looked at from x
-pub record IsLooked (g : Ground) (cursors : List ℕ) (x y : ℕ) : Type 0 where
+pub record WasLookedAt (g : Ground) (cursors : List ℕ) (x y : ℕ) : Type 0 where
   pub inner : IsInner g.values g.width g.connect g.first (length g.ranks) x y
   pub turned : direction g.connect g.width x y + 1 < cursor_of g cursors x
 
@@ -102,21 +103,21 @@ pub record IsKeptAt (g : Ground) (cursors : List ℕ) (r e : ℕ) : Type 0 where
   pub finished : cursor_of g cursors e ≡ 10
 
 -- at each level, links and open pixels are joined, and join what was looked at
-pub record IsJoining (g : Ground) (s : State) : Type 0 where
+pub record IsJoining (g : Ground) (s : FloodState) : Type 0 where
   pub sound : (h : ℤ) → IsSound (IsHigh g.values g.first (length g.ranks) h) (IsInner g.values g.width g.connect g.first (length g.ranks))
       (IsLink g.first s.links) (IsOpen g s.cursors s.earliest)
-  pub complete : (h : ℤ) → IsComplete (IsHigh g.values g.first (length g.ranks) h) (IsLooked g s.cursors) (IsLink g.first s.links)
+  pub complete : (h : ℤ) → IsComplete (IsHigh g.values g.first (length g.ranks) h) (WasLookedAt g s.cursors) (IsLink g.first s.links)
       (IsOpen g s.cursors s.earliest)
 
 -- what holds between two turns, and while a pixel is finished
-pub record IsFair (g : Ground) (s : State) : Type 0 where
+pub record IsFair (g : Ground) (s : FloodState) : Type 0 where
   pub cursors_length : length s.cursors ≡ length g.ranks
   pub links_length : length s.links ≡ length g.ranks
   pub earliest_length : length s.earliest ≡ g.size
   pub lists_length : length s.lists ≡ g.size
   pub listed : IsListed g s.lists s.cursors
   pub bound : (p : ℕ) → IsOf g p → cursor_of g s.cursors p ≤ 10
-  pub turning : (p : ℕ) → IsOf g p → cursor_of g s.cursors p < 10 → cursor_of g s.cursors p ≤ ends g.connect + 1
+  pub turning : (p : ℕ) → IsOf g p → cursor_of g s.cursors p < 10 → cursor_of g s.cursors p ≤ direction_count g.connect + 1
   pub seen : (p : ℕ) → IsOf g p → 0 < cursor_of g s.cursors p → rank_of g p < g.size
   pub kept : (r : ℕ) → r < g.size → (slice_index s.earliest r ≡ no_node → ⊥) → IsKeptAt g s.cursors r (slice_index s.earliest r)
   pub free : (p : ℕ) → IsOf g p → (cursor_of g s.cursors p < 10) ⊎ IsEarliestKept g s.earliest p → link_of g.first s.links p ≡ no_node
@@ -124,11 +125,11 @@ pub record IsFair (g : Ground) (s : State) : Type 0 where
   pub joining : IsJoining g s
 
 -- a kept pixel's rank has queued ones, but maybe for the rank that is left out
-pub record IsBusyBut (g : Ground) (s : State) (out : ℕ) : Type 0 where
+pub record IsBusyBut (g : Ground) (s : FloodState) (out : ℕ) : Type 0 where
   pub busy : (r : ℕ) → r < g.size → (r ≡ out → ⊥) → (slice_index s.earliest r ≡ no_node → ⊥) → list_at s.lists r ≡ [] → ⊥
 
 -- what holds between two turns
-pub record IsTurning (g : Ground) (s : State) : Type 0 where
+pub record IsTurning (g : Ground) (s : FloodState) : Type 0 where
   pub fair : IsFair g s
   pub busy : (r : ℕ) → r < g.size → (slice_index s.earliest r ≡ no_node → ⊥) → list_at s.lists r ≡ [] → ⊥
 
@@ -152,7 +153,7 @@ pub record HasNone (connect : Connect) (width first count p k : ℕ) : Type 0 wh
 -- how far the pixel in each direction lies behind the first of the nine around and at a pixel
 pub record HasOffsets (connect : Connect) (width : ℕ) (offsets : List ℕ) : Type 0 where
   pub count : length offsets ≡ 8
-  pub offset : (k : ℕ) → k < ends connect → slice_index offsets k ≡ cell connect k / 3 * width + cell connect k % 3
+  pub offset : (k : ℕ) → k < direction_count connect → slice_index offsets k ≡ cell connect k / 3 * width + cell connect k % 3
 
 -- all nine pixels around and at p are of the count pixels from first on
 pub record IsInterior (width first count p : ℕ) : Type 0 where
@@ -170,13 +171,13 @@ abbrev pub seen_count : List ℕ → ℕ
 seen_count cursors = count_below (λ i. nat_lt 0 (slice_index cursors i)) (length cursors)
 
 -- the pixels at the places i and j are adjacent, and i looked at j
-abbrev pub is_looked : Ground → List ℕ → ℕ → ℕ → Bool
-is_looked g cursors i j = are_adjacent g.values g.width g.connect (g.first + i) (g.first + j)
+abbrev pub looks_from : Ground → List ℕ → ℕ → ℕ → Bool
+looks_from g cursors i j = are_adjacent g.values g.width g.connect (g.first + i) (g.first + j)
     && nat_lt (direction g.connect g.width (g.first + i) (g.first + j) + 1) (slice_index cursors i)
 
 -- how many ordered adjacencies of the strip were looked at
 abbrev pub looks : Ground → List ℕ → ℕ
-looks g cursors = sum_below (λ i. count_below (is_looked g cursors i) (length g.ranks)) (length g.ranks)
+looks g cursors = sum_below (λ i. count_below (looks_from g cursors i) (length g.ranks)) (length g.ranks)
 
 -- What some steps did with the cursors and the two counters: what was seen still is, and each count rose as the cursors did.
 pub record IsStep (g : Ground) (old new : List ℕ) (queued_old queued_new looked_old looked_new : ℕ) : Type 0 where
@@ -186,12 +187,12 @@ pub record IsStep (g : Ground) (old new : List ℕ) (queued_old queued_new looke
   pub looked : looked_new + looks g old ≡ looked_old + looks g new
 
 -- p is queued, and no open pixel is higher
-pub record IsTop (g : Ground) (s : State) (p : ℕ) : Type 0 where
+pub record IsTop (g : Ground) (s : FloodState) (p : ℕ) : Type 0 where
   pub queued : IsInQueue g s.cursors p
   pub above : (r : ℕ) → rank_of g p < r → list_at s.lists r ≡ []
 
 -- p is the front of rank r, and no open pixel is higher
-pub record IsAtFront (g : Ground) (s : State) (r p : ℕ) : Type 0 where
+pub record IsAtFront (g : Ground) (s : FloodState) (r p : ℕ) : Type 0 where
   pub top : IsTop g s p
   pub rank : rank_of g p ≡ r
   pub front : IsFront s.lists r (p - g.first)

@@ -39,7 +39,7 @@ pub record IsStanding (j : JobView) (p : Raster) : Type 0 where
 
 -- how many of the strip's pixels are defined
 abbrev pub defined_count : JobView → Raster → ℕ
-defined_count j p = count_defined p.values (first_of j) (length j.links)
+defined_count j p = count_defined p.values (first_of j) (length j.values)
 
 -- how many ordered adjacencies some rows have whose pixels stand from first on
 abbrev pub inner_count : List (Option ℤ) → ℕ → Connect → ℕ → ℕ → ℕ
@@ -47,7 +47,7 @@ inner_count values width connect first count = sum_below (λ i. count_below (λ 
 
 -- how many ordered adjacencies the strip has
 abbrev pub adjacency_count : JobView → Raster → ℕ
-adjacency_count j p = inner_count p.values j.width j.connect (first_of j) (length j.links)
+adjacency_count j p = inner_count p.values j.width j.connect (first_of j) (length j.values)
 
 -- where it is flooded, so it is for each plane that it fits
 pub record IsStandingWhereFlooded (j : JobView) : Type 0 where

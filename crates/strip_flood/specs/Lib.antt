@@ -3,7 +3,6 @@ pub mod JobFields
 pub mod Jobs
 pub mod Joining
 pub mod Levels
-pub mod Queue
 pub mod Ranking
 pub mod Keys
 pub mod Strips

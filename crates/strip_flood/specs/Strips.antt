@@ -6,8 +6,9 @@ use Rattle.comp_tree.specs.Grid.{IsInner}
 use Rattle.strip_flood.specs.declared.strip.Strip.{Strip}
 use Rattle.strip_flood.specs.declared.flood.Flood.{Flood}
 use Rattle.strip_flood.specs.Jobs.{inner_count, IsAll}
-use Rattle.strip_flood.specs.Queue.{IsEmpty}
-use Rattle.strip_flood.specs.Flood.{Ground, State, as_ground, state, ends, cursor_of, work, HasOffsets, IsRanked, IsTurning, IsAtFront, IsStep}
+use Rattle.level_queue.specs.Queue.{IsEmpty}
+use Rattle.strip_flood.specs.Flood.{Ground, FloodState, as_ground, state_with, direction_count, cursor_of, work, HasOffsets, IsRanked, IsTurning, IsAtFront}
+use Rattle.strip_flood.specs.Flood.{IsStep}
 
 -- the values of pixels by their ranks
 abbrev pub ranked_values : List ℤ → List ℕ → List (Option ℤ)
@@ -26,8 +27,8 @@ abbrev pub ground_of : Strip → Ground
 ground_of s = as_ground (values_of s) s.width s.connect s.first s.ranks.items (length s.levels.items)
 
 -- what flooding changes
-abbrev pub state_of : Flood → State
-state_of f = state f.queue.lists f.cursors.items f.earliest.items f.links.items
+abbrev pub state_of : Flood → FloodState
+state_of f = state_with f.queue.lists f.cursors.items f.earliest.items f.links.items
 
 pub record IsStrip (s : Strip) : Type 0 where
   pub ranked : IsRanked (ground_of s)
@@ -56,11 +57,11 @@ IsStepOf s old new queued_old queued_new looked_old looked_new =
 -- the current pixel has no direction left
 pub record IsTurned (s : Strip) (f : Flood) (rank pixel : ℕ) : Type 0 where
   pub current : IsCurrent s f rank pixel
-  pub turned : cursor_at s f pixel ≡ ends s.connect + 1
+  pub turned : cursor_at s f pixel ≡ direction_count s.connect + 1
 
 -- the state with this cursor of p, which looks around and writes its cursor back when the flooding leaves it
-abbrev pub looking : Strip → Flood → ℕ → ℕ → State
-looking s f p cursor = state f.queue.lists (slice_set f.cursors.items (p - s.first) cursor) f.earliest.items f.links.items
+abbrev pub looking : Strip → Flood → ℕ → ℕ → FloodState
+looking s f p cursor = state_with f.queue.lists (slice_set f.cursors.items (p - s.first) cursor) f.earliest.items f.links.items
 
 -- p looks around, and its cursor is this one
 pub record IsLooking (s : Strip) (f : Flood) (p cursor : ℕ) : Type 0 where

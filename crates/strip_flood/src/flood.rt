@@ -8,11 +8,10 @@
 
 ghost use Rattle.std.specs.Prelude.{◌^◌, ◌≡◌, ◌≢◌, ℕ, ◌+◌, ◌-◌, ◌%◌, ◌<◌, ◌≤◌, length, IfOk, IfSome, MatchOption, slice_set, slice_index, [], true, false};
 ghost use Rattle.comp_tree.specs.Forest.{no_node, IsForest};
-ghost use Rattle.strip_flood.specs.Queue.{IsEmpty};
-ghost use Rattle.strip_flood.specs.Flood.{list_at, ends, rank_of, IsOf, IsNeighbour, IsInterior, IsFair, IsBusyBut, work, seen_count, looks};
+ghost use Rattle.level_queue.specs.Queue.{list_at, IsEmpty};
+ghost use Rattle.strip_flood.specs.Flood.{direction_count, rank_of, IsOf, IsNeighbour, IsInterior, IsFair, IsBusyBut, work, seen_count, looks};
 ghost use Rattle.strip_flood.specs.Strips.{ground_of, state_of, values_of, cursor_at, IsStrip, IsBetweenTurns, IsCurrent, IsTurned, IsLooking, IsCurrentWhile, IsLook, IsStepOf, IsFresh, StandsForStrip, defined_in, adjacencies_in};
 
-use crate::lists::{add, front, highest, take};
 use crate::strip::{Strip, directions};
 use comp_tree::NONE;
 use dev_io::{OutOfMemory, Steps};
@@ -77,7 +76,7 @@ impl Flood {
         requires looking { IsLooking strip.now self.old at.pixel cursor }
         requires front { IsCurrentWhile strip.now self.old at.pixel cursor at.rank at.pixel }
         requires first { 0 < cursor }
-        requires last { cursor ≤ ends strip.now.connect }
+        requires last { cursor ≤ direction_count strip.now.connect }
         requires next { IsNeighbour strip.now.connect strip.now.width strip.now.first
             (length strip.now.ranks.items) at.pixel (cursor - 1) n }
         ensures look { IsLook strip.now self.old self.new at.pixel cursor queued.old queued.new looked.old looked.new }
@@ -94,7 +93,7 @@ impl Flood {
             return None;
         };
         looked.tick();
-        add(&mut self.queue, rank, n - strip.first, queued);
+        self.queue.push(rank, n - strip.first, queued);
         self.cursors[there] = 1;
         if rank <= at.rank {
             return None;
@@ -118,7 +117,7 @@ impl Flood {
         requires front { IsCurrentWhile strip.now self.old at.pixel cursor at.rank at.pixel }
         requires column { column ≡ at.pixel % strip.now.width }
         requires first { 0 < cursor }
-        requires last { cursor ≤ ends strip.now.connect }
+        requires last { cursor ≤ direction_count strip.now.connect }
         ensures look { IsLook strip.now self.old self.new at.pixel cursor queued.old queued.new looked.old looked.new }
         ensures next { MatchOption result (IsCurrentWhile strip.now self.new at.pixel (cursor + 1) at.rank at.pixel)
             (λ c. IsCurrentWhile strip.now self.new at.pixel (cursor + 1) c.rank c.pixel) }
@@ -233,7 +232,7 @@ impl Flood {
         ensures cursors { self.new.cursors.items ≡ slice_set self.old.cursors.items (at.pixel - strip.now.first) 10 }
     {
         let place = (at.pixel - strip.first) as usize;
-        let _ = take(&mut self.queue, at.rank);
+        let _ = self.queue.pop_front(at.rank);
         self.cursors[place] = FINISHED;
         let kept = self.earliest[at.rank as usize];
         if kept == NONE {
@@ -264,11 +263,11 @@ impl Flood {
         ensures next { MatchOption result (IsEmpty self.new.queue.lists) (λ c. IsCurrent strip.now self.new c.rank c.pixel) }
     {
         let kept = self.earliest[rank as usize];
-        let Some(next) = highest(&self.queue) else {
+        let Some(next) = self.queue.highest() else {
             self.earliest[rank as usize] = NONE;
             return None;
         };
-        let Some(item) = front(&self.queue, next) else {
+        let Some(item) = self.queue.front(next) else {
             unreachable!()
         };
         let pixel = strip.first + item;
@@ -288,7 +287,7 @@ impl Flood {
         ensures next { MatchOption result (IsEmpty self.new.queue.lists) (λ c. IsCurrent strip.now self.new c.rank c.pixel) }
     {
         self.retire(strip, at);
-        if let Some(item) = front(&self.queue, at.rank) {
+        if let Some(item) = self.queue.front(at.rank) {
             return Some(Current {
                 rank: at.rank,
                 pixel: strip.first + item,
@@ -365,7 +364,7 @@ impl Flood {
         if self.cursors[place] > 0 {
             return;
         }
-        add(&mut self.queue, rank, p - strip.first, queued);
+        self.queue.push(rank, p - strip.first, queued);
         self.cursors[place] = 1;
         self.drain(strip, Current { rank, pixel: p }, queued, looked);
     }

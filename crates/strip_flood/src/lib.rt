@@ -6,7 +6,6 @@ mod by_table;
 mod flood;
 mod job;
 mod levels;
-mod lists;
 mod strip;
 
 // A crate can name a job in a contract only if the types of its fields are exported.

@@ -1,7 +1,7 @@
 // A strip of a plane as its flooding reads it.
 
 ghost use Rattle.std.specs.Prelude.{◌≡◌, ◌*◌, ◌+◌, ◌%◌, ◌<◌, ◌≤◌, length, true, MatchOption};
-ghost use Rattle.strip_flood.specs.Flood.{ends, cell, rank_of, IsOf, IsNeighbour, HasNone, HasOffsets, IsInterior};
+ghost use Rattle.strip_flood.specs.Flood.{direction_count, cell, rank_of, IsOf, IsNeighbour, HasNone, HasOffsets, IsInterior};
 ghost use Rattle.strip_flood.specs.Strips.{ground_of, IsStrip};
 
 use comp_tree::Connect;
@@ -23,7 +23,7 @@ pub struct Strip {
 
 /// The number of directions in which a pixel may have a neighbour.
 pub(crate) fn directions(connect: Connect) -> u8
-    ensures all { result ≡ ends connect }
+    ensures all { result ≡ direction_count connect }
     ensures few { result ≤ 8 }
 {
     match connect {
@@ -34,7 +34,7 @@ pub(crate) fn directions(connect: Connect) -> u8
 
 /// The cell that direction `k` leads to, of the nine around and at a pixel, counted row by row.
 fn cell_at(connect: Connect, k: u32) -> u32
-    requires { k < ends connect }
+    requires { k < direction_count connect }
     ensures cell { result ≡ cell connect k }
     ensures nine { result < 9 }
 {
@@ -85,7 +85,7 @@ impl Strip {
         requires strip { IsStrip self.now }
         requires inside { IsOf (ground_of self.now) p }
         requires column { column ≡ p % self.now.width }
-        requires direction { k < ends self.now.connect }
+        requires direction { k < direction_count self.now.connect }
         ensures { let count = length self.now.ranks.items in
             MatchOption result (HasNone self.now.connect self.now.width self.now.first count p k)
             (λ n. IsNeighbour self.now.connect self.now.width self.now.first count p k n) }
@@ -123,7 +123,7 @@ impl Strip {
     pub(crate) fn inner_neighbour(&self, p: u32, k: u32) -> u32
         requires strip { IsStrip self.now }
         requires interior { IsInterior self.now.width self.now.first (length self.now.ranks.items) p }
-        requires direction { k < ends self.now.connect }
+        requires direction { k < direction_count self.now.connect }
         ensures { IsNeighbour self.now.connect self.now.width self.now.first (length self.now.ranks.items) p k result }
     {
         p - self.width - 1 + self.offsets[k as usize]

@@ -18,8 +18,7 @@ struct Case<'a> {
     connect: Connect,
     first_row: u32,
     end_row: u32,
-    // -1 stands for an undefined pixel
-    values: &'a [i64],
+    values: &'a [Option<i64>],
     // a pixel, a value, and the last pixel of at least this value on the walk from that pixel
     lasts: &'a [(u32, i64, u32)],
 }
@@ -45,12 +44,7 @@ fn try_case<A: Ledger, B: Ledger>(
     looked: &mut Steps<B>,
 ) -> Result<(), Fail> {
     let shape = Shape::of(case.width, case.height).ok_or("a shape")?;
-    let mut plane = Plane::blank(alloc, shape)?;
-    for (pixel, value) in case.values.iter().enumerate() {
-        if *value >= 0 && *value < 1 << 37 && pixel < plane.shape().pixels() as usize {
-            plane.set(pixel as u32, Some(*value));
-        }
-    }
+    let plane = Plane::of(alloc, shape, case.values)?.ok_or("a plane")?;
     assert!(rt; case.first_row < case.end_row && case.end_row <= plane.shape().height);
     let mut job = StripJob::prepare(alloc, &plane, case.connect, case.first_row, case.end_row)?;
     assert!(rt; !job.is_flooded());
@@ -98,7 +92,7 @@ fn a_strip_of_one_row(rt: HostRuntime) -> Result<(), Fail> {
         connect: Connect::Four,
         first_row: 1,
         end_row: 2,
-        values: &[1, 5, 1, 7, 1, 1],
+        values: &[Some(1), Some(5), Some(1), Some(7), Some(1), Some(1)],
         lasts: &[(3, 1, 4), (4, 1, 4), (5, 1, 4)],
     };
     try_cases::<Brand, Brand>(&rt, rt.alloc(), Blank::new(1), Blank::new(1), &[case])
@@ -113,7 +107,20 @@ fn small_images(rt: HostRuntime) -> Result<(), Fail> {
             connect: Connect::Four,
             first_row: 0,
             end_row: 3,
-            values: &[6, 6, 6, 6, 6, 6, 6, 6, 6, 6, 6, 6],
+            values: &[
+                Some(6),
+                Some(6),
+                Some(6),
+                Some(6),
+                Some(6),
+                Some(6),
+                Some(6),
+                Some(6),
+                Some(6),
+                Some(6),
+                Some(6),
+                Some(6),
+            ],
             lasts: &[(5, 6, 0), (11, 6, 0)],
         },
         Case {
@@ -123,7 +130,31 @@ fn small_images(rt: HostRuntime) -> Result<(), Fail> {
             first_row: 0,
             end_row: 5,
             values: &[
-                3, 3, 3, 3, 3, 0, 0, 0, 0, 3, 3, 3, 3, 0, 3, 3, 0, 0, 0, 3, 3, 3, 3, 3, 3,
+                Some(3),
+                Some(3),
+                Some(3),
+                Some(3),
+                Some(3),
+                Some(0),
+                Some(0),
+                Some(0),
+                Some(0),
+                Some(3),
+                Some(3),
+                Some(3),
+                Some(3),
+                Some(0),
+                Some(3),
+                Some(3),
+                Some(0),
+                Some(0),
+                Some(0),
+                Some(3),
+                Some(3),
+                Some(3),
+                Some(3),
+                Some(3),
+                Some(3),
             ],
             lasts: &[(12, 3, 0), (12, 0, 5), (18, 0, 5)],
         },
@@ -134,7 +165,31 @@ fn small_images(rt: HostRuntime) -> Result<(), Fail> {
             first_row: 1,
             end_row: 5,
             values: &[
-                3, 3, 3, 3, 3, 0, 0, 0, 0, 3, 3, 3, 3, 0, 3, 3, 0, 0, 0, 3, 3, 3, 3, 3, 3,
+                Some(3),
+                Some(3),
+                Some(3),
+                Some(3),
+                Some(3),
+                Some(0),
+                Some(0),
+                Some(0),
+                Some(0),
+                Some(3),
+                Some(3),
+                Some(3),
+                Some(3),
+                Some(0),
+                Some(3),
+                Some(3),
+                Some(0),
+                Some(0),
+                Some(0),
+                Some(3),
+                Some(3),
+                Some(3),
+                Some(3),
+                Some(3),
+                Some(3),
             ],
             lasts: &[(12, 3, 9), (20, 0, 5)],
         },
@@ -144,7 +199,23 @@ fn small_images(rt: HostRuntime) -> Result<(), Fail> {
             connect: Connect::Four,
             first_row: 0,
             end_row: 3,
-            values: &[4, 0, 5, 0, 6, 4, 0, 5, 0, 6, 2, 2, 2, 2, 2],
+            values: &[
+                Some(4),
+                Some(0),
+                Some(5),
+                Some(0),
+                Some(6),
+                Some(4),
+                Some(0),
+                Some(5),
+                Some(0),
+                Some(6),
+                Some(2),
+                Some(2),
+                Some(2),
+                Some(2),
+                Some(2),
+            ],
             lasts: &[(5, 4, 0), (9, 6, 4), (4, 1, 10), (14, 2, 10), (7, 0, 1)],
         },
         Case {
@@ -153,7 +224,23 @@ fn small_images(rt: HostRuntime) -> Result<(), Fail> {
             connect: Connect::Four,
             first_row: 0,
             end_row: 2,
-            values: &[4, 0, 5, 0, 6, 4, 0, 5, 0, 6, 2, 2, 2, 2, 2],
+            values: &[
+                Some(4),
+                Some(0),
+                Some(5),
+                Some(0),
+                Some(6),
+                Some(4),
+                Some(0),
+                Some(5),
+                Some(0),
+                Some(6),
+                Some(2),
+                Some(2),
+                Some(2),
+                Some(2),
+                Some(2),
+            ],
             lasts: &[(5, 1, 0), (9, 1, 4), (9, 0, 1)],
         },
         Case {
@@ -162,7 +249,17 @@ fn small_images(rt: HostRuntime) -> Result<(), Fail> {
             connect: Connect::Eight,
             first_row: 0,
             end_row: 3,
-            values: &[9, -1, 9, -1, 3, -1, 9, -1, 9],
+            values: &[
+                Some(9),
+                None,
+                Some(9),
+                None,
+                Some(3),
+                None,
+                Some(9),
+                None,
+                Some(9),
+            ],
             lasts: &[(8, 9, 8), (8, 3, 4), (0, 1, 4)],
         },
         Case {
@@ -171,7 +268,17 @@ fn small_images(rt: HostRuntime) -> Result<(), Fail> {
             connect: Connect::Four,
             first_row: 0,
             end_row: 3,
-            values: &[7, -1, 7, -1, 3, -1, 7, -1, 7],
+            values: &[
+                Some(7),
+                None,
+                Some(7),
+                None,
+                Some(3),
+                None,
+                Some(7),
+                None,
+                Some(7),
+            ],
             lasts: &[(8, 3, 8), (0, 0, 0)],
         },
         Case {
@@ -180,7 +287,17 @@ fn small_images(rt: HostRuntime) -> Result<(), Fail> {
             connect: Connect::Four,
             first_row: 0,
             end_row: 3,
-            values: &[5, 0, 6, 5, 2, 6, 3, 3, 3],
+            values: &[
+                Some(5),
+                Some(0),
+                Some(6),
+                Some(5),
+                Some(2),
+                Some(6),
+                Some(3),
+                Some(3),
+                Some(3),
+            ],
             lasts: &[(3, 5, 0), (5, 3, 6), (2, 2, 4), (8, 1, 4), (4, 0, 1)],
         },
     ];
@@ -197,7 +314,7 @@ fn values_far_apart(rt: HostRuntime) -> Result<(), Fail> {
             connect: Connect::Four,
             first_row: 0,
             end_row: 2,
-            values: &[0, 7, 3, 7],
+            values: &[Some(0), Some(7), Some(3), Some(7)],
             lasts: &[(3, 7, 1), (3, 3, 2), (3, 0, 0), (2, 3, 2)],
         },
         Case {
@@ -206,7 +323,7 @@ fn values_far_apart(rt: HostRuntime) -> Result<(), Fail> {
             connect: Connect::Four,
             first_row: 0,
             end_row: 2,
-            values: &[0, 8, 3, 8],
+            values: &[Some(0), Some(8), Some(3), Some(8)],
             lasts: &[(3, 8, 1), (3, 3, 2), (3, 0, 0), (2, 3, 2)],
         },
         Case {
@@ -215,7 +332,17 @@ fn values_far_apart(rt: HostRuntime) -> Result<(), Fail> {
             connect: Connect::Eight,
             first_row: 1,
             end_row: 3,
-            values: &[1, 2, 3, 9_000_000_000, -1, 40, 40, 9_000_000_000, 5],
+            values: &[
+                Some(1),
+                Some(2),
+                Some(3),
+                Some(9_000_000_000),
+                None,
+                Some(40),
+                Some(40),
+                Some(9_000_000_000),
+                Some(5),
+            ],
             lasts: &[(7, 41, 3), (7, 40, 5), (3, 6, 5), (5, 5, 8)],
         },
         // no value at all
@@ -225,7 +352,7 @@ fn values_far_apart(rt: HostRuntime) -> Result<(), Fail> {
             connect: Connect::Four,
             first_row: 0,
             end_row: 1,
-            values: &[-1, -1],
+            values: &[None, None],
             lasts: &[(0, 0, 0), (1, 0, 1)],
         },
     ];
@@ -247,12 +374,7 @@ fn ranks_by_sorting(rt: HostRuntime) -> Result<(), Fail> {
         Some(-1),
     ];
     let shape = Shape::of(4, 2).ok_or("a shape")?;
-    let mut plane = Plane::blank(rt.alloc(), shape)?;
-    for p in 0..8 {
-        if p < plane.shape().pixels() {
-            plane.set(p, values[p as usize]);
-        }
-    }
+    let plane = Plane::of(rt.alloc(), shape, &values)?.ok_or("a plane")?;
     assert_eq!(&rt; plane.shape().pixels(), 8);
     let found = rank_by_order(rt.alloc(), &plane, 1, 8)?;
     assert_eq!(&rt; &found.levels[..], &[least, -1, 0, most][..]);

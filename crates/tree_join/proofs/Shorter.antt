@@ -6,8 +6,10 @@ use Rattle.std.proofs.lemmas.Bool.{true≢false}
 use Rattle.std.proofs.lemmas.Grind.{get_or_default_zero}
 use Rattle.comp_tree.specs.Joined.{Joined, Only}
 use Rattle.comp_tree.specs.Raster.{Raster, level}
-use Rattle.comp_tree.specs.Forest.{no_node, value_at, ReachesLevel, IsWithin, IsHigh, ComesEarlier, link_of, IsLink, IsForest, JoinSame, IsPixel}
-use Rattle.comp_tree.proofs.Exported.{links_before, links_after, link_hung, forest_hung, joined_trans, joined_sym, joined_pair, joined_within, at_only, int_le-true, int_le-from, before_defined, before_irrefl, before_trans, high_up}
+use Rattle.comp_tree.specs.Forest.{no_node, value_at, ReachesLevel, IsWithin, IsHigh, ComesEarlier, link_of, IsLink, IsForest, JoinSame}
+use Rattle.tree_join.specs.Skips.{IsPixel}
+use Rattle.comp_tree.proofs.Exported.{links_before, links_after, link_hung, forest_hung, joined_trans, joined_sym, joined_pair, joined_within, at_only}
+use Rattle.comp_tree.proofs.Exported.{int_le-true, int_le-from, before_irrefl, before_trans, high_up}
 
 -- At one level: c is the link of a, and d that of c. L holds before a is linked to d, and M after it.
 module _ (High : ℕ → Type 0) (L M : ℕ → ℕ → Type 0) (a c d : ℕ) where
@@ -52,7 +54,8 @@ module _ (values : List (Option ℤ)) (first : ℕ) (links : List ℕ) (forest :
   read_link : (x : ℕ) → IsWithin first (length links) x → link_of first links x ≡ get_or links (x - first) 0
   read_link x w = get_or_default_zero links (x - first) no_node (let low : first ≤ x = w.low in let high : x < first + length links = w.high in omega arith)
 
-  link_fits : (x q : ℕ) → IsWithin first (length links) x → get_or links (x - first) 0 ≡ q → (q ≡ no_node → ⊥) → IsWithin first (length links) q × ComesEarlier values q x
+  link_fits : (x q : ℕ) → IsWithin first (length links) x → get_or links (x - first) 0 ≡ q → (q ≡ no_node → ⊥)
+      → IsWithin first (length links) q × ComesEarlier values q x
   link_fits x q w e ne = subst (λ z. IsWithin first (length links) z × ComesEarlier values z x) (read_link x w ∙ e) (⊎_elim
       (λ (n : link_of first links x ≡ no_node). absurd (ne (sym e ∙ (sym (read_link x w) ∙ n))))
       (λ (f : IsWithin first (length links) (link_of first links x) × ComesEarlier values (link_of first links x) x). f)
@@ -66,9 +69,6 @@ module _ (values : List (Option ℤ)) (first : ℕ) (links : List ℕ) (forest :
 
   pub past_earlier : ComesEarlier values d a
   past_earlier = before_trans (value_at values d) (value_at values c) (value_at values a) d c a d_fits.1 c_fits.1
-
-  pub past_pixel : IsPixel values first (length links) d
-  past_pixel = record { within = d_fits.0; value = (before_defined (value_at values d) (value_at values c) d c d_fits.1).0 }
 
   pub past_forest : IsForest values first (set links (a - first) d)
   past_forest = forest_hung first links a d pa.within values forest d_fits.0 past_earlier

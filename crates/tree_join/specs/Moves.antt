@@ -1,7 +1,8 @@
 -- Bookkeeping: the moves of the walk that joins two pixels, and the pairs that a row of pixels is joined by.
 use Rattle.std.specs.Prelude.{◌≡◌, ℕ, max, cond, is_some, ◌-◌, ◌+◌, ◌*◌, ◌<◌, ◌≤◌, ◌⊎◌, List, length, Option, Some, None, ℤ}
 use Rattle.comp_tree.specs.Joined.{Or, Only}
-use Rattle.comp_tree.specs.Forest.{no_node, value_at, HasValue, link_of, ComesEarlier, IsLink, JoinSame}
+use Rattle.comp_tree.specs.Forest.{no_node, value_at, link_of, ComesEarlier, IsLink, JoinSame}
+use Rattle.comp_tree.specs.Defined.{HasValue}
 use Rattle.comp_tree.specs.Counts.{count_defined}
 use Rattle.comp_tree.specs.EarlierCounts.{earlier_count}
 

@@ -1,8 +1,8 @@
 -- Bookkeeping: what a walk needs and keeps, and its steps.
 use Rattle.std.specs.Prelude.{ℕ, ◌+◌, ◌^◌, ◌≤◌, List, length, Option, ℤ}
 use Rattle.comp_tree.specs.Joined.{Or, Only}
-use Rattle.comp_tree.specs.Forest.{ComesEarlier, IsForest, IsPixel, IsLink, JoinSame}
-use Rattle.tree_join.specs.Skips.{IsSkip, AreSkips}
+use Rattle.comp_tree.specs.Forest.{ComesEarlier, IsForest, IsLink, JoinSame}
+use Rattle.tree_join.specs.Skips.{IsPixel, IsSkip, AreSkips}
 
 -- the links of some pixels of a plane, in the order of a forest
 pub record AreLinks (values : List (Option ℤ)) (first : ℕ) (links : List ℕ) : Type 0 where
@@ -16,12 +16,12 @@ pub record AreLike (values : List (Option ℤ)) (first : ℕ) (old new : List �
   pub same : JoinSame values first (length old) (IsLink first new) (IsLink first old)
 
 -- before and after a walk: each skip of the table is true of the links
-pub record AreReady (values : List (Option ℤ)) (first : ℕ) (links from to : List ℕ) : Type 0 where
+pub record HaveTrueSkips (values : List (Option ℤ)) (first : ℕ) (links from to : List ℕ) : Type 0 where
   pub kept : AreLinks values first links
   pub skips : AreSkips values first (length links) (IsLink first links) from to
 
 -- two pixels, the first of which is not the earlier
-pub record IsPair (values : List (Option ℤ)) (first count a b : ℕ) : Type 0 where
+pub record IsLaterPair (values : List (Option ℤ)) (first count a b : ℕ) : Type 0 where
   pub one : IsPixel values first count a
   pub other : IsPixel values first count b
   pub late : ComesEarlier values a b → ⊥
@@ -29,7 +29,7 @@ pub record IsPair (values : List (Option ℤ)) (first count a b : ℕ) : Type 0 
 -- within a walk: a and b are still to be joined, and each skip is true of the links together with this pair
 pub record IsWalk (values : List (Option ℤ)) (first : ℕ) (links from to : List ℕ) (a b : ℕ) : Type 0 where
   pub kept : AreLinks values first links
-  pub pair : IsPair values first (length links) a b
+  pub pair : IsLaterPair values first (length links) a b
   pub skips : AreSkips values first (length links) (Or (IsLink first links) (Only a b)) from to
 
 -- a step up from at, to a pixel that is not earlier than b

@@ -11,7 +11,7 @@
 //! In images of many values a climb passes thousands of pixels, most of which earlier walks of the same boundary met too. So
 //! it skips over them where it can (`skips`).
 //!
-//! For one adjacency the looks at links and skips are at most five for each defined pixel. A step of a climb has at most four
+//! For one adjacency the reads of links and skips are at most five for each defined pixel. A step of a climb has at most four
 //! and goes to an earlier pixel. Where a climb ends there are four, and one more at the move, which leaves the pixel behind.
 #![tactic(auto)]
 
@@ -20,8 +20,9 @@ ghost use Rattle.comp_tree.specs.Joined.{Or, Has};
 ghost use Rattle.comp_tree.specs.Counts.{count_defined};
 ghost use Rattle.comp_tree.specs.Forest.{no_node, StandsFor, IsForest, IsLink, JoinSame, IsWithin};
 ghost use Rattle.tree_join.specs.Moves.{IsSpan, span_size};
-ghost use Rattle.tree_join.specs.Walks.{AreReady};
-ghost use Rattle.tree_join.specs.Boundary.{IsBoundary, boundary_size, first_column, end_column};
+ghost use Rattle.tree_join.specs.Walks.{HaveTrueSkips};
+ghost use Rattle.tree_join.specs.Boundary.{row_start, IsBoundary, boundary_size};
+ghost use Rattle.tree_join.specs.Columns.{first_column, end_column};
 
 pub mod laws;
 mod skips;
@@ -45,21 +46,21 @@ fn join_span<L: Ledger, M: Ledger>(
     high: u32,
     p: u32,
     moves: &mut Steps<L>,
-    looks: &mut Steps<M>,
+    reads: &mut Steps<M>,
 )
-    requires ready { AreReady plane.now.values first parents.old skips.old.from skips.old.to }
+    requires ready { HaveTrueSkips plane.now.values first parents.old skips.old.from skips.old.to }
     requires low { first ≤ low }
     requires span { low ≤ high }
     requires high { high ≤ first + length parents.old }
     requires p_in { IsWithin first (length parents.old) p }
-    ensures ready { AreReady plane.now.values first parents.new skips.new.from skips.new.to }
+    ensures ready { HaveTrueSkips plane.now.values first parents.new skips.new.from skips.new.to }
     ensures joined { JoinSame plane.now.values first (length parents.old)
         (IsLink first parents.new)
         (Or (IsLink first parents.old) (IsSpan plane.now.values low high p)) }
     ensures cost { moves.new ≤ moves.old
         + span_size plane.now.values low high p * count_defined plane.now.values first (length parents.old) }
-    ensures each { moves.new + looks.old ≤ moves.old + looks.new }
-    ensures looks { looks.new ≤ looks.old
+    ensures each { moves.new + reads.old ≤ moves.old + reads.new }
+    ensures reads { reads.new ≤ reads.old
         + span_size plane.now.values low high p
         * (5 * count_defined plane.now.values first (length parents.old)) }
 {
@@ -68,7 +69,7 @@ fn join_span<L: Ledger, M: Ledger>(
     }
     for u in low..high {
         if plane.get(u).is_some() {
-            join_pair(parents, plane, first, skips, u, p, moves, looks);
+            join_pair(parents, plane, first, skips, u, p, moves, reads);
         }
     }
 }
@@ -96,7 +97,7 @@ fn join_rows<L: Ledger, M: Ledger>(
     row: u32,
     skips: &mut Skips,
     moves: &mut Steps<L>,
-    looks: &mut Steps<M>,
+    reads: &mut Steps<M>,
 )
     requires width { 0 < width }
     requires rows { first_row * width + length parents.old ≤ length plane.now.values }
@@ -116,8 +117,8 @@ fn join_rows<L: Ledger, M: Ledger>(
     ensures cost { moves.new ≤ moves.old
         + boundary_size plane.now.values width connect row
         * count_defined plane.now.values (first_row * width) (length parents.old) }
-    ensures each { moves.new + looks.old ≤ moves.old + looks.new }
-    ensures looks { looks.new ≤ looks.old
+    ensures each { moves.new + reads.old ≤ moves.old + reads.new }
+    ensures reads { reads.new ≤ reads.old
         + boundary_size plane.now.values width connect row
         * (5 * count_defined plane.now.values (first_row * width) (length parents.old)) }
 {
@@ -135,7 +136,7 @@ fn join_rows<L: Ledger, M: Ledger>(
             above + high,
             start + x,
             moves,
-            looks,
+            reads,
         );
     }
 }
@@ -145,8 +146,8 @@ fn join_rows<L: Ledger, M: Ledger>(
 ///
 /// `parents` holds the links of the pixels of some rows from the start of `first_row` on: pixel p stands at place
 /// `p - first_row * width`. What they joined before stays joined, whether these rows were just flooded or have been
-/// joined with others, so boundaries can be joined in any order. `moves` counts each move of each walk, and `looks` each
-/// link and each place of the table of skips that is looked at, also where a way is shortened. It takes no memory from an
+/// joined with others, so boundaries can be joined in any order. `moves` counts each move of each walk, and `reads` each
+/// link and each place of the table of skips that is read, also where a way is shortened. It takes no memory from an
 /// allocator, and 288 KiB of stack.
 pub fn join_row<L: Ledger, M: Ledger>(
     parents: &mut [u32],
@@ -155,29 +156,31 @@ pub fn join_row<L: Ledger, M: Ledger>(
     first_row: u32,
     row: u32,
     moves: &mut Steps<L>,
-    looks: &mut Steps<M>,
+    reads: &mut Steps<M>,
 )
-    requires rows { first_row * plane.now.shape.width + length parents.old ≤ length plane.now.values }
+    requires rows { row_start plane.now first_row + length parents.old ≤ length plane.now.values }
     requires below { first_row < row }
-    requires inside { (row + 1) * plane.now.shape.width
-        ≤ first_row * plane.now.shape.width + length parents.old }
-    requires forest { IsForest plane.now.values (first_row * plane.now.shape.width) parents.old }
-    ensures forest { IsForest plane.now.values (first_row * plane.now.shape.width) parents.new }
-    ensures joined { JoinSame plane.now.values (first_row * plane.now.shape.width) (length parents.old)
-        (IsLink (first_row * plane.now.shape.width) parents.new)
-        (Or (IsLink (first_row * plane.now.shape.width) parents.old)
+    requires inside { row_start plane.now (row + 1)
+        ≤ row_start plane.now first_row + length parents.old }
+    requires forest { IsForest plane.now.values (row_start plane.now first_row) parents.old }
+    ensures forest { IsForest plane.now.values (row_start plane.now first_row) parents.new }
+    ensures joined { JoinSame plane.now.values (row_start plane.now first_row) (length parents.old)
+        (IsLink (row_start plane.now first_row) parents.new)
+        (Or (IsLink (row_start plane.now first_row) parents.old)
         (IsBoundary plane.now.values plane.now.shape.width connect row)) }
     ensures stands { (E : List (ℕ × ℕ))
-        → StandsFor plane.now.values (first_row * plane.now.shape.width) parents.old (Has E)
-        → StandsFor plane.now.values (first_row * plane.now.shape.width) parents.new
+        → StandsFor plane.now.values (row_start plane.now first_row) parents.old (Has E)
+        → StandsFor plane.now.values (row_start plane.now first_row) parents.new
         (Or (Has E) (IsBoundary plane.now.values plane.now.shape.width connect row)) }
     ensures cost { moves.new ≤ moves.old
         + boundary_size plane.now.values plane.now.shape.width connect row
-        * count_defined plane.now.values (first_row * plane.now.shape.width) (length parents.old) }
-    ensures each { moves.new + looks.old ≤ moves.old + looks.new }
-    ensures looks { looks.new ≤ looks.old
+        * count_defined plane.now.values (row_start plane.now first_row) (length parents.old) }
+    ensures each { moves.new + reads.old ≤ moves.old + reads.new }
+    ensures reads { reads.new ≤ reads.old
         + boundary_size plane.now.values plane.now.shape.width connect row
-        * (5 * count_defined plane.now.values (first_row * plane.now.shape.width) (length parents.old)) }
+        * (5 * count_defined plane.now.values
+        (row_start plane.now first_row)
+        (length parents.old)) }
 {
     let shape = plane.shape();
     let mut skips = Skips::empty();
@@ -190,6 +193,6 @@ pub fn join_row<L: Ledger, M: Ledger>(
         row,
         &mut skips,
         moves,
-        looks,
+        reads,
     );
 }

@@ -33,7 +33,7 @@ pub(crate) struct Skips {
     pub(crate) to: [u32; PLACES],
 }
 
-// A number that looks like a random one for each pixel.
+// A number that reads like a random one for each pixel.
 fn mix(p: u32) -> u32 {
     p.wrapping_mul(2654435761)
 }
@@ -69,12 +69,12 @@ impl Skips {
         }
     }
 
-    // The pixel that is put down for `at`, if one is. Each place that is read is read here, so none is read without a look.
-    pub(crate) fn told<M: Ledger>(&self, reach: Reach, at: u32, looks: &mut Steps<M>) -> Option<u32>
+    // The pixel that is put down for `at`, if one is. Each place that is read is read here, so none is read uncounted.
+    pub(crate) fn told<M: Ledger>(&self, reach: Reach, at: u32, reads: &mut Steps<M>) -> Option<u32>
         ensures told { IfSome result (λ there. IsPutDown self.now.from self.now.to at there) }
-        ensures look { looks.new ≡ looks.old + 1 }
+        ensures read { reads.new ≡ reads.old + 1 }
     {
-        looks.tick();
+        reads.tick();
         let place = reach.place(at);
         if self.from[place] != at {
             return None;

@@ -4,8 +4,6 @@ use super::*;
 use crate::skips::Reach;
 use crate::walk::link_past;
 use comp_tree::{NONE, Shape, Tree, is_forest, plain_tree};
-use dev_io::OutOfMemory;
-use std::alloc::Global;
 use std::marker::Brand;
 use std::sync::ledger::Blank;
 
@@ -14,23 +12,11 @@ struct Case<'a> {
     width: u32,
     height: u32,
     connect: Connect,
-    // -1 stands for an undefined pixel
-    values: &'a [i64],
+    values: &'a [Option<i64>],
     // the links of the strips, before they are joined
     links: &'a [u32],
     // the rows that are joined with the rows above them
     rows: &'a [u32],
-}
-
-// A plane of these values.
-fn plane_of(alloc: Global, shape: Shape, values: &[i64]) -> Result<Plane, OutOfMemory> {
-    let mut plane = Plane::blank(alloc, shape)?;
-    for (p, value) in values.iter().enumerate() {
-        if *value >= 0 && *value < 100 && p < plane.shape().pixels() as usize {
-            plane.set(p as u32, Some(*value));
-        }
-    }
-    Ok(plane)
 }
 
 fn join_by<L: Ledger, M: Ledger>(
@@ -45,7 +31,7 @@ fn join_by<L: Ledger, M: Ledger>(
     requires other { (other.name ≡ M.name) × (other.parts ≡ M.parts) × (0 < other.parts) }
 {
     let mut moves = Steps::<L>::start(one);
-    let mut looks = Steps::<M>::start(other);
+    let mut reads = Steps::<M>::start(other);
     let shape = plane.shape();
     for row in rows {
         let row = *row;
@@ -55,7 +41,7 @@ fn join_by<L: Ledger, M: Ledger>(
         if row == 0 || row >= shape.height {
             return false;
         }
-        join_row(parents, plane, connect, 0, row, &mut moves, &mut looks);
+        join_row(parents, plane, connect, 0, row, &mut moves, &mut reads);
     }
     true
 }
@@ -66,12 +52,14 @@ fn join(parents: &mut [u32], plane: &Plane, connect: Connect, rows: &[u32]) -> b
 }
 
 // The last pixel of at least this value on the walk from `p` along the links.
-fn last_of(values: &[i64], parents: &[u32], value: i64, p: u32) -> u32 {
+fn last_of(values: &[Option<i64>], parents: &[u32], value: i64, p: u32) -> u32 {
     let mut last = p;
     for _ in 0..parents.len() {
         let link = parents.get(last as usize).copied().unwrap_or(NONE);
-        if values.get(link as usize).copied().unwrap_or(-1) >= value {
-            last = link;
+        if let Some(Some(there)) = values.get(link as usize) {
+            if *there >= value {
+                last = link;
+            }
         }
     }
     last
@@ -79,7 +67,7 @@ fn last_of(values: &[i64], parents: &[u32], value: i64, p: u32) -> u32 {
 
 // Whether the links give `p` the node that the tree gives it: its last ancestor at the node's level represents the node, and
 // the link of this ancestor leads to the node's parent.
-fn has_its_node(values: &[i64], parents: &[u32], tree: &Tree, p: u32) -> bool {
+fn has_its_node(values: &[Option<i64>], parents: &[u32], tree: &Tree, p: u32) -> bool {
     let node = tree.node_of().get(p as usize).copied().unwrap_or(NONE);
     let Some(row) = tree.rows().get(node as usize) else {
         return parents.get(p as usize).copied() == Some(NONE);
@@ -96,7 +84,7 @@ fn joined_strips_have_the_plain_tree(rt: HostRuntime) {
             width: 1,
             height: 3,
             connect: Connect::Four,
-            values: &[1, 2, 1],
+            values: &[Some(1), Some(2), Some(1)],
             links: &[NONE, NONE, NONE],
             rows: &[1, 2],
         },
@@ -104,7 +92,7 @@ fn joined_strips_have_the_plain_tree(rt: HostRuntime) {
             width: 1,
             height: 3,
             connect: Connect::Four,
-            values: &[5, -1, 5],
+            values: &[Some(5), None, Some(5)],
             links: &[NONE, NONE, NONE],
             rows: &[1, 2],
         },
@@ -112,7 +100,7 @@ fn joined_strips_have_the_plain_tree(rt: HostRuntime) {
             width: 2,
             height: 2,
             connect: Connect::Four,
-            values: &[9, 0, 0, 9],
+            values: &[Some(9), Some(0), Some(0), Some(9)],
             links: &[1, NONE, NONE, 2],
             rows: &[1],
         },
@@ -120,7 +108,7 @@ fn joined_strips_have_the_plain_tree(rt: HostRuntime) {
             width: 2,
             height: 2,
             connect: Connect::Eight,
-            values: &[9, 0, 0, 9],
+            values: &[Some(9), Some(0), Some(0), Some(9)],
             links: &[1, NONE, NONE, 2],
             rows: &[1],
         },
@@ -128,7 +116,7 @@ fn joined_strips_have_the_plain_tree(rt: HostRuntime) {
             width: 3,
             height: 2,
             connect: Connect::Four,
-            values: &[1, 5, 1, 7, 1, 1],
+            values: &[Some(1), Some(5), Some(1), Some(7), Some(1), Some(1)],
             links: &[NONE, 2, 0, 4, NONE, 4],
             rows: &[1],
         },
@@ -136,7 +124,7 @@ fn joined_strips_have_the_plain_tree(rt: HostRuntime) {
             width: 3,
             height: 2,
             connect: Connect::Eight,
-            values: &[1, 5, 1, 7, 1, 1],
+            values: &[Some(1), Some(5), Some(1), Some(7), Some(1), Some(1)],
             links: &[NONE, 2, 0, 4, NONE, 4],
             rows: &[1],
         },
@@ -144,7 +132,17 @@ fn joined_strips_have_the_plain_tree(rt: HostRuntime) {
             width: 3,
             height: 3,
             connect: Connect::Four,
-            values: &[5, 0, 6, 5, 2, 6, 3, 3, 3],
+            values: &[
+                Some(5),
+                Some(0),
+                Some(6),
+                Some(5),
+                Some(2),
+                Some(6),
+                Some(3),
+                Some(3),
+                Some(3),
+            ],
             links: &[1, NONE, 1, 4, NONE, 4, NONE, 6, 7],
             rows: &[1, 2],
         },
@@ -152,7 +150,17 @@ fn joined_strips_have_the_plain_tree(rt: HostRuntime) {
             width: 3,
             height: 3,
             connect: Connect::Eight,
-            values: &[5, 0, 6, 5, 2, 6, 3, 3, 3],
+            values: &[
+                Some(5),
+                Some(0),
+                Some(6),
+                Some(5),
+                Some(2),
+                Some(6),
+                Some(3),
+                Some(3),
+                Some(3),
+            ],
             links: &[1, NONE, 1, 4, NONE, 4, NONE, 6, 7],
             rows: &[2, 1],
         },
@@ -161,7 +169,17 @@ fn joined_strips_have_the_plain_tree(rt: HostRuntime) {
             width: 3,
             height: 3,
             connect: Connect::Four,
-            values: &[5, 0, 6, 5, 2, 6, 3, 3, 3],
+            values: &[
+                Some(5),
+                Some(0),
+                Some(6),
+                Some(5),
+                Some(2),
+                Some(6),
+                Some(3),
+                Some(3),
+                Some(3),
+            ],
             links: &[4, NONE, 4, 0, 1, 2, NONE, 6, 7],
             rows: &[2],
         },
@@ -170,7 +188,7 @@ fn joined_strips_have_the_plain_tree(rt: HostRuntime) {
             width: 3,
             height: 2,
             connect: Connect::Four,
-            values: &[6, 6, 6, 6, 6, 6],
+            values: &[Some(6), Some(6), Some(6), Some(6), Some(6), Some(6)],
             links: &[NONE, 0, 1, NONE, 3, 4],
             rows: &[1],
         },
@@ -179,7 +197,7 @@ fn joined_strips_have_the_plain_tree(rt: HostRuntime) {
             width: 3,
             height: 2,
             connect: Connect::Four,
-            values: &[4, -1, 4, 4, 4, 5],
+            values: &[Some(4), None, Some(4), Some(4), Some(4), Some(5)],
             links: &[NONE, NONE, NONE, NONE, 3, 4],
             rows: &[1],
         },
@@ -188,14 +206,16 @@ fn joined_strips_have_the_plain_tree(rt: HostRuntime) {
             width: 3,
             height: 2,
             connect: Connect::Eight,
-            values: &[7, -1, 7, -1, 7, -1],
+            values: &[Some(7), None, Some(7), None, Some(7), None],
             links: &[NONE, NONE, NONE, NONE, NONE, NONE],
             rows: &[1],
         },
     ];
     for (number, case) in cases.iter().enumerate() {
         let shape = Shape::of(case.width, case.height).expect(&rt, "a shape");
-        let plane = plane_of(rt.alloc(), shape, case.values).expect(&rt, "memory");
+        let plane = Plane::of(rt.alloc(), shape, case.values)
+            .expect(&rt, "memory")
+            .expect(&rt, "a plane");
         let mut parents = case.links.to_vec(rt.alloc()).expect(&rt, "memory");
         let joined = join(&mut parents, &plane, case.connect, case.rows);
         assert!(rt; joined, "case {number}");
@@ -211,7 +231,9 @@ fn joined_strips_have_the_plain_tree(rt: HostRuntime) {
 #[test]
 fn a_walk_goes_on_at_a_link_between_its_pixels(rt: HostRuntime) {
     let shape = Shape::of(1, 4).expect(&rt, "a shape");
-    let plane = plane_of(rt.alloc(), shape, &[1, 5, 4, 3]).expect(&rt, "memory");
+    let plane = Plane::of(rt.alloc(), shape, &[Some(1), Some(5), Some(4), Some(3)])
+        .expect(&rt, "memory")
+        .expect(&rt, "a plane");
     let mut parents = [NONE, 0, 3, NONE];
     assert!(rt; join(&mut parents, &plane, Connect::Four, &[2]));
     assert_eq!(rt; parents, [NONE, 2, 3, 0]);
@@ -220,8 +242,8 @@ fn a_walk_goes_on_at_a_link_between_its_pixels(rt: HostRuntime) {
 fn skip_by<M: Ledger>(blank: Blank, skips: &Skips, reach: Reach, at: u32) -> Option<u32>
     requires blank { (blank.name ≡ M.name) × (blank.parts ≡ M.parts) × (0 < blank.parts) }
 {
-    let mut looks = Steps::<M>::start(blank);
-    skips.told(reach, at, &mut looks)
+    let mut reads = Steps::<M>::start(blank);
+    skips.told(reach, at, &mut reads)
 }
 
 // The pixel that is put down for this one.
@@ -245,18 +267,20 @@ fn a_skip_leads_from_mark_to_mark(rt: HostRuntime) {
 // the other. From pixel 36 on it leads too low.
 #[test]
 fn walks_skip_no_further_than_they_may(rt: HostRuntime) {
-    let mut values = [0; 82];
+    let mut values = [Some(0); 82];
     let mut links = [NONE; 82];
     for x in 0..41 {
-        values[x] = 50 + x as i64;
-        values[41 + x] = if x < 36 { 1 + x as i64 } else { 30 + x as i64 };
+        values[x] = Some(50 + x as i64);
+        values[41 + x] = Some(if x < 36 { 1 + x as i64 } else { 30 + x as i64 });
         if x > 0 {
             links[x] = x as u32 - 1;
             links[41 + x] = 40 + x as u32;
         }
     }
     let shape = Shape::of(41, 2).expect(&rt, "a shape");
-    let plane = plane_of(rt.alloc(), shape, &values).expect(&rt, "memory");
+    let plane = Plane::of(rt.alloc(), shape, &values)
+        .expect(&rt, "memory")
+        .expect(&rt, "a plane");
     assert!(rt; join(&mut links, &plane, Connect::Four, &[1]));
     let tree = plain_tree(rt.alloc(), &plane, Connect::Four).expect(&rt, "memory");
     for p in 0..shape.pixels() {
@@ -268,7 +292,7 @@ fn walks_skip_no_further_than_they_may(rt: HostRuntime) {
 fn link_by<M: Ledger>(blank: Blank, parents: &mut [u32], plane: &Plane, p: u32) -> Option<u32>
     requires blank { (blank.name ≡ M.name) × (blank.parts ≡ M.parts) × (0 < blank.parts) }
 {
-    let mut looks = Steps::<M>::start(blank);
+    let mut reads = Steps::<M>::start(blank);
     let shape = plane.shape();
     if parents.len() != shape.pixels() as usize || !is_forest(plane, 0, parents) {
         return None;
@@ -276,7 +300,7 @@ fn link_by<M: Ledger>(blank: Blank, parents: &mut [u32], plane: &Plane, p: u32) 
     if p >= shape.pixels() || !plane.is_defined(p) {
         return None;
     }
-    link_past(parents, plane, 0, p, &mut looks)
+    link_past(parents, plane, 0, p, &mut reads)
 }
 
 // Links `p` past its link, if the links are a forest and `p` is defined.
@@ -287,12 +311,30 @@ fn link_from(parents: &mut [u32], plane: &Plane, p: u32) -> Option<u32> {
 #[test]
 fn pixels_are_linked_past_links_within_one_value(rt: HostRuntime) {
     // the values, the links before, the pixel, its link then, and the links after
-    let cases: [(&[i64], &[u32], u32, Option<u32>, &[u32]); 4] = [
-        (&[4, 4, 5], &[NONE, 0, 1], 2, Some(0), &[NONE, 0, 0]),
-        (&[1, 2, 3], &[NONE, 0, 1], 2, Some(1), &[NONE, 0, 1]),
-        (&[1, 2, 3], &[NONE, 0, 1], 1, Some(0), &[NONE, 0, 1]),
+    let cases: [(&[Option<i64>], &[u32], u32, Option<u32>, &[u32]); 4] = [
         (
-            &[3, -1, 3],
+            &[Some(4), Some(4), Some(5)],
+            &[NONE, 0, 1],
+            2,
+            Some(0),
+            &[NONE, 0, 0],
+        ),
+        (
+            &[Some(1), Some(2), Some(3)],
+            &[NONE, 0, 1],
+            2,
+            Some(1),
+            &[NONE, 0, 1],
+        ),
+        (
+            &[Some(1), Some(2), Some(3)],
+            &[NONE, 0, 1],
+            1,
+            Some(0),
+            &[NONE, 0, 1],
+        ),
+        (
+            &[Some(3), None, Some(3)],
             &[NONE, NONE, NONE],
             2,
             None,
@@ -301,7 +343,9 @@ fn pixels_are_linked_past_links_within_one_value(rt: HostRuntime) {
     ];
     for (number, (values, links, p, link, wanted)) in cases.iter().enumerate() {
         let shape = Shape::of(values.len() as u32, 1).expect(&rt, "a shape");
-        let plane = plane_of(rt.alloc(), shape, values).expect(&rt, "memory");
+        let plane = Plane::of(rt.alloc(), shape, values)
+            .expect(&rt, "memory")
+            .expect(&rt, "a plane");
         let mut parents = links.to_vec(rt.alloc()).expect(&rt, "memory");
         assert_eq!(rt; link_from(&mut parents, &plane, *p), *link, "case {number}");
         assert!(rt; parents.as_slice() == *wanted, "case {number}");

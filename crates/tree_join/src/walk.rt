@@ -4,23 +4,23 @@ ghost use Rattle.std.specs.Prelude.{◌≡◌, ℕ, ◌+◌, ◌*◌, ◌<◌, �
 ghost use Rattle.comp_tree.specs.Joined.{Or, Only};
 ghost use Rattle.comp_tree.specs.Counts.{count_defined};
 ghost use Rattle.comp_tree.specs.EarlierCounts.{earlier_count};
-ghost use Rattle.comp_tree.specs.Forest.{no_node, ComesEarlier, IsForest, IsPixel, IsLink, JoinSame, link_of};
+ghost use Rattle.comp_tree.specs.Forest.{no_node, ComesEarlier, IsForest, IsLink, JoinSame, link_of};
+ghost use Rattle.tree_join.specs.Skips.{IsPixel, IsSkip};
 ghost use Rattle.tree_join.specs.Moves.{IsEnded, IsMoved, IsLastAbove, IsSpent};
-ghost use Rattle.tree_join.specs.Skips.{IsSkip};
-ghost use Rattle.tree_join.specs.Walks.{AreLinks, AreLike, AreReady, IsPair, IsWalk, IsUp};
+ghost use Rattle.tree_join.specs.Walks.{AreLinks, AreLike, HaveTrueSkips, IsLaterPair, IsWalk, IsUp};
 
 use crate::skips::{Reach, Skips};
 use comp_tree::{NONE, Plane};
 use dev_io::Steps;
 use std::sync::ledger::Ledger;
 
-// The link at a place. Each link that is read is read here, so none is read without a look.
-fn look_up<M: Ledger>(parents: &[u32], place: usize, looks: &mut Steps<M>) -> u32
+// The link at a place. Each link that is read is read here, so none is read uncounted.
+fn read_link<M: Ledger>(parents: &[u32], place: usize, reads: &mut Steps<M>) -> u32
     requires { place < length parents.now }
     ensures link { result ≡ slice_index parents.now place }
-    ensures look { looks.new ≡ looks.old + 1 }
+    ensures read { reads.new ≡ reads.old + 1 }
 {
-    looks.tick();
+    reads.tick();
     parents[place]
 }
 
@@ -31,7 +31,7 @@ pub(crate) fn link_past<M: Ledger>(
     plane: &Plane,
     first: u32,
     p: u32,
-    looks: &mut Steps<M>,
+    reads: &mut Steps<M>,
 ) -> Option<u32>
     requires links { AreLinks plane.now.values first parents.old }
     requires p_in { IsPixel plane.now.values first (length parents.old) p }
@@ -41,15 +41,15 @@ pub(crate) fn link_past<M: Ledger>(
         (λ next. link_of first parents.new p ≡ next) }
     ensures skip { IfSome result (λ next. IsSkip plane.now.values first (length parents.old) (IsLink first parents.old) p next) }
     ensures earlier { IfSome result (λ next. ComesEarlier plane.now.values next p) }
-    ensures more { looks.old + 1 ≤ looks.new }
-    ensures looks { looks.new ≤ looks.old + 2 }
+    ensures more { reads.old + 1 ≤ reads.new }
+    ensures reads { reads.new ≤ reads.old + 2 }
 {
     let place = (p - first) as usize;
-    let link = look_up(parents, place, looks);
+    let link = read_link(parents, place, reads);
     if link == NONE {
         return None;
     }
-    let next = look_up(parents, (link - first) as usize, looks);
+    let next = read_link(parents, (link - first) as usize, reads);
     if next == NONE || !plane.is_at_least(plane.level(link), next) {
         return Some(link);
     }
@@ -67,18 +67,18 @@ fn skip_up<M: Ledger>(
     reach: Reach,
     at: u32,
     b: u32,
-    looks: &mut Steps<M>,
+    reads: &mut Steps<M>,
 ) -> Option<u32>
     requires walk { IsWalk plane.now.values first _parents.now skips.now.from skips.now.to at b }
     ensures up { IfSome result (λ next. IsUp plane.now.values first _parents.now at b next) }
-    ensures more { looks.old ≤ looks.new }
-    ensures some { IfSome result (λ next. looks.old + 1 ≤ looks.new) }
-    ensures looks { looks.new ≤ looks.old + 1 }
+    ensures more { reads.old ≤ reads.new }
+    ensures some { IfSome result (λ next. reads.old + 1 ≤ reads.new) }
+    ensures reads { reads.new ≤ reads.old + 1 }
 {
     if !reach.has_mark(at) {
         return None;
     }
-    let Some(there) = skips.told(reach, at, looks) else {
+    let Some(there) = skips.told(reach, at, reads) else {
         return None;
     };
     if !plane.is_earlier(there, at) || plane.is_at_least(plane.level(there), b) {
@@ -94,18 +94,18 @@ fn link_up<M: Ledger>(
     first: u32,
     at: u32,
     b: u32,
-    looks: &mut Steps<M>,
+    reads: &mut Steps<M>,
 ) -> Option<u32>
     requires links { AreLinks plane.now.values first parents.old }
-    requires pair { IsPair plane.now.values first (length parents.old) at b }
+    requires pair { IsLaterPair plane.now.values first (length parents.old) at b }
     ensures like { AreLike plane.now.values first parents.old parents.new }
     ensures up { MatchOption result
         (IsLastAbove plane.now.values first parents.new at b)
         (λ next. IsUp plane.now.values first parents.old at b next) }
-    ensures more { looks.old + 1 ≤ looks.new }
-    ensures looks { looks.new ≤ looks.old + 2 }
+    ensures more { reads.old + 1 ≤ reads.new }
+    ensures reads { reads.new ≤ reads.old + 2 }
 {
-    let Some(link) = link_past(parents, plane, first, at, looks) else {
+    let Some(link) = link_past(parents, plane, first, at, reads) else {
         return None;
     };
     if plane.is_earlier(link, b) {
@@ -122,23 +122,23 @@ fn next_up<M: Ledger>(
     skips: &Skips,
     at: u32,
     b: u32,
-    looks: &mut Steps<M>,
+    reads: &mut Steps<M>,
 ) -> Option<u32>
     requires walk { IsWalk plane.now.values first parents.old skips.now.from skips.now.to at b }
     ensures like { AreLike plane.now.values first parents.old parents.new }
     ensures up { MatchOption result
         (IsLastAbove plane.now.values first parents.new at b)
         (λ next. IsUp plane.now.values first parents.old at b next) }
-    ensures more { looks.old + 1 ≤ looks.new }
-    ensures looks { looks.new ≤ looks.old + 4 }
+    ensures more { reads.old + 1 ≤ reads.new }
+    ensures reads { reads.new ≤ reads.old + 4 }
 {
-    if let Some(there) = skip_up(parents, plane, first, skips, Reach::Far, at, b, looks) {
+    if let Some(there) = skip_up(parents, plane, first, skips, Reach::Far, at, b, reads) {
         return Some(there);
     }
-    if let Some(there) = skip_up(parents, plane, first, skips, Reach::Near, at, b, looks) {
+    if let Some(there) = skip_up(parents, plane, first, skips, Reach::Near, at, b, reads) {
         return Some(there);
     }
-    link_up(parents, plane, first, at, b, looks)
+    link_up(parents, plane, first, at, b, reads)
 }
 
 // Climbs from `p` to the last pixel that is not earlier than `b`. The pair that is still to be joined climbs too.
@@ -150,7 +150,7 @@ fn climb<L: Ledger, M: Ledger>(
     p: u32,
     b: u32,
     moves: &mut Steps<L>,
-    looks: &mut Steps<M>,
+    reads: &mut Steps<M>,
 ) -> u32
     requires walk { IsWalk plane.now.values first parents.old skips.old.from skips.old.to p b }
     ensures like { AreLike plane.now.values first parents.old parents.new }
@@ -160,14 +160,14 @@ fn climb<L: Ledger, M: Ledger>(
     ensures later { moves.old ≤ moves.new }
     ensures cost { moves.new + earlier_count plane.now.values first (length parents.old) result
         ≤ moves.old + earlier_count plane.now.values first (length parents.old) p }
-    ensures each { moves.new + looks.old ≤ moves.old + looks.new }
-    ensures looks { looks.new + 4 * earlier_count plane.now.values first (length parents.old) result
-        ≤ looks.old + 4 * earlier_count plane.now.values first (length parents.old) p + 4 }
+    ensures each { moves.new + reads.old ≤ moves.old + reads.new }
+    ensures reads { reads.new + 4 * earlier_count plane.now.values first (length parents.old) result
+        ≤ reads.old + 4 * earlier_count plane.now.values first (length parents.old) p + 4 }
 {
     let mut at = p;
     let mut near = p;
     let mut far = p;
-    while let Some(next) = next_up(parents, plane, first, skips, at, b, looks) {
+    while let Some(next) = next_up(parents, plane, first, skips, at, b, reads) {
         moves.tick();
         near = skips.pass(Reach::Near, near, next);
         far = skips.pass(Reach::Far, far, next);
@@ -183,21 +183,21 @@ fn hang<M: Ledger>(
     first: u32,
     a: u32,
     b: u32,
-    looks: &mut Steps<M>,
+    reads: &mut Steps<M>,
 ) -> Option<(u32, u32)>
     requires links { AreLinks plane.now.values first parents.old }
-    requires pair { IsPair plane.now.values first (length parents.old) a b }
+    requires pair { IsLaterPair plane.now.values first (length parents.old) a b }
     requires order { ComesEarlier plane.now.values b a }
     requires last { IsLastAbove plane.now.values first parents.old a b }
     ensures forest { IsForest plane.now.values first parents.new }
     ensures moved { MatchOption result
         (IsEnded plane.now.values first parents.old parents.new a b)
         (λ rest. IsMoved plane.now.values first parents.old parents.new a b rest) }
-    ensures pair { IfSome result (λ rest. IsPair plane.now.values first (length parents.old) rest.0 rest.1) }
-    ensures look { looks.new ≡ looks.old + 1 }
+    ensures pair { IfSome result (λ rest. IsLaterPair plane.now.values first (length parents.old) rest.0 rest.1) }
+    ensures read { reads.new ≡ reads.old + 1 }
 {
     let place = (a - first) as usize;
-    let link = look_up(parents, place, looks);
+    let link = read_link(parents, place, reads);
     parents[place] = b;
     if link == NONE {
         return None;
@@ -215,25 +215,25 @@ fn turn<L: Ledger, M: Ledger>(
     a: u32,
     b: u32,
     moves: &mut Steps<L>,
-    looks: &mut Steps<M>,
+    reads: &mut Steps<M>,
 ) -> Option<(u32, u32)>
     requires walk { IsWalk plane.now.values first parents.old skips.old.from skips.old.to a b }
     ensures moved { MatchOption result
         (IsEnded plane.now.values first parents.old parents.new a b)
         (λ rest. IsMoved plane.now.values first parents.old parents.new a b rest) }
     ensures walk { MatchOption result
-        (AreReady plane.now.values first parents.new skips.new.from skips.new.to)
+        (HaveTrueSkips plane.now.values first parents.new skips.new.from skips.new.to)
         (λ rest. IsWalk plane.now.values first parents.new skips.new.from skips.new.to rest.0 rest.1) }
     ensures cost { IsSpent plane.now.values first (length parents.old) a b 1 moves.old moves.new result }
-    ensures each { moves.new + looks.old ≤ moves.old + looks.new }
-    ensures looks { IsSpent plane.now.values first (length parents.old) a b 5 looks.old looks.new result }
+    ensures each { moves.new + reads.old ≤ moves.old + reads.new }
+    ensures reads { IsSpent plane.now.values first (length parents.old) a b 5 reads.old reads.new result }
 {
-    let last = climb(parents, plane, first, skips, a, b, moves, looks);
+    let last = climb(parents, plane, first, skips, a, b, moves, reads);
     if last == b {
         return None;
     }
     moves.tick();
-    hang(parents, plane, first, last, b, looks)
+    hang(parents, plane, first, last, b, reads)
 }
 
 // `join_pair`, where `p` is not earlier than `q`. Between two turns one pair is still to be joined: together with it the
@@ -246,21 +246,21 @@ fn join_later<L: Ledger, M: Ledger>(
     p: u32,
     q: u32,
     moves: &mut Steps<L>,
-    looks: &mut Steps<M>,
+    reads: &mut Steps<M>,
 )
-    requires ready { AreReady plane.now.values first parents.old skips.old.from skips.old.to }
-    requires pair { IsPair plane.now.values first (length parents.old) p q }
-    ensures ready { AreReady plane.now.values first parents.new skips.new.from skips.new.to }
+    requires ready { HaveTrueSkips plane.now.values first parents.old skips.old.from skips.old.to }
+    requires pair { IsLaterPair plane.now.values first (length parents.old) p q }
+    ensures ready { HaveTrueSkips plane.now.values first parents.new skips.new.from skips.new.to }
     ensures joined { JoinSame plane.now.values first (length parents.old)
         (IsLink first parents.new)
         (Or (IsLink first parents.old) (Only p q)) }
     ensures cost { moves.new ≤ moves.old + count_defined plane.now.values first (length parents.old) }
-    ensures each { moves.new + looks.old ≤ moves.old + looks.new }
-    ensures looks { looks.new ≤ looks.old + 5 * count_defined plane.now.values first (length parents.old) }
+    ensures each { moves.new + reads.old ≤ moves.old + reads.new }
+    ensures reads { reads.new ≤ reads.old + 5 * count_defined plane.now.values first (length parents.old) }
 {
     let mut a = p;
     let mut b = q;
-    while let Some((one, other)) = turn(parents, plane, first, skips, a, b, moves, looks) {
+    while let Some((one, other)) = turn(parents, plane, first, skips, a, b, moves, reads) {
         a = one;
         b = other;
     }
@@ -275,22 +275,22 @@ pub(crate) fn join_pair<L: Ledger, M: Ledger>(
     p: u32,
     q: u32,
     moves: &mut Steps<L>,
-    looks: &mut Steps<M>,
+    reads: &mut Steps<M>,
 )
-    requires ready { AreReady plane.now.values first parents.old skips.old.from skips.old.to }
+    requires ready { HaveTrueSkips plane.now.values first parents.old skips.old.from skips.old.to }
     requires p_in { IsPixel plane.now.values first (length parents.old) p }
     requires q_in { IsPixel plane.now.values first (length parents.old) q }
-    ensures ready { AreReady plane.now.values first parents.new skips.new.from skips.new.to }
+    ensures ready { HaveTrueSkips plane.now.values first parents.new skips.new.from skips.new.to }
     ensures joined { JoinSame plane.now.values first (length parents.old)
         (IsLink first parents.new)
         (Or (IsLink first parents.old) (Only p q)) }
     ensures cost { moves.new ≤ moves.old + count_defined plane.now.values first (length parents.old) }
-    ensures each { moves.new + looks.old ≤ moves.old + looks.new }
-    ensures looks { looks.new ≤ looks.old + 5 * count_defined plane.now.values first (length parents.old) }
+    ensures each { moves.new + reads.old ≤ moves.old + reads.new }
+    ensures reads { reads.new ≤ reads.old + 5 * count_defined plane.now.values first (length parents.old) }
 {
     if plane.is_earlier(p, q) {
-        join_later(parents, plane, first, skips, q, p, moves, looks);
+        join_later(parents, plane, first, skips, q, p, moves, reads);
     } else {
-        join_later(parents, plane, first, skips, p, q, moves, looks);
+        join_later(parents, plane, first, skips, p, q, moves, reads);
     }
 }

@@ -1,5 +1,6 @@
 use Rattle.std.proofs.Common.{rules, ap, ◌∙◌, sym, refl, subst, arith}
-use Rattle.strip_crew.specs.Claims.{run_of, IsVeteran}
+use Rattle.strip_crew.specs.Claims.{run_of}
+use Rattle.strip_crew.specs.Workers.{IsVeteran}
 use Rattle.strip_crew.proofs.Keeping.{joins_allowed}
 use Rattle.strip_crew.proofs.Crews.{all_front, all_last, all_of}
 use Rattle.strip_crew.proofs.crew.dismiss.Goals as goal
@@ -21,6 +22,7 @@ loop-place-preserved c =
     let each = all_of P _ _ (sym c.in-Some.ensures.items) inv.2 in let vet = subst P c.in_ok-seat.was (all_last P _ _ each) in
     let join = c.join_seat.ensures in (
       (join.0 ∙ inv.0.0, ap (λ m. m.1) join.2 ∙ inv.0.1, ap (λ m. m.0.claim.joined) join.2, ap (λ m. m.0.claim.hand) join.2, refl),
-      (let past = ap (λ m. m.0.claim.past) join.2 in let one = ap (λ m. m.0.claim.past) vet.1 in let len = c.in-Some.ensures.cases in let old = inv.1 in omega arith),
+      (let past = ap (λ m. m.0.claim.past) join.2 in let one = ap (λ m. m.0.claim.past) vet.1 in let len = c.in-Some.ensures.cases in let old =
+          inv.1 in omega arith),
       all_front P _ _ each,
     )

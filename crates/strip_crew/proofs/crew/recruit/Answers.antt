@@ -1,6 +1,7 @@
 use Rattle.std.proofs.Common.{rules, ◌≡◌, ap, ◌∙◌, arith, []}
 use Rattle.strip_crew.specs.Counting.{fresh}
-use Rattle.strip_crew.specs.Claims.{view, run_of, IsRecruit}
+use Rattle.strip_crew.specs.Claims.{view, run_of}
+use Rattle.strip_crew.specs.Workers.{IsRecruit}
 use Rattle.strip_crew.proofs.Keeping.{splits_allowed}
 use Rattle.strip_crew.proofs.Crews.{all_on, all_of, split_keeps, due_only}
 use Rattle.strip_crew.proofs.crew.recruit.Goals as goal
@@ -22,12 +23,14 @@ loop-preserved c =
       (let old = inv.3 in let len = push.len in omega arith),
       (let old = inv.4 in let cap = push.capacity in omega arith),
       all_of (IsRecruit c.args.table.now.shared.table_id run) _ _ push.items
-          (all_on (IsRecruit c.args.table.now.shared.table_id run) _ _ inv.5 (split.3 ∙ inv.0, split.4 ∙ ap (λ r. (view (fresh 1) r, [])) (ap (λ m. m.0.of) inv.1))),
+          (all_on (IsRecruit c.args.table.now.shared.table_id run) _ _ inv.5
+          (split.3 ∙ inv.0, split.4 ∙ ap (λ r. (view (fresh 1) r, [])) (ap (λ m. m.0.of) inv.1))),
     )
 
 pub returns-clause-each : goal.returns-clause-each
 returns-clause-each c =
     let inv = c.loop.invariant in let run = run_of c.args.table.now.shared.key in
-    let one : c.loop.seat.me.0.claim.due ≡ 1 = (let old = inv.2 in let test = c.loop-test.false in let a = c.loop.auto.counter-end c.requires.workers in omega arith) in
+    let one : c.loop.seat.me.0.claim.due ≡ 1 =
+    (let old = inv.2 in let test = c.loop-test.false in let a = c.loop.auto.counter-end c.requires.workers in omega arith) in
     all_of (IsRecruit c.args.table.now.shared.table_id run) _ _ c.push_reserved-2.ensures.items
     (all_on (IsRecruit c.args.table.now.shared.table_id run) _ _ inv.5 (inv.0, inv.1 ∙ ap (λ k. (view (fresh k) run, [])) one))

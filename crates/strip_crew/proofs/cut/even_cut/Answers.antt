@@ -10,7 +10,8 @@ loop-i-init c = (c.in_ok-cut.ensures.items ∙ rows_none c.args.height c.min-cou
 pub loop-i-preserved : goal.loop-i-preserved
 loop-i-preserved c =
     let inv = c.loop-i.invariant in let push = c.push_reserved.ensures in (
-      push.items ∙ (ap (λ (l : List ℕ). l ++ c.loop-i.i * c.args.height / c.min-count.result ∷ []) inv.0 ∙ sym (rows_more c.args.height c.min-count.result c.loop-i.i)),
+      push.items ∙ (ap (λ (l : List ℕ). l ++ c.loop-i.i * c.args.height / c.min-count.result ∷ []) inv.0
+          ∙ sym (rows_more c.args.height c.min-count.result c.loop-i.i)),
       (let more = push.len in let was = inv.1 in omega arith),
       (let same = push.capacity in let was = inv.2 in omega arith),
     )

@@ -7,7 +7,14 @@ use Rattle.strip_crew.proofs.prepare.prepare_group.Goals as goal
 
 pub loop-i-preserved : goal.loop-i-preserved
 loop-i-preserved c =
-    let plan = plan_of c.args.plane.now c.args.connect c.args.cut.now in let i = c.loop-i.i in let job = c.in_ok-prepare.field-0 in let made = c.in_ok-prepare.ensures in
+    let plan = plan_of c.args.plane.now c.args.connect c.args.cut.now in let i = c.loop-i.i in let job = c.in_ok-prepare.field-0 in let made =
+    c.in_ok-prepare.ensures in
     subst (λ (l : List JobView). AreReady plan c.args.first (i + 1) l) (sym c.in_ok-push.ensures.items)
     (ready_both plan c.args.first i (i + 1) c.loop-i.jobs.items (job ∷ []) c.loop-i.invariant
-    (ready_one plan i job (record { fit = made.fit; connect = made.connect; first_row = made.first_row; end_row = made.end_row ∙ c.row_after.ensures.value c.args.connect }) made.unflooded))
+    (ready_one plan i job (record {
+      fit = made.fit;
+      connect = made.connect;
+      first_row = made.first_row;
+      end_row =
+          made.end_row ∙ c.row_after.ensures.value c.args.connect;
+    }) made.unflooded))

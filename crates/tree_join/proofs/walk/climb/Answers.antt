@@ -9,35 +9,51 @@ loop-next-init g c = record {
   later = omega arith;
   cost = omega arith;
   each = omega arith;
-  looks = omega arith;
+  reads = omega arith;
 }
 
 pub next_up-requires : goal.next_up-requires
-next_up-requires g c = record { walk = climb_walk c.args.plane.now.values c.args.first c.args.parents.now c.args.p c.args.b c.loop-next.parents c.loop-next.skips.from c.loop-next.skips.to c.loop-next.near c.loop-next.far c.loop-next.at c.loop-next.invariant.climbing }
+next_up-requires g c =
+    record {
+      walk =
+          climb_walk c.args.plane.now.values c.args.first c.args.parents.now c.args.p c.args.b c.loop-next.parents c.loop-next.skips.from c.loop-next.skips.to
+          c.loop-next.near c.loop-next.far c.loop-next.at c.loop-next.invariant.climbing;
+    }
 
 pub loop-next-smaller : goal.loop-next-smaller
-loop-next-smaller g c = climb_nearer c.args.plane.now.values c.args.first c.args.parents.now c.args.p c.args.b c.loop-next.parents c.loop-next.skips.from c.loop-next.skips.to c.loop-next.near c.loop-next.far c.loop-next.at c.loop-next.invariant.climbing
+loop-next-smaller g c =
+    climb_nearer c.args.plane.now.values c.args.first c.args.parents.now c.args.p c.args.b c.loop-next.parents c.loop-next.skips.from c.loop-next.skips.to
+    c.loop-next.near c.loop-next.far c.loop-next.at c.loop-next.invariant.climbing
     c.next_up.new.parents c.in-Some.next c.next_up.auto.parents c.in-Some.ensures.up
 
 pub loop-next-preserved : goal.loop-next-preserved
 loop-next-preserved g c =
-    let less : earlier_count c.args.plane.now.values c.args.first (length c.args.parents.now) c.in-Some.next < earlier_count c.args.plane.now.values c.args.first (length c.args.parents.now) c.loop-next.at
-    = climb_less c.args.plane.now.values c.args.first c.args.parents.now c.args.p c.args.b c.loop-next.parents c.loop-next.skips.from c.loop-next.skips.to c.loop-next.near c.loop-next.far c.loop-next.at c.loop-next.invariant.climbing
-    c.next_up.new.parents c.next_up.auto.parents c.next_up.ensures.like c.pass-near.new.self.from c.pass-near.new.self.to c.pass-far.new.self.from c.pass-far.new.self.to c.in-Some.next c.pass-near.result c.pass-far.result c.in-Some.ensures.up in
+    let less : earlier_count c.args.plane.now.values c.args.first (length c.args.parents.now) c.in-Some.next
+    < earlier_count c.args.plane.now.values c.args.first (length c.args.parents.now) c.loop-next.at
+    = climb_less c.args.plane.now.values c.args.first c.args.parents.now c.args.p c.args.b c.loop-next.parents c.loop-next.skips.from c.loop-next.skips.to
+    c.loop-next.near c.loop-next.far c.loop-next.at c.loop-next.invariant.climbing
+    c.next_up.new.parents c.next_up.auto.parents c.next_up.ensures.like c.pass-near.new.self.from c.pass-near.new.self.to c.pass-far.new.self.from
+    c.pass-far.new.self.to c.in-Some.next c.pass-near.result c.pass-far.result c.in-Some.ensures.up in
     record {
-      climbing = climb_more c.args.plane.now.values c.args.first c.args.parents.now c.args.p c.args.b c.loop-next.parents c.loop-next.skips.from c.loop-next.skips.to c.loop-next.near c.loop-next.far c.loop-next.at c.loop-next.invariant.climbing
-          c.next_up.new.parents c.next_up.auto.parents c.next_up.ensures.like c.pass-near.new.self.from c.pass-near.new.self.to c.pass-far.new.self.from c.pass-far.new.self.to c.in-Some.next c.pass-near.result c.pass-far.result c.in-Some.ensures.up
+      climbing = climb_more c.args.plane.now.values c.args.first c.args.parents.now c.args.p c.args.b c.loop-next.parents c.loop-next.skips.from
+          c.loop-next.skips.to c.loop-next.near c.loop-next.far c.loop-next.at c.loop-next.invariant.climbing
+          c.next_up.new.parents c.next_up.auto.parents c.next_up.ensures.like c.pass-near.new.self.from c.pass-near.new.self.to c.pass-far.new.self.from
+          c.pass-far.new.self.to c.in-Some.next c.pass-near.result c.pass-far.result c.in-Some.ensures.up
           c.pass-near.ensures.mark c.pass-near.ensures.noted c.pass-far.ensures.mark c.pass-far.ensures.noted;
       later = omega (arith, c.loop-next.invariant.later);
       cost = omega (arith, less, c.loop-next.invariant.cost);
       each = omega (arith, c.loop-next.invariant.each, c.next_up.ensures.more);
-      looks = omega (arith, less, c.loop-next.invariant.looks, c.next_up.ensures.looks);
+      reads = omega (arith, less, c.loop-next.invariant.reads, c.next_up.ensures.reads);
     }
 
 pub returns-clause-like : goal.returns-clause-like
-returns-clause-like g c = climb_like c.args.plane.now.values c.args.first c.args.parents.now c.args.p c.args.b c.loop-next.parents c.loop-next.skips.from c.loop-next.skips.to c.loop-next.near c.loop-next.far c.loop-next.at c.loop-next.invariant.climbing
+returns-clause-like g c =
+    climb_like c.args.plane.now.values c.args.first c.args.parents.now c.args.p c.args.b c.loop-next.parents c.loop-next.skips.from c.loop-next.skips.to
+    c.loop-next.near c.loop-next.far c.loop-next.at c.loop-next.invariant.climbing
     c.next_up.new.parents c.next_up.auto.parents c.next_up.ensures.like
 
 pub returns-clause-walk : goal.returns-clause-walk
-returns-clause-walk g c = climb_ended c.args.plane.now.values c.args.first c.args.parents.now c.args.p c.args.b c.loop-next.parents c.loop-next.skips.from c.loop-next.skips.to c.loop-next.near c.loop-next.far c.loop-next.at c.loop-next.invariant.climbing
+returns-clause-walk g c =
+    climb_ended c.args.plane.now.values c.args.first c.args.parents.now c.args.p c.args.b c.loop-next.parents c.loop-next.skips.from c.loop-next.skips.to
+    c.loop-next.near c.loop-next.far c.loop-next.at c.loop-next.invariant.climbing
     c.next_up.new.parents c.next_up.auto.parents c.next_up.ensures.like

@@ -7,9 +7,11 @@ abbrev pub invariant-loop-next : goal.invariant-loop-next
 invariant-loop-next g l = record {
   climbing : IsClimbing l.plane.values l.first l.initial.parents l.parents l.skips.from l.skips.to l.p l.b l.near l.far l.at;
   later : l.initial.moves ≤ l.moves;
-  cost : l.moves + earlier_count l.plane.values l.first (length l.initial.parents) l.at ≤ l.initial.moves + earlier_count l.plane.values l.first (length l.initial.parents) l.p;
-  each : l.moves + l.initial.looks ≤ l.initial.moves + l.looks;
-  looks : l.looks + 4 * earlier_count l.plane.values l.first (length l.initial.parents) l.at ≤ l.initial.looks + 4 * earlier_count l.plane.values l.first (length l.initial.parents) l.p;
+  cost : l.moves + earlier_count l.plane.values l.first (length l.initial.parents) l.at
+      ≤ l.initial.moves + earlier_count l.plane.values l.first (length l.initial.parents) l.p;
+  each : l.moves + l.initial.reads ≤ l.initial.moves + l.reads;
+  reads : l.reads + 4 * earlier_count l.plane.values l.first (length l.initial.parents) l.at
+      ≤ l.initial.reads + 4 * earlier_count l.plane.values l.first (length l.initial.parents) l.p;
 }
 
 abbrev pub decreases-loop-next : goal.decreases-loop-next

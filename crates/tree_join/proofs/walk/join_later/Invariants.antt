@@ -7,9 +7,11 @@ use Rattle.tree_join.proofs.walk.join_later.Given as goal
 abbrev pub invariant-loop-one : goal.invariant-loop-one
 invariant-loop-one g l = record {
   walking : IsWalking l.plane.values l.first l.initial.parents l.parents l.skips.from l.skips.to l.p l.q l.a l.b;
-  cost : l.moves + furthest l.plane.values l.first (length l.initial.parents) l.a l.b + 1 ≤ l.initial.moves + count_defined l.plane.values l.first (length l.initial.parents);
-  each : l.moves + l.initial.looks ≤ l.initial.moves + l.looks;
-  looks : l.looks + 5 * furthest l.plane.values l.first (length l.initial.parents) l.a l.b + 5 ≤ l.initial.looks + 5 * count_defined l.plane.values l.first (length l.initial.parents);
+  cost : l.moves + furthest l.plane.values l.first (length l.initial.parents) l.a l.b + 1
+      ≤ l.initial.moves + count_defined l.plane.values l.first (length l.initial.parents);
+  each : l.moves + l.initial.reads ≤ l.initial.moves + l.reads;
+  reads : l.reads + 5 * furthest l.plane.values l.first (length l.initial.parents) l.a l.b + 5
+      ≤ l.initial.reads + 5 * count_defined l.plane.values l.first (length l.initial.parents);
 }
 
 abbrev pub decreases-loop-one : goal.decreases-loop-one

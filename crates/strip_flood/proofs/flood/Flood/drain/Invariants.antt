@@ -1,5 +1,5 @@
 use Rattle.std.proofs.Common.{MatchOption}
-use Rattle.strip_flood.specs.Queue.{IsEmpty}
+use Rattle.level_queue.specs.Queue.{IsEmpty}
 use Rattle.strip_flood.specs.Flood.{IsStep, work}
 use Rattle.strip_flood.specs.Strips.{ground_of, IsBetweenTurns, IsCurrent}
 use Rattle.strip_flood.proofs.flood.Flood.drain.Given as goal

@@ -5,7 +5,10 @@ use Rattle.strip_flood.proofs.strip.Strip.inner_neighbour.Goals as goal
 
 pub returns : goal.returns
 returns c =
-    let offset : slice_index c.args.self.now.offsets c.args.k ≡ cell c.args.self.now.connect c.args.k / 3 * c.args.self.now.width + cell c.args.self.now.connect c.args.k % 3 = c.requires.strip.offsets.offset c.args.k c.requires.direction in
+    let offset : slice_index c.args.self.now.offsets c.args.k
+    ≡ cell c.args.self.now.connect c.args.k / 3 * c.args.self.now.width + cell c.args.self.now.connect c.args.k % 3 =
+    c.requires.strip.offsets.offset c.args.k c.requires.direction in
     let up : c.args.self.now.first + c.args.self.now.width < c.args.p = c.requires.interior.up in
-    inner_found c.args.self.now.connect c.args.self.now.width c.args.self.now.first (length c.args.self.now.ranks.items) c.args.p c.args.k (c.args.p - c.args.self.now.width - 1 + slice_index c.args.self.now.offsets c.args.k)
+    inner_found c.args.self.now.connect c.args.self.now.width c.args.self.now.first (length c.args.self.now.ranks.items) c.args.p c.args.k
+    (c.args.p - c.args.self.now.width - 1 + slice_index c.args.self.now.offsets c.args.k)
     c.requires.strip.ranked.wide c.requires.direction c.requires.interior (omega arith)

@@ -1,0 +1,23 @@
+-- Bookkeeping: a group of strips before and after it is joined, half by half.
+use Rattle.std.specs.Prelude.{◌≡◌, ℕ, ◌+◌, ◌*◌, ◌≤◌, List, length}
+use Rattle.comp_tree.specs.declared.shape.Connect.{Connect}
+use Rattle.comp_tree.specs.Raster.{Raster}
+use Rattle.comp_tree.specs.Joined.{Or}
+use Rattle.comp_tree.specs.Forest.{no_node, IsLink, IsForest, JoinSame}
+use Rattle.strip_crew.specs.Boundaries.{AreRows, AreApart, IsRowsPair}
+
+-- links of a group whose strips are still apart
+pub record IsGroup (plane : Raster) (first_row : ℕ) (links rows : List ℕ) : Type 0 where
+  pub fits : first_row * plane.shape.width + length links ≤ length plane.values
+  pub small : length plane.values ≤ no_node
+  pub cut : AreRows plane.shape.width first_row (length links) rows
+  pub forest : IsForest plane.values (first_row * plane.shape.width) links
+  pub apart : AreApart plane.shape.width (first_row * plane.shape.width) links rows
+
+-- they were joined at these rows
+pub record IsGroupJoined (plane : Raster) (connect : Connect) (first_row : ℕ) (rows old new : List ℕ) : Type 0 where
+  pub same_length : length new ≡ length old
+  pub forest : IsForest plane.values (first_row * plane.shape.width) new
+  pub joins : JoinSame plane.values (first_row * plane.shape.width) (length old)
+      (IsLink (first_row * plane.shape.width) new)
+      (Or (IsLink (first_row * plane.shape.width) old) (IsRowsPair plane.values plane.shape.width connect rows))
