@@ -90,7 +90,7 @@ def _wanted(given: argparse.Namespace) -> Table:
 
 def _first(table: Table, count: int) -> Table:
     """The rows of the greatest flux, in the order of fields and numbers where fluxes are equal."""
-    return table[numpy.lexsort([table["NUMBER"], table["FIELD"], -table["FLUX"]])[:count]]
+    return table[numpy.lexsort([table["NUMBER"], table["FIELD"], -numpy.asarray(table["FLUX"])])[:count]]
 
 
 def _listed(table: Table) -> None:

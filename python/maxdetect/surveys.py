@@ -16,7 +16,7 @@ from typing import Dict, Iterable, Iterator, List, Mapping, Optional, Tuple, Uni
 import numpy
 from astropy import units
 from astropy.io import fits
-from astropy.table import Table, vstack
+from astropy.table import Table
 from astropy.wcs import WCS
 
 from . import tables
@@ -26,7 +26,7 @@ __all__ = ["COLUMNS", "Survey", "survey"]
 
 # The cells of a row, in their order.
 COLUMNS = ("NUMBER LEVEL BASE AREA FLUX PEAK XMIN XMAX YMIN YMAX XFIRST YFIRST XCEN YCEN XVAR YVAR XYCOV").split()
-ROW = 8 * len(COLUMNS)
+ROW, FLUX = 8 * len(COLUMNS), COLUMNS.index("FLUX")
 SUMS = "CREATE TABLE IF NOT EXISTS source_sum (field TEXT NOT NULL PRIMARY KEY, sum TEXT NOT NULL) STRICT"
 NAME = re.compile(r"[A-Za-z0-9_-]{1,16}")
 
@@ -69,37 +69,45 @@ class Survey(collections.abc.Mapping):
         return isinstance(name, str) and bool(self._asked("SELECT 1 FROM source WHERE field = ?", name))
 
     def __getitem__(self, name: str) -> Table:
-        return tables.finished(self._plain(name), None)
-
-    def _plain(self, name: str) -> Table:
-        """A field's catalogue without units."""
         found = self._asked("SELECT cells FROM source WHERE field = ?", name)
         if not found:
             raise KeyError(name)
-        return _catalogue(self.path, name, found[0][0])
+        return tables.finished(Table(_rows(self.path, name, found[0][0]), names=COLUMNS), None)
+
+    def _fields(self, names: Optional[Iterable[str]] = None) -> Iterator[Tuple[str, numpy.ndarray]]:
+        """The fields, or those that are named, each with its rows."""
+        wanted = None if names is None else list(names)
+        for name in self if wanted is None else wanted:
+            found = self._asked("SELECT cells FROM source WHERE field = ?", name)
+            if not found and wanted is not None:
+                raise KeyError(name)
+            # A field that is gone since its name was read is no field.
+            for (cells,) in found:
+                yield name, _rows(self.path, name, cells)
 
     def table(self, names: Optional[Iterable[str]] = None, sky: Optional[Skies] = None) -> Table:
         """The sources of all fields, or of those that are named, as one table with the column FIELD in front.
 
         With `sky`, the header or WCS of fields by their names, there are RA and DEC, in degrees in the ICRS; they are
-        NaN in the fields that it doesn't name.
+        NaN in the fields that it doesn't name, and in those whose frame astropy doesn't know.
         """
-        found = [_with_field(name, self._plain(name), sky) for name in (self if names is None else names)]
-        if not found:
-            found = [_with_field("", _empty(), sky)]
-        return found[0] if len(found) == 1 else vstack(found, metadata_conflicts="silent")
+        return _together(list(self._fields(names)), sky)
 
     def brightest(self, count: int, sky: Optional[Skies] = None) -> Table:
         """The sources of the greatest FLUX among all fields, in the order of `maxsurvey brightest`: of equal fluxes
         the field whose name comes first goes first, and within a field the smaller number.
         """
-        best: Optional[Table] = None
-        for name in self:
-            rows = _with_field(name, self._plain(name), sky)
-            rows = rows[numpy.argsort(-rows["FLUX"], kind="stable")[:count]]
-            best = rows if best is None else vstack([best, rows], metadata_conflicts="silent")
-            best = best[numpy.argsort(-best["FLUX"], kind="stable")[:count]]
-        return self.table([], sky) if best is None else best
+        best: List[Tuple[str, numpy.ndarray]] = []
+        least, held = None, 0
+        for name, rows in self._fields():
+            rows = rows[numpy.argsort(-rows[:, FLUX], kind="stable")[:count]]
+            best.append((name, rows if least is None else rows[rows[:, FLUX] > least]))
+            held += len(best[-1][1])
+            if held >= 2 * count:
+                best, least = _cut(best, count)
+                held = sum(len(rows) for _, rows in best)
+        table = _together(_cut(best, count)[0], sky)
+        return table[numpy.argsort(-numpy.asarray(table["FLUX"]), kind="stable")]
 
     # ---- sums
 
@@ -188,29 +196,47 @@ def _sum(cells) -> str:
 # ---- catalogues
 
 
-def _empty() -> Table:
-    return Table({name: numpy.zeros(0, dtype="i8") for name in COLUMNS})
-
-
-def _catalogue(path: str, name: str, cells) -> Table:
+def _rows(path: str, name: str, cells) -> numpy.ndarray:
     """A field's rows, which are numbered from 1."""
     if not isinstance(cells, bytes) or len(cells) % ROW:
         raise Mistake(f"{path}: the rows of the field {name} have another form")
-    numbers = numpy.frombuffer(cells, dtype=">i8").astype("i8").reshape(-1, len(COLUMNS))
-    if not numpy.array_equal(numbers[:, 0], numpy.arange(1, len(numbers) + 1)):
+    rows = numpy.frombuffer(cells, dtype=">i8").astype("i8").reshape(-1, len(COLUMNS))
+    if not numpy.array_equal(rows[:, 0], numpy.arange(1, len(rows) + 1)):
         raise Mistake(f"{path}: the rows of the field {name} aren't numbered by their places")
-    return Table(numbers, names=COLUMNS) if len(numbers) else _empty()
+    return rows
 
 
-def _with_field(name: str, catalogue: Table, sky: Optional[Skies]) -> Table:
-    """A field's catalogue with its name in front, its centres in pixels and, where there is a sky, its places."""
-    header = None if sky is None else sky.get(name)
-    table = tables.finished(catalogue, header)
-    if sky is not None and header is None:
-        for axis, text in (("RA", "right ascension"), ("DEC", "declination")):
-            table[axis] = numpy.full(len(table), numpy.nan)
+def _cut(found: List[Tuple[str, numpy.ndarray]], count: int):
+    """Of the rows of some fields those of the greatest fluxes, of equal ones the first, and the least flux that is
+    left where there are so many.
+    """
+    if not found:
+        return found, None
+    fluxes = numpy.concatenate([rows[:, FLUX] for _, rows in found])
+    order = numpy.argsort(-fluxes, kind="stable")[:count]
+    kept = numpy.zeros(len(fluxes), dtype=bool)
+    kept[order] = True
+    ends = numpy.cumsum([len(rows) for _, rows in found])
+    left = [(name, rows[kept[end - len(rows) : end]]) for (name, rows), end in zip(found, ends)]
+    return [it for it in left if len(it[1])], int(fluxes[order[-1]]) if len(order) == count else None
+
+
+def _together(found: List[Tuple[str, numpy.ndarray]], sky: Optional[Skies]) -> Table:
+    """The rows of some fields as one table: their names in front, and, where there is a sky, their places."""
+    rows = numpy.concatenate([rows for _, rows in found] or [numpy.zeros((0, len(COLUMNS)), dtype="i8")])
+    table = tables.finished(Table(rows, names=COLUMNS), None)
+    if sky is not None:
+        ends = numpy.cumsum([len(rows) for _, rows in found])
+        places = numpy.full((2, len(rows)), numpy.nan)
+        for (name, field), end in zip(found, ends):
+            if name in sky:
+                part = slice(end - len(field), end)
+                places[:, part] = tables.icrs_places(sky[name], table["X"][part], table["Y"][part])
+        for axis, values, text in zip(("RA", "DEC"), places, ("right ascension", "declination")):
+            table[axis] = values
             table[axis].unit, table[axis].description = units.deg, f"{text} of the centre in the ICRS"
-    table.add_column(numpy.full(len(table), name, dtype="U16"), index=0, name="FIELD")
+    names = numpy.array([name for name, _ in found], dtype="U16")
+    table.add_column(numpy.repeat(names, [len(rows) for _, rows in found]), index=0, name="FIELD")
     table["FIELD"].description = "name of the field"
     return table
 

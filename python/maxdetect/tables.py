@@ -27,7 +27,18 @@ from astropy.wcs.utils import wcs_to_celestial_frame
 from .errors import Mistake
 from .photometry import FLAGS
 
-__all__ = ["FORMATS", "finished", "format_of", "map_hdu", "regions", "whole_file", "whole_files", "write", "write_map"]
+__all__ = [
+    "FORMATS",
+    "finished",
+    "format_of",
+    "icrs_places",
+    "map_hdu",
+    "regions",
+    "whole_file",
+    "whole_files",
+    "write",
+    "write_map",
+]
 
 # How a catalogue is written, by the end of its name.
 FORMATS = {
@@ -160,6 +171,20 @@ def _own_names(wcs: WCS) -> typing.Tuple[str, str]:
 def _icrs(wcs: WCS, frame, x: numpy.ndarray, y: numpy.ndarray) -> SkyCoord:
     longitude, latitude = _degrees(wcs, x, y)
     return SkyCoord(longitude, latitude, unit="deg", frame=frame).icrs
+
+
+def icrs_places(
+    header: typing.Union[fits.Header, WCS], x: numpy.ndarray, y: numpy.ndarray
+) -> typing.Tuple[numpy.ndarray, numpy.ndarray]:
+    """Right ascensions and declinations in degrees in the ICRS of places in pixels from 1; NaN where the header has no
+    celestial coordinates, or astropy doesn't know their frame.
+    """
+    wcs = _wcs(header)
+    frame = None if wcs is None else _frame(wcs)
+    if frame is None or not len(x):
+        return numpy.full(len(x), numpy.nan), numpy.full(len(x), numpy.nan)
+    centre = _icrs(wcs, frame, numpy.asarray(x, dtype="f8"), numpy.asarray(y, dtype="f8"))
+    return centre.ra.deg, centre.dec.deg
 
 
 def _add_sky(table: Table, wcs: WCS) -> None:

@@ -86,6 +86,17 @@ def test_the_brightest_are_those_of_the_program(two):
     assert opened.brightest(9)["FLUX"].tolist() == [70, 70, 50]
 
 
+def test_the_brightest_of_many_fields(tmp_path):
+    rng = numpy.random.default_rng(3)
+    rows = {f"F{n:02}": rng.integers(0, 40, rng.integers(0, 9)).tolist() for n in range(60)}
+    fields = {name: cells(*(row(n, flux) for n, flux in enumerate(fluxes, 1))) for name, fluxes in rows.items()}
+    opened = maxdetect.survey(kept(tmp_path / "many.db", **fields))
+    every = [(-flux, name, n) for name, fluxes in rows.items() for n, flux in enumerate(fluxes, 1)]
+    for count in (1, 7, 50, len(every), 1000):
+        found = opened.brightest(count)["FLUX", "FIELD", "NUMBER"].as_array().tolist()
+        assert found == [(-flux, name, n) for flux, name, n in sorted(every)[:count]]
+
+
 def test_places_in_the_sky(two):
     table = maxdetect.survey(two).table(sky={"NORTH": sky()})
     assert table["RA"][0] == pytest.approx(150 - 1.5 / 3600, abs=1e-6)

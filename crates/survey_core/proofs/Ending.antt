@@ -11,7 +11,7 @@ use Rattle.survey_core.specs.Tables.{Table}
 use Rattle.survey_core.specs.Commands.{read, some_commands, file_words, further, commands_of}
 use Rattle.command_line.specs.Notes.{usage_line}
 use Rattle.survey_core.specs.Answers.{session_answer_by, session_answer, session_status, session_note}
-use Rattle.survey_core.specs.Runs.{SessionAnswers, EndTells, SessionEndCause}
+use Rattle.survey_core.specs.Ends.{SessionAnswers, EndTells, SessionEndCause}
 use Rattle.survey_core.specs.Headline.{IsCutWith}
 
 -- a word is at fault

@@ -1,2 +1,10 @@
 -- The lemmas of this crate that crates above use. Its other modules of lemmas are its own.
-pub use Rattle.survey_core.proofs.TableLemmas.{all_among, all_from, all_put, cells_found, cells_missing, name_itself, order_put, order_without, put_from, put_keeps, put_there, same_name, same_tables, without_from, without_keeps}
+
+-- members of a list of tables, and their names; names that are the same
+pub use Rattle.survey_core.proofs.TableLemmas.{Among, all_among, all_from, name_itself, same_name}
+-- what `put` makes: it keeps the order and the other tables, and has the new one; what holds of all tables holds of all of it
+pub use Rattle.survey_core.proofs.TableLemmas.{all_put, order_put, put_from, put_keeps, put_there}
+-- what `without_field` leaves: the other tables, in their order
+pub use Rattle.survey_core.proofs.TableLemmas.{order_without, without_from, without_keeps}
+-- the cells of a field are there exactly where it is a member; tables in order with the same members are the same
+pub use Rattle.survey_core.proofs.TableLemmas.{cells_found, cells_missing, same_tables}

@@ -13,13 +13,15 @@ use Rattle.survey_core.specs.declared.fault.Stop.TheVariants.{Refused, ReadFault
 use Rattle.survey_core.specs.declared.fault.Fault.{Fault}
 use Rattle.survey_core.specs.declared.fault.Fault.TheVariants.{NoSuchField}
 use Rattle.survey_core.specs.declared.top.End.TheVariants.{Done, Stopped}
-use Rattle.survey_core.specs.Tables.{Table, cells_of_field, without}
+use Rattle.survey_core.specs.Tables.{Table, cells_of_field, without_field}
 use Rattle.survey_core.specs.Commands.{read, front, width}
 use Rattle.survey_core.specs.Catalogues.{Reading, accepted, rejected, catalogue_in}
 use Rattle.survey_core.specs.Sessions.{Outcome, nothing, added, changes, fails, effect, joined_outcomes, joined_unless, followed_by, session}
-use Rattle.survey_core.specs.Steps.{Does, IsCutCommand, Step, SettledBy, Cause, is_printing}
+use Rattle.survey_core.specs.Steps.{Cause, is_printing}
+use Rattle.survey_core.specs.Carrying.{Does, IsCutCommand, Step, SettledBy}
 use Rattle.survey_core.specs.Answers.{answer_to_outcome, session_end}
-use Rattle.survey_core.specs.Runs.{SessionAnswers, IsCutIn, StopTells, StopsIn}
+use Rattle.survey_core.specs.Runs.{IsCutIn, StopsIn}
+use Rattle.survey_core.specs.Ends.{SessionAnswers, StopTells}
 use Rattle.survey_core.proofs.Wording.{read_front, no_front, behind_ok}
 
 -- ---- outcomes one after the other
@@ -130,7 +132,7 @@ prints_as bytes ts (Add field) h = by (catalogue_in bytes)
     by (rejected stop taken) = refl
 prints_as bytes ts (Drop field) h = by (is_some (cells_of_field field ts))
   where
-    by : (b : Bool) → (cond b (changes 0 (without field ts)) (fails (Refused NoSuchField) 0 ts)).printed ≡ false
+    by : (b : Bool) → (cond b (changes 0 (without_field field ts)) (fails (Refused NoSuchField) 0 ts)).printed ≡ false
     by true = refl
     by false = refl
 prints_as bytes ts Listing h = refl
@@ -145,7 +147,7 @@ prints_none bytes ts (Add field) stop h = by (catalogue_in bytes)
     by (rejected stop taken) = refl
 prints_none bytes ts (Drop field) stop h = by (is_some (cells_of_field field ts))
   where
-    by : (b : Bool) → (cond b (changes 0 (without field ts)) (fails (Refused NoSuchField) 0 ts)).printed ≡ false
+    by : (b : Bool) → (cond b (changes 0 (without_field field ts)) (fails (Refused NoSuchField) 0 ts)).printed ≡ false
     by true = refl
     by false = refl
 prints_none bytes ts Listing stop h = absurd (cc)

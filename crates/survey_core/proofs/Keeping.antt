@@ -5,11 +5,11 @@ use Rattle.std.specs.Option.{ForSome}
 use Rattle.std.specs.List.{flat_map}
 use Rattle.std.proofs.lemmas.List.{take_more, map-append, get_or-map, length-map}
 use Rattle.survey_core.specs.declared.listing.Summary.{Summary}
-use Rattle.survey_core.specs.Tables.{Table, AreInOrder, Among, cells_of_field, names_of}
+use Rattle.survey_core.specs.Tables.{Table, AreInOrder, cells_of_field, names_of}
 use Rattle.survey_core.specs.Clauses.{Stays}
 use Rattle.survey_core.specs.Listings.{table_summary}
 use Rattle.survey_core.specs.Ranking.{rows_of, all_rows}
-use Rattle.survey_core.proofs.TableLemmas.{cells_found}
+use Rattle.survey_core.proofs.TableLemmas.{Among, cells_found}
 
 pub at_some : {T : Type 0} (o : Option T) (x : T) (P : T → Type 0) → o ≡ Some x → IfSome o P → P x
 at_some None x P e h = absurd (cc)

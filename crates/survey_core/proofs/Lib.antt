@@ -1,7 +1,6 @@
 mod TableLemmas
 mod PlaceLemmas
 mod Wording
-mod Searches
 mod CatalogueLemmas
 mod SumLemmas
 mod Keeping

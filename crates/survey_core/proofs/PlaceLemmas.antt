@@ -4,7 +4,7 @@ use lib.ListN.{set}
 use Rattle.std.specs.List.{AllByRecursion}
 use Rattle.survey_core.specs.declared.mem_keeper.Entry.{Entry}
 use Rattle.survey_core.specs.Fields.{name_cmp}
-use Rattle.survey_core.specs.Tables.{Table, AreInOrder, cells_of_field, put, without}
+use Rattle.survey_core.specs.Tables.{Table, AreInOrder, cells_of_field, put, without_field}
 use Rattle.survey_core.specs.Mem.{tables_kept}
 use Rattle.survey_core.specs.Places.{IsPlace}
 use Rattle.survey_core.proofs.TableLemmas.{same_name, never_before, after_is, before_trans, all_from, above_first}
@@ -34,11 +34,11 @@ put_new (e ∷ es) (suc at) x p =
     ap (λ ts. table_of e ∷ ts) (put_new es at x (later e es x.field at false p)) ∙ sym (put_lesser (table_of e) (tables_kept es) x.field x.cells.items p.before.0)
 
 -- no table has a field that all come after
-all_above : (field : List ℕ) (ts : List Table) → AllByRecursion (λ t. name_cmp field t.0 ≡ Less) ts → (without field ts ≡ ts) × (cells_of_field field ts ≡ None)
+all_above : (field : List ℕ) (ts : List Table) → AllByRecursion (λ t. name_cmp field t.0 ≡ Less) ts → (without_field field ts ≡ ts) × (cells_of_field field ts ≡ None)
 all_above field [] h = (refl, refl)
 all_above field (t ∷ ts) h = go (name_cmp t.0 field) refl (all_above field ts h.1)
   where
-    go : (o : Ordering) → name_cmp t.0 field ≡ o → (without field ts ≡ ts) × (cells_of_field field ts ≡ None) → (without field (t ∷ ts) ≡ t ∷ ts) × (cells_of_field field (t ∷ ts) ≡ None)
+    go : (o : Ordering) → name_cmp t.0 field ≡ o → (without_field field ts ≡ ts) × (cells_of_field field ts ≡ None) → (without_field field (t ∷ ts) ≡ t ∷ ts) × (cells_of_field field (t ∷ ts) ≡ None)
     go Less e more = (rw e (ap (λ l. t ∷ l) more.0), rw e more.1)
     go Equal e more = absurd (never_before field t.0 (sym (same_name t.0 field e)) h.0)
     go Greater e more = (rw e (ap (λ l. t ∷ l) more.0), rw e more.1)
@@ -47,7 +47,7 @@ above_head : (field : List ℕ) (t : Table) (ts : List Table) → AreInOrder (t 
 above_head field t ts up (inl e) = all_from _ ts (λ u m. subst (λ f. name_cmp f u.0 ≡ Less) (same_name t.0 field e) (above_first t ts u up m))
 above_head field t ts up (inr e) = all_from _ ts (λ u m. before_trans field t.0 u.0 (after_is t.0 field e) (above_first t ts u up m))
 
-pub drop_found : (es : List Entry) (field : List ℕ) (at : ℕ) → AreInOrder (tables_kept es) → IsPlace es field at true → tables_kept (take at es ++ drop (suc at) es) ≡ without field (tables_kept es)
+pub drop_found : (es : List Entry) (field : List ℕ) (at : ℕ) → AreInOrder (tables_kept es) → IsPlace es field at true → tables_kept (take at es ++ drop (suc at) es) ≡ without_field field (tables_kept es)
 drop_found [] field zero up p = absurd (let bad = p.here in cc)
 drop_found [] field (suc at) up p = absurd (let bad = p.here in cc)
 drop_found (e ∷ es) field zero up p = rw p.here (sym (all_above field (tables_kept es) (above_head field (table_of e) (tables_kept es) up (inl p.here))).0)
@@ -65,7 +65,7 @@ within [] field (suc at) p = absurd (let bad = p.here in cc)
 within (e ∷ es) field zero p = omega arith
 within (e ∷ es) field (suc at) p = omega (arith, within es field at (later e es field at true p))
 
-pub not_found : (es : List Entry) (field : List ℕ) (at : ℕ) → AreInOrder (tables_kept es) → IsPlace es field at false → (without field (tables_kept es) ≡ tables_kept es) × (cells_of_field field (tables_kept es) ≡ None)
+pub not_found : (es : List Entry) (field : List ℕ) (at : ℕ) → AreInOrder (tables_kept es) → IsPlace es field at false → (without_field field (tables_kept es) ≡ tables_kept es) × (cells_of_field field (tables_kept es) ≡ None)
 not_found [] field at up p = (refl, refl)
 not_found (e ∷ es) field zero up p =
     let rest = all_above field (tables_kept es) (above_head field (table_of e) (tables_kept es) up (inr p.here)) in

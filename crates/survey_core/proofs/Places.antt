@@ -7,14 +7,15 @@ use Rattle.std.specs.Ordering.{ordering_then, ordering_reverse, is_lt, int_cmp}
 use Rattle.std.proofs.lemmas.Bool.Decides.{nat_tests}
 use Rattle.std.proofs.lemmas.Cmp.{int_ranked}
 use Rattle.std.proofs.lemmas.Option.{get_or_from_slice_get}
+use Rattle.catalogue_form.specs.Columns.{cells_in_row}
 use Rattle.survey_core.specs.declared.ranking.Row.{Row}
 use Rattle.survey_core.specs.Fields.{name_cmp}
-use Rattle.survey_core.specs.Tables.{Table, AreTables, IsNumbered, Among}
+use Rattle.survey_core.specs.Tables.{Table, AreTables, IsNumbered}
 use Rattle.survey_core.specs.Listings.{rows_in}
-use Rattle.survey_core.specs.Ranking.{row_cmp, comes_before, place_in, at_place, ranked, ranking_row, rows_of, all_rows}
+use Rattle.survey_core.specs.Ranking.{row_cmp, ranks_before, place_in, at_place, ranked, ranking_row, rows_of, all_rows}
 use Rattle.survey_core.specs.Ranks.{with_row, with_rows}
-use Rattle.survey_core.proofs.TableLemmas.{same_name, never_before}
-use Rattle.survey_core.proofs.RankLemmas.{order, never_itself, not_both, before_later}
+use Rattle.survey_core.proofs.TableLemmas.{then_equal, Among, same_name, never_before}
+use Rattle.survey_core.proofs.RankLemmas.{all_with, order, never_itself, not_both, before_later}
 
 -- ---- rows that differ
 
@@ -29,12 +30,12 @@ Distinct (r ∷ rows) = AllByRecursion (Differs r) rows × Distinct rows
 -- each comes before all behind it
 abbrev Strict : List Row → Type 0
 Strict [] = Unit {0}
-Strict (r ∷ rows) = AllByRecursion (λ later. comes_before r later ≡ true) rows × Strict rows
+Strict (r ∷ rows) = AllByRecursion (λ later. ranks_before r later ≡ true) rows × Strict rows
 
-other_way : (a b : Row) → Differs a b → comes_before a b ≡ false → comes_before b a ≡ true
+other_way : (a b : Row) → Differs a b → ranks_before a b ≡ false → ranks_before b a ≡ true
 other_way a b differs h = by (row_cmp a b) refl
   where
-    by : (o : Ordering) → row_cmp a b ≡ o → comes_before b a ≡ true
+    by : (o : Ordering) → row_cmp a b ≡ o → ranks_before b a ≡ true
     by Less e = absurd (let bad = ap is_lt e in cc)
     by Equal e = absurd (differs e)
     by Greater e = ap is_lt (order.antisymm b a ∙ ap ordering_reverse e)
@@ -42,25 +43,17 @@ other_way a b differs h = by (row_cmp a b) refl
 differs_back : (a b : Row) → Differs a b → Differs b a
 differs_back a b differs e = differs (order.antisymm a b ∙ ap ordering_reverse e)
 
-all_with : (P : Row → Type 0) (r : Row) (xs : List Row) → P r → AllByRecursion P xs → AllByRecursion P (with_row r xs)
-all_with P r [] h all = (h, tt)
-all_with P r (x ∷ xs) h all = by (comes_before r x) (all_with P r xs h all.1)
-  where
-    by : (b : Bool) → AllByRecursion P (with_row r xs) → AllByRecursion P (cond b (r ∷ x ∷ xs) (x ∷ with_row r xs))
-    by true more = (h, all)
-    by false more = (all.0, more)
-
-before_all : (r x : Row) (xs : List Row) → comes_before r x ≡ true → AllByRecursion (λ y. comes_before x y ≡ true) xs → AllByRecursion (λ y. comes_before r y ≡ true) xs
+before_all : (r x : Row) (xs : List Row) → ranks_before r x ≡ true → AllByRecursion (λ y. ranks_before x y ≡ true) xs → AllByRecursion (λ y. ranks_before r y ≡ true) xs
 before_all r x [] h all = tt
 before_all r x (y ∷ ys) h all = (before_later r x y h (not_both x y all.0), before_all r x ys h all.1)
 
 strict_with : (r : Row) (xs : List Row) → AllByRecursion (Differs r) xs → Strict xs → Strict (with_row r xs)
 strict_with r [] differs h = (tt, tt)
-strict_with r (x ∷ xs) differs h = by (comes_before r x) refl (strict_with r xs differs.1 h.1)
+strict_with r (x ∷ xs) differs h = by (ranks_before r x) refl (strict_with r xs differs.1 h.1)
   where
-    by : (b : Bool) → comes_before r x ≡ b → Strict (with_row r xs) → Strict (cond b (r ∷ x ∷ xs) (x ∷ with_row r xs))
+    by : (b : Bool) → ranks_before r x ≡ b → Strict (with_row r xs) → Strict (cond b (r ∷ x ∷ xs) (x ∷ with_row r xs))
     by true e more = ((e, before_all r x xs e h.0), h)
-    by false e more = (all_with (λ y. comes_before x y ≡ true) r xs (other_way r x differs.0 e) h.0, more)
+    by false e more = (all_with (λ y. ranks_before x y ≡ true) r xs (other_way r x differs.0 e) h.0, more)
 
 -- all of the one list differ from all of the other
 abbrev Apart : List Row → List Row → Type 0
@@ -95,7 +88,7 @@ count_first test r xs = by (test r)
 
 count_with : (test : Row → Bool) (r : Row) (xs : List Row) → length (filter test (with_row r xs)) ≡ one_if (test r) + length (filter test xs)
 count_with test r [] = count_first test r []
-count_with test r (x ∷ xs) = by (comes_before r x) (count_with test r xs)
+count_with test r (x ∷ xs) = by (ranks_before r x) (count_with test r xs)
   where
     by : (b : Bool) → length (filter test (with_row r xs)) ≡ one_if (test r) + length (filter test xs) → length (filter test (cond b (r ∷ x ∷ xs) (x ∷ with_row r xs))) ≡ one_if (test r) + length (filter test (x ∷ xs))
     by true more = count_first test r (x ∷ xs)
@@ -109,7 +102,7 @@ none_pass : (test : Row → Bool) (xs : List Row) → AllByRecursion (λ y. test
 none_pass test [] all = refl
 none_pass test (x ∷ xs) all = rw all.0 (none_pass test xs all.1)
 
-none_before : (r : Row) (xs : List Row) → AllByRecursion (λ y. comes_before r y ≡ true) xs → AllByRecursion (λ y. comes_before y r ≡ false) xs
+none_before : (r : Row) (xs : List Row) → AllByRecursion (λ y. ranks_before r y ≡ true) xs → AllByRecursion (λ y. ranks_before y r ≡ false) xs
 none_before r [] all = tt
 none_before r (y ∷ ys) all = (not_both r y all.0, none_before r ys all.1)
 
@@ -123,21 +116,21 @@ place_of_row : (xs : List Row) (i : ℕ) (x : Row) → Strict xs → slice_get x
 place_of_row [] i x h e = absurd (cc)
 place_of_row (y ∷ ys) zero x h e =
     let same : y ≡ x = ap (λ o. unwrap_or o y) e in
-    let itself : one_if (comes_before y y) ≡ 0 = ap one_if (never_itself y) in
-    let others = none_pass (λ o. comes_before o y) ys (none_before y ys h.0) in
-    let alone : place_in (y ∷ ys) y ≡ 0 = omega (arith, count_first (λ o. comes_before o y) y ys, itself, others) in
+    let itself : one_if (ranks_before y y) ≡ 0 = ap one_if (never_itself y) in
+    let others = none_pass (λ o. ranks_before o y) ys (none_before y ys h.0) in
+    let alone : place_in (y ∷ ys) y ≡ 0 = omega (arith, count_first (λ o. ranks_before o y) y ys, itself, others) in
     subst (λ z. place_in (y ∷ ys) z ≡ 0) same alone
 place_of_row (y ∷ ys) (suc i) x h e =
-    let first : comes_before y x ≡ true = slice_all (λ z. comes_before y z ≡ true) ys i x h.0 e in
+    let first : ranks_before y x ≡ true = slice_all (λ z. ranks_before y z ≡ true) ys i x h.0 e in
     let more = place_of_row ys i x h.1 e in
-    let one : one_if (comes_before y x) ≡ 1 = ap one_if first in
-    omega (arith, count_first (λ o. comes_before o x) y ys, one, more)
+    let one : one_if (ranks_before y x) ≡ 1 = ap one_if first in
+    omega (arith, count_first (λ o. ranks_before o x) y ys, one, more)
 
 -- ---- members
 
 among_with : (r : Row) (xs : List Row) (x : Row) → Among (r ∷ xs) x → Among (with_row r xs) x
 among_with r [] x m = m
-among_with r (y ∷ ys) x m = by (comes_before r y) m (among_with r ys x)
+among_with r (y ∷ ys) x m = by (ranks_before r y) m (among_with r ys x)
   where
     by : (b : Bool) → Among (r ∷ y ∷ ys) x → (Among (r ∷ ys) x → Among (with_row r ys) x) → Among (cond b (r ∷ y ∷ ys) (y ∷ with_row r ys)) x
     by true m more = m
@@ -147,7 +140,7 @@ among_with r (y ∷ ys) x m = by (comes_before r y) m (among_with r ys x)
 
 with_among : (r : Row) (xs : List Row) (x : Row) → Among (with_row r xs) x → Among (r ∷ xs) x
 with_among r [] x m = m
-with_among r (y ∷ ys) x m = by (comes_before r y) m (with_among r ys x)
+with_among r (y ∷ ys) x m = by (ranks_before r y) m (with_among r ys x)
   where
     by : (b : Bool) → Among (cond b (r ∷ y ∷ ys) (y ∷ with_row r ys)) x → (Among (with_row r ys) x → Among (r ∷ ys) x) → Among (r ∷ y ∷ ys) x
     by true m more = m
@@ -219,7 +212,7 @@ module _ (rows : List Row) (distinct : Distinct rows) where
   strict = strict_with_rows rows [] distinct (apart_none rows) tt
 
   same_place : (x : Row) → place_in rows x ≡ place_in sorted x
-  same_place x = let c = count_with_rows (λ o. comes_before o x) rows [] in omega (arith, c)
+  same_place x = let c = count_with_rows (λ o. ranks_before o x) rows [] in omega (arith, c)
 
   here : (p : ℕ) → at_place rows p ≡ slice_get sorted p
   unfolding at_place
@@ -260,11 +253,6 @@ module _ (rows : List Row) (distinct : Distinct rows) where
 
 -- ---- the rows of the tables differ
 
-then_equal : (o p : Ordering) → ordering_then o p ≡ Equal → (o ≡ Equal) × (p ≡ Equal)
-then_equal Less p h = absurd (cc)
-then_equal Equal p h = (refl, h)
-then_equal Greater p h = absurd (cc)
-
 same_number : (x y : ℤ) → int_cmp x y ≡ Equal → x ≡ y
 same_number x y h = let ranks = int_ranked x y Equal (sym h) in ranks
 
@@ -280,8 +268,8 @@ pos_same m n e = ap unsigned_abs e
 number_at : (field : List ℕ) (cells : List ℤ) (i : ℕ) → IsNumbered cells → i < rows_in cells → (ranking_row field cells i).number ≡ pos (i + 1)
 unfolding ranking_row
 number_at field cells i numbered h =
-    let place : 17 * i + 0 ≡ 17 * i = omega arith in
-    ap (λ k. get_or cells k (pos 0)) place ∙ get_or_from_slice_get cells (17 * i) (pos (i + 1)) (pos 0) (numbered.numbers i (omega (arith, h)))
+    let place : cells_in_row * i + 0 ≡ cells_in_row * i = omega arith in
+    ap (λ k. get_or cells k (pos 0)) place ∙ get_or_from_slice_get cells (cells_in_row * i) (pos (i + 1)) (pos 0) (numbered.numbers i (omega (arith, h)))
 
 module _ (field : List ℕ) (cells : List ℤ) (numbered : IsNumbered cells) where
   later_differ : (i a n : ℕ) → i < a → a + n ≤ rows_in cells → AllByRecursion (Differs (ranking_row field cells i)) (map (ranking_row field cells) (range_with_len a n))

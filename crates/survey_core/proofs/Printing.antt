@@ -7,7 +7,8 @@ use Rattle.survey_core.specs.declared.words.Command.{Command}
 use Rattle.survey_core.specs.declared.fault.Stop.TheVariants.{WriteFault}
 use Rattle.survey_core.specs.Tables.{Table}
 use Rattle.survey_core.specs.Sessions.{prints}
-use Rattle.survey_core.specs.Steps.{Does, IsCutCommand, is_printing}
+use Rattle.survey_core.specs.Steps.{is_printing}
+use Rattle.survey_core.specs.Carrying.{Does, IsCutCommand}
 
 pub none_taken : (bytes : List ℕ) → Takes bytes (Some bytes) 0
 none_taken bytes = record { within = omega arith; rest = refl }

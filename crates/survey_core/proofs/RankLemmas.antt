@@ -9,7 +9,7 @@ use Rattle.std.specs.Cmp.Rules.{comparing}
 use Rattle.std.proofs.lemmas.List.{take_more}
 use Rattle.std.proofs.lemmas.List.FromFn.{get_or-map-range_with_len, length-map-range_with_len}
 use Rattle.survey_core.specs.declared.ranking.Row.{Row}
-use Rattle.survey_core.specs.Ranking.{row_cmp, comes_before, ranking_row, rows_of, all_rows}
+use Rattle.survey_core.specs.Ranking.{row_cmp, ranks_before, ranking_row, rows_of, all_rows}
 use Rattle.survey_core.specs.Listings.{rows_in}
 use Rattle.survey_core.specs.Ranks.{AreRanked, with_row, with_rows}
 
@@ -24,24 +24,24 @@ is_less Equal h = absurd (cc)
 is_less Greater h = absurd (cc)
 
 -- what comes before one comes before all that don't come before that one
-pub before_later : (a b d : Row) → comes_before a b ≡ true → comes_before d b ≡ false → comes_before a d ≡ true
+pub before_later : (a b d : Row) → ranks_before a b ≡ true → ranks_before d b ≡ false → ranks_before a d ≡ true
 before_later a b d h k = by (row_cmp b d) refl
   where
     ab : row_cmp a b ≡ Less
     ab = is_less (row_cmp a b) h
 
-    by : (o : Ordering) → row_cmp b d ≡ o → comes_before a d ≡ true
+    by : (o : Ordering) → row_cmp b d ≡ o → ranks_before a d ≡ true
     by Less e = ap is_lt (order.trans a b d ab e)
     by Equal e = ap is_lt (order.antisymm a d ∙ ap ordering_reverse (sym (order.congr b d a e) ∙ order.antisymm b a ∙ ap ordering_reverse ab))
     by Greater e = let db : row_cmp d b ≡ Less = order.antisymm d b ∙ ap ordering_reverse e in absurd (let bad = ap is_lt db in cc)
 
-pub not_both : (a b : Row) → comes_before a b ≡ true → comes_before b a ≡ false
+pub not_both : (a b : Row) → ranks_before a b ≡ true → ranks_before b a ≡ false
 not_both a b h = ap is_lt (order.antisymm b a ∙ ap ordering_reverse (is_less (row_cmp a b) h))
 
-pub never_itself : (a : Row) → comes_before a a ≡ false
-never_itself a = by (comes_before a a) refl
+pub never_itself : (a : Row) → ranks_before a a ≡ false
+never_itself a = by (ranks_before a a) refl
   where
-    by : (b : Bool) → comes_before a a ≡ b → comes_before a a ≡ false
+    by : (b : Bool) → ranks_before a a ≡ b → ranks_before a a ≡ false
     by true e = not_both a a e
     by false e = e
 
@@ -69,32 +69,32 @@ ranked_take (x ∷ xs) (suc n) h = (all_take _ xs n h.0, ranked_take xs n h.1)
 
 -- ---- one row more
 
-all_with : (P : Row → Type 0) (r : Row) (xs : List Row) → P r → AllByRecursion P xs → AllByRecursion P (with_row r xs)
+pub all_with : (P : Row → Type 0) (r : Row) (xs : List Row) → P r → AllByRecursion P xs → AllByRecursion P (with_row r xs)
 all_with P r [] h all = (h, tt)
-all_with P r (x ∷ xs) h all = by (comes_before r x) (all_with P r xs h all.1)
+all_with P r (x ∷ xs) h all = by (ranks_before r x) (all_with P r xs h all.1)
   where
     by : (b : Bool) → AllByRecursion P (with_row r xs) → AllByRecursion P (cond b (r ∷ x ∷ xs) (x ∷ with_row r xs))
     by true more = (h, all)
     by false more = (all.0, more)
 
-later_all : (r x : Row) (xs : List Row) → comes_before r x ≡ true → AllByRecursion (λ y. comes_before y x ≡ false) xs → AllByRecursion (λ y. comes_before y r ≡ false) xs
+later_all : (r x : Row) (xs : List Row) → ranks_before r x ≡ true → AllByRecursion (λ y. ranks_before y x ≡ false) xs → AllByRecursion (λ y. ranks_before y r ≡ false) xs
 later_all r x [] h all = tt
 later_all r x (y ∷ ys) h all = (not_both r y (before_later r x y h all.0), later_all r x ys h all.1)
 
 pub ranked_with : (r : Row) (xs : List Row) → AreRanked xs → AreRanked (with_row r xs)
 ranked_with r [] h = (tt, tt)
-ranked_with r (x ∷ xs) h = by (comes_before r x) refl (ranked_with r xs h.1)
+ranked_with r (x ∷ xs) h = by (ranks_before r x) refl (ranked_with r xs h.1)
   where
-    by : (b : Bool) → comes_before r x ≡ b → AreRanked (with_row r xs) → AreRanked (cond b (r ∷ x ∷ xs) (x ∷ with_row r xs))
+    by : (b : Bool) → ranks_before r x ≡ b → AreRanked (with_row r xs) → AreRanked (cond b (r ∷ x ∷ xs) (x ∷ with_row r xs))
     by true e more = ((not_both r x e, later_all r x xs e h.0), h)
-    by false e more = (all_with (λ y. comes_before y x ≡ false) r xs e h.0, more)
+    by false e more = (all_with (λ y. ranks_before y x ≡ false) r xs e h.0, more)
 
 pub ranked_with_rows : (rs xs : List Row) → AreRanked xs → AreRanked (with_rows rs xs)
 ranked_with_rows [] xs h = h
 ranked_with_rows (r ∷ rs) xs h = ranked_with_rows rs (with_row r xs) (ranked_with r xs h)
 
 -- the row stands behind those that it doesn't come before
-pub with_at : (r : Row) (xs : List Row) (p : ℕ) → p ≤ length xs → ((i : ℕ) (d : Row) → i < p → comes_before r (get_or xs i d) ≡ false) → ((d : Row) → p < length xs → comes_before r (get_or xs p d) ≡ true)
+pub with_at : (r : Row) (xs : List Row) (p : ℕ) → p ≤ length xs → ((i : ℕ) (d : Row) → i < p → ranks_before r (get_or xs i d) ≡ false) → ((d : Row) → p < length xs → ranks_before r (get_or xs p d) ≡ true)
     → with_row r xs ≡ take p xs ++ r ∷ drop p xs
 with_at r [] zero h front here = refl
 with_at r [] (suc p) h front here = absurd (omega arith)
@@ -116,7 +116,7 @@ take_again (suc (suc m)) x xs = ap (λ l. x ∷ l) (go (suc m) xs)
 pub best_with : (m : ℕ) (r : Row) (xs : List Row) → take m (with_row r xs) ≡ take m (with_row r (take m xs))
 best_with zero r xs = refl
 best_with (suc m) r [] = refl
-best_with (suc m) r (x ∷ xs) = by (comes_before r x) (best_with m r xs)
+best_with (suc m) r (x ∷ xs) = by (ranks_before r x) (best_with m r xs)
   where
     by : (b : Bool) → take m (with_row r xs) ≡ take m (with_row r (take m xs)) → take (suc m) (cond b (r ∷ x ∷ xs) (x ∷ with_row r xs)) ≡ take (suc m) (cond b (r ∷ x ∷ take m xs) (x ∷ with_row r (take m xs)))
     by true more = ap (λ l. r ∷ l) (take_again m x xs)
@@ -135,10 +135,10 @@ take_put (suc p) (suc m) r [] h = refl
 take_put (suc p) (suc m) r (x ∷ xs) h = ap (λ l. x ∷ l) (take_put p m r xs (omega arith))
 
 -- of two ranked rows the later doesn't come before the earlier
-ahead : (xs : List Row) (i j : ℕ) (d : Row) → AreRanked xs → i < j → j < length xs → comes_before (get_or xs j d) (get_or xs i d) ≡ false
+ahead : (xs : List Row) (i j : ℕ) (d : Row) → AreRanked xs → i < j → j < length xs → ranks_before (get_or xs j d) (get_or xs i d) ≡ false
 ahead [] i j d h less inside = absurd (omega arith)
 ahead (x ∷ xs) i zero d h less inside = absurd (omega arith)
-ahead (x ∷ xs) zero (suc j) d h less inside = all_at (λ y. comes_before y x ≡ false) xs j d h.0 (omega arith)
+ahead (x ∷ xs) zero (suc j) d h less inside = all_at (λ y. ranks_before y x ≡ false) xs j d h.0 (omega arith)
 ahead (x ∷ xs) (suc i) (suc j) d h less inside = ahead xs i j d h.1 (omega arith) (omega arith)
 
 length-take_below : {X : Type 0} (m : ℕ) (xs : List X) → length (take m xs) ≤ m
@@ -146,21 +146,21 @@ length-take_below zero xs = omega arith
 length-take_below (suc m) [] = omega arith
 length-take_below (suc m) (x ∷ xs) = omega (arith, length-take_below m xs)
 
-module _ (most : ℕ) (r : Row) (rows best : List Row) (p : ℕ) (ranked : AreRanked rows) (best_is : best ≡ take most rows) (within : p ≤ length best) (behind : 0 < p → (d : Row) → comes_before r (get_or best (p - 1) d) ≡ false) (before : (i : ℕ) (d : Row) → p ≤ i → i < length best → comes_before r (get_or best i d) ≡ true) where
+module _ (most : ℕ) (r : Row) (rows best : List Row) (p : ℕ) (ranked : AreRanked rows) (best_is : best ≡ take most rows) (within : p ≤ length best) (behind : 0 < p → (d : Row) → ranks_before r (get_or best (p - 1) d) ≡ false) (before : (i : ℕ) (d : Row) → p ≤ i → i < length best → ranks_before r (get_or best i d) ≡ true) where
   best_ranked : AreRanked best
   best_ranked = subst AreRanked (sym best_is) (ranked_take rows most ranked)
 
-  front : (i : ℕ) (d : Row) → i < p → comes_before r (get_or best i d) ≡ false
-  front i d h = by (comes_before r (get_or best i d)) refl
+  front : (i : ℕ) (d : Row) → i < p → ranks_before r (get_or best i d) ≡ false
+  front i d h = by (ranks_before r (get_or best i d)) refl
     where
-      last : comes_before r (get_or best (p - 1) d) ≡ false
+      last : ranks_before r (get_or best (p - 1) d) ≡ false
       last = behind (omega arith) d
 
-      by : (b : Bool) → comes_before r (get_or best i d) ≡ b → comes_before r (get_or best i d) ≡ false
+      by : (b : Bool) → ranks_before r (get_or best i d) ≡ b → ranks_before r (get_or best i d) ≡ false
       by false e = e
       by true e = elim (cases_lt i (p - 1)) [
         | inl less ↦ let bad = before_later r (get_or best i d) (get_or best (p - 1) d) e (ahead best i (p - 1) d best_ranked less (omega (arith, within, h))) in absurd (let worse = last in cc)
-        | inr more ↦ let same : i ≡ p - 1 = omega arith in subst (λ k. comes_before r (get_or best k d) ≡ false) (sym same) last
+        | inr more ↦ let same : i ≡ p - 1 = omega arith in subst (λ k. ranks_before r (get_or best k d) ≡ false) (sym same) last
       ]
 
   placed : with_row r best ≡ take p best ++ r ∷ drop p best

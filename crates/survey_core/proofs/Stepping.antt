@@ -10,14 +10,16 @@ use Rattle.survey_core.specs.declared.words.Command.TheVariants.{Add}
 use Rattle.survey_core.specs.declared.fault.Stop.{Stop}
 use Rattle.survey_core.specs.declared.fault.Stop.TheVariants.{Refused, ReadFault, WriteFault, NoMemory, KeeperFault}
 use Rattle.survey_core.specs.declared.fault.Fault.TheVariants.{NoSuchField}
-use Rattle.survey_core.specs.Faults.{stop_at_keeper}
+use Rattle.survey_core.specs.Stops.{stop_at_keeper}
 use Rattle.survey_core.specs.Fields.{name_cmp}
-use Rattle.survey_core.specs.Tables.{Table, cells_of_field, put, without}
+use Rattle.survey_core.specs.Tables.{Table, cells_of_field, put, without_field}
 use Rattle.survey_core.specs.Clauses.{Becomes}
-use Rattle.survey_core.specs.Catalogues.{Reading, accepted, rejected, taken_of}
+use Rattle.survey_core.specs.Catalogues.{Reading, accepted, rejected}
+use Rattle.survey_core.specs.Reads.{taken_of}
 use Rattle.survey_core.specs.Reads.{IsAccepted, IsRejected, MayLackIn}
 use Rattle.survey_core.specs.Sessions.{added, changes, fails}
-use Rattle.survey_core.specs.Steps.{Does, MayLackFor, Step}
+use Rattle.survey_core.specs.Steps.{MayLackFor}
+use Rattle.survey_core.specs.Carrying.{Does, Step}
 use Rattle.survey_core.proofs.Printing.{none_taken}
 
 pub becomes_at : (a b : Option (List Table)) (x : List Table) (change : List Table → List Table) → Becomes a b change → a ≡ Some x → b ≡ Some (change x)
@@ -69,17 +71,17 @@ module _ (field : List ℕ) (bytes : List ℕ) (ts : List Table) (reading : Read
 
 -- ---- drop
 
-absent : (field : List ℕ) (ts : List Table) → is_some (cells_of_field field ts) ≡ false → without field ts ≡ ts
+absent : (field : List ℕ) (ts : List Table) → is_some (cells_of_field field ts) ≡ false → without_field field ts ≡ ts
 absent field [] h = refl
 absent field (t ∷ ts) h = by (name_cmp t.0 field) h (absent field ts)
   where
-    by : (o : Ordering) → is_some (cond (is_eq o) (Some t.1) (cells_of_field field ts)) ≡ false → (is_some (cells_of_field field ts) ≡ false → without field ts ≡ ts) → cond (not (is_eq o)) (t ∷ without field ts) (without field ts) ≡ t ∷ ts
+    by : (o : Ordering) → is_some (cond (is_eq o) (Some t.1) (cells_of_field field ts)) ≡ false → (is_some (cells_of_field field ts) ≡ false → without_field field ts ≡ ts) → cond (not (is_eq o)) (t ∷ without_field field ts) (without_field field ts) ≡ t ∷ ts
     by Less h more = ap (λ l. t ∷ l) (more h)
     by Equal h more = absurd (cc)
     by Greater h more = ap (λ l. t ∷ l) (more h)
 
-pub not_there : (field bytes : List ℕ) (ts : List Table) (k : Option (List Table)) (w : Option (List ℕ)) (found : Bool) → found ≡ false → found ≡ is_some (cells_of_field field ts) → k ≡ Some (without field ts)
-    → Does (cond (is_some (cells_of_field field ts)) (changes 0 (without field ts)) (fails (Refused NoSuchField) 0 ts)) bytes (Some bytes) k w w (Some (Refused NoSuchField))
+pub not_there : (field bytes : List ℕ) (ts : List Table) (k : Option (List Table)) (w : Option (List ℕ)) (found : Bool) → found ≡ false → found ≡ is_some (cells_of_field field ts) → k ≡ Some (without_field field ts)
+    → Does (cond (is_some (cells_of_field field ts)) (changes 0 (without_field field ts)) (fails (Refused NoSuchField) 0 ts)) bytes (Some bytes) k w w (Some (Refused NoSuchField))
 not_there field bytes ts k w found no_it is removed =
     let missing : is_some (cells_of_field field ts) ≡ false = sym is ∙ no_it in
     rw missing (record { stop_is = refl; takes = none_taken bytes; tables_are = removed ∙ ap Some (absent field ts missing); appended = Appends-nil w })

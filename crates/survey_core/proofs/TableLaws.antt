@@ -10,7 +10,7 @@ use Rattle.survey_core.specs.declared.fault.Stop.{Stop}
 use Rattle.survey_core.specs.declared.fault.Stop.TheVariants.{Refused}
 use Rattle.survey_core.specs.declared.fault.Fault.TheVariants.{NoSuchField}
 use Rattle.survey_core.specs.Fields.{name_cmp}
-use Rattle.survey_core.specs.Tables.{Table, cells_of_field, put, without}
+use Rattle.survey_core.specs.Tables.{Table, cells_of_field, put, without_field}
 use Rattle.survey_core.specs.Catalogues.{Reading, accepted, rejected, catalogue_in}
 use Rattle.survey_core.specs.Sessions.{Outcome, effect, added, changes, fails, followed_by, joined_unless, session}
 use Rattle.survey_core.specs.Laws.{is_on, NoneIsOn, UnnamedFieldsStay, LastAddIsKept, LastDropIsKept}
@@ -50,20 +50,20 @@ put_other field other cells (t ∷ ts) differs = by (name_cmp t.0 field) refl (p
         rw (not_same field other differs, first) refl
     by Greater e more = rw (not_same field other differs) refl
 
-gone : (field : List ℕ) (ts : List Table) → cells_of_field field (without field ts) ≡ None
+gone : (field : List ℕ) (ts : List Table) → cells_of_field field (without_field field ts) ≡ None
 gone field [] = refl
 gone field (t ∷ ts) = by (name_cmp t.0 field) refl (gone field ts)
   where
-    by : (o : Ordering) → name_cmp t.0 field ≡ o → cells_of_field field (without field ts) ≡ None → cells_of_field field (cond (not (is_eq o)) (t ∷ without field ts) (without field ts)) ≡ None
+    by : (o : Ordering) → name_cmp t.0 field ≡ o → cells_of_field field (without_field field ts) ≡ None → cells_of_field field (cond (not (is_eq o)) (t ∷ without_field field ts) (without_field field ts)) ≡ None
     by Less e more = rw e more
     by Equal e more = more
     by Greater e more = rw e more
 
-without_other : (field other : List ℕ) (ts : List Table) → field ≢ other → cells_of_field other (without field ts) ≡ cells_of_field other ts
+without_other : (field other : List ℕ) (ts : List Table) → field ≢ other → cells_of_field other (without_field field ts) ≡ cells_of_field other ts
 without_other field other [] differs = refl
 without_other field other (t ∷ ts) differs = by (name_cmp t.0 field) refl (without_other field other ts differs)
   where
-    by : (o : Ordering) → name_cmp t.0 field ≡ o → cells_of_field other (without field ts) ≡ cells_of_field other ts → cells_of_field other (cond (not (is_eq o)) (t ∷ without field ts) (without field ts)) ≡ cells_of_field other (t ∷ ts)
+    by : (o : Ordering) → name_cmp t.0 field ≡ o → cells_of_field other (without_field field ts) ≡ cells_of_field other ts → cells_of_field other (cond (not (is_eq o)) (t ∷ without_field field ts) (without_field field ts)) ≡ cells_of_field other (t ∷ ts)
     by Less e more = ap (λ o. cond (is_eq (name_cmp t.0 other)) (Some t.1) o) more
     by Equal e more =
         let same = same_name t.0 field e in
@@ -87,7 +87,7 @@ unnamed bytes ts (Add other) field h = by (catalogue_in bytes)
     by (rejected stop taken) = refl
 unnamed bytes ts (Drop other) field h = by (is_some (cells_of_field other ts))
   where
-    by : (b : Bool) → cells_of_field field (cond b (changes 0 (without other ts)) (fails (Refused NoSuchField) 0 ts)).tables ≡ cells_of_field field ts
+    by : (b : Bool) → cells_of_field field (cond b (changes 0 (without_field other ts)) (fails (Refused NoSuchField) 0 ts)).tables ≡ cells_of_field field ts
     by true = without_other other field ts (other_name other field h)
     by false = refl
 unnamed bytes ts Listing field h = refl
@@ -161,6 +161,6 @@ last_drop bytes ts before after field none passed =
     t : List Table
     t = (session bytes ts before).tables
 
-    by : (b : Bool) → is_some (cells_of_field field t) ≡ b → cells_of_field field (cond b (changes 0 (without field t)) (fails (Refused NoSuchField) 0 t)).tables ≡ None
+    by : (b : Bool) → is_some (cells_of_field field t) ≡ b → cells_of_field field (cond b (changes 0 (without_field field t)) (fails (Refused NoSuchField) 0 t)).tables ≡ None
     by true e = gone field t
     by false e = nothing_there (cells_of_field field t) e

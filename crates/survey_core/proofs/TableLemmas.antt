@@ -6,11 +6,16 @@ use Rattle.std.proofs.lemmas.Cmp.{tied_itself, nat_list_cmp_total}
 use Rattle.std.proofs.lemmas.Bool.{cases_Bool}
 use Rattle.std.proofs.lemmas.Bool.Decides.{nat_tests}
 use Rattle.survey_core.specs.Fields.{name_cmp, is_name}
-use Rattle.survey_core.specs.Tables.{Table, IsFieldTable, IsNumbered, AreTables, AreInOrder, Among, cells_of_field, put, without}
+use Rattle.survey_core.specs.Tables.{Table, IsFieldTable, IsNumbered, AreTables, AreInOrder, cells_of_field, put, without_field}
+
+-- one of them is this
+abbrev pub Among : {X : Type 0} → List X → X → Type 0
+Among [] x = ⊥
+Among (y ∷ ys) x = (x ≡ y) ⊎ Among ys x
 
 -- ---- names
 
-then_equal : (o p : Ordering) → ordering_then o p ≡ Equal → (o ≡ Equal) × (p ≡ Equal)
+pub then_equal : (o p : Ordering) → ordering_then o p ≡ Equal → (o ≡ Equal) × (p ≡ Equal)
 then_equal Less p h = absurd (cc)
 then_equal Equal p h = (refl, h)
 then_equal Greater p h = absurd (cc)
@@ -206,16 +211,16 @@ other_from a b other = go (name_cmp a b) refl
     go Equal r = absurd (other (same_name a b r))
     go Greater r = refl
 
-pub without_from : (field : List ℕ) (ts : List Table) (x : Table) → Among (without field ts) x → Among ts x × (x.0 ≢ field)
+pub without_from : (field : List ℕ) (ts : List Table) (x : Table) → Among (without_field field ts) x → Among ts x × (x.0 ≢ field)
 without_from field ts x m = let both = among_filter _ ts x m in (both.0, other_test x.0 field both.1)
 
-pub without_keeps : (field : List ℕ) (ts : List Table) (x : Table) → Among ts x → x.0 ≢ field → Among (without field ts) x
+pub without_keeps : (field : List ℕ) (ts : List Table) (x : Table) → Among ts x → x.0 ≢ field → Among (without_field field ts) x
 without_keeps field ts x m other = filter_among _ ts x m (other_from x.0 field other)
 
-pub order_without : (field : List ℕ) (ts : List Table) → AreInOrder ts → AreInOrder (without field ts)
+pub order_without : (field : List ℕ) (ts : List Table) → AreInOrder ts → AreInOrder (without_field field ts)
 order_without field ts up = order_filter _ ts up
 
-pub all_without : (P : Table → Type 0) (field : List ℕ) (ts : List Table) → AllByRecursion P ts → AllByRecursion P (without field ts)
+pub all_without : (P : Table → Type 0) (field : List ℕ) (ts : List Table) → AllByRecursion P ts → AllByRecursion P (without_field field ts)
 all_without P field ts all = all_from P _ (λ x m. all_among P ts x all (without_from field ts x m).0)
 
 -- ---- tables stay tables
@@ -223,7 +228,7 @@ all_without P field ts all = all_from P _ (λ x m. all_among P ts x all (without
 pub put_are : (field : List ℕ) (cells : List ℤ) (ts us : List Table) → us ≡ put field cells ts → AreTables ts → is_name field ≡ true → IsNumbered cells → AreTables us
 put_are field cells ts us is are named numbered = subst AreTables (sym is) (order_put field cells ts are.0, all_put field cells IsFieldTable ts (named, numbered) are.1)
 
-pub without_are : (field : List ℕ) (ts us : List Table) → us ≡ without field ts → AreTables ts → AreTables us
+pub without_are : (field : List ℕ) (ts us : List Table) → us ≡ without_field field ts → AreTables ts → AreTables us
 without_are field ts us is are = subst AreTables (sym is) (order_without field ts are.0, all_without IsFieldTable field ts are.1)
 
 pub put_are_if : {X E : Type 0} (field : List ℕ) (cells : List ℤ) (ts us : List Table) (r : Result X E) → OnOk r (us ≡ put field cells ts) → OnErr r (us ≡ ts) → AreTables ts → is_name field ≡ true → IsNumbered cells → AreTables us

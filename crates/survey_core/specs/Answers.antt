@@ -54,7 +54,7 @@ session_status (Stopped stop) = status_at stop
 -- ---- the answer
 
 -- how a session ends, with its status and its line on the notes; and what it does
-pub record SessionAnswer : Type 0 where
+pub record EndedSession : Type 0 where
   pub end : End
   pub does : Outcome
 
@@ -62,13 +62,13 @@ abbrev pub session_end : Option Stop → End
 session_end None = Done
 session_end (Some stop) = Stopped stop
 
-abbrev pub answer_to_outcome : Outcome → SessionAnswer
+abbrev pub answer_to_outcome : Outcome → EndedSession
 answer_to_outcome outcome = record { end = session_end outcome.stop; does = outcome }
 
 -- where a word is at fault nothing is done
-abbrev pub session_answer_by : Result (List Command) ℕ → List ℕ → List Table → SessionAnswer
+abbrev pub session_answer_by : Result (List Command) ℕ → List ℕ → List Table → EndedSession
 session_answer_by (Err at) bytes tables = record { end = Usage (record { word = at + 1 }); does = nothing tables }
 session_answer_by (Ok commands) bytes tables = answer_to_outcome (session bytes tables commands)
 
-abbrev pub session_answer : List (List ℕ) → List ℕ → List Table → SessionAnswer
+abbrev pub session_answer : List (List ℕ) → List ℕ → List Table → EndedSession
 session_answer words bytes tables = session_answer_by (commands_of words) bytes tables

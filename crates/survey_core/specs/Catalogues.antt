@@ -1,10 +1,10 @@
--- Model: the catalogue at the front of a list of bytes: a FITS file whose HDU 2 is a table with rows of 96 bytes, as `detect` writes it.
-use Rattle.std.specs.Prelude.{ℕ, zero, suc, ◌+◌, ◌*◌, ◌/◌, ◌^◌, ◌==◌, ◌&&◌, Bool, not, List, []}
-use Rattle.std.specs.Prelude.{◌∷◌, ◌++◌, length, take, drop, min, find, ℤ, pos, nat_lt, Option, Some, None, if◌then◌else◌}
+-- Model: the catalogue at the front of a list of bytes: a FITS file whose HDU 2 is a table with the catalogue's columns, as `detect` writes it.
+use Rattle.std.specs.Prelude.{ℕ, ◌+◌, ◌*◌, ◌/◌, ◌^◌, ◌==◌, ◌&&◌, Bool, not, List}
+use Rattle.std.specs.Prelude.{length, drop, min, find, ℤ, pos, nat_lt, Option, Some, None, if◌then◌else◌}
 use Rattle.std.specs.List.{range_with_len}
 use Rattle.std.specs.Ordering.{int_eq}
-use Rattle.std.specs.Int.{w32, w64, cast_signed}
-use Rattle.byteorder.specs.Endian.{big_number}
+use Rattle.catalogue_form.specs.Columns.{catalogue_columns, cells_in_row, bytes_in_row, number_place}
+use Rattle.catalogue_form.specs.Rows.{table_cells}
 use Rattle.fits_hdu.specs.declared.answer.Hdu.{Hdu}
 use Rattle.fits_hdu.specs.Headers.{Found, found, refused, is_other}
 use Rattle.fits_hdu.specs.Finding.{find_of, padded}
@@ -16,42 +16,21 @@ use Rattle.survey_core.specs.Listings.{table_cell}
 
 -- ---- the rows
 
--- the number in 32 bits at this place, and in 64: two's complement, the most significant byte first
-abbrev pub short : List ℕ → ℕ → ℤ
-short row at = cast_signed w32 (big_number 4 (drop at row))
-
-abbrev pub long : List ℕ → ℕ → ℤ
-long row at = cast_signed w64 (big_number 8 (drop at row))
-
--- the 17 cells of a row: NUMBER, LEVEL, BASE, AREA, FLUX, PEAK, XMIN, XMAX, YMIN, YMAX, XFIRST, YFIRST, XCEN, YCEN, XVAR, YVAR and XYCOV
-unfoldable pub row_cells : List ℕ → List ℤ
-row_cells row =
-    short row 0 ∷ long row 4 ∷ long row 12 ∷ short row 20 ∷ long row 24 ∷ long row 32 ∷ short row 40 ∷ short row 44 ∷ short row 48 ∷ short row 52
-    ∷ short row 56 ∷ short row 60 ∷ short row 64 ∷ short row 68 ∷ long row 72 ∷ long row 80 ∷ long row 88 ∷ []
-
--- row i, from 0
-abbrev pub row_bytes : List ℕ → ℕ → List ℕ
-row_bytes bytes i = take 96 (drop (96 * i) bytes)
-
--- the cells of the first n rows
-unfoldable pub table_cells : List ℕ → ℕ → List ℤ
-table_cells bytes zero = []
-table_cells bytes (suc n) = table_cells bytes n ++ row_cells (row_bytes bytes n)
-
 -- row i, from 0, doesn't have the number of its place, from 1
 abbrev pub is_misnumbered : List ℤ → ℕ → Bool
-is_misnumbered cells i = not (int_eq (table_cell cells i 0) (pos (i + 1)))
+is_misnumbered cells i = not (int_eq (table_cell cells i number_place) (pos (i + 1)))
 
 -- the first such row
 unfoldable pub first_misnumbered : List ℤ → Option ℕ
-first_misnumbered cells = find (is_misnumbered cells) (range_with_len 0 (length cells / 17))
+first_misnumbered cells = find (is_misnumbered cells) (range_with_len 0 (length cells / cells_in_row))
 
 -- ---- the catalogue
 
 -- an HDU that can be a catalogue's table
 unfoldable pub is_catalogue : Hdu → Bool
 is_catalogue hdu =
-    (((is_other hdu.kind && int_eq hdu.bitpix (pos 8)) && hdu.naxis == 2) && hdu.width == 96) && hdu.data_bytes == 96 * hdu.height
+    (((is_other hdu.kind && int_eq hdu.bitpix (pos 8)) && hdu.naxis == 2) && hdu.width == bytes_in_row)
+    && hdu.data_bytes == bytes_in_row * hdu.height
 
 abbrev pub most_rows : ℕ
 most_rows = 2 ^ 20
@@ -69,8 +48,8 @@ numbered bytes size cells (Some i) = rejected (Refused (RowNumber (i + 1))) size
 -- of the bytes behind a header, and so many rows
 unfoldable pub table_of : List ℕ → ℕ → Reading
 table_of bytes rows =
-    if nat_lt (length bytes) (96 * rows) then rejected (Refused TruncatedTable) (length bytes)
-    else numbered bytes (96 * rows) (table_cells bytes rows) (first_misnumbered (table_cells bytes rows))
+    if nat_lt (length bytes) (bytes_in_row * rows) then rejected (Refused TruncatedTable) (length bytes)
+    else numbered bytes (bytes_in_row * rows) (table_cells catalogue_columns bytes rows) (first_misnumbered (table_cells catalogue_columns bytes rows))
 
 -- so many bytes were taken before
 abbrev pub beyond : ℕ → Reading → Reading
@@ -88,7 +67,3 @@ reading_by bytes (found hdu head) =
 -- the catalogue at the front of these bytes
 unfoldable pub catalogue_in : List ℕ → Reading
 catalogue_in bytes = reading_by bytes (find_of bytes 2)
-
-abbrev pub taken_of : Reading → ℕ
-taken_of (accepted cells taken) = taken
-taken_of (rejected stop taken) = taken

@@ -33,7 +33,7 @@ is_fault (Ok x) = false
 is_fault (Err why) = is_fault_of why
 
 -- a call fails where its number is one of those, and at no other; each call and each fault is counted
-pub record IsCounted {T : Type 0} (old new : MemKeeper) (result : Result T Refused) : Type 0 where
+pub record IsKeeperCall {T : Type 0} (old new : MemKeeper) (result : Result T Refused) : Type 0 where
   pub fails : is_fault result ≡ fails_next (keeper_fails old) (keeper_calls old)
   pub faults : keeper_faults new ≡ (if is_fault result then one_more (keeper_faults old) else keeper_faults old)
   pub calls : keeper_calls new ≡ one_more (keeper_calls old)

@@ -2,13 +2,11 @@
 use Rattle.std.specs.Prelude.{ℕ, List, codes}
 use Rattle.fits_hdu.specs.declared.answer.HduFault.{HduFault}
 use Rattle.fits_hdu.specs.declared.answer.HduFault.TheVariants as hdu
-use Rattle.survey_core.specs.declared.keeper.Refused.{Refused as Why}
-use Rattle.survey_core.specs.declared.keeper.Refused.TheVariants as why
 use Rattle.survey_core.specs.declared.fault.Fault.{Fault}
 use Rattle.survey_core.specs.declared.fault.Fault.TheVariants.{NotFits, TruncatedHeader, BadKeyword, HeaderTooLong, Groups, DataTooLong, NoSuchHdu}
 use Rattle.survey_core.specs.declared.fault.Fault.TheVariants.{TruncatedSkip, NotCatalogue, TooManyRows, TruncatedTable, RowNumber, NoSuchField}
 use Rattle.survey_core.specs.declared.fault.Stop.{Stop}
-use Rattle.survey_core.specs.declared.fault.Stop.TheVariants.{Refused, ReadFault, NoMemory, KeeperFault}
+use Rattle.survey_core.specs.declared.fault.Stop.TheVariants.{Refused, ReadFault}
 
 abbrev pub survey_fault_number : Fault → ℕ
 survey_fault_number NotFits = 1
@@ -51,8 +49,3 @@ survey_stop_at_hdu hdu.DataTooLong = Refused DataTooLong
 survey_stop_at_hdu hdu.NoSuchHdu = Refused NoSuchHdu
 survey_stop_at_hdu hdu.TruncatedSkip = Refused TruncatedSkip
 survey_stop_at_hdu hdu.ReadFault = ReadFault
-
--- and where the keeper of the tables refuses
-abbrev pub stop_at_keeper : Why → Stop
-stop_at_keeper why.Fault = KeeperFault
-stop_at_keeper why.OutOfMemory = NoMemory

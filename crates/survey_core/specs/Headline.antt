@@ -8,15 +8,15 @@ use Rattle.survey_core.specs.declared.fault.Stop.{Stop}
 use Rattle.survey_core.specs.declared.top.End.{End}
 use Rattle.survey_core.specs.Tables.{Table}
 use Rattle.survey_core.specs.Commands.{commands_of}
-use Rattle.survey_core.specs.Answers.{SessionAnswer, session_answer, status_at, session_status, session_note}
+use Rattle.survey_core.specs.Answers.{EndedSession, session_answer, status_at, session_status, session_note}
 use Rattle.survey_core.specs.Runs.{IsCutFor, StopsIn}
 
 -- P holds of the answer to the bytes and the tables that are told
-abbrev pub ForAnswer : List (List ℕ) → Option (List ℕ) → Option (List Table) → (SessionAnswer → Type 0) → Type 0
+abbrev pub ForAnswer : List (List ℕ) → Option (List ℕ) → Option (List Table) → (EndedSession → Type 0) → Type 0
 ForAnswer words left tables P = ForSome left (λ bytes. ForSome tables (λ ts. P (session_answer words bytes ts)))
 
 -- the answer's status, or that of a fault of the input, the output or the keeper, or of want of memory
-abbrev pub IsSessionStatus : ℕ → SessionAnswer → Type 0
+abbrev pub IsSessionStatus : ℕ → EndedSession → Type 0
 IsSessionStatus status answer = (status ≡ session_status answer.end) ⊎ ((3 ≤ status) × (status ≤ 6))
 
 -- the session was cut short with this status
@@ -40,7 +40,7 @@ pub record TellsSessionEnd (status : ℕ) (old new : Option (List ℕ)) (settled
   pub noted : Noted old new settled' faults faults' (session_note end)
 
 -- the answer's status, or want of memory
-abbrev pub IsSessionAnswered : ℕ → SessionAnswer → Type 0
+abbrev pub IsSessionAnswered : ℕ → EndedSession → Type 0
 IsSessionAnswered status answer = (status ≡ session_status answer.end) ⊎ (status ≡ 5)
 
 -- nothing was asked of a keeper

@@ -2,19 +2,20 @@
 use Rattle.std.specs.Prelude.{ℕ, zero, suc, ◌+◌, ◌*◌, ◌/◌, List, [], ◌∷◌, length, map, get_or, codes, decimal, ℤ, pos, ◌+ℤ◌}
 use Rattle.std.specs.List.{concat}
 use Rattle.std.specs.Fmt.{signed_decimal}
+use Rattle.catalogue_form.specs.Columns.{cells_in_row, flux_place}
 use Rattle.survey_core.specs.declared.listing.Summary.{Summary}
 use Rattle.survey_core.specs.Tables.{Table}
 
 -- cell c, from 0, of row i, from 0
 abbrev pub table_cell : List ℤ → ℕ → ℕ → ℤ
-table_cell cells i c = get_or cells (17 * i + c) (pos 0)
+table_cell cells i c = get_or cells (cells_in_row * i + c) (pos 0)
 
 -- how many rows
 abbrev pub rows_in : List ℤ → ℕ
-rows_in cells = length cells / 17
+rows_in cells = length cells / cells_in_row
 
 abbrev pub flux_at : List ℤ → ℕ → ℤ
-flux_at cells i = table_cell cells i 4
+flux_at cells i = table_cell cells i flux_place
 
 -- the sum of the fluxes of the first n rows
 unfoldable pub flux_total : List ℤ → ℕ → ℤ

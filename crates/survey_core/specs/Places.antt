@@ -6,12 +6,12 @@ use Rattle.survey_core.specs.declared.mem_keeper.Entry.{Entry}
 use Rattle.survey_core.specs.Fields.{name_cmp}
 
 -- the first of these, if there is one, has the field, or a later one
-abbrev pub Begins : List Entry → List ℕ → Bool → Type 0
-Begins [] field found = found ≡ false
-Begins (e ∷ rest) field true = name_cmp e.field field ≡ Equal
-Begins (e ∷ rest) field false = name_cmp e.field field ≡ Greater
+abbrev pub BelongsAtFront : List Entry → List ℕ → Bool → Type 0
+BelongsAtFront [] field found = found ≡ false
+BelongsAtFront (e ∷ rest) field true = name_cmp e.field field ≡ Equal
+BelongsAtFront (e ∷ rest) field false = name_cmp e.field field ≡ Greater
 
 pub record IsPlace (entries : List Entry) (field : List ℕ) (at : ℕ) (found : Bool) : Type 0 where
   pub inside : at ≤ length entries
   pub before : AllByRecursion (λ e. name_cmp e.field field ≡ Less) (take at entries)
-  pub here : Begins (drop at entries) field found
+  pub here : BelongsAtFront (drop at entries) field found

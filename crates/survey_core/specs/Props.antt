@@ -1,25 +1,21 @@
--- Model: laws on tables: two lists of them are equal in one way at most, and facts on them have one proof at most. So the facts come out of a
--- truncated invariant, and may stand in a ghost field.
+-- Bookkeeping: facts on tables have one proof at most, so they come out of a truncated invariant, and may stand in a ghost field.
 use Rattle.std.proofs.Common.{◌≡◌, ℕ, ◌*◌, ◌+◌, ◌%◌, ◌<◌, ℤ, pos, List, [], ◌∷◌, length, slice_get, Some, Ordering, Less}
 use Rattle.std.specs.List.{AllByRecursion}
-use Rattle.std.specs.Coded.{coded_ℕ, coded_ℤ, coded_list, coded×}
 use Rattle.std.specs.contracts.cmp.Ordering as ordering
 use Rattle.std.proofs.Props.{props}
 use base.Stored.{Coded-set}
 use mathlib.Core.Bool.{Bool-set}
 use mathlib.Core.HLevel.{×_prop, Unit-prop}
+use Rattle.catalogue_form.specs.Columns.{cells_in_row}
 use Rattle.survey_core.specs.Tables.{Table, IsNumbered, IsFieldTable, AreInOrder, AreTables}
-
-pub tables_set : IsSet (List Table)
-tables_set = Coded-set (coded_list (coded× (coded_list coded_ℕ) (coded_list coded_ℤ)))
 
 Ordering-set : IsSet Ordering
 Ordering-set = Coded-set ordering.the_row.coded
 
 IsNumbered-prop : (cells : List ℤ) → IsProp (IsNumbered cells)
 IsNumbered-prop cells x y =
-    let whole_prop : IsProp (length cells % 17 ≡ 0) = hlevel props in
-    let numbers_prop : IsProp ((i : ℕ) → 17 * i < length cells → slice_get cells (17 * i) ≡ Some (pos (i + 1))) = hlevel props in
+    let whole_prop : IsProp (length cells % cells_in_row ≡ 0) = hlevel props in
+    let numbers_prop : IsProp ((i : ℕ) → cells_in_row * i < length cells → slice_get cells (cells_in_row * i) ≡ Some (pos (i + 1))) = hlevel props in
     λ i. record {
       whole = whole_prop x.whole y.whole i;
       numbers = numbers_prop x.numbers y.numbers i;

@@ -5,6 +5,7 @@ use Rattle.std.specs.Option.{option_to_list}
 use Rattle.std.specs.Fmt.{signed_decimal}
 use Rattle.std.specs.declared.cmp.Ordering.{Ordering}
 use Rattle.std.specs.Ordering.{int_cmp, then_cmp, flip_args, on, is_lt}
+use Rattle.catalogue_form.specs.Columns.{number_place, flux_place, xcen_place, ycen_place}
 use Rattle.survey_core.specs.declared.ranking.Row.{Row}
 use Rattle.survey_core.specs.Fields.{name_cmp}
 use Rattle.survey_core.specs.Tables.{Table}
@@ -13,7 +14,13 @@ use Rattle.survey_core.specs.Listings.{table_cell, rows_in}
 -- what is printed of row i, from 0, of a field
 unfoldable pub ranking_row : List ℕ → List ℤ → ℕ → Row
 ranking_row field cells i =
-    record { field = field; number = table_cell cells i 0; flux = table_cell cells i 4; xcen = table_cell cells i 12; ycen = table_cell cells i 13 }
+    record {
+      field = field;
+      number = table_cell cells i number_place;
+      flux = table_cell cells i flux_place;
+      xcen = table_cell cells i xcen_place;
+      ycen = table_cell cells i ycen_place;
+    }
 
 unfoldable pub rows_of : Table → List Row
 rows_of t = map (ranking_row t.0 t.1) (range_with_len 0 (rows_in t.1))
@@ -26,12 +33,12 @@ all_rows tables = flat_map rows_of tables
 abbrev pub row_cmp : Row → Row → Ordering
 row_cmp = then_cmp (flip_args (on (λ r. r.flux) int_cmp)) (then_cmp (on (λ r. r.field) name_cmp) (on (λ r. r.number) int_cmp))
 
-abbrev pub comes_before : Row → Row → Bool
-comes_before a b = is_lt (row_cmp a b)
+abbrev pub ranks_before : Row → Row → Bool
+ranks_before a b = is_lt (row_cmp a b)
 
 -- how many rows come before this one
 abbrev pub place_in : List Row → Row → ℕ
-place_in rows row = length (filter (λ other. comes_before other row) rows)
+place_in rows row = length (filter (λ other. ranks_before other row) rows)
 
 -- the row before which exactly p rows come
 unfoldable pub at_place : List Row → ℕ → Option Row

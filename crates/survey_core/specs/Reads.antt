@@ -3,11 +3,18 @@ use Rattle.std.specs.Prelude.{◌≡◌, ℕ, ◌*◌, ◌<◌, List, take, leng
 use Rattle.std.specs.declared.option.Option.{Option}
 use Rattle.dev_io.specs.Causes.{Rose}
 use Rattle.dev_io.specs.Streams.{Takes, TakesAtMost}
+use Rattle.catalogue_form.specs.Columns.{catalogue_columns, bytes_in_row}
+use Rattle.catalogue_form.specs.Rows.{table_cells}
 use Rattle.survey_core.specs.declared.fault.Stop.{Stop}
 use Rattle.survey_core.specs.declared.fault.Stop.TheVariants.{Refused, ReadFault, WriteFault, NoMemory, KeeperFault}
 use Rattle.survey_core.specs.declared.fault.Fault.TheVariants.{TruncatedTable}
-use Rattle.survey_core.specs.Catalogues.{Reading, accepted, rejected, taken_of, table_cells}
+use Rattle.survey_core.specs.Catalogues.{Reading, accepted, rejected}
 use Rattle.survey_core.specs.Steps.{MayLackBefore}
+
+-- how many bytes are taken
+abbrev pub taken_of : Reading → ℕ
+taken_of (accepted cells taken) = taken
+taken_of (rejected stop taken) = taken
 
 -- what stands behind a stop of a reading: the count of the source rose, or the bytes or want of memory
 abbrev pub ReadCause : ℕ → ℕ → Stop → Type 0
@@ -18,22 +25,22 @@ ReadCause faults faults' NoMemory = Unit {0}
 ReadCause faults faults' KeeperFault = ⊥
 
 -- so many bytes of a table were to be read, and its end came before, or some of them are gone
-abbrev pub Short : List ℕ → ℕ → Option (List ℕ) → Stop → Type 0
-Short bytes size left (Refused fault) = (fault ≡ TruncatedTable) × (length bytes < size) × Takes bytes left (length bytes)
-Short bytes size left ReadFault = TakesAtMost bytes left size
-Short bytes size left WriteFault = ⊥
-Short bytes size left NoMemory = TakesAtMost bytes left size
-Short bytes size left KeeperFault = ⊥
+abbrev pub IsCutWithin : List ℕ → ℕ → Option (List ℕ) → Stop → Type 0
+IsCutWithin bytes size left (Refused fault) = (fault ≡ TruncatedTable) × (length bytes < size) × Takes bytes left (length bytes)
+IsCutWithin bytes size left ReadFault = TakesAtMost bytes left size
+IsCutWithin bytes size left WriteFault = ⊥
+IsCutWithin bytes size left NoMemory = TakesAtMost bytes left size
+IsCutWithin bytes size left KeeperFault = ⊥
 
 -- the next row was read
 pub record IsRow (bytes : List ℕ) (left : Option (List ℕ)) (row : List ℕ) : Type 0 where
-  pub row_is : row ≡ take 96 bytes
-  pub takes : Takes bytes left 96
+  pub row_is : row ≡ take bytes_in_row bytes
+  pub takes : Takes bytes left bytes_in_row
 
 -- so many rows were read
 pub record AreTableRows (bytes : List ℕ) (count : ℕ) (left : Option (List ℕ)) (cells : List ℤ) : Type 0 where
-  pub cells_are : cells ≡ table_cells bytes count
-  pub takes : Takes bytes left (96 * count)
+  pub cells_are : cells ≡ table_cells catalogue_columns bytes count
+  pub takes : Takes bytes left (bytes_in_row * count)
 
 -- memory may be wanted before this is found
 abbrev pub MayLackIn : Reading → Type 0

@@ -5,7 +5,7 @@ use Rattle.survey_core.specs.declared.words.Command.TheVariants.{Add, Drop, List
 use Rattle.survey_core.specs.declared.fault.Stop.{Stop}
 use Rattle.survey_core.specs.declared.fault.Stop.TheVariants.{Refused}
 use Rattle.survey_core.specs.declared.fault.Fault.TheVariants.{NoSuchField}
-use Rattle.survey_core.specs.Tables.{Table, cells_of_field, put, without}
+use Rattle.survey_core.specs.Tables.{Table, cells_of_field, put, without_field}
 use Rattle.survey_core.specs.Catalogues.{Reading, accepted, rejected, catalogue_in}
 use Rattle.survey_core.specs.Listings.{list_lines}
 use Rattle.survey_core.specs.Ranking.{brightest_lines}
@@ -40,7 +40,7 @@ added field tables (rejected stop taken) = fails stop taken tables
 -- what one command does
 abbrev pub effect : List ℕ → List Table → Command → Outcome
 effect bytes tables (Add field) = added field tables (catalogue_in bytes)
-effect bytes tables (Drop field) = if is_some (cells_of_field field tables) then changes 0 (without field tables) else fails (Refused NoSuchField) 0 tables
+effect bytes tables (Drop field) = if is_some (cells_of_field field tables) then changes 0 (without_field field tables) else fails (Refused NoSuchField) 0 tables
 effect bytes tables Listing = prints (list_lines tables) tables
 effect bytes tables (Brightest count) = prints (brightest_lines tables count) tables
 

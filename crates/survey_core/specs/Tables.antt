@@ -1,19 +1,20 @@
 -- Model: the tables of a survey: a finite map from fields to the cells of their catalogues, as the list of its entries in the order of their fields.
-use Rattle.std.specs.Prelude.{ℕ, ◌*◌, ◌+◌, ◌%◌, ◌<◌, ◌≡◌, ◌⊎◌, ℤ, pos, true, not, if◌then◌else◌}
+use Rattle.std.specs.Prelude.{ℕ, ◌*◌, ◌+◌, ◌%◌, ◌<◌, ◌≡◌, ℤ, pos, true, not, if◌then◌else◌}
 use Rattle.std.specs.Prelude.{List, [], ◌∷◌, length, map, filter, slice_get, Option, Some, None, ⊤}
 use Rattle.std.specs.declared.cmp.Ordering.TheVariants.{Less}
 use Rattle.std.specs.List.{AllByRecursion}
 use Rattle.std.specs.Ordering.{is_eq, match_ordering}
+use Rattle.catalogue_form.specs.Columns.{cells_in_row}
 use Rattle.survey_core.specs.Fields.{is_name, name_cmp}
 
 -- a field, and its cells
 abbrev pub Table : Type 0
 Table = List ℕ × List ℤ
 
--- whole rows of 17 cells, each of which begins with its number, counted from 1
+-- the cells of whole rows, each of which begins with its number, counted from 1
 pub record IsNumbered (cells : List ℤ) : Type 0 where
-  pub whole : length cells % 17 ≡ 0
-  pub numbers : (i : ℕ) → 17 * i < length cells → slice_get cells (17 * i) ≡ Some (pos (i + 1))
+  pub whole : length cells % cells_in_row ≡ 0
+  pub numbers : (i : ℕ) → cells_in_row * i < length cells → slice_get cells (cells_in_row * i) ≡ Some (pos (i + 1))
 
 abbrev pub IsFieldTable : Table → Type 0
 IsFieldTable t = (is_name t.0 ≡ true) × IsNumbered t.1
@@ -37,13 +38,8 @@ put field cells [] = (field, cells) ∷ []
 put field cells (t ∷ ts) = match_ordering (name_cmp t.0 field) (t ∷ put field cells ts) ((field, cells) ∷ ts) ((field, cells) ∷ t ∷ ts)
 
 -- the tables without this field
-abbrev pub without : List ℕ → List Table → List Table
-without field = filter (λ t. not (is_eq (name_cmp t.0 field)))
+abbrev pub without_field : List ℕ → List Table → List Table
+without_field field = filter (λ t. not (is_eq (name_cmp t.0 field)))
 
 abbrev pub names_of : List Table → List (List ℕ)
 names_of = map (λ t. t.0)
-
--- one of them is this
-abbrev pub Among : {X : Type 0} → List X → X → Type 0
-Among [] x = ⊥
-Among (y ∷ ys) x = (x ≡ y) ⊎ Among ys x

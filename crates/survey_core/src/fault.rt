@@ -1,6 +1,7 @@
 // Why a command stops.
 ghost use Rattle.std.specs.Prelude.{◌≡◌, ◌≤◌, length};
-ghost use Rattle.survey_core.specs.Faults.{survey_fault_number, survey_fault_name, survey_stop_at_hdu, stop_at_keeper};
+ghost use Rattle.survey_core.specs.Faults.{survey_fault_number, survey_fault_name, survey_stop_at_hdu};
+ghost use Rattle.survey_core.specs.Stops.{stop_at_keeper};
 
 use crate::Refused;
 use fits_hdu::HduFault;

@@ -2,7 +2,9 @@
 ghost use Rattle.std.specs.Prelude.{◌≡◌, ◌≤◌, ◌*◌, ◌^◌, ℕ, List, length, map, IfOk, OnOk, OnErr, IfSome, is_some};
 ghost use Rattle.std.specs.declared.option.Option.{Option};
 ghost use Rattle.std.specs.Option.{option_map};
-ghost use Rattle.survey_core.specs.Tables.{Table, IsNumbered, AreTables, cells_of_field, put, without, names_of};
+ghost use Rattle.catalogue_form.specs.Columns.{cells_in_row};
+ghost use Rattle.survey_core.specs.Catalogues.{most_rows};
+ghost use Rattle.survey_core.specs.Tables.{Table, IsNumbered, AreTables, cells_of_field, put, without_field, names_of};
 ghost use Rattle.survey_core.specs.Clauses.{Becomes, Stays, HasFault};
 
 use crate::Field;
@@ -27,14 +29,14 @@ pub trait Keeper {
     /// Gives the field these cells, in place of any that it has.
     fn replace(&mut self, alloc: Global, field: Field, cells: &[i64]) -> Result<(), Refused>
         requires numbered { IsNumbered cells.now }
-        requires few { length cells.now ≤ 17 * 2 ^ 20 }
+        requires few { length cells.now ≤ cells_in_row * most_rows }
         ensures done { OnOk result (Becomes (tables self.old) (tables self.new) (put field cells.now)) }
         ensures kept { OnErr result (Stays (tables self.old) (tables self.new)) }
         ensures cause { HasFault (faults self.old) (faults self.new) result };
 
     /// Takes the field out, and answers whether it was there.
     fn remove(&mut self, alloc: Global, field: Field) -> Result<bool, Refused>
-        ensures done { OnOk result (Becomes (tables self.old) (tables self.new) (without field)) }
+        ensures done { OnOk result (Becomes (tables self.old) (tables self.new) (without_field field)) }
         ensures found { IfOk result (λ found. IfSome (tables self.old) (λ tables. found ≡ is_some (cells_of_field field tables))) }
         ensures kept { OnErr result (Stays (tables self.old) (tables self.new)) }
         ensures cause { HasFault (faults self.old) (faults self.new) result };

@@ -10,12 +10,14 @@ ghost use Rattle.survey_core.specs.Clauses.{Stays};
 ghost use Rattle.survey_core.specs.KeeperCalls.{KeeperCause};
 ghost use Rattle.survey_core.specs.Listings.{rows_in, flux_total, table_summary, summary_line};
 ghost use Rattle.survey_core.specs.Sessions.{effect};
-ghost use Rattle.survey_core.specs.Steps.{Step, Cause, SettledBy};
+ghost use Rattle.survey_core.specs.Steps.{Cause};
+ghost use Rattle.survey_core.specs.Carrying.{Step, SettledBy};
 
-use crate::catalogue::{COLUMNS, FLUX, cell};
+use crate::catalogue::cell;
 use crate::fault::Stop;
 use crate::words::Command;
 use crate::{Field, Keeper};
+use catalogue_form::{CELLS_IN_ROW, FLUX};
 use command_line::lines::add_all;
 use dev_io::{Block, Failed, Sink};
 use itoa::Buffer;
@@ -36,7 +38,7 @@ fn flux_total(cells: &[i64]) -> i128
     ensures { result ≡ flux_total cells.now (rows_in cells.now) }
 {
     let mut total = 0;
-    for row in 0..cells.len() / COLUMNS {
+    for row in 0..cells.len() / CELLS_IN_ROW {
         total += i128::from(cell(cells, row, FLUX));
     }
     total
@@ -48,7 +50,7 @@ fn summary_of(field: Field, cells: &[i64]) -> Summary
 {
     Summary {
         field,
-        rows: cells.len() / COLUMNS,
+        rows: cells.len() / CELLS_IN_ROW,
         flux: flux_total(cells),
     }
 }
@@ -67,7 +69,7 @@ pub(crate) fn names<K: Keeper>(alloc: Global, keeper: &mut K) -> Result<Vec<Fiel
 }
 
 /// The cells of the field; none where it isn't there.
-pub(crate) fn cells_of<K: Keeper>(
+pub(crate) fn cells_kept<K: Keeper>(
     alloc: Global,
     keeper: &mut K,
     field: Field,
@@ -96,7 +98,7 @@ fn summarize<K: Keeper>(alloc: Global, keeper: &mut K) -> Result<Vec<Summary>, S
     };
     let mut summaries = Vec::new(alloc);
     for name in &names {
-        let cells = match cells_of(alloc, keeper, name.copy()) {
+        let cells = match cells_kept(alloc, keeper, name.copy()) {
             Ok(cells) => cells,
             Err(stop) => return Err(stop),
         };

@@ -2,8 +2,10 @@
 ghost use Rattle.std.specs.Prelude.{◌≡◌, ◌<◌, ◌≤◌, ◌+◌, ◌*◌, ◌^◌, ◌-◌, List, [], length, take, drop, min, map, slice_get, true, false, Some, None, IfSome, IfOk, OnOk, OnErr, IsTrue, is_err, is_some, if◌then◌else◌, slice_set, slice_index_or, ◌==◌};
 ghost use Rattle.std.specs.List.{AllByRecursion, list_any};
 ghost use Rattle.std.specs.Option.{option_map};
+ghost use Rattle.catalogue_form.specs.Columns.{cells_in_row};
+ghost use Rattle.survey_core.specs.Catalogues.{most_rows};
 ghost use Rattle.survey_core.specs.Fields.{name_cmp, is_name};
-ghost use Rattle.survey_core.specs.Tables.{AreTables, AreInOrder, IsNumbered, put, without, cells_of_field, names_of};
+ghost use Rattle.survey_core.specs.Tables.{AreTables, AreInOrder, IsNumbered, put, without_field, cells_of_field, names_of};
 ghost use Rattle.survey_core.specs.Clauses.{Becomes, Stays, HasFault};
 ghost use Rattle.survey_core.specs.Props.{AreTables-prop};
 ghost use Rattle.survey_core.specs.Places.{IsPlace};
@@ -68,7 +70,7 @@ fn set_cells(entries: &mut [Entry], at: usize, cells: Vec<i64>)
 /// Takes the field out, and answers whether it was there.
 fn drop_entry(entries: &mut Vec<Entry>, field: &Field) -> bool
     requires { AreInOrder (tables_kept entries.old.items) }
-    ensures done { tables_kept entries.new.items ≡ without field.now (tables_kept entries.old.items) }
+    ensures done { tables_kept entries.new.items ≡ without_field field.now (tables_kept entries.old.items) }
     ensures found { result ≡ is_some (cells_of_field field.now (tables_kept entries.old.items)) }
 {
     let (at, found) = place(entries, field);
@@ -147,7 +149,7 @@ fn is_among(number: u64, numbers: &[u32]) -> bool
 }
 
 impl Keeper for MemKeeper<'_> {
-    ghost use Rattle.survey_core.specs.Counted.{kept_tables, keeper_faults, IsCounted};
+    ghost use Rattle.survey_core.specs.Counted.{kept_tables, keeper_faults, IsKeeperCall};
 
     ghost tables = { λ k. Some (kept_tables k) };
 
@@ -155,12 +157,12 @@ impl Keeper for MemKeeper<'_> {
 
     fn replace(&mut self, alloc: Global, field: Field, cells: &[i64]) -> Result<(), Refused>
         requires numbered { IsNumbered cells.now }
-        requires few { length cells.now ≤ 17 * 2 ^ 20 }
+        requires few { length cells.now ≤ cells_in_row * most_rows }
         ensures done { OnOk result (Becomes (Some (kept_tables self.old)) (Some (kept_tables self.new)) (put field cells.now)) }
         ensures kept { OnErr result (Stays (Some (kept_tables self.old)) (Some (kept_tables self.new))) }
         ensures cause { HasFault (keeper_faults self.old) (keeper_faults self.new) result }
         // It fails where its number is one of those, and at no other call.
-        ensures counted { IsCounted self.old self.new result }
+        ensures counted { IsKeeperCall self.old self.new result }
     {
         if self.fails() {
             return Err(Refused::Fault);
@@ -176,12 +178,12 @@ impl Keeper for MemKeeper<'_> {
     }
 
     fn remove(&mut self, _alloc: Global, field: Field) -> Result<bool, Refused>
-        ensures done { OnOk result (Becomes (Some (kept_tables self.old)) (Some (kept_tables self.new)) (without field)) }
+        ensures done { OnOk result (Becomes (Some (kept_tables self.old)) (Some (kept_tables self.new)) (without_field field)) }
         ensures found { IfOk result (λ found. IfSome (Some (kept_tables self.old)) (λ tables. found ≡ is_some (cells_of_field field tables))) }
         ensures kept { OnErr result (Stays (Some (kept_tables self.old)) (Some (kept_tables self.new))) }
         ensures cause { HasFault (keeper_faults self.old) (keeper_faults self.new) result }
         // It fails where its number is one of those, and at no other call.
-        ensures counted { IsCounted self.old self.new result }
+        ensures counted { IsKeeperCall self.old self.new result }
     {
         if self.fails() {
             return Err(Refused::Fault);
@@ -194,7 +196,7 @@ impl Keeper for MemKeeper<'_> {
         ensures kept { Stays (Some (kept_tables self.old)) (Some (kept_tables self.new)) }
         ensures cause { HasFault (keeper_faults self.old) (keeper_faults self.new) result }
         // It fails where its number is one of those, and at no other call.
-        ensures counted { IsCounted self.old self.new result }
+        ensures counted { IsKeeperCall self.old self.new result }
     {
         if self.fails() {
             return Err(Refused::Fault);
@@ -213,7 +215,7 @@ impl Keeper for MemKeeper<'_> {
         ensures kept { Stays (Some (kept_tables self.old)) (Some (kept_tables self.new)) }
         ensures cause { HasFault (keeper_faults self.old) (keeper_faults self.new) result }
         // It fails where its number is one of those, and at no other call.
-        ensures counted { IsCounted self.old self.new result }
+        ensures counted { IsKeeperCall self.old self.new result }
     {
         if self.fails() {
             return Err(Refused::Fault);

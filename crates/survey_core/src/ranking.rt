@@ -5,19 +5,22 @@ ghost use Rattle.std.specs.List.{concat};
 ghost use Rattle.dev_io.specs.Causes.{HasCause};
 ghost use Rattle.dev_io.specs.Streams.{PutAppends, AppendsPrefix};
 ghost use Rattle.dev_io.specs.Blocks.{Moves};
+ghost use Rattle.catalogue_form.specs.Columns.{cells_in_row};
 ghost use Rattle.survey_core.specs.Tables.{Table};
 ghost use Rattle.survey_core.specs.Clauses.{Stays};
 ghost use Rattle.survey_core.specs.KeeperCalls.{KeeperCause};
-ghost use Rattle.survey_core.specs.Ranking.{ranking_row, rows_of, all_rows, comes_before, ranked, row_line};
+ghost use Rattle.survey_core.specs.Ranking.{ranking_row, rows_of, all_rows, ranks_before, ranked, row_line};
 ghost use Rattle.survey_core.specs.Ranks.{AreRanked, with_row, with_rows};
 ghost use Rattle.survey_core.specs.Sessions.{effect};
-ghost use Rattle.survey_core.specs.Steps.{Step, Cause, SettledBy};
+ghost use Rattle.survey_core.specs.Steps.{Cause};
+ghost use Rattle.survey_core.specs.Carrying.{Step, SettledBy};
 
-use crate::catalogue::{COLUMNS, FLUX, NUMBER, XCEN, YCEN, cell};
+use crate::catalogue::cell;
 use crate::fault::Stop;
-use crate::listing::{cells_of, names};
+use crate::listing::{cells_kept, names};
 use crate::words::Command;
 use crate::{Field, Keeper};
+use catalogue_form::{CELLS_IN_ROW, FLUX, NUMBER, XCEN, YCEN};
 use command_line::lines::add_all;
 use dev_io::{Block, Failed, OutOfMemory, Sink};
 use itoa::Buffer;
@@ -35,8 +38,8 @@ pub(crate) struct Row {
 }
 
 // By the greater flux, then by the lesser field, then by the lesser number.
-fn comes_before(a: &Row, b: &Row) -> bool
-    ensures { result ≡ comes_before a.now b.now }
+fn ranks_before(a: &Row, b: &Row) -> bool
+    ensures { result ≡ ranks_before a.now b.now }
 {
     let order = b
         .flux
@@ -47,8 +50,8 @@ fn comes_before(a: &Row, b: &Row) -> bool
 }
 
 #[tactic(auto, unfolding(crate::specs::Ranking::ranking_row))]
-fn row_of(field: &Field, cells: &[i64], row: usize) -> Row
-    requires { 17 * row + 17 ≤ length cells.now }
+fn ranking_row(field: &Field, cells: &[i64], row: usize) -> Row
+    requires { cells_in_row * row + cells_in_row ≤ length cells.now }
     ensures { result ≡ ranking_row field.now cells.now row }
 {
     Row {
@@ -63,11 +66,11 @@ fn row_of(field: &Field, cells: &[i64], row: usize) -> Row
 // The place of the row among the best: behind those that it doesn't come before.
 fn place_of(best: &[Row], row: &Row) -> usize
     ensures within { result ≤ length best.now }
-    ensures behind { 0 < result → (d : Row) → comes_before row.now (get_or best.now (result - 1) d) ≡ false }
-    ensures before { (i : ℕ) (d : Row) → result ≤ i → i < length best.now → comes_before row.now (get_or best.now i d) ≡ true }
+    ensures behind { 0 < result → (d : Row) → ranks_before row.now (get_or best.now (result - 1) d) ≡ false }
+    ensures before { (i : ℕ) (d : Row) → result ≤ i → i < length best.now → ranks_before row.now (get_or best.now i d) ≡ true }
 {
     let mut place = best.len();
-    while place > 0 && comes_before(row, &best[place - 1]) {
+    while place > 0 && ranks_before(row, &best[place - 1]) {
         place -= 1;
     }
     place
@@ -100,8 +103,8 @@ fn rank_all(
     ensures { (rows : List Row) → AreRanked rows → best.old.items ≡ take most rows →
         OnOk result (best.new.items ≡ take most (with_rows (rows_of (field.now, cells.now)) rows)) }
 {
-    for row in 0..cells.len() / COLUMNS {
-        if let Err(wanted) = rank(best, most, row_of(field, cells, row)) {
+    for row in 0..cells.len() / CELLS_IN_ROW {
+        if let Err(wanted) = rank(best, most, ranking_row(field, cells, row)) {
             return Err(wanted);
         }
     }
@@ -121,7 +124,7 @@ fn best_rows<K: Keeper>(alloc: Global, keeper: &mut K, most: usize) -> Result<Ve
     };
     let mut best = Vec::new(alloc);
     for name in &names {
-        let cells = match cells_of(alloc, keeper, name.copy()) {
+        let cells = match cells_kept(alloc, keeper, name.copy()) {
             Ok(cells) => cells,
             Err(stop) => return Err(stop),
         };

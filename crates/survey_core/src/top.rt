@@ -8,10 +8,11 @@ ghost use Rattle.dev_io.specs.Streams.{Takes};
 ghost use Rattle.command_line.specs.Lines.{texts};
 ghost use Rattle.survey_core.specs.Commands.{read, commands_of};
 ghost use Rattle.survey_core.specs.Sessions.{effect};
-ghost use Rattle.survey_core.specs.Steps.{Step, Cause, SettledBy, HasCount, is_printing};
+ghost use Rattle.survey_core.specs.Steps.{Cause, is_printing};
+ghost use Rattle.survey_core.specs.Carrying.{Step, SettledBy, HasCount};
 ghost use Rattle.command_line.specs.Notes.{usage_line};
 ghost use Rattle.survey_core.specs.Answers.{session_answer, session_status, session_note};
-ghost use Rattle.survey_core.specs.Runs.{EndTells, SessionEndCause};
+ghost use Rattle.survey_core.specs.Ends.{EndTells, SessionEndCause};
 ghost use Rattle.command_line.specs.Notes.{Noted, SourceStays};
 ghost use Rattle.survey_core.specs.Headline.{ForAnswer, IsSessionStatus, IsSessionAnswered, IsCutWith, StopsWith, TellsSessionEnd, KeeperStays, SinkStays};
 

@@ -4,7 +4,7 @@ ghost use Rattle.std.specs.Str.{bytes_eq};
 ghost use Rattle.std.specs.Option.{option_map, option_to_list};
 ghost use Rattle.command_line.specs.Lines.{texts};
 ghost use Rattle.survey_core.specs.Commands.{width, field_read, count_in, number_in, session_command, front, some_commands, path_of, file_words, commands_of};
-ghost use Rattle.survey_core.specs.Steps.{HasCount};
+ghost use Rattle.survey_core.specs.Carrying.{HasCount};
 
 use crate::Field;
 use command_line::numbers::number_between;

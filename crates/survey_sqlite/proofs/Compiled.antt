@@ -17,7 +17,8 @@ use Rattle.sqlite.specs.Command.{Command}
 use Rattle.sqlite.specs.Listing.{understood, reads_listing}
 use Rattle.sqlite.proofs.Callers.{IsPlain, command_of, statement_of}
 use Rattle.sqlite_tied.specs.Compute.{everything}
-use Rattle.survey_sqlite.specs.Texts.{create_text, replace_text, remove_text, names_text, rows_text, no_schema, source, source_schema}
+use Rattle.survey_sqlite.specs.Statements.{no_schema, create_text, replace_text, remove_text, names_text, rows_text}
+use Rattle.survey_sqlite.specs.Schemas.{source, source_schema}
 
 abbrev pub all_of : Query → Query
 all_of q = record q { group = None; distinct = false; collations = []; limit = lit (Int (negsuc 0)); offset = lit (Int (pos 0)) }

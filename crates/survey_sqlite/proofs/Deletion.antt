@@ -20,7 +20,7 @@ use Rattle.sqlite_schema.specs.declared.schema.Keys.TheVariants.{Enforced}
 use Rattle.sqlite.specs.Rows.{Written, Task, Then, Edited, Gives, Deletes}
 use Rattle.sqlite.proofs.Callers.{one_step}
 use Rattle.survey_core.specs.Fields.{name_cmp}
-use Rattle.survey_sqlite.specs.Texts.{source, source_schema}
+use Rattle.survey_sqlite.specs.Schemas.{source, source_schema}
 use Rattle.survey_sqlite.specs.Source.{row_field, IsFormed, AreFieldRows}
 use Rattle.survey_sqlite.proofs.Compiled.{simple_query, alone, has_field}
 use Rattle.survey_sqlite.proofs.RowLemmas.{Removes, IsRowOf, find_row}

@@ -1,5 +1,5 @@
 -- What the query for the names of the fields answers.
-use Rattle.std.proofs.Common.{◌≡◌, ◌≢◌, inl, inr, ℕ, ◌+◌, ◌≤◌, Bool, true, false, cond, List, [], ◌∷◌, map, refl, sym, ap, ap₂, subst, subst₂, ◌∙◌, arith, Ordering, Less, Equal, Greater, is_eq, is_gt}
+use Rattle.std.proofs.Common.{◌≡◌, ◌≢◌, inl, inr, ℕ, ◌+◌, ◌≤◌, true, false, List, [], ◌∷◌, map, refl, sym, ap, ap₂, subst, subst₂, ◌∙◌, arith, Ordering, Less, Equal, Greater, is_eq, is_gt}
 use Rattle.std.specs.Prelude.{sum_by}
 use Rattle.std.specs.List.{AllByRecursion}
 use Rattle.std.proofs.lemmas.List.Sums.{sum_by-cons}
@@ -23,9 +23,10 @@ use Rattle.sqlite_rules.specs.Lists.{Has}
 use Rattle.sqlite_rules.proofs.ListLemmas.{all_has, all_from, has_contained, contains_had}
 use Rattle.sqlite.specs.Effect.{Database, Reads}
 use Rattle.survey_core.specs.Fields.{name_cmp}
-use Rattle.survey_core.specs.Tables.{Table, AreInOrder, Among}
-use Rattle.survey_core.proofs.Exported.{same_name, name_itself, same_tables}
+use Rattle.survey_core.specs.Tables.{Table, AreInOrder}
+use Rattle.survey_core.proofs.Exported.{Among, same_name, name_itself, same_tables}
 use Rattle.survey_core.proofs.Exported as core
+use Rattle.lemmas.proofs.Exported.{one_if}
 use Rattle.survey_sqlite.specs.Source.{row_field, entry, IsFormed, AreFieldRows, tables_in}
 use Rattle.survey_sqlite.proofs.Compiled.{simple_query, names_command}
 use Rattle.survey_sqlite.proofs.RowLemmas.{tables_ordered, table_from, table_there}
@@ -45,9 +46,6 @@ strip o = (name_of o, [])
 
 abbrev out_of : Row → Output
 out_of r = (column r 1 ∷ [], column r 1 ∷ [])
-
-abbrev one_if : Bool → ℕ
-one_if b = cond b 1 0
 
 abbrev count : List ℕ → List Output → ℕ
 count f = sum_by (λ o. one_if (is_eq (name_cmp (name_of o) f)))

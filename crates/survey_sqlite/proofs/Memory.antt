@@ -8,9 +8,15 @@ use Rattle.sqlite.specs.State.{HasCleanDisk}
 use Rattle.sqlite_trees.specs.declared.memory.MemStore.{MemStore}
 use Rattle.sqlite.proofs.Callers.{memory_is_clean}
 use Rattle.survey_core.specs.Tables.{Table}
-use Rattle.survey_core.specs.Props.{tables_set}
-use Rattle.survey_sqlite.specs.Steps.{Turns, StaysOpen, tables_of}
+use Rattle.std.specs.Coded.{coded_ℕ, coded_ℤ, coded_list, coded×}
+use base.Stored.{Coded-set}
+use Rattle.survey_sqlite.specs.Steps.{tables_of}
+use Rattle.survey_sqlite.specs.Calls.{Turns, StaysOpen}
 use Rattle.survey_sqlite.specs.Keepers.{tables_held, Rests}
+
+-- two lists of tables are equal in one way at most
+tables_set : IsSet (List Table)
+tables_set = Coded-set (coded_list (coded× (coded_list coded_ℕ) (coded_list coded_ℤ)))
 
 still_open : (a b : Held MemStore) → StaysOpen (state over_memory a) (state over_memory b) → IsTrue (state over_memory a).is_open → IsTrue (state over_memory b).is_open
 still_open a b stays was = elim (stays (memory_is_clean b) was) [

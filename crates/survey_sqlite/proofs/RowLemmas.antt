@@ -10,8 +10,8 @@ use Rattle.std.proofs.lemmas.Cmp.{tied_itself}
 use Rattle.sqlite_rules.specs.Lists.{Has}
 use Rattle.sqlite_rules.proofs.ListLemmas.{all_has}
 use Rattle.survey_core.specs.Fields.{is_name, name_cmp}
-use Rattle.survey_core.specs.Tables.{Table, IsFieldTable as IsField, AreTables, AreInOrder, Among, cells_of_field, put, without, IsNumbered}
-use Rattle.survey_core.proofs.Exported.{put_there, put_keeps, put_from, order_put, all_put, all_from, same_tables, name_itself, without_from, without_keeps, order_without, cells_found, cells_missing, same_name}
+use Rattle.survey_core.specs.Tables.{Table, IsFieldTable as IsField, AreTables, AreInOrder, cells_of_field, put, without_field, IsNumbered}
+use Rattle.survey_core.proofs.Exported.{Among, put_there, put_keeps, put_from, order_put, all_from, same_tables, name_itself, without_from, without_keeps, order_without, cells_found, cells_missing, same_name}
 use Rattle.survey_sqlite.specs.Blobs.{blob_cells}
 use Rattle.survey_sqlite.specs.Source.{row_field, entry, tables_in, IsFormed, AreFieldRows}
 
@@ -26,7 +26,7 @@ table_from (r ∷ rows) t m = elim (put_from _ _ (tables_in rows) t (tables_orde
   | inr k ↦ let more = table_from rows t k.0 in (more.0, inr more.1, more.2)
 ]
 
-below_itself : (r : Row) → value_cmp (rowid r) (rowid r) ≡ Less → ⊥
+pub below_itself : (r : Row) → value_cmp (rowid r) (rowid r) ≡ Less → ⊥
 below_itself r h = let itself = tied_itself value_cmp_total (rowid r) in let bad : Less ≡ Equal = sym h ∙ itself in cc
 
 table_there_in : (rows : List Row) → IsTable rows → ((a b : Row) → Has rows a → Has rows b → row_field a ≡ row_field b → a ≡ b) → (r : Row) → Has rows r → Among (tables_in rows) (entry r)
@@ -100,7 +100,7 @@ module _ (rows : List Row) (are : AreFieldRows rows) (field : List ℕ) (after :
     once = λ a b p q same. are.once a b (done.from a p).0 (done.from b q).0 same;
   }
 
-  pub removed_tables : Removes rows field after → tables_in after ≡ without field (tables_in rows)
+  pub removed_tables : Removes rows field after → tables_in after ≡ without_field field (tables_in rows)
   removed_tables done = same_tables _ _ (tables_ordered after) (order_without field (tables_in rows) (tables_ordered rows))
       (λ t m. let r = table_from after t m in let k = done.from r.0 r.1 in
       without_keeps field (tables_in rows) t (subst (Among (tables_in rows)) (sym r.2) (table_there rows are r.0 k.0)) (λ same. k.1 (sym (ap (λ (v : Table). v.0) r.2) ∙ same)))

@@ -42,10 +42,10 @@ use Rattle.sqlite.specs.declared.error.Error.{Error}
 use Rattle.sqlite.proofs.Callers.{one_step}
 use Rattle.survey_core.specs.Fields.{name_cmp}
 use Rattle.survey_core.proofs.Exported.{same_name, name_itself}
-use Rattle.survey_sqlite.specs.Texts.{source, source_schema}
+use Rattle.survey_sqlite.specs.Schemas.{source, source_schema}
 use Rattle.survey_sqlite.specs.Source.{row_field, IsFormed, AreFieldRows}
 use Rattle.survey_sqlite.proofs.Compiled.{alone, update_query, upsert}
-use Rattle.survey_sqlite.proofs.RowLemmas.{Replaces}
+use Rattle.survey_sqlite.proofs.RowLemmas.{Replaces, below_itself}
 use Rattle.survey_sqlite.proofs.TestLemmas.{cast_null, cast_int, equal_texts, equal_ints, answers_one}
 
 -- a part that gave a value did not stop on the way
@@ -57,9 +57,6 @@ pub same_value : {B E : Type 0} {a b : B} → ◌≡◌ {A = Result B E} (Ok a) 
 same_value e = cc
 
 -- ---- one row of a table
-
-below_itself : (r : Row) → value_cmp (rowid r) (rowid r) ≡ Less → ⊥
-below_itself r h = let itself = tied_itself value_cmp_total (rowid r) in let bad : Less ≡ Equal = sym h ∙ itself in cc
 
 pub filter_nothing : (p : Row → Bool) (rows : List Row) → ((x : Row) → Has rows x → p x ≡ false) → filter p rows ≡ []
 filter_nothing p [] h = refl

@@ -15,11 +15,13 @@ use Rattle.sqlite.specs.Does.{Tally, Does, lacks_sequence}
 use Rattle.sqlite.specs.State.{State, mode_of, Writes, Executes, ExecutesIn, RunsAlone, RunsCommand, Shown, FailsToQuery, FailsToShow, ShowsRows, IsNotRun, IsUnchanged, IsRolledBack, HasCleanDisk, shows_rows, Opens}
 use Rattle.sqlite.proofs.Callers.{IsPlain, runs_as, reads_as, statement_of}
 use Rattle.survey_core.specs.Fields.{is_name}
-use Rattle.survey_core.specs.Tables.{IsNumbered, put, without, cells_of_field}
-use Rattle.survey_sqlite.specs.Texts.{create_text, replace_text, remove_text, rows_text, names_text, no_schema, source, source_schema}
+use Rattle.survey_core.specs.Tables.{IsNumbered, put, without_field, cells_of_field}
+use Rattle.survey_sqlite.specs.Statements.{no_schema}
+use Rattle.survey_sqlite.specs.Statements.{create_text, replace_text, remove_text, rows_text, names_text}
+use Rattle.survey_sqlite.specs.Schemas.{source, source_schema}
 use Rattle.survey_sqlite.specs.Blobs.{blob_cells}
 use Rattle.survey_sqlite.specs.Source.{AreFieldRows, IsAtRest, tables_in}
-use Rattle.survey_sqlite.specs.Steps.{Turns, CountsFound, AnswersCells, AnswersNames}
+use Rattle.survey_sqlite.specs.Calls.{Turns, CountsFound, AnswersCells, AnswersNames}
 use Rattle.survey_sqlite.proofs.Compiled.{create_is, created_is, create_plain, replace_is, replace_plain, replace_command, remove_is, remove_plain, remove_command, rows_is, rows_plain, rows_command, names_is, names_plain, names_command}
 use Rattle.survey_sqlite.proofs.RowLemmas.{Replaces, Removes, replaced_rows, replaced_tables, removed_rows, removed_tables, cells_there, cells_not_there}
 use Rattle.survey_sqlite.proofs.StatementLemmas.{went, same_value, inserts}
@@ -140,7 +142,7 @@ replace_turns old new field blob (Err e) named numbered h = (tt, turned_err old 
 -- ---- remove
 
 pub removes : (old new : State) (field : List ℕ) (count : ℕ) → IsAtRest old → Executes remove_text (Text field ∷ []) old new (Ok count)
-    → IsAtRest new × (tables_in (new.now.trees 0) ≡ without field (tables_in (old.now.trees 0))) × ((count == 1) ≡ is_some (cells_of_field field (tables_in (old.now.trees 0))))
+    → IsAtRest new × (tables_in (new.now.trees 0) ≡ without_field field (tables_in (old.now.trees 0))) × ((count == 1) ≡ is_some (cells_of_field field (tables_in (old.now.trees 0))))
 removes old new field count rest h =
     let params = Text field ∷ [] in
     let db = old.now.trees in
@@ -168,7 +170,7 @@ removes old new field count rest h =
     )
 
 pub remove_turns : (old new : State) (field : List ℕ) (r : Result ℕ Error) → (HasCleanDisk new → Executes remove_text (Text field ∷ []) old new r)
-    → OnOk r (Turns old new (without field)) × IfOk r (CountsFound old new field) × OnErr r (Turns old new (λ tables. tables))
+    → OnOk r (Turns old new (without_field field)) × IfOk r (CountsFound old new field) × OnErr r (Turns old new (λ tables. tables))
 remove_turns old new field (Ok count) h =
     (λ clean still rest. let out = removes old new field count rest (h clean) in (out.0, out.1), λ clean rest. (removes old new field count rest (h clean)).2, tt)
 remove_turns old new field (Err e) h = (tt, tt, turned_err old new remove_text _ e h)

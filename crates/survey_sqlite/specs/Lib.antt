@@ -1,7 +1,9 @@
-pub mod Texts
+pub mod Statements
+pub mod Schemas
 pub mod Blobs
 pub mod Source
 pub mod Steps
+pub mod Calls
 pub mod Keepers
 pub mod Laws
 pub mod Seen

@@ -7,7 +7,7 @@ use Rattle.sqlite.specs.State.{State}
 use Rattle.sqlite_rules.specs.Lists.{Has}
 use Rattle.survey_core.specs.Fields.{is_name}
 use Rattle.survey_core.specs.Tables.{Table, IsNumbered, put}
-use Rattle.survey_sqlite.specs.Texts.{source_schema}
+use Rattle.survey_sqlite.specs.Schemas.{source_schema}
 use Rattle.survey_sqlite.specs.Blobs.{blob_cells}
 
 abbrev pub row_field : Row → List ℕ

@@ -1,8 +1,8 @@
 //! The statements over memory, which is always clean and open.
 ghost use Rattle.std.specs.Prelude.{◌≡◌, ◌==◌, true, List, OnOk, OnErr, IfOk, Some, is_some, map, []};
-ghost use Rattle.survey_core.specs.Tables.{IsNumbered, put, without, cells_of_field};
+ghost use Rattle.survey_core.specs.Tables.{IsNumbered, put, without_field, cells_of_field};
 ghost use Rattle.survey_sqlite.specs.Blobs.{blob_cells};
-ghost use Rattle.survey_sqlite.specs.Steps.{IsCellsOf, are_names};
+ghost use Rattle.survey_sqlite.specs.Calls.{IsCellsOf, are_names};
 ghost use Rattle.survey_sqlite.specs.Keepers.{tables_held, Rests};
 
 use crate::statements::{find_blob, list_names, make_table, put_row, remove_row};
@@ -36,7 +36,7 @@ pub(crate) fn put(
 pub(crate) fn remove(conn: &mut Connection<MemStore>, field: &Field) -> Result<usize, Error>
     requires { ∥ Rests conn.old ∥₁ }
     ensures rests { ∥ Rests conn.new ∥₁ }
-    ensures done { OnOk result (tables_held (Some conn.new) ≡ without field.now (tables_held (Some conn.old))) }
+    ensures done { OnOk result (tables_held (Some conn.new) ≡ without_field field.now (tables_held (Some conn.old))) }
     ensures found { IfOk result (λ count. (count == 1) ≡ is_some (cells_of_field field.now (tables_held (Some conn.old)))) }
     ensures kept { OnErr result (tables_held (Some conn.new) ≡ tables_held (Some conn.old)) }
 {

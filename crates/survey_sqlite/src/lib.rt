@@ -8,7 +8,7 @@ mod reading;
 mod sql_keeper;
 mod statements;
 
-pub use blob::{blob_of, cells_of};
+pub use blob::{blob_of, cells_in_blob};
 pub use file_keeper::FileKeeper;
 pub use sql_keeper::SqlKeeper;
 pub use statements::make_table;

@@ -4,9 +4,10 @@ ghost use Rattle.survey_sqlite.specs.Blobs.{blob_cells};
 ghost use Rattle.std.specs.Option.{option_map};
 ghost use Rattle.survey_core.specs.Tables.{Table, IsNumbered, cells_of_field};
 ghost use Rattle.survey_core.specs.Fields.{name_cmp};
-ghost use Rattle.survey_sqlite.specs.Steps.{IsCellsOf, AreRising, text_in};
+ghost use Rattle.survey_sqlite.specs.Steps.{AreRising};
+ghost use Rattle.survey_sqlite.specs.Calls.{IsCellsOf, text_in};
 
-use crate::blob::cells_of;
+use crate::blob::cells_in_blob;
 use sqlite::Row;
 use sqlite_value::value::ValueRef;
 use std::alloc::Global;
@@ -42,7 +43,7 @@ fn read_blob(alloc: Global, blob: &[u8]) -> Result<Option<Vec<i64>>, Unread>
     ensures cells { IfOk result (λ cells. option_map (λ c. c.items) cells ≡ Some (blob_cells blob.now)) }
     ensures numbered { IfOk result (λ cells. IfSome cells (λ cells. IsNumbered cells.items)) }
 {
-    match cells_of(alloc, blob) {
+    match cells_in_blob(alloc, blob) {
         Ok(Some(cells)) => Ok(Some(cells)),
         Ok(None) => Err(Unread::Malformed),
         Err(_) => Err(Unread::OutOfMemory),
@@ -61,7 +62,7 @@ fn read_name(row: &Row) -> Result<Field, Unread>
     }
 }
 
-fn comes_before(first: &Field, second: &Field) -> bool
+fn ranks_before(first: &Field, second: &Field) -> bool
     ensures { IsTrue result → name_cmp first.now second.now ≡ Ordering.Less }
 {
     matches!(first.bytes().cmp(second.bytes()), Ordering::Less)
@@ -72,7 +73,7 @@ fn are_rising(fields: &[Field]) -> bool
     ensures { IsTrue result → AreRising fields.now }
 {
     for at in 1..fields.len() {
-        if !comes_before(&fields[at - 1], &fields[at]) {
+        if !ranks_before(&fields[at - 1], &fields[at]) {
             return false;
         }
     }

@@ -1,13 +1,14 @@
 //! The statements on the table `source`, over any store.
 ghost use Rattle.std.specs.Prelude.{◌≡◌, true, List, OnOk, OnErr, IfOk, IfSome, is_some, []};
 ghost use Rattle.std.specs.Option.{option_map};
-ghost use Rattle.survey_core.specs.Tables.{IsNumbered, put, without, cells_of_field};
+ghost use Rattle.survey_core.specs.Tables.{IsNumbered, put, without_field, cells_of_field};
 ghost use Rattle.sqlite.specs.Held.{state};
 ghost use Rattle.sqlite.specs.State.{HasCleanDisk, Opens};
-ghost use Rattle.survey_sqlite.specs.Texts.{no_schema};
+ghost use Rattle.survey_sqlite.specs.Statements.{no_schema};
 ghost use Rattle.survey_sqlite.specs.Source.{IsAtRest};
 ghost use Rattle.survey_sqlite.specs.Blobs.{blob_cells};
-ghost use Rattle.survey_sqlite.specs.Steps.{Turns, StaysOpen, AnswersCells, CountsFound, AnswersNames, tables_of};
+ghost use Rattle.survey_sqlite.specs.Steps.{tables_of};
+ghost use Rattle.survey_sqlite.specs.Calls.{Turns, StaysOpen, AnswersCells, CountsFound, AnswersNames};
 
 use sqlite::{Alter, Connection, Error, Row};
 use sqlite_value::value::ValueRef;
@@ -42,7 +43,7 @@ pub(crate) fn put_row<S: Alter>(
 
 /// Takes the field out, and answers how many rows that changed.
 pub(crate) fn remove_row<S: Alter>(conn: &mut Connection<S>, field: &Field) -> Result<usize, Error>
-    ensures done { OnOk result (Turns (state S.Store conn.old) (state S.Store conn.new) (without field.now)) }
+    ensures done { OnOk result (Turns (state S.Store conn.old) (state S.Store conn.new) (without_field field.now)) }
     ensures found { IfOk result (CountsFound (state S.Store conn.old) (state S.Store conn.new) field.now) }
     ensures kept { OnErr result (Turns (state S.Store conn.old) (state S.Store conn.new) (λ tables. tables)) }
     ensures still { StaysOpen (state S.Store conn.old) (state S.Store conn.new) }

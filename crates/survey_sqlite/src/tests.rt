@@ -1,8 +1,10 @@
 //! A keeper over a database, on small tables.
 ghost use Rattle.std.specs.Prelude.{◌≡◌, ◌*◌, length, IfOk};
+ghost use Rattle.catalogue_form.specs.Columns.{cells_in_row};
 ghost use Rattle.survey_core.specs.Tables.{IsNumbered};
 
 use crate::{FileKeeper, SqlKeeper};
+use catalogue_form::{CELLS_IN_ROW, NUMBER};
 use std::alloc::{AllocError, Global};
 use std::fs;
 use std::test::Fail;
@@ -11,12 +13,14 @@ use survey_core::{Field, Keeper, Refused};
 /// So many rows, numbered from 1, whose other cells are 0.
 fn numbered(alloc: Global, rows: u32) -> Result<Vec<i64>, AllocError>
     ensures numbered { IfOk result (λ cells. IsNumbered cells.items) }
-    ensures length { IfOk result (λ cells. length cells.items ≡ 17 * rows) }
+    ensures length { IfOk result (λ cells. length cells.items ≡ cells_in_row * rows) }
 {
     let mut cells = Vec::new(alloc);
     for row in 0..rows {
         let number = i64::from(row) + 1;
-        cells.extend_from_slice(&[number, 0, 0, 0, 0, 0, 0, 0, 0, 0, 0, 0, 0, 0, 0, 0, 0])?;
+        let mut cells_of_row = [0; CELLS_IN_ROW];
+        cells_of_row[NUMBER] = number;
+        cells.extend_from_slice(&cells_of_row)?;
     }
     Ok(cells)
 }

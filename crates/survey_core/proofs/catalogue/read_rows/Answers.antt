@@ -1,5 +1,5 @@
 use Rattle.std.proofs.Common.{arith, rules}
-use Rattle.survey_core.proofs.CatalogueLemmas.{no_rows, rows_short, rows_more, rows_wanted}
+use Rattle.survey_core.proofs.CatalogueLemmas.{no_rows, rows_short, rows_more, rows_wanted, cells_more}
 use Rattle.survey_core.proofs.catalogue.read_rows.Goals as goal
 
 pub returns-in-Err-clause-told : goal.returns-in-Err-clause-told
@@ -14,12 +14,12 @@ pub loop-preserved : goal.loop-preserved
 loop-preserved g c = record {
   told = λ bytes told.
       let rows = c.loop.invariant.told bytes told in
-      rows_more bytes c.loop.counter _ _ _ _ _ c.cells_in.result rows (c.in_default.ensures.told _ rows.takes.rest) c.cells_in.ensures (search rules);
-  whole = search rules;
+      rows_more bytes c.loop.counter _ _ _ _ _ _ rows (c.in_default.ensures.told _ rows.takes.rest) c.catalogue_columns-columns.ensures.columns c.in_default-add_row.ensures;
+  whole = cells_more c.loop.counter _ _ _ _ c.loop.invariant.whole c.catalogue_columns-columns.ensures.columns c.in_default-add_row.ensures;
   later = omega (arith, c.loop.invariant.later, c.read_row.ensures.later);
 }
 
-pub returns-then-is_err-clause-told : goal.returns-then-is_err-clause-told
-returns-then-is_err-clause-told g c = λ bytes told.
+pub returns-in-Err-add_row-clause-told : goal.returns-in-Err-add_row-clause-told
+returns-in-Err-add_row-clause-told g c = λ bytes told.
     let rows = c.loop.invariant.told bytes told in
     rows_wanted bytes c.loop.counter c.args.count _ _ _ _ rows c.loop-test.true (c.in_default.ensures.told _ rows.takes.rest)

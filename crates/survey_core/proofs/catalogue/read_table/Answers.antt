@@ -1,4 +1,5 @@
 use Rattle.std.proofs.Common.{◌≡◌, ◌*◌, ◌+◌, ◌≤◌, ℕ, ℤ, List, length, false, arith, refl, subst, ap, ◌∙◌}
+use Rattle.catalogue_form.specs.Columns.{cells_in_row}
 use Rattle.survey_core.specs.Catalogues.{first_misnumbered, is_misnumbered}
 use Rattle.survey_core.proofs.CatalogueLemmas.{table_cut, table_misnumbered, table_read, table_lost, all_numbered}
 use Rattle.survey_core.proofs.catalogue.read_table.Goals as goal
@@ -19,7 +20,7 @@ returns-in-Ok-take_padding-clause-told g c = λ bytes told.
 pub returns-in-Ok-take_padding-clause-numbered : goal.returns-in-Ok-take_padding-clause-numbered
 returns-in-Ok-take_padding-clause-numbered g c =
     all_numbered c.in-Ok.cells.items c.args.rows c.in-Ok.ensures.length
-    (subst (λ (cells : List ℤ). (i : ℕ) → 17 * i + 17 ≤ length cells → is_misnumbered cells i ≡ false) c.deref.ensures.value c.in_default.ensures.none)
+    (subst (λ (cells : List ℤ). (i : ℕ) → cells_in_row * i + cells_in_row ≤ length cells → is_misnumbered cells i ≡ false) c.deref.ensures.value c.in_default.ensures.none)
 
 pub returns-in-Err-take_padding-clause-told : goal.returns-in-Err-take_padding-clause-told
 returns-in-Err-take_padding-clause-told g c = λ bytes told.

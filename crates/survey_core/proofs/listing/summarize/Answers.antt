@@ -13,13 +13,13 @@ loop-name-preserved g c = record {
       let i = c.loop-name.name-index in
       let h : i < length ts = omega (arith, c.loop-name-test.true, ap length c.deref-name-items.ensures.value, ap length names, names_long ts) in
       let name = name_at ts _ _ i c.name-item.result c.copy.result c.name-item.is c.deref-name-items.ensures.value names c.copy.ensures in
-      let t : Table = (c.copy.result, c.in-Ok-cells_of.cells.items) in
-      let there = table_at ts i _ c.copy.result c.in-Ok-cells_of.cells.items t up h name (at_some _ ts _ now c.in-Ok-cells_of.ensures.told) in
+      let t : Table = (c.copy.result, c.in-Ok-cells_kept.cells.items) in
+      let there = table_at ts i _ c.copy.result c.in-Ok-cells_kept.cells.items t up h name (at_some _ ts _ now c.in-Ok-cells_kept.ensures.told) in
       let pushed : c.push.new.self.items ≡ c.loop-name.summaries.items ++ c.summary_of.result ∷ [] = search rules in
       summaries_more ts i t c.loop-name.summaries.items c.push.new.self.items c.summary_of.result h (c.loop-name.invariant.so_far ts told) pushed
       (c.summary_of.ensures ∙ ap table_summary (ap₂ (λ a b. (a, b)) (c.copy-in-loop-name.ensures ∙ sym c.copy.ensures) c.deref.ensures.value ∙ there));
-  kept = stays_on _ _ _ c.loop-name.invariant.kept c.in-Ok-cells_of.ensures.kept;
-  later = omega (arith, c.loop-name.invariant.later, c.in-Ok-cells_of.ensures.later);
+  kept = stays_on _ _ _ c.loop-name.invariant.kept c.in-Ok-cells_kept.ensures.kept;
+  later = omega (arith, c.loop-name.invariant.later, c.in-Ok-cells_kept.ensures.later);
 }
 
 pub returns-clause-told : goal.returns-clause-told

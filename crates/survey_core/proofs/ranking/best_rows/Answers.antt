@@ -24,14 +24,14 @@ loop-name-preserved g c = record {
       let i = c.loop-name.name-index in
       let h : i < length ts = omega (arith, c.loop-name-test.true, ap length c.deref-name-items.ensures.value, ap length names, names_long ts) in
       let name = name_at ts _ _ i c.name-item.result c.copy.result c.name-item.is c.deref-name-items.ensures.value names c.copy.ensures in
-      let t : Table = (c.copy.result, c.in-Ok-cells_of.cells.items) in
-      let there = table_at ts i _ c.copy.result c.in-Ok-cells_of.cells.items t up h name (at_some _ ts _ now c.in-Ok-cells_of.ensures.told) in
+      let t : Table = (c.copy.result, c.in-Ok-cells_kept.cells.items) in
+      let there = table_at ts i _ c.copy.result c.in-Ok-cells_kept.cells.items t up h name (at_some _ ts _ now c.in-Ok-cells_kept.ensures.told) in
       let so_far = all_rows (take i ts) in
       c.in_default.ensures (with_rows so_far []) (ranked_with_rows so_far [] tt) (c.loop-name.invariant.so_far ts told)
       ∙ ap (λ (u : Table). take c.args.most (with_rows (rows_of u) (with_rows so_far []))) (ap₂ (λ a b. (a, b)) (sym c.copy.ensures) c.deref.ensures.value ∙ there)
       ∙ ap (take c.args.most) (with_all so_far _ []) ∙ ap (λ (l : List Row). take c.args.most (with_rows l [])) (sym (rows_more ts i t h));
-  kept = stays_on _ _ _ c.loop-name.invariant.kept c.in-Ok-cells_of.ensures.kept;
-  later = omega (arith, c.loop-name.invariant.later, c.in-Ok-cells_of.ensures.later);
+  kept = stays_on _ _ _ c.loop-name.invariant.kept c.in-Ok-cells_kept.ensures.kept;
+  later = omega (arith, c.loop-name.invariant.later, c.in-Ok-cells_kept.ensures.later);
 }
 
 pub returns-clause-told : goal.returns-clause-told

@@ -12,8 +12,8 @@ loop-row-preserved c = λ rows ranked is.
     let i = c.loop-row.row in
     let h : i < length (rows_of (field, cells)) = omega (arith, c.loop-row-test.true, rows_long field cells) in
     let here = c.in_default.ensures (with_rows (take i (rows_of (field, cells))) rows) (ranked_with_rows (take i (rows_of (field, cells))) rows ranked) (c.loop-row.invariant rows ranked is) in
-    here ∙ ap (λ (r : Row). take c.args.most (with_row r (with_rows (take i (rows_of (field, cells))) rows))) (c.row_of.ensures ∙ row_at field cells i c.row_of.result (omega (arith, c.loop-row-test.true)))
-    ∙ ap (take c.args.most) (sym (with_more (rows_of (field, cells)) i c.row_of.result rows h))
+    here ∙ ap (λ (r : Row). take c.args.most (with_row r (with_rows (take i (rows_of (field, cells))) rows))) (c.ranking_row.ensures ∙ row_at field cells i c.ranking_row.result (omega (arith, c.loop-row-test.true)))
+    ∙ ap (take c.args.most) (sym (with_more (rows_of (field, cells)) i c.ranking_row.result rows h))
 
 pub returns : goal.returns
 returns c = λ rows ranked is.

@@ -3,7 +3,7 @@ use Rattle.std.specs.Prelude.{Option}
 use Rattle.survey_core.specs.declared.words.Command.{Command}
 use Rattle.survey_core.specs.declared.words.Command.TheVariants.{Drop, List as Listing, Brightest}
 use Rattle.survey_core.specs.Sessions.{effect}
-use Rattle.survey_core.specs.Steps.{Step}
+use Rattle.survey_core.specs.Carrying.{Step}
 use Rattle.survey_core.proofs.top.carry_out.Goals as goal
 
 pub returns-in-Add-clause-told : goal.returns-in-Add-clause-told

@@ -2,7 +2,7 @@ use Rattle.std.proofs.Common.{List, ℕ, Result}
 use Rattle.survey_core.specs.declared.words.Command.{Command}
 use Rattle.command_line.specs.Lines.{texts}
 use Rattle.survey_core.specs.Commands.{commands_of}
-use Rattle.survey_core.specs.Runs.{EndTells, SessionEndCause}
+use Rattle.survey_core.specs.Ends.{EndTells, SessionEndCause}
 use Rattle.survey_core.proofs.Ending.{at_fault, with_commands}
 use Rattle.survey_core.proofs.Wording.{read_behind}
 use Rattle.survey_core.proofs.top.work.Goals as goal

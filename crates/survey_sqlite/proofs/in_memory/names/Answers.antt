@@ -1,7 +1,7 @@
 use Rattle.std.proofs.Common.{◌≡◌}
 use Rattle.std.specs.declared.option.Option.TheVariants.{Some}
 use Rattle.sqlite_trees.specs.Props.{rows_set}
-use Rattle.survey_sqlite.specs.Steps.{are_names}
+use Rattle.survey_sqlite.specs.Calls.{are_names}
 use Rattle.survey_sqlite.specs.Keepers.{tables_held}
 use Rattle.survey_sqlite.proofs.Memory.{rests_after, tables_after, told}
 use Rattle.survey_sqlite.proofs.in_memory.names.Goals as goal

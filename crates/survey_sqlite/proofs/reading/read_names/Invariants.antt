@@ -1,5 +1,5 @@
 use Rattle.std.proofs.Common.{◌≡◌, map, take}
-use Rattle.survey_sqlite.specs.Steps.{text_in}
+use Rattle.survey_sqlite.specs.Calls.{text_in}
 use Rattle.survey_sqlite.proofs.reading.read_names.Given as goal
 
 abbrev pub invariant-loop-row : goal.invariant-loop-row

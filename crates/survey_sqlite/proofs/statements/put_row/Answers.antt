@@ -3,7 +3,7 @@ use Rattle.sqlite.specs.declared.types.Value.TheVariants.{Text, Blob}
 use Rattle.sqlite.specs.State.{Executes}
 use Rattle.sqlite.specs.Held.{state}
 use Rattle.survey_core.specs.Fields.{is_name}
-use Rattle.survey_sqlite.specs.Texts.{replace_text}
+use Rattle.survey_sqlite.specs.Statements.{replace_text}
 use Rattle.survey_sqlite.proofs.Steps.{replace_turns}
 use Rattle.survey_sqlite.proofs.statements.put_row.Goals as goal
 

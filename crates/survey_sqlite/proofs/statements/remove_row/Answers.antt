@@ -2,7 +2,7 @@ use Rattle.std.proofs.Common.{◌∷◌, [], subst}
 use Rattle.sqlite.specs.declared.types.Value.TheVariants.{Text}
 use Rattle.sqlite.specs.State.{Executes}
 use Rattle.sqlite.specs.Held.{state}
-use Rattle.survey_sqlite.specs.Texts.{remove_text}
+use Rattle.survey_sqlite.specs.Statements.{remove_text}
 use Rattle.survey_sqlite.proofs.Steps.{remove_turns}
 use Rattle.survey_sqlite.proofs.statements.remove_row.Goals as goal
 
