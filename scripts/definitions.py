@@ -159,7 +159,9 @@ def cited_names(text):
 
 
 def cited_by_none(found):
-    """Definitions of the model that neither a public contract nor another definition of the model cites."""
+    """Definitions of the model that neither a public contract nor another definition of the model cites. A lemma that
+    stands in specs/, as a trait's law may want it, has a hyphen in its name, and isn't looked at.
+    """
     public = cited_names("\n".join(public_text()))
     within = {}
     for one in found:
@@ -168,7 +170,7 @@ def cited_by_none(found):
                 within.setdefault(name, set()).add((one.crate, one.name))
     for one in found:
         others = within.get(one.name, set()) - {(one.crate, one.name)}
-        if one.model and one.name not in public and not others:
+        if one.model and "-" not in one.name and one.name not in public and not others:
             yield f"{one.name} of {one.place} is of the model, but nothing public cites it, nor another of the model"
 
 

@@ -29,7 +29,8 @@ at_place f a zero n entry e = absurd (cc)
 at_place f a (suc count) zero entry e = let is : f a ≡ entry = cc in sym is ∙ ap f (omega arith)
 at_place f a (suc count) (suc n) entry e = at_place f (a + 1) count n entry e ∙ ap f (omega arith)
 
-pub entry_is : (values r : Raster) (connect : Connect) (measures : List Measure) (n : ℕ) (entry : Measure) → measures ≡ measures_of values r connect → slice_get measures n ≡ Some entry
+pub entry_is : (values r : Raster) (connect : Connect) (measures : List Measure) (n : ℕ) (entry : Measure) → measures ≡ measures_of values r connect
+    → slice_get measures n ≡ Some entry
     → entry ≡ measure_of values r connect n
 unfolding measures_of
 entry_is values r connect measures n entry e g =
@@ -46,7 +47,8 @@ over_sum : (values : Raster) (ps : List ℕ) → HasValuesInRange values.values 
 unfolding measure_over
 over_sum values ps range = sum_small values ps (λ p _. level_in_range values p range)
 
-few_pixels : (values : Raster) (r : Raster) (connect : Connect) (n : ℕ) → IsPlane r → (measure_of values r connect n).seen + (measure_of values r connect n).missing ≤ 2 ^ 24
+few_pixels : (values : Raster) (r : Raster) (connect : Connect) (n : ℕ) → IsPlane r
+    → (measure_of values r connect n).seen + (measure_of values r connect n).missing ≤ 2 ^ 24
 unfolding measure_of measure_over pixels_of pixels
 few_pixels values r connect n plane =
     omega (
@@ -58,11 +60,13 @@ few_pixels values r connect n plane =
       r.shape.within_limits.few_pixels,
     )
 
-node_sum : (values r : Raster) (connect : Connect) (n : ℕ) → HasValuesInRange values.values → IsSumOf (measure_of values r connect n).seen (measure_of values r connect n).v
+node_sum : (values r : Raster) (connect : Connect) (n : ℕ) → HasValuesInRange values.values
+    → IsSumOf (measure_of values r connect n).seen (measure_of values r connect n).v
 unfolding measure_of
 node_sum values r connect n range = over_sum values (pixels_of r connect n) range
 
-pub entry_small : (tree : ComponentTree) (measures : List Measure) (n : ℕ) (entry : Measure) → AreTheTreesMeasures tree measures → slice_get measures n ≡ Some entry → HasMeasureSizes entry
+pub entry_small : (tree : ComponentTree) (measures : List Measure) (n : ℕ) (entry : Measure) → AreTheTreesMeasures tree measures
+    → slice_get measures n ≡ Some entry → HasMeasureSizes entry
 entry_small tree measures n entry h g =
     subst HasMeasureSizes (sym (entry_is h.values h.plane h.connect measures n entry h.measures_are g)) (record {
       few = few_pixels h.values h.plane h.connect n h.one_each;
@@ -72,7 +76,8 @@ entry_small tree measures n entry h g =
 -- ---- the values around a node
 
 -- what a node's parent holds is what the node holds and what lies around it
-around_union : (values r : Raster) (connect : Connect) (n : ℕ) → IsPlane r → n < length (nodes r connect) → parent_in (tree_of r connect).rows n < length (nodes r connect)
+around_union : (values r : Raster) (connect : Connect) (n : ℕ) → IsPlane r → n < length (nodes r connect)
+    → parent_in (tree_of r connect).rows n < length (nodes r connect)
     → measured_so_far values (pixels_of r connect (parent_in (tree_of r connect).rows n))
     ≡ combined (measured_so_far values (pixels_of r connect n)) (measured_so_far values (around_node r connect n))
 unfolding pixels_of around_node
@@ -81,13 +86,16 @@ around_union values r connect n plane hn ha =
     (λ p. is_in_node r connect (parent_in (tree_of r connect).rows n) p && not (is_in_node r connect n p)) (pixels r) apart rest
   where
     apart : (q : ℕ) → is_in_node r connect n q ≡ true
-        → (is_in_node r connect (parent_in (tree_of r connect).rows n) q ≡ true) × (is_in_node r connect (parent_in (tree_of r connect).rows n) q && not (is_in_node r connect n q) ≡ false)
+        → (is_in_node r connect (parent_in (tree_of r connect).rows n) q ≡ true)
+        × (is_in_node r connect (parent_in (tree_of r connect).rows n) q && not (is_in_node r connect n q) ≡ false)
     apart q h =
-        let up : is_in_node r connect (parent_in (tree_of r connect).rows n) q ≡ true = parent_holds r connect (parent_in (tree_of r connect).rows n) n q plane hn refl ha h in
+        let up : is_in_node r connect (parent_in (tree_of r connect).rows n) q ≡ true =
+        parent_holds r connect (parent_in (tree_of r connect).rows n) n q plane hn refl ha h in
         (up, rw (up, h) refl)
 
     rest : (q : ℕ) → is_in_node r connect n q ≡ false
-        → is_in_node r connect (parent_in (tree_of r connect).rows n) q ≡ (is_in_node r connect (parent_in (tree_of r connect).rows n) q && not (is_in_node r connect n q))
+        → is_in_node r connect (parent_in (tree_of r connect).rows n) q
+        ≡ (is_in_node r connect (parent_in (tree_of r connect).rows n) q && not (is_in_node r connect n q))
     rest q h = rw h (plus_true (is_in_node r connect (parent_in (tree_of r connect).rows n) q))
       where
         plus_true : (b : Bool) → b ≡ (b && true)
@@ -107,8 +115,10 @@ pub record IsAround (whole part around : Measure) : Type 0 where
   pub seen : whole.seen ≡ part.seen + around.seen
   pub v : whole.v ≡ part.v +ℤ around.v
 
-around_is : (values r : Raster) (connect : Connect) (n : ℕ) → IsPlane r → n < length (nodes r connect) → parent_in (tree_of r connect).rows n < length (nodes r connect)
-    → IsAround (measure_of values r connect (parent_in (tree_of r connect).rows n)) (measure_of values r connect n) (measure_over values (around_node r connect n))
+around_is : (values r : Raster) (connect : Connect) (n : ℕ) → IsPlane r → n < length (nodes r connect)
+    → parent_in (tree_of r connect).rows n < length (nodes r connect)
+    → IsAround (measure_of values r connect (parent_in (tree_of r connect).rows n)) (measure_of values r connect n)
+    (measure_over values (around_node r connect n))
 unfolding measure_of
 around_is values r connect n plane hn ha = record {
   seen = sym (seen-so_far values whole) ∙ ap (λ (m : Measure). m.seen) union ∙ sums;
@@ -137,7 +147,8 @@ pub record HasParts (tree : ComponentTree) (measures : List Measure) (n : ℕ) (
   pub whole_is : slice_get measures (parent_in tree.rows n) ≡ Some whole
   pub part_is : slice_get measures n ≡ Some part
 
-parts_around : (tree : ComponentTree) (measures : List Measure) (n : ℕ) (whole part : Measure) (values r : Raster) (connect : Connect) → IsPlane r → tree ≡ tree_of r connect
+parts_around : (tree : ComponentTree) (measures : List Measure) (n : ℕ) (whole part : Measure) (values r : Raster) (connect : Connect) → IsPlane r
+    → tree ≡ tree_of r connect
     → measures ≡ measures_of values r connect → HasParts tree measures n whole part → IsAround whole part (measure_over values (around_node r connect n))
 parts_around tree measures n whole part values r connect plane e f h =
     let count : length tree.rows ≡ length (nodes r connect) = rows_are r connect tree e in
@@ -146,7 +157,8 @@ parts_around tree measures n whole part values r connect plane e f h =
     entry_is values r connect measures (parent_in tree.rows n) whole f h.whole_is ∙ ap (measure_of values r connect) parent in
     let two : part ≡ measure_of values r connect n = entry_is values r connect measures n part f h.part_is in
     subst (λ (m : Measure). IsAround m part (measure_over values (around_node r connect n))) (sym one)
-    (subst (λ (m : Measure). IsAround (measure_of values r connect (parent_in (tree_of r connect).rows n)) m (measure_over values (around_node r connect n))) (sym two)
+    (subst (λ (m : Measure). IsAround (measure_of values r connect (parent_in (tree_of r connect).rows n)) m (measure_over values (around_node r connect n)))
+    (sym two)
     (around_is values r connect n plane (omega (arith, h.below)) (omega (arith, h.inside))))
 
 -- the difference of the entries as numbers of their own
@@ -155,10 +167,13 @@ pub record IsDifference (whole part : Measure) : Type 0 where
   pub sum : IsSumOf (whole.seen - part.seen) (whole.v -ℤ part.v)
   pub few : whole.seen ≤ 2 ^ 24
 
-pub parts_differ : (tree : ComponentTree) (measures : List Measure) (n : ℕ) (whole part : Measure) → AreTheTreesMeasures tree measures → HasParts tree measures n whole part → IsDifference whole part
+pub parts_differ : (tree : ComponentTree) (measures : List Measure) (n : ℕ) (whole part : Measure) → AreTheTreesMeasures tree measures
+    → HasParts tree measures n whole part → IsDifference whole part
 parts_differ tree measures n whole part h p = record {
   less = omega (arith, around.seen);
-  sum = subst (IsSumOf (whole.seen - part.seen)) rest (subst (λ (k : ℕ). IsSumOf k (measure_over h.values (around_node h.plane h.connect n)).v) count (over_sum h.values (around_node h.plane h.connect n) h.in_range));
+  sum = subst (IsSumOf (whole.seen - part.seen)) rest
+      (subst (λ (k : ℕ). IsSumOf k (measure_over h.values (around_node h.plane h.connect n)).v) count
+      (over_sum h.values (around_node h.plane h.connect n) h.in_range));
   few = omega (arith, (entry_small tree measures (parent_in tree.rows n) whole h p.whole_is).few);
 }
   where
@@ -171,13 +186,16 @@ parts_differ tree measures n whole part h p = record {
     rest : (measure_over h.values (around_node h.plane h.connect n)).v ≡ whole.v -ℤ part.v
     rest = omega (arith, ints, around.v)
 
-pub back_at_root : (tree : ComponentTree) (n : ℕ) (values r : Raster) (connect : Connect) → tree ≡ tree_of r connect → parent_in tree.rows n ≡ no_node → pos 0 ≡ back_of values r connect n
+pub back_at_root : (tree : ComponentTree) (n : ℕ) (values r : Raster) (connect : Connect) → tree ≡ tree_of r connect → parent_in tree.rows n ≡ no_node
+    → pos 0 ≡ back_of values r connect n
 unfolding back_of
 back_at_root tree n values r connect e root =
-    let is : (parent_in (tree_of r connect).rows n == no_node) ≡ true = eq-eqb (parent_in (tree_of r connect).rows n) no_node (sym (parent_is r connect tree n e) ∙ root) in
+    let is : (parent_in (tree_of r connect).rows n == no_node) ≡ true =
+    eq-eqb (parent_in (tree_of r connect).rows n) no_node (sym (parent_is r connect tree n e) ∙ root) in
     rw is refl
 
-pub back_is : (tree : ComponentTree) (measures : List Measure) (n : ℕ) (whole part : Measure) (values r : Raster) (connect : Connect) → IsPlane r → tree ≡ tree_of r connect
+pub back_is : (tree : ComponentTree) (measures : List Measure) (n : ℕ) (whole part : Measure) (values r : Raster) (connect : Connect) → IsPlane r
+    → tree ≡ tree_of r connect
     → measures ≡ measures_of values r connect → HasParts tree measures n whole part → (parent_in tree.rows n ≡ no_node → ⊥)
     → floor_mean (whole.v -ℤ part.v) (whole.seen - part.seen) ≡ back_of values r connect n
 unfolding back_of
@@ -185,7 +203,8 @@ back_is tree measures n whole part values r connect plane e f h some =
     let around : IsAround whole part (measure_over values (around_node r connect n)) = parts_around tree measures n whole part values r connect plane e f h in
     let sum : whole.v -ℤ part.v ≡ (measure_over values (around_node r connect n)).v = omega (arith, ints, around.v) in
     let count : whole.seen - part.seen ≡ (measure_over values (around_node r connect n)).seen = omega (arith, around.seen) in
-    let inner : (parent_in (tree_of r connect).rows n == no_node) ≡ false = ne_eqb (parent_in (tree_of r connect).rows n) no_node (λ k. some (parent_is r connect tree n e ∙ k)) in
+    let inner : (parent_in (tree_of r connect).rows n == no_node) ≡ false =
+    ne_eqb (parent_in (tree_of r connect).rows n) no_node (λ k. some (parent_is r connect tree n e ∙ k)) in
     rw (sum, count, inner) refl
 
 -- ---- as the code reads them
@@ -210,7 +229,8 @@ pub record IsParentRead (tree : ComponentTree) (measures : List Measure) (n a : 
   pub parent : parent_in tree.rows n ≡ a
   pub some : a ≡ no_node → ⊥
 
-pub parent_read_from_code : (tree : ComponentTree) (measures : List Measure) (n : ℕ) (rows : List NodeRow) (row : NodeRow) → AreTheTreesMeasures tree measures → n < length tree.rows → rows ≡ tree.rows
+pub parent_read_from_code : (tree : ComponentTree) (measures : List Measure) (n : ℕ) (rows : List NodeRow) (row : NodeRow) → AreTheTreesMeasures tree measures
+    → n < length tree.rows → rows ≡ tree.rows
     → ((slice_index_or rows n row).parent ≡ no_node → ⊥) → IsParentRead tree measures n (slice_index_or rows n row).parent
 parent_read_from_code tree measures n rows row h below same some = record {
   trees = h;
@@ -225,30 +245,37 @@ parent_below tree measures n a h = parent_there tree n a (trees_plane tree measu
 pub parent_entry : (tree : ComponentTree) (measures : List Measure) (n a : ℕ) → IsParentRead tree measures n a → a < length measures
 parent_entry tree measures n a h = omega (arith, parent_below tree measures n a h, one_for_each tree measures h.trees)
 
-parts_read : (tree : ComponentTree) (measures : List Measure) (n a : ℕ) → IsParentRead tree measures n a → HasParts tree measures n (get_or measures a no_entry) (get_or measures n no_entry)
+parts_read : (tree : ComponentTree) (measures : List Measure) (n a : ℕ) → IsParentRead tree measures n a
+    → HasParts tree measures n (get_or measures a no_entry) (get_or measures n no_entry)
 parts_read tree measures n a h = record {
   below = h.below;
   inside = omega (arith, h.parent, parent_below tree measures n a h);
-  whole_is = subst (λ (k : ℕ). slice_get measures k ≡ Some (get_or measures a no_entry)) (sym h.parent) (slice_get-get_or measures a no_entry (parent_entry tree measures n a h));
+  whole_is = subst (λ (k : ℕ). slice_get measures k ≡ Some (get_or measures a no_entry)) (sym h.parent)
+      (slice_get-get_or measures a no_entry (parent_entry tree measures n a h));
   part_is = slice_get-get_or measures n no_entry (omega (arith, h.below, one_for_each tree measures h.trees));
 }
 
-entry_fits : (tree : ComponentTree) (measures : List Measure) (n : ℕ) (entry : Measure) → AreTheTreesMeasures tree measures → slice_get measures n ≡ Some entry → SFits w64 entry.v
+entry_fits : (tree : ComponentTree) (measures : List Measure) (n : ℕ) (entry : Measure) → AreTheTreesMeasures tree measures → slice_get measures n ≡ Some entry
+    → SFits w64 entry.v
 entry_fits tree measures n entry h g =
     let small : HasMeasureSizes entry = entry_small tree measures n entry h g in
     sum_fits entry.seen entry.v small.sum (omega (arith, small.few))
 
-pub difference : (tree : ComponentTree) (measures : List Measure) (n a : ℕ) → IsParentRead tree measures n a → IsDifference (get_or measures a no_entry) (get_or measures n no_entry)
+pub difference : (tree : ComponentTree) (measures : List Measure) (n a : ℕ) → IsParentRead tree measures n a
+    → IsDifference (get_or measures a no_entry) (get_or measures n no_entry)
 difference tree measures n a h = parts_differ tree measures n _ _ h.trees (parts_read tree measures n a h)
 
 pub difference-read : (tree : ComponentTree) (measures : List Measure) (n a : ℕ) → IsParentRead tree measures n a
-    → to_z w64 (of_z w64 (get_or measures a no_entry).v) -ℤ to_z w64 (of_z w64 (get_or measures n no_entry).v) ≡ (get_or measures a no_entry).v -ℤ (get_or measures n no_entry).v
+    → to_z w64 (of_z w64 (get_or measures a no_entry).v) -ℤ to_z w64 (of_z w64 (get_or measures n no_entry).v)
+    ≡ (get_or measures a no_entry).v -ℤ (get_or measures n no_entry).v
 difference-read tree measures n a h =
     let parts : HasParts tree measures n (get_or measures a no_entry) (get_or measures n no_entry) = parts_read tree measures n a h in
-    ap (λ (z : ℤ). z -ℤ to_z w64 (of_z w64 (get_or measures n no_entry).v)) (to_z-of_z w64 (get_or measures a no_entry).v (entry_fits tree measures _ _ h.trees parts.whole_is))
+    ap (λ (z : ℤ). z -ℤ to_z w64 (of_z w64 (get_or measures n no_entry).v))
+    (to_z-of_z w64 (get_or measures a no_entry).v (entry_fits tree measures _ _ h.trees parts.whole_is))
     ∙ ap (λ (z : ℤ). (get_or measures a no_entry).v -ℤ z) (to_z-of_z w64 (get_or measures n no_entry).v (entry_fits tree measures _ _ h.trees parts.part_is))
 
-fits_difference : (tree : ComponentTree) (measures : List Measure) (n a : ℕ) → IsParentRead tree measures n a → SFits w64 ((get_or measures a no_entry).v -ℤ (get_or measures n no_entry).v)
+fits_difference : (tree : ComponentTree) (measures : List Measure) (n a : ℕ) → IsParentRead tree measures n a
+    → SFits w64 ((get_or measures a no_entry).v -ℤ (get_or measures n no_entry).v)
 fits_difference tree measures n a h =
     let d : IsDifference (get_or measures a no_entry) (get_or measures n no_entry) = difference tree measures n a h in
     sum_fits ((get_or measures a no_entry).seen - (get_or measures n no_entry).seen) _ d.sum (omega (arith, d.few))
@@ -258,15 +285,20 @@ pub difference_fits : (tree : ComponentTree) (measures : List Measure) (n a : �
 difference_fits tree measures n a h = subst (SFits w64) (sym (difference-read tree measures n a h)) (fits_difference tree measures n a h)
 
 difference-stored : (tree : ComponentTree) (measures : List Measure) (n a : ℕ) → IsParentRead tree measures n a
-    → to_z w64 (of_z w64 (to_z w64 (of_z w64 (get_or measures a no_entry).v) -ℤ to_z w64 (of_z w64 (get_or measures n no_entry).v))) ≡ (get_or measures a no_entry).v -ℤ (get_or measures n no_entry).v
-difference-stored tree measures n a h = ap (λ (z : ℤ). to_z w64 (of_z w64 z)) (difference-read tree measures n a h) ∙ to_z-of_z w64 _ (fits_difference tree measures n a h)
+    → to_z w64 (of_z w64 (to_z w64 (of_z w64 (get_or measures a no_entry).v) -ℤ to_z w64 (of_z w64 (get_or measures n no_entry).v)))
+    ≡ (get_or measures a no_entry).v -ℤ (get_or measures n no_entry).v
+difference-stored tree measures n a h =
+    ap (λ (z : ℤ). to_z w64 (of_z w64 z)) (difference-read tree measures n a h) ∙ to_z-of_z w64 _ (fits_difference tree measures n a h)
 
 pub difference_sum : (tree : ComponentTree) (measures : List Measure) (n a : ℕ) → IsParentRead tree measures n a
-    → IsSumOf ((get_or measures a no_entry).seen - (get_or measures n no_entry).seen) (to_z w64 (of_z w64 (to_z w64 (of_z w64 (get_or measures a no_entry).v) -ℤ to_z w64 (of_z w64 (get_or measures n no_entry).v))))
+    → IsSumOf ((get_or measures a no_entry).seen - (get_or measures n no_entry).seen)
+    (to_z w64 (of_z w64 (to_z w64 (of_z w64 (get_or measures a no_entry).v) -ℤ to_z w64 (of_z w64 (get_or measures n no_entry).v))))
 difference_sum tree measures n a h = subst (IsSumOf _) (sym (difference-stored tree measures n a h)) (difference tree measures n a h).sum
 
-pub back_from_code : (tree : ComponentTree) (measures : List Measure) (n a : ℕ) (mean : ℤ) (values r : Raster) (connect : Connect) → IsParentRead tree measures n a → SFits w64 mean
-    → mean ≡ floor_mean (to_z w64 (of_z w64 (to_z w64 (of_z w64 (get_or measures a no_entry).v) -ℤ to_z w64 (of_z w64 (get_or measures n no_entry).v)))) ((get_or measures a no_entry).seen - (get_or measures n no_entry).seen)
+pub back_from_code : (tree : ComponentTree) (measures : List Measure) (n a : ℕ) (mean : ℤ) (values r : Raster) (connect : Connect)
+    → IsParentRead tree measures n a → SFits w64 mean
+    → mean ≡ floor_mean (to_z w64 (of_z w64 (to_z w64 (of_z w64 (get_or measures a no_entry).v) -ℤ to_z w64 (of_z w64 (get_or measures n no_entry).v))))
+    ((get_or measures a no_entry).seen - (get_or measures n no_entry).seen)
     → IsPlane r → tree ≡ tree_of r connect → measures ≡ measures_of values r connect → to_z w64 (of_z w64 mean) ≡ back_of values r connect n
 back_from_code tree measures n a mean values r connect h fits made plane e f =
     to_z-of_z w64 mean fits ∙ made

@@ -1,3 +1,4 @@
-pub mod Measuring
-pub mod Passing
-pub mod Backs
+mod Measuring
+mod Passing
+mod Backs
+pub mod Exported

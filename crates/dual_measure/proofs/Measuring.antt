@@ -8,15 +8,15 @@ use mir.Syntax.{w64}
 use mir.Val.{SFits, of_z, to_z}
 use Rattle.std.proofs.lemmas.Bool.Decides.{nat_tests}
 use Rattle.std.proofs.lemmas.List.FromFn.{length-range_with_len}
+use Rattle.lemmas.proofs.Exported.{IsAmong, among_from_filter, among_from_range, int_max_assoc, int_max_comm, int_min_assoc, int_min_comm, plus_assoc, plus_comm, plus_z_assoc, plus_z_comm}
 use Rattle.comp_tree.specs.Limits.{IsWithinRange}
 use Rattle.comp_tree.specs.Raster.{Raster, IsPlane, HasValuesInRange, is_defined, level, value_at}
-use Rattle.comp_tree.proofs.Exported.{IsAmong, among_from_filter, among_from_range}
 use Rattle.node_sums.specs.Sums.{total, highest}
 use Rattle.node_sums.specs.Sizes.{IsUpTo}
 use Rattle.node_sums.proofs.Exported.{total-up_to, value_in_range, length-filter-le, level-of, fits}
 use Rattle.dual_measure.specs.declared.values.Measure.{Measure}
 use Rattle.dual_measure.specs.Measures.{measure_over, seen_of, missing_of, least_or_zero, greatest_or_zero, IsSumOf, HasMeasureSizes}
-use Rattle.dual_measure.specs.Adding.{blank_measure, measure_at, combined, measured_so_far, lowest_value, settled_measure}
+use Rattle.dual_measure.specs.Adding.{blank_measure, measure_at, combined, measured_so_far, settled_measure}
 
 pub same_measure : (a b : Measure) → a.seen ≡ b.seen → a.missing ≡ b.missing → a.v ≡ b.v → a.low ≡ b.low → a.peak ≡ b.peak → a ≡ b
 same_measure a b seen missing v low peak = λ i. record {
@@ -29,36 +29,14 @@ same_measure a b seen missing v low peak = λ i. record {
 
 -- ---- the laws of `combined`
 
-plus_assoc : (a b c : ℕ) → (a + b) + c ≡ a + (b + c)
-plus_assoc a b c = omega arith
-
-plus_comm : (a b : ℕ) → a + b ≡ b + a
-plus_comm a b = omega arith
-
-plus_z_assoc : (a b c : ℤ) → (a +ℤ b) +ℤ c ≡ a +ℤ (b +ℤ c)
-plus_z_assoc a b c = omega (arith, ints)
-
-plus_z_comm : (a b : ℤ) → a +ℤ b ≡ b +ℤ a
-plus_z_comm a b = omega (arith, ints)
-
-min_assoc : (a b c : ℤ) → int_min (int_min a b) c ≡ int_min a (int_min b c)
-min_assoc a b c = omega (arith, ints, clamps)
-
-min_comm : (a b : ℤ) → int_min a b ≡ int_min b a
-min_comm a b = omega (arith, ints, clamps)
-
-max_assoc : (a b c : ℤ) → int_max (int_max a b) c ≡ int_max a (int_max b c)
-max_assoc a b c = omega (arith, ints, clamps)
-
-max_comm : (a b : ℤ) → int_max a b ≡ int_max b a
-max_comm a b = omega (arith, ints, clamps)
-
 combined_assoc : (a b c : Measure) → combined (combined a b) c ≡ combined a (combined b c)
 combined_assoc a b c =
-    same_measure _ _ (plus_assoc a.seen b.seen c.seen) (plus_assoc a.missing b.missing c.missing) (plus_z_assoc a.v b.v c.v) (min_assoc a.low b.low c.low) (max_assoc a.peak b.peak c.peak)
+    same_measure _ _ (plus_assoc a.seen b.seen c.seen) (plus_assoc a.missing b.missing c.missing) (plus_z_assoc a.v b.v c.v) (int_min_assoc a.low b.low c.low)
+    (int_max_assoc a.peak b.peak c.peak)
 
 combined_comm : (a b : Measure) → combined a b ≡ combined b a
-combined_comm a b = same_measure _ _ (plus_comm a.seen b.seen) (plus_comm a.missing b.missing) (plus_z_comm a.v b.v) (min_comm a.low b.low) (max_comm a.peak b.peak)
+combined_comm a b =
+    same_measure _ _ (plus_comm a.seen b.seen) (plus_comm a.missing b.missing) (plus_z_comm a.v b.v) (int_min_comm a.low b.low) (int_max_comm a.peak b.peak)
 
 -- the middle one may be taken first
 combined_swap : (a b c : Measure) → combined a (combined b c) ≡ combined b (combined a c)
@@ -69,7 +47,7 @@ combined_swap a b c = sym (combined_assoc a b c) ∙ ap (λ (m : Measure). combi
 abbrev pub pixel_measure : Raster → ℕ → Measure
 pixel_measure values p = measure_at (value_at values.values p)
 
-so_far-none : (values : Raster) → measured_so_far values [] ≡ blank_measure
+pub so_far-none : (values : Raster) → measured_so_far values [] ≡ blank_measure
 unfolding measured_so_far
 so_far-none values = refl
 
@@ -77,7 +55,8 @@ so_far-cons : (values : Raster) (p : ℕ) (ps : List ℕ) → measured_so_far va
 unfolding measured_so_far
 so_far-cons values p ps = refl
 
-pub so_far-push : (values : Raster) (p : ℕ) (ps : List ℕ) → measured_so_far values (ps ++ p ∷ []) ≡ combined (measured_so_far values ps) (pixel_measure values p)
+pub so_far-push : (values : Raster) (p : ℕ) (ps : List ℕ)
+    → measured_so_far values (ps ++ p ∷ []) ≡ combined (measured_so_far values ps) (pixel_measure values p)
 so_far-push values p [] = so_far-cons values p [] ∙ combined_comm (pixel_measure values p) (measured_so_far values [])
 so_far-push values p (q ∷ ps) =
     so_far-cons values q (ps ++ p ∷ []) ∙ ap (combined (pixel_measure values q)) (so_far-push values p ps)
@@ -99,7 +78,8 @@ so_far-union values all some others (p ∷ ps) h k = go (some p) (others p) refl
   where
     go : (s o : Bool) → some p ≡ s → others p ≡ o
         → measured_so_far values (filter all ps) ≡ combined (measured_so_far values (filter some ps)) (measured_so_far values (filter others ps))
-        → measured_so_far values (filter all (p ∷ ps)) ≡ combined (measured_so_far values (filter some (p ∷ ps))) (measured_so_far values (filter others (p ∷ ps)))
+        → measured_so_far values (filter all (p ∷ ps))
+        ≡ combined (measured_so_far values (filter some (p ∷ ps))) (measured_so_far values (filter others (p ∷ ps)))
     go true o u v ih =
         let in_all : all p ≡ true = (h p u).0 in
         let not_other : others p ≡ false = (h p u).1 in
@@ -114,6 +94,11 @@ so_far-union values all some others (p ∷ ps) h k = go (some p) (others p) refl
         rw (in_all, u, v) ih
 
 -- ---- by plain counts and sums
+
+-- the least value of f over some pixels; over none, the greatest i64
+abbrev lowest_value : (ℕ → ℤ) → List ℕ → ℤ
+lowest_value f [] = pos (2 ^ 63 - 1)
+lowest_value f (p ∷ ps) = int_min (f p) (lowest_value f ps)
 
 -- the measure over some pixels, with the ends of the range where none is seen
 abbrev pub plain : Raster → List ℕ → Measure
@@ -173,13 +158,13 @@ fold_least : (f : ℕ → ℤ) (z : ℤ) (qs : List ℕ) → z ≤ℤ pos (2 ^ 6
 fold_least f z [] h = omega (arith, ints, clamps)
 fold_least f z (q ∷ qs) h =
     let less : int_min z (f q) ≤ℤ pos (2 ^ 63 - 1) = omega (arith, ints, clamps) in
-    sym (min_assoc z (f q) (lowest_value f qs)) ∙ fold_least f (int_min z (f q)) qs less
+    sym (int_min_assoc z (f q) (lowest_value f qs)) ∙ fold_least f (int_min z (f q)) qs less
 
 fold_greatest : (f : ℕ → ℤ) (z : ℤ) (qs : List ℕ) → neg_ℤ (pos (2 ^ 63)) ≤ℤ z → int_max z (highest f qs) ≡ fold int_max z (map f qs)
 fold_greatest f z [] h = omega (arith, ints, clamps)
 fold_greatest f z (q ∷ qs) h =
     let more : neg_ℤ (pos (2 ^ 63)) ≤ℤ int_max z (f q) = omega (arith, ints, clamps) in
-    sym (max_assoc z (f q) (highest f qs)) ∙ fold_greatest f (int_max z (f q)) qs more
+    sym (int_max_assoc z (f q) (highest f qs)) ∙ fold_greatest f (int_max z (f q)) qs more
 
 settled_some : (m : Measure) → 0 < m.seen → settled_measure m ≡ m
 unfolding settled_measure
@@ -194,7 +179,9 @@ settled_plain : (f : ℕ → ℤ) (qs : List ℕ) (missing : ℕ) → ((q : ℕ)
 unfolding settled_measure
 settled_plain f [] missing small = refl
 settled_plain f (q ∷ qs) missing small =
-    settled_some _ (omega arith) ∙ same_measure _ _ refl refl refl (fold_least f (f q) qs (omega (arith, ints, (small q).high))) (fold_greatest f (f q) qs (omega (arith, ints, (small q).low)))
+    settled_some _ (omega arith)
+    ∙ same_measure _ _ refl refl refl (fold_least f (f q) qs (omega (arith, ints, (small q).high)))
+    (fold_greatest f (f q) qs (omega (arith, ints, (small q).low)))
 
 pub settled_is : (values : Raster) (ps : List ℕ) → HasValuesInRange values.values → settled_measure (measured_so_far values ps) ≡ measure_over values ps
 unfolding measure_over
@@ -212,7 +199,8 @@ all_counted values (p ∷ ps) = go (is_defined values p) refl (all_counted value
     go true e ih = rw e (omega arith)
     go false e ih = rw e (omega arith)
 
-pub sum_small : (values : Raster) (ps : List ℕ) → ((p : ℕ) → IsAmong p ps → IsUpTo (2 ^ 37) (level values p)) → IsSumOf (length (seen_of values ps)) (total (level values) (seen_of values ps))
+pub sum_small : (values : Raster) (ps : List ℕ) → ((p : ℕ) → IsAmong p ps → IsUpTo (2 ^ 37) (level values p))
+    → IsSumOf (length (seen_of values ps)) (total (level values) (seen_of values ps))
 sum_small values ps small =
     let h : IsUpTo (2 ^ 37 * length (seen_of values ps)) (total (level values) (seen_of values ps)) =
     total-up_to (level values) (2 ^ 37) (seen_of values ps) (λ p m. small p (among_from_filter (is_defined values) p ps m).0) in
@@ -220,10 +208,18 @@ sum_small values ps small =
 
 -- of the first n pixels
 pub so_far_small : (values : Raster) (test : ℕ → Bool) (n : ℕ) → IsPlane values → n ≤ length values.values
-    → ((q : ℕ) (v : ℤ) → q < n → value_at values.values q ≡ Some v → IsWithinRange v) → HasMeasureSizes (measured_so_far values (filter test (range_with_len 0 n)))
+    → ((q : ℕ) (v : ℤ) → q < n → value_at values.values q ≡ Some v → IsWithinRange v)
+    → HasMeasureSizes (measured_so_far values (filter test (range_with_len 0 n)))
 so_far_small values test n plane within small =
     subst HasMeasureSizes (sym (so_far_is values (filter test (range_with_len 0 n)))) (record {
-      few = omega (arith, all_counted values (filter test (range_with_len 0 n)), length-filter-le test (range_with_len 0 n), length-range_with_len 0 n, plane, values.shape.within_limits.few_pixels);
+      few = omega (
+        arith,
+        all_counted values (filter test (range_with_len 0 n)),
+        length-filter-le test (range_with_len 0 n),
+        length-range_with_len 0 n,
+        plane,
+        values.shape.within_limits.few_pixels,
+      );
       sum = sum_small values (filter test (range_with_len 0 n)) (λ p m. level_small values p (λ v e. small p v (inside p m) e));
     })
   where

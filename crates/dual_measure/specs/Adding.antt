@@ -47,11 +47,6 @@ unfoldable pub measured_so_far : Raster → List ℕ → Measure
 measured_so_far values [] = blank_measure
 measured_so_far values (p ∷ ps) = combined (measure_at (value_at values.values p)) (measured_so_far values ps)
 
--- the least value of f over some pixels; over none, the greatest i64
-abbrev pub lowest_value : (ℕ → ℤ) → List ℕ → ℤ
-lowest_value f [] = pos (2 ^ 63 - 1)
-lowest_value f (p ∷ ps) = int_min (f p) (lowest_value f ps)
-
 -- when all pixels were added: 0 for low and peak where none is seen
 unfoldable pub settled_measure : Measure → Measure
 settled_measure m = if m.seen == 0 then record m { low = pos 0; peak = pos 0 } else m

@@ -18,10 +18,12 @@ use std::alloc::Global;
 pub fn measures(alloc: Global, values: &Plane, tree: &Tree) -> Result<Vec<Measure>, OutOfMemory>
     requires shape { values.now.shape ≡ tree.now.shape }
     requires tree { IsPlanesTree tree.now }
-    ensures exact { IfOk result (λ measures. (plane : Raster) (connect : Connect) → IsPlane plane → tree.now ≡ tree_of plane connect
+    ensures exact { IfOk result (λ measures. (plane : Raster) (connect : Connect) → IsPlane plane
+        → tree.now ≡ tree_of plane connect
         → measures.items ≡ measures_of values.now plane connect) }
     ensures the_trees { IfOk result (λ measures. AreTheTreesMeasures tree.now measures.items) }
-    ensures small { IfOk result (λ measures. (n : ℕ) (entry : Entry) → slice_get measures.items n ≡ Some entry → HasMeasureSizes entry) }
+    ensures small { IfOk result (λ measures. (n : ℕ) (entry : Entry)
+        → slice_get measures.items n ≡ Some entry → HasMeasureSizes entry) }
 {
     let mut entries = vec![in alloc; Measure::blank(); tree.rows().len()]?;
     fill(values, tree, &mut entries);
@@ -33,7 +35,8 @@ fn fill(values: &Plane, tree: &Tree, entries: &mut [Measure])
     requires shape { values.now.shape ≡ tree.now.shape }
     requires tree { IsPlanesTree tree.now }
     requires blank { entries.old ≡ replicate (length tree.now.rows) blank_measure }
-    ensures exact { (plane : Raster) (connect : Connect) → IsPlane plane → tree.now ≡ tree_of plane connect
+    ensures exact { (plane : Raster) (connect : Connect) → IsPlane plane
+        → tree.now ≡ tree_of plane connect
         → entries.new ≡ measures_of values.now plane connect }
     ensures the_trees { AreTheTreesMeasures tree.now entries.new }
 {

@@ -13,7 +13,8 @@ use comp_tree::{NONE, Tree};
 pub fn back(tree: &Tree, measures: &[Measure], n: u32) -> i64
     requires node { n < length tree.now.rows }
     requires measures { AreTheTreesMeasures tree.now measures.now }
-    ensures { (values plane : Raster) (connect : Connect) → IsPlane plane → tree.now ≡ tree_of plane connect → measures.now ≡ measures_of values plane connect
+    ensures { (values plane : Raster) (connect : Connect) → IsPlane plane
+        → tree.now ≡ tree_of plane connect → measures.now ≡ measures_of values plane connect
         → result ≡ back_of values plane connect n }
 {
     let parent = tree.rows()[n as usize].parent;

@@ -3,27 +3,24 @@ use Rattle.std.proofs.Common.{◌≡◌, ℕ, ◌*◌, ◌^◌, ◌<◌, ◌≤�
 use Rattle.std.specs.Prelude.{ℤ, ◌≤ℤ◌, nat_le, int_le}
 use Rattle.std.proofs.lemmas.Int.{ints}
 use Rattle.std.proofs.lemmas.Bool.{and_parts, and_from, leb-true, le-leb}
+use Rattle.lemmas.proofs.Exported.{int_le-from, int_le-true, same_bool}
 use Rattle.comp_tree.specs.declared.shape.Connect.{Connect}
 use Rattle.comp_tree.specs.Raster.{Raster, IsPlane, pixels}
 use Rattle.comp_tree.specs.Components.{nodes, is_in_node, tree_of}
 use Rattle.comp_tree.specs.Laws.{IsNestedIn}
-use Rattle.comp_tree.proofs.Exported.{int_le-true, int_le-from, within_from_test, same_bool}
+use Rattle.comp_tree.proofs.Exported.{within_from_test}
 use Rattle.node_sums.specs.declared.entry.Sums.{Sums}
-use Rattle.node_sums.specs.Sums.{sums_of, sums_over}
+use Rattle.node_sums.specs.Sums.{sums_of}
 use Rattle.comp_tree.specs.Nesting.{pixels_of, is_root}
 use Rattle.node_sums.specs.Flux.{flux_of}
-use Rattle.node_sums.proofs.Exported.{flux_grows}
+use Rattle.node_sums.proofs.Exported.{few-pixels_of, flux_grows, sums-area}
 use Rattle.filter_rules.specs.declared.rule.Rule.TheVariants.{Min, Max, Direct}
 use Rattle.filter_rules.specs.declared.rule.Criterion.{Criterion}
 use Rattle.filter_rules.specs.Criteria.{box_of, is_filled, admits, satisfies}
-use Rattle.filter_rules.specs.Filtered.{keeps, is_kept}
+use Rattle.filter_rules.specs.Filtered.{satisfies_rule, is_kept}
 use Rattle.filter_rules.specs.Laws.{RulesAgreeOnGrowingMeasures}
 use Rattle.filter_rules.proofs.Around.{IsAbove, within_from_above, min_gives, min_from, IsKeptFor, max_gives, max_from}
-use Rattle.filter_rules.proofs.Boxes.{length_grows, few_in}
-
-area_is : (r : Raster) (connect : Connect) (n : ℕ) → (sums_of r connect n).area ≡ length (pixels_of r connect n)
-unfolding sums_of sums_over
-area_is r connect n = refl
+use Rattle.filter_rules.proofs.Boxes.{length_grows}
 
 pixels_grow : (r : Raster) (connect : Connect) (m n : ℕ) → IsNestedIn r connect n m → length (pixels_of r connect n) ≤ length (pixels_of r connect m)
 unfolding pixels_of
@@ -40,7 +37,8 @@ admitted criterion s flux h =
     and_parts (nat_le criterion.min_area s.area && nat_le s.area criterion.max_area && int_le criterion.min_flux flux) (is_filled criterion s) h in
     let b : ((nat_le criterion.min_area s.area && nat_le s.area criterion.max_area) ≡ true) × (int_le criterion.min_flux flux ≡ true) =
     and_parts (nat_le criterion.min_area s.area && nat_le s.area criterion.max_area) (int_le criterion.min_flux flux) a.0 in
-    let d : (nat_le criterion.min_area s.area ≡ true) × (nat_le s.area criterion.max_area ≡ true) = and_parts (nat_le criterion.min_area s.area) (nat_le s.area criterion.max_area) b.0 in
+    let d : (nat_le criterion.min_area s.area ≡ true) × (nat_le s.area criterion.max_area ≡ true) =
+    and_parts (nat_le criterion.min_area s.area) (nat_le s.area criterion.max_area) b.0 in
     record { large = leb-true criterion.min_area s.area d.0; bright = int_le-true criterion.min_flux flux b.1 }
 
 admits-from : (criterion : Criterion) (s : Sums) (flux : ℤ) → criterion.max_area ≡ 2 ^ 24 → criterion.min_fill ≡ 0 → s.area ≤ 2 ^ 24
@@ -48,7 +46,8 @@ admits-from : (criterion : Criterion) (s : Sums) (flux : ℤ) → criterion.max_
 admits-from criterion s flux most none few k =
     and_from (nat_le criterion.min_area s.area && nat_le s.area criterion.max_area && int_le criterion.min_flux flux) (is_filled criterion s)
     (and_from (nat_le criterion.min_area s.area && nat_le s.area criterion.max_area) (int_le criterion.min_flux flux)
-    (and_from (nat_le criterion.min_area s.area) (nat_le s.area criterion.max_area) (le-leb criterion.min_area s.area k.large) (le-leb s.area criterion.max_area (omega (arith, most))))
+    (and_from (nat_le criterion.min_area s.area) (nat_le s.area criterion.max_area) (le-leb criterion.min_area s.area k.large)
+    (le-leb s.area criterion.max_area (omega (arith, most))))
     (int_le-from criterion.min_flux flux k.bright))
     (le-leb (criterion.min_fill * box_of s) (1000 * s.area) empty)
   where
@@ -60,11 +59,15 @@ admits-from criterion s flux most none few k =
 
 -- a node around one that satisfies does too
 satisfies_grows : (r : Raster) (connect : Connect) (criterion : Criterion) (m n : ℕ) → IsPlane r → m < length (nodes r connect) → n < length (nodes r connect)
-    → criterion.max_area ≡ 2 ^ 24 → criterion.min_fill ≡ 0 → IsAbove (tree_of r connect).rows m n → satisfies r connect criterion n ≡ true → satisfies r connect criterion m ≡ true
+    → criterion.max_area ≡ 2 ^ 24 → criterion.min_fill ≡ 0 → IsAbove (tree_of r connect).rows m n → satisfies r connect criterion n ≡ true
+    → satisfies r connect criterion m ≡ true
 unfolding satisfies
 satisfies_grows r connect criterion m n plane hm hn most none a h =
-    admits-from criterion (sums_of r connect m) (flux_of r connect m) most none (omega (arith, area_is r connect m, few_in r connect m plane))
-    (record { large = omega (arith, k.large, area_is r connect m, area_is r connect n, pixels_grow r connect m n w); bright = omega (arith, ints, k.bright, flux_grows r connect m n plane hm hn w) })
+    admits-from criterion (sums_of r connect m) (flux_of r connect m) most none (omega (arith, sums-area r connect m, few-pixels_of r connect m plane))
+    (record {
+      large = omega (arith, k.large, sums-area r connect m, sums-area r connect n, pixels_grow r connect m n w);
+      bright = omega (arith, ints, k.bright, flux_grows r connect m n plane hm hn w);
+    })
   where
     w : IsNestedIn r connect n m
     w = within_from_test r connect n m (within_from_above r connect n m plane hn hm a)
@@ -72,8 +75,8 @@ satisfies_grows r connect criterion m n plane hm hn most none a h =
     k : IsAdmitted criterion (sums_of r connect n) (flux_of r connect n)
     k = admitted criterion (sums_of r connect n) (flux_of r connect n) h
 
-direct-is : (r : Raster) (connect : Connect) (criterion : Criterion) (n : ℕ) → keeps r connect Direct criterion n ≡ satisfies r connect criterion n
-unfolding keeps
+direct-is : (r : Raster) (connect : Connect) (criterion : Criterion) (n : ℕ) → satisfies_rule r connect Direct criterion n ≡ satisfies r connect criterion n
+unfolding satisfies_rule
 direct-is r connect criterion n = refl
 
 pub rules_agree : RulesAgreeOnGrowingMeasures
@@ -83,17 +86,17 @@ rules_agree r connect criterion n plane hn most none = (
   ap (λ (b : Bool). is_root (tree_of r connect) n || b) (max ∙ sym (direct-is r connect criterion n)),
 )
   where
-    min : keeps r connect Min criterion n ≡ satisfies r connect criterion n
+    min : satisfies_rule r connect Min criterion n ≡ satisfies r connect criterion n
     min =
-        same_bool (keeps r connect Min criterion n) (satisfies r connect criterion n)
+        same_bool (satisfies_rule r connect Min criterion n) (satisfies r connect criterion n)
         (λ h. min_gives r connect criterion n n plane hn h hn (inl refl))
         (λ h. min_from r connect criterion n plane hn (λ m hm a. satisfies_grows r connect criterion m n plane hm hn most none a h))
 
     from : IsKeptFor r connect criterion n → satisfies r connect criterion n ≡ true
     from k = satisfies_grows r connect criterion n k.node plane hn k.listed most none k.within k.satisfied
 
-    max : keeps r connect Max criterion n ≡ satisfies r connect criterion n
+    max : satisfies_rule r connect Max criterion n ≡ satisfies r connect criterion n
     max =
-        same_bool (keeps r connect Max criterion n) (satisfies r connect criterion n)
+        same_bool (satisfies_rule r connect Max criterion n) (satisfies r connect criterion n)
         (λ h. from (max_gives r connect criterion n plane hn h))
         (λ h. max_from r connect criterion n n plane hn hn (inl refl) h)

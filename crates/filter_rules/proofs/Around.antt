@@ -1,19 +1,20 @@
 -- A node's component lies within that of the node itself and of its ancestors, and of no others.
-use Rattle.std.proofs.Common.{◌≡◌, ℕ, ◌+◌, ◌<◌, ◌≤◌, true, List, length, sym, subst, arith, ◌⊎◌, inl, inr}
+use Rattle.std.proofs.Common.{◌≡◌, ℕ, ◌<◌, true, List, length, sym, subst, arith, ◌⊎◌, inl, inr}
 use Rattle.std.specs.Prelude.{IsTrue}
+use Rattle.lemmas.proofs.Exported.{IsAmong, IsWitness, among-filter, among_from_filter, any_from_among, witness_from_any}
 use Rattle.comp_tree.specs.declared.shape.Connect.{Connect}
 use Rattle.comp_tree.specs.declared.tree.NodeRow.{NodeRow}
 use Rattle.comp_tree.specs.Raster.{Raster, IsPlane, is_defined}
 use Rattle.comp_tree.specs.Components.{nodes, node_of, is_in_node, tree_of}
 use Rattle.comp_tree.specs.Nesting.{node_numbers, lies_within}
 use Rattle.comp_tree.specs.Laws.{IsAncestor, parent, above, top_of}
-use Rattle.comp_tree.proofs.Exported.{IsAmong, IsWitness, among-filter, among_from_filter, among-range, among_from_range, any_from_among, witness_from_any, top-representative, top-defined, length-rows, ancestors_are_the_larger_nodes, pixels_belong_to_their_ancestors, all_gives, all_from, in_node-defined, top_inside, within_from_test, test_from_within}
+use Rattle.comp_tree.proofs.Exported.{top-representative, top-defined, length-rows, ancestors_are_the_larger_nodes, pixels_belong_to_their_ancestors, all_gives, all_from, in_node-defined, top_inside, within_from_test, test_from_within}
 use Rattle.comp_tree.proofs.Exported as Nodes
-use Rattle.node_sums.proofs.Exported.{goes_down, ancestor_smaller}
+use Rattle.node_sums.proofs.Exported.{among_nodes, ancestor_smaller, goes_down, node_from_among}
 use Rattle.filter_rules.specs.declared.rule.Rule.TheVariants.{Min, Max}
 use Rattle.filter_rules.specs.declared.rule.Criterion.{Criterion}
 use Rattle.filter_rules.specs.Criteria.{satisfies}
-use Rattle.filter_rules.specs.Filtered.{around, inside, keeps}
+use Rattle.filter_rules.specs.Filtered.{around, inside, satisfies_rule}
 
 -- m is n, or one of its ancestors
 abbrev pub IsAbove : List NodeRow → ℕ → ℕ → Type 0
@@ -71,29 +72,25 @@ above_both r connect m n plane hm hn (inr a) (inr b) =
 
 -- ---- what `Min` and `Max` keep
 
-among_numbers : (r : Raster) (connect : Connect) (n : ℕ) → n < length (nodes r connect) → IsAmong n (node_numbers r connect)
-among_numbers r connect n h = among-range 0 (length (nodes r connect)) n (omega arith) (omega arith)
-
-pub below_from_numbers : (r : Raster) (connect : Connect) (n : ℕ) → IsAmong n (node_numbers r connect) → n < length (nodes r connect)
-below_from_numbers r connect n m =
-    let k : (0 ≤ n) × (n < 0 + length (nodes r connect)) = among_from_range 0 (length (nodes r connect)) n m in omega arith
-
-pub min_gives : (r : Raster) (connect : Connect) (criterion : Criterion) (n m : ℕ) → IsPlane r → n < length (nodes r connect) → keeps r connect Min criterion n ≡ true
+pub min_gives : (r : Raster) (connect : Connect) (criterion : Criterion) (n m : ℕ) → IsPlane r → n < length (nodes r connect)
+    → satisfies_rule r connect Min criterion n ≡ true
     → m < length (nodes r connect) → IsAbove (tree_of r connect).rows m n → satisfies r connect criterion m ≡ true
-unfolding keeps
+unfolding satisfies_rule
 min_gives r connect criterion n m plane hn h hm a =
     all_gives (satisfies r connect criterion) (around r connect n) m h
-    (among-filter (λ k. lies_within r connect n k) m (node_numbers r connect) (among_numbers r connect m hm) (within_from_above r connect n m plane hn hm a))
+    (among-filter (λ k. lies_within r connect n k) m (node_numbers r connect) (among_nodes r connect m hm) (within_from_above r connect n m plane hn hm a))
 
 pub min_from : (r : Raster) (connect : Connect) (criterion : Criterion) (n : ℕ) → IsPlane r → n < length (nodes r connect)
-    → ((m : ℕ) → m < length (nodes r connect) → IsAbove (tree_of r connect).rows m n → satisfies r connect criterion m ≡ true) → keeps r connect Min criterion n ≡ true
-unfolding keeps
+    → ((m : ℕ) → m < length (nodes r connect) → IsAbove (tree_of r connect).rows m n → satisfies r connect criterion m ≡ true)
+    → satisfies_rule r connect Min criterion n ≡ true
+unfolding satisfies_rule
 min_from r connect criterion n plane hn h = all_from (satisfies r connect criterion) (around r connect n) at
   where
     at : (m : ℕ) → IsAmong m (around r connect n) → satisfies r connect criterion m ≡ true
     at m k =
-        let parts : IsAmong m (node_numbers r connect) × IsTrue (lies_within r connect n m) = among_from_filter (λ k. lies_within r connect n k) m (node_numbers r connect) k in
-        let hm : m < length (nodes r connect) = below_from_numbers r connect m parts.0 in
+        let parts : IsAmong m (node_numbers r connect) × IsTrue (lies_within r connect n m) =
+        among_from_filter (λ k. lies_within r connect n k) m (node_numbers r connect) k in
+        let hm : m < length (nodes r connect) = node_from_among r connect m parts.0 in
         h m hm (above_from_within r connect n m plane hn hm parts.1)
 
 -- a node from which n is kept under `Max`
@@ -103,20 +100,22 @@ pub record IsKeptFor (r : Raster) (connect : Connect) (criterion : Criterion) (n
   pub within : IsAbove (tree_of r connect).rows n node
   pub satisfied : satisfies r connect criterion node ≡ true
 
-pub max_gives : (r : Raster) (connect : Connect) (criterion : Criterion) (n : ℕ) → IsPlane r → n < length (nodes r connect) → keeps r connect Max criterion n ≡ true
+pub max_gives : (r : Raster) (connect : Connect) (criterion : Criterion) (n : ℕ) → IsPlane r → n < length (nodes r connect)
+    → satisfies_rule r connect Max criterion n ≡ true
     → IsKeptFor r connect criterion n
-unfolding keeps
+unfolding satisfies_rule
 max_gives r connect criterion n plane hn h = go (witness_from_any (satisfies r connect criterion) (inside r connect n) h)
   where
     go : IsWitness (satisfies r connect criterion) (inside r connect n) → IsKeptFor r connect criterion n
     go w =
-        let parts : IsAmong w.it (node_numbers r connect) × IsTrue (lies_within r connect w.it n) = among_from_filter (λ k. lies_within r connect k n) w.it (node_numbers r connect) w.among in
-        let hm : w.it < length (nodes r connect) = below_from_numbers r connect w.it parts.0 in
+        let parts : IsAmong w.it (node_numbers r connect) × IsTrue (lies_within r connect w.it n) =
+        among_from_filter (λ k. lies_within r connect k n) w.it (node_numbers r connect) w.among in
+        let hm : w.it < length (nodes r connect) = node_from_among r connect w.it parts.0 in
         record { node = w.it; listed = hm; within = above_from_within r connect w.it n plane hm hn parts.1; satisfied = w.passes }
 
 pub max_from : (r : Raster) (connect : Connect) (criterion : Criterion) (n m : ℕ) → IsPlane r → n < length (nodes r connect) → m < length (nodes r connect)
-    → IsAbove (tree_of r connect).rows n m → satisfies r connect criterion m ≡ true → keeps r connect Max criterion n ≡ true
-unfolding keeps
+    → IsAbove (tree_of r connect).rows n m → satisfies r connect criterion m ≡ true → satisfies_rule r connect Max criterion n ≡ true
+unfolding satisfies_rule
 max_from r connect criterion n m plane hn hm a s =
     any_from_among (satisfies r connect criterion) m (inside r connect n)
-    (among-filter (λ k. lies_within r connect k n) m (node_numbers r connect) (among_numbers r connect m hm) (within_from_above r connect m n plane hm hn a)) s
+    (among-filter (λ k. lies_within r connect k n) m (node_numbers r connect) (among_nodes r connect m hm) (within_from_above r connect m n plane hm hn a)) s

@@ -1,19 +1,20 @@
 -- What is known of the sums and the rows of a tree.
-use Rattle.std.proofs.Common.{◌≡◌, ℕ, ◌^◌, ◌<◌, ◌≤◌, suc, Bool, true, false, cond, List, [], ◌∷◌, length, refl, sym, ◌∙◌, ap, subst, arith, inl, inr, get_or}
+use Rattle.std.proofs.Common.{◌≡◌, ℕ, ◌<◌, ◌≤◌, Bool, true, false, List, [], ◌∷◌, length, refl, sym, ◌∙◌, ap, subst, arith, inl, inr, get_or}
 use Rattle.std.specs.Prelude.{filter, ℤ, ◌≤ℤ◌, ◌<ℤ◌}
 use Rattle.std.proofs.lemmas.Int.{ints}
 use Rattle.std.proofs.lemmas.List.FromFn.{get_or-map-range_with_len}
+use Rattle.lemmas.proofs.Exported.{IsAmong, among_from_filter, int_lt-true}
 use Rattle.comp_tree.specs.declared.shape.Connect.{Connect}
 use Rattle.comp_tree.specs.Limits.{IsWithinRange}
 use Rattle.comp_tree.specs.Raster.{Raster, IsPlane, HasValuesInRange, pixels, level}
 use Rattle.comp_tree.specs.ComponentTree.{ComponentTree, parent_in}
 use Rattle.comp_tree.specs.Components.{nodes, is_in_node, tree_of}
 use Rattle.comp_tree.specs.Laws.{top_of}
-use Rattle.comp_tree.proofs.Exported.{IsAmong, among_from_filter, below_from_defined, length-pixels, length-rows, parent-of_node, parent-candidate, int_lt-true, in_node-defined, among_pixels, top_inside}
+use Rattle.comp_tree.proofs.Exported.{below_from_defined, length-rows, parent-of_node, parent-candidate, in_node-defined, among_pixels, top_inside}
 use Rattle.node_sums.specs.declared.entry.Sums.{Sums}
 use Rattle.node_sums.specs.Sums.{AreTheTrees, sums_of, sums_in, sums_over, x_of, y_of, least, greatest}
 use Rattle.comp_tree.specs.Nesting.{pixels_of, level_in}
-use Rattle.node_sums.proofs.Exported.{x_small, y_small, level_up_to, level-of_node, goes_down}
+use Rattle.node_sums.proofs.Exported.{few-pixels_of, goes_down, level-of_node, level_up_to, x_small, y_small}
 use Rattle.node_sums.specs.Flux.{flux_of}
 use Rattle.node_sums.specs.Sizes.{IsUpTo, value_bound}
 use Rattle.filter_rules.specs.declared.rule.Criterion.{Criterion}
@@ -50,26 +51,23 @@ length_grows f g (p ∷ ps) h = go (f p) (g p) refl refl (length_grows f g ps h)
     go false true u v ih = rw (u, v) (omega arith)
     go false false u v ih = rw (u, v) ih
 
-pub few_in : (r : Raster) (connect : Connect) (n : ℕ) → IsPlane r → length (pixels_of r connect n) ≤ 2 ^ 24
-unfolding pixels_of
-few_in r connect n plane =
-    omega (arith, length-filter-le (is_in_node r connect n) (pixels r), length-pixels r, plane, r.shape.within_limits.few_pixels)
-  where
-    length-filter-le : (test : ℕ → Bool) (ps : List ℕ) → length (filter test ps) ≤ length ps
-    length-filter-le test [] = omega arith
-    length-filter-le test (p ∷ ps) = go (test p) (length-filter-le test ps)
-      where
-        go : (b : Bool) → length (filter test ps) ≤ length ps → length (cond b (p ∷ filter test ps) (filter test ps)) ≤ suc (length ps)
-        go true ih = omega arith
-        go false ih = omega arith
-
 pub has_box : (r : Raster) (connect : Connect) (n : ℕ) → IsPlane r → n < length (nodes r connect) → HasBox (sums_of r connect n)
 unfolding sums_of sums_over
 has_box r connect n plane hn = record {
-  area = few_in r connect n plane;
-  columns = omega (arith, least_at_most (x_of r) (pixels_of r connect n) (top_of r connect n) there, greatest_at_least (x_of r) (pixels_of r connect n) (top_of r connect n) there);
+  area = few-pixels_of r connect n plane;
+  columns = omega (
+    arith,
+    least_at_most (x_of r) (pixels_of r connect n) (top_of r connect n) there,
+    greatest_at_least (x_of r) (pixels_of r connect n)
+        (top_of r connect n) there,
+  );
   few_columns = greatest_up_to (x_of r) 65535 (pixels_of r connect n) (λ p m. x_small r p);
-  rows = omega (arith, least_at_most (y_of r) (pixels_of r connect n) (top_of r connect n) there, greatest_at_least (y_of r) (pixels_of r connect n) (top_of r connect n) there);
+  rows = omega (
+    arith,
+    least_at_most (y_of r) (pixels_of r connect n) (top_of r connect n) there,
+    greatest_at_least (y_of r) (pixels_of r connect n)
+        (top_of r connect n) there,
+  );
   few_rows = greatest_up_to (y_of r) 65535 (pixels_of r connect n) (λ p m. y_small r p plane (pixel_below r connect n p m));
 }
   where
@@ -78,9 +76,11 @@ has_box r connect n plane hn = record {
 
 -- ---- the sums of some plane's tree
 
-entry_is : (r : Raster) (connect : Connect) (sums : List Sums) (n : ℕ) (d : Sums) → sums ≡ sums_in r connect → n < length (nodes r connect) → get_or sums n d ≡ sums_of r connect n
+entry_is : (r : Raster) (connect : Connect) (sums : List Sums) (n : ℕ) (d : Sums) → sums ≡ sums_in r connect → n < length (nodes r connect)
+    → get_or sums n d ≡ sums_of r connect n
 unfolding sums_in
-entry_is r connect sums n d e h = ap (λ (xs : List Sums). get_or xs n d) e ∙ get_or-map-range_with_len (sums_of r connect) 0 (length (nodes r connect)) n n d h (omega arith)
+entry_is r connect sums n d e h =
+    ap (λ (xs : List Sums). get_or xs n d) e ∙ get_or-map-range_with_len (sums_of r connect) 0 (length (nodes r connect)) n n d h (omega arith)
 
 rows_of : (tree : ComponentTree) (sums : List Sums) → (t : AreTheTrees tree sums) → length tree.rows ≡ length (nodes t.plane t.of_plane.connect)
 rows_of tree sums t = ap (λ (x : ComponentTree). length x.rows) t.of_plane.tree_is ∙ length-rows t.plane t.of_plane.connect
@@ -124,6 +124,7 @@ trees_rise tree sums t =
             int_lt-true (level r (top_of r connect (parent_in (tree_of r connect).rows n))) (level r (top_of r connect n))
             (parent-candidate r connect (parent_in (tree_of r connect).rows n) n plane hn hp (sym (parent-of_node r connect n hn))).candidate.lower in
             let a : level_in (tree_of r connect).rows n ≡ level r (top_of r connect n) = level-of_node r connect n hn in
-            let b : level_in (tree_of r connect).rows (parent_in (tree_of r connect).rows n) ≡ level r (top_of r connect (parent_in (tree_of r connect).rows n)) =
+            let b : level_in (tree_of r connect).rows (parent_in (tree_of r connect).rows n) ≡ level r
+            (top_of r connect (parent_in (tree_of r connect).rows n)) =
             level-of_node r connect (parent_in (tree_of r connect).rows n) hp in
             omega (arith, ints)

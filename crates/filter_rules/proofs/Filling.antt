@@ -16,7 +16,7 @@ use Rattle.node_sums.specs.Sizes.{IsUpTo, value_bound}
 use Rattle.node_sums.proofs.Exported.{up_to-minus, fits, row-parent, row_level}
 use Rattle.filter_rules.specs.declared.rule.Rule.{Rule}
 use Rattle.filter_rules.specs.declared.rule.Rule.TheVariants.{Subtractive}
-use Rattle.filter_rules.specs.Passes.{HasRisingLevels, flag, filled_pixel, value, value_of_kept, value_of_node, AreValues}
+use Rattle.filter_rules.specs.Passes.{HasRisingLevels, flag, filled_pixel, value_in, value_of_kept, value_of_node, AreValues}
 
 -- ---- pixels
 
@@ -45,8 +45,10 @@ filled_all node_of values pixels p l h = from_places values node_of pixels h.one
 fits_range : (z : ℤ) → IsWithinRange z → SFits w64 z
 fits_range z h = fits w64 value_bound z (record { low = h.low; high = h.high }) (lit< tt)
 
-pub level_read : (rows : List NodeRow) (n : ℕ) (d : NodeRow) → HasRisingLevels rows → n < length rows → to_z w64 (of_z w64 (slice_index_or rows n d).level) ≡ level_in rows n
-level_read rows n d rising h = ap (λ (z : ℤ). to_z w64 (of_z w64 z)) (row_level rows n d h) ∙ to_z-of_z w64 (level_in rows n) (fits_range (level_in rows n) (rising.levels n h))
+pub level_read : (rows : List NodeRow) (n : ℕ) (d : NodeRow) → HasRisingLevels rows → n < length rows
+    → to_z w64 (of_z w64 (slice_index_or rows n d).level) ≡ level_in rows n
+level_read rows n d rising h =
+    ap (λ (z : ℤ). to_z w64 (of_z w64 z)) (row_level rows n d h) ∙ to_z-of_z w64 (level_in rows n) (fits_range (level_in rows n) (rising.levels n h))
 
 -- ---- the value of one node
 
@@ -72,19 +74,19 @@ module _ (rows : List NodeRow) (rule : Rule) (kept : List Bool) (values : List �
     pub parent_before : (slice_index_or rows n d).parent < n
     parent_before = subst (λ (m : ℕ). m < n) (sym (row-parent rows n d node)) parent_less
 
-    above_range : IsWithinRange (value values (parent_in rows n))
+    above_range : IsWithinRange (value_in values (parent_in rows n))
     above_range = made.in_range (parent_in rows n) (omega (arith, parent_less))
 
-    above_most : value values (parent_in rows n) ≤ℤ level_in rows (parent_in rows n)
+    above_most : value_in values (parent_in rows n) ≤ℤ level_in rows (parent_in rows n)
     above_most = made.at_most (parent_in rows n) (omega (arith, parent_less))
 
     base_most : level_in rows (parent_in rows n) ≤ℤ level_in rows n
     base_most = rising.rising n node (omega (arith, parent_less))
 
-    pub above_read : to_z w64 (of_z w64 (slice_index_or values (slice_index_or rows n d).parent (pos 0))) ≡ value values (parent_in rows n)
+    pub above_read : to_z w64 (of_z w64 (slice_index_or values (slice_index_or rows n d).parent (pos 0))) ≡ value_in values (parent_in rows n)
     above_read =
         ap (λ (m : ℕ). to_z w64 (of_z w64 (slice_index_or values m (pos 0)))) (row-parent rows n d node)
-        ∙ to_z-of_z w64 (value values (parent_in rows n)) (fits_range (value values (parent_in rows n)) above_range)
+        ∙ to_z-of_z w64 (value_in values (parent_in rows n)) (fits_range (value_in values (parent_in rows n)) above_range)
 
     base_read : to_z w64 (of_z w64 (slice_index_or rows (slice_index_or rows n d).parent d).level) ≡ level_in rows (parent_in rows n)
     base_read =
@@ -104,14 +106,14 @@ module _ (rows : List NodeRow) (rule : Rule) (kept : List Bool) (values : List �
 
     -- a kept node
     of_kept : flag kept n ≡ true
-        → value_of_kept rule (level_in rows n) (level_in rows (parent_in rows n)) (value values (parent_in rows n)) ≡ value_of_node rows rule kept values n
+        → value_of_kept rule (level_in rows n) (level_in rows (parent_in rows n)) (value_in values (parent_in rows n)) ≡ value_of_node rows rule kept values n
     of_kept f = rw (ne_eqb (parent_in rows n) no_node some_parent, f) refl
 
     pub level_exact : (s : Rule) → rule ≡ s → ((level base above : ℤ) → value_of_kept s level base above ≡ level) → flag kept n ≡ true
         → to_z w64 (of_z w64 (slice_index_or rows n d).level) ≡ value_of_node rows rule kept values n
     level_exact s is at f =
-        own_level ∙ sym (at (level_in rows n) (level_in rows (parent_in rows n)) (value values (parent_in rows n)))
-        ∙ ap (λ (t : Rule). value_of_kept t (level_in rows n) (level_in rows (parent_in rows n)) (value values (parent_in rows n))) (sym is) ∙ of_kept f
+        own_level ∙ sym (at (level_in rows n) (level_in rows (parent_in rows n)) (value_in values (parent_in rows n)))
+        ∙ ap (λ (t : Rule). value_of_kept t (level_in rows n) (level_in rows (parent_in rows n)) (value_in values (parent_in rows n))) (sym is) ∙ of_kept f
 
     up_to : (z : ℤ) → IsWithinRange z → IsUpTo value_bound z
     up_to z h = record { low = h.low; high = h.high }
@@ -122,7 +124,9 @@ module _ (rows : List NodeRow) (rule : Rule) (kept : List Bool) (values : List �
 
     rise_is : to_z w64 (of_z w64 (slice_index_or rows n d).level) -ℤ to_z w64 (of_z w64 (slice_index_or rows (slice_index_or rows n d).parent d).level)
         ≡ level_in rows n -ℤ level_in rows (parent_in rows n)
-    rise_is = ap (λ (z : ℤ). z -ℤ to_z w64 (of_z w64 (slice_index_or rows (slice_index_or rows n d).parent d).level)) own_level ∙ ap (λ (z : ℤ). level_in rows n -ℤ z) base_read
+    rise_is =
+        ap (λ (z : ℤ). z -ℤ to_z w64 (of_z w64 (slice_index_or rows (slice_index_or rows n d).parent d).level)) own_level
+        ∙ ap (λ (z : ℤ). level_in rows n -ℤ z) base_read
 
     rise_fits : SFits w64 (level_in rows n -ℤ level_in rows (parent_in rows n))
     rise_fits =
@@ -130,48 +134,58 @@ module _ (rows : List NodeRow) (rule : Rule) (kept : List Bool) (values : List �
         (up_to-minus value_bound value_bound (level_in rows n) (level_in rows (parent_in rows n)) (up_to (level_in rows n) (rising.levels n node))
         (up_to (level_in rows (parent_in rows n)) (rising.levels (parent_in rows n) (omega (arith, parent_less))))) (lit< tt)
 
-    pub sub_fits : SFits w64 (to_z w64 (of_z w64 (slice_index_or rows n d).level) -ℤ to_z w64 (of_z w64 (slice_index_or rows (slice_index_or rows n d).parent d).level))
+    pub sub_fits : SFits w64 (to_z w64 (of_z w64 (slice_index_or rows n d).level) -ℤ to_z w64
+        (of_z w64 (slice_index_or rows (slice_index_or rows n d).parent d).level))
     sub_fits = subst (SFits w64) (sym rise_is) rise_fits
 
-    sum_range : IsWithinRange (value values (parent_in rows n) +ℤ (level_in rows n -ℤ level_in rows (parent_in rows n)))
+    sum_range : IsWithinRange (value_in values (parent_in rows n) +ℤ (level_in rows n -ℤ level_in rows (parent_in rows n)))
     sum_range =
-        let a : IsWithinRange (value values (parent_in rows n)) = above_range in
+        let a : IsWithinRange (value_in values (parent_in rows n)) = above_range in
         let l : IsWithinRange (level_in rows n) = rising.levels n node in
         record { low = omega (arith, ints, above_most, base_most, a.low); high = omega (arith, ints, above_most, base_most, l.high) }
 
     sum_is : to_z w64 (of_z w64 (slice_index_or values (slice_index_or rows n d).parent (pos 0)))
-        +ℤ to_z w64 (of_z w64 (to_z w64 (of_z w64 (slice_index_or rows n d).level) -ℤ to_z w64 (of_z w64 (slice_index_or rows (slice_index_or rows n d).parent d).level)))
-        ≡ value values (parent_in rows n) +ℤ (level_in rows n -ℤ level_in rows (parent_in rows n))
+        +ℤ to_z w64 (of_z w64 (to_z w64 (of_z w64 (slice_index_or rows n d).level) -ℤ to_z w64
+        (of_z w64 (slice_index_or rows (slice_index_or rows n d).parent d).level)))
+        ≡ value_in values (parent_in rows n) +ℤ (level_in rows n -ℤ level_in rows (parent_in rows n))
     sum_is =
-        ap (λ (z : ℤ). z +ℤ to_z w64 (of_z w64 (to_z w64 (of_z w64 (slice_index_or rows n d).level) -ℤ to_z w64 (of_z w64 (slice_index_or rows (slice_index_or rows n d).parent d).level)))) above_read
-        ∙ ap (λ (z : ℤ). value values (parent_in rows n) +ℤ to_z w64 (of_z w64 z)) rise_is
-        ∙ ap (λ (z : ℤ). value values (parent_in rows n) +ℤ z) (to_z-of_z w64 (level_in rows n -ℤ level_in rows (parent_in rows n)) rise_fits)
+        ap (λ (z : ℤ). z +ℤ to_z w64 (of_z w64 (to_z w64 (of_z w64 (slice_index_or rows n d).level) -ℤ to_z w64
+        (of_z w64 (slice_index_or rows (slice_index_or rows n d).parent d).level)))) above_read
+        ∙ ap (λ (z : ℤ). value_in values (parent_in rows n) +ℤ to_z w64 (of_z w64 z)) rise_is
+        ∙ ap (λ (z : ℤ). value_in values (parent_in rows n) +ℤ z) (to_z-of_z w64 (level_in rows n -ℤ level_in rows (parent_in rows n)) rise_fits)
 
     pub add_fits : SFits w64 (to_z w64 (of_z w64 (slice_index_or values (slice_index_or rows n d).parent (pos 0)))
-        +ℤ to_z w64 (of_z w64 (to_z w64 (of_z w64 (slice_index_or rows n d).level) -ℤ to_z w64 (of_z w64 (slice_index_or rows (slice_index_or rows n d).parent d).level))))
-    add_fits = subst (SFits w64) (sym sum_is) (fits_range (value values (parent_in rows n) +ℤ (level_in rows n -ℤ level_in rows (parent_in rows n))) sum_range)
+        +ℤ to_z w64 (of_z w64 (to_z w64 (of_z w64 (slice_index_or rows n d).level) -ℤ to_z w64
+        (of_z w64 (slice_index_or rows (slice_index_or rows n d).parent d).level))))
+    add_fits =
+        subst (SFits w64) (sym sum_is) (fits_range (value_in values (parent_in rows n) +ℤ (level_in rows n -ℤ level_in rows (parent_in rows n))) sum_range)
 
     pub sum_read : to_z w64 (of_z w64 (to_z w64 (of_z w64 (slice_index_or values (slice_index_or rows n d).parent (pos 0)))
-        +ℤ to_z w64 (of_z w64 (to_z w64 (of_z w64 (slice_index_or rows n d).level) -ℤ to_z w64 (of_z w64 (slice_index_or rows (slice_index_or rows n d).parent d).level)))))
-        ≡ value values (parent_in rows n) +ℤ (level_in rows n -ℤ level_in rows (parent_in rows n))
+        +ℤ to_z w64 (of_z w64 (to_z w64 (of_z w64 (slice_index_or rows n d).level) -ℤ to_z w64
+        (of_z w64 (slice_index_or rows (slice_index_or rows n d).parent d).level)))))
+        ≡ value_in values (parent_in rows n) +ℤ (level_in rows n -ℤ level_in rows (parent_in rows n))
     sum_read =
         ap (λ (z : ℤ). to_z w64 (of_z w64 z)) sum_is
-        ∙ to_z-of_z w64 (value values (parent_in rows n) +ℤ (level_in rows n -ℤ level_in rows (parent_in rows n)))
-        (fits_range (value values (parent_in rows n) +ℤ (level_in rows n -ℤ level_in rows (parent_in rows n))) sum_range)
+        ∙ to_z-of_z w64 (value_in values (parent_in rows n) +ℤ (level_in rows n -ℤ level_in rows (parent_in rows n)))
+        (fits_range (value_in values (parent_in rows n) +ℤ (level_in rows n -ℤ level_in rows (parent_in rows n))) sum_range)
 
     pub sum_exact : rule ≡ Subtractive → flag kept n ≡ true
         → to_z w64 (of_z w64 (to_z w64 (of_z w64 (slice_index_or values (slice_index_or rows n d).parent (pos 0)))
-        +ℤ to_z w64 (of_z w64 (to_z w64 (of_z w64 (slice_index_or rows n d).level) -ℤ to_z w64 (of_z w64 (slice_index_or rows (slice_index_or rows n d).parent d).level)))))
+        +ℤ to_z w64 (of_z w64 (to_z w64 (of_z w64 (slice_index_or rows n d).level) -ℤ to_z w64
+        (of_z w64 (slice_index_or rows (slice_index_or rows n d).parent d).level)))))
         ≡ value_of_node rows rule kept values n
     sum_exact is f =
-        sum_read ∙ ap (λ (t : Rule). value_of_kept t (level_in rows n) (level_in rows (parent_in rows n)) (value values (parent_in rows n))) (sym is) ∙ of_kept f
+        sum_read ∙ ap (λ (t : Rule). value_of_kept t (level_in rows n) (level_in rows (parent_in rows n)) (value_in values (parent_in rows n))) (sym is)
+        ∙ of_kept f
 
     pub sum_in_range : IsWithinRange (to_z w64 (of_z w64 (to_z w64 (of_z w64 (slice_index_or values (slice_index_or rows n d).parent (pos 0)))
-        +ℤ to_z w64 (of_z w64 (to_z w64 (of_z w64 (slice_index_or rows n d).level) -ℤ to_z w64 (of_z w64 (slice_index_or rows (slice_index_or rows n d).parent d).level))))))
+        +ℤ to_z w64 (of_z w64 (to_z w64 (of_z w64 (slice_index_or rows n d).level) -ℤ to_z w64
+        (of_z w64 (slice_index_or rows (slice_index_or rows n d).parent d).level))))))
     sum_in_range = subst IsWithinRange (sym sum_read) sum_range
 
     pub sum_at_most : to_z w64 (of_z w64 (to_z w64 (of_z w64 (slice_index_or values (slice_index_or rows n d).parent (pos 0)))
-        +ℤ to_z w64 (of_z w64 (to_z w64 (of_z w64 (slice_index_or rows n d).level) -ℤ to_z w64 (of_z w64 (slice_index_or rows (slice_index_or rows n d).parent d).level)))))
+        +ℤ to_z w64 (of_z w64 (to_z w64 (of_z w64 (slice_index_or rows n d).level) -ℤ to_z w64
+        (of_z w64 (slice_index_or rows (slice_index_or rows n d).parent d).level)))))
         ≤ℤ level_in rows n
     sum_at_most = subst (λ (z : ℤ). z ≤ℤ level_in rows n) (sym sum_read) (omega (arith, ints, above_most))
 
@@ -185,7 +199,7 @@ choose (inl k) before after = before k
 choose (inr k) before after = after k
 
 module _ (rows : List NodeRow) (rule : Rule) (kept : List Bool) (values : List ℤ) (v : ℤ) where
-  same_value : (m : ℕ) → m < length values → value (values ++ v ∷ []) m ≡ value values m
+  same_value : (m : ℕ) → m < length values → value_in (values ++ v ∷ []) m ≡ value_in values m
   same_value m l = get_or-append values (v ∷ []) (pos 0) m l
 
   same_node : (n : ℕ) → HasRisingLevels rows → n < length rows → n ≤ length values
@@ -198,16 +212,18 @@ module _ (rows : List NodeRow) (rule : Rule) (kept : List Bool) (values : List �
           ap (λ (z : ℤ). cond (parent_in rows n == no_node) (level_in rows n)
           (cond (flag kept n) (value_of_kept rule (level_in rows n) (level_in rows (parent_in rows n)) z) z)) (same_value (parent_in rows n) (omega arith))
 
-  pub values_more : HasRisingLevels rows → length values < length rows → AreValues rows rule kept values → v ≡ value_of_node rows rule kept values (length values)
+  pub values_more : HasRisingLevels rows → length values < length rows → AreValues rows rule kept values
+      → v ≡ value_of_node rows rule kept values (length values)
       → IsWithinRange v → v ≤ℤ level_in rows (length values) → AreValues rows rule kept (values ++ v ∷ [])
   values_more rising room made exact range most = record {
     each = λ n l. side n l (λ k. same_value n k ∙ made.each n k ∙ sym (same_node n rising (omega arith) (omega arith)))
-        (λ e. ap (λ (m : ℕ). value (values ++ v ∷ []) m) e ∙ get_or-append_seam values v [] (pos 0) ∙ exact ∙ ap (λ (m : ℕ). value_of_node rows rule kept values m) (sym e)
+        (λ e. ap (λ (m : ℕ). value_in (values ++ v ∷ []) m) e ∙ get_or-append_seam values v [] (pos 0) ∙ exact ∙ ap
+        (λ (m : ℕ). value_of_node rows rule kept values m) (sym e)
         ∙ sym (same_node n rising (omega (arith, e)) (omega (arith, e))));
     in_range = λ n l. side n l (λ k. subst IsWithinRange (sym (same_value n k)) (made.in_range n k))
-        (λ e. subst IsWithinRange (sym (ap (λ (m : ℕ). value (values ++ v ∷ []) m) e ∙ get_or-append_seam values v [] (pos 0))) range);
+        (λ e. subst IsWithinRange (sym (ap (λ (m : ℕ). value_in (values ++ v ∷ []) m) e ∙ get_or-append_seam values v [] (pos 0))) range);
     at_most = λ n l. side n l (λ k. subst (λ (z : ℤ). z ≤ℤ level_in rows n) (sym (same_value n k)) (made.at_most n k))
-        (λ e. subst (λ (z : ℤ). z ≤ℤ level_in rows n) (sym (ap (λ (m : ℕ). value (values ++ v ∷ []) m) e ∙ get_or-append_seam values v [] (pos 0)))
+        (λ e. subst (λ (z : ℤ). z ≤ℤ level_in rows n) (sym (ap (λ (m : ℕ). value_in (values ++ v ∷ []) m) e ∙ get_or-append_seam values v [] (pos 0)))
         (subst (λ (m : ℕ). v ≤ℤ level_in rows m) (sym e) most));
   }
     where
@@ -219,7 +235,8 @@ pub record IsPushed (rows : List NodeRow) (rule : Rule) (kept : List Bool) (n : 
   pub one_each : length values ≡ n
   pub made : AreValues rows rule kept values
 
-pub values_pushed : (rows : List NodeRow) (rule : Rule) (kept : List Bool) (n : ℕ) (values lent pushed : List ℤ) (v : ℤ) → HasRisingLevels rows → n < length rows
+pub values_pushed : (rows : List NodeRow) (rule : Rule) (kept : List Bool) (n : ℕ) (values lent pushed : List ℤ) (v : ℤ) → HasRisingLevels rows
+    → n < length rows
     → IsPushed rows rule kept n values → lent ≡ values → v ≡ value_of_node rows rule kept lent n → IsWithinRange v → v ≤ℤ level_in rows n
     → pushed ≡ values ++ to_z w64 (of_z w64 v) ∷ [] → IsPushed rows rule kept (n + 1) pushed
 values_pushed rows rule kept n values lent pushed v rising node h same exact range most is =

@@ -3,19 +3,20 @@ use Rattle.std.proofs.Common.{◌≡◌, ℕ, ◌+◌, ◌<◌, ◌≤◌, zero,
 use Rattle.std.specs.Prelude.{◌==◌, slice_index_or}
 use Rattle.std.proofs.lemmas.Bool.{and_parts, and_from, or_cases, or_left, or_right, eqb-true, eq-eqb, ne_eqb, true≢false, cases_lt}
 use Rattle.std.proofs.lemmas.List.{length-set, get_or-set_same, get_or-set_other}
+use Rattle.lemmas.proofs.Exported.{same_bool}
 use Rattle.comp_tree.specs.declared.shape.Connect.{Connect}
 use Rattle.comp_tree.specs.declared.tree.NodeRow.{NodeRow}
 use Rattle.comp_tree.specs.Raster.{Raster, IsPlane}
 use Rattle.comp_tree.specs.ComponentTree.{ComponentTree, parent_in, no_node}
 use Rattle.comp_tree.specs.Components.{nodes, tree_of}
 use Rattle.comp_tree.specs.Laws.{IsAncestor, parent, above}
-use Rattle.comp_tree.proofs.Exported.{length-rows, same_bool}
+use Rattle.comp_tree.proofs.Exported.{length-rows}
 use Rattle.node_sums.proofs.Exported.{ancestor_up, row-parent}
 use Rattle.filter_rules.specs.declared.rule.Rule.{Rule}
 use Rattle.filter_rules.specs.declared.rule.Rule.TheVariants.{Min, Max, Direct, Subtractive}
 use Rattle.filter_rules.specs.declared.rule.Criterion.{Criterion}
 use Rattle.filter_rules.specs.Criteria.{satisfies}
-use Rattle.filter_rules.specs.Filtered.{keeps}
+use Rattle.filter_rules.specs.Filtered.{satisfies_rule}
 use Rattle.filter_rules.specs.Passes.{HasRisingLevels, flag, flag_with_parent, AreWithParents, ComesFrom, AreWithChildren, AreKeptBy}
 use Rattle.filter_rules.proofs.Around.{IsAbove, ancestor_listed, min_gives, min_from, IsKeptFor, max_gives, max_from}
 
@@ -53,7 +54,8 @@ module _ (rows : List NodeRow) (rising : HasRisingLevels rows) (own flags : List
         (go (rising.parents n h) (λ l x. flag_by fuel (parent_in rows n) l x))
       where
         go : (parent_in rows n ≡ no_node) ⊎ (parent_in rows n < n)
-            → (parent_in rows n < fuel → parent_in rows n < length rows → ((m : ℕ) → IsAbove rows m (parent_in rows n) → flag own m ≡ true) → flag flags (parent_in rows n) ≡ true)
+            → (parent_in rows n < fuel → parent_in rows n < length rows → ((m : ℕ) → IsAbove rows m (parent_in rows n) → flag own m ≡ true)
+            → flag flags (parent_in rows n) ≡ true)
             → parent_in rows n == no_node || flag flags (parent_in rows n) ≡ true
         go (inl e) ih = or_left (parent_in rows n == no_node) (flag flags (parent_in rows n)) (eq-eqb (parent_in rows n) no_node e)
         go (inr l) ih =
@@ -132,7 +134,8 @@ module _ (rows : List NodeRow) (rising : HasRisingLevels rows) (own flags : List
                 ∙ ap (λ (b : Bool). flag own n && b) off ∙ both (flag own n)
 
         side : (m : ℕ) → m < n + 1 → (m < n → flag (set flags n false) m ≡ flag_with_parent rows own (set flags n false) m)
-            → ((j : ℕ) → j ≡ n → flag (set flags n false) j ≡ flag_with_parent rows own (set flags n false) j) → flag (set flags n false) m ≡ flag_with_parent rows own (set flags n false) m
+            → ((j : ℕ) → j ≡ n → flag (set flags n false) j ≡ flag_with_parent rows own (set flags n false) j)
+            → flag (set flags n false) m ≡ flag_with_parent rows own (set flags n false) m
         side m l x y = go (cases_lt m n)
           where
             go : (m < n) ⊎ (n ≤ m) → flag (set flags n false) m ≡ flag_with_parent rows own (set flags n false) m
@@ -210,19 +213,21 @@ module _ (rows : List NodeRow) (rising : HasRisingLevels rows) (own flags : List
 
 -- ---- the flags are the definition's
 
-direct : (r : Raster) (connect : Connect) (criterion : Criterion) (n : ℕ) → satisfies r connect criterion n ≡ keeps r connect Direct criterion n
-unfolding keeps
+direct : (r : Raster) (connect : Connect) (criterion : Criterion) (n : ℕ) → satisfies r connect criterion n ≡ satisfies_rule r connect Direct criterion n
+unfolding satisfies_rule
 direct r connect criterion n = refl
 
-subtractive : (r : Raster) (connect : Connect) (criterion : Criterion) (n : ℕ) → satisfies r connect criterion n ≡ keeps r connect Subtractive criterion n
-unfolding keeps
+subtractive : (r : Raster) (connect : Connect) (criterion : Criterion) (n : ℕ)
+    → satisfies r connect criterion n ≡ satisfies_rule r connect Subtractive criterion n
+unfolding satisfies_rule
 subtractive r connect criterion n = refl
 
-pub kept_by_rule : (r : Raster) (connect : Connect) (criterion : Criterion) (rule : Rule) (own flags : List Bool) → IsPlane r → HasRisingLevels (tree_of r connect).rows
+pub kept_by_rule : (r : Raster) (connect : Connect) (criterion : Criterion) (rule : Rule) (own flags : List Bool) → IsPlane r
+    → HasRisingLevels (tree_of r connect).rows
     → ((n : ℕ) → n < length (tree_of r connect).rows → flag own n ≡ satisfies r connect criterion n) → AreKeptBy rule (tree_of r connect).rows own flags
-    → (n : ℕ) → n < length (tree_of r connect).rows → flag flags n ≡ keeps r connect rule criterion n
+    → (n : ℕ) → n < length (tree_of r connect).rows → flag flags n ≡ satisfies_rule r connect rule criterion n
 kept_by_rule r connect criterion Min own flags plane rising o w n h =
-    same_bool (flag flags n) (keeps r connect Min criterion n)
+    same_bool (flag flags n) (satisfies_rule r connect Min criterion n)
     (λ f. min_from r connect criterion n plane (here n h) (λ m hm a. sym (o m (there m hm)) ∙ all_own (tree_of r connect).rows rising own flags w m n h f a))
     (λ k. flag_from (tree_of r connect).rows rising own flags w n h
     (λ m a. let l : m < length (tree_of r connect).rows = listed m a in o m l ∙ min_gives r connect criterion n m plane (here n h) k (here m l) a))
@@ -237,14 +242,14 @@ kept_by_rule r connect criterion Min own flags plane rising o w n h =
     listed m (inl e) = omega (arith, e)
     listed m (inr a) = ancestor_listed (tree_of r connect).rows m n a
 kept_by_rule r connect criterion Max own flags plane rising o w n h =
-    same_bool (flag flags n) (keeps r connect Max criterion n)
+    same_bool (flag flags n) (satisfies_rule r connect Max criterion n)
     (λ f. upwards (w.comes n h f))
     (λ k. downwards (max_gives r connect criterion n plane (here n h) k))
   where
     here : (m : ℕ) → m < length (tree_of r connect).rows → m < length (nodes r connect)
     here m l = omega (arith, length-rows r connect)
 
-    upwards : ComesFrom (tree_of r connect).rows own n → keeps r connect Max criterion n ≡ true
+    upwards : ComesFrom (tree_of r connect).rows own n → satisfies_rule r connect Max criterion n ≡ true
     upwards c = max_from r connect criterion n c.node plane (here n h) (here c.node c.listed) (turned c.above) (sym (o c.node c.listed) ∙ c.own_flag)
       where
         turned : (c.node ≡ n) ⊎ IsAncestor (tree_of r connect).rows n c.node → IsAbove (tree_of r connect).rows n c.node
@@ -259,11 +264,13 @@ kept_by_rule r connect criterion Direct own flags plane rising o w n h = ap (λ 
 kept_by_rule r connect criterion Subtractive own flags plane rising o w n h = ap (λ (xs : List Bool). flag xs n) w ∙ o n h ∙ subtractive r connect criterion n
 
 -- the same for a tree of a plane, and as the code hands the lists on
-pub kept_of_tree : (r : Raster) (connect : Connect) (criterion : Criterion) (rule : Rule) (tree : ComponentTree) (rows : List NodeRow) (own lent flags : List Bool) → IsPlane r
+pub kept_of_tree : (r : Raster) (connect : Connect) (criterion : Criterion) (rule : Rule) (tree : ComponentTree) (rows : List NodeRow)
+    (own lent flags : List Bool) → IsPlane r
     → tree ≡ tree_of r connect → HasRisingLevels tree.rows → ((n : ℕ) → n < length tree.rows → flag own n ≡ satisfies r connect criterion n)
-    → rows ≡ tree.rows → lent ≡ own → AreKeptBy rule rows lent flags → (n : ℕ) → n < length tree.rows → flag flags n ≡ keeps r connect rule criterion n
+    → rows ≡ tree.rows → lent ≡ own → AreKeptBy rule rows lent flags → (n : ℕ) → n < length tree.rows → flag flags n ≡ satisfies_rule r connect rule criterion n
 kept_of_tree r connect criterion rule tree rows own lent flags plane e rising o same handed w n h =
     kept_by_rule r connect criterion rule own flags plane (subst (λ (t : ComponentTree). HasRisingLevels t.rows) e rising)
     (λ m l. o m (subst (λ (t : ComponentTree). m < length t.rows) (sym e) l))
-    (subst (λ (xs : List NodeRow). AreKeptBy rule xs own flags) (same ∙ ap (λ (t : ComponentTree). t.rows) e) (subst (λ (bs : List Bool). AreKeptBy rule rows bs flags) handed w))
+    (subst (λ (xs : List NodeRow). AreKeptBy rule xs own flags) (same ∙ ap (λ (t : ComponentTree). t.rows) e)
+    (subst (λ (bs : List Bool). AreKeptBy rule rows bs flags) handed w))
     n (subst (λ (t : ComponentTree). n < length t.rows) e h)

@@ -3,39 +3,42 @@ use Rattle.std.proofs.Common.{◌≡◌, ℕ, ◌<◌, Bool, true, false, ◌&&�
 use Rattle.std.specs.Prelude.{IsTrue, ◌==◌, ℤ, ◌+ℤ◌, filter, find, Option, Some, None}
 use Rattle.std.specs.List.{list_all}
 use Rattle.std.proofs.lemmas.Bool.{and_parts, and_from, and_left, eq-eqb, eqb-true, ne_eqb, true≢false, false_from_ne_true}
+use Rattle.lemmas.proofs.Exported.{IsAmong, among-filter, among-range, among_from_filter, filter_same_among, find_none, find_some, same_bool}
 use Rattle.comp_tree.specs.declared.shape.Connect.{Connect}
 use Rattle.comp_tree.specs.Raster.{Raster, IsPlane, is_defined}
 use Rattle.comp_tree.specs.ComponentTree.{parent_in, no_node}
 use Rattle.comp_tree.specs.Components.{nodes, node_of, is_in_node, tree_of}
 use Rattle.comp_tree.specs.Laws.{IsAncestor, parent, above, top_of}
-use Rattle.comp_tree.proofs.Exported.{IsAmong, among-filter, among_from_filter, among-range, find_some, find_none, top-defined, length-rows, below_no_node, all_gives, all_from, same_bool}
+use Rattle.comp_tree.proofs.Exported.{top-defined, length-rows, below_no_node, all_gives, all_from}
 use Rattle.comp_tree.proofs.Exported as Nodes
 use Rattle.node_sums.specs.Sums.{total}
-use Rattle.node_sums.proofs.Exported.{goes_down, ancestor_smaller, parent_smaller}
+use Rattle.node_sums.proofs.Exported.{ancestor_smaller, goes_down, node_from_among, parent_smaller}
 use Rattle.filter_rules.specs.declared.rule.Rule.{Rule}
 use Rattle.filter_rules.specs.declared.rule.Criterion.{Criterion}
 use Rattle.filter_rules.specs.Filtered.{is_kept, holders, smallest, value_from, filtered_value}
 use Rattle.comp_tree.specs.Nesting.{node_numbers, lies_within}
-use Rattle.filter_rules.proofs.Lists.{filter_on, total_split, total_one}
-use Rattle.filter_rules.proofs.Around.{IsAbove, below_from_numbers, above_from_in, in_from_above, above_from_within, within_from_above, above_both, node_of_top}
+use Rattle.filter_rules.proofs.Lists.{total_split, total_one}
+use Rattle.filter_rules.proofs.Around.{IsAbove, above_from_in, in_from_above, above_from_within, within_from_above, above_both, node_of_top}
 
 -- node m is kept and holds p
 abbrev holds : Raster → Connect → Rule → Criterion → ℕ → ℕ → Bool
 holds r connect rule criterion p m = is_kept r connect rule criterion m && is_in_node r connect m p
 
 -- pixels of one node have the same holders
-pub same_holders : (r : Raster) (connect : Connect) (rule : Rule) (criterion : Criterion) (p q : ℕ) → IsPlane r → IsTrue (is_defined r p) → IsTrue (is_defined r q)
+pub same_holders : (r : Raster) (connect : Connect) (rule : Rule) (criterion : Criterion) (p q : ℕ) → IsPlane r → IsTrue (is_defined r p)
+    → IsTrue (is_defined r q)
     → node_of r connect p ≡ node_of r connect q → holders r connect rule criterion p ≡ holders r connect rule criterion q
 unfolding holders
 same_holders r connect rule criterion p q plane dp dq e =
-    filter_on (holds r connect rule criterion p) (holds r connect rule criterion q) (node_numbers r connect)
-    (λ m k. ap (λ (b : Bool). is_kept r connect rule criterion m && b) (same m (below_from_numbers r connect m k)))
+    filter_same_among (holds r connect rule criterion p) (holds r connect rule criterion q) (node_numbers r connect)
+    (λ m k. ap (λ (b : Bool). is_kept r connect rule criterion m && b) (same m (node_from_among r connect m k)))
   where
     same : (m : ℕ) → m < length (nodes r connect) → is_in_node r connect m p ≡ is_in_node r connect m q
     same m hm =
         same_bool (is_in_node r connect m p) (is_in_node r connect m q)
         (λ h. in_from_above r connect m q plane hm dq (subst (λ (k : ℕ). IsAbove (tree_of r connect).rows m k) e (above_from_in r connect m p plane hm h)))
-        (λ h. in_from_above r connect m p plane hm dp (subst (λ (k : ℕ). IsAbove (tree_of r connect).rows m k) (sym e) (above_from_in r connect m q plane hm h)))
+        (λ h. in_from_above r connect m p plane hm dp
+        (subst (λ (k : ℕ). IsAbove (tree_of r connect).rows m k) (sym e) (above_from_in r connect m q plane hm h)))
 
 pub same_value : (r : Raster) (connect : Connect) (rule : Rule) (criterion : Criterion) (p : ℕ) → IsPlane r → IsTrue (is_defined r p)
     → filtered_value r connect rule criterion p ≡ filtered_value r connect rule criterion (top_of r connect (node_of r connect p))
@@ -62,7 +65,8 @@ module _ (r : Raster) (connect : Connect) (plane : IsPlane r) where
     where
       go : (j : ℕ) → j ≡ n → IsAncestor (tree_of r connect).rows m j → (m ≡ n) ⊎ IsAbove (tree_of r connect).rows m a
       go _ f (parent j e l) = inr (inl (sym e ∙ ap (parent_in (tree_of r connect).rows) f ∙ c.parent_is))
-      go _ f (above k j e l rest) = inr (inr (subst (λ (x : ℕ). IsAncestor (tree_of r connect).rows m x) (sym e ∙ ap (parent_in (tree_of r connect).rows) f ∙ c.parent_is) rest))
+      go _ f (above k j e l rest) =
+          inr (inr (subst (λ (x : ℕ). IsAncestor (tree_of r connect).rows m x) (sym e ∙ ap (parent_in (tree_of r connect).rows) f ∙ c.parent_is) rest))
 
   child_above : (n a m : ℕ) → IsChild r connect n a → IsAbove (tree_of r connect).rows m a → IsAncestor (tree_of r connect).rows m n
   child_above n a m c (inl e) = parent n (c.parent_is ∙ sym e) (omega (arith, length-rows r connect, c.parent_listed))
@@ -86,13 +90,16 @@ module _ (r : Raster) (connect : Connect) (plane : IsPlane r) where
       (omega (arith, length-rows r connect, c.parent_listed))
 
   -- whether m holds the pixel that represents n
-  in_top : (n m : ℕ) → n < length (nodes r connect) → m < length (nodes r connect) → IsAbove (tree_of r connect).rows m n → is_in_node r connect m (top_of r connect n) ≡ true
+  in_top : (n m : ℕ) → n < length (nodes r connect) → m < length (nodes r connect) → IsAbove (tree_of r connect).rows m n
+      → is_in_node r connect m (top_of r connect n) ≡ true
   in_top n m hn hm a =
       in_from_above r connect m (top_of r connect n) plane hm (top-defined r connect n hn)
       (subst (λ (k : ℕ). IsAbove (tree_of r connect).rows m k) (sym (node_of_top r connect n hn)) a)
 
-  top_inside : (n m : ℕ) → n < length (nodes r connect) → m < length (nodes r connect) → is_in_node r connect m (top_of r connect n) ≡ true → IsAbove (tree_of r connect).rows m n
-  top_inside n m hn hm h = subst (λ (k : ℕ). IsAbove (tree_of r connect).rows m k) (node_of_top r connect n hn) (above_from_in r connect m (top_of r connect n) plane hm h)
+  top_inside : (n m : ℕ) → n < length (nodes r connect) → m < length (nodes r connect) → is_in_node r connect m (top_of r connect n) ≡ true
+      → IsAbove (tree_of r connect).rows m n
+  top_inside n m hn hm h =
+      subst (λ (k : ℕ). IsAbove (tree_of r connect).rows m k) (node_of_top r connect n hn) (above_from_in r connect m (top_of r connect n) plane hm h)
 
   in_child : (n a m : ℕ) → IsChild r connect n a → m < length (nodes r connect) → (m ≡ n → ⊥)
       → is_in_node r connect m (top_of r connect n) ≡ is_in_node r connect m (top_of r connect a)
@@ -123,8 +130,8 @@ module _ (r : Raster) (connect : Connect) (plane : IsPlane r) where
         → holders r connect rule criterion (top_of r connect n) ≡ holders r connect rule criterion (top_of r connect a)
     unfolding holders
     holders_of_dropped n a c dropped =
-        filter_on (holds r connect rule criterion (top_of r connect n)) (holds r connect rule criterion (top_of r connect a)) (node_numbers r connect)
-        (λ m k. go m (below_from_numbers r connect m k) (m == n) refl)
+        filter_same_among (holds r connect rule criterion (top_of r connect n)) (holds r connect rule criterion (top_of r connect a)) (node_numbers r connect)
+        (λ m k. go m (node_from_among r connect m k) (m == n) refl)
       where
         go : (m : ℕ) → m < length (nodes r connect) → (b : Bool) → m == n ≡ b
             → holds r connect rule criterion (top_of r connect n) m ≡ holds r connect rule criterion (top_of r connect a) m
@@ -157,13 +164,15 @@ module _ (r : Raster) (connect : Connect) (plane : IsPlane r) where
         among_from_filter (holds r connect rule criterion p) m (node_numbers r connect) k in
         let both : (is_kept r connect rule criterion m ≡ true) × (is_in_node r connect m p ≡ true) =
         and_parts (is_kept r connect rule criterion m) (is_in_node r connect m p) parts.1 in
-        record { node = below_from_numbers r connect m parts.0; kept = both.0; holds_it = both.1 }
+        record { node = node_from_among r connect m parts.0; kept = both.0; holds_it = both.1 }
 
     -- a kept node is the smallest that holds the pixel that represents it
     pub smallest_of_kept : (n : ℕ) → n < length (nodes r connect) → is_kept r connect rule criterion n ≡ true
         → smallest r connect (holders r connect rule criterion (top_of r connect n)) ≡ Some n
     unfolding smallest
-    smallest_of_kept n hn k = go (find (λ m. list_all (lies_within r connect m) (holders r connect rule criterion (top_of r connect n))) (holders r connect rule criterion (top_of r connect n))) refl
+    smallest_of_kept n hn k =
+        go (find (λ m. list_all (lies_within r connect m) (holders r connect rule criterion (top_of r connect n)))
+        (holders r connect rule criterion (top_of r connect n))) refl
       where
         there : IsAmong n (holders r connect rule criterion (top_of r connect n))
         there = among_holders n n hn hn k (inl refl)
@@ -174,15 +183,22 @@ module _ (r : Raster) (connect : Connect) (plane : IsPlane r) where
             (λ m x. let h : IsHolder (top_of r connect n) m = holder_is (top_of r connect n) m x in
             within_from_above r connect n m plane hn h.node (top_inside n m hn h.node h.holds_it))
 
-        go : (o : Option ℕ) → find (λ m. list_all (lies_within r connect m) (holders r connect rule criterion (top_of r connect n))) (holders r connect rule criterion (top_of r connect n)) ≡ o
-            → find (λ m. list_all (lies_within r connect m) (holders r connect rule criterion (top_of r connect n))) (holders r connect rule criterion (top_of r connect n)) ≡ Some n
+        go : (o : Option ℕ)
+            → find (λ m. list_all (lies_within r connect m) (holders r connect rule criterion (top_of r connect n)))
+            (holders r connect rule criterion (top_of r connect n)) ≡ o
+            → find (λ m. list_all (lies_within r connect m) (holders r connect rule criterion (top_of r connect n)))
+            (holders r connect rule criterion (top_of r connect n)) ≡ Some n
         go None e =
             absurd (true≢false (sym passes
-            ∙ find_none (λ m. list_all (lies_within r connect m) (holders r connect rule criterion (top_of r connect n))) (holders r connect rule criterion (top_of r connect n)) n e there))
+            ∙ find_none (λ m. list_all (lies_within r connect m) (holders r connect rule criterion (top_of r connect n)))
+            (holders r connect rule criterion (top_of r connect n)) n e there))
         go (Some m) e = e ∙ ap Some is_n
           where
-            found : IsAmong m (holders r connect rule criterion (top_of r connect n)) × IsTrue (list_all (lies_within r connect m) (holders r connect rule criterion (top_of r connect n)))
-            found = find_some (λ m. list_all (lies_within r connect m) (holders r connect rule criterion (top_of r connect n))) (holders r connect rule criterion (top_of r connect n)) m e
+            found : IsAmong m (holders r connect rule criterion (top_of r connect n))
+                × IsTrue (list_all (lies_within r connect m) (holders r connect rule criterion (top_of r connect n)))
+            found =
+                find_some (λ m. list_all (lies_within r connect m) (holders r connect rule criterion (top_of r connect n)))
+                (holders r connect rule criterion (top_of r connect n)) m e
 
             h : IsHolder (top_of r connect n) m
             h = holder_is (top_of r connect n) m found.0
@@ -190,32 +206,39 @@ module _ (r : Raster) (connect : Connect) (plane : IsPlane r) where
             is_n : m ≡ n
             is_n =
                 above_both r connect m n plane h.node hn (top_inside n m hn h.node h.holds_it)
-                (above_from_within r connect m n plane h.node hn (all_gives (lies_within r connect m) (holders r connect rule criterion (top_of r connect n)) n found.1 there))
+                (above_from_within r connect m n plane h.node hn
+                (all_gives (lies_within r connect m) (holders r connect rule criterion (top_of r connect n)) n found.1 there))
 
     -- the sum of the rises: of a root, and of a child that is kept
     pub rises_of_root : (n : ℕ) → n < length (nodes r connect) → parent_in (tree_of r connect).rows n ≡ no_node → is_kept r connect rule criterion n ≡ true
         → (f : ℕ → ℤ) → total f (holders r connect rule criterion (top_of r connect n)) ≡ f n
     unfolding holders
     rises_of_root n hn e k f =
-        ap (total f) (filter_on (holds r connect rule criterion (top_of r connect n)) (λ m. m == n) (node_numbers r connect) (λ m x. same m (below_from_numbers r connect m x)))
+        ap (total f) (filter_same_among (holds r connect rule criterion (top_of r connect n)) (λ m. m == n) (node_numbers r connect)
+        (λ m x. same m (node_from_among r connect m x)))
         ∙ total_one f 0 (length (nodes r connect)) n (omega arith) (omega arith)
       where
         same : (m : ℕ) → m < length (nodes r connect) → holds r connect rule criterion (top_of r connect n) m ≡ (m == n)
         same m hm =
             same_bool (holds r connect rule criterion (top_of r connect n) m) (m == n)
-            (λ h. eq-eqb m n (above_root n m e (top_inside n m hn hm (and_parts (is_kept r connect rule criterion m) (is_in_node r connect m (top_of r connect n)) h).1)))
+            (λ h. eq-eqb m n (above_root n m e (top_inside n m hn hm
+            (and_parts (is_kept r connect rule criterion m) (is_in_node r connect m (top_of r connect n)) h).1)))
             (λ h. let u : m ≡ n = eqb-true m n h in
-            and_from (is_kept r connect rule criterion m) (is_in_node r connect m (top_of r connect n)) (ap (is_kept r connect rule criterion) u ∙ k) (in_top n m hn hm (inl u)))
+            and_from (is_kept r connect rule criterion m) (is_in_node r connect m (top_of r connect n)) (ap (is_kept r connect rule criterion) u ∙ k)
+            (in_top n m hn hm (inl u)))
 
     pub rises_of_kept : (n a : ℕ) → IsChild r connect n a → is_kept r connect rule criterion n ≡ true
         → (f : ℕ → ℤ) → total f (holders r connect rule criterion (top_of r connect n)) ≡ total f (holders r connect rule criterion (top_of r connect a)) +ℤ f n
     unfolding holders
     rises_of_kept n a c k f =
         let split : total f (filter (holds r connect rule criterion (top_of r connect n)) (node_numbers r connect))
-        ≡ total f (filter (holds r connect rule criterion (top_of r connect a)) (node_numbers r connect)) +ℤ total f (filter (λ m. m == n) (node_numbers r connect)) =
-        total_split f (holds r connect rule criterion (top_of r connect n)) (holds r connect rule criterion (top_of r connect a)) (λ m. m == n) (node_numbers r connect)
-        (λ m x. of_parent m (below_from_numbers r connect m x)) (λ m x. of_child m (below_from_numbers r connect m x) (m == n) refl) in
-        let one : total f (filter (λ m. m == n) (node_numbers r connect)) ≡ f n = total_one f 0 (length (nodes r connect)) n (omega arith) (omega (arith, c.node)) in
+        ≡ total f (filter (holds r connect rule criterion (top_of r connect a)) (node_numbers r connect)) +ℤ total f
+        (filter (λ m. m == n) (node_numbers r connect)) =
+        total_split f (holds r connect rule criterion (top_of r connect n)) (holds r connect rule criterion (top_of r connect a)) (λ m. m == n)
+        (node_numbers r connect)
+        (λ m x. of_parent m (node_from_among r connect m x)) (λ m x. of_child m (node_from_among r connect m x) (m == n) refl) in
+        let one : total f (filter (λ m. m == n) (node_numbers r connect)) ≡ f n =
+        total_one f 0 (length (nodes r connect)) n (omega arith) (omega (arith, c.node)) in
         split ∙ ap (λ (z : ℤ). total f (filter (holds r connect rule criterion (top_of r connect a)) (node_numbers r connect)) +ℤ z) one
       where
         apart : (m : ℕ) → is_in_node r connect m (top_of r connect a) ≡ true → m ≡ n → ⊥
@@ -225,13 +248,17 @@ module _ (r : Raster) (connect : Connect) (plane : IsPlane r) where
             → (holds r connect rule criterion (top_of r connect n) m ≡ true) × ((m == n) ≡ false)
         of_parent m hm h =
             let both : (is_kept r connect rule criterion m ≡ true) × (is_in_node r connect m (top_of r connect a) ≡ true) =
-            and_parts (is_kept r connect rule criterion m) (is_in_node r connect m (top_of r connect a)) h in
-            (and_from (is_kept r connect rule criterion m) (is_in_node r connect m (top_of r connect n)) both.0 (in_child n a m c hm (apart m both.1) ∙ both.1), ne_eqb m n (apart m both.1))
+            and_parts (is_kept r connect rule criterion m) (is_in_node r connect m (top_of r connect a)) h in (
+              and_from (is_kept r connect rule criterion m) (is_in_node r connect m (top_of r connect n)) both.0
+                  (in_child n a m c hm (apart m both.1) ∙ both.1),
+              ne_eqb m n (apart m both.1),
+            )
 
         of_child : (m : ℕ) → m < length (nodes r connect) → (b : Bool) → m == n ≡ b → holds r connect rule criterion (top_of r connect a) m ≡ false
             → holds r connect rule criterion (top_of r connect n) m ≡ (m == n)
         of_child m hm true u h =
             let e : m ≡ n = eqb-true m n u in
-            and_from (is_kept r connect rule criterion m) (is_in_node r connect m (top_of r connect n)) (ap (is_kept r connect rule criterion) e ∙ k) (in_top n m c.node hm (inl e)) ∙ sym u
+            and_from (is_kept r connect rule criterion m) (is_in_node r connect m (top_of r connect n)) (ap (is_kept r connect rule criterion) e ∙ k)
+            (in_top n m c.node hm (inl e)) ∙ sym u
         of_child m hm false u h =
             ap (λ (b : Bool). is_kept r connect rule criterion m && b) (in_child n a m c hm (λ e. true≢false (sym (eq-eqb m n e) ∙ u))) ∙ h ∙ sym u

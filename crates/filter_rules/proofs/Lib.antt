@@ -1,9 +1,9 @@
-pub mod Lists
-pub mod Around
-pub mod Holding
-pub mod Valued
-pub mod Flags
-pub mod Boxes
-pub mod Filling
-pub mod Whole
-pub mod Agreeing
+mod Lists
+mod Around
+mod Holding
+mod Valued
+mod Flags
+mod Boxes
+mod Filling
+mod Whole
+mod Agreeing

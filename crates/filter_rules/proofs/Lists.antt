@@ -1,21 +1,11 @@
--- Tests over lists, and sums over the members that pass one.
-use Rattle.std.proofs.Common.{◌≡◌, ℕ, ◌+◌, ◌<◌, ◌≤◌, zero, suc, Bool, true, false, cond, List, [], ◌∷◌, map, refl, ◌∙◌, ap, arith, inl, inr}
+-- Sums over the members of a list that pass a test.
+use Rattle.std.proofs.Common.{◌≡◌, ℕ, ◌+◌, ◌<◌, ◌≤◌, zero, suc, Bool, true, false, List, [], ◌∷◌, refl, ap, arith, inl, inr}
 use Rattle.std.specs.Prelude.{ℤ, pos, ◌+ℤ◌, filter, ◌==◌, ◌≢◌}
 use Rattle.std.specs.List.{range_with_len}
 use Rattle.std.proofs.lemmas.Int.{ints}
 use Rattle.std.proofs.lemmas.Bool.{eqb-true, eqb-false, ne_eqb}
-use Rattle.comp_tree.proofs.Exported.{IsAmong}
+use Rattle.lemmas.proofs.Exported.{IsAmong}
 use Rattle.node_sums.specs.Sums.{total}
-
-pub filter_on : {X : Type 0} (f g : X → Bool) (xs : List X) → ((x : X) → IsAmong x xs → f x ≡ g x) → filter f xs ≡ filter g xs
-filter_on f g [] h = refl
-filter_on f g (y ∷ xs) h =
-    ap (λ (b : Bool). cond b (y ∷ filter f xs) (filter f xs)) (h y (inl refl))
-    ∙ ap (λ (ys : List _). cond (g y) (y ∷ ys) ys) (filter_on f g xs (λ x m. h x (inr m)))
-
-pub map_on : {X Y : Type 0} (f g : X → Y) (xs : List X) → ((x : X) → IsAmong x xs → f x ≡ g x) → map f xs ≡ map g xs
-map_on f g [] h = refl
-map_on f g (y ∷ xs) h = ap (λ (z : _). z ∷ map f xs) (h y (inl refl)) ∙ ap (λ (ys : List _). g y ∷ ys) (map_on f g xs (λ x m. h x (inr m)))
 
 -- the sum over those that pass `all` is that over those that pass `some` and that over the others
 pub total_split : (f : ℕ → ℤ) (all some others : ℕ → Bool) (xs : List ℕ)

@@ -10,9 +10,10 @@ use Rattle.comp_tree.proofs.Exported.{node-undefined, length-rows, below_no_node
 use Rattle.comp_tree.proofs.Exported as Nodes
 use Rattle.filter_rules.specs.declared.rule.Rule.{Rule}
 use Rattle.filter_rules.specs.declared.rule.Criterion.{Criterion}
-use Rattle.filter_rules.specs.Filtered.{keeps, filtered_value, filtered}
+use Rattle.filter_rules.specs.Filtered.{satisfies_rule, filtered_value, filtered}
 use Rattle.filter_rules.specs.Passes.{flag, AreValues, filled_pixel}
 use Rattle.filter_rules.proofs.Valued.{value_of_pixel}
+use Rattle.node_sums.proofs.Exported.{numbers-are}
 
 -- what two clauses say of a result
 pub both_ok : {A E : Type 0} (x : Result A E) (P Q R : A → Type 0) → IfOk x P → IfOk x Q → ((a : A) → P a → Q a → R a) → IfOk x R
@@ -27,35 +28,34 @@ same_raster : (a b : Raster) → a.shape ≡ b.shape → a.values ≡ b.values �
 same_raster a b e f = λ i. record { shape = e i; values = f i }
 
 filtered-is : (r : Raster) (connect : Connect) (rule : Rule) (criterion : Criterion) (left : Raster) → left.shape ≡ r.shape
-    → left.values ≡ map (λ p. cond (is_defined r p) (Some (filtered_value r connect rule criterion p)) None) (pixels r) → left ≡ filtered r connect rule criterion
+    → left.values ≡ map (λ p. cond (is_defined r p) (Some (filtered_value r connect rule criterion p)) None) (pixels r)
+    → left ≡ filtered r connect rule criterion
 unfolding filtered
 filtered-is r connect rule criterion left e f = same_raster left (filtered r connect rule criterion) e f
 
-numbers_are : (r : Raster) (connect : Connect) → (tree_of r connect).node_of ≡ map (node_of r connect) (pixels r)
-unfolding tree_of
-numbers_are r connect = refl
-
 -- the plane, and what the passes have made of it
-pub record IsMade (r left : Raster) (connect : Connect) (tree : ComponentTree) (rule : Rule) (criterion : Criterion) (kept : List Bool) (values : List ℤ) : Type 0 where
+pub record IsMade (r left : Raster) (connect : Connect) (tree : ComponentTree) (rule : Rule) (criterion : Criterion) (kept : List Bool)
+    (values : List ℤ) : Type 0 where
   pub tree_is : tree ≡ tree_of r connect
-  pub flags : (n : ℕ) → n < length tree.rows → flag kept n ≡ keeps r connect rule criterion n
+  pub flags : (n : ℕ) → n < length tree.rows → flag kept n ≡ satisfies_rule r connect rule criterion n
   pub one_each : length values ≡ length tree.rows
   pub made : AreValues tree.rows rule kept values
   pub same_shape : left.shape ≡ r.shape
   pub filled : left.values ≡ map (filled_pixel values) tree.node_of
 
-pub made_is_filtered : (r left : Raster) (connect : Connect) (tree : ComponentTree) (rule : Rule) (criterion : Criterion) (kept : List Bool) (values : List ℤ) → IsPlane r
+pub made_is_filtered : (r left : Raster) (connect : Connect) (tree : ComponentTree) (rule : Rule) (criterion : Criterion) (kept : List Bool) (values : List ℤ)
+    → IsPlane r
     → IsMade r left connect tree rule criterion kept values → left ≡ filtered r connect rule criterion
 made_is_filtered r left connect tree rule criterion kept values plane m =
     filtered-is r connect rule criterion left m.same_shape
-    (m.filled ∙ ap (map (filled_pixel values)) (ap (λ (t : ComponentTree). t.node_of) m.tree_is ∙ numbers_are r connect)
+    (m.filled ∙ ap (map (filled_pixel values)) (ap (λ (t : ComponentTree). t.node_of) m.tree_is ∙ numbers-are r connect)
     ∙ map_twice (filled_pixel values) (node_of r connect) (λ p. cond (is_defined r p) (Some (filtered_value r connect rule criterion p)) None) (pixels r)
     (λ p. go p (is_defined r p) refl))
   where
     count : length values ≡ length (nodes r connect)
     count = m.one_each ∙ ap (λ (t : ComponentTree). length t.rows) m.tree_is ∙ length-rows r connect
 
-    flags : (n : ℕ) → n < length (nodes r connect) → flag kept n ≡ keeps r connect rule criterion n
+    flags : (n : ℕ) → n < length (nodes r connect) → flag kept n ≡ satisfies_rule r connect rule criterion n
     flags n h = m.flags n (omega (arith, ap (λ (t : ComponentTree). length t.rows) m.tree_is, length-rows r connect))
 
     made : AreValues (tree_of r connect).rows rule kept values

@@ -24,15 +24,15 @@ abbrev pub inside : Raster → Connect → ℕ → List ℕ
 inside r connect n = filter (λ m. lies_within r connect m n) (node_numbers r connect)
 
 -- the rule keeps node n, where it isn't a root
-unfoldable pub keeps : Raster → Connect → Rule → Criterion → ℕ → Bool
-keeps r connect Min criterion n = list_all (satisfies r connect criterion) (around r connect n)
-keeps r connect Max criterion n = list_any (satisfies r connect criterion) (inside r connect n)
-keeps r connect Direct criterion n = satisfies r connect criterion n
-keeps r connect Subtractive criterion n = satisfies r connect criterion n
+unfoldable pub satisfies_rule : Raster → Connect → Rule → Criterion → ℕ → Bool
+satisfies_rule r connect Min criterion n = list_all (satisfies r connect criterion) (around r connect n)
+satisfies_rule r connect Max criterion n = list_any (satisfies r connect criterion) (inside r connect n)
+satisfies_rule r connect Direct criterion n = satisfies r connect criterion n
+satisfies_rule r connect Subtractive criterion n = satisfies r connect criterion n
 
 -- node n is kept
 unfoldable pub is_kept : Raster → Connect → Rule → Criterion → ℕ → Bool
-is_kept r connect rule criterion n = is_root (tree_of r connect) n || keeps r connect rule criterion n
+is_kept r connect rule criterion n = is_root (tree_of r connect) n || satisfies_rule r connect rule criterion n
 
 -- ---- what a pixel gets
 

@@ -29,8 +29,8 @@ pub record HasBox (s : Sums) : Type 0 where
 abbrev pub flag : List Bool → ℕ → Bool
 flag flags n = slice_index_or flags n false
 
-abbrev pub value : List ℤ → ℕ → ℤ
-value values n = slice_index_or values n (pos 0)
+abbrev pub value_in : List ℤ → ℕ → ℤ
+value_in values n = slice_index_or values n (pos 0)
 
 -- ---- `Min`: a node keeps its flag where its parent does
 
@@ -80,17 +80,17 @@ value_of_kept Subtractive level base above = above +ℤ (level -ℤ base)
 abbrev pub value_of_node : List NodeRow → Rule → List Bool → List ℤ → ℕ → ℤ
 value_of_node rows rule kept values n =
     cond (parent_in rows n == no_node) (level_in rows n)
-    (cond (flag kept n) (value_of_kept rule (level_in rows n) (level_in rows (parent_in rows n)) (value values (parent_in rows n)))
-    (value values (parent_in rows n)))
+    (cond (flag kept n) (value_of_kept rule (level_in rows n) (level_in rows (parent_in rows n)) (value_in values (parent_in rows n)))
+    (value_in values (parent_in rows n)))
 
 -- the first nodes have their values, which are at most their levels
 pub record AreValues (rows : List NodeRow) (rule : Rule) (kept : List Bool) (values : List ℤ) : Type 0 where
-  pub each : (n : ℕ) → n < length values → value values n ≡ value_of_node rows rule kept values n
-  pub in_range : (n : ℕ) → n < length values → IsWithinRange (value values n)
-  pub at_most : (n : ℕ) → n < length values → value values n ≤ℤ level_in rows n
+  pub each : (n : ℕ) → n < length values → value_in values n ≡ value_of_node rows rule kept values n
+  pub in_range : (n : ℕ) → n < length values → IsWithinRange (value_in values n)
+  pub at_most : (n : ℕ) → n < length values → value_in values n ≤ℤ level_in rows n
 
 -- ---- pixels
 
 -- what a pixel gets whose smallest node is n
 abbrev pub filled_pixel : List ℤ → ℕ → Option ℤ
-filled_pixel values n = cond (n == no_node) None (Some (value values n))
+filled_pixel values n = cond (n == no_node) None (Some (value_in values n))

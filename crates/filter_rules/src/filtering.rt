@@ -5,7 +5,7 @@ ghost use Rattle.comp_tree.specs.Components.{tree_of, no_node};
 ghost use Rattle.comp_tree.specs.Nesting.{level_in};
 ghost use Rattle.node_sums.specs.Sums.{sums_in, AreOfPlane};
 ghost use Rattle.filter_rules.specs.Filtered.{filtered};
-ghost use Rattle.filter_rules.specs.Passes.{HasRisingLevels, AreValues, value_of_node, filled_pixel as filled_pixel_of, value};
+ghost use Rattle.filter_rules.specs.Passes.{HasRisingLevels, AreValues, value_of_node, filled_pixel as filled_pixel_of, value_in};
 
 use crate::keeping::kept_nodes;
 use crate::rule::{Criterion, Rule};
@@ -28,7 +28,8 @@ pub fn filter(
 ) -> Result<Plane, OutOfMemory>
     requires of_plane { AreOfPlane plane.now tree.now sums.now }
     requires fill { criterion.now.min_fill ≤ 1000 }
-    ensures { IfOk result (λ left. (connect : Connect) → tree.now ≡ tree_of plane.now connect → sums.now ≡ sums_in plane.now connect
+    ensures { IfOk result (λ left. (connect : Connect) → tree.now ≡ tree_of plane.now connect
+        → sums.now ≡ sums_in plane.now connect
         → left ≡ filtered plane.now connect rule criterion.now) }
 {
     let shape = plane.shape();
@@ -87,10 +88,12 @@ fn node_value(rows: &[NodeRow], rule: Rule, kept: &[bool], values: &[i64], n: us
 // A plane in which each pixel has the value of its smallest node.
 fn fill(alloc: Global, shape: Shape, node_of: &[u32], values: &[i64]) -> Result<Plane, OutOfMemory>
     requires pixels { length node_of.now ≡ shape.width * shape.height }
-    requires nodes { (p : ℕ) → p < length node_of.now → (slice_index node_of.now p ≡ no_node) ⊎ (slice_index node_of.now p < length values.now) }
-    requires values { (n : ℕ) → n < length values.now → IsWithinRange (value values.now n) }
+    requires nodes { (p : ℕ) → p < length node_of.now → (slice_index node_of.now p ≡ no_node)
+        ⊎ (slice_index node_of.now p < length values.now) }
+    requires values { (n : ℕ) → n < length values.now → IsWithinRange (value_in values.now n) }
     ensures shape { IfOk result (λ plane. plane.shape ≡ shape) }
-    ensures values { IfOk result (λ plane. plane.values ≡ map (filled_pixel_of values.now) node_of.now) }
+    ensures values { IfOk result (λ plane.
+        plane.values ≡ map (filled_pixel_of values.now) node_of.now) }
 {
     let mut plane = Plane::blank(alloc, shape)?;
     for p in 0..shape.pixels() {

@@ -2,7 +2,7 @@ ghost use Rattle.std.specs.Prelude.{◌≡◌, ℕ, ◌<◌, ◌≤◌, IfOk, le
 ghost use Rattle.comp_tree.specs.Raster.{IsPlane};
 ghost use Rattle.node_sums.specs.Sums.{AreTheTrees, ForEachPlaneOf};
 ghost use Rattle.filter_rules.specs.Criteria.{satisfies as satisfies_criterion};
-ghost use Rattle.filter_rules.specs.Filtered.{keeps};
+ghost use Rattle.filter_rules.specs.Filtered.{satisfies_rule};
 ghost use Rattle.filter_rules.specs.Passes.{flag, HasRisingLevels, AreWithParents, AreWithChildren, AreKeptBy};
 
 use crate::rule::{Criterion, Rule};
@@ -23,7 +23,8 @@ pub(crate) fn kept_nodes(
     requires fill { criterion.now.min_fill ≤ 1000 }
     ensures one_each { IfOk result (λ kept. length kept.items ≡ length tree.now.rows) }
     ensures kept { IfOk result (λ kept. ForEachPlaneOf tree.now sums.now (λ plane connect. IsPlane plane
-        → (n : ℕ) → n < length tree.now.rows → flag kept.items n ≡ keeps plane connect rule criterion.now n)) }
+        → (n : ℕ) → n < length tree.now.rows
+        → flag kept.items n ≡ satisfies_rule plane connect rule criterion.now n)) }
 {
     let mut kept = satisfying(alloc, tree, sums, criterion)?;
     apply(rule, tree.rows(), &mut kept);
@@ -41,7 +42,8 @@ fn satisfying(
     requires fill { criterion.now.min_fill ≤ 1000 }
     ensures one_each { IfOk result (λ flags. length flags.items ≡ length tree.now.rows) }
     ensures flags { IfOk result (λ flags. ForEachPlaneOf tree.now sums.now (λ plane connect.
-        (n : ℕ) → n < length tree.now.rows → flag flags.items n ≡ satisfies_criterion plane connect criterion.now n)) }
+        (n : ℕ) → n < length tree.now.rows
+        → flag flags.items n ≡ satisfies_criterion plane connect criterion.now n)) }
 {
     let count = tree.rows().len() as u32;
     let mut flags = Vec::with_capacity(alloc, count as usize)?;
@@ -56,7 +58,8 @@ fn satisfies(tree: &Tree, sums: &[Sums], n: u32, criterion: &Criterion) -> bool
     requires node { n < length tree.now.rows }
     requires sums { AreTheTrees tree.now sums.now }
     requires fill { criterion.now.min_fill ≤ 1000 }
-    ensures { ForEachPlaneOf tree.now sums.now (λ plane connect. result ≡ satisfies_criterion plane connect criterion.now n) }
+    ensures { ForEachPlaneOf tree.now sums.now
+        (λ plane connect. result ≡ satisfies_criterion plane connect criterion.now n) }
 {
     criterion.admits(&sums[n as usize], flux(tree, sums, n))
 }

@@ -5,6 +5,7 @@ use comp_tree::{Connect, Plane, Shape, plain_tree};
 use dev_io::OutOfMemory;
 use node_sums::sums;
 use std::alloc::Global;
+use std::test::Fail;
 
 #[derive(Drop)]
 struct Case<'a> {
@@ -17,15 +18,13 @@ struct Case<'a> {
     filtered: &'a [i64],
 }
 
-// A plane of these values.
-fn plane_of(alloc: Global, shape: Shape, values: &[i64]) -> Result<Plane, OutOfMemory> {
-    let mut plane = Plane::blank(alloc, shape)?;
-    for (p, value) in values.iter().enumerate() {
-        if *value > -99 && *value < 99 && p < plane.shape().pixels() as usize {
-            plane.set(p as u32, Some(*value));
-        }
+// A plane of these values, of which 99 stands for an undefined pixel.
+fn plane_of(alloc: Global, shape: Shape, values: &[i64]) -> Result<Plane, Fail> {
+    let mut pixels = Vec::new(alloc);
+    for value in values {
+        pixels.push(if *value == 99 { None } else { Some(*value) })?;
     }
-    Ok(plane)
+    Ok(Plane::of(alloc, shape, &pixels)?.ok_or("a plane of these values")?)
 }
 
 // What is left of this plane by its tree with four neighbours.
@@ -53,7 +52,7 @@ fn anything() -> Criterion {
 }
 
 #[test]
-fn small_planes(rt: HostRuntime) {
+fn small_planes(rt: HostRuntime) -> Result<(), Fail> {
     let two_pixels = Criterion {
         min_area: 2,
         max_area: 2,
@@ -154,10 +153,10 @@ fn small_planes(rt: HostRuntime) {
         },
     ];
     for (number, case) in cases.iter().enumerate() {
-        let shape = Shape::of(case.width, case.height).expect(&rt, "a shape");
-        let plane = plane_of(rt.alloc(), shape, case.values).expect(&rt, "memory");
+        let shape = Shape::of(case.width, case.height).ok_or("a shape")?;
+        let plane = plane_of(rt.alloc(), shape, case.values)?;
         assert!(rt; case.criterion.min_fill <= 1000);
-        let left = filtered(rt.alloc(), &plane, case.rule, &case.criterion).expect(&rt, "memory");
+        let left = filtered(rt.alloc(), &plane, case.rule, &case.criterion)?;
         let count = left.shape().pixels();
         assert_eq!(rt; count as usize, case.filtered.len(), "case {number}");
         for p in 0..count {
@@ -168,4 +167,5 @@ fn small_planes(rt: HostRuntime) {
             );
         }
     }
+    Ok(())
 }

@@ -65,10 +65,12 @@ part-is xs a (suc n) le =
 
 shifted : (f : ℕ → ℤ) (b a n c : ℕ) → c ≡ b + a → map f (range_with_len c n) ≡ map (λ k. f (b + k)) (range_with_len a n)
 shifted f b a zero c e = refl
-shifted f b a (suc n) c e = ap (λ (m : ℕ). f m ∷ map f (range_with_len (c + 1) n)) e ∙ ap (λ (ys : List ℤ). f (b + a) ∷ ys) (shifted f b (a + 1) n (c + 1) (omega arith))
+shifted f b a (suc n) c e =
+    ap (λ (m : ℕ). f m ∷ map f (range_with_len (c + 1) n)) e ∙ ap (λ (ys : List ℤ). f (b + a) ∷ ys) (shifted f b (a + 1) n (c + 1) (omega arith))
 
 pub row-part : (values : List ℤ) (columns rows near left right : ℕ) → length values ≡ columns * rows → near < rows → left ≤ right → right ≤ columns
-    → take (near * columns + right - (near * columns + left)) (drop (near * columns + left) values) ≡ map (λ k. number_in_grid values columns k near) (range_with_len left (right - left))
+    → take (near * columns + right - (near * columns + left)) (drop (near * columns + left) values)
+    ≡ map (λ k. number_in_grid values columns k near) (range_with_len left (right - left))
 row-part values columns rows near left right long lt lr rc =
     let count : near * columns + right - (near * columns + left) ≡ right - left = omega arith in
     let more : (near + 1) * columns ≤ rows * columns = mul-le-mul_right columns (omega arith) in
@@ -81,7 +83,8 @@ row-part values columns rows near left right long lt lr rc =
 
 -- the numbers in the columns around column i, of the rows from low up to near
 abbrev pub gathered_rows : List ℤ → ℕ → ℕ → ℕ → ℕ → List ℤ
-gathered_rows values columns i low near = flat_map (λ j. map (λ k. number_in_grid values columns k j) (places_around columns i)) (range_with_len low (near - low))
+gathered_rows values columns i low near =
+    flat_map (λ j. map (λ k. number_in_grid values columns k j) (places_around columns i)) (range_with_len low (near - low))
 
 pub rows-none : (values : List ℤ) (columns i low near : ℕ) → near ≡ low → [] ≡ gathered_rows values columns i low near
 rows-none values columns i low near e =
@@ -112,17 +115,20 @@ rows-all values items columns rows i j low near jl e f is =
 
 -- ---- one cell after the other
 
-pub filtered-next : (values items new : List ℤ) (columns rows n : ℕ) (number : ℤ) → items ≡ map (filtered_number values columns rows) (range_with_len 0 n) → new ≡ items ++ number ∷ []
+pub filtered-next : (values items new : List ℤ) (columns rows n : ℕ) (number : ℤ) → items ≡ map (filtered_number values columns rows) (range_with_len 0 n)
+    → new ≡ items ++ number ∷ []
     → number ≡ filtered_number values columns rows n → new ≡ map (filtered_number values columns rows) (range_with_len 0 (n + 1))
 filtered-next values items new columns rows n number here is e =
     let f : ℕ → ℤ = filtered_number values columns rows in
     is ∙ (λ t. here t ++ e t ∷ []) ∙ sym (map-append f (range_with_len 0 n) (n ∷ [])) ∙ ap (map f) (sym (range-append 0 n 1 n (omega arith)))
 
-pub filtered-from : (values around : List ℤ) (columns rows n : ℕ) (median : Option ℤ) (number : ℤ) → around ≡ numbers_around values columns rows (n % columns) (n / columns)
+pub filtered-from : (values around : List ℤ) (columns rows n : ℕ) (median : Option ℤ) (number : ℤ)
+    → around ≡ numbers_around values columns rows (n % columns) (n / columns)
     → median ≡ lower_median around → number ≡ unwrap_or median (pos 0) → number ≡ filtered_number values columns rows n
 unfolding filtered_number
 filtered-from values around columns rows n median number all is got = got ∙ ap (λ (o : Option ℤ). unwrap_or o (pos 0)) (is ∙ ap lower_median all)
 
-pub filtered-all : (values items : List ℤ) (columns rows n : ℕ) → n ≡ columns * rows → items ≡ map (filtered_number values columns rows) (range_with_len 0 n) → items ≡ filtered_mesh values columns rows
+pub filtered-all : (values items : List ℤ) (columns rows n : ℕ) → n ≡ columns * rows → items ≡ map (filtered_number values columns rows) (range_with_len 0 n)
+    → items ≡ filtered_mesh values columns rows
 unfolding filtered_mesh
 filtered-all values items columns rows n e is = is ∙ ap (λ (m : ℕ). map (filtered_number values columns rows) (range_with_len 0 m)) e

@@ -1,13 +1,11 @@
 -- Counts of the members of a list that pass a test.
-use Rattle.std.proofs.Common.{◌≡◌, ℕ, ◌+◌, ◌≤◌, Bool, true, false, cond, List, [], ◌∷◌, ◌++◌, length, refl, sym, ap, arith}
+use Rattle.std.proofs.Common.{◌≡◌, ◌+◌, ◌≤◌, Bool, true, false, cond, List, [], ◌∷◌, ◌++◌, length, refl, sym, ap, arith}
 use Rattle.std.specs.Prelude.{count_by}
 use Rattle.std.specs.List.{All}
 use Rattle.std.proofs.lemmas.Bool.{true≢false}
 use Rattle.std.proofs.lemmas.List.Elements.{All-head, All-tail}
 use Rattle.std.proofs.lemmas.List.Sums.{sum_by-cons, sum_by-append, sum_by-le-sum_by, count_by-le-length}
-
-abbrev number : Bool → ℕ
-number b = cond b 1 0
+use Rattle.lemmas.proofs.Exported.{one_if}
 
 module _ {X : Type 0} where
   -- a test that passes more members has a greater count
@@ -22,17 +20,17 @@ module _ {X : Type 0} where
   pub count-all : (f : X → Bool) (xs : List X) → All (λ x. f x ≡ true) xs → count_by f xs ≡ length xs
   count-all f [] h = refl
   count-all f (x ∷ xs) h =
-      let here : number (f x) ≡ 1 = ap number (All-head (λ y. f y ≡ true) x xs h) in
+      let here : one_if (f x) ≡ 1 = ap one_if (All-head (λ y. f y ≡ true) x xs h) in
       let rest : count_by f xs ≡ length xs = count-all f xs (All-tail (λ y. f y ≡ true) x xs h) in
-      let both : count_by f (x ∷ xs) ≡ number (f x) + count_by f xs = sum_by-cons (λ y. cond (f y) 1 0) x xs in
+      let both : count_by f (x ∷ xs) ≡ one_if (f x) + count_by f xs = sum_by-cons (λ y. cond (f y) 1 0) x xs in
       omega arith
 
   pub count-none : (f : X → Bool) (xs : List X) → All (λ x. f x ≡ false) xs → count_by f xs ≡ 0
   count-none f [] h = refl
   count-none f (x ∷ xs) h =
-      let here : number (f x) ≡ 0 = ap number (All-head (λ y. f y ≡ false) x xs h) in
+      let here : one_if (f x) ≡ 0 = ap one_if (All-head (λ y. f y ≡ false) x xs h) in
       let rest : count_by f xs ≡ 0 = count-none f xs (All-tail (λ y. f y ≡ false) x xs h) in
-      let both : count_by f (x ∷ xs) ≡ number (f x) + count_by f xs = sum_by-cons (λ y. cond (f y) 1 0) x xs in
+      let both : count_by f (x ∷ xs) ≡ one_if (f x) + count_by f xs = sum_by-cons (λ y. cond (f y) 1 0) x xs in
       omega arith
 
   pub count-append : (f : X → Bool) (xs ys : List X) → count_by f (xs ++ ys) ≡ count_by f xs + count_by f ys

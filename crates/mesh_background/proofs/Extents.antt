@@ -53,7 +53,8 @@ cell-below mesh width height x y some xl yl =
     mul-add-lt (y / mesh) (cells_along mesh width) (x / mesh) (cells_along mesh height) (along-above mesh height y some yl) (along-above mesh width x some xl)
 
 -- the same, as the code computes them
-pub cells-read : (mesh width height columns rows : ℕ) → 0 < mesh → IsWithinLimits width height → columns ≡ cells_along mesh width → rows ≡ cells_along mesh height → columns * rows ≤ 2 ^ 24
+pub cells-read : (mesh width height columns rows : ℕ) → 0 < mesh → IsWithinLimits width height → columns ≡ cells_along mesh width
+    → rows ≡ cells_along mesh height → columns * rows ≤ 2 ^ 24
 cells-read mesh width height columns rows some h c r =
     let few : cells_along mesh width * cells_along mesh height ≤ 2 ^ 24 = cells_few mesh width height some h in
     let e : columns * rows ≡ cells_along mesh width * cells_along mesh height = ap (λ (n : ℕ). n * rows) c ∙ ap (λ (n : ℕ). cells_along mesh width * n) r in
@@ -65,7 +66,8 @@ pub columns-some : (mesh width : ℕ) → 0 < mesh → 0 < width → 0 < cells_a
 columns-some mesh width some wide = let k : 0 / mesh < cells_along mesh width = along-above mesh width 0 some wide in omega arith
 
 -- the bounds of a cell, as the code computes them
-pub cell-is : (mesh width height columns k : ℕ) → 0 < mesh → IsWithinLimits width height → columns ≡ cells_along mesh width → k < cells_along mesh width * cells_along mesh height
+pub cell-is : (mesh width height columns k : ℕ) → 0 < mesh → IsWithinLimits width height → columns ≡ cells_along mesh width
+    → k < cells_along mesh width * cells_along mesh height
     → IsCell mesh width height k (k % columns * mesh) (min (k % columns * mesh + mesh) width) (k / columns * mesh) (min (k / columns * mesh + mesh) height)
 cell-is mesh width height columns k some limits c lt =
     let n : ℕ = cells_along mesh width in
@@ -104,7 +106,8 @@ belongs mesh side j low high x some l h ge lt =
     let k : (x / mesh ≡ j) × (x % mesh ≡ x - j * mesh) = row-from mesh j x some (omega arith) (omega arith) in k.0
 
 -- the pixel in column x of row y
-in-cell : (mesh width height k left right top bottom x y : ℕ) → IsCell mesh width height k left right top bottom → x < width → left ≤ x → x < right → top ≤ y → y < bottom
+in-cell : (mesh width height k left right top bottom x y : ℕ) → IsCell mesh width height k left right top bottom → x < width → left ≤ x → x < right → top ≤ y
+    → y < bottom
     → mesh_cell_of mesh width (y * width + x) ≡ k
 unfolding mesh_cell_of
 in-cell mesh width height k left right top bottom x y c xw xl xr yt yb =
@@ -123,7 +126,8 @@ record IsInside (width height left right top bottom p : ℕ) : Type 0 where
   above : top ≤ p / width
   below : p / width < height → p / width < bottom
 
-inside : (mesh width height k left right top bottom p : ℕ) → IsCell mesh width height k left right top bottom → mesh_cell_of mesh width p ≡ k → IsInside width height left right top bottom p
+inside : (mesh width height k left right top bottom p : ℕ) → IsCell mesh width height k left right top bottom → mesh_cell_of mesh width p ≡ k
+    → IsInside width height left right top bottom p
 unfolding mesh_cell_of
 inside mesh width height k left right top bottom p c e =
     let n : ℕ = cells_along mesh width in
@@ -131,8 +135,11 @@ inside mesh width height k left right top bottom p c e =
     let b : p % width / mesh < n = along-above mesh width (p % width) (mesh-of mesh width height k left right top bottom c) short in
     let row : p / width / mesh ≡ k / n = sym (div-mul-add (p / width / mesh) n (p % width / mesh) b) ∙ ap (λ (q : ℕ). q / n) e in
     let column : p % width / mesh ≡ k % n = sym (mod-mul-add (p / width / mesh) n (p % width / mesh) b) ∙ ap (λ (q : ℕ). q % n) e in
-    let across : (left ≤ p % width) × (p % width < right) = between mesh width (k % n) left right (p % width) (mesh-of mesh width height k left right top bottom c) c.left_is c.right_is column short in
-    let least : top ≤ p / width = (between mesh (p / width + 1) (k / n) top (min (top + mesh) (p / width + 1)) (p / width) (mesh-of mesh width height k left right top bottom c) c.top_is refl row (omega arith)).0 in
+    let across : (left ≤ p % width) × (p % width < right) =
+    between mesh width (k % n) left right (p % width) (mesh-of mesh width height k left right top bottom c) c.left_is c.right_is column short in
+    let least : top ≤ p / width =
+    (between mesh (p / width + 1) (k / n) top (min (top + mesh) (p / width + 1)) (p / width) (mesh-of mesh width height k left right top bottom c) c.top_is refl
+    row (omega arith)).0 in
     record {
       left_of = across.0;
       right_of = across.1;
@@ -179,9 +186,11 @@ unfoldable pub pixels_before : ℕ → ℕ → ℕ → ℕ → List ℕ
 pixels_before mesh width k n = filter (λ p. mesh_cell_of mesh width p == k) (range_with_len 0 n)
 
 -- pixels that lie outside change nothing
-before-skip : (mesh width k m n : ℕ) → m ≤ n → ((p : ℕ) → m ≤ p → p < n → mesh_cell_of mesh width p ≡ k → ⊥) → pixels_before mesh width k m ≡ pixels_before mesh width k n
+before-skip : (mesh width k m n : ℕ) → m ≤ n → ((p : ℕ) → m ≤ p → p < n → mesh_cell_of mesh width p ≡ k → ⊥)
+    → pixels_before mesh width k m ≡ pixels_before mesh width k n
 unfolding pixels_before
-before-skip mesh width k m n le out = filter-skip (λ p. mesh_cell_of mesh width p == k) m n le (λ p low high. ne_eqb (mesh_cell_of mesh width p) k (out p low high))
+before-skip mesh width k m n le out =
+    filter-skip (λ p. mesh_cell_of mesh width p == k) m n le (λ p low high. ne_eqb (mesh_cell_of mesh width p) k (out p low high))
 
 before-run : (mesh width k m n : ℕ) → m ≤ n → ((p : ℕ) → m ≤ p → p < n → mesh_cell_of mesh width p ≡ k)
     → pixels_before mesh width k n ≡ pixels_before mesh width k m ++ range_with_len m (n - m)
@@ -191,16 +200,19 @@ before-run mesh width k m n le here =
     let long : n ≡ m + (n - m) = omega arith in
     ap (λ (q : ℕ). filter f (range_with_len 0 q)) long ∙ ap (filter f) (range-append 0 m (n - m) m (omega arith))
     ∙ filter-append f (range_with_len 0 m) (range_with_len m (n - m))
-    ∙ ap (λ (xs : List ℕ). filter f (range_with_len 0 m) ++ xs) (filter-every f m (n - m) (λ p low high. eq-eqb (mesh_cell_of mesh width p) k (here p low (omega arith))))
+    ∙ ap (λ (xs : List ℕ). filter f (range_with_len 0 m) ++ xs)
+    (filter-every f m (n - m) (λ p low high. eq-eqb (mesh_cell_of mesh width p) k (here p low (omega arith))))
 
 before-none : (mesh width k : ℕ) → pixels_before mesh width k 0 ≡ []
 unfolding pixels_before
 before-none mesh width k = refl
 
 -- none lies above the cell
-pub before-start : (mesh width height k left right top bottom : ℕ) → IsCell mesh width height k left right top bottom → pixels_before mesh width k (top * width) ≡ []
+pub before-start : (mesh width height k left right top bottom : ℕ) → IsCell mesh width height k left right top bottom
+    → pixels_before mesh width k (top * width) ≡ []
 before-start mesh width height k left right top bottom c =
-    sym (before-skip mesh width k 0 (top * width) (omega arith) (λ p low high e. outside p high (inside mesh width height k left right top bottom p c e))) ∙ before-none mesh width k
+    sym (before-skip mesh width k 0 (top * width) (omega arith) (λ p low high e. outside p high (inside mesh width height k left right top bottom p c e)))
+    ∙ before-none mesh width k
   where
     outside : (p : ℕ) → p < top * width → IsInside width height left right top bottom p → ⊥
     outside p high i =
@@ -210,13 +222,16 @@ before-start mesh width height k left right top bottom c =
 
 -- and in a row of the cell those between its bounds
 pub before-row : (mesh width height k left right top bottom y : ℕ) → IsCell mesh width height k left right top bottom → top ≤ y → y < bottom
-    → pixels_before mesh width k ((y + 1) * width) ≡ pixels_before mesh width k (y * width) ++ range_with_len (y * width + left) (y * width + right - (y * width + left))
+    → pixels_before mesh width k ((y + 1) * width) ≡ pixels_before mesh width k (y * width)
+    ++ range_with_len (y * width + left) (y * width + right - (y * width + left))
 before-row mesh width height k left right top bottom y c yt yb =
     let ordered : left < right = c.some_columns in
-    sym (before-skip mesh width k (y * width + right) ((y + 1) * width) (omega arith) (λ p low high e. after p low high (inside mesh width height k left right top bottom p c e)))
+    sym (before-skip mesh width k (y * width + right) ((y + 1) * width) (omega arith)
+    (λ p low high e. after p low high (inside mesh width height k left right top bottom p c e)))
     ∙ before-run mesh width k (y * width + left) (y * width + right) (omega arith) (λ p low high. within p low high)
     ∙ ap (λ (ps : List ℕ). ps ++ range_with_len (y * width + left) (y * width + right - (y * width + left)))
-    (sym (before-skip mesh width k (y * width) (y * width + left) (omega arith) (λ p low high e. before p low high (inside mesh width height k left right top bottom p c e))))
+    (sym (before-skip mesh width k (y * width) (y * width + left) (omega arith)
+    (λ p low high e. before p low high (inside mesh width height k left right top bottom p c e))))
   where
     short : right ≤ width
     short = let r : right ≡ min (left + mesh) width = c.right_is in omega arith
@@ -239,7 +254,8 @@ before-row mesh width height k left right top bottom y c yt yb =
     within p low high =
         let x : ℕ = p - y * width in
         let e : y * width + x ≡ p = omega arith in
-        subst (λ (q : ℕ). mesh_cell_of mesh width q ≡ k) e (in-cell mesh width height k left right top bottom x y c (omega arith) (omega arith) (omega arith) yt yb)
+        subst (λ (q : ℕ). mesh_cell_of mesh width q ≡ k) e
+        (in-cell mesh width height k left right top bottom x y c (omega arith) (omega arith) (omega arith) yt yb)
 
 -- and none below it
 pub before-end : (mesh width height k left right top bottom n : ℕ) → IsCell mesh width height k left right top bottom → n ≡ width * height → bottom * width ≤ n
@@ -261,7 +277,8 @@ unfolding pixels_before cell_pixels pixels
 pixels_of_cell r mesh k = refl
 
 -- a cell has at most as many pixels as the image
-pub room-few : (mesh width height k left right top bottom : ℕ) → IsWithinLimits width height → IsCell mesh width height k left right top bottom → (right - left) * (bottom - top) ≤ 2 ^ 24
+pub room-few : (mesh width height k left right top bottom : ℕ) → IsWithinLimits width height → IsCell mesh width height k left right top bottom
+    → (right - left) * (bottom - top) ≤ 2 ^ 24
 room-few mesh width height k left right top bottom limits c =
     let few : width * height ≤ 2 ^ 24 = limits.few_pixels in
     let short : right ≡ min (left + mesh) width = c.right_is in

@@ -6,8 +6,9 @@ use Rattle.std.proofs.Math.IntN.{pos-*ℤ-pos, pos-*ℤ-negsuc}
 use Rattle.std.proofs.Math.Nat.{mul-le-mul_right}
 use mir.Syntax.{Width}
 use mir.Val.{SFits, of_z, to_z, hbits}
+use Rattle.lemmas.proofs.Exported.{times-le}
 use Rattle.mesh_background.specs.Interpolation.{part_way}
-use Rattle.mesh_background.proofs.Scaling.{times-le, way-from, way-up_to}
+use Rattle.mesh_background.proofs.Scaling.{way-from, way-up_to}
 
 -- a number lies from -n to n
 pub record IsUpTo (n : ℕ) (z : ℤ) : Type 0 where
@@ -66,7 +67,8 @@ product-kept w k whole n p le h few small fits =
     ∙ to_z-of_z w (pos k *ℤ p) (up_to-fits w (k * n) (pos k *ℤ p) (omega (arith, more, fits)) (up_to-times k n p h))
 
 -- what the code adds up on the way from p to q
-pub way-kept : (w : Width) (whole part n : ℕ) (p q : ℤ) → part ≤ whole → IsUpTo n p → IsUpTo n q → whole < 2 ^ hbits w → n < 2 ^ hbits w → whole * n < 2 ^ hbits w
+pub way-kept : (w : Width) (whole part n : ℕ) (p q : ℤ) → part ≤ whole → IsUpTo n p → IsUpTo n q → whole < 2 ^ hbits w → n < 2 ^ hbits w
+    → whole * n < 2 ^ hbits w
     → kept w (kept w (pos (whole - part)) *ℤ kept w p) +ℤ kept w (kept w (pos part) *ℤ kept w q) ≡ part_way whole part p q
 unfolding part_way
 way-kept w whole part n p q le a b few small fits =

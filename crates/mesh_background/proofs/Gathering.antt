@@ -49,7 +49,8 @@ gathered-next r first p old items new le here is =
     ∙ ap (λ (xs : List ℤ). old ++ xs) (sym (defined-append r (range_with_len first (p - first)) (p ∷ [])))
     ∙ ap (λ (ps : List ℕ). old ++ defined_values r ps) (sym (range-next first p le))
 
-pub gathered-all : (r : Raster) (first p end : ℕ) (old items : List ℤ) → p - first ≡ end - first → items ≡ old ++ defined_values r (range_with_len first (p - first))
+pub gathered-all : (r : Raster) (first p end : ℕ) (old items : List ℤ) → p - first ≡ end - first
+    → items ≡ old ++ defined_values r (range_with_len first (p - first))
     → items ≡ old ++ defined_values r (range_with_len first (end - first))
 gathered-all r first p end old items e here = here ∙ ap (λ (n : ℕ). old ++ defined_values r (range_with_len first n)) e
 
@@ -59,14 +60,16 @@ gathered-all r first p end old items e here = here ∙ ap (λ (n : ℕ). old ++ 
 abbrev pub values_before : Raster → ℕ → ℕ → ℕ → List ℤ
 values_before r mesh k n = defined_values r (pixels_before mesh r.shape.width k n)
 
-pub gather-start : (r : Raster) (mesh k left right top bottom y : ℕ) (items : List ℤ) → IsCell mesh r.shape.width r.shape.height k left right top bottom → y ≡ top → items ≡ []
+pub gather-start : (r : Raster) (mesh k left right top bottom y : ℕ) (items : List ℤ) → IsCell mesh r.shape.width r.shape.height k left right top bottom
+    → y ≡ top → items ≡ []
     → items ≡ values_before r mesh k (y * r.shape.width)
 gather-start r mesh k left right top bottom y items c e none =
     none ∙ sym (defined-none r) ∙ ap (defined_values r) (sym (before-start mesh r.shape.width r.shape.height k left right top bottom c))
     ∙ ap (λ (q : ℕ). values_before r mesh k (q * r.shape.width)) (sym e)
 
 -- the pixels of a row of the cell are pixels of the plane
-pub row-within : (r : Raster) (mesh k left right top bottom y w : ℕ) → IsPlane r → IsCell mesh r.shape.width r.shape.height k left right top bottom → y < bottom → w ≡ r.shape.width
+pub row-within : (r : Raster) (mesh k left right top bottom y w : ℕ) → IsPlane r → IsCell mesh r.shape.width r.shape.height k left right top bottom
+    → y < bottom → w ≡ r.shape.width
     → y * w + right ≤ length r.values
 row-within r mesh k left right top bottom y w plane c lt e =
     let width : ℕ = r.shape.width in
@@ -78,8 +81,10 @@ row-within r mesh k left right top bottom y w plane c lt e =
     let long : length r.values ≡ width * height = plane in
     omega arith
 
-pub gather-row : (r : Raster) (mesh k left right top bottom y w : ℕ) (items new : List ℤ) → IsCell mesh r.shape.width r.shape.height k left right top bottom → top ≤ y → y < bottom
-    → w ≡ r.shape.width → items ≡ values_before r mesh k (y * r.shape.width) → new ≡ items ++ defined_values r (range_with_len (y * w + left) (y * w + right - (y * w + left)))
+pub gather-row : (r : Raster) (mesh k left right top bottom y w : ℕ) (items new : List ℤ) → IsCell mesh r.shape.width r.shape.height k left right top bottom
+    → top ≤ y → y < bottom
+    → w ≡ r.shape.width → items ≡ values_before r mesh k (y * r.shape.width)
+    → new ≡ items ++ defined_values r (range_with_len (y * w + left) (y * w + right - (y * w + left)))
     → new ≡ values_before r mesh k ((y + 1) * r.shape.width)
 gather-row r mesh k left right top bottom y w items new c low high e here is =
     let width : ℕ = r.shape.width in
@@ -88,7 +93,8 @@ gather-row r mesh k left right top bottom y w items new c low high e here is =
     ∙ sym (defined-append r (pixels_before mesh width k (y * width)) (range_with_len (y * width + left) (y * width + right - (y * width + left))))
     ∙ ap (defined_values r) (sym (before-row mesh width r.shape.height k left right top bottom y c low high))
 
-pub gather-end : (r : Raster) (mesh k left right top bottom y : ℕ) (items : List ℤ) → IsPlane r → IsCell mesh r.shape.width r.shape.height k left right top bottom → y ≡ bottom
+pub gather-end : (r : Raster) (mesh k left right top bottom y : ℕ) (items : List ℤ) → IsPlane r
+    → IsCell mesh r.shape.width r.shape.height k left right top bottom → y ≡ bottom
     → items ≡ values_before r mesh k (y * r.shape.width) → items ≡ defined_values r (cell_pixels r mesh k)
 gather-end r mesh k left right top bottom y items plane c e here =
     let width : ℕ = r.shape.width in
@@ -101,13 +107,15 @@ gather-end r mesh k left right top bottom y items plane c e here =
 
 -- ---- the whole image, and the cells that have no defined pixel
 
-pub image-is : (r : Raster) (n : ℕ) (old new : List ℤ) → old ≡ [] → new ≡ old ++ defined_values r (range_with_len 0 (n - 0)) → n ≡ length r.values → new ≡ defined_values r (pixels r)
+pub image-is : (r : Raster) (n : ℕ) (old new : List ℤ) → old ≡ [] → new ≡ old ++ defined_values r (range_with_len 0 (n - 0)) → n ≡ length r.values
+    → new ≡ defined_values r (pixels r)
 unfolding pixels
 image-is r n old new none is count =
     let whole : n - 0 ≡ length r.values = omega arith in
     is ∙ ap (λ (xs : List ℤ). xs ++ defined_values r (range_with_len 0 (n - 0))) none ∙ ap (λ (q : ℕ). defined_values r (range_with_len 0 q)) whole
 
-pub image-median : (r : Raster) (members : List ℤ) (median : Option ℤ) (value : ℤ) → members ≡ defined_values r (pixels r) → median ≡ lower_median members → value ≡ unwrap_or median (pos 0)
+pub image-median : (r : Raster) (members : List ℤ) (median : Option ℤ) (value : ℤ) → members ≡ defined_values r (pixels r) → median ≡ lower_median members
+    → value ≡ unwrap_or median (pos 0)
     → value ≡ image_value r
 unfolding image_value
 image-median r members median value all is got = got ∙ ap (λ (o : Option ℤ). unwrap_or o (pos 0)) (is ∙ ap lower_median all)
@@ -117,7 +125,8 @@ same_fill [] a b h = refl
 same_fill (None ∷ xs) a b h = ap (λ (z : ℤ). z ∷ map (λ m. unwrap_or m a) xs) (h 0 refl) ∙ ap (λ (ys : List ℤ). b ∷ ys) (same_fill xs a b (λ k e. h (suc k) e))
 same_fill (Some v ∷ xs) a b h = ap (λ (ys : List ℤ). v ∷ ys) (same_fill xs a b (λ k e. h (suc k) e))
 
-fill-map : (r : Raster) (mesh : ℕ) (ks : List ℕ) → map (λ m. unwrap_or m (image_value r)) (map (λ k. lower_median (defined_values r (cell_pixels r mesh k))) ks) ≡ map (mesh_value r mesh) ks
+fill-map : (r : Raster) (mesh : ℕ) (ks : List ℕ)
+    → map (λ m. unwrap_or m (image_value r)) (map (λ k. lower_median (defined_values r (cell_pixels r mesh k))) ks) ≡ map (mesh_value r mesh) ks
 unfolding mesh_value
 fill-map r mesh [] = refl
 fill-map r mesh (k ∷ ks) = ap (λ (ys : List ℤ). mesh_value r mesh k ∷ ys) (fill-map r mesh ks)
@@ -127,4 +136,5 @@ pub filled-is : (r : Raster) (mesh : ℕ) (medians : List (Option ℤ)) (value :
     → ((k : ℕ) → slice_get medians k ≡ Some None → value ≡ image_value r) → items ≡ map (λ m. unwrap_or m value) medians → items ≡ values_of_mesh r mesh
 unfolding values_of_mesh
 filled-is r mesh medians value items are otherwise is =
-    is ∙ same_fill medians value (image_value r) otherwise ∙ ap (map (λ m. unwrap_or m (image_value r))) are ∙ fill-map r mesh (range_with_len 0 (cell_count mesh r.shape))
+    is ∙ same_fill medians value (image_value r) otherwise ∙ ap (map (λ m. unwrap_or m (image_value r))) are
+    ∙ fill-map r mesh (range_with_len 0 (cell_count mesh r.shape))

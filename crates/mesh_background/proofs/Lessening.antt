@@ -1,11 +1,8 @@
 -- Planes from whose values the numbers of their cells are taken away, some pixels at a time.
-use Rattle.std.proofs.Common.{◌≡◌, ℕ, ◌+◌, ◌-◌, ◌*◌, ◌/◌, ◌%◌, ◌^◌, ◌<◌, ◌≤◌, min, Bool, true, false, List, length, get_or, set, refl, sym, ap, subst, ◌∙◌, arith, ◌⊎◌, inl, inr, get_or-set_other, get_or-set_same, ◌≢◌}
-use Rattle.std.specs.Prelude.{ℤ, pos, ◌-ℤ◌, Option, Some, None, All, IfSome}
+use Rattle.std.proofs.Common.{◌≡◌, ℕ, ◌+◌, ◌-◌, ◌*◌, ◌/◌, ◌%◌, ◌^◌, ◌<◌, ◌≤◌, min, Bool, true, false, List, length, get_or, refl, sym, ap, subst, ◌∙◌, arith, ◌⊎◌, inl, inr}
+use Rattle.std.specs.Prelude.{ℤ, pos, ◌-ℤ◌, Option, Some, None, IfSome}
 use Rattle.std.specs.Option.{option_map}
-use Rattle.std.specs.List.{range_with_len}
 use Rattle.std.proofs.lemmas.Bool.{cases_lt}
-use Rattle.std.proofs.Math.ListN.{length-set}
-use Rattle.std.proofs.lemmas.List.Elements.{All-map}
 use Rattle.std.proofs.lemmas.List.FromFn.{get_or-map-range_with_len}
 use Rattle.std.proofs.Math.Nat.{mul_comm, mul-le-mul_right}
 use Rattle.std.proofs.lemmas.Nat.{div-add-mod', mod_below, div_below, div-mul-add, mod-mul-add, mul-add-lt}
@@ -23,7 +20,7 @@ use Rattle.mesh_background.specs.declared.slope.Mixed.{Mixed}
 use Rattle.mesh_background.specs.Slopes.{steps_on, first_before}
 use Rattle.mesh_background.proofs.Slopes.{IsRun, run-level, run-along, runs-rise}
 use Rattle.mesh_background.proofs.Extents.{cell-below, along-above, along-below, cells_few}
-use Rattle.mesh_background.proofs.Residuals.{background-flat, background-smooth, cell-number, half-mesh, half-of, residual-all}
+use Rattle.mesh_background.proofs.Residuals.{background-flat, background-smooth, cell-number, half-of, residual-all}
 
 -- ---- one run of pixels after the other
 
@@ -45,35 +42,6 @@ lessened-more r m new by others a b c h k ab bc same = record {
     go p le lt (inr high) = k.inside p high lt ∙ ap (λ (z : ℤ). option_map (λ v. v -ℤ z) (value_at m.values p)) (same p high lt)
         ∙ ap (option_map (λ v. v -ℤ by p)) (h.behind p high)
 
--- ---- one pixel
-
-pub lessened-undefined : (r : Raster) (p : ℕ) (number : ℤ) → value_at r.values p ≡ None → IsLessened r (λ _. number) p (p + 1) r
-lessened-undefined r p number e = record {
-  shape_is = refl;
-  one_each = refl;
-  before = λ q lt. refl;
-  inside = λ q le lt. let same : q ≡ p = omega arith in
-      ap (value_at r.values) same ∙ e ∙ sym (ap (λ (o : Option ℤ). option_map (λ v. v -ℤ number) o) (ap (value_at r.values) same ∙ e));
-  behind = λ q le. refl;
-}
-
-pub lessened-set : (r new : Raster) (p : ℕ) (v number : ℤ) → p < length r.values → value_at r.values p ≡ Some v
-    → new ≡ record { shape = r.shape; values = set r.values p (Some (v -ℤ number)) } → IsLessened r (λ _. number) p (p + 1) new
-lessened-set r new p v number lt e is = record {
-  shape_is = ap (λ (q : Raster). q.shape) is;
-  one_each = ap (λ (q : Raster). length q.values) is ∙ length-set r.values p (Some (v -ℤ number));
-  before = λ q low. other q (omega arith);
-  inside = λ q le low. let same : q ≡ p = omega arith in
-      ap (value_at new.values) same ∙ here ∙ sym (ap (option_map (λ w. w -ℤ number)) (ap (value_at r.values) same ∙ e));
-  behind = λ q le. other q (omega arith);
-}
-  where
-    other : (q : ℕ) → q ≢ p → value_at new.values q ≡ value_at r.values q
-    other q ne = ap (λ (s : Raster). value_at s.values q) is ∙ get_or-set_other r.values p q (Some (v -ℤ number)) None ne
-
-    here : value_at new.values p ≡ Some (v -ℤ number)
-    here = ap (λ (s : Raster). value_at s.values p) is ∙ get_or-set_same r.values p (Some (v -ℤ number)) None lt
-
 -- ---- values in half of the range
 
 pub half_from-all : (r : Raster) → HasValuesInHalfRange r.values → IsInHalfRangeFrom 0 r.values
@@ -89,13 +57,6 @@ half_from-at values first p h le = go (value_at values p) refl
     go None e = tt
     go (Some v) e = h.each p v le e
 
-pub half-numbers : (r : Raster) (mesh : ℕ) → HasValuesInHalfRange r.values → All IsInHalfRange (values_of_mesh r mesh)
-unfolding values_of_mesh
-half-numbers r mesh h = All-map IsInHalfRange (mesh_value r mesh) (range_with_len 0 (cell_count mesh r.shape)) (All-each (range_with_len 0 (cell_count mesh r.shape)))
-  where
-    All-each : (ks : List ℕ) → All (λ k. IsInHalfRange (mesh_value r mesh k)) ks
-    All-each ks = λ i d lt. half-mesh r mesh _ h
-
 -- ---- the number of a pixel's cell
 
 -- the pixels of row y that stand in column i of the mesh
@@ -104,7 +65,8 @@ column-of mesh i x some low high =
     let rest : x ≡ i * mesh + (x - i * mesh) = omega arith in
     ap (λ (n : ℕ). n / mesh) rest ∙ div-mul-add i mesh (x - i * mesh) (omega arith)
 
-pub number-in : (mesh width columns y i p : ℕ) (numbers : List ℤ) → 0 < mesh → columns ≡ cells_along mesh width → y * width + i * mesh ≤ p → p < y * width + i * mesh + mesh
+pub number-in : (mesh width columns y i p : ℕ) (numbers : List ℤ) → 0 < mesh → columns ≡ cells_along mesh width → y * width + i * mesh ≤ p
+    → p < y * width + i * mesh + mesh
     → p < y * width + width → get_or numbers (y / mesh * columns + i) (pos 0) ≡ number_of_cell mesh width numbers p
 number-in mesh width columns y i p numbers some c low high end =
     let x : ℕ = p - y * width in
@@ -142,7 +104,8 @@ row-next r m new mesh width columns y i right numbers number some c il is e h k 
     let so_far : IsLessened r (number_of_cell mesh width numbers) (y * width) (y * width + i * mesh) m =
     subst (λ (n : ℕ). IsLessened r (number_of_cell mesh width numbers) (y * width) (y * width + n) m) start h in
     subst (λ (n : ℕ). IsLessened r (number_of_cell mesh width numbers) (y * width) (y * width + n) new) (e ∙ ap (λ (n : ℕ). min n width) (sym next))
-    (lessened-more r m new (number_of_cell mesh width numbers) (λ _. number) (y * width) (y * width + i * mesh) (y * width + right) so_far k (omega arith) (omega arith)
+    (lessened-more r m new (number_of_cell mesh width numbers) (λ _. number) (y * width) (y * width + i * mesh) (y * width + right) so_far k (omega arith)
+    (omega arith)
     (λ p low high. is ∙ number-in mesh width columns y i p numbers some c low (omega arith) (omega arith)))
 
 pub row-end : (mesh width columns n : ℕ) → 0 < mesh → columns ≡ cells_along mesh width → columns ≤ n → min (n * mesh) width ≡ width
@@ -153,18 +116,22 @@ row-end mesh width columns n some c le =
     omega arith
 
 -- the level at the pixel in column x of row y
-pub level-in : (mesh : ℕ) (shape : Shape) (values : List ℤ) (columns rows x y : ℕ) → columns ≡ cells_along mesh shape.width → rows ≡ cells_along mesh shape.height → x < shape.width
+pub level-in : (mesh : ℕ) (shape : Shape) (values : List ℤ) (columns rows x y : ℕ) → columns ≡ cells_along mesh shape.width
+    → rows ≡ cells_along mesh shape.height → x < shape.width
     → interpolated values columns rows mesh x y ≡ pixel_level mesh shape values (y * shape.width + x)
 unfolding pixel_level
 level-in mesh shape values columns rows x y c r lt =
     (λ i. interpolated values (c i) (r i) mesh x y)
-    ∙ (λ i. interpolated values (cells_along mesh shape.width) (cells_along mesh shape.height) mesh (sym (mod-mul-add y shape.width x lt) i) (sym (div-mul-add y shape.width x lt) i))
+    ∙ (λ i. interpolated values (cells_along mesh shape.width) (cells_along mesh shape.height) mesh (sym (mod-mul-add y shape.width x lt) i)
+    (sym (div-mul-add y shape.width x lt) i))
 
 -- the pixels of a run, where the levels rise evenly
-pub run-lessened : (r new : Raster) (mesh columns rows y next left right : ℕ) (numbers : List ℤ) (level step : Mixed) → 0 < mesh → columns ≡ cells_along mesh r.shape.width
+pub run-lessened : (r new : Raster) (mesh columns rows y next left right : ℕ) (numbers : List ℤ) (level step : Mixed) → 0 < mesh
+    → columns ≡ cells_along mesh r.shape.width
     → rows ≡ cells_along mesh r.shape.height → left ≡ first_before mesh r.shape.width next → right ≡ first_before mesh r.shape.width (next + 1)
     → IsRun numbers columns rows mesh y left level step
-    → IsLessened r (λ p. steps_on (2 * mesh * (2 * mesh)) level step (p - (y * r.shape.width + left))) (y * r.shape.width + left) (y * r.shape.width + right) new
+    → IsLessened r (λ p. steps_on (2 * mesh * (2 * mesh)) level step (p - (y * r.shape.width + left))) (y * r.shape.width + left) (y * r.shape.width + right)
+    new
     → IsLessened r (pixel_level mesh r.shape numbers) (y * r.shape.width + left) (y * r.shape.width + right) new
 run-lessened r new mesh columns rows y next left right numbers level step some c d l e h k =
     let width : ℕ = r.shape.width in
@@ -182,17 +149,20 @@ run-lessened r new mesh columns rows y next left right numbers level step some c
 
 -- ---- all pixels
 
-cell-inside : (mesh width height p : ℕ) → 0 < mesh → 0 < width → p < width * height → mesh_cell_of mesh width p < cells_along mesh width * cells_along mesh height
+cell-inside : (mesh width height p : ℕ) → 0 < mesh → 0 < width → p < width * height
+    → mesh_cell_of mesh width p < cells_along mesh width * cells_along mesh height
 unfolding mesh_cell_of
 cell-inside mesh width height p some wide lt =
     cell-below mesh width height (p % width) (p / width) some (mod_below p width wide) (div_below p width height wide (omega (arith, mul_comm width height)))
 
-lessened-at : (r : Raster) (mesh p : ℕ) (numbers : List ℤ) → 0 < mesh → numbers ≡ values_of_mesh r mesh → mesh_cell_of mesh r.shape.width p < cell_count mesh r.shape
+lessened-at : (r : Raster) (mesh p : ℕ) (numbers : List ℤ) → 0 < mesh → numbers ≡ values_of_mesh r mesh
+    → mesh_cell_of mesh r.shape.width p < cell_count mesh r.shape
     → number_of_cell mesh r.shape.width numbers p ≡ background r mesh true p
 unfolding values_of_mesh
 lessened-at r mesh p numbers some is lt =
     ap (λ (vs : List ℤ). get_or vs (mesh_cell_of mesh r.shape.width p) (pos 0)) is
-    ∙ get_or-map-range_with_len (mesh_value r mesh) 0 (cell_count mesh r.shape) (mesh_cell_of mesh r.shape.width p) (mesh_cell_of mesh r.shape.width p) (pos 0) lt (omega arith)
+    ∙ get_or-map-range_with_len (mesh_value r mesh) 0 (cell_count mesh r.shape) (mesh_cell_of mesh r.shape.width p) (mesh_cell_of mesh r.shape.width p) (pos 0)
+    lt (omega arith)
     ∙ sym (background-flat r mesh p some)
 
 -- a plane whose pixels are all less by their background

@@ -6,12 +6,13 @@ use Rattle.std.proofs.lemmas.Bool.{cases_lt}
 use Rattle.std.proofs.lemmas.Int.{ints}
 use Rattle.std.proofs.lemmas.List.{get_or_past}
 use Rattle.std.proofs.lemmas.Nat.{div-add-mod', mod_below, mul-le, mul-add-lt}
+use Rattle.lemmas.proofs.Exported.{floor-from, floor-is, floor-up_to, times-times}
 use Rattle.comp_tree.specs.Limits.{IsInHalfRange}
 use Rattle.mesh_background.specs.Laws.{PixelsLieBetweenCentres, LevelsStayBetween}
 use Rattle.mesh_background.specs.Lessened.{IsHalfRangeTimes}
 use Rattle.mesh_background.specs.Smoothing.{number_in_grid}
 use Rattle.mesh_background.specs.Interpolation.{pixel_centre, next_cell, past_centre, cell_before, cell_after, part_way, down_column, interpolated}
-use Rattle.mesh_background.proofs.Scaling.{times-times, floor-is, floor-from, floor-up_to, way-from, way-up_to}
+use Rattle.mesh_background.proofs.Scaling.{way-from, way-up_to}
 use Rattle.mesh_background.proofs.Fitting.{IsUpTo, up_to-way, up_to-low, up_to-high}
 
 -- ---- along a side
@@ -41,7 +42,8 @@ level-from whole part p q low some le a b =
     let z : ℤ = part_way whole part p q in
     let e : pos (whole * whole) *ℤ low ≡ pos whole *ℤ (pos whole *ℤ low) = times-times whole whole low in
     let bound : (pos whole *ℤ (pos whole *ℤ low)) ≤ℤ z = way-from whole part p q (pos whole *ℤ low) le a b in
-    floor-from z (whole * whole) (int_div_euclid z (pos (whole * whole))) low (floor-is z (whole * whole) (square whole some)) (subst (λ (y : ℤ). y ≤ℤ z) (sym e) bound)
+    floor-from z (whole * whole) (int_div_euclid z (pos (whole * whole))) low (floor-is z (whole * whole) (square whole some))
+    (subst (λ (y : ℤ). y ≤ℤ z) (sym e) bound)
 
 pub level-up_to : (whole part : ℕ) (p q high : ℤ) → 0 < whole → part ≤ whole → p ≤ℤ (pos whole *ℤ high) → q ≤ℤ (pos whole *ℤ high)
     → int_div_euclid (part_way whole part p q) (pos (whole * whole)) ≤ℤ high
@@ -67,11 +69,18 @@ down-between : (values : List ℤ) (columns rows mesh y i : ℕ) (low high : ℤ
     → ((pos (2 * mesh) *ℤ low) ≤ℤ down_column values columns rows mesh y i) × (down_column values columns rows mesh y i ≤ℤ (pos (2 * mesh) *ℤ high))
 down-between values columns rows mesh y i low high il some long cells all =
     let past : past_centre mesh y < 2 * mesh = past-below mesh y cells in
-    let k : cell_before rows mesh y * columns + i < length values = subst (λ (n : ℕ). cell_before rows mesh y * columns + i < n) (sym long) (cell-within columns rows i (cell_before rows mesh y) il (omega arith)) in
-    let l : cell_after rows mesh y * columns + i < length values = subst (λ (n : ℕ). cell_after rows mesh y * columns + i < n) (sym long) (cell-within columns rows i (cell_after rows mesh y) il (omega arith)) in
-    let p : (low ≤ℤ number_in_grid values columns i (cell_before rows mesh y)) × (number_in_grid values columns i (cell_before rows mesh y) ≤ℤ high) = each-number (λ v. (low ≤ℤ v) × (v ≤ℤ high)) values columns i (cell_before rows mesh y) all k in
-    let q : (low ≤ℤ number_in_grid values columns i (cell_after rows mesh y)) × (number_in_grid values columns i (cell_after rows mesh y) ≤ℤ high) = each-number (λ v. (low ≤ℤ v) × (v ≤ℤ high)) values columns i (cell_after rows mesh y) all l in
-    (way-from (2 * mesh) (past_centre mesh y) _ _ low (omega (arith, past)) p.0 q.0, way-up_to (2 * mesh) (past_centre mesh y) _ _ high (omega (arith, past)) p.1 q.1)
+    let k : cell_before rows mesh y * columns + i < length values =
+    subst (λ (n : ℕ). cell_before rows mesh y * columns + i < n) (sym long) (cell-within columns rows i (cell_before rows mesh y) il (omega arith)) in
+    let l : cell_after rows mesh y * columns + i < length values =
+    subst (λ (n : ℕ). cell_after rows mesh y * columns + i < n) (sym long) (cell-within columns rows i (cell_after rows mesh y) il (omega arith)) in
+    let p : (low ≤ℤ number_in_grid values columns i (cell_before rows mesh y)) × (number_in_grid values columns i (cell_before rows mesh y) ≤ℤ high) =
+    each-number (λ v. (low ≤ℤ v) × (v ≤ℤ high)) values columns i (cell_before rows mesh y) all k in
+    let q : (low ≤ℤ number_in_grid values columns i (cell_after rows mesh y)) × (number_in_grid values columns i (cell_after rows mesh y) ≤ℤ high) =
+    each-number (λ v. (low ≤ℤ v) × (v ≤ℤ high)) values columns i (cell_after rows mesh y) all l in (
+      way-from (2 * mesh) (past_centre mesh y) _ _ low (omega (arith, past)) p.0 q.0,
+      way-up_to (2 * mesh) (past_centre mesh y) _ _ high (omega (arith, past))
+          p.1 q.1,
+    )
 
 pub stay_between : LevelsStayBetween
 unfolding interpolated
@@ -109,17 +118,21 @@ half-way whole part p q le a b =
 pub half-level : (whole part : ℕ) (p q : ℤ) → 0 < whole → part ≤ whole → IsHalfRangeTimes whole p → IsHalfRangeTimes whole q
     → IsInHalfRange (int_div_euclid (part_way whole part p q) (pos (whole * whole)))
 half-level whole part p q some le a b = record {
-  low = level-from whole part p q (neg_ℤ (pos (2 ^ 36))) some le (up_to-low whole (2 ^ 36) p (times-up_to whole p a)) (up_to-low whole (2 ^ 36) q (times-up_to whole q b));
-  high = level-up_to whole part p q (pos (2 ^ 36)) some le (up_to-high whole (2 ^ 36) p (times-up_to whole p a)) (up_to-high whole (2 ^ 36) q (times-up_to whole q b));
+  low = level-from whole part p q (neg_ℤ (pos (2 ^ 36))) some le (up_to-low whole (2 ^ 36) p (times-up_to whole p a))
+      (up_to-low whole (2 ^ 36) q (times-up_to whole q b));
+  high = level-up_to whole part p q (pos (2 ^ 36)) some le (up_to-high whole (2 ^ 36) p (times-up_to whole p a))
+      (up_to-high whole (2 ^ 36) q (times-up_to whole q b));
 }
 
-pub half-down : (values : List ℤ) (columns rows mesh y i : ℕ) → 0 < mesh → All IsInHalfRange values → IsHalfRangeTimes (2 * mesh) (down_column values columns rows mesh y i)
+pub half-down : (values : List ℤ) (columns rows mesh y i : ℕ) → 0 < mesh → All IsInHalfRange values
+    → IsHalfRangeTimes (2 * mesh) (down_column values columns rows mesh y i)
 half-down values columns rows mesh y i some all =
     let past : past_centre mesh y < 2 * mesh = past-below mesh y some in
     half-way (2 * mesh) (past_centre mesh y) _ _ (omega (arith, past))
     (half-number values columns i (cell_before rows mesh y) all) (half-number values columns i (cell_after rows mesh y) all)
 
-pub half-interpolated : (values : List ℤ) (columns rows mesh x y : ℕ) → 0 < mesh → All IsInHalfRange values → IsInHalfRange (interpolated values columns rows mesh x y)
+pub half-interpolated : (values : List ℤ) (columns rows mesh x y : ℕ) → 0 < mesh → All IsInHalfRange values
+    → IsInHalfRange (interpolated values columns rows mesh x y)
 unfolding interpolated
 half-interpolated values columns rows mesh x y some all =
     let past : past_centre mesh x < 2 * mesh = past-below mesh x some in

@@ -1,5 +1,5 @@
 -- The lower median by counts is unique, exists, and is the one that the test finds.
-use Rattle.std.proofs.Common.{◌≡◌, ℕ, ◌+◌, ◌-◌, ◌/◌, ◌<◌, ◌≤◌, zero, suc, Bool, true, false, cond, List, [], ◌∷◌, ◌++◌, length, take, drop, get_or, refl, sym, ap, subst, ◌∙◌, arith, inl, inr, IsPermutation, length-drop, length-append, append_assoc, get_or-take, get_or-drop, take-append-drop}
+use Rattle.std.proofs.Common.{◌≡◌, ℕ, ◌+◌, ◌-◌, ◌/◌, ◌<◌, ◌≤◌, zero, suc, Bool, true, false, cond, List, [], ◌∷◌, ◌++◌, length, take, drop, get_or, refl, sym, ap, subst, ◌∙◌, arith, IsPermutation, length-drop, length-append, append_assoc, get_or-take, get_or-drop, take-append-drop}
 use Rattle.std.specs.Prelude.{ℤ, pos, ◌≤ℤ◌, ◌<ℤ◌, int_lt, int_le, nat_lt, nat_le, find, Option, Some, None, Contains, IsSome, IsTrue}
 use Rattle.std.specs.List.{All}
 use Rattle.std.specs.List.Sorted.{IsSplitAround}
@@ -11,22 +11,10 @@ use Rattle.std.specs.Int.Signed.{≤ℤ_refl}
 use Rattle.std.proofs.lemmas.List.{length-take-le, get_or_default}
 use Rattle.std.proofs.lemmas.List.Elements.{All-nil, All-cons, All-append, All-weaker}
 use Rattle.std.proofs.lemmas.List.Sorted.{IsPermutation-sym, IsPermutation-trans, IsPermutation-cons, IsPermutation-middle, IsPermutation-refl, All-permutation, Contains-permutation, sum_by-IsPermutation, length_permutation}
-use Rattle.comp_tree.proofs.Exported.{int_le-true, int_le-from, int_lt-true, int_lt-from, int_lt-false, int_lt-from_not_le, IsAmong, find_some, find_none}
-use Rattle.mesh_background.specs.Medians.{lower_half, count_less, count_up_to, IsLowerMedian, is_lower_median, lower_median}
+use Rattle.lemmas.proofs.Exported.{IsAmong, among_at_place, contains_from_among, find_none, find_some, int_le-from, int_le-true, int_lt-false, int_lt-from, int_lt-from_not_le, int_lt-true}
+use Rattle.mesh_background.specs.Medians.{lower_half, count_less, count_up_to, IsLowerMedian, splits_in_half, lower_median}
 use Rattle.mesh_background.specs.Laws.{LowerMedianIsTheOne, SomeMemberIsLowerMedian}
 use Rattle.mesh_background.proofs.Counts.{count-weaker, count_most, count_least}
-
--- ---- members
-
-contains_from_among : {X : Type 0} (x : X) (xs : List X) → IsAmong x xs → Contains xs x
-contains_from_among x [] h = absurd h
-contains_from_among x (y ∷ xs) (inl e) = (0, omega arith, e)
-contains_from_among x (y ∷ xs) (inr h) = let k : Contains xs x = contains_from_among x xs h in (suc k.0, omega arith, k.2)
-
-among_from_contains : {X : Type 0} (x : X) (xs : List X) (k : ℕ) → k < length xs → get_or xs k x ≡ x → IsAmong x xs
-among_from_contains x [] k lt e = absurd (omega arith)
-among_from_contains x (y ∷ xs) zero lt e = inl e
-among_from_contains x (y ∷ xs) (suc k) lt e = inr (among_from_contains x xs k (omega arith) e)
 
 -- ---- there is no second one
 
@@ -48,39 +36,39 @@ unique xs v w a b = by_lt_z v w (λ lt. absurd (not_less xs v w a b lt))
 
 -- ---- the test
 
-test-counts : (xs : List ℤ) (v : ℤ) → is_lower_median xs v ≡ true → HasCounts xs v
-unfolding is_lower_median
+test-counts : (xs : List ℤ) (v : ℤ) → splits_in_half xs v ≡ true → HasCounts xs v
+unfolding splits_in_half
 test-counts xs v h =
     let parts : (nat_lt (count_less xs v) (lower_half xs) ≡ true) × (nat_le (lower_half xs) (count_up_to xs v) ≡ true) =
     and_parts (nat_lt (count_less xs v) (lower_half xs)) (nat_le (lower_half xs) (count_up_to xs v)) h in
     record { few = ltb-true (count_less xs v) (lower_half xs) parts.0; enough = leb-true (lower_half xs) (count_up_to xs v) parts.1 }
 
-test-from : (xs : List ℤ) (v : ℤ) → HasCounts xs v → is_lower_median xs v ≡ true
-unfolding is_lower_median
+test-from : (xs : List ℤ) (v : ℤ) → HasCounts xs v → splits_in_half xs v ≡ true
+unfolding splits_in_half
 test-from xs v h = and_from (nat_lt (count_less xs v) (lower_half xs)) (nat_le (lower_half xs) (count_up_to xs v))
     (lt-ltb (count_less xs v) (lower_half xs) h.few) (le-leb (lower_half xs) (count_up_to xs v) h.enough)
 
 found-is : (xs : List ℤ) (v : ℤ) → lower_median xs ≡ Some v → IsLowerMedian xs v
 unfolding lower_median
 found-is xs v e =
-    let found : IsAmong v xs × IsTrue (is_lower_median xs v) = find_some (is_lower_median xs) xs v e in
+    let found : IsAmong v xs × IsTrue (splits_in_half xs v) = find_some (splits_in_half xs) xs v e in
     let counts : HasCounts xs v = test-counts xs v found.1 in
     record { member = contains_from_among v xs found.0; few_below = counts.few; enough = counts.enough }
 
 pub found-from : (xs : List ℤ) (v : ℤ) → IsLowerMedian xs v → lower_median xs ≡ Some v
 unfolding lower_median
-found-from xs v h = go (find (is_lower_median xs) xs) refl
+found-from xs v h = go (find (splits_in_half xs) xs) refl
   where
     counts : HasCounts xs v
     counts = record { few = h.few_below; enough = h.enough }
 
     among : IsAmong v xs
-    among = among_from_contains v xs h.member.0 h.member.1 h.member.2
+    among = among_at_place v xs h.member.0 h.member.1 h.member.2
 
-    go : (o : Option ℤ) → find (is_lower_median xs) xs ≡ o → find (is_lower_median xs) xs ≡ Some v
-    go None e = absurd (true≢false (sym (test-from xs v counts) ∙ find_none (is_lower_median xs) xs v e among))
+    go : (o : Option ℤ) → find (splits_in_half xs) xs ≡ o → find (splits_in_half xs) xs ≡ Some v
+    go None e = absurd (true≢false (sym (test-from xs v counts) ∙ find_none (splits_in_half xs) xs v e among))
     go (Some w) e =
-        let found : IsAmong w xs × IsTrue (is_lower_median xs w) = find_some (is_lower_median xs) xs w e in
+        let found : IsAmong w xs × IsTrue (splits_in_half xs w) = find_some (splits_in_half xs) xs w e in
         e ∙ ap Some (unique xs w v (test-counts xs w found.1) counts)
 
 pub the_one : LowerMedianIsTheOne
@@ -115,7 +103,8 @@ rising-counts xs m v up some place here =
     let least : length (take (m + 1) xs) ≤ count_up_to (take (m + 1) xs ++ drop (m + 1) xs) v =
     count_least (λ x. int_le x v) (take (m + 1) xs) (drop (m + 1) xs) (early xs m v up inside here) in
     let below : count_less xs v ≡ count_less (take m xs ++ drop m xs) v = ap (λ (ys : List ℤ). count_less ys v) (sym (take-append-drop m xs)) in
-    let upto : count_up_to xs v ≡ count_up_to (take (m + 1) xs ++ drop (m + 1) xs) v = ap (λ (ys : List ℤ). count_up_to ys v) (sym (take-append-drop (m + 1) xs)) in
+    let upto : count_up_to xs v ≡ count_up_to (take (m + 1) xs ++ drop (m + 1) xs) v =
+    ap (λ (ys : List ℤ). count_up_to ys v) (sym (take-append-drop (m + 1) xs)) in
     record { few = omega arith; enough = omega arith }
 
 -- such a member is the lower median of each list that has these members
@@ -133,7 +122,8 @@ counted xs ys v moved member counts =
     })
 
 -- and is the lower median of each list that was put in this order
-pub median_in_order : (xs ys : List ℤ) (m : ℕ) (v : ℤ) → IsPermutation xs ys → IsRising ys → 0 < length ys → m ≡ (length ys - 1) / 2 → ((d : ℤ) → get_or ys m d ≡ v)
+pub median_in_order : (xs ys : List ℤ) (m : ℕ) (v : ℤ) → IsPermutation xs ys → IsRising ys → 0 < length ys → m ≡ (length ys - 1) / 2
+    → ((d : ℤ) → get_or ys m d ≡ v)
     → lower_median xs ≡ Some v
 median_in_order xs ys m v moved up some place here = counted xs ys v moved (m, omega arith, here v) (rising-counts ys m v up some place here)
 
@@ -151,7 +141,8 @@ contains-at [] back v = (0, omega arith, refl)
 contains-at (x ∷ xs) back v = let k : Contains (xs ++ v ∷ back) v = contains-at xs back v in (suc k.0, omega arith, k.2)
 
 -- the member at this place has the counts of the lower median, where those before are at most it and those behind at least it
-split-counts : (front back : List ℤ) (v : ℤ) → IsSplitAround int_cmp front v back → length front ≡ (length (front ++ v ∷ back) - 1) / 2 → HasCounts (front ++ v ∷ back) v
+split-counts : (front back : List ℤ) (v : ℤ) → IsSplitAround int_cmp front v back → length front ≡ (length (front ++ v ∷ back) - 1) / 2
+    → HasCounts (front ++ v ∷ back) v
 split-counts front back v h place =
     let behind : All (λ x. int_lt x v ≡ false) (v ∷ back) = All-cons (λ x. int_lt x v ≡ false) v back (int_lt-false v v (≤ℤ_refl v))
     (λ k d lt. int_lt-false (get_or back k d) v (not-less v (get_or back k d) (h.1 k d lt))) in
@@ -160,11 +151,13 @@ split-counts front back v h place =
     (All-cons (λ x. int_le x v ≡ true) v [] (int_le-from v v (≤ℤ_refl v)) (All-nil (λ x. int_le x v ≡ true))) in
     let most : count_less (front ++ v ∷ back) v ≤ length front = count_most (λ x. int_lt x v) front (v ∷ back) behind in
     let least : length (front ++ v ∷ []) ≤ count_up_to ((front ++ v ∷ []) ++ back) v = count_least (λ x. int_le x v) (front ++ v ∷ []) back upto in
-    let same : count_up_to ((front ++ v ∷ []) ++ back) v ≡ count_up_to (front ++ v ∷ back) v = ap (λ (ys : List ℤ). count_up_to ys v) (append_assoc front (v ∷ []) back) in
+    let same : count_up_to ((front ++ v ∷ []) ++ back) v ≡ count_up_to (front ++ v ∷ back) v =
+    ap (λ (ys : List ℤ). count_up_to ys v) (append_assoc front (v ∷ []) back) in
     let more : length (front ++ v ∷ []) ≡ length front + 1 = length-append front (v ∷ []) in
     record { few = omega (arith, most, place); enough = omega (arith, least, same, more, place) }
 
-pub median_from_split : (xs front back : List ℤ) (v : ℤ) → IsPermutation xs (front ++ v ∷ back) → IsSplitAround int_cmp front v back → length front ≡ (length xs - 1) / 2 → lower_median xs ≡ Some v
+pub median_from_split : (xs front back : List ℤ) (v : ℤ) → IsPermutation xs (front ++ v ∷ back) → IsSplitAround int_cmp front v back
+    → length front ≡ (length xs - 1) / 2 → lower_median xs ≡ Some v
 median_from_split xs front back v moved h place =
     let ys : List ℤ = front ++ v ∷ back in
     let long : length ys ≡ length xs = length_permutation xs ys moved in
@@ -233,7 +226,8 @@ some_member xs some =
     let m : ℕ = (length ys - 1) / 2 in
     let v : ℤ = get_or ys m (pos 0) in
     let inside : m < length ys = omega arith in
-    let found : lower_median xs ≡ Some v = median_in_order xs ys m v (moved xs) (record { rises = λ i j d le lt. rises-far ys i j d (rises xs) le lt }) (omega arith) refl
+    let found : lower_median xs ≡ Some v =
+    median_in_order xs ys m v (moved xs) (record { rises = λ i j d le lt. rises-far ys i j d (rises xs) le lt }) (omega arith) refl
     (λ d. get_or_default ys m d (pos 0) inside) in
     subst (λ (o : Option ℤ). IsSome o) (sym found) refl
 

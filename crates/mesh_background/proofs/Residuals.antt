@@ -75,7 +75,8 @@ half-level r p h d = go (value_at r.values p) refl d
 half-defined : (r : Raster) (ps : List ℕ) → HasValuesInHalfRange r.values → All IsInHalfRange (defined_values r ps)
 unfolding defined_values
 half-defined r ps h = All-map IsInHalfRange (level r) (filter (is_defined r) ps)
-    (All-weaker (λ p. is_defined r p ≡ true) (λ p. IsInHalfRange (level r p)) (λ p d. half-level r p h d) (filter (is_defined r) ps) (filter_passes (is_defined r) ps))
+    (All-weaker (λ p. is_defined r p ≡ true) (λ p. IsInHalfRange (level r p)) (λ p d. half-level r p h d) (filter (is_defined r) ps)
+    (filter_passes (is_defined r) ps))
 
 half-median : (xs : List ℤ) (d : ℤ) → All IsInHalfRange xs → IsInHalfRange d → IsInHalfRange (unwrap_or (lower_median xs) d)
 half-median xs d all other = go (lower_median xs) refl
@@ -106,7 +107,8 @@ half-filtered : (values : List ℤ) (columns rows n : ℕ) → All IsInHalfRange
 unfolding filtered_number numbers_around
 half-filtered values columns rows n all = half-median (numbers_around values columns rows (n % columns) (n / columns)) (pos 0)
     (All-each (λ l. map (λ k. number_in_grid values columns k l) (places_around columns (n % columns))) (places_around rows (n / columns))
-    (λ l. All-map IsInHalfRange (λ k. number_in_grid values columns k l) (places_around columns (n % columns)) (λ k d lt. half-number values columns _ l all))) half-zero
+    (λ l. All-map IsInHalfRange (λ k. number_in_grid values columns k l) (places_around columns (n % columns))
+    (λ k d lt. half-number values columns _ l all))) half-zero
 
 pub half-smooth : (r : Raster) (mesh : ℕ) → HasValuesInHalfRange r.values → All IsInHalfRange (filtered_values r mesh)
 unfolding filtered_values filtered_mesh
@@ -116,7 +118,8 @@ half-smooth r mesh h =
     All-map IsInHalfRange (filtered_number (values_of_mesh r mesh) columns rows) (range_with_len 0 (columns * rows))
     (λ k d lt. half-filtered (values_of_mesh r mesh) columns rows _ (half-values r mesh h))
 
-pub half-pixel_level : (mesh : ℕ) (shape : Shape) (values : List ℤ) (p : ℕ) → 0 < mesh → All IsInHalfRange values → IsInHalfRange (pixel_level mesh shape values p)
+pub half-pixel_level : (mesh : ℕ) (shape : Shape) (values : List ℤ) (p : ℕ) → 0 < mesh → All IsInHalfRange values
+    → IsInHalfRange (pixel_level mesh shape values p)
 unfolding pixel_level
 half-pixel_level mesh shape values p some all =
     half-interpolated values (cells_along mesh shape.width) (cells_along mesh shape.height) mesh (p % shape.width) (p / shape.width) some all
@@ -125,13 +128,19 @@ half-background : (r : Raster) (mesh : ℕ) (flat : Bool) (p : ℕ) → HasValue
 unfolding background
 half-background r mesh flat p h = go (cases_lt 0 mesh) flat
   where
-    go : (0 < mesh) ⊎ (mesh ≤ 0) → (f : Bool) → IsInHalfRange (cond (mesh == 0) (pos 0) (cond f (mesh_value r mesh (mesh_cell_of mesh r.shape.width p)) (pixel_level mesh r.shape (filtered_values r mesh) p)))
+    go : (0 < mesh) ⊎ (mesh ≤ 0) → (f : Bool)
+        → IsInHalfRange (cond (mesh == 0) (pos 0)
+        (cond f (mesh_value r mesh (mesh_cell_of mesh r.shape.width p)) (pixel_level mesh r.shape (filtered_values r mesh) p)))
     go (inr none) f = let e : mesh ≡ 0 = omega arith in
-        subst (λ (b : Bool). IsInHalfRange (cond b (pos 0) (cond f (mesh_value r mesh (mesh_cell_of mesh r.shape.width p)) (pixel_level mesh r.shape (filtered_values r mesh) p)))) (sym (eq-eqb mesh 0 e)) half-zero
+        subst (λ (b : Bool). IsInHalfRange (cond b (pos 0)
+        (cond f (mesh_value r mesh (mesh_cell_of mesh r.shape.width p)) (pixel_level mesh r.shape (filtered_values r mesh) p)))) (sym (eq-eqb mesh 0
+        e)) half-zero
     go (inl some) true =
-        subst (λ (b : Bool). IsInHalfRange (cond b (pos 0) (mesh_value r mesh (mesh_cell_of mesh r.shape.width p)))) (sym (ne_eqb mesh 0 (λ e. absurd (omega arith)))) (half-mesh r mesh (mesh_cell_of mesh r.shape.width p) h)
+        subst (λ (b : Bool). IsInHalfRange (cond b (pos 0) (mesh_value r mesh (mesh_cell_of mesh r.shape.width p))))
+        (sym (ne_eqb mesh 0 (λ e. absurd (omega arith)))) (half-mesh r mesh (mesh_cell_of mesh r.shape.width p) h)
     go (inl some) false =
-        subst (λ (b : Bool). IsInHalfRange (cond b (pos 0) (pixel_level mesh r.shape (filtered_values r mesh) p))) (sym (ne_eqb mesh 0 (λ e. absurd (omega arith))))
+        subst (λ (b : Bool). IsInHalfRange (cond b (pos 0) (pixel_level mesh r.shape (filtered_values r mesh) p)))
+        (sym (ne_eqb mesh 0 (λ e. absurd (omega arith))))
         (half-pixel_level mesh r.shape (filtered_values r mesh) p some (half-smooth r mesh h))
 
 -- the difference of two numbers in half of the range is in the range
@@ -165,7 +174,8 @@ in_range r mesh flat h p v e =
 
 -- ---- a plane that is written pixel by pixel
 
-pub residual-all : (r new : Raster) (mesh : ℕ) (flat : Bool) (n : ℕ) → IsWritten r (residual_at r mesh flat) n new → length r.values ≤ n → new ≡ residual_of r mesh flat
+pub residual-all : (r new : Raster) (mesh : ℕ) (flat : Bool) (n : ℕ) → IsWritten r (residual_at r mesh flat) n new → length r.values ≤ n
+    → new ≡ residual_of r mesh flat
 unfolding residual_of
 residual-all r new mesh flat n h le = written_all r new (residual_at r mesh flat) n h le
 
@@ -179,11 +189,13 @@ cell-number mesh width x y lt =
 
 pub background-flat : (r : Raster) (mesh p : ℕ) → 0 < mesh → background r mesh true p ≡ mesh_value r mesh (mesh_cell_of mesh r.shape.width p)
 unfolding background
-background-flat r mesh p some = ap (λ (b : Bool). cond b (pos 0) (mesh_value r mesh (mesh_cell_of mesh r.shape.width p))) (ne_eqb mesh 0 (λ e. absurd (omega arith)))
+background-flat r mesh p some =
+    ap (λ (b : Bool). cond b (pos 0) (mesh_value r mesh (mesh_cell_of mesh r.shape.width p))) (ne_eqb mesh 0 (λ e. absurd (omega arith)))
 
 pub background-smooth : (r : Raster) (mesh p : ℕ) → 0 < mesh → background r mesh false p ≡ pixel_level mesh r.shape (filtered_values r mesh) p
 unfolding background
-background-smooth r mesh p some = ap (λ (b : Bool). cond b (pos 0) (pixel_level mesh r.shape (filtered_values r mesh) p)) (ne_eqb mesh 0 (λ e. absurd (omega arith)))
+background-smooth r mesh p some =
+    ap (λ (b : Bool). cond b (pos 0) (pixel_level mesh r.shape (filtered_values r mesh) p)) (ne_eqb mesh 0 (λ e. absurd (omega arith)))
 
 pub length-values : (r : Raster) (mesh : ℕ) → length (values_of_mesh r mesh) ≡ cell_count mesh r.shape
 unfolding values_of_mesh
@@ -204,11 +216,13 @@ pub record IsGridOf (r : Raster) (mesh : ℕ) (shape : Shape) (columns rows : �
   pub columns_is : columns ≡ cells_along mesh shape.width
   pub rows_is : rows ≡ cells_along mesh shape.height
 
-pub grid-count : (r : Raster) (mesh : ℕ) (shape : Shape) (columns rows : ℕ) (values : List ℤ) → IsGridOf r mesh shape columns rows → values ≡ values_of_mesh r mesh → length values ≡ columns * rows
+pub grid-count : (r : Raster) (mesh : ℕ) (shape : Shape) (columns rows : ℕ) (values : List ℤ) → IsGridOf r mesh shape columns rows
+    → values ≡ values_of_mesh r mesh → length values ≡ columns * rows
 grid-count r mesh shape columns rows values h is =
     ap (λ (vs : List ℤ). length vs) is ∙ length-values r mesh ∙ (λ i. cell_count mesh (sym h.shape_is i)) ∙ (λ i. sym h.columns_is i * sym h.rows_is i)
 
-pub grid-smooth : (r : Raster) (mesh : ℕ) (shape : Shape) (columns rows : ℕ) (values smooth : List ℤ) → IsGridOf r mesh shape columns rows → values ≡ values_of_mesh r mesh
+pub grid-smooth : (r : Raster) (mesh : ℕ) (shape : Shape) (columns rows : ℕ) (values smooth : List ℤ) → IsGridOf r mesh shape columns rows
+    → values ≡ values_of_mesh r mesh
     → smooth ≡ filtered_mesh values columns rows → smooth ≡ filtered_values r mesh
 unfolding filtered_values
 grid-smooth r mesh shape columns rows values smooth h is e =

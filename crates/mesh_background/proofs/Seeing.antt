@@ -1,5 +1,5 @@
 -- The background as it is seen through a window whose corner stands on the mesh.
-use Rattle.std.proofs.Common.{◌≡◌, ℕ, ◌+◌, ◌-◌, ◌*◌, ◌/◌, ◌%◌, ◌<◌, ◌≤◌, Bool, true, false, cond, ◌&&◌, ◌==◌, List, [], ◌∷◌, length, map, refl, sym, ◌∙◌, ap}
+use Rattle.std.proofs.Common.{◌≡◌, ℕ, ◌+◌, ◌-◌, ◌*◌, ◌/◌, ◌%◌, ◌<◌, ◌≤◌, Bool, true, false, cond, ◌&&◌, ◌==◌, List, length, map, refl, sym, ◌∙◌, ap}
 use Rattle.std.proofs.Common.{subst, arith, ◌⊎◌, inl, inr}
 use Rattle.std.specs.Prelude.{IsTrue, nat_le, filter, ℤ, pos, ◌-ℤ◌, Option, Some, None, unwrap_or, is_some, IsSome, ◌↔◌}
 use Rattle.std.specs.Option.{option_map}
@@ -9,11 +9,12 @@ use Rattle.std.proofs.lemmas.Bool.{and_parts, and_from, leb-true, le-leb, eqb-tr
 use Rattle.std.proofs.lemmas.Nat.{div-add-mod', div-mul-add, mod-mul-add, mod_below, div_below, mul-add-lt, same_from_place}
 use Rattle.std.proofs.lemmas.List.{length-map}
 use Rattle.std.proofs.lemmas.List.FromFn.{get_or-map-range_with_len}
+use Rattle.lemmas.proofs.Exported.{ArePaired, HasPartnerIn, IsAmong, IsRising, among-filter, among-range, among_from_filter, among_from_range, not_empty, paired_filter, paired_flat_map, paired_from_rising, paired_map, rising-pixels}
 use Rattle.comp_tree.specs.declared.shape.Shape.{Shape}
 use Rattle.comp_tree.specs.Raster.{Raster, IsPlane, pixels, value_at, is_defined, level}
 use Rattle.comp_tree.specs.Windows.{Window, IsInside, in_whole, seen_through}
-use Rattle.comp_tree.proofs.Exported.{IsAmong, among-filter, among-range, among_from_filter, among_from_range, below_from_defined, ArePaired, HasPartnerIn}
-use Rattle.comp_tree.proofs.Exported.{IsRising, paired_filter, paired_flat_map, paired_from_rising, paired_map, rising-pixels, IsAt, at_order, in_whole-at}
+use Rattle.comp_tree.proofs.Exported.{below_from_defined}
+use Rattle.comp_tree.proofs.Exported.{IsAt, at_order, in_whole-at}
 use Rattle.comp_tree.proofs.Exported.{in_whole-below, some_columns, seen-length, seen-shape, seen-value}
 use Rattle.mesh_background.specs.Medians.{lower_median}
 use Rattle.mesh_background.specs.Mesh.{cells_along, cell_count, mesh_cell_of, cell_pixels, defined_values, image_value, mesh_value, values_of_mesh}
@@ -254,11 +255,6 @@ module _ (r : Raster) (w : Window) (mesh : ℕ) (plane : IsPlane r) (inside : Is
         (cell_pixels (seen_through w r) mesh here_cell) one_defined cells_paired)
 
 -- ---- the number of a cell
-
--- a list with a member is not empty
-not_empty : (ps : List ℕ) (x : ℕ) → IsAmong x ps → 0 < length ps
-not_empty [] x h = absurd h
-not_empty (y ∷ ys) x h = omega arith
 
 -- where there is a value, what would stand in for it makes no difference
 unwrap_same : (o : Option ℤ) (a b : ℤ) → IsSome o → unwrap_or o a ≡ unwrap_or o b

@@ -4,17 +4,15 @@ use Rattle.std.specs.Prelude.{ℤ, pos, negsuc, neg_ℤ, ◌+ℤ◌, ◌-ℤ◌,
 use Rattle.std.specs.Int.{int_div_euclid}
 use Rattle.std.proofs.lemmas.Int.{ints, to_z-of_z}
 use Rattle.std.proofs.lemmas.Nat.{div-add-mod', mod_below}
-use Rattle.std.proofs.Math.Nat.{mul-le-mul_right}
 use Rattle.std.proofs.Math.IntN.{zero-*ℤ, pos-*ℤ-pos}
 use mir.Syntax.{w64, w128}
+use Rattle.lemmas.proofs.Exported.{IsFloor, floor-from, floor-is, floor-one, floor-up_to, times-plus, times-suc, times-sum, times-times}
 use Rattle.comp_tree.specs.Limits.{IsInHalfRange}
 use Rattle.comp_tree.proofs.Exported.{row-from}
 use Rattle.mesh_background.specs.declared.slope.Mixed.{Mixed}
-use Rattle.mesh_background.specs.Mesh.{cells_along}
 use Rattle.mesh_background.specs.Smoothing.{number_in_grid}
 use Rattle.mesh_background.specs.Interpolation.{pixel_centre, next_cell, past_centre, cell_before, cell_after, part_way, down_column, interpolated}
 use Rattle.mesh_background.specs.Slopes.{in_parts, steps_on, first_before, IsSmallStep, IsSmallTimes}
-use Rattle.mesh_background.proofs.Scaling.{times-suc, times-plus, times-sum, times-times, IsFloor, floor-is, floor-one, floor-from, floor-up_to}
 use Rattle.mesh_background.proofs.Fitting.{IsUpTo, up_to-fits, up_to-pos, up_to-low, up_to-high, kept, product-kept}
 use Rattle.mesh_background.proofs.Levels.{past-below, half-up_to, IsPlaced}
 
@@ -26,7 +24,8 @@ mixed-floor parts m few = record { low = omega (arith, ints, few); high = omega 
 -- the units of a mixed number are its quotient
 pub mixed-is : (parts : ℕ) (m : Mixed) (z : ℤ) → m.rest < parts → in_parts parts m ≡ z → m.floor ≡ int_div_euclid z (pos parts)
 mixed-is parts m z few e =
-    floor-one (in_parts parts m) parts m.floor (int_div_euclid (in_parts parts m) (pos parts)) (mixed-floor parts m few) (floor-is (in_parts parts m) parts (omega arith))
+    floor-one (in_parts parts m) parts m.floor (int_div_euclid (in_parts parts m) (pos parts)) (mixed-floor parts m few)
+    (floor-is (in_parts parts m) parts (omega arith))
     ∙ ap (λ (y : ℤ). int_div_euclid y (pos parts)) e
 
 -- one step more
@@ -40,7 +39,8 @@ steps-more k n y z s e f =
 -- ---- along a row
 
 -- what lies between p and q rises by twice their difference, where the part rises by two
-pub way-rises : (whole part k : ℕ) (p q s : ℤ) → part + k * 2 ≤ whole → s ≡ pos 2 *ℤ (q -ℤ p) → part_way whole (part + k * 2) p q ≡ part_way whole part p q +ℤ pos k *ℤ s
+pub way-rises : (whole part k : ℕ) (p q s : ℤ) → part + k * 2 ≤ whole → s ≡ pos 2 *ℤ (q -ℤ p)
+    → part_way whole (part + k * 2) p q ≡ part_way whole part p q +ℤ pos k *ℤ s
 unfolding part_way
 way-rises whole part k p q s le e =
     let rest : ℕ = whole - (part + k * 2) in
@@ -73,7 +73,8 @@ pub record IsAlong (mesh left x k : ℕ) : Type 0 where
   pub on : past_centre mesh x ≡ past_centre mesh left + k * 2
   pub few : past_centre mesh left + k * 2 ≤ 2 * mesh
 
-pub run-along : (mesh width next left k : ℕ) → 0 < mesh → left ≡ first_before mesh width next → k < first_before mesh width (next + 1) - left → IsAlong mesh left (left + k) k
+pub run-along : (mesh width next left k : ℕ) → 0 < mesh → left ≡ first_before mesh width next → k < first_before mesh width (next + 1) - left
+    → IsAlong mesh left (left + k) k
 run-along mesh width next left k some e lt =
     let here = run-inside mesh width next (left + k) some (omega (arith, e)) (omega (arith, lt)) in
     let start = run-inside mesh width next left some (omega (arith, e)) (omega (arith, lt)) in
@@ -89,22 +90,28 @@ run-along mesh width next left k some e lt =
 -- what the code has at the first pixel of a run
 pub record IsRun (values : List ℤ) (columns rows mesh y left : ℕ) (level step : Mixed) : Type 0 where
   pub level_is : in_parts (2 * mesh * (2 * mesh)) level
-      ≡ part_way (2 * mesh) (past_centre mesh left) (down_column values columns rows mesh y (cell_before columns mesh left)) (down_column values columns rows mesh y (cell_after columns mesh left))
+      ≡ part_way (2 * mesh) (past_centre mesh left) (down_column values columns rows mesh y (cell_before columns mesh left))
+      (down_column values columns rows mesh y (cell_after columns mesh left))
   pub step_is : in_parts (2 * mesh * (2 * mesh)) step
-      ≡ pos 2 *ℤ (down_column values columns rows mesh y (cell_after columns mesh left) -ℤ down_column values columns rows mesh y (cell_before columns mesh left))
+      ≡ pos 2 *ℤ (down_column values columns rows mesh y (cell_after columns mesh left) -ℤ down_column values columns rows mesh y
+      (cell_before columns mesh left))
 
-pub run-level : (values : List ℤ) (columns rows mesh y left x k : ℕ) (level step : Mixed) → IsRun values columns rows mesh y left level step → IsAlong mesh left x k
+pub run-level : (values : List ℤ) (columns rows mesh y left x k : ℕ) (level step : Mixed) → IsRun values columns rows mesh y left level step
+    → IsAlong mesh left x k
     → steps_on (2 * mesh * (2 * mesh)) level step k ≡ interpolated values columns rows mesh x y
 unfolding interpolated
 run-level values columns rows mesh y left x k level step h a =
     let parts : ℕ = 2 * mesh * (2 * mesh) in
     let down : ℕ → ℤ = λ n. down_column values columns rows mesh y n in
     (λ i. int_div_euclid (h.level_is i +ℤ pos k *ℤ h.step_is i) (pos parts))
-    ∙ ap (λ (z : ℤ). int_div_euclid z (pos parts)) (sym (way-rises (2 * mesh) (past_centre mesh left) k (down (cell_before columns mesh left)) (down (cell_after columns mesh left)) _ a.few refl))
-    ∙ (λ i. int_div_euclid (part_way (2 * mesh) (sym a.on i) (down (min (sym a.same i - 1) (columns - 1))) (down (min (sym a.same i) (columns - 1)))) (pos parts))
+    ∙ ap (λ (z : ℤ). int_div_euclid z (pos parts)) (sym
+    (way-rises (2 * mesh) (past_centre mesh left) k (down (cell_before columns mesh left)) (down (cell_after columns mesh left)) _ a.few refl))
+    ∙ (λ i. int_div_euclid (part_way (2 * mesh) (sym a.on i) (down (min (sym a.same i - 1) (columns - 1))) (down (min (sym a.same i) (columns - 1))))
+    (pos parts))
 
 -- from what the code computes
-pub run-is : (values : List ℤ) (columns rows mesh y left a b p c d q : ℕ) (first second : ℤ) (level step : Mixed) → IsPlaced columns mesh left a b p → IsPlaced rows mesh y c d q
+pub run-is : (values : List ℤ) (columns rows mesh y left a b p c d q : ℕ) (first second : ℤ) (level step : Mixed) → IsPlaced columns mesh left a b p
+    → IsPlaced rows mesh y c d q
     → first ≡ part_way (2 * mesh) q (number_in_grid values columns a c) (number_in_grid values columns a d)
     → second ≡ part_way (2 * mesh) q (number_in_grid values columns b c) (number_in_grid values columns b d)
     → in_parts (2 * mesh * (2 * mesh)) level ≡ part_way (2 * mesh) p first second → in_parts (2 * mesh * (2 * mesh)) step ≡ pos 2 *ℤ (second -ℤ first)
@@ -115,24 +122,16 @@ run-is values columns rows mesh y left a b p c d q first second level step h k o
 }
   where
     before : first ≡ down_column values columns rows mesh y (cell_before columns mesh left)
-    before = one ∙ (λ i. part_way (2 * mesh) (k.past_is i) (number_in_grid values columns (h.before_is i) (k.before_is i)) (number_in_grid values columns (h.before_is i) (k.after_is i)))
+    before =
+        one ∙ (λ i. part_way (2 * mesh) (k.past_is i) (number_in_grid values columns (h.before_is i) (k.before_is i))
+        (number_in_grid values columns (h.before_is i) (k.after_is i)))
 
     after : second ≡ down_column values columns rows mesh y (cell_after columns mesh left)
-    after = two ∙ (λ i. part_way (2 * mesh) (k.past_is i) (number_in_grid values columns (h.after_is i) (k.before_is i)) (number_in_grid values columns (h.after_is i) (k.after_is i)))
+    after =
+        two ∙ (λ i. part_way (2 * mesh) (k.past_is i) (number_in_grid values columns (h.after_is i) (k.before_is i))
+        (number_in_grid values columns (h.after_is i) (k.after_is i)))
 
 -- ---- the ends of a row
-
-pub first-run : (mesh width : ℕ) → first_before mesh width 0 ≡ 0
-first-run mesh width = let none : 0 * mesh ≡ 0 = omega arith in omega (arith, none)
-
-pub last-run : (mesh width columns n : ℕ) → 0 < mesh → columns ≡ cells_along mesh width → columns + 1 ≤ n → first_before mesh width n ≡ width
-last-run mesh width columns n some c le =
-    let whole : cells_along mesh width * mesh + (width + (mesh - 1)) % mesh ≡ width + (mesh - 1) = div-add-mod' (width + (mesh - 1)) mesh in
-    let rest : (width + (mesh - 1)) % mesh < mesh = mod_below (width + (mesh - 1)) mesh some in
-    let more : (cells_along mesh width + 1) * mesh ≤ n * mesh = mul-le-mul_right mesh (omega (arith, c, le)) in
-    let next : (cells_along mesh width + 1) * mesh ≡ cells_along mesh width * mesh + mesh = omega arith in
-    let half : (mesh + 1) / 2 * 2 + (mesh + 1) % 2 ≡ mesh + 1 = div-add-mod' (mesh + 1) 2 in
-    omega (arith, whole, rest, more, next, half, some)
 
 pub runs-rise : (mesh width next : ℕ) → first_before mesh width next ≤ first_before mesh width (next + 1)
 runs-rise mesh width next = let more : (next + 1) * mesh ≡ next * mesh + mesh = omega arith in omega (arith, more)
@@ -150,8 +149,16 @@ pub record IsDivided (parts : ℕ) (z q : ℤ) : Type 0 where
   pub floor : IsFloor z parts q
   pub small : IsSmallStep q
 
-pub divided : (parts : ℕ) (z unit q : ℤ) → 0 < parts → parts ≤ 2 ^ 60 → IsSmallTimes parts z → unit ≡ pos parts → q ≡ int_div_euclid (kept w128 z) (kept w128 unit) → IsDivided parts z q
-divided parts z unit q some few h e is = record { floor = floor; small = record { low = floor-from z parts q (neg_ℤ (pos (2 ^ 60))) floor (up_to-low parts (2 ^ 60) z up); high = floor-up_to z parts q (pos (2 ^ 60)) some floor (up_to-high parts (2 ^ 60) z up) } }
+pub divided : (parts : ℕ) (z unit q : ℤ) → 0 < parts → parts ≤ 2 ^ 60 → IsSmallTimes parts z → unit ≡ pos parts
+    → q ≡ int_div_euclid (kept w128 z) (kept w128 unit) → IsDivided parts z q
+divided parts z unit q some few h e is =
+    record {
+      floor = floor;
+      small = record {
+        low = floor-from z parts q (neg_ℤ (pos (2 ^ 60))) floor (up_to-low parts (2 ^ 60) z up);
+        high = floor-up_to z parts q (pos (2 ^ 60)) some floor (up_to-high parts (2 ^ 60) z up);
+      };
+    }
   where
     up : IsUpTo (parts * 2 ^ 60) z
     up = scaled-up_to parts z h
@@ -159,7 +166,8 @@ divided parts z unit q some few h e is = record { floor = floor; small = record 
     same : q ≡ int_div_euclid z (pos parts)
     same = is ∙ ap (λ (y : ℤ). int_div_euclid y (kept w128 unit)) (to_z-of_z w128 z (up_to-fits w128 (parts * 2 ^ 60) z (omega (arith, few)) up))
         ∙ ap (λ (y : ℤ). int_div_euclid z (kept w128 y)) e
-        ∙ ap (λ (y : ℤ). int_div_euclid z y) (to_z-of_z w128 (pos parts) (up_to-fits w128 parts (pos parts) (omega (arith, few)) (up_to-pos parts parts (omega arith))))
+        ∙ ap (λ (y : ℤ). int_div_euclid z y) (to_z-of_z w128 (pos parts)
+        (up_to-fits w128 parts (pos parts) (omega (arith, few)) (up_to-pos parts parts (omega arith))))
 
     floor : IsFloor z parts q
     floor = subst (λ (y : ℤ). IsFloor z parts y) (sym same) (floor-is z parts some)
@@ -204,7 +212,8 @@ left-of parts z unit q some few h e d = natural parts z q _ is d.floor
 -- a small quotient, as it is kept
 pub small-kept : (q : ℤ) → IsSmallStep q → kept w64 (kept w128 q) ≡ q
 small-kept q h =
-    ap (kept w64) (to_z-of_z w128 q (up_to-fits w128 (2 ^ 60) q (omega arith) (small-up_to q h))) ∙ to_z-of_z w64 q (up_to-fits w64 (2 ^ 60) q (omega arith) (small-up_to q h))
+    ap (kept w64) (to_z-of_z w128 q (up_to-fits w128 (2 ^ 60) q (omega arith) (small-up_to q h)))
+    ∙ to_z-of_z w64 q (up_to-fits w64 (2 ^ 60) q (omega arith) (small-up_to q h))
 
 -- ---- sums of mixed numbers
 
@@ -215,7 +224,8 @@ sum-kept a b h k =
     let bl : _ = k.low in
     let bh : _ = k.high in
     let up : IsUpTo (2 ^ 61) (a +ℤ b) = record { low = omega (arith, ints, al, bl); high = omega (arith, ints, ah, bh) } in
-    (λ i. kept w64 (to_z-of_z w64 a (up_to-fits w64 (2 ^ 36) a (omega arith) (half-up_to a h)) i +ℤ to_z-of_z w64 b (up_to-fits w64 (2 ^ 60) b (omega arith) (small-up_to b k)) i))
+    (λ i. kept w64 (to_z-of_z w64 a (up_to-fits w64 (2 ^ 36) a (omega arith) (half-up_to a h)) i +ℤ to_z-of_z w64 b
+    (up_to-fits w64 (2 ^ 60) b (omega arith) (small-up_to b k)) i))
     ∙ to_z-of_z w64 (a +ℤ b) (up_to-fits w64 (2 ^ 61) (a +ℤ b) (omega arith) up)
 
 pub sum-below : (parts m n : ℕ) (a b : ℤ) → IsInHalfRange a → IsSmallStep b

@@ -19,9 +19,9 @@ pub record IsLowerMedian (xs : List ℤ) (v : ℤ) : Type 0 where
   pub enough : lower_half xs ≤ count_up_to xs v
 
 -- the test of these counts
-unfoldable pub is_lower_median : List ℤ → ℤ → Bool
-is_lower_median xs v = nat_lt (count_less xs v) (lower_half xs) && nat_le (lower_half xs) (count_up_to xs v)
+unfoldable pub splits_in_half : List ℤ → ℤ → Bool
+splits_in_half xs v = nat_lt (count_less xs v) (lower_half xs) && nat_le (lower_half xs) (count_up_to xs v)
 
 -- the lower median of a list, which has one unless it is empty: the first member that passes the test
 unfoldable pub lower_median : List ℤ → Option ℤ
-lower_median xs = find (is_lower_median xs) xs
+lower_median xs = find (splits_in_half xs) xs

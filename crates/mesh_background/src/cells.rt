@@ -53,7 +53,8 @@ fn cell_medians<R: Threads + Sync>(
         .with_min_len(1)
         .map(
             |cell: u32| -> Result<Option<i64>, OutOfMemory>
-                requires { (grid.now.shape ≡ plane.now.shape) × (cell < cell_count grid.now.mesh plane.now.shape) }
+                requires { (grid.now.shape ≡ plane.now.shape)
+                    × (cell < cell_count grid.now.mesh plane.now.shape) }
                 ensures { IfOk result (λ median. median
                     ≡ lower_median_of (defined_values plane.entry.now (cell_pixels plane.entry.now grid.entry.now.mesh cell))) }
             { cell_median(alloc, plane, grid, cell) },
@@ -70,7 +71,8 @@ fn cell_median(
 ) -> Result<Option<i64>, OutOfMemory>
     requires shape { grid.now.shape ≡ plane.now.shape }
     requires cell { cell < cell_count grid.now.mesh plane.now.shape }
-    ensures { IfOk result (λ median. median ≡ lower_median_of (defined_values plane.now (cell_pixels plane.now grid.now.mesh cell))) }
+    ensures { IfOk result (λ median.
+        median ≡ lower_median_of (defined_values plane.now (cell_pixels plane.now grid.now.mesh cell))) }
 {
     let mut members = cell_members(alloc, plane, grid, cell)?;
     Ok(lower_median(&mut members))
@@ -85,7 +87,8 @@ fn cell_members(
 ) -> Result<Vec<i64>, OutOfMemory>
     requires shape { grid.now.shape ≡ plane.now.shape }
     requires cell { cell < cell_count grid.now.mesh plane.now.shape }
-    ensures { IfOk result (λ members. members.items ≡ defined_values plane.now (cell_pixels plane.now grid.now.mesh cell)) }
+    ensures { IfOk result (λ members.
+        members.items ≡ defined_values plane.now (cell_pixels plane.now grid.now.mesh cell)) }
 {
     let width = plane.shape().width;
     let bounds = grid.cell(cell);
@@ -111,7 +114,8 @@ fn push_values(
 ) -> Result<(), OutOfMemory>
     requires ordered { first ≤ end }
     requires within { end ≤ length plane.now.values }
-    ensures { OnOk result (members.new.items ≡ members.old.items ++ defined_values plane.now (range_with_len first (end - first))) }
+    ensures { OnOk result (members.new.items
+        ≡ members.old.items ++ defined_values plane.now (range_with_len first (end - first))) }
 {
     for p in first..end {
         push_value(plane, p, members)?;
@@ -123,7 +127,8 @@ fn push_values(
 #[inline]
 fn push_value(plane: &Plane, p: u32, members: &mut Vec<i64>) -> Result<(), OutOfMemory>
     requires { p < length plane.now.values }
-    ensures { OnOk result (members.new.items ≡ members.old.items ++ option_to_list (value_at plane.now.values p)) }
+    ensures { OnOk result (members.new.items
+        ≡ members.old.items ++ option_to_list (value_at plane.now.values p)) }
 {
     if let Some(value) = plane.get(p) {
         members.push(value)?;
@@ -137,7 +142,8 @@ fn value_of_empty_cells(
     plane: &Plane,
     medians: &[Option<i64>],
 ) -> Result<i64, OutOfMemory>
-    ensures { IfOk result (λ value. (k : ℕ) → slice_get medians.now k ≡ Some None → value ≡ image_value plane.now) }
+    ensures { IfOk result (λ value. (k : ℕ) → slice_get medians.now k ≡ Some None
+        → value ≡ image_value plane.now) }
 {
     if medians.iter().all(|median| median.is_some()) {
         return Ok(0);
@@ -150,7 +156,8 @@ fn value_of_empty_cells(
 
 // The medians, with this value where there is none.
 fn filled(alloc: Global, medians: &[Option<i64>], otherwise: i64) -> Result<Vec<i64>, OutOfMemory>
-    ensures { IfOk result (λ values. values.items ≡ map (λ median. unwrap_or median otherwise) medians.now) }
+    ensures { IfOk result (λ values.
+        values.items ≡ map (λ median. unwrap_or median otherwise) medians.now) }
 {
     let values = medians
         .iter()

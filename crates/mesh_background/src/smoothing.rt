@@ -44,7 +44,8 @@ fn gather_around(
 ) -> Result<(), OutOfMemory>
     requires one_each { length values.now ≡ columns * rows }
     requires cell { cell < columns * rows }
-    ensures { OnOk result (around.new.items ≡ numbers_around values.now columns rows (cell % columns) (cell / columns)) }
+    ensures { OnOk result (around.new.items
+        ≡ numbers_around values.now columns rows (cell % columns) (cell / columns)) }
 {
     let column = cell % columns;
     let row = cell / columns;

@@ -39,10 +39,8 @@ pub fn residual<R: Threads + Sync>(
     ensures { IfOk result (λ residual. residual ≡ residual_of plane.now mesh flat) }
 {
     let mut copy = plane.copied(alloc)?;
-    match subtract_background(rt, alloc, &mut copy, mesh, flat) {
-        Ok(()) => Ok(copy),
-        Err(error) => Err(error),
-    }
+    subtract_background(rt, alloc, &mut copy, mesh, flat)?;
+    Ok(copy)
 }
 
 /// Makes of a plane its residual, in place.
@@ -199,7 +197,8 @@ fn lessen_slope(plane: &mut Plane, first: u32, end: u32, level: Mixed, step: Mix
     requires step { IsSmallStep step.floor }
     requires levels { (k : ℕ) → k < end - first → IsInHalfRange (steps_on parts level step k) }
     requires in_range { IsInHalfRangeFrom first plane.old.values }
-    ensures { IsLessened plane.old (λ p. steps_on parts level step (p - first)) first end plane.new }
+    ensures { IsLessened plane.old
+        (λ p. steps_on parts level step (p - first)) first end plane.new }
 {
     let mut at = level;
     for p in first..end {

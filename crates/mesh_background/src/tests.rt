@@ -1,7 +1,8 @@
 //! Small planes under meshes with full, short and empty cells.
 
-ghost use Rattle.std.specs.Prelude.{IfOk};
-ghost use Rattle.comp_tree.specs.Raster.{Raster, HasValuesInHalfRange};
+ghost use Rattle.std.specs.Prelude.{IfOk, IfSome};
+ghost use Rattle.comp_tree.specs.Limits.{IsInHalfRange};
+ghost use Rattle.comp_tree.specs.Raster.{HasValuesInHalfRange};
 
 use crate::{level_at, mesh_values, residual, smooth_mesh, subtract_background};
 use comp_tree::{Plane, Shape};
@@ -13,18 +14,33 @@ use std::thread::Threads;
 // Stands for an undefined pixel in the tables below.
 const U: i64 = 99;
 
-// A plane of these values.
+// A plane of these values, in which `U` stands for an undefined pixel.
 fn plane_of(alloc: Global, width: u32, height: u32, values: &[i64]) -> Result<Plane, Fail>
     ensures { IfOk result (λ plane. HasValuesInHalfRange plane.values) }
 {
     let shape = Shape::of(width, height).ok_or("a shape")?;
-    let mut plane = Plane::blank(alloc, shape)?;
-    for (p, value) in values.iter().enumerate() {
-        if *value > -U && *value < U && p < plane.shape().pixels() as usize {
-            plane.set(p as u32, Some(*value));
-        }
+    let mut pixels = Vec::new(alloc);
+    for value in values {
+        let pixel = pixel_of(*value)?;
+        pixels.push(pixel)?;
     }
-    Ok(plane)
+    match Plane::of(alloc, shape, &pixels)? {
+        Some(plane) => Ok(plane),
+        None => Err(Fail::from("a plane of these values")),
+    }
+}
+
+// A value of such a table, which is a small one.
+fn pixel_of(value: i64) -> Result<Option<i64>, Fail>
+    ensures { IfOk result (λ pixel. IfSome pixel IsInHalfRange) }
+{
+    if value == U {
+        return Ok(None);
+    }
+    if value < -U || value > U {
+        return Err(Fail::from("a small value"));
+    }
+    Ok(Some(value))
 }
 
 // Compares a plane with a table.

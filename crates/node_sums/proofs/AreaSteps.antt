@@ -5,13 +5,14 @@ use Rattle.std.specs.List.{range_with_len}
 use Rattle.std.proofs.lemmas.Bool.{eq-eqb, ne_eqb, cases_eq}
 use Rattle.std.proofs.lemmas.List.{length-append, length-set, get_or-replicate, length-replicate}
 use Rattle.std.proofs.lemmas.List.FromFn.{length-range_with_len}
+use Rattle.lemmas.proofs.Exported.{IsAmong, among_from_range, filter_same_among}
 use Rattle.comp_tree.specs.declared.shape.Connect.{Connect}
 use Rattle.comp_tree.specs.declared.tree.NodeRow.{NodeRow}
 use Rattle.comp_tree.specs.Raster.{Raster, IsPlane, pixels, is_defined}
 use Rattle.comp_tree.specs.ComponentTree.{ComponentTree, parent_in, no_node}
 use Rattle.comp_tree.specs.Components.{nodes, is_in_node, tree_of}
 use Rattle.comp_tree.specs.Nesting.{pixels_of}
-use Rattle.comp_tree.proofs.Exported.{below_no_node, node-undefined, IsAmong, among_from_range}
+use Rattle.comp_tree.proofs.Exported.{below_no_node, node-undefined}
 use Rattle.node_sums.specs.declared.entry.Sums.{Sums}
 use Rattle.node_sums.specs.Sums.{sums_over, sums_of, sums_in, IsTreeOfPlane}
 use Rattle.node_sums.specs.Counted.{is_counted}
@@ -41,10 +42,12 @@ times_no numbers m i ne =
     ap (λ (ps : List ℕ). length (filter (λ q. slice_index numbers q == m) ps)) (range-push 0 i i (omega arith))
     ∙ ap length (filter_no (λ q. slice_index numbers q == m) (range_with_len 0 i) i (ne_eqb (slice_index numbers i) m ne))
 
-pub counts_more : (numbers areas : List ℕ) (i node area : ℕ) → AreCounts numbers i areas → slice_index numbers i ≡ node → node < length areas → area ≡ slice_index areas node + 1
+pub counts_more : (numbers areas : List ℕ) (i node area : ℕ) → AreCounts numbers i areas → slice_index numbers i ≡ node → node < length areas
+    → area ≡ slice_index areas node + 1
     → AreCounts numbers (i + 1) (set areas node area)
 counts_more numbers areas i node area h e inside more =
-    subst (λ (j : ℕ). AreCounts numbers j (set areas node area)) (let f : suc i ≡ i + 1 = omega arith in f) (record { counts = λ m l. at m (cases_eq m node) l })
+    subst (λ (j : ℕ). AreCounts numbers j (set areas node area)) (let f : suc i ≡ i + 1 = omega arith in f)
+    (record { counts = λ m l. at m (cases_eq m node) l })
   where
     at : (m : ℕ) → (m ≡ node) ⊎ (m ≢ node) → m < length (set areas node area) → slice_index (set areas node area) m ≡ times_among numbers m (suc i)
     at m (inl f) l =
@@ -65,14 +68,8 @@ counts_size numbers areas i m h l =
 
 -- ---- before the pass over the nodes
 
-filter_same_among : (f g : ℕ → Bool) (ps : List ℕ) → ((q : ℕ) → IsAmong q ps → f q ≡ g q) → filter f ps ≡ filter g ps
-filter_same_among f g [] at = refl
-filter_same_among f g (p ∷ ps) at =
-    let first : f p ≡ g p = at p (inl refl) in
-    let rest : filter f ps ≡ filter g ps = filter_same_among f g ps (λ q m. at q (inr m)) in
-    rw (first, rest) refl
-
-pub areas_from_counts : (r : Raster) (tree : ComponentTree) (areas : List ℕ) → IsPlane r → length areas ≡ length tree.rows → AreCounts tree.node_of (length r.values) areas
+pub areas_from_counts : (r : Raster) (tree : ComponentTree) (areas : List ℕ) → IsPlane r → length areas ≡ length tree.rows
+    → AreCounts tree.node_of (length r.values) areas
     → AreSoFar r tree (length tree.rows) areas
 unfolding pixels
 areas_from_counts r tree areas plane l h = record { one_each = l; counted = counted }
@@ -81,7 +78,8 @@ areas_from_counts r tree areas plane l h = record { one_each = l; counted = coun
         → slice_index areas m ≡ length (filter (is_counted r connect (length tree.rows) m) (pixels r))
     counted connect m e inside =
         h.counts m inside
-        ∙ ap length (filter_same_among (λ q. slice_index tree.node_of q == m) (is_counted r connect (length tree.rows) m) (range_with_len 0 (length r.values)) same)
+        ∙ ap length (filter_same_among (λ q. slice_index tree.node_of q == m) (is_counted r connect (length tree.rows) m) (range_with_len 0 (length r.values))
+        same)
       where
         in_nodes : m < length (nodes r connect)
         in_nodes = omega (arith, rows_are r connect tree e)
@@ -104,7 +102,8 @@ areas_from_counts r tree areas plane l h = record { one_each = l; counted = coun
 
 -- ---- a node's area is added to its parent's
 
-union_area : (r : Raster) (all some others : ℕ → Bool) (ps : List ℕ) → IsUnion all some others → length (filter all ps) ≡ length (filter some ps) + length (filter others ps)
+union_area : (r : Raster) (all some others : ℕ → Bool) (ps : List ℕ) → IsUnion all some others
+    → length (filter all ps) ≡ length (filter some ps) + length (filter others ps)
 unfolding sums_over
 union_area r all some others ps u = ap (λ (s : Sums). s.area) (sums_over-union r all some others ps u.apart u.rest)
 
@@ -115,22 +114,34 @@ pub record IsAreaStep (r : Raster) (tree : ComponentTree) (areas : List ℕ) (k 
   pub parent : parent_in tree.rows k ≡ a
   pub inside : a < length tree.rows
 
-parent_area : (r : Raster) (connect : Connect) (tree : ComponentTree) (areas : List ℕ) (k a : ℕ) → IsPlane r → IsAreaStep r tree areas k a → tree ≡ tree_of r connect
+parent_area : (r : Raster) (connect : Connect) (tree : ComponentTree) (areas : List ℕ) (k a : ℕ) → IsPlane r → IsAreaStep r tree areas k a
+    → tree ≡ tree_of r connect
     → slice_index areas a + slice_index areas k ≡ length (filter (is_counted r connect k a) (pixels r))
 parent_area r connect tree areas k a plane s e =
     let u : IsUnion (is_counted r connect k a) (is_counted r connect (suc k) a) (is_counted r connect (suc k) k) =
-    counted-parent r connect k a plane (omega (arith, s.below, rows_are r connect tree e)) (sym (parent_is r connect tree k e) ∙ s.parent) (omega (arith, s.inside, rows_are r connect tree e)) in
-    let one : slice_index areas a ≡ length (filter (is_counted r connect (suc k) a) (pixels r)) = s.so_far.counted connect a e (omega (arith, s.inside, s.so_far.one_each)) in
-    let two : slice_index areas k ≡ length (filter (is_counted r connect (suc k) k) (pixels r)) = s.so_far.counted connect k e (omega (arith, s.below, s.so_far.one_each)) in
+    counted-parent r connect k a plane (omega (arith, s.below, rows_are r connect tree e)) (sym (parent_is r connect tree k e) ∙ s.parent)
+    (omega (arith, s.inside, rows_are r connect tree e)) in
+    let one : slice_index areas a ≡ length (filter (is_counted r connect (suc k) a) (pixels r)) =
+    s.so_far.counted connect a e (omega (arith, s.inside, s.so_far.one_each)) in
+    let two : slice_index areas k ≡ length (filter (is_counted r connect (suc k) k) (pixels r)) =
+    s.so_far.counted connect k e (omega (arith, s.below, s.so_far.one_each)) in
     omega (arith, one, two, union_area r (is_counted r connect k a) (is_counted r connect (suc k) a) (is_counted r connect (suc k) k) (pixels r) u)
 
 pub step_small : (r : Raster) (tree : ComponentTree) (areas : List ℕ) (k a : ℕ) → IsPlane r → IsTreeOfPlane r tree → IsAreaStep r tree areas k a
     → slice_index areas a + slice_index areas k ≤ 2 ^ 24
 unfolding pixels
 step_small r tree areas k a plane (connect, e) s =
-    omega (arith, parent_area r connect tree areas k a plane s e, length-filter-le (is_counted r connect k a) (range_with_len 0 (length r.values)), length-range_with_len 0 (length r.values), plane, r.shape.within_limits.few_pixels)
+    omega (
+      arith,
+      parent_area r connect tree areas k a plane s e,
+      length-filter-le (is_counted r connect k a) (range_with_len 0 (length r.values)),
+      length-range_with_len 0 (length r.values),
+      plane,
+      r.shape.within_limits.few_pixels,
+    )
 
-pub step_yes : (r : Raster) (tree : ComponentTree) (areas : List ℕ) (k a v : ℕ) → IsPlane r → IsAreaStep r tree areas k a → v ≡ slice_index areas a + slice_index areas k
+pub step_yes : (r : Raster) (tree : ComponentTree) (areas : List ℕ) (k a v : ℕ) → IsPlane r → IsAreaStep r tree areas k a
+    → v ≡ slice_index areas a + slice_index areas k
     → AreSoFar r tree k (set areas a v)
 step_yes r tree areas k a v plane s w = record {
   one_each = length-set areas a v ∙ s.so_far.one_each;
@@ -145,13 +156,16 @@ step_yes r tree areas k a v plane s w = record {
     go connect m e l (inr ne) =
         get_or-set_other areas a m v 0 ne ∙ s.so_far.counted connect m e (omega (arith, length-set areas a v))
         ∙ ap length (filter_same (is_counted r connect (suc k) m) (is_counted r connect k m) (pixels r)
-        (λ q. counted-same r connect k m q plane (omega (arith, s.below, rows_are r connect tree e)) (λ z _. ne (sym z ∙ sym (parent_is r connect tree k e) ∙ s.parent))))
+        (λ q. counted-same r connect k m q plane (omega (arith, s.below, rows_are r connect tree e))
+        (λ z _. ne (sym z ∙ sym (parent_is r connect tree k e) ∙ s.parent))))
 
-pub step_no : (r : Raster) (tree : ComponentTree) (areas : List ℕ) (k : ℕ) → IsPlane r → AreSoFar r tree (suc k) areas → k < length tree.rows → parent_in tree.rows k ≡ no_node
+pub step_no : (r : Raster) (tree : ComponentTree) (areas : List ℕ) (k : ℕ) → IsPlane r → AreSoFar r tree (suc k) areas → k < length tree.rows
+    → parent_in tree.rows k ≡ no_node
     → AreSoFar r tree k areas
 step_no r tree areas k plane h hk p = record { one_each = h.one_each; counted = counted }
   where
-    counted : (connect : Connect) (m : ℕ) → tree ≡ tree_of r connect → m < length areas → slice_index areas m ≡ length (filter (is_counted r connect k m) (pixels r))
+    counted : (connect : Connect) (m : ℕ) → tree ≡ tree_of r connect → m < length areas
+        → slice_index areas m ≡ length (filter (is_counted r connect k m) (pixels r))
     counted connect m e l =
         h.counted connect m e l
         ∙ ap length (filter_same (is_counted r connect (suc k) m) (is_counted r connect k m) (pixels r)
@@ -173,7 +187,8 @@ same_from_places f n xs l h = from 0 n xs l (λ m g. h m g ∙ ap f (omega arith
         let rest : xs ≡ map f (range_with_len (a + 1) n) = from (a + 1) n xs (omega arith) (λ m g. h (suc m) (omega arith) ∙ ap f (omega arith)) in
         ap (λ (y : ℕ). y ∷ xs) first ∙ ap (λ (ys : List ℕ). f a ∷ ys) rest
 
-pub areas_from_steps : (r : Raster) (connect : Connect) (tree : ComponentTree) (areas : List ℕ) → AreSoFar r tree 0 areas → tree ≡ tree_of r connect → areas ≡ areas_in r connect
+pub areas_from_steps : (r : Raster) (connect : Connect) (tree : ComponentTree) (areas : List ℕ) → AreSoFar r tree 0 areas → tree ≡ tree_of r connect
+    → areas ≡ areas_in r connect
 unfolding areas_in pixels_of
 areas_from_steps r connect tree areas h e =
     same_from_places (area_of r connect) (length (nodes r connect)) areas (h.one_each ∙ rows_are r connect tree e)
@@ -209,7 +224,8 @@ area_step_from_code r tree areas n rows row plane of_plane h some most same has 
     parent : parent_in tree.rows (n - 1) ≡ (slice_index_or rows (n - 1) row).parent
     parent = ap (λ (xs : List NodeRow). parent_in xs (n - 1)) (sym same) ∙ sym (row-parent rows (n - 1) row (omega arith))
 
-pub step_root : (r : Raster) (tree : ComponentTree) (areas : List ℕ) (n : ℕ) (rows : List NodeRow) (row : NodeRow) → IsPlane r → AreSoFar r tree n areas → 0 < n → n ≤ length rows
+pub step_root : (r : Raster) (tree : ComponentTree) (areas : List ℕ) (n : ℕ) (rows : List NodeRow) (row : NodeRow) → IsPlane r → AreSoFar r tree n areas
+    → 0 < n → n ≤ length rows
     → rows ≡ tree.rows → (slice_index_or rows (n - 1) row).parent ≡ no_node → AreSoFar r tree (n - 1) areas
 step_root r tree areas n rows row plane h some most same root =
     let next : n ≡ suc (n - 1) = omega arith in

@@ -2,13 +2,14 @@
 use Rattle.std.proofs.Common.{◌≡◌, ℕ, ◌^◌, ◌<◌, ◌≤◌, zero, suc, Bool, true, false, ◌&&◌, not, List, length, map, refl, sym, ◌∙◌, ap, subst, arith, ◌⊎◌, inl, inr}
 use Rattle.std.specs.Prelude.{◌==◌, nat_lt, slice_index}
 use Rattle.std.proofs.lemmas.Bool.{true≢false, eqb-true, eq-eqb, ltb-true, lt-ltb, le-ltb, and_parts, and_from, and_left, and_right, not-true, not_from_false, false_from_ne_true, true_from_ne_false, cases_lt, cases_eq}
+use Rattle.lemmas.proofs.Exported.{same_bool}
 use Rattle.comp_tree.specs.declared.shape.Connect.{Connect}
 use Rattle.comp_tree.specs.declared.tree.NodeRow.{NodeRow}
 use Rattle.comp_tree.specs.Raster.{Raster, IsPlane, pixels, is_defined}
 use Rattle.comp_tree.specs.ComponentTree.{parent_in, no_node}
 use Rattle.comp_tree.specs.Components.{nodes, node_of, is_in_node, tree_of}
 use Rattle.comp_tree.specs.Laws.{IsAncestor, parent, above}
-use Rattle.comp_tree.proofs.Exported.{below_from_defined, pixels_belong_to_their_ancestors, length-rows, read-node_of, length-nodes-le, in_node-defined, tree_of-well_formed, same_bool}
+use Rattle.comp_tree.proofs.Exported.{below_from_defined, pixels_belong_to_their_ancestors, length-rows, read-node_of, length-nodes-le, in_node-defined, tree_of-well_formed}
 use Rattle.comp_tree.proofs.Exported as Nodes
 use Rattle.node_sums.specs.Counted.{none_between, is_counted}
 
@@ -47,7 +48,8 @@ one_way rows i j n (parent _ e l) b = first b
     first (above k _ f h rest) = inr (inr (subst (λ (x : ℕ). IsAncestor rows j x) (sym f ∙ e) rest))
 one_way rows i j n (above k _ e l rest) b = second b (one_way rows i j k rest)
   where
-    second : IsAncestor rows j n → (IsAncestor rows j k → (i ≡ j) ⊎ (IsAncestor rows i j ⊎ IsAncestor rows j i)) → (i ≡ j) ⊎ (IsAncestor rows i j ⊎ IsAncestor rows j i)
+    second : IsAncestor rows j n → (IsAncestor rows j k → (i ≡ j) ⊎ (IsAncestor rows i j ⊎ IsAncestor rows j i))
+        → (i ≡ j) ⊎ (IsAncestor rows i j ⊎ IsAncestor rows j i)
     second (parent _ f h) ih = inr (inl (subst (λ (x : ℕ). IsAncestor rows i x) (sym e ∙ f) rest))
     second (above m _ f h more) ih = ih (subst (λ (x : ℕ). IsAncestor rows j x) (sym f ∙ e) more)
 
@@ -119,7 +121,8 @@ parent_holds r connect a k q plane hk e ha h =
 
 -- ---- which pixels are counted
 
-pub none_between-from : (r : Raster) (connect : Connect) (q m k : ℕ) → ((j : ℕ) → m < j → j < k → is_in_node r connect j q ≡ false) → none_between r connect q m k ≡ true
+pub none_between-from : (r : Raster) (connect : Connect) (q m k : ℕ) → ((j : ℕ) → m < j → j < k → is_in_node r connect j q ≡ false)
+    → none_between r connect q m k ≡ true
 unfolding none_between
 none_between-from r connect q m zero h = refl
 none_between-from r connect q m (suc k) h =
@@ -129,7 +132,8 @@ none_between-from r connect q m (suc k) h =
     go false u = refl
     go true u = rw (h k (ltb-true m k u) (omega arith)) refl
 
-pub none_between-gives : (r : Raster) (connect : Connect) (q m k : ℕ) → none_between r connect q m k ≡ true → (j : ℕ) → m < j → j < k → is_in_node r connect j q ≡ false
+pub none_between-gives : (r : Raster) (connect : Connect) (q m k : ℕ) → none_between r connect q m k ≡ true → (j : ℕ) → m < j → j < k
+    → is_in_node r connect j q ≡ false
 unfolding none_between
 none_between-gives r connect q m zero h j l u = absurd (omega arith)
 none_between-gives r connect q m (suc k) h j l u = go (cases_lt j k) (λ x. none_between-gives r connect q m k parts.0 j l x)
@@ -147,7 +151,7 @@ none_between-gives r connect q m (suc k) h j l u = go (cases_lt j k) (λ x. none
     go (inl x) ih = ih x
     go (inr x) ih = last (omega arith)
 
-numbers-are : (r : Raster) (connect : Connect) → (tree_of r connect).node_of ≡ map (node_of r connect) (pixels r)
+pub numbers-are : (r : Raster) (connect : Connect) → (tree_of r connect).node_of ≡ map (node_of r connect) (pixels r)
 unfolding tree_of
 numbers-are r connect = refl
 
@@ -181,7 +185,8 @@ counted-start r connect k m q plane e hm =
         smallest : Holds r connect m q → node_of r connect q ≡ m
         smallest (inl f) = f
         smallest (inr a) =
-            let less : m < node_of r connect q = ancestor_smaller (tree_of r connect).rows m (node_of r connect q) (goes_down r connect plane) (node_below r connect m q parts.0) a in
+            let less : m < node_of r connect q =
+            ancestor_smaller (tree_of r connect).rows m (node_of r connect q) (goes_down r connect plane) (node_below r connect m q parts.0) a in
             let inside : node_of r connect q < k = omega (arith, (Nodes.node_of-is r connect q defined).below) in
             absurd (true≢false (sym (own defined) ∙ none_between-gives r connect q m k parts.1 (node_of r connect q) less inside))
 
@@ -203,7 +208,8 @@ counted-start r connect k m q plane e hm =
             refuse : is_in_node r connect j q ≡ true → Holds r connect j q → ⊥
             refuse in_j (inl f) = absurd (omega (arith, node_is))
             refuse in_j (inr a) =
-                let less : j < node_of r connect q = ancestor_smaller (tree_of r connect).rows j (node_of r connect q) (goes_down r connect plane) (node_below r connect j q in_j) a in
+                let less : j < node_of r connect q =
+                ancestor_smaller (tree_of r connect).rows j (node_of r connect q) (goes_down r connect plane) (node_below r connect j q in_j) a in
                 absurd (omega (arith, node_is))
 
 -- in the end it has all its pixels
@@ -261,7 +267,8 @@ counted-same r connect k m q plane hk other =
             go : (parent_in (tree_of r connect).rows k ≡ m) ⊎ (parent_in (tree_of r connect).rows k ≡ m → ⊥) → ⊥
             go (inl e) = other e (omega (arith, length-rows r connect, at.0))
             go (inr ne) =
-                absurd (true≢false (sym (parent_holds r connect (parent_in (tree_of r connect).rows k) k q plane hk refl (omega (arith, length-rows r connect, at.0)) both.1)
+                absurd (true≢false (sym (parent_holds r connect (parent_in (tree_of r connect).rows k) k q plane hk refl
+                (omega (arith, length-rows r connect, at.0)) both.1)
                 ∙ none_between-gives r connect q m k parts.1 (parent_in (tree_of r connect).rows k) (strictly at.1)
                 (parent_smaller (tree_of r connect).rows (parent_in (tree_of r connect).rows k) k (goes_down r connect plane) in_rows refl at.0)))
               where
@@ -300,7 +307,8 @@ counted-parent r connect k a plane hk e ha = record { apart = apart; rest = rest
         and_parts (is_in_node r connect a q) (none_between r connect q a k && not (nat_lt a k && is_in_node r connect k q)) h in
         let v : (none_between r connect q a k ≡ true) × (not (nat_lt a k && is_in_node r connect k q) ≡ true) =
         and_parts (none_between r connect q a k) (not (nat_lt a k && is_in_node r connect k q)) u.1 in
-        let out : is_in_node r connect k q ≡ false = not-true (is_in_node r connect k q) (subst (λ (b : Bool). not (b && is_in_node r connect k q) ≡ true) is_less v.1) in (
+        let out : is_in_node r connect k q ≡ false =
+        not-true (is_in_node r connect k q) (subst (λ (b : Bool). not (b && is_in_node r connect k q) ≡ true) is_less v.1) in (
           and_from (is_in_node r connect a q) (none_between r connect q a k) u.0 v.0,
           and_left (is_in_node r connect k q) (none_between r connect q k k && not (nat_lt k k && is_in_node r connect k q)) out,
         )

@@ -1,11 +1,30 @@
 -- The lemmas of this crate that crates above use. Its other modules of lemmas are its own.
-pub use Rattle.node_sums.proofs.Sizes.{filtered_pixels, length-filter-le, level_up_to, sizes, total-up_to, up_to-minus, up_to-times, up_to_more, value_in_range, x_small, y_small}
-pub use Rattle.node_sums.proofs.Counting.{IsUnion, ancestor_smaller, ancestor_up, counted-end, counted-parent, counted-same, counted-start, goes_down, holders_are_nested, number-within, parent_holds, parent_smaller}
-pub use Rattle.node_sums.proofs.Reading.{fits, get-written, peak-read, plus-read, read_parent_smaller, row-parent, row_level}
-pub use Rattle.node_sums.proofs.Passes.{filter_no, filter_same, filter_yes, level-of, numbers_for_pixels, parent_inside, parent_is, range-push, rows_are, take_front}
-pub use Rattle.node_sums.proofs.Fluxes.{BaseCase, at_child, at_root, base-case, base-child, base-root, flux_grows, level-of_node, level_at_least, never_negative}
-pub use Rattle.node_sums.proofs.FluxOfSums.{base_up_to, flux-is, trees_rows}
--- the flux by the sums of a node is the flux by the definition
-pub use Rattle.node_sums.proofs.FluxOfSums.{sums-flux}
--- a product with a sum is the sum of the products; a quotient that is rounded down moves by k where the dividend moves by k times the divisor
-pub use Rattle.node_sums.proofs.Floors.{floor-moved, times-sum}
+
+-- numbers up to a bound from zero: their differences, products and sums stay below the bounds that follow
+pub use Rattle.node_sums.proofs.Sizes.{up_to-minus, up_to-times, up_to_more, total-up_to}
+-- coordinates and values of a plane's pixels are small, and so are the sums over them
+pub use Rattle.node_sums.proofs.Sizes.{x_small, y_small, value_in_range, level_up_to, filtered_pixels, sizes, length-filter-le}
+-- the numbers of a plane's nodes; the area in a node's sums is the number of its pixels, of which there are few
+pub use Rattle.node_sums.proofs.NodePixels.{among_nodes, node_from_among, sums-area, few-pixels_of}
+-- numbers fall on the way up, from a node to its parent and to its ancestors
+pub use Rattle.node_sums.proofs.Counting.{goes_down, parent_smaller, ancestor_smaller, ancestor_up}
+-- a parent holds the pixels of its children, and of two nodes that hold a pixel one is an ancestor of the other
+pub use Rattle.node_sums.proofs.Counting.{parent_holds, holders_are_nested}
+-- the list of the pixels' nodes has the smallest node of each
+pub use Rattle.node_sums.proofs.Counting.{numbers-are, number-within}
+-- which pixels are in a node's entry: at first, when a node was added to its parent, and in the end
+pub use Rattle.node_sums.proofs.Counting.{IsUnion, counted-start, counted-same, counted-parent, counted-end}
+-- signed numbers as the code computes them
+pub use Rattle.node_sums.proofs.Reading.{fits, plus-read, peak-read}
+-- a row and an entry as they are read and written
+pub use Rattle.node_sums.proofs.Reading.{row-parent, row_level, read_parent_smaller, get-written}
+-- a range and a filtered list that get one member more; the front of a list
+pub use Rattle.node_sums.proofs.Passes.{range-push, filter_yes, filter_no, filter_same, take_front}
+-- a plane's tree has a row for each node and a number for each pixel; its parents are nodes; the level of a defined pixel
+pub use Rattle.node_sums.proofs.Passes.{rows_are, numbers_for_pixels, parent_is, parent_inside, level-of}
+-- a node's level is that of its top pixel, and the least of its pixels; the base by cases
+pub use Rattle.node_sums.proofs.Fluxes.{level-of_node, level_at_least, BaseCase, at_root, at_child, base-case, base-root, base-child}
+-- the flux is never negative, and grows with the component
+pub use Rattle.node_sums.proofs.Fluxes.{never_negative, flux_grows}
+-- the flux by the sums of a node is the flux by the definition; there are sums for each row
+pub use Rattle.node_sums.proofs.FluxOfSums.{sums-flux, flux-is, base_up_to, trees_rows}

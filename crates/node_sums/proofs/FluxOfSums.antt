@@ -30,7 +30,8 @@ length-sums_in r connect =
     length-map (range_with_len 0 (length (nodes r connect))) (sums_of r connect) ∙ length-range_with_len 0 (length (nodes r connect))
 
 -- the entry of node n
-entry_is : (r : Raster) (connect : Connect) (sums : List Sums) (n : ℕ) (entry : Sums) → sums ≡ sums_in r connect → slice_get sums n ≡ Some entry → entry ≡ sums_of r connect n
+entry_is : (r : Raster) (connect : Connect) (sums : List Sums) (n : ℕ) (entry : Sums) → sums ≡ sums_in r connect → slice_get sums n ≡ Some entry
+    → entry ≡ sums_of r connect n
 unfolding sums_in
 entry_is r connect sums n entry e g =
     let inside : n < length (nodes r connect) = omega (arith, slice_get_within sums n entry g, ap length e, length-sums_in r connect) in
@@ -38,11 +39,13 @@ entry_is r connect sums n entry e g =
     ∙ get_or-map-range_with_len (sums_of r connect) 0 (length (nodes r connect)) n n entry inside (omega arith)
 
 -- the flux by the sums of a node is the flux by the definition
-pub sums-flux : (r : Raster) (connect : Connect) (n : ℕ) → (sums_of r connect n).r -ℤ base_of (tree_of r connect) n *ℤ pos (sums_of r connect n).area ≡ flux_of r connect n
+pub sums-flux : (r : Raster) (connect : Connect) (n : ℕ)
+    → (sums_of r connect n).r -ℤ base_of (tree_of r connect) n *ℤ pos (sums_of r connect n).area ≡ flux_of r connect n
 unfolding sums_of sums_over flux_of
 sums-flux r connect n = sym (total-less (level r) (base_of (tree_of r connect) n) (pixels_of r connect n))
 
-pub flux-is : (r : Raster) (connect : Connect) (tree : ComponentTree) (sums : List Sums) (n : ℕ) (entry : Sums) → tree ≡ tree_of r connect → sums ≡ sums_in r connect
+pub flux-is : (r : Raster) (connect : Connect) (tree : ComponentTree) (sums : List Sums) (n : ℕ) (entry : Sums) → tree ≡ tree_of r connect
+    → sums ≡ sums_in r connect
     → slice_get sums n ≡ Some entry → entry.r -ℤ base_of tree n *ℤ pos entry.area ≡ flux_of r connect n
 flux-is r connect tree sums n entry e f g =
     ap (λ (s : Sums). s.r -ℤ base_of tree n *ℤ pos s.area) (entry_is r connect sums n entry f g)
@@ -66,7 +69,8 @@ flux_not_negative tree sums n entry t g =
 
 -- ---- sizes
 
-pub base_up_to : (r : Raster) (connect : Connect) (n : ℕ) → IsPlane r → HasValuesInRange r.values → n < length (nodes r connect) → IsUpTo value_bound (base_of (tree_of r connect) n)
+pub base_up_to : (r : Raster) (connect : Connect) (n : ℕ) → IsPlane r → HasValuesInRange r.values → n < length (nodes r connect)
+    → IsUpTo value_bound (base_of (tree_of r connect) n)
 base_up_to r connect n plane range hn = go (base-case r connect n plane hn)
   where
     go : BaseCase r connect n → IsUpTo value_bound (base_of (tree_of r connect) n)
@@ -92,7 +96,8 @@ fits_from_sizes s base h b = record {
   sum_fits = fits w64 total_bound s.r sum (lit< tt);
   base_fits = fits w64 value_bound base b (lit< tt);
   product_fits = fits w64 total_bound (base *ℤ pos s.area) product (lit< tt);
-  flux_fits = fits w64 (total_bound + total_bound) (s.r -ℤ base *ℤ pos s.area) (up_to-minus total_bound total_bound s.r (base *ℤ pos s.area) sum product) (lit< tt);
+  flux_fits = fits w64 (total_bound + total_bound) (s.r -ℤ base *ℤ pos s.area) (up_to-minus total_bound total_bound s.r (base *ℤ pos s.area) sum product)
+      (lit< tt);
 }
   where
     sum : IsUpTo total_bound s.r
@@ -105,8 +110,10 @@ pub flux_numbers : (tree : ComponentTree) (sums : List Sums) (n : ℕ) (entry : 
     → FluxFits entry.r (base_of tree n) entry.area
 flux_numbers tree sums n entry t g =
     fits_from_sizes entry (base_of tree n)
-    (subst HasSizes (sym (entry_is t.plane t.of_plane.connect sums n entry t.of_plane.sums_are g)) (node_sizes t.plane t.of_plane.connect n t.one_each t.in_range))
-    (subst (λ (x : ComponentTree). IsUpTo value_bound (base_of x n)) (sym t.of_plane.tree_is) (base_up_to t.plane t.of_plane.connect n t.one_each t.in_range inside))
+    (subst HasSizes (sym (entry_is t.plane t.of_plane.connect sums n entry t.of_plane.sums_are g))
+    (node_sizes t.plane t.of_plane.connect n t.one_each t.in_range))
+    (subst (λ (x : ComponentTree). IsUpTo value_bound (base_of x n)) (sym t.of_plane.tree_is)
+    (base_up_to t.plane t.of_plane.connect n t.one_each t.in_range inside))
   where
     inside : n < length (nodes t.plane t.of_plane.connect)
     inside = omega (arith, slice_get_within sums n entry g, ap length t.of_plane.sums_are, length-sums_in t.plane t.of_plane.connect)

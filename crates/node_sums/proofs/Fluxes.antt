@@ -3,13 +3,14 @@ use Rattle.std.proofs.Common.{◌≡◌, ℕ, ◌<◌, zero, suc, Bool, true, co
 use Rattle.std.specs.Prelude.{IsTrue, pos, ◌-ℤ◌, ◌≤ℤ◌, ◌<ℤ◌, slice_index}
 use Rattle.std.proofs.lemmas.Int.{ints}
 use Rattle.std.proofs.lemmas.Bool.{eq-eqb, ne_eqb, cases_order}
+use Rattle.lemmas.proofs.Exported.{IsAmong, int_le-true, int_lt-true}
 use Rattle.comp_tree.specs.declared.shape.Connect.{Connect}
 use Rattle.comp_tree.specs.Raster.{Raster, IsPlane, pixels, level}
 use Rattle.comp_tree.specs.ComponentTree.{ComponentTree, parent_in, no_node}
 use Rattle.comp_tree.specs.Components.{nodes, is_in_node, row_of, tree_of}
 use Rattle.comp_tree.specs.Nesting.{level_in, pixels_of}
 use Rattle.comp_tree.specs.Laws.{IsAncestor, parent, above, top_of, IsNestedIn}
-use Rattle.comp_tree.proofs.Exported.{IsAmong, int_le-true, int_lt-true, top_inside, among_pixels, in_node_from_among, length-rows, parent-of_node, parent-candidate, below_no_node}
+use Rattle.comp_tree.proofs.Exported.{top_inside, among_pixels, in_node_from_among, length-rows, parent-of_node, parent-candidate, below_no_node}
 use Rattle.comp_tree.proofs.Exported as Nodes
 use Rattle.node_sums.specs.Sums.{total}
 use Rattle.node_sums.specs.Flux.{base_of, flux_of}
@@ -51,11 +52,13 @@ base-case r connect n plane hn = go ((goes_down r connect plane).parents n (omeg
     go (inr l) =
         let ha : parent_in (tree_of r connect).rows n < length (nodes r connect) = omega arith in
         at_child (parent_in (tree_of r connect).rows n) refl ha
-        (base-child (tree_of r connect) n (below_no_node r connect (parent_in (tree_of r connect).rows n) plane ha) ∙ level-of_node r connect (parent_in (tree_of r connect).rows n) ha)
+        (base-child (tree_of r connect) n (below_no_node r connect (parent_in (tree_of r connect).rows n) plane ha) ∙ level-of_node r connect
+        (parent_in (tree_of r connect).rows n) ha)
         (int_lt-true (level r (top_of r connect (parent_in (tree_of r connect).rows n))) (level r (top_of r connect n))
         (parent-candidate r connect (parent_in (tree_of r connect).rows n) n plane hn ha (sym (parent-of_node r connect n hn))).candidate.lower)
 
-base_at_most : (r : Raster) (connect : Connect) (n : ℕ) → IsPlane r → n < length (nodes r connect) → base_of (tree_of r connect) n ≤ℤ level r (top_of r connect n)
+base_at_most : (r : Raster) (connect : Connect) (n : ℕ) → IsPlane r → n < length (nodes r connect)
+    → base_of (tree_of r connect) n ≤ℤ level r (top_of r connect n)
 base_at_most r connect n plane hn = go (base-case r connect n plane hn)
   where
     go : BaseCase r connect n → base_of (tree_of r connect) n ≤ℤ level r (top_of r connect n)
@@ -83,10 +86,12 @@ ancestor_level r connect m _ plane hn (parent n e l) = go (base-case r connect n
   where
     go : BaseCase r connect n → level r (top_of r connect m) ≤ℤ base_of (tree_of r connect) n
     go (at_root f b) = absurd (below_no_node r connect m plane (omega (arith, length-rows r connect)) (sym e ∙ f))
-    go (at_child a f ha b k) = let s : level r (top_of r connect a) ≡ level r (top_of r connect m) = ap (λ (j : ℕ). level r (top_of r connect j)) (sym f ∙ e) in omega (arith, ints)
+    go (at_child a f ha b k) =
+        let s : level r (top_of r connect a) ≡ level r (top_of r connect m) = ap (λ (j : ℕ). level r (top_of r connect j)) (sym f ∙ e) in omega (arith, ints)
 ancestor_level r connect m _ plane hn (above k n e l rest) = go (base-case r connect n plane hn) (λ hk. ancestor_level r connect m k plane hk rest)
   where
-    go : BaseCase r connect n → (k < length (nodes r connect) → level r (top_of r connect m) ≤ℤ base_of (tree_of r connect) k) → level r (top_of r connect m) ≤ℤ base_of (tree_of r connect) n
+    go : BaseCase r connect n → (k < length (nodes r connect) → level r (top_of r connect m) ≤ℤ base_of (tree_of r connect) k)
+        → level r (top_of r connect m) ≤ℤ base_of (tree_of r connect) n
     go (at_root f b) ih = absurd (below_no_node r connect k plane (omega (arith, length-rows r connect)) (sym e ∙ f))
     go (at_child a f ha b u) ih =
         let s : level r (top_of r connect a) ≡ level r (top_of r connect k) = ap (λ (j : ℕ). level r (top_of r connect j)) (sym f ∙ e) in
@@ -129,7 +134,8 @@ base_grows r connect m n plane hm hn w = go (cases_order m n)
         has_parent (above j _ e k rest) = omega arith
 
         refuse : BaseCase r connect m → base_of (tree_of r connect) m ≤ℤ base_of (tree_of r connect) n
-        refuse (at_root e b) = absurd (below_no_node r connect (parent_in (tree_of r connect).rows m) plane (omega (arith, length-rows r connect, has_parent a)) e)
+        refuse (at_root e b) =
+            absurd (below_no_node r connect (parent_in (tree_of r connect).rows m) plane (omega (arith, length-rows r connect, has_parent a)) e)
         refuse (at_child j e hj b u) = absurd (omega (arith, ints, x, y))
 
 -- ---- the law
@@ -137,7 +143,8 @@ base_grows r connect m n plane hm hn w = go (cases_order m n)
 pub flux_grows : FluxGrowsWithTheComponent
 unfolding flux_of pixels_of
 flux_grows r connect m n plane hm hn w =
-    total_grows (λ p. level r p -ℤ base_of (tree_of r connect) n) (λ p. level r p -ℤ base_of (tree_of r connect) m) (is_in_node r connect n) (is_in_node r connect m) (pixels r)
+    total_grows (λ p. level r p -ℤ base_of (tree_of r connect) n) (λ p. level r p -ℤ base_of (tree_of r connect) m) (is_in_node r connect n)
+    (is_in_node r connect m) (pixels r)
     (λ p h. (w p h, let b : base_of (tree_of r connect) m ≤ℤ base_of (tree_of r connect) n = base_grows r connect m n plane hm hn w in omega (arith, ints)))
     (λ p h. value_above_base r connect m p plane hm h)
 
@@ -166,7 +173,9 @@ zero_at_flat_roots r connect n plane hn = (flat, zero_flux)
       where
         root : BaseCase r connect n → parent_in (tree_of r connect).rows n ≡ no_node
         root (at_root e b) = e
-        root (at_child a e ha b l) = let t : level r (top_of r connect n) ≡ base_of (tree_of r connect) n = value_is z (top_of r connect n) (top_inside r connect n hn) in absurd (omega (arith, ints))
+        root (at_child a e ha b l) =
+            let t : level r (top_of r connect n) ≡ base_of (tree_of r connect) n =
+            value_is z (top_of r connect n) (top_inside r connect n hn) in absurd (omega (arith, ints))
 
     zero_flux : IsFlatRoot r connect n → total (λ p. level r p -ℤ base_of (tree_of r connect) n) (pixels_of r connect n) ≡ pos 0
     zero_flux f =

@@ -1,5 +1,6 @@
 mod Merging
 mod Sizes
+mod NodePixels
 mod Counting
 mod Reading
 mod Passes
@@ -7,5 +8,4 @@ mod AreaSteps
 mod Totals
 mod Fluxes
 mod FluxOfSums
-mod Floors
 pub mod Exported

@@ -1,45 +1,14 @@
 -- Sums over lists of pixels: one pixel more, two lists in a row, two sets of pixels that share none.
-use Rattle.std.proofs.Common.{◌≡◌, ℕ, ◌+◌, ◌*◌, suc, Bool, true, false, List, [], ◌∷◌, ◌++◌, length, min, max, refl, sym, ◌∙◌, ap, arith}
-use Rattle.std.specs.Prelude.{ℤ, ◌+ℤ◌, filter}
-use Rattle.std.specs.Int.{int_max}
-use Rattle.std.proofs.lemmas.Int.{ints, clamps}
+use Rattle.std.proofs.Common.{◌≡◌, ℕ, ◌+◌, ◌*◌, suc, Bool, true, false, List, [], ◌∷◌, ◌++◌, length, refl, sym, ◌∙◌, ap, arith}
+use Rattle.std.specs.Prelude.{filter}
 use Rattle.std.proofs.lemmas.List.Sums.{sum_by-cons}
+use Rattle.lemmas.proofs.Exported.{int_max_assoc, int_max_comm, max_assoc, max_comm, min_assoc, min_comm, plus_assoc, plus_comm, plus_z_assoc, plus_z_comm}
 use Rattle.comp_tree.specs.Raster.{Raster, level}
 use Rattle.node_sums.specs.declared.entry.Sums.{Sums}
 use Rattle.node_sums.specs.Sums.{sums_over, x_of, y_of}
 use Rattle.node_sums.specs.Merging.{together, sums_of_pixel}
 
 -- ---- the laws of `together`
-
-plus_assoc : (a b c : ℕ) → (a + b) + c ≡ a + (b + c)
-plus_assoc a b c = omega arith
-
-plus_comm : (a b : ℕ) → a + b ≡ b + a
-plus_comm a b = omega arith
-
-min_assoc : (a b c : ℕ) → min (min a b) c ≡ min a (min b c)
-min_assoc a b c = omega arith
-
-min_comm : (a b : ℕ) → min a b ≡ min b a
-min_comm a b = omega arith
-
-max_assoc : (a b c : ℕ) → max (max a b) c ≡ max a (max b c)
-max_assoc a b c = omega arith
-
-max_comm : (a b : ℕ) → max a b ≡ max b a
-max_comm a b = omega arith
-
-plus_z_assoc : (a b c : ℤ) → (a +ℤ b) +ℤ c ≡ a +ℤ (b +ℤ c)
-plus_z_assoc a b c = omega (arith, ints)
-
-plus_z_comm : (a b : ℤ) → a +ℤ b ≡ b +ℤ a
-plus_z_comm a b = omega (arith, ints)
-
-int_max_assoc : (a b c : ℤ) → int_max (int_max a b) c ≡ int_max a (int_max b c)
-int_max_assoc a b c = omega (arith, ints, clamps)
-
-int_max_comm : (a b : ℤ) → int_max a b ≡ int_max b a
-int_max_comm a b = omega (arith, ints, clamps)
 
 pub together_assoc : (a b c : Sums) → together (together a b) c ≡ together a (together b c)
 together_assoc a b c =

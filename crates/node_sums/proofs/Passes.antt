@@ -51,21 +51,26 @@ pub level-of : (r : Raster) (p : ℕ) (v : ℤ) → value_at r.values p ≡ Some
 unfolding level
 level-of r p v e = rw e refl
 
-own_sum : (r : Raster) (node_of ps : List ℕ) (sums : List Sums) (n p : ℕ) (s : Sums) → AreOwn r node_of ps sums → is_defined r p ≡ true → slice_index node_of p ≡ n
+own_sum : (r : Raster) (node_of ps : List ℕ) (sums : List Sums) (n p : ℕ) (s : Sums) → AreOwn r node_of ps sums → is_defined r p ≡ true
+    → slice_index node_of p ≡ n
     → slice_get sums n ≡ Some s → together s (sums_at r p) ≡ sums_over r (filter (is_own r node_of n) (ps ++ p ∷ []))
 own_sum r node_of ps sums n p s h d e g =
     ap (λ (t : Sums). together t (sums_at r p)) (h.own n s g)
     ∙ sym (sums_over-push r p (filter (is_own r node_of n) ps))
-    ∙ ap (sums_over r) (sym (filter_yes (is_own r node_of n) ps p (and_from (is_defined r p) (slice_index node_of p == n) d (eq-eqb (slice_index node_of p) n e))))
+    ∙ ap (sums_over r) (sym (filter_yes (is_own r node_of n) ps p
+    (and_from (is_defined r p) (slice_index node_of p == n) d (eq-eqb (slice_index node_of p) n e))))
 
-pub own_size : (r : Raster) (node_of : List ℕ) (sums : List Sums) (n p : ℕ) (s : Sums) → IsPlane r → AreOwn r node_of (range_with_len 0 p) sums → is_defined r p ≡ true
-    → slice_index node_of p ≡ n → slice_get sums n ≡ Some s → p < length r.values → ((q : ℕ) → q < suc p → IsUpTo value_bound (level r q)) → HasSizes (together s (sums_at r p))
+pub own_size : (r : Raster) (node_of : List ℕ) (sums : List Sums) (n p : ℕ) (s : Sums) → IsPlane r → AreOwn r node_of (range_with_len 0 p) sums
+    → is_defined r p ≡ true
+    → slice_index node_of p ≡ n → slice_get sums n ≡ Some s → p < length r.values → ((q : ℕ) → q < suc p → IsUpTo value_bound (level r q))
+    → HasSizes (together s (sums_at r p))
 own_size r node_of sums n p s plane h d e g l small =
     subst HasSizes (sym (own_sum r node_of (range_with_len 0 p) sums n p s h d e g))
     (subst (λ (ps : List ℕ). HasSizes (sums_over r (filter (is_own r node_of n) ps))) (range-push 0 p p (omega arith))
     (sizes r (filter (is_own r node_of n) (range_with_len 0 (suc p))) plane (filtered_pixels r (is_own r node_of n) (suc p) plane (omega arith) small)))
 
-pub own_yes : (r : Raster) (node_of ps : List ℕ) (sums : List Sums) (n p : ℕ) (s v : Sums) → AreOwn r node_of ps sums → is_defined r p ≡ true → slice_index node_of p ≡ n
+pub own_yes : (r : Raster) (node_of ps : List ℕ) (sums : List Sums) (n p : ℕ) (s v : Sums) → AreOwn r node_of ps sums → is_defined r p ≡ true
+    → slice_index node_of p ≡ n
     → slice_get sums n ≡ Some s → v ≡ together s (sums_at r p) → AreOwn r node_of (ps ++ p ∷ []) (set sums n v)
 own_yes r node_of ps sums n p s v h d e g k = record { own = λ m t f. go m t (get-written sums n v m t f) }
   where
@@ -77,7 +82,8 @@ own_yes r node_of ps sums n p s v h d e g k = record { own = λ m t f. go m t (g
         ∙ ap (sums_over r) (sym (filter_no (is_own r node_of m) ps p
         (and_right (is_defined r p) (slice_index node_of p == m) (ne_eqb (slice_index node_of p) m (λ f. x.0 (sym f ∙ e))))))
 
-pub own_no : (r : Raster) (node_of ps : List ℕ) (sums : List Sums) (p : ℕ) → AreOwn r node_of ps sums → is_defined r p ≡ false → AreOwn r node_of (ps ++ p ∷ []) sums
+pub own_no : (r : Raster) (node_of ps : List ℕ) (sums : List Sums) (p : ℕ) → AreOwn r node_of ps sums → is_defined r p ≡ false
+    → AreOwn r node_of (ps ++ p ∷ []) sums
 own_no r node_of ps sums p h d = record {
   own = λ m t f. h.own m t f ∙ ap (sums_over r) (sym (filter_no (is_own r node_of m) ps p (and_left (is_defined r p) (slice_index node_of p == m) d)));
 }
@@ -101,7 +107,8 @@ counted_from_own r tree sums plane l h = record { one_each = l; counted = counte
             (let inside : m < length sums = slice_get_within sums m s g in omega arith))
 
 -- a list by its places
-same_from_places : (f : ℕ → Sums) (n : ℕ) (sums : List Sums) → length sums ≡ n → ((m : ℕ) (s : Sums) → slice_get sums m ≡ Some s → s ≡ f m) → sums ≡ map f (range_with_len 0 n)
+same_from_places : (f : ℕ → Sums) (n : ℕ) (sums : List Sums) → length sums ≡ n → ((m : ℕ) (s : Sums) → slice_get sums m ≡ Some s → s ≡ f m)
+    → sums ≡ map f (range_with_len 0 n)
 same_from_places f n sums l h = from 0 n sums l (λ m s g. h m s g ∙ ap f (omega arith))
   where
     from : (a n : ℕ) (xs : List Sums) → length xs ≡ n → ((m : ℕ) (s : Sums) → slice_get xs m ≡ Some s → s ≡ f (a + m)) → xs ≡ map f (range_with_len a n)
@@ -114,12 +121,14 @@ same_from_places f n sums l h = from 0 n sums l (λ m s g. h m s g ∙ ap f (ome
         ap (λ (y : Sums). y ∷ xs) first ∙ ap (λ (ys : List Sums). f a ∷ ys) rest
 
 -- after it each entry is the node's
-pub sums_from_counted : (r : Raster) (connect : Connect) (tree : ComponentTree) (sums : List Sums) → AreCounted r tree 0 sums → tree ≡ tree_of r connect → sums ≡ sums_in r connect
+pub sums_from_counted : (r : Raster) (connect : Connect) (tree : ComponentTree) (sums : List Sums) → AreCounted r tree 0 sums → tree ≡ tree_of r connect
+    → sums ≡ sums_in r connect
 unfolding sums_in sums_of pixels_of
 sums_from_counted r connect tree sums h e =
     same_from_places (sums_of r connect) (length (nodes r connect)) sums
     (h.one_each ∙ ap (λ (t : ComponentTree). length t.rows) e ∙ length-rows r connect)
-    (λ m s g. h.counted connect m s e g ∙ ap (sums_over r) (filter_same (is_counted r connect 0 m) (is_in_node r connect m) (pixels r) (counted-end r connect m)))
+    (λ m s g. h.counted connect m s e g ∙ ap (sums_over r)
+    (filter_same (is_counted r connect 0 m) (is_in_node r connect m) (pixels r) (counted-end r connect m)))
 
 -- ---- a node is added to its parent
 
@@ -127,20 +136,24 @@ sums_from_counted r connect tree sums h e =
 pub rows_are : (r : Raster) (connect : Connect) (tree : ComponentTree) → tree ≡ tree_of r connect → length tree.rows ≡ length (nodes r connect)
 rows_are r connect tree e = ap (λ (t : ComponentTree). length t.rows) e ∙ length-rows r connect
 
-pub parent_is : (r : Raster) (connect : Connect) (tree : ComponentTree) (k : ℕ) → tree ≡ tree_of r connect → parent_in tree.rows k ≡ parent_in (tree_of r connect).rows k
+pub parent_is : (r : Raster) (connect : Connect) (tree : ComponentTree) (k : ℕ) → tree ≡ tree_of r connect
+    → parent_in tree.rows k ≡ parent_in (tree_of r connect).rows k
 parent_is r connect tree k e = ap (λ (t : ComponentTree). parent_in t.rows k) e
 
-parent_sum : (r : Raster) (connect : Connect) (tree : ComponentTree) (sums : List Sums) (k a : ℕ) (s t : Sums) → IsPlane r → AreCounted r tree (suc k) sums → tree ≡ tree_of r connect
+parent_sum : (r : Raster) (connect : Connect) (tree : ComponentTree) (sums : List Sums) (k a : ℕ) (s t : Sums) → IsPlane r → AreCounted r tree (suc k) sums
+    → tree ≡ tree_of r connect
     → k < length tree.rows → parent_in tree.rows k ≡ a → a < length tree.rows → slice_get sums a ≡ Some s → slice_get sums k ≡ Some t
     → together s t ≡ sums_over r (filter (is_counted r connect k a) (pixels r))
 parent_sum r connect tree sums k a s t plane h e hk p ha f g =
     let u : IsUnion (is_counted r connect k a) (is_counted r connect (suc k) a) (is_counted r connect (suc k) k) =
-    counted-parent r connect k a plane (omega (arith, rows_are r connect tree e)) (sym (parent_is r connect tree k e) ∙ p) (omega (arith, rows_are r connect tree e)) in
+    counted-parent r connect k a plane (omega (arith, rows_are r connect tree e)) (sym (parent_is r connect tree k e) ∙ p)
+    (omega (arith, rows_are r connect tree e)) in
     ap (λ (x : Sums). together x t) (h.counted connect a s e f)
     ∙ ap (together (sums_over r (filter (is_counted r connect (suc k) a) (pixels r)))) (h.counted connect k t e g)
     ∙ sym (sums_over-union r (is_counted r connect k a) (is_counted r connect (suc k) a) (is_counted r connect (suc k) k) (pixels r) u.apart u.rest)
 
-pub parent_size : (r : Raster) (tree : ComponentTree) (sums : List Sums) (k a : ℕ) (s t : Sums) → IsPlane r → HasValuesInRange r.values → AreCounted r tree (suc k) sums → IsTreeOfPlane r tree
+pub parent_size : (r : Raster) (tree : ComponentTree) (sums : List Sums) (k a : ℕ) (s t : Sums) → IsPlane r → HasValuesInRange r.values
+    → AreCounted r tree (suc k) sums → IsTreeOfPlane r tree
     → k < length tree.rows → parent_in tree.rows k ≡ a → a < length tree.rows → slice_get sums a ≡ Some s → slice_get sums k ≡ Some t → HasSizes (together s t)
 unfolding pixels
 parent_size r tree sums k a s t plane range h (connect, e) hk p ha f g =
@@ -203,9 +216,12 @@ turn_from_code r node_of sums first row column p v got d pixel h begins at withi
   in_range = in_range;
   node = refl;
   entry_is = slice_get-get_or sums (slice_index node_of p) d there;
-  pixel_is = made ∙ ap (sums_at_place (column + 1) (row + 1) p) (to_z-of_z w64 v (fits w64 value_bound v (record { low = in_range.low; high = in_range.high }) (lit< tt)))
+  pixel_is =
+      made
+      ∙ ap (sums_at_place (column + 1) (row + 1) p) (to_z-of_z w64 v (fits w64 value_bound v (record { low = in_range.low; high = in_range.high }) (lit< tt)))
       ∙ ap (λ (x : ℕ). sums_at_place (x + 1) (row + 1) p v) (sym (ap (λ (n : ℕ). n % r.shape.width) place ∙ mod-mul-add row r.shape.width column within))
-      ∙ ap (λ (y : ℕ). sums_at_place (p % r.shape.width + 1) (y + 1) p v) (sym (ap (λ (n : ℕ). n / r.shape.width) place ∙ div-mul-add row r.shape.width column within));
+      ∙ ap (λ (y : ℕ). sums_at_place (p % r.shape.width + 1) (y + 1) p v)
+      (sym (ap (λ (n : ℕ). n / r.shape.width) place ∙ div-mul-add row r.shape.width column within));
 }
   where
     place : p ≡ row * r.shape.width + column
@@ -214,7 +230,8 @@ turn_from_code r node_of sums first row column p v got d pixel h begins at withi
 -- a pixel of a row is one of the plane's
 pub in_plane : (r : Raster) (row column : ℕ) → IsPlane r → row < r.shape.height → column < r.shape.width → row * r.shape.width + column < length r.values
 in_plane r row column plane below within =
-    let rows : suc row * r.shape.width ≤ r.shape.height * r.shape.width = mul-le (suc row) r.shape.width r.shape.height r.shape.width (omega arith) (omega arith) in
+    let rows : suc row * r.shape.width ≤ r.shape.height * r.shape.width =
+    mul-le (suc row) r.shape.width r.shape.height r.shape.width (omega arith) (omega arith) in
     let next : suc row * r.shape.width ≡ row * r.shape.width + r.shape.width = suc-mul row r.shape.width in
     omega (arith, plane, mul_comm r.shape.height r.shape.width)
 
@@ -263,21 +280,24 @@ turn_undefined r node_of sums p h e =
     let next : range_with_len 0 (p + 1) ≡ range_with_len 0 p ++ p ∷ [] = rw add-one (range-push 0 p p (omega arith)) in
     subst (λ (ps : List ℕ). AreOwn r node_of ps sums) (sym next) (own_no r node_of (range_with_len 0 p) sums p h (undefined-of r p e))
 
-pub small_undefined : (r : Raster) (p : ℕ) → ((q : ℕ) → q < p → IsUpTo value_bound (level r q)) → value_at r.values p ≡ None → (q : ℕ) → q < p + 1 → IsUpTo value_bound (level r q)
+pub small_undefined : (r : Raster) (p : ℕ) → ((q : ℕ) → q < p → IsUpTo value_bound (level r q)) → value_at r.values p ≡ None → (q : ℕ) → q < p + 1
+    → IsUpTo value_bound (level r q)
 small_undefined r p h e q l = go (cases_lt q p)
   where
     go : (q < p) ⊎ (p ≤ q) → IsUpTo value_bound (level r q)
     go (inl k) = h q k
     go (inr k) = let f : p ≡ q = omega arith in subst (λ (j : ℕ). IsUpTo value_bound (level r j)) f (level_undefined r p e)
 
-pub to_next : (r : Raster) (node_of : List ℕ) (sums : List Sums) (p n : ℕ) (v : ℤ) (entry pixel whole : Sums) → IsTurn r node_of sums p n v entry pixel → whole ≡ together entry pixel
+pub to_next : (r : Raster) (node_of : List ℕ) (sums : List Sums) (p n : ℕ) (v : ℤ) (entry pixel whole : Sums) → IsTurn r node_of sums p n v entry pixel
+    → whole ≡ together entry pixel
     → AreOwnTo r node_of (p + 1) (set sums n whole)
 to_next r node_of sums p n v entry pixel whole t k = record {
   own = turn_own r node_of sums p n v entry pixel whole t k;
   small = turn_small r node_of sums p n v entry pixel t;
 }
 
-pub to_next_undefined : (r : Raster) (node_of : List ℕ) (sums : List Sums) (p : ℕ) → AreOwnTo r node_of p sums → value_at r.values p ≡ None → AreOwnTo r node_of (p + 1) sums
+pub to_next_undefined : (r : Raster) (node_of : List ℕ) (sums : List Sums) (p : ℕ) → AreOwnTo r node_of p sums → value_at r.values p ≡ None
+    → AreOwnTo r node_of (p + 1) sums
 to_next_undefined r node_of sums p h e = record {
   own = turn_undefined r node_of sums p h.own e;
   small = small_undefined r p h.small e;
@@ -290,7 +310,8 @@ range_from_small r n l h p v e =
     let k : IsUpTo value_bound v = subst (IsUpTo value_bound) (level-of r p v (get_or_from_slice_get r.values p (Some v) None e)) (h p (omega arith)) in
     record { low = k.low; high = k.high }
 
-pub own_all : (r : Raster) (node_of : List ℕ) (n : ℕ) (sums : List Sums) → n ≡ length r.values → AreOwn r node_of (range_with_len 0 n) sums → AreOwn r node_of (pixels r) sums
+pub own_all : (r : Raster) (node_of : List ℕ) (n : ℕ) (sums : List Sums) → n ≡ length r.values → AreOwn r node_of (range_with_len 0 n) sums
+    → AreOwn r node_of (pixels r) sums
 unfolding pixels
 own_all r node_of n sums e h = subst (λ (k : ℕ). AreOwn r node_of (range_with_len 0 k) sums) e h
 
@@ -320,7 +341,8 @@ parent_inside r tree k a plane (connect, e) hk p some = go (g.parents k hk)
     go (inl none) = absurd (some (sym p ∙ none))
     go (inr less) = omega arith
 
-pub step_from_code : (r : Raster) (tree : ComponentTree) (sums : List Sums) (n : ℕ) (rows : List NodeRow) (row : NodeRow) (d e : Sums) → IsPlane r → IsTreeOfPlane r tree
+pub step_from_code : (r : Raster) (tree : ComponentTree) (sums : List Sums) (n : ℕ) (rows : List NodeRow) (row : NodeRow) (d e : Sums) → IsPlane r
+    → IsTreeOfPlane r tree
     → AreCounted r tree n sums → 0 < n → n ≤ length rows → rows ≡ tree.rows → ((slice_index_or rows (n - 1) row).parent ≡ no_node → ⊥)
     → IsStep r tree sums (n - 1) (slice_index_or rows (n - 1) row).parent (get_or sums (slice_index_or rows (n - 1) row).parent d) (get_or sums (n - 1) e)
 step_from_code r tree sums n rows row d e plane of_plane counted some most same has = record {
@@ -353,7 +375,8 @@ parent_place r tree sums n rows row plane of_plane counted some most same has =
     ap (λ (xs : List NodeRow). parent_in xs (n - 1)) (sym same) ∙ sym (row-parent rows (n - 1) row (omega arith)) in
     omega (arith, parent_inside r tree (n - 1) (slice_index_or rows (n - 1) row).parent plane of_plane below parent has, counted.one_each)
 
-pub step_size : (r : Raster) (tree : ComponentTree) (sums : List Sums) (k a : ℕ) (entry child : Sums) → IsPlane r → HasValuesInRange r.values → IsTreeOfPlane r tree
+pub step_size : (r : Raster) (tree : ComponentTree) (sums : List Sums) (k a : ℕ) (entry child : Sums) → IsPlane r → HasValuesInRange r.values
+    → IsTreeOfPlane r tree
     → IsStep r tree sums k a entry child → HasSizes (together entry child)
 step_size r tree sums k a entry child plane range of_plane s =
     parent_size r tree sums k a entry child plane range s.counted of_plane s.below s.parent s.inside s.entry_is s.child_is
@@ -363,7 +386,8 @@ pub step_counted : (r : Raster) (tree : ComponentTree) (sums : List Sums) (k a :
 step_counted r tree sums k a entry child whole plane s w =
     parent_yes r tree sums k a entry child whole plane s.counted s.below s.parent s.inside s.entry_is s.child_is w
 
-pub step_root : (r : Raster) (tree : ComponentTree) (sums : List Sums) (n : ℕ) (rows : List NodeRow) (row : NodeRow) → IsPlane r → AreCounted r tree n sums → 0 < n → n ≤ length rows
+pub step_root : (r : Raster) (tree : ComponentTree) (sums : List Sums) (n : ℕ) (rows : List NodeRow) (row : NodeRow) → IsPlane r → AreCounted r tree n sums
+    → 0 < n → n ≤ length rows
     → rows ≡ tree.rows → (slice_index_or rows (n - 1) row).parent ≡ no_node → AreCounted r tree (n - 1) sums
 step_root r tree sums n rows row plane counted some most same root =
     let next : n ≡ suc (n - 1) = omega arith in
@@ -395,7 +419,8 @@ numbers_count r connect = length-map (pixels r) (node_of r connect) ∙ length-p
 pub numbers_for_pixels : (r : Raster) (tree : ComponentTree) → IsTreeOfPlane r tree → length tree.node_of ≡ length r.values
 numbers_for_pixels r tree (connect, e) = ap (λ (t : ComponentTree). length t.node_of) e ∙ numbers_count r connect
 
-pub number_below : (r : Raster) (tree : ComponentTree) → IsTreeOfPlane r tree → (p : ℕ) → IsTrue (is_defined r p) → slice_index tree.node_of p < length tree.rows
+pub number_below : (r : Raster) (tree : ComponentTree) → IsTreeOfPlane r tree → (p : ℕ) → IsTrue (is_defined r p)
+    → slice_index tree.node_of p < length tree.rows
 number_below r tree (connect, e) p d =
     let is : slice_index tree.node_of p ≡ node_of r connect p = ap (λ (t : ComponentTree). slice_index t.node_of p) e ∙ number-is r connect p d in
     omega (arith, is, (Nodes.node_of-is r connect p d).below, ap (λ (t : ComponentTree). length t.rows) e, length-rows r connect)
@@ -403,7 +428,8 @@ number_below r tree (connect, e) p d =
 pub of_plane_from_counted : (r : Raster) (tree : ComponentTree) (sums : List Sums) → IsTreeOfPlane r tree → AreCounted r tree 0 sums → AreOfPlane r tree sums
 of_plane_from_counted r tree sums (connect, e) h = record { connect = connect; tree_is = e; sums_are = sums_from_counted r connect tree sums h e }
 
-pub trees_from_counted : (r : Raster) (tree : ComponentTree) (sums : List Sums) → IsPlane r → HasValuesInRange r.values → IsTreeOfPlane r tree → AreCounted r tree 0 sums
+pub trees_from_counted : (r : Raster) (tree : ComponentTree) (sums : List Sums) → IsPlane r → HasValuesInRange r.values → IsTreeOfPlane r tree
+    → AreCounted r tree 0 sums
     → AreTheTrees tree sums
 trees_from_counted r tree sums plane range of_plane h = record {
   plane = r;

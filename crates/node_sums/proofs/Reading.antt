@@ -76,7 +76,8 @@ same_sums s t area r x y xx xy yy rx ry xmin xmax ymin ymax first peak = λ i. r
 -- a value times a coordinate
 pub moment-read : (z : ℤ) (x : ℕ) → SFits w64 z → x < 2 ^ 64 → SFits w128 (z *ℤ pos x)
     → to_z w128 (of_z w128 (to_z w128 (of_z w128 (to_z w64 (of_z w64 z))) *ℤ to_z w128 x)) ≡ z *ℤ pos x
-moment-read z x f l g = rw (to_z-of_z w64 z f, to_z-of_z w128 z (record { sfits = omega (arith, f.sfits) }), to_z_pos w128 x (omega arith)) (to_z-of_z w128 (z *ℤ pos x) g)
+moment-read z x f l g =
+    rw (to_z-of_z w64 z f, to_z-of_z w128 z (record { sfits = omega (arith, f.sfits) }), to_z_pos w128 x (omega arith)) (to_z-of_z w128 (z *ℤ pos x) g)
 
 pub peak-read : (a b m : ℤ) → SFits w64 a → SFits w64 b → m ≡ int_max (to_z w64 (of_z w64 a)) (to_z w64 (of_z w64 b)) → m ≡ int_max a b
 peak-read a b m f g e = e ∙ ap (λ (x : ℤ). int_max x (to_z w64 (of_z w64 b))) (to_z-of_z w64 a f) ∙ ap (int_max a) (to_z-of_z w64 b g)

@@ -7,9 +7,9 @@ use Rattle.std.proofs.lemmas.List.Sums.{sum_by-le, length-filter, count_by-le-le
 use Rattle.std.specs.List.{range_with_len}
 use Rattle.std.proofs.lemmas.List.FromFn.{length-range_with_len}
 use Rattle.std.proofs.Math.Nat.{mul_comm, mul-suc, div-lt_iff_lt-mul}
+use Rattle.lemmas.proofs.Exported.{IsAmong, all_from_among, among_from_filter, among_from_range}
 use Rattle.comp_tree.specs.Limits.{IsWithinRange}
 use Rattle.comp_tree.specs.Raster.{Raster, IsPlane, HasValuesInRange, level, value_at}
-use Rattle.comp_tree.proofs.Exported.{IsAmong, all_from_among, among_from_filter, among_from_range}
 use Rattle.node_sums.specs.Sums.{sums_over, x_of, y_of, total}
 use Rattle.node_sums.specs.Sizes.{IsUpTo, HasSizes, value_bound, moment_bound}
 
@@ -72,7 +72,11 @@ row_below p w h some l = (div-lt_iff_lt-mul {k = w} {x = p} {y = h} some).1 (sub
 
 pub y_small : (r : Raster) (p : ℕ) → IsPlane r → p < length r.values → y_of r p ≤ 65535
 y_small r p plane h =
-    omega (arith, row_below p r.shape.width r.shape.height r.shape.within_limits.some_columns (subst (λ (n : ℕ). p < n) plane h), r.shape.within_limits.few_rows)
+    omega (
+      arith,
+      row_below p r.shape.width r.shape.height r.shape.within_limits.some_columns (subst (λ (n : ℕ). p < n) plane h),
+      r.shape.within_limits.few_rows,
+    )
 
 -- ---- the sums
 
@@ -103,9 +107,11 @@ sizes r ps plane k = record {
   y = sum_small (y_of r) (2 ^ 16) ps (λ p m. omega (arith, y_small r p plane (k.below p m)));
   xx = sum_small (λ p. x_of r p * x_of r p) (2 ^ 32) ps (λ p m. product_small (x_of r p) (x_of r p) (x_small r p) (x_small r p));
   xy = sum_small (λ p. x_of r p * y_of r p) (2 ^ 32) ps (λ p m. product_small (x_of r p) (y_of r p) (x_small r p) (y_small r p plane (k.below p m)));
-  yy = sum_small (λ p. y_of r p * y_of r p) (2 ^ 32) ps (λ p m. product_small (y_of r p) (y_of r p) (y_small r p plane (k.below p m)) (y_small r p plane (k.below p m)));
+  yy = sum_small (λ p. y_of r p * y_of r p) (2 ^ 32) ps
+      (λ p m. product_small (y_of r p) (y_of r p) (y_small r p plane (k.below p m)) (y_small r p plane (k.below p m)));
   rx = total-up_to (λ p. level r p *ℤ pos (x_of r p)) moment_bound ps (λ p m. moment_up_to (level r p) (x_of r p) (k.small p m) (x_small r p));
-  ry = total-up_to (λ p. level r p *ℤ pos (y_of r p)) moment_bound ps (λ p m. moment_up_to (level r p) (y_of r p) (k.small p m) (y_small r p plane (k.below p m)));
+  ry = total-up_to (λ p. level r p *ℤ pos (y_of r p)) moment_bound ps
+      (λ p m. moment_up_to (level r p) (y_of r p) (k.small p m) (y_small r p plane (k.below p m)));
 }
 
 pub length-filter-le : (test : ℕ → Bool) (xs : List ℕ) → length (filter test xs) ≤ length xs

@@ -1,16 +1,10 @@
 -- Sums of whole numbers over pixels.
-use Rattle.std.proofs.Common.{◌≡◌, ℕ, suc, Bool, true, false, List, [], ◌∷◌, length, refl, ◌∙◌, subst, arith, ◌⊎◌, inl, inr}
+use Rattle.std.proofs.Common.{◌≡◌, ℕ, suc, Bool, true, false, List, [], ◌∷◌, length, refl, subst, arith, ◌⊎◌, inl, inr}
 use Rattle.std.specs.Prelude.{ℤ, pos, ◌+ℤ◌, ◌-ℤ◌, ◌*ℤ◌, ◌≤ℤ◌, filter}
 use Rattle.std.proofs.lemmas.Int.{ints}
-use Rattle.std.proofs.Math.IntN.{*ℤ_comm, *ℤ-zero, suc_ℤ-*ℤ}
-use Rattle.comp_tree.proofs.Exported.{IsAmong}
+use Rattle.std.proofs.Math.IntN.{*ℤ-zero}
+use Rattle.lemmas.proofs.Exported.{IsAmong, times_suc}
 use Rattle.node_sums.specs.Sums.{total}
-
-times_suc : (b : ℤ) (n : ℕ) → b *ℤ pos (suc n) ≡ b +ℤ b *ℤ pos n
-times_suc b n =
-    let e : b *ℤ pos (suc n) ≡ pos n *ℤ b +ℤ b = *ℤ_comm b (pos (suc n)) ∙ suc_ℤ-*ℤ (pos n) b in
-    let f : pos n *ℤ b ≡ b *ℤ pos n = *ℤ_comm (pos n) b in
-    omega (arith, ints)
 
 -- less b each time is less b times their number
 pub total-less : (f : ℕ → ℤ) (b : ℤ) (ps : List ℕ) → total (λ p. f p -ℤ b) ps ≡ total f ps -ℤ b *ℤ pos (length ps)
@@ -59,12 +53,14 @@ total_zero f (p ∷ ps) h =
     omega (arith, ints)
 
 -- more pixels with larger numbers, none negative, have a larger sum
-pub total_grows : (f g : ℕ → ℤ) (some all : ℕ → Bool) (ps : List ℕ) → ((p : ℕ) → some p ≡ true → (all p ≡ true) × (f p ≤ℤ g p)) → ((p : ℕ) → all p ≡ true → pos 0 ≤ℤ g p)
+pub total_grows : (f g : ℕ → ℤ) (some all : ℕ → Bool) (ps : List ℕ) → ((p : ℕ) → some p ≡ true → (all p ≡ true) × (f p ≤ℤ g p))
+    → ((p : ℕ) → all p ≡ true → pos 0 ≤ℤ g p)
     → total f (filter some ps) ≤ℤ total g (filter all ps)
 total_grows f g some all [] h k = omega (arith, ints)
 total_grows f g some all (p ∷ ps) h k = go (some p) (all p) refl refl (total_grows f g some all ps h k)
   where
-    go : (s a : Bool) → some p ≡ s → all p ≡ a → total f (filter some ps) ≤ℤ total g (filter all ps) → total f (filter some (p ∷ ps)) ≤ℤ total g (filter all (p ∷ ps))
+    go : (s a : Bool) → some p ≡ s → all p ≡ a → total f (filter some ps) ≤ℤ total g (filter all ps)
+        → total f (filter some (p ∷ ps)) ≤ℤ total g (filter all (p ∷ ps))
     go true a u v ih =
         let w : all p ≡ true = (h p u).0 in
         let l : f p ≤ℤ g p = (h p u).1 in

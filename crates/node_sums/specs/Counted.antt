@@ -1,4 +1,4 @@
--- Model: which pixels have come to the entry of a node, while entries are added to those of the parents, the last node first.
+-- Bookkeeping: which pixels have come to the entry of a node, while entries are added to those of the parents, the last node first.
 use Rattle.std.specs.Prelude.{ℕ, Bool, true, ◌&&◌, not, nat_lt, zero, suc}
 use Rattle.comp_tree.specs.declared.shape.Connect.{Connect}
 use Rattle.comp_tree.specs.Raster.{Raster}

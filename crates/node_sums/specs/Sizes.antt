@@ -1,4 +1,4 @@
--- Model: how large the sums over some pixels of a plane are, by the number of these pixels.
+-- Bookkeeping: how large the sums over some pixels of a plane are, by the number of these pixels.
 use Rattle.std.specs.Prelude.{ℕ, ◌*◌, ◌^◌, ◌≤◌, ℤ, pos, neg_ℤ, ◌≤ℤ◌}
 use Rattle.node_sums.specs.declared.entry.Sums.{Sums}
 

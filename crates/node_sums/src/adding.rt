@@ -14,7 +14,8 @@ use std::alloc::Global;
 /// nodes from the last to the first. The one error is that memory was refused.
 pub fn sums(alloc: Global, plane: &Plane, tree: &Tree) -> Result<Vec<Sums>, OutOfMemory>
     requires { IsTreeOfPlane plane.now tree.now }
-    ensures exact { IfOk result (λ sums. (connect : Connect) → tree.now ≡ tree_of plane.now connect → sums.items ≡ sums_in plane.now connect) }
+    ensures exact { IfOk result (λ sums. (connect : Connect) → tree.now ≡ tree_of plane.now connect
+        → sums.items ≡ sums_in plane.now connect) }
     ensures of_plane { IfOk result (λ sums. AreOfPlane plane.now tree.now sums.items) }
     ensures the_trees { IfOk result (λ sums. AreTheTrees tree.now sums.items) }
 {
@@ -28,15 +29,14 @@ pub fn sums(alloc: Global, plane: &Plane, tree: &Tree) -> Result<Vec<Sums>, OutO
 fn empty(alloc: Global, count: usize) -> Result<Vec<Sums>, OutOfMemory>
     ensures { IfOk result (λ sums. (r : Raster) → sums.items ≡ replicate count (sums_over r [])) }
 {
-    match vec![in alloc; Sums::none(); count] {
-        Ok(sums) => Ok(sums),
-        Err(_) => Err(OutOfMemory),
-    }
+    let sums = vec![in alloc; Sums::none(); count]?;
+    Ok(sums)
 }
 
 // Adds each defined pixel to the entry of its smallest node.
 fn add_pixels(plane: &Plane, node_of: &[u32], sums: &mut [Sums])
-    requires nodes { (p : ℕ) → IsTrue (is_defined plane.now p) → slice_index node_of.now p < length sums.old }
+    requires nodes { (p : ℕ) → IsTrue (is_defined plane.now p)
+        → slice_index node_of.now p < length sums.old }
     requires one_each { length node_of.now ≡ length plane.now.values }
     requires none { AreOwn plane.now node_of.now [] sums.old }
     ensures own { AreOwn plane.now node_of.now (pixels plane.now) sums.new }
@@ -51,7 +51,8 @@ fn add_pixels(plane: &Plane, node_of: &[u32], sums: &mut [Sums])
 
 // Adds the defined pixels of one row, counted from 0. All rows before it were added.
 fn add_row(plane: &Plane, node_of: &[u32], width: u32, row: u32, sums: &mut [Sums])
-    requires nodes { (p : ℕ) → IsTrue (is_defined plane.now p) → slice_index node_of.now p < length sums.old }
+    requires nodes { (p : ℕ) → IsTrue (is_defined plane.now p)
+        → slice_index node_of.now p < length sums.old }
     requires one_each { length node_of.now ≡ length plane.now.values }
     requires plane { IsPlane plane.now }
     requires width { width ≡ plane.now.shape.width }

@@ -16,8 +16,10 @@ use std::alloc::Global;
 /// a look at a value, and one over the nodes from the last to the first. The one error is that memory was refused.
 pub fn areas(alloc: Global, plane: &Plane, tree: &Tree) -> Result<Vec<u32>, OutOfMemory>
     requires { IsTreeOfPlane plane.now tree.now }
-    ensures exact { IfOk result (λ areas. (connect : Connect) → tree.now ≡ tree_of plane.now connect → areas.items ≡ areas_in plane.now connect) }
-    ensures of_sums { IfOk result (λ areas. (connect : Connect) → tree.now ≡ tree_of plane.now connect
+    ensures exact { IfOk result (λ areas. (connect : Connect) → tree.now ≡ tree_of plane.now connect
+        → areas.items ≡ areas_in plane.now connect) }
+    ensures of_sums { IfOk result (λ areas. (connect : Connect)
+        → tree.now ≡ tree_of plane.now connect
         → areas.items ≡ map (λ s. s.area) (sums_in plane.now connect)) }
 {
     let mut areas = vec![in alloc; 0u32; tree.rows().len()]?;

@@ -26,8 +26,10 @@ pub fn base(tree: &Tree, n: u32) -> i64
 pub fn flux(tree: &Tree, sums: &[Sums], n: u32) -> i64
     requires node { n < length tree.now.rows }
     requires sums { AreTheTrees tree.now sums.now }
-    ensures exact { ForEachPlaneOf tree.now sums.now (λ plane connect. result ≡ flux_of plane connect n) }
-    ensures of_sums { (entry : Entry) → slice_get sums.now n ≡ Some entry → result ≡ entry.r -ℤ base_of tree.now n *ℤ pos entry.area }
+    ensures exact { ForEachPlaneOf tree.now sums.now
+        (λ plane connect. result ≡ flux_of plane connect n) }
+    ensures of_sums { (entry : Entry) → slice_get sums.now n ≡ Some entry
+        → result ≡ entry.r -ℤ base_of tree.now n *ℤ pos entry.area }
     ensures never_negative { pos 0 ≤ℤ result }
 {
     let entry = sums[n as usize];

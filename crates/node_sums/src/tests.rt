@@ -3,6 +3,8 @@ ghost use Rattle.node_sums.specs.Sums.{AreTheTrees};
 
 use super::*;
 use comp_tree::{Connect, Plane, Shape, Tree, plain_tree};
+use std::alloc::Global;
+use std::test::Fail;
 
 #[derive(Drop)]
 struct Case<'a> {
@@ -19,6 +21,15 @@ struct Case<'a> {
     sums: Sums,
 }
 
+// A plane of these values, of which 99 stands for an undefined pixel.
+fn plane_of(alloc: Global, shape: Shape, values: &[i64]) -> Result<Plane, Fail> {
+    let mut pixels = Vec::new(alloc);
+    for value in values {
+        pixels.push(if *value == 99 { None } else { Some(*value) })?;
+    }
+    Ok(Plane::of(alloc, shape, &pixels)?.ok_or("a plane of these values")?)
+}
+
 // The level, the base and the flux of a node.
 fn measures(tree: &Tree, sums: &[Sums], n: u32) -> (i64, i64, i64)
     requires node { n < length tree.now.rows }
@@ -32,7 +43,7 @@ fn measures(tree: &Tree, sums: &[Sums], n: u32) -> (i64, i64, i64)
 }
 
 #[test]
-fn sums_and_fluxes_of_small_planes(rt: HostRuntime) {
+fn sums_and_fluxes_of_small_planes(rt: HostRuntime) -> Result<(), Fail> {
     let cases = [
         Case {
             width: 5,
@@ -88,16 +99,11 @@ fn sums_and_fluxes_of_small_planes(rt: HostRuntime) {
         },
     ];
     for (number, case) in cases.iter().enumerate() {
-        let shape = Shape::of(case.width, case.height).expect(&rt, "a shape");
-        let mut plane = Plane::blank(rt.alloc(), shape).expect(&rt, "memory");
-        for (p, value) in case.values.iter().enumerate() {
-            if *value > -99 && *value < 99 && p < plane.shape().pixels() as usize {
-                plane.set(p as u32, Some(*value));
-            }
-        }
-        let tree = plain_tree(rt.alloc(), &plane, case.connect).expect(&rt, "memory");
-        let found = sums(rt.alloc(), &plane, &tree).expect(&rt, "memory");
-        let areas = areas(rt.alloc(), &plane, &tree).expect(&rt, "memory");
+        let shape = Shape::of(case.width, case.height).ok_or("a shape")?;
+        let plane = plane_of(rt.alloc(), shape, case.values)?;
+        let tree = plain_tree(rt.alloc(), &plane, case.connect)?;
+        let found = sums(rt.alloc(), &plane, &tree)?;
+        let areas = areas(rt.alloc(), &plane, &tree)?;
         let count = tree.rows().len();
         assert_eq!(rt; count, case.nodes.len(), "case {number}");
         assert!(rt; count < 9);
@@ -109,4 +115,5 @@ fn sums_and_fluxes_of_small_planes(rt: HostRuntime) {
         assert!(rt; found[case.node] == case.sums, "sums of case {number}");
         assert!(rt; areas.as_slice() == case.areas, "areas of case {number}");
     }
+    Ok(())
 }

@@ -1,12 +1,13 @@
 -- In two planes that are alike along pairs of pixels the parents of counterparts have one level.
 use Rattle.std.proofs.Common.{◌≡◌, ℕ, ◌<◌, true, length, sym, ◌∙◌, ap, subst}
 use Rattle.std.specs.Prelude.{IsTrue, ℤ, int_le, int_lt, Option, unwrap_or, pos}
+use Rattle.lemmas.proofs.Exported.{int_le_antisym, int_le_trans}
 use Rattle.comp_tree.specs.declared.shape.Connect.{Connect}
 use Rattle.comp_tree.specs.Raster.{Raster, IsPlane, value_at, level}
 use Rattle.comp_tree.specs.ComponentTree.{no_node}
 use Rattle.comp_tree.specs.Components.{reaches, nodes, is_candidate}
 use Rattle.comp_tree.specs.Laws.{top_of, parent_of_node}
-use Rattle.comp_tree.proofs.Exported.{int_le_trans, int_le_antisym, top-representative, top-defined, IsParent, parent-candidate, parent-of_node, turned}
+use Rattle.comp_tree.proofs.Exported.{top-representative, top-defined, IsParent, parent-candidate, parent-of_node, turned}
 use Rattle.comp_tree.proofs.Exported.{AlikeAlong, AreCounterparts, HasLikeBeside, IsReachedThere, along_sym, along_low, along_level, along_reached}
 use Rattle.comp_tree.proofs.Exported.{along_reaches}
 use Rattle.comp_tree.proofs.Exported.{counterparts_sym, counterparts_level}

@@ -8,7 +8,7 @@ use Rattle.comp_tree.specs.declared.shape.Shape.{Shape}
 use Rattle.comp_tree.specs.Raster.{Raster, IsPlane, value_at, is_defined, is_at_least}
 use Rattle.comp_tree.specs.Grid.{are_neighbours, IsAdjacency}
 use Rattle.comp_tree.proofs.Exported.{AlikeAbove, AlikeAlong, HasLikeBeside, InPlace, in_place_above, adjacent_ends, adjacent_from}
-use Rattle.source_pick.specs.Locality.{IsNearHigh, AgreeNearHigh}
+use Rattle.source_pick.specs.Locality.{IsNearHighOfEither, AgreeNearHigh}
 
 -- a pixel that a plane doesn't have has no value
 value_beyond : (xs : List (Option ℤ)) (p : ℕ) → length xs ≤ p → value_at xs p ≡ None
@@ -24,7 +24,7 @@ module _ (r s : Raster) (connect : Connect) (h : ℤ) (plane_r : IsPlane r) (pla
   same_width = ap (λ (x : Shape). x.width) agree.same_shape
 
   -- such planes have the same values near these pixels, also beyond their last pixel
-  near_same : (p : ℕ) → IsNearHigh r s connect h p → value_at r.values p ≡ value_at s.values p
+  near_same : (p : ℕ) → IsNearHighOfEither r s connect h p → value_at r.values p ≡ value_at s.values p
   near_same p k = go (cases_lt p (length r.values))
     where
       go : (p < length r.values) ⊎ (length r.values ≤ p) → value_at r.values p ≡ value_at s.values p

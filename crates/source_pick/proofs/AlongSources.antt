@@ -2,13 +2,14 @@
 use Rattle.std.proofs.Common.{◌≡◌, ℕ, ◌<◌, Bool, true, false, ◌&&◌, length, refl, sym, ◌∙◌, ap, subst, arith, ◌⊎◌, inl, inr}
 use Rattle.std.specs.Prelude.{IsTrue, ℤ, ◌≤ℤ◌, int_le, int_lt, nat_le, pos, ◌*ℤ◌, Some}
 use Rattle.std.proofs.lemmas.Bool.{true≢false, false_from_ne_true}
+use Rattle.lemmas.proofs.Exported.{int_le-from, int_le-true}
 use Rattle.comp_tree.specs.declared.shape.Connect.{Connect}
 use Rattle.comp_tree.specs.Raster.{Raster, IsPlane, level}
 use Rattle.comp_tree.specs.ComponentTree.{no_node}
 use Rattle.comp_tree.specs.Components.{reaches, nodes, node_of, tree_of, is_in_node}
 use Rattle.comp_tree.specs.Laws.{top_of, parent_of_node, IsNestedIn}
 use Rattle.comp_tree.specs.Nesting.{level_of_node}
-use Rattle.comp_tree.proofs.Exported.{int_le-from, int_le-true, length-rows, top_inside, below_no_node, AlikeAlong, AreCounterparts, IsReachedThere, along_sym}
+use Rattle.comp_tree.proofs.Exported.{length-rows, top_inside, below_no_node, AlikeAlong, AreCounterparts, IsReachedThere, along_sym}
 use Rattle.comp_tree.proofs.Exported.{along_low, along_reached, along_counterpart, counterparts_sym, counterparts_unique, counterparts_in_node, turned}
 use Rattle.comp_tree.proofs.Exported as Nodes
 use Rattle.node_sums.specs.Sums.{sums_of}

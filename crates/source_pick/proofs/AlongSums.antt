@@ -3,17 +3,18 @@ use Rattle.std.proofs.Common.{◌≡◌, ℕ, ◌<◌, ◌≤◌, true, List, le
 use Rattle.std.specs.Prelude.{ℤ, ◌+ℤ◌, ◌-ℤ◌}
 use Rattle.std.specs.Int.{int_max}
 use Rattle.std.proofs.lemmas.Bool.{cases_lt}
+use Rattle.lemmas.proofs.Exported.{ArePaired, at_end, at_more}
 use Rattle.comp_tree.specs.declared.shape.Connect.{Connect}
 use Rattle.comp_tree.specs.Raster.{Raster, IsPlane, level}
 use Rattle.comp_tree.specs.Components.{is_in_node, tree_of}
 use Rattle.comp_tree.specs.Laws.{top_of}
 use Rattle.comp_tree.specs.Nesting.{pixels_of, level_in, level_of_node}
-use Rattle.comp_tree.proofs.Exported.{below_no_node, among_pixels, AlikeAlong, AreCounterparts, IsReachedThere, ArePaired, at_end, at_more, along_sym}
+use Rattle.comp_tree.proofs.Exported.{below_no_node, among_pixels, AlikeAlong, AreCounterparts, IsReachedThere, along_sym}
 use Rattle.comp_tree.proofs.Exported.{along_low, along_level, along_reached, counterparts_sym, counterparts_level, counterparts_in_node, counterparts_pixels}
 use Rattle.comp_tree.proofs.Exported.{turned}
 use Rattle.node_sums.specs.Sums.{total, highest, sums_over, sums_of}
 use Rattle.node_sums.specs.Flux.{base_of, flux_of}
-use Rattle.node_sums.proofs.Exported.{level-of_node, base-root, base-child}
+use Rattle.node_sums.proofs.Exported.{base-child, base-root, level-of_node, sums-area}
 use Rattle.source_pick.proofs.Listing.{first_inside}
 use Rattle.source_pick.proofs.Means.{least_low}
 use Rattle.source_pick.proofs.AlongBorders.{ParentsAgree, roots, children, along_parents_agree}
@@ -36,11 +37,6 @@ pub highest_paired : (R : ℕ → ℕ → Type 0) (f g : ℕ → ℤ) (ps qs : L
 highest_paired R f g _ _ e at_end = refl
 highest_paired R f g _ _ e (at_more {x} {y} {xs} {ys} c rest) =
     ap (λ (z : ℤ). int_max z (highest f xs)) (e x y c) ∙ ap (int_max (g y)) (highest_paired R f g xs ys e rest)
-
--- the area is the number of pixels
-pub sums-area : (r : Raster) (connect : Connect) (n : ℕ) → (sums_of r connect n).area ≡ length (pixels_of r connect n)
-unfolding sums_of sums_over
-sums-area r connect n = refl
 
 -- no pixel of a node comes before its first
 first_low : (r : Raster) (connect : Connect) (n p : ℕ) → is_in_node r connect n p ≡ true → (sums_of r connect n).first ≤ p

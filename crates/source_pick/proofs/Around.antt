@@ -8,7 +8,7 @@ use Rattle.comp_tree.specs.declared.shape.Connect.{Connect}
 use Rattle.comp_tree.specs.declared.shape.Connect.TheVariants.{Four, Eight}
 use Rattle.comp_tree.specs.Grid.{distance, are_linked, are_neighbours}
 use Rattle.comp_tree.proofs.Exported.{row-from, neighbours-at, far_rows_above, far_rows_below}
-use Rattle.source_pick.specs.Clearing.{IsAround, reach}
+use Rattle.source_pick.specs.Clearing.{IsAround, columns_beside}
 
 -- ---- columns and rows
 
@@ -21,12 +21,12 @@ row_place width u v inside =
 -- ---- who is around whom
 
 linked_sides : (connect : Connect) (x y u v : ℕ) → are_linked connect (distance x u) (distance y v) ≡ true
-    → (x ≤ u + reach connect (distance y v)) × (u ≤ x + reach connect (distance y v)) × (y ≤ v + 1) × (v ≤ y + 1)
+    → (x ≤ u + columns_beside connect (distance y v)) × (u ≤ x + columns_beside connect (distance y v)) × (y ≤ v + 1) × (v ≤ y + 1)
 unfolding are_linked distance
 linked_sides Four x y u v k = let n : distance x u + distance y v ≡ 1 = eqb-true (distance x u + distance y v) 1 k in (omega arith, omega arith, omega arith, omega arith)
 linked_sides Eight x y u v k = let n : max (distance x u) (distance y v) ≡ 1 = eqb-true (max (distance x u) (distance y v)) 1 k in (omega arith, omega arith, omega arith, omega arith)
 
-linked_from_sides : (connect : Connect) (x y u v : ℕ) → (x ≡ u → y ≡ v → ⊥) → x ≤ u + reach connect (distance y v) → u ≤ x + reach connect (distance y v) → y ≤ v + 1 → v ≤ y + 1
+linked_from_sides : (connect : Connect) (x y u v : ℕ) → (x ≡ u → y ≡ v → ⊥) → x ≤ u + columns_beside connect (distance y v) → u ≤ x + columns_beside connect (distance y v) → y ≤ v + 1 → v ≤ y + 1
     → are_linked connect (distance x u) (distance y v) ≡ true
 unfolding are_linked distance
 linked_from_sides Four x y u v apart a b c d = eq-eqb (distance x u + distance y v) 1 (one (cases_eq x u) (cases_eq y v))
@@ -51,7 +51,7 @@ neighbours_linked connect width x y u v one other =
     ∙ ap (λ n. are_linked connect (distance x u) (distance n v)) place.0
 
 around_sides : (connect : Connect) (width x y u v : ℕ) → x < width → u < width → IsAround connect width (y * width + x) (v * width + u)
-    → (x ≤ u + reach connect (distance y v)) × (u ≤ x + reach connect (distance y v)) × (y ≤ v + 1) × (v ≤ y + 1)
+    → (x ≤ u + columns_beside connect (distance y v)) × (u ≤ x + columns_beside connect (distance y v)) × (y ≤ v + 1) × (v ≤ y + 1)
 around_sides connect width x y u v one other (inl e) =
     let p : ((y * width + x) / width ≡ y) × ((y * width + x) % width ≡ x) = row_place width x y one in
     let q : ((v * width + u) / width ≡ v) × ((v * width + u) % width ≡ u) = row_place width u v other in
@@ -61,7 +61,7 @@ around_sides connect width x y u v one other (inl e) =
 around_sides connect width x y u v one other (inr n) = linked_sides connect x y u v (sym (neighbours_linked connect width x y u v one other) ∙ n)
 
 around_from_sides : (connect : Connect) (width x y u v : ℕ) → x < width → u < width
-    → x ≤ u + reach connect (distance y v) → u ≤ x + reach connect (distance y v) → y ≤ v + 1 → v ≤ y + 1 → IsAround connect width (y * width + x) (v * width + u)
+    → x ≤ u + columns_beside connect (distance y v) → u ≤ x + columns_beside connect (distance y v) → y ≤ v + 1 → v ≤ y + 1 → IsAround connect width (y * width + x) (v * width + u)
 around_from_sides connect width x y u v one other a b c d = go (cases_eq x u) (cases_eq y v)
   where
     linked : (x ≡ u → y ≡ v → ⊥) → IsAround connect width (y * width + x) (v * width + u)
@@ -146,7 +146,7 @@ part_of_row width x side v low high l h = record {
     go (inl k) = inl (omega (arith, h))
     go (inr k) = inr (omega (arith, h))
 
-pub part_around : (connect : Connect) (width x y v first end q : ℕ) → x < width → y ≤ v + 1 → v ≤ y + 1 → IsPartOfRow width x (reach connect (distance y v)) v first end
+pub part_around : (connect : Connect) (width x y v first end q : ℕ) → x < width → y ≤ v + 1 → v ≤ y + 1 → IsPartOfRow width x (columns_beside connect (distance y v)) v first end
     → first ≤ q → q < end → IsAround connect width (y * width + x) q
 part_around connect width x y v first end q inside low high part a b =
     subst (IsAround connect width (y * width + x)) here
@@ -158,17 +158,17 @@ part_around connect width x y v first end q inside low high part a b =
     here : v * width + (q - v * width) ≡ q
     here = omega (arith, l)
 
-pub around_part : (connect : Connect) (width x y v first end q : ℕ) → x < width → IsPartOfRow width x (reach connect (distance y v)) v first end
+pub around_part : (connect : Connect) (width x y v first end q : ℕ) → x < width → IsPartOfRow width x (columns_beside connect (distance y v)) v first end
     → v * width ≤ q → q < (v + 1) * width → IsAround connect width (y * width + x) q → (first ≤ q) × (q < end)
 around_part connect width x y v first end q inside part low high a =
     let next : (v + 1) * width ≡ v * width + width = omega arith in
     let here : v * width + (q - v * width) ≡ q = omega arith in
     let in_row : q - v * width < width = omega arith in
-    let sides : (x ≤ q - v * width + reach connect (distance y v)) × (q - v * width ≤ x + reach connect (distance y v)) × (y ≤ v + 1) × (v ≤ y + 1) =
+    let sides : (x ≤ q - v * width + columns_beside connect (distance y v)) × (q - v * width ≤ x + columns_beside connect (distance y v)) × (y ≤ v + 1) × (v ≤ y + 1) =
     around_sides connect width x y (q - v * width) v inside in_row (subst (IsAround connect width (y * width + x)) (sym here) a) in
     (omega (arith, part.first_is, sides.0), go part.end_low sides.1)
   where
-    go : (end ≡ v * width + (x + reach connect (distance y v) + 1)) ⊎ (end ≡ v * width + width) → q - v * width ≤ x + reach connect (distance y v) → q < end
+    go : (end ≡ v * width + (x + columns_beside connect (distance y v) + 1)) ⊎ (end ≡ v * width + width) → q - v * width ≤ x + columns_beside connect (distance y v) → q < end
     go (inl e) s = omega (arith, low)
     go (inr e) s = let next : (v + 1) * width ≡ v * width + width = omega arith in omega arith
 

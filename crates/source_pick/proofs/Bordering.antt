@@ -1,6 +1,7 @@
 -- What lies below a node: a path from below enters its component over a border, and the greatest value on the border is the parent's level.
 use Rattle.std.proofs.Common.{◌≡◌, ℕ, ◌<◌, true, length, refl, sym, ◌∙◌, ◌⊎◌, inl, inr}
 use Rattle.std.specs.Prelude.{IsTrue, ℤ, int_le, int_lt}
+use Rattle.lemmas.proofs.Exported.{cases_int, int_le_from_lt, int_lt_le}
 use Rattle.comp_tree.specs.declared.shape.Connect.{Connect}
 use Rattle.comp_tree.specs.Raster.{Raster, IsPlane, is_defined, level, is_at_least}
 use Rattle.comp_tree.specs.ComponentTree.{no_node}
@@ -8,8 +9,7 @@ use Rattle.comp_tree.specs.Grid.{IsAdjacency}
 use Rattle.comp_tree.specs.Joined.{IsPairOf}
 use Rattle.comp_tree.specs.Components.{IsReached, reaches, nodes, node_of, parent_of}
 use Rattle.comp_tree.specs.Laws.{top_of, parent_of_node}
-use Rattle.comp_tree.proofs.Exported.{one_way, adjacent_ends, joined_pair, along_joined, reaches-is_IsReached, defined_from_at_least, int_le_from_lt, int_lt_le}
-use Rattle.comp_tree.proofs.Exported.{cases_int}
+use Rattle.comp_tree.proofs.Exported.{one_way, adjacent_ends, joined_pair, along_joined, reaches-is_IsReached, defined_from_at_least}
 use Rattle.comp_tree.proofs.Exported.{IsParent, parent-candidate, parent-of_node, below_no_node}
 use Rattle.comp_tree.proofs.Exported as Nodes
 use Rattle.source_pick.proofs.Splits.{parent_cases}

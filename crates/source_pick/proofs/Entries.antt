@@ -3,12 +3,13 @@ use Rattle.std.proofs.Common.{◌≡◌, ℕ, ◌+◌, ◌<◌, ◌≤◌, Bool,
 use Rattle.std.specs.Prelude.{◌≤ℤ◌, ◌<ℤ◌, int_le, int_lt, ◌==◌, Option, Some, None}
 use Rattle.std.proofs.lemmas.Int.{ints}
 use Rattle.std.proofs.lemmas.Bool.{true≢false, eqb-true, and_parts, and_from, or_cases}
+use Rattle.lemmas.proofs.Exported.{IsAmong, among-range, among_from_range, find_none, find_some, int_le-true, int_lt-true}
 use Rattle.comp_tree.specs.declared.shape.Connect.{Connect}
 use Rattle.comp_tree.specs.Raster.{Raster, IsPlane}
 use Rattle.comp_tree.specs.ComponentTree.{no_node}
 use Rattle.comp_tree.specs.Components.{nodes, is_in_node, tree_of}
 use Rattle.comp_tree.specs.Laws.{IsAncestor, top_of, parent_of_node}
-use Rattle.comp_tree.proofs.Exported.{IsAmong, among-range, among_from_range, find_some, find_none, int_le-true, int_lt-true, length-rows, below_no_node, within_from_test, test_from_within, top_inside}
+use Rattle.comp_tree.proofs.Exported.{length-rows, below_no_node, within_from_test, test_from_within, top_inside}
 use Rattle.source_pick.specs.declared.choice.Choice.{Choice}
 use Rattle.source_pick.specs.Sources.{is_large, is_lowest, is_entry, entry_of}
 use Rattle.comp_tree.specs.Nesting.{node_numbers, level_of_node, lies_within}

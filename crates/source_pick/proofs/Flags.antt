@@ -5,6 +5,7 @@ use Rattle.std.specs.List.{range_with_len, flat_map}
 use Rattle.std.proofs.lemmas.Bool.{true≢false, and_right, not_from_true, false_from_ne_true, cases_lt, cases_order}
 use Rattle.std.proofs.lemmas.List.{append-nil, length-set, length-replicate}
 use Rattle.std.proofs.lemmas.Option.{slice_get-get_or, same_Some}
+use Rattle.lemmas.proofs.Exported.{same_bool}
 use Rattle.comp_tree.specs.declared.shape.Shape.{Shape}
 use Rattle.comp_tree.specs.declared.shape.Connect.{Connect}
 use Rattle.comp_tree.specs.declared.tree.NodeRow.{NodeRow}
@@ -12,10 +13,10 @@ use Rattle.comp_tree.specs.Raster.{Raster, IsPlane, pixels}
 use Rattle.comp_tree.specs.ComponentTree.{ComponentTree, parent_in, no_node}
 use Rattle.comp_tree.specs.Components.{nodes, tree_of}
 use Rattle.comp_tree.specs.Laws.{parent_of_node}
-use Rattle.comp_tree.proofs.Exported.{below_no_node, same_bool}
+use Rattle.comp_tree.proofs.Exported.{below_no_node}
 use Rattle.node_sums.specs.declared.entry.Sums.{Sums}
 use Rattle.node_sums.specs.Sums.{sums_of, sums_in, AreTheTrees, ForEachPlaneOf}
-use Rattle.node_sums.proofs.Exported.{get-written}
+use Rattle.node_sums.proofs.Exported.{get-written, rows_are}
 use Rattle.source_pick.specs.declared.choice.Choice.{Choice}
 use Rattle.source_pick.specs.declared.splitting.StrongChildren.{StrongChildren}
 use Rattle.source_pick.specs.declared.splitting.StrongChildren.TheVariants.{Zero, One, Several}
@@ -25,8 +26,8 @@ use Rattle.source_pick.specs.Passes.{entry_number, AreEntries, AreStrong, IsStro
 use Rattle.source_pick.proofs.Entries.{IsEntryOf, entry_of-parts, entry_of-self, entry_of-found, entry_of_child}
 use Rattle.source_pick.proofs.Splits.{AreTwins, other_way, IsSplitNode, split_parts, split_from, split_entry, sibling_parts, sibling_from, ContainsSplit, contains_parts, contains_from}
 use Rattle.source_pick.proofs.Sourcing.{source_from}
-use Rattle.source_pick.proofs.Listing.{sources_at-one, sources_at-none, flat-push, first_below, source_node, sources_apart}
-use Rattle.source_pick.proofs.Readings.{HasTreeAndSums, numbers-length, tree-shape, rows-length, node_inside, filled}
+use Rattle.source_pick.proofs.Listing.{first_below, flat-push, list_is, source_node, sources_apart, sources_at-none, sources_at-one}
+use Rattle.source_pick.proofs.Readings.{HasTreeAndSums, numbers-length, tree-shape, node_inside, filled}
 use Rattle.source_pick.proofs.Strong.{entry_from_number}
 
 -- ---- what the arrays say
@@ -68,7 +69,7 @@ module _ (r : Raster) (connect : Connect) (choice : Choice) (tree : ComponentTre
   node n h = node_inside r connect tree n k.of.tree_is h
 
   row : (n : ℕ) → n < length (nodes r connect) → n < length tree.rows
-  row n h = let l : length tree.rows ≡ length (nodes r connect) = rows-length r connect tree k.of.tree_is in omega arith
+  row n h = let l : length tree.rows ≡ length (nodes r connect) = rows_are r connect tree k.of.tree_is in omega arith
 
   child_of : (n : ℕ) → parent_in tree.rows n ≡ parent_of_node r connect n
   child_of n = ap (λ (t : ComponentTree). parent_in t.rows n) k.of.tree_is
@@ -339,21 +340,17 @@ picked_same choice tree sums i n marks picked s g none h =
     at r connect o (inl a) = absurd (below_no_node r connect n o.plane (node_inside r connect tree n o.tree_is a.below) none)
     at r connect o (inr a) =
         sources_at-none r connect choice i
-        (λ m x. a.no_source m (let l : length tree.rows ≡ length (nodes r connect) = rows-length r connect tree o.tree_is in let y : m < length (nodes r connect) = x.node in omega arith) x.source x.first)
+        (λ m x. a.no_source m (let l : length tree.rows ≡ length (nodes r connect) = rows_are r connect tree o.tree_is in let y : m < length (nodes r connect) = x.node in omega arith) x.source x.first)
 
 pub picked_up_to : (choice : Choice) (tree : ComponentTree) (sums : List Sums) (j k : ℕ) (picked : List ℕ) → ArePicked choice tree sums k picked → j ≡ k → ArePicked choice tree sums j picked
 picked_up_to choice tree sums j k picked h e = subst (λ (n : ℕ). ArePicked choice tree sums n picked) (sym e) h
-
-list-is : (r : Raster) (connect : Connect) (choice : Choice) → sources r connect choice ≡ flat_map (sources_at r connect choice) (range_with_len 0 (length r.values))
-unfolding sources pixels
-list-is r connect choice = refl
 
 pub picked_all : (r : Raster) (connect : Connect) (choice : Choice) (tree : ComponentTree) (sums : List Sums) (count : ℕ) (picked : List ℕ) → ArePicked choice tree sums count picked
     → count ≡ length tree.node_of → HasTreeAndSums r connect tree sums → picked ≡ sources r connect choice
 picked_all r connect choice tree sums count picked h e o =
     h.listed r connect o.tree_is o.sums_are o.plane
     ∙ ap (λ (n : ℕ). flat_map (sources_at r connect choice) (range_with_len 0 n)) (e ∙ numbers-length r connect tree o.tree_is)
-    ∙ sym (list-is r connect choice)
+    ∙ sym (list_is r connect choice)
 
 -- any plane with this tree and these sums
 pub of_same : (r : Raster) (connect : Connect) (tree : ComponentTree) (sums : List Sums) → AreTheTrees tree sums → tree ≡ tree_of r connect → sums ≡ sums_in r connect → HasTreeAndSums r connect tree sums
@@ -373,7 +370,7 @@ picked_disjoint choice tree sums picked t e = record {
   tree_is = t.of_plane.tree_is;
   nodes = λ i s g.
       let a : s < length (nodes t.plane t.of_plane.connect) = source_node t.plane t.of_plane.connect choice i s t.one_each (ap (λ (xs : List ℕ). slice_get xs i) (sym e) ∙ g) in
-      let b : length tree.rows ≡ length (nodes t.plane t.of_plane.connect) = rows-length t.plane t.of_plane.connect tree t.of_plane.tree_is in
+      let b : length tree.rows ≡ length (nodes t.plane t.of_plane.connect) = rows_are t.plane t.of_plane.connect tree t.of_plane.tree_is in
       omega arith;
   disjoint = λ i j m n l f g.
       sources_apart t.plane t.of_plane.connect choice i j m n t.one_each l (ap (λ (xs : List ℕ). slice_get xs i) (sym e) ∙ f) (ap (λ (xs : List ℕ). slice_get xs j) (sym e) ∙ g);

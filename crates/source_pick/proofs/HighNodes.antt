@@ -2,12 +2,13 @@
 use Rattle.std.proofs.Common.{◌≡◌, ℕ, ◌<◌, true, length, subst, arith, ◌⊎◌, inl, inr}
 use Rattle.std.specs.Prelude.{IsTrue, ℤ, ◌≤ℤ◌, int_le}
 use Rattle.std.proofs.lemmas.Int.{ints}
+use Rattle.lemmas.proofs.Exported.{int_le-from}
 use Rattle.comp_tree.specs.declared.shape.Connect.{Connect}
 use Rattle.comp_tree.specs.Raster.{Raster, IsPlane, is_at_least}
 use Rattle.comp_tree.specs.Components.{nodes, tree_of}
 use Rattle.comp_tree.specs.Laws.{top_of}
 use Rattle.comp_tree.specs.Nesting.{level_of_node}
-use Rattle.comp_tree.proofs.Exported.{int_le-from, top-defined}
+use Rattle.comp_tree.proofs.Exported.{top-defined}
 use Rattle.comp_tree.proofs.Exported as Nodes
 use Rattle.node_sums.proofs.Exported.{level-of_node}
 use Rattle.source_pick.specs.declared.choice.Choice.{Choice}

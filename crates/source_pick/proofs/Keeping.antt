@@ -5,12 +5,13 @@ use Rattle.std.specs.List.{range_with_len, list_any}
 use Rattle.std.proofs.lemmas.Bool.{true≢false, or_left, or_right}
 use Rattle.std.proofs.lemmas.List.{length-map}
 use Rattle.std.proofs.lemmas.List.FromFn.{get_or-map-range_with_len, length-range_with_len}
+use Rattle.lemmas.proofs.Exported.{among-filter, any_from_among}
 use Rattle.comp_tree.specs.declared.shape.Connect.{Connect}
 use Rattle.comp_tree.specs.Raster.{Raster, IsPlane, pixels, value_at, at_least, is_at_least}
 use Rattle.comp_tree.specs.Grid.{are_neighbours}
-use Rattle.comp_tree.proofs.Exported.{are_neighbours_comm, among-filter, any_from_among, among_from_defined, defined_from_at_least, below_from_defined}
+use Rattle.comp_tree.proofs.Exported.{are_neighbours_comm, among_from_defined, defined_from_at_least, below_from_defined}
 use Rattle.source_pick.specs.declared.choice.Choice.{Choice}
-use Rattle.source_pick.specs.Locality.{HaveSameSources, IsHighInEither, IsNearHigh, AgreeNearHigh, is_beside_high, is_near_high, kept, KeptIsAPlane, KeptHasTheSameSources}
+use Rattle.source_pick.specs.Locality.{HaveSameSources, IsHighInEither, IsNearHighOfEither, AgreeNearHigh, is_beside_high, is_near_high, kept, KeptIsAPlane, KeptHasTheSameSources}
 use Rattle.source_pick.proofs.Local.{sources_are_local}
 
 pub length-kept : (r : Raster) (connect : Connect) (h : ℤ) → length (kept r connect h).values ≡ length r.values
@@ -61,7 +62,7 @@ pub near_from_own : (r : Raster) (connect : Connect) (h : ℤ) (p : ℕ) → IsT
 unfolding is_near_high
 near_from_own r connect h p k = or_left (is_at_least r h p) (is_beside_high r connect h p) k
 
-near_from : (r : Raster) (connect : Connect) (h : ℤ) (p : ℕ) → IsNearHigh r (kept r connect h) connect h p → IsTrue (is_near_high r connect h p)
+near_from : (r : Raster) (connect : Connect) (h : ℤ) (p : ℕ) → IsNearHighOfEither r (kept r connect h) connect h p → IsTrue (is_near_high r connect h p)
 near_from r connect h p (inl k) = near_from_own r connect h p (high_in_either r connect h p k)
 near_from r connect h p (inr (q, k, n)) = near_from_neighbour r connect h p q (high_in_either r connect h q k) n
 

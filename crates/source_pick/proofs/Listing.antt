@@ -6,18 +6,18 @@ use Rattle.std.proofs.lemmas.Bool.{eqb-true, eq-eqb, and_parts, and_from, false_
 use Rattle.std.proofs.lemmas.List.{append-nil}
 use Rattle.std.proofs.lemmas.List.Concat.{flat_map-append}
 use Rattle.std.proofs.lemmas.Option.{slice_get-get_or, same_Some}
+use Rattle.lemmas.proofs.Exported.{IsAmong, among-filter, among_from_filter, contains_from_among}
 use Rattle.comp_tree.specs.declared.shape.Connect.{Connect}
 use Rattle.comp_tree.specs.Raster.{Raster, IsPlane, pixels}
 use Rattle.comp_tree.specs.Components.{nodes, is_in_node}
 use Rattle.comp_tree.specs.Laws.{top_of, AreDisjoint}
-use Rattle.comp_tree.proofs.Exported.{IsAmong, among-filter, among_from_filter, among_from_defined, below_from_defined, in_node-defined, top_inside}
+use Rattle.comp_tree.proofs.Exported.{among_from_defined, below_from_defined, in_node-defined, top_inside}
 use Rattle.node_sums.specs.Sums.{least, sums_over, sums_of}
 use Rattle.comp_tree.specs.Nesting.{pixels_of, node_numbers}
-use Rattle.node_sums.proofs.Exported.{range-push}
+use Rattle.node_sums.proofs.Exported.{node_from_among, range-push}
 use Rattle.source_pick.specs.declared.choice.Choice.{Choice}
 use Rattle.source_pick.specs.Sources.{is_source, sources_at, sources}
 use Rattle.source_pick.specs.Laws.{SourcesAreListed, SourcesAreInOrder}
-use Rattle.source_pick.proofs.Splits.{node_from_among}
 use Rattle.source_pick.proofs.Sourcing.{sources_that_share, sources_are_disjoint}
 
 -- ---- the least pixel of a node
@@ -230,20 +230,12 @@ are_listed r connect choice (suc count) plane =
         k : IsSourceAt r connect choice count x
         k = among_sources_at r connect choice count x (subst (λ (zs : List ℕ). IsAmong x zs) (sym u) (inl refl))
 
-list_is : (r : Raster) (connect : Connect) (choice : Choice) → sources r connect choice ≡ flat_map (sources_at r connect choice) (range_with_len 0 (length r.values))
+pub list_is : (r : Raster) (connect : Connect) (choice : Choice) → sources r connect choice ≡ flat_map (sources_at r connect choice) (range_with_len 0 (length r.values))
 unfolding sources pixels
 list_is r connect choice = refl
 
 sources_listed : (r : Raster) (connect : Connect) (choice : Choice) → IsPlane r → AreListed r connect choice (length r.values) (sources r connect choice)
 sources_listed r connect choice plane = subst (AreListed r connect choice (length r.values)) (sym (list_is r connect choice)) (are_listed r connect choice (length r.values) plane)
-
-contains_from_among : (xs : List ℕ) (n : ℕ) → IsAmong n xs → Contains xs n
-contains_from_among [] n h = absurd h
-contains_from_among (x ∷ xs) n (inl e) = (0, omega arith, e)
-contains_from_among (x ∷ xs) n (inr h) = go (contains_from_among xs n h)
-  where
-    go : Contains xs n → Contains (x ∷ xs) n
-    go (k, l, e) = (suc k, omega arith, e)
 
 pub sources_are_listed : SourcesAreListed
 sources_are_listed r connect choice n plane = (there, back)
@@ -254,7 +246,7 @@ sources_are_listed r connect choice n plane = (there, back)
         (m.node, m.source)
 
     back : (n < length (nodes r connect)) × IsTrue (is_source r connect choice n) → Contains (sources r connect choice) n
-    back k = contains_from_among (sources r connect choice) n
+    back k = contains_from_among n (sources r connect choice)
         ((sources_listed r connect choice plane).all n (record { node = k.0; source = k.1; first = first_below r connect n plane k.0 }))
 
 pub sources_are_in_order : SourcesAreInOrder

@@ -3,14 +3,15 @@ use Rattle.std.proofs.Common.{◌≡◌, ℕ, ◌<◌, true, map, refl, sym, ◌
 use Rattle.std.specs.Prelude.{IsTrue, ℤ, pos, ◌+ℤ◌, Option, unwrap_or, ◌↔◌}
 use Rattle.std.specs.List.{enumerate_from, position_from}
 use Rattle.std.proofs.lemmas.Int.{ints}
+use Rattle.lemmas.proofs.Exported.{ArePaired, HasPartnerIn, IsAmong, paired_enumerated, paired_from_rising, paired_map, paired_position}
 use Rattle.comp_tree.specs.declared.shape.Connect.{Connect}
 use Rattle.comp_tree.specs.Raster.{Raster, IsPlane, at_least, pixels, is_at_least}
 use Rattle.comp_tree.specs.Components.{node_of, is_in_node}
 use Rattle.comp_tree.specs.Laws.{IsNode, top_of}
 use Rattle.comp_tree.specs.Windows.{Window}
-use Rattle.comp_tree.proofs.Exported.{AlikeAbove, AlikeAlong, AreCounterparts, ArePaired, HasPartnerIn, InPlace, IsAmong, IsAt, turned, above_pixels}
+use Rattle.comp_tree.proofs.Exported.{AlikeAbove, AlikeAlong, AreCounterparts, InPlace, IsAt, turned, above_pixels}
 use Rattle.comp_tree.proofs.Exported.{along_counterpart}
-use Rattle.comp_tree.proofs.Exported.{along_sym, counterpart_in_place, counterpart_test, paired_enumerated, paired_from_rising, paired_map, paired_position}
+use Rattle.comp_tree.proofs.Exported.{along_sym, counterpart_in_place, counterpart_test}
 use Rattle.comp_tree.proofs.Exported.{below_from_defined, defined_from_at_least}
 use Rattle.node_sums.specs.Sums.{sums_of}
 use Rattle.node_sums.proofs.Exported.{y_small}

@@ -7,18 +7,20 @@ use Rattle.std.proofs.lemmas.List.{length-set, length-map, get_or-set_same, get_
 use Rattle.std.proofs.lemmas.List.FromFn.{fill_by_all, length-range_with_len, get_or-map-range_with_len}
 use Rattle.std.proofs.lemmas.Map.Steps.{length-le_from_distinct_below}
 use Rattle.std.proofs.lemmas.Option.{slice_get_within, same_Some}
+use Rattle.lemmas.proofs.Exported.{same_bool}
 use Rattle.comp_tree.specs.declared.shape.Connect.{Connect}
 use Rattle.comp_tree.specs.Raster.{Raster, IsPlane, pixels, is_defined}
 use Rattle.comp_tree.specs.ComponentTree.{ComponentTree, parent_in, no_node}
 use Rattle.comp_tree.specs.Components.{nodes, node_of, is_in_node, tree_of}
 use Rattle.comp_tree.specs.Laws.{top_of, parent_of_node}
-use Rattle.comp_tree.proofs.Exported.{top-defined, top-representative, below_no_node, pixels_belong_to_their_ancestors, length-nodes-le, read-node_of, in_node-defined, top_inside, same_bool}
+use Rattle.comp_tree.proofs.Exported.{top-defined, top-representative, below_no_node, pixels_belong_to_their_ancestors, length-nodes-le, read-node_of, in_node-defined, top_inside}
 use Rattle.comp_tree.proofs.Exported as Nodes
 use Rattle.source_pick.specs.Segmentation.{source_number_at, segmentation_of, AreDisjointNodes}
 use Rattle.source_pick.specs.Passes.{IsOnWay, AreMarked, AreNumbered}
 use Rattle.source_pick.proofs.Within.{within_from_way, way_from_shared, HasParent, way_up, way_of_child}
 use Rattle.source_pick.proofs.Entries.{node_from_row, row_from_node}
-use Rattle.source_pick.proofs.Readings.{numbers-length, rows-length, node_inside, filled}
+use Rattle.source_pick.proofs.Readings.{numbers-length, node_inside, filled}
+use Rattle.node_sums.proofs.Exported.{rows_are}
 
 -- ---- the place of the first number that passes
 
@@ -116,7 +118,7 @@ few_marked tree marked d =
 
 pub few_rows : (tree : ComponentTree) (marked : List ℕ) → AreDisjointNodes tree marked → length tree.rows ≤ 2 ^ 24
 few_rows tree marked d =
-    let a : length tree.rows ≡ length (nodes d.plane d.connect) = rows-length d.plane d.connect tree d.tree_is in
+    let a : length tree.rows ≡ length (nodes d.plane d.connect) = rows_are d.plane d.connect tree d.tree_is in
     let b : length (nodes d.plane d.connect) ≤ length d.plane.values = length-nodes-le d.plane d.connect in
     let e : length d.plane.values ≡ d.plane.shape.width * d.plane.shape.height = d.one_each in
     let f : d.plane.shape.width * d.plane.shape.height ≤ 2 ^ 24 = d.plane.shape.within_limits.few_pixels in
@@ -222,7 +224,7 @@ module _ (r : Raster) (connect : Connect) (tree : ComponentTree) (marked : List 
 
       go : (b : Bool) → is_defined r p ≡ b → (n < length tree.rows) × (source_number_at r connect marked (top_of r connect n) ≡ source_number_at r connect marked p)
       go false u = absurd (some (is ∙ undefined_none p u))
-      go true u = (let l : length tree.rows ≡ length (nodes r connect) = rows-length r connect tree same in omega (arith, hn), number-same (top_of r connect n) p each)
+      go true u = (let l : length tree.rows ≡ length (nodes r connect) = rows_are r connect tree same in omega (arith, hn), number-same (top_of r connect n) p each)
         where
           hn : n < length (nodes r connect)
           hn = subst (λ (x : ℕ). x < length (nodes r connect)) (sym is) (Nodes.node_of-is r connect p u).below

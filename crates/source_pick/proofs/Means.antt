@@ -11,7 +11,7 @@ use Rattle.std.proofs.Math.Nat.{mul_comm, mul_assoc, mul-le-mul_left, div-lt_iff
 use Rattle.std.proofs.Math.IntN.{*ℤ_comm, *ℤ-zero, suc_ℤ-*ℤ, pos-*ℤ-pos}
 use mir.Syntax.{w64, w128}
 use mir.Val.{SFits, of_z, to_z}
-use Rattle.comp_tree.proofs.Exported.{IsAmong, int_eq-true, int_eq-from}
+use Rattle.lemmas.proofs.Exported.{IsAmong, int_eq-from, int_eq-true, times_suc}
 use Rattle.node_sums.specs.Sums.{total, least, greatest}
 use Rattle.node_sums.specs.Sizes.{IsUpTo}
 use Rattle.node_sums.proofs.Exported.{up_to-times, up_to-minus, up_to_more, fits}
@@ -19,12 +19,6 @@ use Rattle.source_pick.specs.Catalogue.{floor_of, centre_of, spread_of}
 use Rattle.source_pick.specs.Numbers.{IsMoment, IsMean, IsSpread}
 
 -- ---- products with natural numbers
-
-pub times_suc : (b : ℤ) (n : ℕ) → b *ℤ pos (suc n) ≡ b +ℤ b *ℤ pos n
-times_suc b n =
-    let e : b *ℤ pos (suc n) ≡ pos n *ℤ b +ℤ b = *ℤ_comm b (pos (suc n)) ∙ suc_ℤ-*ℤ (pos n) b in
-    let f : pos n *ℤ b ≡ b *ℤ pos n = *ℤ_comm (pos n) b in
-    omega (arith, ints)
 
 pub plus_times : (a b : ℤ) (n : ℕ) → (a +ℤ b) *ℤ pos n ≡ a *ℤ pos n +ℤ b *ℤ pos n
 plus_times a b zero =

@@ -7,12 +7,11 @@ use Rattle.std.proofs.lemmas.Int.{ints}
 use Rattle.std.proofs.lemmas.Bool.{true≢false}
 use Rattle.std.proofs.lemmas.List.Sums.{sum_by-cons}
 use Rattle.std.proofs.Math.IntN.{*ℤ-zero, pos-*ℤ-pos}
-use Rattle.comp_tree.proofs.Exported.{ArePaired, at_end, at_more, int_eq-from}
+use Rattle.lemmas.proofs.Exported.{ArePaired, at_end, at_more, floor-moved, int_eq-from, times-sum, times_suc}
 use Rattle.node_sums.specs.Sums.{total, least, greatest}
 use Rattle.source_pick.specs.Catalogue.{floor_of, centre_of, spread_of}
-use Rattle.source_pick.proofs.Means.{plus_times, minus_times, times_plus, times_suc}
+use Rattle.source_pick.proofs.Means.{plus_times, minus_times, times_plus}
 use Rattle.source_pick.proofs.AlongSums.{length_paired}
-use Rattle.node_sums.proofs.Exported.{times-sum, floor-moved}
 
 -- ---- sums
 

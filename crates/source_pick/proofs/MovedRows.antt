@@ -1,21 +1,22 @@
 -- Counterparts whose pixels stand at places that differ by a window's corner have rows that differ by it.
 use Rattle.std.proofs.Common.{◌≡◌, ℕ, ◌+◌, ◌-◌, ◌*◌, ◌/◌, ◌%◌, ◌^◌, ◌<◌, ◌≤◌, List, [], ◌∷◌, length, refl, sym, ◌∙◌, ap, subst, arith}
 use Rattle.std.specs.Prelude.{ℤ, pos, ◌+ℤ◌, ◌-ℤ◌, ◌*ℤ◌, ◌≤ℤ◌}
+use Rattle.lemmas.proofs.Exported.{ArePaired, IsAmong, not_empty}
 use Rattle.comp_tree.specs.declared.shape.Connect.{Connect}
 use Rattle.comp_tree.specs.Raster.{Raster, IsPlane, level}
 use Rattle.comp_tree.specs.Components.{tree_of}
 use Rattle.comp_tree.specs.Laws.{top_of}
 use Rattle.comp_tree.specs.Nesting.{pixels_of, level_of_node}
 use Rattle.comp_tree.specs.Windows.{Window}
-use Rattle.comp_tree.proofs.Exported.{IsAmong, among_pixels, top_inside, AlikeAlong, AreCounterparts, ArePaired, along_level, IsAt}
+use Rattle.comp_tree.proofs.Exported.{among_pixels, top_inside, AlikeAlong, AreCounterparts, along_level, IsAt}
 use Rattle.node_sums.specs.declared.entry.Sums.{Sums}
 use Rattle.node_sums.specs.Sums.{x_of, y_of, total, sums_over, sums_of}
 use Rattle.node_sums.specs.Flux.{base_of, flux_of}
-use Rattle.node_sums.proofs.Exported.{sums-flux, never_negative, x_small}
+use Rattle.node_sums.proofs.Exported.{never_negative, sums-area, sums-flux, x_small}
 use Rattle.source_pick.specs.Catalogue.{centre_of, spread_of, measured_row, catalogue_row}
 use Rattle.source_pick.specs.Windows.{moved_row}
 use Rattle.source_pick.proofs.Rows.{same_row}
-use Rattle.source_pick.proofs.AlongSums.{sums-area, total_paired, length_paired, highest_paired, along_pixels, along_node_level, along_base, along_flux}
+use Rattle.source_pick.proofs.AlongSums.{total_paired, length_paired, highest_paired, along_pixels, along_node_level, along_base, along_flux}
 use Rattle.source_pick.proofs.AlongSums.{along_first}
 use Rattle.source_pick.proofs.Moved.{sum_moved, products_moved, least_moved, greatest_moved, total_moved, spread_moved, centre_moved, moment_moved}
 
@@ -78,11 +79,6 @@ row_moved number level base flux wide w narrow s t m place e low some =
     (spread_from t.area s.area t.xy s.xy t.x s.x t.y s.y w.left w.top m.area m.xy m.x m.y)
 
 -- ---- the sums of counterparts
-
--- a list with a member is not empty
-not_empty : (ps : List ℕ) (x : ℕ) → IsAmong x ps → 0 < length ps
-not_empty [] x h = absurd h
-not_empty (y ∷ ys) x h = omega arith
 
 -- the pairs stand at places that differ by the window's corner, in planes where columns and rows are small
 pub record StandApart (r s : Raster) (w : Window) (R : ℕ → ℕ → Type 0) : Type 0 where

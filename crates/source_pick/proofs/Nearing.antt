@@ -5,13 +5,14 @@ use Rattle.std.specs.List.{range_with_len, list_any}
 use Rattle.std.proofs.lemmas.Bool.{true≢false, or_cases, cases_eq, cases_lt}
 use Rattle.std.proofs.lemmas.List.{length-map, length-set, get_or-set_same, get_or-set_other, get_or-replicate, get_or_past, length-replicate, ext_get_or}
 use Rattle.std.proofs.lemmas.List.FromFn.{get_or-map-range_with_len, length-range_with_len}
+use Rattle.lemmas.proofs.Exported.{IsAmong, IsWitness, among_from_filter, among_from_range, same_bool, witness_from_any}
 use Rattle.comp_tree.specs.declared.shape.Connect.{Connect}
 use Rattle.comp_tree.specs.declared.shape.Shape.{Shape}
 use Rattle.comp_tree.specs.Raster.{Raster, IsPlane, pixels, value_at, is_defined, is_at_least}
 use Rattle.comp_tree.specs.Grid.{distance, are_neighbours}
-use Rattle.comp_tree.proofs.Exported.{are_neighbours_comm, IsAmong, among_from_filter, among_from_range, IsWitness, witness_from_any, defined_from_at_least, below_from_defined, same_bool}
+use Rattle.comp_tree.proofs.Exported.{are_neighbours_comm, defined_from_at_least, below_from_defined}
 use Rattle.source_pick.specs.Locality.{is_beside_high, is_near_high, kept}
-use Rattle.source_pick.specs.Clearing.{HasNoneBelow, IsAround, reach, AreSetBetween, AreSetAround, AreMarkedNear, without_unmarked, IsClearedUpTo}
+use Rattle.source_pick.specs.Clearing.{HasNoneBelow, IsAround, columns_beside, AreSetBetween, AreSetAround, AreMarkedNear, without_unmarked, IsClearedUpTo}
 use Rattle.source_pick.proofs.Keeping.{near_from_own, near_from_neighbour}
 use Rattle.source_pick.proofs.Around.{first_row, last_row, IsPartOfRow, part_around, around_part, around_after, around_before}
 
@@ -86,7 +87,7 @@ around_none connect width x y start first old inside e = record {
 }
 
 pub around_more : (connect : Connect) (width x y start v first end : ℕ) (old before after : List Bool) → x < width → y ≤ v + 1 → v ≤ y + 1
-    → IsPartOfRow width x (reach connect (distance y v)) v first end → AreSetAround connect width (y * width + x) start (v * width) old before
+    → IsPartOfRow width x (columns_beside connect (distance y v)) v first end → AreSetAround connect width (y * width + x) start (v * width) old before
     → AreSetBetween start first end end before after → AreSetAround connect width (y * width + x) start ((v + 1) * width) old after
 around_more connect width x y start v first end old before after inside low high part s b = record {
   one_each = b.one_each ∙ s.one_each;
@@ -226,42 +227,6 @@ blank_part count marks part start e each k = go (cases_lt k (length part))
     go (inr l) = get_or_past part k false l
 
 -- ---- the plane without the others
-
-pub cleared_none : (r : Raster) (marks : List Bool) → IsClearedUpTo r marks 0 r
-cleared_none r marks = record { same_shape = refl; one_each = refl; done = λ p l. absurd (omega arith); rest = λ p l. refl }
-
-pub cleared_skip : (r plane : Raster) (marks : List Bool) (p : ℕ) → IsClearedUpTo r marks p plane → slice_index_or marks p false ≡ true → IsClearedUpTo r marks (p + 1) plane
-cleared_skip r plane marks p h k = record {
-  same_shape = h.same_shape;
-  one_each = h.one_each;
-  done = λ q l. done q (cases_lt q p) l;
-  rest = λ q l. h.rest q (omega arith);
-}
-  where
-    done : (q : ℕ) → (q < p) ⊎ (p ≤ q) → q < p + 1 → value_at plane.values q ≡ cond (slice_index_or marks q false) (value_at r.values q) None
-    done q (inl l) u = h.done q l
-    done q (inr l) u =
-        let e : q ≡ p = omega arith in
-        h.rest q l ∙ sym (ap (λ (b : Bool). cond b (value_at r.values q) None) (ap (λ (x : ℕ). slice_index_or marks x false) e ∙ k))
-
-pub cleared_more : (r plane : Raster) (marks : List Bool) (p : ℕ) → IsClearedUpTo r marks p plane → p < length r.values → slice_index_or marks p false ≡ false
-    → IsClearedUpTo r marks (p + 1) (record plane { values = slice_set plane.values p None })
-cleared_more r plane marks p h inside k = record {
-  same_shape = h.same_shape;
-  one_each = length-set plane.values p None ∙ h.one_each;
-  done = λ q l. done q (cases_lt q p) l;
-  rest = λ q l. get_or-set_other plane.values p q None None (λ e. absurd (omega arith)) ∙ h.rest q (omega arith);
-}
-  where
-    here : p < length plane.values
-    here = omega (arith, h.one_each, inside)
-
-    done : (q : ℕ) → (q < p) ⊎ (p ≤ q) → q < p + 1 → value_at (slice_set plane.values p None) q ≡ cond (slice_index_or marks q false) (value_at r.values q) None
-    done q (inl l) u = get_or-set_other plane.values p q None None (λ e. absurd (omega arith)) ∙ h.done q l
-    done q (inr l) u =
-        let e : q ≡ p = omega arith in
-        ap (λ (x : ℕ). value_at (slice_set plane.values p None) x) e ∙ get_or-set_same plane.values p None None here
-        ∙ sym (ap (λ (b : Bool). cond b (value_at r.values q) None) (ap (λ (x : ℕ). slice_index_or marks x false) e ∙ k))
 
 pub cleared_all : (r plane : Raster) (marks : List Bool) (count : ℕ) → IsClearedUpTo r marks count plane → length r.values ≤ count → plane ≡ without_unmarked r marks
 unfolding without_unmarked pixels

@@ -20,7 +20,7 @@ use Rattle.comp_tree.proofs.Exported.{length-rows, length-pixels}
 use Rattle.node_sums.specs.declared.entry.Sums.{Sums}
 use Rattle.node_sums.specs.Sums.{sums_of, sums_in, AreTheTrees}
 use Rattle.comp_tree.specs.Nesting.{level_in, level_of_node}
-use Rattle.node_sums.proofs.Exported.{row-parent, row_level}
+use Rattle.node_sums.proofs.Exported.{numbers_for_pixels, row-parent, row_level, rows_are}
 
 -- ---- the plane
 
@@ -34,12 +34,8 @@ pub record HasTreeAndSums (r : Raster) (connect : Connect) (tree : ComponentTree
 pub of_trees : (tree : ComponentTree) (sums : List Sums) → (t : AreTheTrees tree sums) → HasTreeAndSums t.plane t.of_plane.connect tree sums
 of_trees tree sums t = record { plane = t.one_each; tree_is = t.of_plane.tree_is; sums_are = t.of_plane.sums_are }
 
-length-numbers : (r : Raster) (connect : Connect) → length (tree_of r connect).node_of ≡ length r.values
-unfolding tree_of
-length-numbers r connect = length-map (pixels r) (node_of r connect) ∙ length-pixels r
-
 pub numbers-length : (r : Raster) (connect : Connect) (tree : ComponentTree) → tree ≡ tree_of r connect → length tree.node_of ≡ length r.values
-numbers-length r connect tree e = ap (λ (t : ComponentTree). length t.node_of) e ∙ length-numbers r connect
+numbers-length r connect tree e = numbers_for_pixels r tree (connect, e)
 
 shape-is : (r : Raster) (connect : Connect) → (tree_of r connect).shape ≡ r.shape
 unfolding tree_of
@@ -55,11 +51,8 @@ plane_from_tree r connect tree e w =
 
 -- ---- rows
 
-pub rows-length : (r : Raster) (connect : Connect) (tree : ComponentTree) → tree ≡ tree_of r connect → length tree.rows ≡ length (nodes r connect)
-rows-length r connect tree e = ap (λ (t : ComponentTree). length t.rows) e ∙ length-rows r connect
-
 pub node_inside : (r : Raster) (connect : Connect) (tree : ComponentTree) (n : ℕ) → tree ≡ tree_of r connect → n < length tree.rows → n < length (nodes r connect)
-node_inside r connect tree n e h = let l : length tree.rows ≡ length (nodes r connect) = rows-length r connect tree e in omega arith
+node_inside r connect tree n e h = let l : length tree.rows ≡ length (nodes r connect) = rows_are r connect tree e in omega arith
 
 pub level-read : (r : Raster) (connect : Connect) (tree : ComponentTree) (rows : List NodeRow) (n : ℕ) (d : NodeRow) → tree ≡ tree_of r connect → rows ≡ tree.rows
     → n < length tree.rows → (slice_index_or rows n d).level ≡ level_of_node r connect n
@@ -83,7 +76,7 @@ sums-length r connect tree sums o =
 pub sums_inside : (r : Raster) (connect : Connect) (tree : ComponentTree) (sums : List Sums) (n : ℕ) → HasTreeAndSums r connect tree sums → n < length tree.rows → n < length sums
 sums_inside r connect tree sums n o h =
     let a : length sums ≡ length (nodes r connect) = sums-length r connect tree sums o in
-    let b : length tree.rows ≡ length (nodes r connect) = rows-length r connect tree o.tree_is in
+    let b : length tree.rows ≡ length (nodes r connect) = rows_are r connect tree o.tree_is in
     omega arith
 
 pub sums-read : (r : Raster) (connect : Connect) (tree : ComponentTree) (sums : List Sums) (n : ℕ) (d : Sums) → HasTreeAndSums r connect tree sums → n < length tree.rows

@@ -5,11 +5,12 @@ use Rattle.std.proofs.lemmas.Int.{ints, to_z-of_z}
 use Rattle.std.proofs.lemmas.Nat.{mod_below}
 use mir.Syntax.{w64, w128}
 use mir.Val.{SFits, of_z, to_z}
+use Rattle.lemmas.proofs.Exported.{IsAmong, among-filter, among_from_filter, not_empty}
 use Rattle.comp_tree.specs.declared.shape.Connect.{Connect}
 use Rattle.comp_tree.specs.Raster.{Raster, IsPlane, HasValuesInRange, pixels, level}
 use Rattle.comp_tree.specs.Components.{nodes, is_in_node, tree_of}
 use Rattle.comp_tree.specs.Laws.{top_of}
-use Rattle.comp_tree.proofs.Exported.{IsAmong, among-filter, among_from_filter, among_from_defined, below_from_defined, in_node-defined, top_inside}
+use Rattle.comp_tree.proofs.Exported.{among_from_defined, below_from_defined, in_node-defined, top_inside}
 use Rattle.node_sums.specs.declared.entry.Sums.{Sums}
 use Rattle.node_sums.specs.Sums.{total, least, greatest, x_of, y_of, sums_over, sums_of}
 use Rattle.comp_tree.specs.Nesting.{pixels_of, level_of_node}
@@ -121,10 +122,6 @@ same_row a b number level base area flux peak xmin xmax ymin ymax xfirst yfirst 
 }
 
 -- ---- a node's numbers
-
-not_empty : (ps : List ℕ) (x : ℕ) → IsAmong x ps → 0 < length ps
-not_empty [] x h = absurd h
-not_empty (y ∷ ys) x h = omega arith
 
 module _ (r : Raster) (connect : Connect) (n : ℕ) (plane : IsPlane r) (range : HasValuesInRange r.values) (hn : n < length (nodes r connect)) where
   node_sizes : HasSizes (sums_of r connect n)

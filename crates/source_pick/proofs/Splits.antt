@@ -4,13 +4,14 @@ use Rattle.std.specs.Prelude.{◌==◌, Option, Some, None}
 use Rattle.std.specs.List.{list_any}
 use Rattle.std.specs.Option.{option_map_or}
 use Rattle.std.proofs.lemmas.Bool.{true≢false, eqb-true, eq-eqb, ne_eqb, and_parts, and_from, not-true, not_from_false, cases_eq}
+use Rattle.lemmas.proofs.Exported.{IsAmong, IsWitness, among-range, among_from_range, any_from_among, witness_from_any}
 use Rattle.comp_tree.specs.declared.shape.Connect.{Connect}
 use Rattle.comp_tree.specs.Raster.{Raster, IsPlane}
 use Rattle.comp_tree.specs.ComponentTree.{no_node}
 use Rattle.comp_tree.specs.Components.{nodes, tree_of}
 use Rattle.comp_tree.specs.Laws.{IsAncestor, parent_of_node}
-use Rattle.comp_tree.proofs.Exported.{IsAmong, among-range, among_from_range, any_from_among, IsWitness, witness_from_any, below_no_node, within_from_test, test_from_within}
-use Rattle.node_sums.proofs.Exported.{goes_down}
+use Rattle.comp_tree.proofs.Exported.{below_no_node, within_from_test, test_from_within}
+use Rattle.node_sums.proofs.Exported.{among_nodes, goes_down, node_from_among}
 use Rattle.source_pick.specs.declared.choice.Choice.{Choice}
 use Rattle.source_pick.specs.Sources.{is_large, entry_of, has_contrast, is_strong, share_entry, are_strong_children, is_split, has_strong_sibling, contains_split}
 use Rattle.comp_tree.specs.Nesting.{node_numbers, lies_within}
@@ -19,12 +20,6 @@ use Rattle.source_pick.proofs.Within.{within_from_way, way_from_within, HasParen
 use Rattle.source_pick.proofs.Entries.{row_from_node, IsEntryOf, entry_of-parts, entry_of-found, entry_of_child}
 
 -- ---- tests over all nodes
-
-pub among_nodes : (r : Raster) (connect : Connect) (n : ℕ) → n < length (nodes r connect) → IsAmong n (node_numbers r connect)
-among_nodes r connect n h = among-range 0 (length (nodes r connect)) n (omega arith) (omega arith)
-
-pub node_from_among : (r : Raster) (connect : Connect) (n : ℕ) → IsAmong n (node_numbers r connect) → n < length (nodes r connect)
-node_from_among r connect n h = let k : (0 ≤ n) × (n < 0 + length (nodes r connect)) = among_from_range 0 (length (nodes r connect)) n h in omega arith
 
 -- a node that passes
 pub record Passing (r : Raster) (connect : Connect) (test : ℕ → Bool) : Type 0 where

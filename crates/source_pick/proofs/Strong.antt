@@ -7,12 +7,13 @@ use Rattle.std.proofs.lemmas.List.{length-set}
 use mir.Syntax.{w64, w128}
 use mir.Val.{SFits, of_z, to_z}
 use lib.Signed.{le_z, lt_z}
+use Rattle.lemmas.proofs.Exported.{int_le-false, int_lt-from_not_le, int_lt-true}
 use Rattle.comp_tree.specs.declared.shape.Connect.{Connect}
 use Rattle.comp_tree.specs.Raster.{Raster, IsPlane}
 use Rattle.comp_tree.specs.ComponentTree.{ComponentTree, no_node}
 use Rattle.comp_tree.specs.Components.{nodes}
 use Rattle.comp_tree.specs.Laws.{parent_of_node}
-use Rattle.comp_tree.proofs.Exported.{int_le-false, int_lt-true, int_lt-from_not_le, below_no_node}
+use Rattle.comp_tree.proofs.Exported.{below_no_node}
 use Rattle.node_sums.specs.declared.entry.Sums.{Sums}
 use Rattle.node_sums.specs.Sums.{sums_of, ForEachPlaneOf}
 use Rattle.node_sums.specs.Flux.{flux_of}

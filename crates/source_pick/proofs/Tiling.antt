@@ -1,16 +1,16 @@
 -- The catalogue of an image, from those of its tiles.
 use Rattle.std.proofs.Common.{◌≡◌, ℕ, ◌<◌, ◌∙◌, arith}
 use Rattle.std.specs.Prelude.{IsTrue, Contains, Some, slice_get, ◌↔◌}
+use Rattle.lemmas.proofs.Exported.{ArePaired, HasPartnerIn, IsAmong, among_get, among_of, paired_enumerated, paired_from_rising}
 use Rattle.comp_tree.specs.declared.shape.Connect.{Connect}
 use Rattle.comp_tree.specs.Raster.{Raster}
 use Rattle.comp_tree.specs.Laws.{IsNode}
-use Rattle.comp_tree.proofs.Exported.{IsAmong, ArePaired, HasPartnerIn, paired_enumerated, paired_from_rising}
 use Rattle.node_sums.specs.Sums.{sums_of}
 use Rattle.source_pick.specs.declared.choice.Choice.{Choice}
 use Rattle.source_pick.specs.Sources.{is_source, sources}
 use Rattle.source_pick.specs.Catalogue.{catalogue_row}
 use Rattle.source_pick.specs.Windows.{moved_row, Tile, IsOwnSource, IsFromTile, first_in_whole, tiles_rows, TilesGiveTheCatalogue}
-use Rattle.source_pick.proofs.Pairing.{among_get, among_of, rising_from_get, source_from_among, among_sources, sources_rise}
+use Rattle.source_pick.proofs.Pairing.{rising_from_get, source_from_among, among_sources, sources_rise}
 use Rattle.source_pick.proofs.Local.{catalogue-is}
 use Rattle.source_pick.proofs.Windowed.{each_source_is_a_tiles, own_sources_are_the_wholes}
 

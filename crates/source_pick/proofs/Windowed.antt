@@ -1,6 +1,7 @@
 -- The law of windows, and the law of tiles.
 use Rattle.std.proofs.Common.{◌≡◌, ℕ, ◌<◌, Bool, true, length, refl, sym, ◌∙◌, subst, inl}
 use Rattle.std.specs.Prelude.{IsTrue, ℤ, Option, Contains}
+use Rattle.lemmas.proofs.Exported.{int_le-from, same_bool}
 use Rattle.comp_tree.specs.declared.shape.Connect.{Connect}
 use Rattle.comp_tree.specs.Raster.{Raster, IsPlane, at_least, is_at_least, level}
 use Rattle.comp_tree.specs.Joined.{here}
@@ -9,8 +10,7 @@ use Rattle.comp_tree.specs.Laws.{top_of}
 use Rattle.comp_tree.specs.Windows.{Window, in_whole, Shows, IsShown, LiesSure, LiesSureIn}
 use Rattle.comp_tree.proofs.Exported.{AlikeAlong, AreCounterparts, AreSurePair, IsReachedThere, IsAt, along_counterpart, along_sym, counterparts_in_node}
 use Rattle.comp_tree.proofs.Exported.{counterparts_sym, pair_at, sure_same, window_along, sure_components_are_seen, in_whole-one, window_whole_below, turned}
-use Rattle.comp_tree.proofs.Exported.{below_from_defined, defined_from_at_least, joined_trans, joined_sym, reaches-is_IsReached, same_bool, top-defined}
-use Rattle.comp_tree.proofs.Exported.{int_le-from}
+use Rattle.comp_tree.proofs.Exported.{below_from_defined, defined_from_at_least, joined_trans, joined_sym, reaches-is_IsReached, top-defined}
 use Rattle.comp_tree.proofs.Exported as Nodes
 use Rattle.node_sums.specs.Sums.{sums_of}
 use Rattle.node_sums.proofs.Exported.{y_small}

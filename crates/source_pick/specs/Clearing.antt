@@ -15,9 +15,9 @@ abbrev pub IsAround : Connect → ℕ → ℕ → ℕ → Type 0
 IsAround connect width p q = (q ≡ p) ⊎ IsTrue (are_neighbours connect width p q)
 
 -- of a row that lies so many rows away, at most one, the pixels up to so many columns to each side are around a pixel
-abbrev pub reach : Connect → ℕ → ℕ
-reach Four rows = 1 - rows
-reach Eight rows = 1
+abbrev pub columns_beside : Connect → ℕ → ℕ
+columns_beside Four rows = 1 - rows
+columns_beside Eight rows = 1
 
 -- In what follows a list of marks has one for each pixel from `start` on.
 

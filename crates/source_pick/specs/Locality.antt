@@ -16,14 +16,14 @@ abbrev pub IsHighInEither : Raster → Raster → ℤ → ℕ → Type 0
 IsHighInEither r s h p = IsTrue (is_at_least r h p) ⊎ IsTrue (is_at_least s h p)
 
 -- pixel p has, or is a neighbour of a pixel that has
-abbrev pub IsNearHigh : Raster → Raster → Connect → ℤ → ℕ → Type 0
-IsNearHigh r s connect h p =
+abbrev pub IsNearHighOfEither : Raster → Raster → Connect → ℤ → ℕ → Type 0
+IsNearHighOfEither r s connect h p =
     IsHighInEither r s h p ⊎ ((q : ℕ) × IsHighInEither r s h q × IsTrue (are_neighbours connect r.shape.width q p))
 
 -- two planes of one shape have the same values at these pixels. So all others are undefined or below h, in each of them
 pub record AgreeNearHigh (r s : Raster) (connect : Connect) (h : ℤ) : Type 0 where
   pub same_shape : r.shape ≡ s.shape
-  pub same : (p : ℕ) → p < length r.values → IsNearHigh r s connect h p → value_at r.values p ≡ value_at s.values p
+  pub same : (p : ℕ) → p < length r.values → IsNearHighOfEither r s connect h p → value_at r.values p ≡ value_at s.values p
 
 -- the sources of two planes have the same least pixels in the same order, the same map and the same catalogue
 pub record HaveSameSources (r s : Raster) (connect : Connect) (choice : Choice) : Type 0 where

@@ -5,7 +5,7 @@ ghost use Rattle.comp_tree.specs.Grid.{distance as distance_of};
 ghost use Rattle.source_pick.specs.Locality.{is_near_high, kept, HaveSameSources};
 ghost use Rattle.source_pick.specs.declared.choice.Choice.{Choice};
 ghost use Rattle.source_pick.specs.Clearing.{
-  reach as reach_of,
+  columns_beside as columns_beside_of,
   HasNoneBelow,
   AreSetBetween,
   AreSetAround,
@@ -34,7 +34,8 @@ pub fn clear_far<R: Threads + Sync>(
     parts: u32,
 ) -> Result<(), OutOfMemory>
     ensures kept { OnOk result (plane.new ≡ kept plane.old connect threshold) }
-    ensures same { OnOk result ((choice : Choice) → choice.threshold ≡ threshold → HaveSameSources plane.old plane.new connect choice) }
+    ensures same { OnOk result ((choice : Choice) → choice.threshold ≡ threshold
+        → HaveSameSources plane.old plane.new connect choice) }
     ensures unchanged { OnErr result (plane.new ≡ plane.old) }
 {
     if !has_below(plane, threshold) {
@@ -68,7 +69,8 @@ fn near_marks<R: Threads + Sync>(
     size: u32,
 ) -> Result<Vec<bool>, OutOfMemory>
     requires { 0 < size }
-    ensures { IfOk result (λ marks. marks.items ≡ map (is_near_high plane.now connect threshold) (pixels plane.now)) }
+    ensures { IfOk result (λ marks.
+        marks.items ≡ map (is_near_high plane.now connect threshold) (pixels plane.now)) }
 {
     let mut marks = no_marks(alloc, plane.shape().pixels() as usize)?;
     mark_bands(rt, plane, connect, threshold, size, &mut marks);
@@ -78,10 +80,8 @@ fn near_marks<R: Threads + Sync>(
 fn no_marks(alloc: Global, count: usize) -> Result<Vec<bool>, OutOfMemory>
     ensures { IfOk result (λ marks. marks.items ≡ replicate count false) }
 {
-    match vec![in alloc; false; count] {
-        Ok(marks) => Ok(marks),
-        Err(_) => Err(OutOfMemory),
-    }
+    let marks = vec![in alloc; false; count]?;
+    Ok(marks)
 }
 
 // Sets the marks in bands of `size` pixels. A band looks at its own pixels and those beside it, and writes its own marks alone.
@@ -105,7 +105,9 @@ fn mark_bands<R: Threads + Sync>(
             requires { (0 < length band.now)
                 × (start + length band.now ≤ length plane.now.values)
                 × ((k : ℕ) → slice_index_or band.now k false ≡ false) }
-            ensures { (k : ℕ) → k < length band.entry.now → slice_index_or band.exit.now k false ≡ is_near_high plane.entry.now connect threshold (start + k) }
+            ensures { (k : ℕ) → k < length band.entry.now
+                → slice_index_or band.exit.now k false
+                ≡ is_near_high plane.entry.now connect threshold (start + k) }
         { mark_band(plane, connect, threshold, start, band) },
     );
 }
@@ -115,7 +117,8 @@ fn mark_band(plane: &Plane, connect: Connect, threshold: i64, start: usize, mark
     requires some { 0 < length marks.old }
     requires inside { start + length marks.old ≤ length plane.now.values }
     requires blank { (k : ℕ) → slice_index_or marks.old k false ≡ false }
-    ensures { (k : ℕ) → k < length marks.old → slice_index_or marks.new k false ≡ is_near_high plane.now connect threshold (start + k) }
+    ensures { (k : ℕ) → k < length marks.old
+        → slice_index_or marks.new k false ≡ is_near_high plane.now connect threshold (start + k) }
 {
     let shape = plane.shape();
     let width = shape.width as usize;
@@ -157,7 +160,7 @@ fn mark_around(shape: Shape, connect: Connect, x: u32, y: u32, start: usize, mar
 {
     let end = (y + 2).min(shape.height);
     for row in y.saturating_sub(1)..end {
-        let side = reach(connect, distance(y, row));
+        let side = columns_beside(connect, distance(y, row));
         let first = row * shape.width + x.saturating_sub(side);
         let end = row * shape.width + (x + side + 1).min(shape.width);
         mark_between(first as usize, end as usize, start, marks);
@@ -173,8 +176,8 @@ fn distance(a: u32, b: u32) -> u32
 }
 
 // How many pixels to each side are neighbours, in a row that lies so far away.
-fn reach(connect: Connect, rows: u32) -> u32
-    ensures exact { result ≡ reach_of connect rows }
+fn columns_beside(connect: Connect, rows: u32) -> u32
+    ensures exact { result ≡ columns_beside_of connect rows }
     ensures near { result ≤ 1 }
 {
     match connect {

@@ -32,7 +32,8 @@ pub(crate) fn entries_of_nodes(
     choice: &Choice,
 ) -> Result<Vec<u32>, OutOfMemory>
     requires { AreTheTrees tree.now sums.now }
-    ensures { IfOk result (λ entries. AreEntries choice.now tree.now sums.now (length tree.now.rows) entries.items) }
+    ensures { IfOk result (λ entries.
+        AreEntries choice.now tree.now sums.now (length tree.now.rows) entries.items) }
 {
     let count = node_count(tree);
     match vec![in alloc; NONE; count as usize] {
@@ -61,7 +62,8 @@ fn entry_of_node(tree: &Tree, sums: &[Sums], choice: &Choice, entries: &[u32], n
     requires node { n < length tree.now.rows }
     requires sums { AreTheTrees tree.now sums.now }
     requires parents { AreEntries choice.now tree.now sums.now n entries.now }
-    ensures { ForEachPlaneOf tree.now sums.now (λ r connect. IsPlane r → result ≡ entry_number r connect choice.now n) }
+    ensures { ForEachPlaneOf tree.now sums.now (λ r connect. IsPlane r
+        → result ≡ entry_number r connect choice.now n) }
 {
     if passes_as_entry(tree, sums, choice, n) {
         return n;
@@ -78,7 +80,8 @@ fn entry_of_node(tree: &Tree, sums: &[Sums], choice: &Choice, entries: &[u32], n
 fn passes_as_entry(tree: &Tree, sums: &[Sums], choice: &Choice, n: u32) -> bool
     requires node { n < length tree.now.rows }
     requires sums { AreTheTrees tree.now sums.now }
-    ensures { ForEachPlaneOf tree.now sums.now (λ r connect. IsPlane r → result ≡ is_entry r connect choice.now n) }
+    ensures { ForEachPlaneOf tree.now sums.now (λ r connect. IsPlane r
+        → result ≡ is_entry r connect choice.now n) }
 {
     if tree.rows()[n as usize].level < choice.threshold {
         return false;
@@ -92,7 +95,8 @@ fn passes_as_entry(tree: &Tree, sums: &[Sums], choice: &Choice, n: u32) -> bool
 // Whether a node is a root, or its parent lies below the threshold.
 fn lies_lowest(tree: &Tree, choice: &Choice, n: u32) -> bool
     requires { n < length tree.now.rows }
-    ensures { (r : Raster) (connect : Connect) → tree.now ≡ tree_of r connect → result ≡ is_lowest r connect choice.now n }
+    ensures { (r : Raster) (connect : Connect) → tree.now ≡ tree_of r connect
+        → result ≡ is_lowest r connect choice.now n }
 {
     // A tree tells with its shape that its numbers are in range.
     let _shape = tree.shape();
@@ -108,7 +112,8 @@ fn lies_lowest(tree: &Tree, choice: &Choice, n: u32) -> bool
 fn has_size(tree: &Tree, sums: &[Sums], choice: &Choice, n: u32) -> bool
     requires node { n < length tree.now.rows }
     requires sums { AreTheTrees tree.now sums.now }
-    ensures { ForEachPlaneOf tree.now sums.now (λ r connect. IsPlane r → result ≡ is_large r connect choice.now n) }
+    ensures { ForEachPlaneOf tree.now sums.now (λ r connect. IsPlane r
+        → result ≡ is_large r connect choice.now n) }
 {
     if sums[n as usize].area < choice.min_area {
         return false;
@@ -126,7 +131,8 @@ pub(crate) fn strong_nodes(
 ) -> Result<Vec<bool>, OutOfMemory>
     requires sums { AreTheTrees tree.now sums.now }
     requires entries { AreEntries choice.now tree.now sums.now (length tree.now.rows) entries.now }
-    ensures { IfOk result (λ strong. AreStrong choice.now tree.now sums.now (length tree.now.rows) strong.items) }
+    ensures { IfOk result (λ strong.
+        AreStrong choice.now tree.now sums.now (length tree.now.rows) strong.items) }
 {
     let count = node_count(tree);
     match vec![in alloc; false; count as usize] {
@@ -154,7 +160,8 @@ fn passes_as_strong(tree: &Tree, sums: &[Sums], choice: &Choice, entries: &[u32]
     requires node { n < length tree.now.rows }
     requires sums { AreTheTrees tree.now sums.now }
     requires entries { AreEntries choice.now tree.now sums.now (length tree.now.rows) entries.now }
-    ensures { ForEachPlaneOf tree.now sums.now (λ r connect. IsPlane r → result ≡ is_strong r connect choice.now n) }
+    ensures { ForEachPlaneOf tree.now sums.now (λ r connect. IsPlane r
+        → result ≡ is_strong r connect choice.now n) }
 {
     let entry = entries[n as usize];
     if entry == NONE {
@@ -171,7 +178,8 @@ fn has_part(tree: &Tree, sums: &[Sums], choice: &Choice, n: u32, entry: u32) -> 
     requires node { n < length tree.now.rows }
     requires entry { entry < length tree.now.rows }
     requires sums { AreTheTrees tree.now sums.now }
-    ensures { ForEachPlaneOf tree.now sums.now (λ r connect. IsPlane r → result ≡ has_contrast r connect choice.now n entry) }
+    ensures { ForEachPlaneOf tree.now sums.now (λ r connect. IsPlane r
+        → result ≡ has_contrast r connect choice.now n entry) }
 {
     let whole = flux(tree, sums, entry) as i128;
     let part = flux(tree, sums, n) as i128;

@@ -35,7 +35,8 @@ pub fn pick(
 ) -> Result<Vec<u32>, OutOfMemory>
     requires sums { AreTheTrees tree.now sums.now }
     requires contrast { choice.now.contrast ≤ 1000 }
-    ensures exact { IfOk result (λ picked. ForEachPlaneOf tree.now sums.now (λ plane connect. picked.items ≡ sources plane connect choice.now)) }
+    ensures exact { IfOk result (λ picked. ForEachPlaneOf tree.now sums.now
+        (λ plane connect. picked.items ≡ sources plane connect choice.now)) }
     ensures disjoint { IfOk result (λ picked. AreDisjointNodes tree.now picked.items) }
 {
     let flags = flags_of_sources(alloc, tree, sums, choice)?;
@@ -51,7 +52,8 @@ fn flags_of_sources(
     choice: &Choice,
 ) -> Result<Vec<bool>, OutOfMemory>
     requires { AreTheTrees tree.now sums.now }
-    ensures { IfOk result (λ flags. AreSources choice.now tree.now sums.now (length tree.now.rows) flags.items) }
+    ensures { IfOk result (λ flags.
+        AreSources choice.now tree.now sums.now (length tree.now.rows) flags.items) }
 {
     let entries = entries_of_nodes(alloc, tree, sums, choice)?;
     let strong = strong_nodes(alloc, tree, sums, choice, &entries)?;
@@ -73,8 +75,10 @@ fn source_flags(
     requires strong { length strong.now ≡ length tree.now.rows }
     requires children { AreStrongChildCounts tree.now.rows entries.now strong.now (length tree.now.rows) children.now }
     requires above { AreAboveSplits tree.now.rows (map are_several children.now) above.now }
-    ensures { IfOk result (λ flags. (choice : Chosen) (sums : List Entry) → AreEntries choice tree.now sums (length tree.now.rows) entries.now
-        → AreStrong choice tree.now sums (length tree.now.rows) strong.now → AreSources choice tree.now sums (length tree.now.rows) flags.items) }
+    ensures { IfOk result (λ flags. (choice : Chosen) (sums : List Entry)
+        → AreEntries choice tree.now sums (length tree.now.rows) entries.now
+        → AreStrong choice tree.now sums (length tree.now.rows) strong.now
+        → AreSources choice tree.now sums (length tree.now.rows) flags.items) }
 {
     match vec![in alloc; false; node_count(tree) as usize] {
         Ok(mut flags) => {
@@ -98,8 +102,10 @@ fn flag_sources(
     requires children { AreStrongChildCounts tree.now.rows entries.now strong.now (length tree.now.rows) children.now }
     requires above { AreAboveSplits tree.now.rows (map are_several children.now) above.now }
     requires flags { length flags.old ≡ length tree.now.rows }
-    ensures { (choice : Chosen) (sums : List Entry) → AreEntries choice tree.now sums (length tree.now.rows) entries.now
-        → AreStrong choice tree.now sums (length tree.now.rows) strong.now → AreSources choice tree.now sums (length tree.now.rows) flags.new }
+    ensures { (choice : Chosen) (sums : List Entry)
+        → AreEntries choice tree.now sums (length tree.now.rows) entries.now
+        → AreStrong choice tree.now sums (length tree.now.rows) strong.now
+        → AreSources choice tree.now sums (length tree.now.rows) flags.new }
 {
     for n in 0..node_count(tree) {
         let is_flagged = passes_as_source(tree, entries, strong, children, above, n);
@@ -120,9 +126,11 @@ fn passes_as_source(
     requires strong { length strong.now ≡ length tree.now.rows }
     requires children { AreStrongChildCounts tree.now.rows entries.now strong.now (length tree.now.rows) children.now }
     requires above { AreAboveSplits tree.now.rows (map are_several children.now) above.now }
-    ensures { (choice : Chosen) (sums : List Entry) → AreEntries choice tree.now sums (length tree.now.rows) entries.now
+    ensures { (choice : Chosen) (sums : List Entry)
+        → AreEntries choice tree.now sums (length tree.now.rows) entries.now
         → AreStrong choice tree.now sums (length tree.now.rows) strong.now
-        → ForEachPlaneOf tree.now sums (λ r connect. IsPlane r → result ≡ is_source r connect choice n) }
+        → ForEachPlaneOf tree.now sums (λ r connect. IsPlane r
+        → result ≡ is_source r connect choice n) }
 {
     if above[n as usize] {
         return false;
@@ -151,7 +159,8 @@ fn first_pixels(
 ) -> Result<Vec<u32>, OutOfMemory>
     requires sums { AreTheTrees tree.now sums.now }
     requires flags { length flags.now ≡ length tree.now.rows }
-    ensures { IfOk result (λ marks. (choice : Chosen) → AreSources choice tree.now sums.now (length tree.now.rows) flags.now
+    ensures { IfOk result (λ marks. (choice : Chosen)
+        → AreSources choice tree.now sums.now (length tree.now.rows) flags.now
         → StandAtFirst choice tree.now sums.now (length tree.now.rows) marks.items) }
 {
     match vec![in alloc; NONE; tree.node_of().len()] {
@@ -180,7 +189,8 @@ fn mark_first_pixels(tree: &Tree, sums: &[Sums], flags: &[bool], marks: &mut [u3
 
 // The nodes that stand at pixels, in the order of these.
 fn marked_nodes(alloc: Global, marks: &[u32]) -> Result<Vec<u32>, OutOfMemory>
-    ensures { IfOk result (λ picked. (choice : Chosen) (tree : ComponentTree) (sums : List Entry) → StandAtFirst choice tree sums (length tree.rows) marks.now
+    ensures { IfOk result (λ picked. (choice : Chosen) (tree : ComponentTree) (sums : List Entry)
+        → StandAtFirst choice tree sums (length tree.rows) marks.now
         → ArePicked choice tree sums (length marks.now) picked.items) }
 {
     let mut picked = Vec::new(alloc);

@@ -16,7 +16,8 @@ use std::thread::Threads;
 /// The one error is that memory was refused.
 pub fn segment(alloc: Global, tree: &Tree, sources: &[u32]) -> Result<Vec<u32>, OutOfMemory>
     requires { AreDisjointNodes tree.now sources.now }
-    ensures exact { IfOk result (λ numbers. (plane : Raster) (connect : Connect) → tree.now ≡ tree_of plane connect
+    ensures exact { IfOk result (λ numbers. (plane : Raster) (connect : Connect)
+        → tree.now ≡ tree_of plane connect
         → numbers.items ≡ segmentation_of plane connect sources.now) }
     ensures one_each { IfOk result (λ numbers. length numbers.items ≡ length tree.now.node_of) }
     ensures few { IfOk result (λ numbers. (p : ℕ) → slice_index numbers.items p ≤ 2 ^ 24) }
@@ -36,7 +37,8 @@ pub fn segment_in_parts<R: Threads + Sync>(
     parts: u32,
 ) -> Result<Vec<u32>, OutOfMemory>
     requires { AreDisjointNodes tree.now sources.now }
-    ensures exact { IfOk result (λ numbers. (plane : Raster) (connect : Connect) → tree.now ≡ tree_of plane connect
+    ensures exact { IfOk result (λ numbers. (plane : Raster) (connect : Connect)
+        → tree.now ≡ tree_of plane connect
         → numbers.items ≡ segmentation_of plane connect sources.now) }
     ensures one_each { IfOk result (λ numbers. length numbers.items ≡ length tree.now.node_of) }
     ensures few { IfOk result (λ numbers. (p : ℕ) → slice_index numbers.items p ≤ 2 ^ 24) }
@@ -50,16 +52,15 @@ pub fn segment_in_parts<R: Threads + Sync>(
 fn zeros(alloc: Global, count: usize) -> Result<Vec<u32>, OutOfMemory>
     ensures { IfOk result (λ numbers. numbers.items ≡ replicate count 0) }
 {
-    match vec![in alloc; 0u32; count] {
-        Ok(numbers) => Ok(numbers),
-        Err(_) => Err(OutOfMemory),
-    }
+    let numbers = vec![in alloc; 0u32; count]?;
+    Ok(numbers)
 }
 
 // For each node the number of the source in which it lies, else 0.
 fn numbers_of_nodes(alloc: Global, tree: &Tree, sources: &[u32]) -> Result<Vec<u32>, OutOfMemory>
     requires { AreDisjointNodes tree.now sources.now }
-    ensures { IfOk result (λ numbers. AreNumbered tree.now sources.now (length tree.now.rows) numbers.items) }
+    ensures { IfOk result (λ numbers.
+        AreNumbered tree.now sources.now (length tree.now.rows) numbers.items) }
 {
     let mut numbers = zeros(alloc, tree.rows().len())?;
     mark_sources(sources, &mut numbers);
@@ -81,7 +82,8 @@ fn mark_sources(sources: &[u32], numbers: &mut [u32])
 // One pass from the roots: a node that is no source has the number of its parent.
 fn pass_down(tree: &Tree, numbers: &mut [u32])
     requires { length numbers.old ≡ length tree.now.rows }
-    ensures { (marked : List ℕ) → AreDisjointNodes tree.now marked → AreMarked (length tree.now.rows) marked (length marked) numbers.old
+    ensures { (marked : List ℕ) → AreDisjointNodes tree.now marked
+        → AreMarked (length tree.now.rows) marked (length marked) numbers.old
         → AreNumbered tree.now marked (length tree.now.rows) numbers.new }
 {
     // A tree tells with its shape that its numbers are in range.
@@ -100,8 +102,10 @@ fn pass_down(tree: &Tree, numbers: &mut [u32])
 fn number_all(tree: &Tree, numbers: &[u32], map: &mut [u32])
     requires numbers { length numbers.now ≡ length tree.now.rows }
     requires blank { map.old ≡ replicate (length tree.now.node_of) 0 }
-    ensures { (marked : List ℕ) (plane : Raster) (connect : Connect) → AreDisjointNodes tree.now marked
-        → AreNumbered tree.now marked (length tree.now.rows) numbers.now → tree.now ≡ tree_of plane connect → map.new ≡ segmentation_of plane connect marked }
+    ensures { (marked : List ℕ) (plane : Raster) (connect : Connect)
+        → AreDisjointNodes tree.now marked
+        → AreNumbered tree.now marked (length tree.now.rows) numbers.now
+        → tree.now ≡ tree_of plane connect → map.new ≡ segmentation_of plane connect marked }
 {
     number_pixels(tree, numbers, 0, map);
 }
@@ -111,8 +115,10 @@ fn number_bands<R: Threads + Sync>(rt: &R, tree: &Tree, numbers: &[u32], size: u
     requires some { 0 < size }
     requires numbers { length numbers.now ≡ length tree.now.rows }
     requires blank { map.old ≡ replicate (length tree.now.node_of) 0 }
-    ensures { (marked : List ℕ) (plane : Raster) (connect : Connect) → AreDisjointNodes tree.now marked
-        → AreNumbered tree.now marked (length tree.now.rows) numbers.now → tree.now ≡ tree_of plane connect → map.new ≡ segmentation_of plane connect marked }
+    ensures { (marked : List ℕ) (plane : Raster) (connect : Connect)
+        → AreDisjointNodes tree.now marked
+        → AreNumbered tree.now marked (length tree.now.rows) numbers.now
+        → tree.now ≡ tree_of plane connect → map.new ≡ segmentation_of plane connect marked }
 {
     thread::for_each_chunk_mut(
         rt,

@@ -46,7 +46,8 @@ pub(crate) fn strong_children(
 ) -> Result<Vec<StrongChildren>, OutOfMemory>
     requires entries { length entries.now ≡ length tree.now.rows }
     requires strong { length strong.now ≡ length tree.now.rows }
-    ensures { IfOk result (λ children. AreStrongChildCounts tree.now.rows entries.now strong.now (length tree.now.rows) children.items) }
+    ensures { IfOk result (λ children.
+        AreStrongChildCounts tree.now.rows entries.now strong.now (length tree.now.rows) children.items) }
 {
     match vec![in alloc; StrongChildren::Zero; tree.rows().len()] {
         Ok(mut children) => {
@@ -78,7 +79,8 @@ fn inner_parent(tree: &Tree, entries: &[u32], strong: &[bool], n: usize) -> Opti
     requires strong { length strong.now ≡ length tree.now.rows }
     ensures inside { IfSome result (λ m. m < length tree.now.rows) }
     ensures found { IfSome result (λ m. IsStrongChild tree.now.rows entries.now strong.now m n) }
-    ensures none { IfNone result ((m : ℕ) → m < length tree.now.rows → IsStrongChild tree.now.rows entries.now strong.now m n → ⊥) }
+    ensures none { IfNone result ((m : ℕ) → m < length tree.now.rows
+        → IsStrongChild tree.now.rows entries.now strong.now m n → ⊥) }
 {
     if !strong[n] {
         return None;
@@ -102,7 +104,8 @@ pub(crate) fn above_splits(
     children: &[StrongChildren],
 ) -> Result<Vec<bool>, OutOfMemory>
     requires { length children.now ≡ length tree.now.rows }
-    ensures { IfOk result (λ flags. AreAboveSplits tree.now.rows (map are_several children.now) flags.items) }
+    ensures { IfOk result (λ flags.
+        AreAboveSplits tree.now.rows (map are_several children.now) flags.items) }
 {
     match split_flags(alloc, children) {
         Ok(mut flags) => {

@@ -24,13 +24,11 @@ struct Case<'a> {
 // A plane of these values, of which 0 stands for an undefined pixel.
 fn plane_of(alloc: Global, width: u32, height: u32, values: &[i64]) -> Result<Plane, Fail> {
     let shape = Shape::of(width, height).ok_or("a shape")?;
-    let mut plane = Plane::blank(alloc, shape)?;
-    for (p, value) in values.iter().enumerate() {
-        if *value > 0 && *value < 256 && p < plane.shape().pixels() as usize {
-            plane.set(p as u32, Some(*value));
-        }
+    let mut pixels = Vec::new(alloc);
+    for value in values {
+        pixels.push(if *value == 0 { None } else { Some(*value) })?;
     }
-    Ok(plane)
+    Ok(Plane::of(alloc, shape, &pixels)?.ok_or("a plane of these values")?)
 }
 
 // The numbers of a source's row.

@@ -4,6 +4,7 @@ use Rattle.std.specs.Prelude.{IsTrue, ℤ, pos, Some, ◌≤ℤ◌, int_le, Cont
 use Rattle.std.proofs.lemmas.Bool.{and_parts, cond-true, cond-false, eq-eqb, ne_eqb}
 use Rattle.std.proofs.lemmas.Int.{ints}
 use Rattle.std.proofs.lemmas.Option.{get_or_from_slice_get}
+use Rattle.lemmas.proofs.Exported.{ArePaired, HasPartnerIn, IsAmong, among-filter, among_from_filter, int_le-from, paired_from_rising, rising-pixels, same_bool}
 use Rattle.comp_tree.specs.declared.shape.Connect.{Connect}
 use Rattle.comp_tree.specs.Raster.{Raster, IsPlane, pixels, value_at, level}
 use Rattle.comp_tree.specs.ComponentTree.{parent_in, no_node}
@@ -11,10 +12,10 @@ use Rattle.comp_tree.specs.Components.{reaches, is_in_node, tree_of}
 use Rattle.comp_tree.specs.Laws.{IsNode, top_of}
 use Rattle.comp_tree.specs.Nesting.{is_root}
 use Rattle.comp_tree.specs.Windows.{Window, in_whole, LiesSure, seen_through}
-use Rattle.comp_tree.proofs.Exported.{AlikeAlong, AreSurePair, ArePaired, HasPartnerIn, IsAmong, IsReachedThere, along_reached, along_reaches}
-use Rattle.comp_tree.proofs.Exported.{among-filter, among_from_defined, among_from_filter, below_from_defined, below_no_node, defined_from_at_least}
-use Rattle.comp_tree.proofs.Exported.{in_node-defined, int_le-from, paired_from_rising, paired_sym, reaches-is_IsReached, reaches_lower, reaches_sym}
-use Rattle.comp_tree.proofs.Exported.{reaches_trans, rising-pixels, same_bool, sure_components_are_seen, turned, window_along}
+use Rattle.comp_tree.proofs.Exported.{AlikeAlong, AreSurePair, IsReachedThere, along_reached, along_reaches}
+use Rattle.comp_tree.proofs.Exported.{among_from_defined, below_from_defined, below_no_node, defined_from_at_least}
+use Rattle.comp_tree.proofs.Exported.{in_node-defined, paired_sym, reaches-is_IsReached, reaches_lower, reaches_sym}
+use Rattle.comp_tree.proofs.Exported.{reaches_trans, sure_components_are_seen, turned, window_along}
 use Rattle.mesh_background.specs.Residuals.{residual_of}
 use Rattle.node_sums.specs.Flux.{base_of}
 use Rattle.node_sums.specs.Sums.{sums_of}
@@ -24,17 +25,18 @@ use Rattle.source_pick.specs.Catalogue.{measured_row, catalogue_row}
 use Rattle.source_pick.specs.Windows.{moved_row, IsTileOf, IsFromTile}
 use Rattle.dual_measure.specs.Measures.{measure_over, measure_of, mean_of, around_node, back_of}
 use Rattle.source_pick.specs.Sources.{sources}
-use Rattle.tile_laws.specs.Pieces.{Detection, Piece, searched, AnswersForCore, CoversImage, AreMerged}
+use Rattle.source_pick.proofs.Exported.{first_inside}
+use Rattle.tile_laws.specs.Pieces.{DetectionChoice, Piece, searched, AnswersForCore, CoversImage, AreMerged}
 use Rattle.tile_laws.specs.Laws.{PiecesGiveTheMeasures}
 use Rattle.tile_laws.specs.SecondImage.{MeasuresItsCore}
-use Rattle.tile_laws.proofs.Shown.{first_inside, source_pixel_high}
+use Rattle.tile_laws.proofs.Shown.{source_pixel_high}
 use Rattle.tile_laws.proofs.Sure.{is_sure}
 use Rattle.tile_laws.proofs.Tiles.{tile_of}
 use Rattle.tile_laws.proofs.Merging.{IsSourceOfRow, source_of_row}
 use Rattle.tile_laws.proofs.Mapping.{MapLaws, whole, here_at, index_at}
 use Rattle.tile_laws.proofs.Measured.{same_measure, tile_is, reached_values, measure_same}
 
-module _ (laws : MapLaws) (d : Detection) (r values : Raster) (pieces : List Piece) (plane : IsPlane r) (value_plane : IsPlane values)
+module _ (laws : MapLaws) (d : DetectionChoice) (r values : Raster) (pieces : List Piece) (plane : IsPlane r) (value_plane : IsPlane values)
     (same_shape : values.shape ≡ r.shape)
     (cover : CoversImage r.shape pieces) (answers : (t : Piece) → Contains pieces t → AnswersForCore d r t) (rows : List CatRow)
     (merged : AreMerged d r pieces rows)

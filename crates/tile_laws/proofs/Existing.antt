@@ -2,17 +2,17 @@
 use Rattle.std.proofs.Common.{◌≡◌, ℕ, ◌+◌, ◌<◌, zero, suc, List, [], ◌∷◌, refl, sym, ◌∙◌, ap, subst, inl, inr}
 use Rattle.std.specs.Prelude.{IsTrue, Contains, Some, None, slice_get}
 use Rattle.std.proofs.lemmas.Option.{same_Some}
+use Rattle.lemmas.proofs.Exported.{ArePaired, IsAmong, among_get, among_of, at_end, at_more, contains_from_among}
 use Rattle.comp_tree.specs.Raster.{Raster, IsPlane}
 use Rattle.comp_tree.specs.Windows.{is_in_box, seen_through}
-use Rattle.comp_tree.proofs.Exported.{IsAmong, ArePaired, at_end, at_more, in_whole-one}
+use Rattle.comp_tree.proofs.Exported.{in_whole-one}
 use Rattle.mesh_background.specs.Residuals.{residual_of}
 use Rattle.node_sums.specs.Sums.{sums_of}
 use Rattle.source_pick.specs.declared.catalogue.CatRow.{CatRow}
 use Rattle.source_pick.specs.Sources.{sources}
 use Rattle.source_pick.specs.Catalogue.{catalogue_row}
 use Rattle.source_pick.specs.Windows.{moved_row}
-use Rattle.source_pick.proofs.Exported.{among_get, among_of, contains_from_among}
-use Rattle.tile_laws.specs.Pieces.{Detection, Piece, searched, AnswersForCore, CoversImage, CoresAreApart, first_pixel, IsFromPiece, AreMerged}
+use Rattle.tile_laws.specs.Pieces.{DetectionChoice, Piece, searched, AnswersForCore, CoversImage, CoresAreApart, first_pixel, IsFromPiece, AreMerged}
 use Rattle.tile_laws.specs.Laws.{PiecesCanBeMerged, RowsAreOnePieces}
 use Rattle.tile_laws.proofs.Merging.{plane_R, tile, source_from, IsPiecesSource, IsRowThere, row_there, IsSourceOfRow, source_of_row, first_is}
 use Rattle.tile_laws.proofs.Mapping.{MapLaws, same_place}
@@ -38,7 +38,7 @@ paired_left R _ _ zero u (at_more {x} {y} {xs} {ys} c rest) e = (y, inl refl, su
 paired_left {X} {Y} R _ _ (suc i) u (at_more {x} {y} {xs} {ys} c rest) e =
     let g : (v : Y) × IsAmong v ys × R u v = paired_left R xs ys i u rest e in (g.0, inr g.1, g.2)
 
-module _ (laws : MapLaws) (d : Detection) (r : Raster) (pieces : List Piece) (plane : IsPlane r) (cover : CoversImage r.shape pieces)
+module _ (laws : MapLaws) (d : DetectionChoice) (r : Raster) (pieces : List Piece) (plane : IsPlane r) (cover : CoversImage r.shape pieces)
     (answers : (t : Piece) → Contains pieces t → AnswersForCore d r t) (apart : CoresAreApart r.shape pieces) where
   abbrev R : Raster
   R = searched d r
@@ -79,7 +79,8 @@ module _ (laws : MapLaws) (d : Detection) (r : Raster) (pieces : List Piece) (pl
 
       place : s.index ≡ u.index
       place =
-          same_place laws (part t) d.connect d.choice (tile laws.tiles d r pieces plane cover answers t c).one_each s.index u.index s.there u.there s.at u.at first
+          same_place laws (part t) d.connect d.choice (tile laws.tiles d r pieces plane cover answers t c).one_each s.index u.index s.there u.there s.at u.at
+          first
 
       same : s.there ≡ u.there
       same = same_Some s.there u.there

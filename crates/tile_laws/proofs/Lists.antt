@@ -3,7 +3,7 @@ use Rattle.std.proofs.Common.{◌≡◌, ℕ, ◌+◌, ◌<◌, zero, suc, List,
 use Rattle.std.specs.Prelude.{Some, None, slice_get}
 use Rattle.std.specs.List.{enumerate_from}
 use Rattle.std.proofs.lemmas.Option.{same_Some}
-use Rattle.comp_tree.proofs.Exported.{IsAmong, IsRisingBy}
+use Rattle.lemmas.proofs.Exported.{IsAmong, IsRisingBy}
 
 -- ---- members
 
@@ -14,11 +14,6 @@ get_among x [] j e = absurd (no_member e)
     no_member e = cc
 get_among x (y ∷ xs) zero e = inl (same_Some y x e)
 get_among x (y ∷ xs) (suc j) e = inr (get_among x xs j e)
-
-pub among_map : {X Y : Type 0} (f : X → Y) (x : X) (xs : List X) → IsAmong x xs → IsAmong (f x) (map f xs)
-among_map f x [] h = absurd h
-among_map f x (y ∷ xs) (inl e) = inl (ap f e)
-among_map f x (y ∷ xs) (inr h) = inr (among_map f x xs h)
 
 -- a member of a list that is made of another one's members
 pub record IsImageOf {X Y : Type 0} (f : X → Y) (y : Y) (xs : List X) : Type 0 where

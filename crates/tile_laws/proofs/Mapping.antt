@@ -7,6 +7,7 @@ use Rattle.std.proofs.lemmas.Bool.{cases_eq, cases_lt, cases_order, true≢false
 use Rattle.std.proofs.lemmas.List.{get_or_past, length-map}
 use Rattle.std.proofs.lemmas.List.FromFn.{get_or-map-range_with_len}
 use Rattle.std.proofs.lemmas.Option.{same_Some}
+use Rattle.lemmas.proofs.Exported.{among_get, among_of, contains_from_among}
 use Rattle.comp_tree.specs.declared.shape.Connect.{Connect}
 use Rattle.comp_tree.specs.Raster.{Raster, IsPlane, pixels}
 use Rattle.comp_tree.specs.Components.{is_in_node}
@@ -22,10 +23,9 @@ use Rattle.source_pick.specs.Catalogue.{measured_row, catalogue_row}
 use Rattle.source_pick.specs.Laws.{SourcesAreDisjoint}
 use Rattle.source_pick.specs.Segmentation.{source_number_at, segmentation_of, segmentation}
 use Rattle.source_pick.specs.Windows.{moved_row, IsTileOf}
-use Rattle.tile_laws.specs.Pieces.{Detection, Piece, searched, mapped, AnswersForCore, CoversImage, first_pixel, IsFromPiece, AreMerged, row_with_number}
+use Rattle.tile_laws.specs.Pieces.{DetectionChoice, Piece, searched, mapped, AnswersForCore, CoversImage, first_pixel, IsFromPiece, AreMerged, row_with_number}
 use Rattle.tile_laws.specs.Pieces.{IsMappedBy}
 use Rattle.tile_laws.specs.Laws.{PiecesGiveTheMap}
-use Rattle.source_pick.proofs.Exported.{contains_from_among, among_of, among_get}
 use Rattle.tile_laws.proofs.Lists.{get_among, rows_from, get_rows, row_at}
 use Rattle.tile_laws.proofs.Merging.{TileLaws, plane_R, tile, source_from, IsPiecesSource, IsRowThere, row_there, IsSourceOfRow, source_of_row}
 use Rattle.tile_laws.proofs.Merging.{same_rows, first_is}
@@ -158,7 +158,7 @@ moved_number : (w : Window) (row : CatRow) → (moved_row w row).number ≡ row.
 unfolding moved_row
 moved_number w row = refl
 
-module _ (laws : MapLaws) (d : Detection) (r : Raster) (pieces : List Piece) (plane : IsPlane r) (cover : CoversImage r.shape pieces)
+module _ (laws : MapLaws) (d : DetectionChoice) (r : Raster) (pieces : List Piece) (plane : IsPlane r) (cover : CoversImage r.shape pieces)
     (answers : (t : Piece) → Contains pieces t → AnswersForCore d r t) (rows : List CatRow) (merged : AreMerged d r pieces rows) where
   abbrev R : Raster
   R = searched d r

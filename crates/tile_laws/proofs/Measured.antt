@@ -1,40 +1,32 @@
 -- The measures of an image's sources in a second image, from its pieces.
 use Rattle.std.proofs.Common.{◌≡◌, ℕ, ◌*◌, ◌<◌, true, not, List, length, map, refl, sym, ◌∙◌, ap, subst, arith}
 use Rattle.std.specs.Prelude.{IsTrue, ℤ, pos, ◌+ℤ◌, ◌↔◌, Contains, Option, is_some, unwrap_or}
+use Rattle.lemmas.proofs.Exported.{ArePaired, HasPartnerIn, IsAmong, IsRising, at_end, at_more, paired_filter, paired_from_rising, paired_map, rising-pixels}
 use Rattle.comp_tree.specs.declared.shape.Connect.{Connect}
 use Rattle.comp_tree.specs.declared.shape.Shape.{Shape}
 use Rattle.comp_tree.specs.Raster.{Raster, IsPlane, pixels, value_at, is_defined, level}
 use Rattle.comp_tree.specs.Components.{IsReached, is_in_node}
 use Rattle.comp_tree.specs.Nesting.{pixels_of}
 use Rattle.comp_tree.specs.Windows.{Window, IsInside, in_whole, is_in_box, IsShown, Shows, seen_through, SureComponentsAreTheSame}
-use Rattle.comp_tree.proofs.Exported.{ArePaired, at_end, at_more, HasPartnerIn, IsAmong, IsAt, IsRising, among_pixels, at_order, below_from_defined}
-use Rattle.comp_tree.proofs.Exported.{in_node-defined, in_node_from_among, in_whole-at, in_whole-one, paired_filter, paired_from_rising, paired_map}
-use Rattle.comp_tree.proofs.Exported.{rising-pixels, some_columns}
+use Rattle.comp_tree.proofs.Exported.{IsAt, among_pixels, at_order, below_from_defined}
+use Rattle.comp_tree.proofs.Exported.{in_node-defined, in_node_from_among, in_whole-at, in_whole-one}
+use Rattle.comp_tree.proofs.Exported.{some_columns}
 use Rattle.mesh_background.specs.Residuals.{residual_of}
 use Rattle.node_sums.specs.Sums.{total, sums_of}
 use Rattle.source_pick.specs.declared.choice.Choice.{Choice}
 use Rattle.source_pick.specs.declared.catalogue.CatRow.{CatRow}
 use Rattle.source_pick.specs.Windows.{Tile, IsTileOf, IsFromTile}
+use Rattle.source_pick.proofs.Exported.{first_inside, length_paired, total_paired}
 use Rattle.dual_measure.specs.declared.values.Measure.{Measure}
 use Rattle.dual_measure.specs.Measures.{least_or_zero, greatest_or_zero, seen_of, missing_of, measure_over, measure_of}
-use Rattle.tile_laws.specs.Pieces.{Detection, Piece, searched, AnswersForCore, CoversImage, AreMerged}
+use Rattle.tile_laws.specs.Pieces.{DetectionChoice, Piece, searched, AnswersForCore, CoversImage, AreMerged}
 use Rattle.tile_laws.specs.SecondImage.{HasMeasuredBox, MeasuresItsCore}
 use Rattle.tile_laws.proofs.Sure.{is_sure, sure_in_box, shows_sure}
-use Rattle.tile_laws.proofs.Shown.{first_inside, source_reached, source_pixel_high, shown_pixel}
+use Rattle.tile_laws.proofs.Shown.{source_reached, source_pixel_high, shown_pixel}
 use Rattle.tile_laws.proofs.Tiles.{tile_of}
 use Rattle.tile_laws.proofs.Mapping.{MapLaws, whole, piece}
 
 -- ---- measures over paired pixels
-
-length_paired : (R : ℕ → ℕ → Type 0) (ps qs : List ℕ) → ArePaired R ps qs → length ps ≡ length qs
-length_paired R _ _ at_end = refl
-length_paired R _ _ (at_more {x} {y} {xs} {ys} c rest) = let l : length xs ≡ length ys = length_paired R xs ys rest in omega arith
-
-total_paired : (R : ℕ → ℕ → Type 0) (f g : ℕ → ℤ) (ps qs : List ℕ) → ((p q : ℕ) → R p q → f p ≡ g q) → ArePaired R ps qs → total f ps ≡ total g qs
-total_paired R f g _ _ e at_end = refl
-total_paired R f g _ _ e (at_more {x} {y} {xs} {ys} c rest) =
-    ap (λ (z : ℤ). z +ℤ total f xs) (e x y c)
-    ∙ ap (λ (z : ℤ). g y +ℤ z) (total_paired R f g xs ys e rest)
 
 abbrev of_parts : ℕ → ℕ → ℤ → List ℤ → Measure
 of_parts a b s xs = record {
@@ -136,7 +128,7 @@ module _ (law : SureComponentsAreTheSame) (r : Raster) (connect : Connect) (choi
 
 -- ---- the law
 
-module _ (laws : MapLaws) (d : Detection) (r values : Raster) (pieces : List Piece) (plane : IsPlane r) (value_plane : IsPlane values)
+module _ (laws : MapLaws) (d : DetectionChoice) (r values : Raster) (pieces : List Piece) (plane : IsPlane r) (value_plane : IsPlane values)
     (same_shape : values.shape ≡ r.shape)
     (cover : CoversImage r.shape pieces) (answers : (t : Piece) → Contains pieces t → AnswersForCore d r t) (rows : List CatRow)
     (merged : AreMerged d r pieces rows)

@@ -2,11 +2,11 @@
 use Rattle.std.proofs.Common.{◌≡◌, ℕ, ◌+◌, ◌-◌, ◌*◌, ◌/◌, ◌%◌, ◌<◌, List, [], ◌∷◌, length, map, refl, sym, ◌∙◌, ap, subst, arith}
 use Rattle.std.specs.Prelude.{IsTrue, Contains, Some, slice_get}
 use Rattle.std.proofs.lemmas.Nat.{div-add-mod'}
+use Rattle.lemmas.proofs.Exported.{IsAmong, IsRisingBy, among-map, among_get, among_of, contains_from_among}
 use Rattle.comp_tree.specs.declared.shape.Connect.{Connect}
 use Rattle.comp_tree.specs.Raster.{Raster, IsPlane}
 use Rattle.comp_tree.specs.Laws.{IsNode}
 use Rattle.comp_tree.specs.Windows.{Window, in_whole, is_in_box, seen_through, DeepComponentsLieSure}
-use Rattle.comp_tree.proofs.Exported.{IsAmong, IsRisingBy}
 use Rattle.mesh_background.specs.Residuals.{residual_of}
 use Rattle.node_sums.specs.Sums.{sums_of}
 use Rattle.source_pick.specs.declared.catalogue.CatRow.{CatRow}
@@ -14,11 +14,11 @@ use Rattle.source_pick.specs.Sources.{is_source, sources}
 use Rattle.source_pick.specs.Catalogue.{measured_row, catalogue_row}
 use Rattle.source_pick.specs.Laws.{SourcesAreListed, SourcesAreInOrder}
 use Rattle.source_pick.specs.Windows.{moved_row, Tile, IsTileOf, IsOwnSource, IsFromTile, EachSourceIsATiles, OwnSourcesAreTheWholes}
-use Rattle.tile_laws.specs.Pieces.{Detection, Piece, searched, detected, AnswersForCore, CoversImage, first_pixel, IsFromPiece, AreMerged}
+use Rattle.tile_laws.specs.Pieces.{DetectionChoice, Piece, searched, detected, AnswersForCore, CoversImage, first_pixel, IsFromPiece, AreMerged}
 use Rattle.tile_laws.specs.Pieces.{row_with_number, numbered_rows}
 use Rattle.tile_laws.specs.Laws.{PiecesGiveTheCatalogue}
-use Rattle.source_pick.proofs.Exported.{catalogue-is, contains_from_among, among_of, among_get, rising_from_get}
-use Rattle.tile_laws.proofs.Lists.{get_among, among_map, IsImageOf, image_of, rising_equal, rows_from, IsRowOf, row_of, get_rows, rising_rows}
+use Rattle.source_pick.proofs.Exported.{catalogue-is, rising_from_get}
+use Rattle.tile_laws.proofs.Lists.{get_among, IsImageOf, image_of, rising_equal, rows_from, IsRowOf, row_of, get_rows, rising_rows}
 use Rattle.tile_laws.proofs.Sure.{BackgroundLaws}
 use Rattle.tile_laws.proofs.Tiles.{tile_of, is_tile}
 
@@ -78,7 +78,7 @@ pub record TileLaws : Type 0 where
   pub each : EachSourceIsATiles
   pub own : OwnSourcesAreTheWholes
 
-module _ (laws : TileLaws) (d : Detection) (r : Raster) (pieces : List Piece) (plane : IsPlane r) (cover : CoversImage r.shape pieces)
+module _ (laws : TileLaws) (d : DetectionChoice) (r : Raster) (pieces : List Piece) (plane : IsPlane r) (cover : CoversImage r.shape pieces)
     (answers : (t : Piece) → Contains pieces t → AnswersForCore d r t) where
   abbrev R : Raster
   R = searched d r
@@ -127,7 +127,7 @@ module _ (laws : TileLaws) (d : Detection) (r : Raster) (pieces : List Piece) (p
       covered p l =
           let e : length R.values ≡ r.shape.width * r.shape.height = plane_R in
           let c : (t : Piece) × Contains pieces t × IsTrue (is_in_box r.shape.width t.core p) = cover p (omega (arith, l, e)) in
-          (tile_of d r c.0, contains_from_among (tile_of d r c.0) tiles (among_map (tile_of d r) c.0 pieces (among_of c.0 pieces c.1)), c.2)
+          (tile_of d r c.0, contains_from_among (tile_of d r c.0) tiles (among-map (tile_of d r) c.0 pieces (among_of c.0 pieces c.1)), c.2)
 
       g : (x : Tile) × Contains tiles x × ((m : ℕ) × IsFromTile R d.connect d.choice x n m)
       g = laws.each R d.connect d.choice tiles n plane_R is_tiles covered is.0 is.1
@@ -182,7 +182,8 @@ module _ (laws : TileLaws) (d : Detection) (r : Raster) (pieces : List Piece) (p
   same_plain t n m i j k = ap (row_with_number 0) (sym (k.moved.row j)) ∙ renumbered R d.connect 0 j n ∙ sym (renumbered R d.connect 0 i n)
 
   moved_first : (t : Piece) (j m : ℕ)
-      → first_pixel r.shape.width (moved_row t.window (catalogue_row (part t) d.connect j m)) ≡ in_whole r.shape.width t.window (sums_of (part t) d.connect m).first
+      → first_pixel r.shape.width (moved_row t.window (catalogue_row (part t) d.connect j m))
+      ≡ in_whole r.shape.width t.window (sums_of (part t) d.connect m).first
   unfolding catalogue_row measured_row moved_row in_whole residual_of seen_through
   moved_first t j m =
       let q : ℕ = (sums_of (part t) d.connect m).first in
@@ -242,7 +243,7 @@ module _ (laws : TileLaws) (d : Detection) (r : Raster) (pieces : List Piece) (p
     there : (x : CatRow) → IsAmong x (map plain rows_here) → IsAmong x (map plain rows)
     there x k =
         subst (λ (y : CatRow). IsAmong y (map plain rows)) same
-        (among_map plain row rows (among_of row rows (merged.all g.0 row g.1.1.among there_row.from)))
+        (among-map plain row rows (among_of row rows (merged.all g.0 row g.1.1.among there_row.from)))
       where
         y : IsImageOf plain x rows_here
         y = image_of plain x rows_here k
@@ -263,7 +264,7 @@ module _ (laws : TileLaws) (d : Detection) (r : Raster) (pieces : List Piece) (p
         same = same_plain g.0 e.it g.1.0 (e.index + 1) (there_row.index + 1) g.1.1.from ∙ ap plain e.image ∙ y.image
 
     back : (x : CatRow) → IsAmong x (map plain rows) → IsAmong x (map plain rows_here)
-    back x k = subst (λ (z : CatRow). IsAmong z (map plain rows_here)) same (among_map plain (catalogue_row R d.connect (j.0 + 1) s.here) rows_here row)
+    back x k = subst (λ (z : CatRow). IsAmong z (map plain rows_here)) same (among-map plain (catalogue_row R d.connect (j.0 + 1) s.here) rows_here row)
       where
         y : IsImageOf plain x rows
         y = image_of plain x rows k

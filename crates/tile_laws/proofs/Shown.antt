@@ -2,53 +2,20 @@
 use Rattle.std.proofs.Common.{◌≡◌, ℕ, ◌-◌, ◌*◌, ◌^◌, ◌<◌, ◌≤◌, true, min, List, [], ◌∷◌, length, refl, subst, arith, ◌⊎◌, inl, inr}
 use Rattle.std.specs.Prelude.{IsTrue, filter}
 use Rattle.std.proofs.lemmas.Bool.{cases_lt}
+use Rattle.lemmas.proofs.Exported.{IsAmong, among-filter, among_from_filter}
 use Rattle.comp_tree.specs.declared.shape.Connect.{Connect}
 use Rattle.comp_tree.specs.Raster.{Raster, IsPlane, pixels, is_at_least}
 use Rattle.comp_tree.specs.Components.{IsReached, nodes, is_in_node}
 use Rattle.comp_tree.specs.Nesting.{pixels_of}
 use Rattle.comp_tree.specs.Laws.{IsNode, top_of}
 use Rattle.comp_tree.specs.Windows.{in_whole, IsShown, SureComponentsAreTheSame}
-use Rattle.comp_tree.proofs.Exported.{IsAmong, among-filter, among_from_defined, among_from_filter, below_from_defined, in_node-defined, joined_sym}
+use Rattle.comp_tree.proofs.Exported.{among_from_defined, below_from_defined, in_node-defined, joined_sym}
 use Rattle.comp_tree.proofs.Exported.{joined_trans, reaches-is_IsReached, reaches_end, top_inside}
 use Rattle.node_sums.specs.Sums.{least, sums_over, sums_of}
 use Rattle.source_pick.specs.declared.choice.Choice.{Choice}
 use Rattle.source_pick.specs.Sources.{is_source}
-use Rattle.source_pick.proofs.Exported.{in_node_reached, top_high}
+use Rattle.source_pick.proofs.Exported.{first_inside, in_node_reached, top_high}
 use Rattle.source_pick.specs.Windows.{Tile, IsTileOf, IsFromTile}
-
--- ---- the first pixel of a node lies in it
-
-least_among : (ps : List ℕ) (x : ℕ) → IsAmong x ps → ((p : ℕ) → IsAmong p ps → p < 2 ^ 32 - 1) → IsAmong (least (λ p. p) ps) ps
-least_among [] x h small = absurd h
-least_among (y ∷ []) x h small = let l : y < 2 ^ 32 - 1 = small y (inl refl) in let e : y ≡ min y (2 ^ 32 - 1) = omega arith in inl e
-least_among (y ∷ z ∷ zs) x h small = go (cases_lt (least (λ p. p) (z ∷ zs)) y) (least_among (z ∷ zs) z (inl refl) (λ p k. small p (inr k)))
-  where
-    go : (least (λ p. p) (z ∷ zs) < y) ⊎ (y ≤ least (λ p. p) (z ∷ zs)) → IsAmong (least (λ p. p) (z ∷ zs)) (z ∷ zs)
-        → IsAmong (least (λ p. p) (y ∷ z ∷ zs)) (y ∷ z ∷ zs)
-    go (inl l) ih =
-        let e : least (λ p. p) (z ∷ zs) ≡ min y (least (λ p. p) (z ∷ zs)) = omega arith in
-        inr (subst (λ (m : ℕ). IsAmong m (z ∷ zs)) e ih)
-    go (inr l) ih = let e : y ≡ min y (least (λ p. p) (z ∷ zs)) = omega arith in inl e
-
-pub first_inside : (r : Raster) (connect : Connect) (n : ℕ) → IsPlane r → n < length (nodes r connect)
-    → is_in_node r connect n (sums_of r connect n).first ≡ true
-unfolding sums_of sums_over pixels_of
-first_inside r connect n plane hn =
-    (among_from_filter (is_in_node r connect n) (least (λ p. p) (filter (is_in_node r connect n) (pixels r))) (pixels r)
-    (least_among (filter (is_in_node r connect n) (pixels r)) (top_of r connect n) top small)).1
-  where
-    top : IsAmong (top_of r connect n) (filter (is_in_node r connect n) (pixels r))
-    top = among-filter (is_in_node r connect n) (top_of r connect n) (pixels r)
-        (among_from_defined r (top_of r connect n) (in_node-defined r connect n (top_of r connect n) (top_inside r connect n hn)))
-        (top_inside r connect n hn)
-
-    small : (p : ℕ) → IsAmong p (filter (is_in_node r connect n) (pixels r)) → p < 2 ^ 32 - 1
-    small p k =
-        let l : p < length r.values =
-        below_from_defined r p (in_node-defined r connect n p (among_from_filter (is_in_node r connect n) p (pixels r) k).1) in
-        let f : r.shape.width * r.shape.height ≤ 2 ^ 24 = r.shape.within_limits.few_pixels in
-        let e : length r.values ≡ r.shape.width * r.shape.height = plane in
-        omega arith
 
 -- ---- the pixels of a source, at the threshold
 

@@ -7,11 +7,12 @@ use Rattle.std.specs.List.{list_all, list_any, range_with_len}
 use Rattle.std.proofs.lemmas.Bool.{and_parts, and_from, or_cases, or_left, or_right, cases_Bool, cases_eq, not-true, not_from_false, le-leb, leb-true}
 use Rattle.std.proofs.lemmas.Bool.{lt-ltb, ltb-true, eq-eqb, eqb-true, true≢false}
 use Rattle.std.proofs.lemmas.Nat.{div-add-mod', div-mul-add, mod-mul-add, mul-add-lt}
+use Rattle.lemmas.proofs.Exported.{IsAmong, IsWitness, among-range, among_from_range, any_from_among, witness_from_any}
 use Rattle.comp_tree.specs.declared.shape.Shape.{Shape}
 use Rattle.comp_tree.specs.Raster.{Raster, IsPlane, pixels, value_at, is_defined}
 use Rattle.comp_tree.specs.Windows.{Window, IsInside, Box, in_whole, is_in_box, seen_through, Shows}
-use Rattle.comp_tree.proofs.Exported.{IsAmong, IsWitness, IsAt, all_from, all_gives, among-range, among_from_defined, among_from_range}
-use Rattle.comp_tree.proofs.Exported.{any_from_among, in_whole-at, in_whole-below, seen-length, seen-shape, seen-value, witness_from_any}
+use Rattle.comp_tree.proofs.Exported.{IsAt, all_from, all_gives, among_from_defined}
+use Rattle.comp_tree.proofs.Exported.{in_whole-at, in_whole-below, seen-length, seen-shape, seen-value}
 use Rattle.mesh_background.specs.Mesh.{cells_along, mesh_cell_of}
 use Rattle.mesh_background.specs.Interpolation.{next_cell}
 use Rattle.mesh_background.specs.Residuals.{background, residual_of}

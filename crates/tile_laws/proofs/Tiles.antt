@@ -3,10 +3,10 @@ use Rattle.comp_tree.specs.Raster.{Raster, IsPlane}
 use Rattle.comp_tree.specs.Windows.{is_in_box, seen_through, DeepComponentsLieSure}
 use Rattle.mesh_background.specs.Residuals.{residual_of}
 use Rattle.source_pick.specs.Windows.{Tile, IsTileOf}
-use Rattle.tile_laws.specs.Pieces.{Detection, Piece, searched, HasSureBox, AnswersForCore}
+use Rattle.tile_laws.specs.Pieces.{DetectionChoice, Piece, searched, HasSureBox, AnswersForCore}
 use Rattle.tile_laws.proofs.Sure.{BackgroundLaws, is_sure, sure_in_box, shows_sure, seen_residual_plane}
 
-abbrev pub tile_of : Detection → Raster → Piece → Tile
+abbrev pub tile_of : DetectionChoice → Raster → Piece → Tile
 tile_of d r t = record {
   window = t.window;
   plane = searched d (seen_through t.window r);
@@ -14,7 +14,7 @@ tile_of d r t = record {
   core = is_in_box r.shape.width t.core;
 }
 
-pub is_tile : (laws : BackgroundLaws) (deep : DeepComponentsLieSure) (d : Detection) (r : Raster) (t : Piece) → IsPlane r → AnswersForCore d r t
+pub is_tile : (laws : BackgroundLaws) (deep : DeepComponentsLieSure) (d : DetectionChoice) (r : Raster) (t : Piece) → IsPlane r → AnswersForCore d r t
     → IsTileOf (searched d r) d.connect d.choice (tile_of d r t)
 unfolding residual_of
 is_tile laws deep d r t plane a = record {

@@ -8,31 +8,31 @@ use Rattle.source_pick.specs.declared.choice.Choice.{Choice}
 use Rattle.source_pick.specs.declared.catalogue.CatRow.{CatRow}
 use Rattle.source_pick.specs.Catalogue.{catalogue}
 use Rattle.tile_laws.specs.Clear.{clear_box, window_box, IsBoxWithin, IsSureBox}
-use Rattle.tile_laws.specs.Pieces.{Detection, Piece, detected, AnswersForCore, without_mesh, ShowsItsCore, CoversImage, CoresAreApart, first_pixel}
+use Rattle.tile_laws.specs.Pieces.{DetectionChoice, Piece, detected, AnswersForCore, without_mesh, ShowsItsCore, CoversImage, CoresAreApart, first_pixel}
 use Rattle.tile_laws.specs.Pieces.{IsFromPiece, AreMerged, numbered_rows, mapped, IsMappedBy}
 use Rattle.tile_laws.specs.SecondImage.{measured, backed, MeasuresItsCore}
 
 -- where the cores cover the image and each piece answers for its core, the image's catalogue is that of the pieces: their own rows, moved,
 -- in the order of their first pixels, and numbered
 abbrev pub PiecesGiveTheCatalogue : Type 0
-PiecesGiveTheCatalogue = (d : Detection) (r : Raster) (pieces : List Piece) (rows : List CatRow) → IsPlane r
+PiecesGiveTheCatalogue = (d : DetectionChoice) (r : Raster) (pieces : List Piece) (rows : List CatRow) → IsPlane r
     → CoversImage r.shape pieces → ((t : Piece) → Contains pieces t → AnswersForCore d r t)
     → AreMerged d r pieces rows → detected d r ≡ numbered_rows rows
 
 -- where no two cores share a pixel there is such a list of rows, and each of them is one row of one piece alone
 abbrev pub PiecesCanBeMerged : Type 0
-PiecesCanBeMerged = (d : Detection) (r : Raster) (pieces : List Piece) → IsPlane r → CoversImage r.shape pieces
+PiecesCanBeMerged = (d : DetectionChoice) (r : Raster) (pieces : List Piece) → IsPlane r → CoversImage r.shape pieces
     → ((t : Piece) → Contains pieces t → AnswersForCore d r t) → CoresAreApart r.shape pieces → (rows : List CatRow) × AreMerged d r pieces rows
 
 abbrev pub RowsAreOnePieces : Type 0
-RowsAreOnePieces = (d : Detection) (r : Raster) (pieces : List Piece) (t u : Piece) (row other : CatRow) → IsPlane r → CoversImage r.shape pieces
+RowsAreOnePieces = (d : DetectionChoice) (r : Raster) (pieces : List Piece) (t u : Piece) (row other : CatRow) → IsPlane r → CoversImage r.shape pieces
     → ((t : Piece) → Contains pieces t → AnswersForCore d r t) → CoresAreApart r.shape pieces → Contains pieces t → Contains pieces u
     → IsFromPiece d r t row → IsFromPiece d r u other → first_pixel r.shape.width row ≡ first_pixel r.shape.width other → (t ≡ u) × (row ≡ other)
 
 -- the image's map too: a pixel has number k + 1 there exactly where row k of the merged rows is a row of a piece whose map gives the pixel this
 -- row's number. All other pixels have 0
 abbrev pub PiecesGiveTheMap : Type 0
-PiecesGiveTheMap = (d : Detection) (r : Raster) (pieces : List Piece) (rows : List CatRow) (p k : ℕ) → IsPlane r
+PiecesGiveTheMap = (d : DetectionChoice) (r : Raster) (pieces : List Piece) (rows : List CatRow) (p k : ℕ) → IsPlane r
     → CoversImage r.shape pieces → ((t : Piece) → Contains pieces t → AnswersForCore d r t) → AreMerged d r pieces rows
     → (slice_index (mapped d r) p ≡ k + 1) ↔ ((t : Piece) × Contains pieces t × IsMappedBy d r rows t p k)
 
@@ -40,7 +40,7 @@ PiecesGiveTheMap = (d : Detection) (r : Raster) (pieces : List Piece) (rows : Li
 -- source i of the piece, both counted from 0, has the piece's measure. It has the piece's back too where its base is at least the threshold: its
 -- parent lies in the same component at the threshold then. The parent of a whole such component may reach beyond any window
 abbrev pub PiecesGiveTheMeasures : Type 0
-PiecesGiveTheMeasures = (d : Detection) (r values : Raster) (pieces : List Piece) (rows : List CatRow)
+PiecesGiveTheMeasures = (d : DetectionChoice) (r values : Raster) (pieces : List Piece) (rows : List CatRow)
     (t : Piece) (row : CatRow) (f : IsFromPiece d r t row) (k i : ℕ)
     → IsPlane r → IsPlane values → values.shape ≡ r.shape
     → CoversImage r.shape pieces → ((t : Piece) → Contains pieces t → AnswersForCore d r t) → AreMerged d r pieces rows

@@ -18,22 +18,22 @@ use Rattle.tile_laws.specs.Clear.{window_box, IsBoxWithin, IsSureBox}
 
 -- what detection is told: the size of the mesh (0: no background), whether the background is flat, the connectivity, and which nodes are
 -- sources
-pub record Detection : Type 0 where
+pub record DetectionChoice : Type 0 where
   pub mesh : ℕ
   pub flat : Bool
   pub connect : Connect
   pub choice : Choice
 
 -- the plane in which it finds sources: what is left of an image without its background
-abbrev pub searched : Detection → Raster → Raster
+abbrev pub searched : DetectionChoice → Raster → Raster
 searched d r = residual_of r d.mesh d.flat
 
 -- and the catalogue that it makes of an image
-abbrev pub detected : Detection → Raster → List CatRow
+abbrev pub detected : DetectionChoice → Raster → List CatRow
 detected d r = catalogue (searched d r) d.connect d.choice
 
 -- and the segmentation map
-abbrev pub mapped : Detection → Raster → List ℕ
+abbrev pub mapped : DetectionChoice → Raster → List ℕ
 mapped d r = segmentation (searched d r) d.connect d.choice
 
 -- a piece of an image: the window that is given to detection, and the core: the pixels of the image for whose sources it answers
@@ -45,7 +45,7 @@ pub record Piece : Type 0 where
 
 -- Pixel q of the piece has at least the threshold. Its component there lies deep in a box in which the piece's background is the image's:
 -- with a pixel to spare, but for the image's own edges
-pub record HasSureBox (d : Detection) (r : Raster) (t : Piece) (q : ℕ) : Type 0 where
+pub record HasSureBox (d : DetectionChoice) (r : Raster) (t : Piece) (q : ℕ) : Type 0 where
   pub box : Box
   pub sure : IsSureBox r t.window d.flat d.mesh box
   pub deep : (b : ℕ) → IsReached (searched d (seen_through t.window r)) d.connect d.choice.threshold q b
@@ -53,7 +53,7 @@ pub record HasSureBox (d : Detection) (r : Raster) (t : Piece) (q : ℕ) : Type 
 
 -- A piece answers for its core: its window lies in the image with its corner on the mesh, in its core the background is the image's, and
 -- each component at the threshold that has a pixel in the core has such a box. Of the image this takes its shape and what the window shows
-pub record AnswersForCore (d : Detection) (r : Raster) (t : Piece) : Type 0 where
+pub record AnswersForCore (d : DetectionChoice) (r : Raster) (t : Piece) : Type 0 where
   pub inside : IsInside r.shape t.window
   pub on_mesh : 0 < d.mesh → IsOnMesh d.mesh t.window
   pub core_sure : IsSureBox r t.window d.flat d.mesh t.core
@@ -61,7 +61,7 @@ pub record AnswersForCore (d : Detection) (r : Raster) (t : Piece) : Type 0 wher
       → IsTrue (is_at_least (searched d (seen_through t.window r)) d.choice.threshold q) → HasSureBox d r t q
 
 -- detection without a background
-abbrev pub without_mesh : Connect → Choice → Detection
+abbrev pub without_mesh : Connect → Choice → DetectionChoice
 without_mesh connect choice = record {
   mesh = 0;
   flat = true;
@@ -94,14 +94,14 @@ abbrev pub first_pixel : ℕ → CatRow → ℕ
 first_pixel width row = (unsigned_abs row.yfirst - 1) * width + (unsigned_abs row.xfirst - 1)
 
 -- the piece's row `it`, moved to its place in the image; its first pixel lies in the core
-pub record IsFromPiece (d : Detection) (r : Raster) (t : Piece) (row : CatRow) : Type 0 where
+pub record IsFromPiece (d : DetectionChoice) (r : Raster) (t : Piece) (row : CatRow) : Type 0 where
   pub it : CatRow
   pub listed : Contains (detected d (seen_through t.window r)) it
   pub moved : row ≡ moved_row t.window it
   pub own : IsTrue (is_in_box r.shape.width t.core (first_pixel r.shape.width row))
 
 -- all these rows of all pieces, in the order of their first pixels
-pub record AreMerged (d : Detection) (r : Raster) (pieces : List Piece) (rows : List CatRow) : Type 0 where
+pub record AreMerged (d : DetectionChoice) (r : Raster) (pieces : List Piece) (rows : List CatRow) : Type 0 where
   pub each : (row : CatRow) → Contains rows row → (t : Piece) × Contains pieces t × IsFromPiece d r t row
   pub all : (t : Piece) (row : CatRow) → Contains pieces t → IsFromPiece d r t row → Contains rows row
   pub rise : (i j : ℕ) (row other : CatRow) → i < j → slice_get rows i ≡ Some row → slice_get rows j ≡ Some other
@@ -116,7 +116,7 @@ unfoldable pub numbered_rows : List CatRow → List CatRow
 numbered_rows rows = map (λ e. row_with_number e.0 e.1) (enumerate_from 1 rows)
 
 -- Row k of the merged rows, counted from 0, is a row of the piece, and pixel p of the image has the number of this row in the piece's map
-pub record IsMappedBy (d : Detection) (r : Raster) (rows : List CatRow) (t : Piece) (p k : ℕ) : Type 0 where
+pub record IsMappedBy (d : DetectionChoice) (r : Raster) (rows : List CatRow) (t : Piece) (p k : ℕ) : Type 0 where
   pub pixel : ℕ
   pub below : pixel < t.window.shape.width * t.window.shape.height
   pub place : in_whole r.shape.width t.window pixel ≡ p

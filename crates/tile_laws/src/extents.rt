@@ -1,8 +1,8 @@
 //! Boxes of an image: in which a window's background is the image's, and which components lie deep in them.
 
 ghost use Rattle.std.specs.Prelude.{◌≡◌, ℕ, ◌+◌, ◌<◌, ◌≤◌, ◌^◌, ◌↔◌, IsTrue};
-ghost use Rattle.comp_tree.specs.Windows.{Window, IsInside, IsDeep, IsDeepIn, is_in_box};
-ghost use Rattle.tile_laws.specs.Clear.{clear_from, clear_to, clear_box};
+ghost use Rattle.comp_tree.specs.Windows.{IsInside, IsDeep, IsDeepIn, is_in_box};
+ghost use Rattle.tile_laws.specs.Clear.{window_at, clear_from, clear_to, clear_box};
 ghost use Rattle.tile_laws.specs.Extents.{extent_box};
 
 use comp_tree::Shape;
@@ -32,9 +32,9 @@ pub fn clear_extent(
     top: u32,
     window: Shape,
 ) -> Extent
-    requires inside { let w : Window = record { left = left; top = top; shape = window } in IsInside whole w }
+    requires inside { IsInside whole (window_at left top window) }
     requires mesh { mesh ≤ 65535 }
-    ensures { let w : Window = record { left = left; top = top; shape = window } in extent_box result ≡ clear_box flat mesh whole w }
+    ensures { extent_box result ≡ clear_box flat mesh whole (window_at left top window) }
 {
     Extent {
         columns: clear_interval(flat, mesh, whole.width, left, left + window.width),
@@ -91,7 +91,8 @@ pub fn lies_deep(component: &Extent, sure: &Extent, whole: Shape) -> bool
     requires some_rows { component.now.rows.from < component.now.rows.to }
     requires few_columns { component.now.columns.to ≤ whole.width }
     ensures { IsTrue result
-        ↔ ((p : ℕ) → IsTrue (is_in_box whole.width (extent_box component.now) p) → IsDeepIn whole (extent_box sure.now) p) }
+        ↔ ((p : ℕ) → IsTrue (is_in_box whole.width (extent_box component.now) p)
+        → IsDeepIn whole (extent_box sure.now) p) }
 {
     is_deep(&component.columns, &sure.columns, whole.width)
         && is_deep(&component.rows, &sure.rows, whole.height)
@@ -100,7 +101,8 @@ pub fn lies_deep(component: &Extent, sure: &Extent, whole: Shape) -> bool
 // The same along one side.
 fn is_deep(part: &Interval, sure: &Interval, side: u32) -> bool
     requires { part.now.from < part.now.to }
-    ensures { IsTrue result ↔ ((x : ℕ) → part.now.from ≤ x → x < part.now.to → IsDeep sure.now.from sure.now.to side x) }
+    ensures { IsTrue result ↔ ((x : ℕ) → part.now.from ≤ x → x < part.now.to
+        → IsDeep sure.now.from sure.now.to side x) }
 {
     let begins = sure.from == 0 || sure.from < part.from;
     let ends = part.to < sure.to || (sure.to == side && part.to == side);

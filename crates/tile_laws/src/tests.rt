@@ -86,15 +86,13 @@ fn numbers_of(alloc: Global, width: u32, values: &[i64], number: u32) -> Result<
     Ok(cells(&row(&tree, &found, number, n)))
 }
 
-// A plane of this shape, whose first pixels are these.
+// A plane of these values, of which 0 stands for an undefined pixel.
 fn plane_of(alloc: Global, shape: Shape, values: &[i64]) -> Result<Plane, Fail> {
-    let mut plane = Plane::blank(alloc, shape)?;
-    for (p, value) in values.iter().enumerate() {
-        if *value > 0 && *value < 256 && p < plane.shape().pixels() as usize {
-            plane.set(p as u32, Some(*value));
-        }
+    let mut pixels = Vec::new(alloc);
+    for value in values {
+        pixels.push(if *value == 0 { None } else { Some(*value) })?;
     }
-    Ok(plane)
+    Ok(Plane::of(alloc, shape, &pixels)?.ok_or("a plane of these values")?)
 }
 
 // One star in column 1 and one in column 4, counted from 0; the windows have columns 0 to 3, and 2 to 5.

@@ -7,14 +7,17 @@ use Rattle.dual_measure.proofs.adding.add_pixels.Goals as goal
 
 pub combined-requires : goal.combined-requires
 combined-requires c =
-    let inside : c.loop-p.p < length c.args.values.now.values = omega (arith, c.loop-p-test.true, c.pixels-p-end.ensures.product, c.shape-shape.ensures.pixels) in
-    turn_size c.args.values.now c.args.node_of.now c.loop-p.entries c.loop-p.p _ _ c.of_pixel-pixel.result (c.shape-shape.ensures.pixels ∙ ap (λ (s : Shape). s.width * s.height) c.shape-shape.ensures.same)
+    let inside : c.loop-p.p < length c.args.values.now.values =
+    omega (arith, c.loop-p-test.true, c.pixels-p-end.ensures.product, c.shape-shape.ensures.pixels) in
+    turn_size c.args.values.now c.args.node_of.now c.loop-p.entries c.loop-p.p _ _ c.of_pixel-pixel.result
+    (c.shape-shape.ensures.pixels ∙ ap (λ (s : Shape). s.width * s.height) c.shape-shape.ensures.same)
     (turn_from_code _ _ _ _ _ _ c.loop-p.invariant.front inside c.get.ensures.value c.get.ensures.in_range c.of_pixel-pixel.ensures)
     refl (slice_get-get_or _ _ _ c.if-node-entries.true)
 
 pub loop-p-preserved : goal.loop-p-preserved
 loop-p-preserved c =
-    let inside : c.loop-p.p < length c.args.values.now.values = omega (arith, c.loop-p-test.true, c.pixels-p-end.ensures.product, c.shape-shape.ensures.pixels) in
+    let inside : c.loop-p.p < length c.args.values.now.values =
+    omega (arith, c.loop-p-test.true, c.pixels-p-end.ensures.product, c.shape-shape.ensures.pixels) in
     elim c.if-node-entries.branch [
       | then-node-entries w ↦ record {
         front = rw w.entries-is (turn_yes c.args.values.now c.args.node_of.now c.loop-p.entries c.loop-p.p _ _ c.of_pixel-pixel.result w.combined.result

@@ -15,14 +15,17 @@ pub add_to_parents-requires-clause-own : goal.add_to_parents-requires-clause-own
 add_to_parents-requires-clause-own c =
     down_from_front c.args.values.now c.args.tree.now c.add_pixels.new.entries c.add_pixels.ensures.plane c.requires.shape
     (c.add_pixels.auto.entries ∙ ap length c.requires.blank ∙ length-replicate (length c.args.tree.now.rows) blank_measure)
-    (subst (λ (numbers : List ℕ). AreOfFront c.args.values.now numbers (length c.args.values.now.values) c.add_pixels.new.entries) c.node_of.ensures c.add_pixels.ensures.own)
+    (subst (λ (numbers : List ℕ). AreOfFront c.args.values.now numbers (length c.args.values.now.values) c.add_pixels.new.entries) c.node_of.ensures
+    c.add_pixels.ensures.own)
 
 pub returns-clause-exact : goal.returns-clause-exact
 returns-clause-exact c = λ plane connect one_each e.
     c.settle.ensures
-    ∙ measures_from_down c.args.values.now c.args.tree.now c.add_to_parents.new.entries plane connect c.add_pixels.ensures.plane c.add_pixels.ensures.in_range c.requires.shape c.add_to_parents.ensures one_each e
+    ∙ measures_from_down c.args.values.now c.args.tree.now c.add_to_parents.new.entries plane connect c.add_pixels.ensures.plane c.add_pixels.ensures.in_range
+    c.requires.shape c.add_to_parents.ensures one_each e
 
 pub returns-clause-the_trees : goal.returns-clause-the_trees
 returns-clause-the_trees c =
     subst (AreTheTreesMeasures c.args.tree.now) (sym c.settle.ensures)
-    (trees_measures c.args.values.now c.args.tree.now c.add_to_parents.new.entries c.add_pixels.ensures.plane c.add_pixels.ensures.in_range c.requires.shape c.requires.tree c.add_to_parents.ensures)
+    (trees_measures c.args.values.now c.args.tree.now c.add_to_parents.new.entries c.add_pixels.ensures.plane c.add_pixels.ensures.in_range c.requires.shape
+    c.requires.tree c.add_to_parents.ensures)

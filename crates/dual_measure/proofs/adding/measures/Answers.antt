@@ -12,7 +12,8 @@ returns-clause-exact c = λ plane connect one_each e.
 
 pub returns-clause-the_trees : goal.returns-clause-the_trees
 returns-clause-the_trees c =
-    subst (AreTheTreesMeasures c.args.tree.now) (sym (take_front c.fill.new.entries _ _ (c.fill.auto.entries ∙ c.deref_mut.ensures.len))) c.fill.ensures.the_trees
+    subst (AreTheTreesMeasures c.args.tree.now) (sym (take_front c.fill.new.entries _ _ (c.fill.auto.entries ∙ c.deref_mut.ensures.len)))
+    c.fill.ensures.the_trees
 
 pub returns-clause-small : goal.returns-clause-small
 returns-clause-small c = λ n entry e.

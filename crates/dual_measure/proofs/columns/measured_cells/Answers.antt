@@ -16,7 +16,8 @@ returns c =
     let low : SFits w64 c.args.measure.now.low = search rules in
     let peak : SFits w64 c.args.measure.now.peak = search rules in
     let mean : SFits w64 c.mean.result = search rules in
-    let last : c.copy_from_slice-2.new.self ≡ pos c.args.measure.now.seen ∷ pos c.args.measure.now.missing ∷ c.args.measure.now.v ∷ c.args.measure.now.low ∷ c.args.measure.now.peak ∷ mean_of c.args.measure.now ∷ c.args.back ∷ [] =
+    let last : c.copy_from_slice-2.new.self ≡ pos c.args.measure.now.seen ∷ pos
+    c.args.measure.now.missing ∷ c.args.measure.now.v ∷ c.args.measure.now.low ∷ c.args.measure.now.peak ∷ mean_of c.args.measure.now ∷ c.args.back ∷ [] =
     c.copy_from_slice-2.ensures.after
     ∙ same_seven _ _ _ _ _ _ _ _ _ _ _ _ _ _
     (to_z_pos w64 c.args.measure.now.seen (omega arith))

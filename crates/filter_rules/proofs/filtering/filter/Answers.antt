@@ -23,23 +23,30 @@ the_trees plane tree sums shape pixels same in_range of_plane = record {
 
 pub kept_nodes-requires-clause-sums : goal.kept_nodes-requires-clause-sums
 kept_nodes-requires-clause-sums c =
-    the_trees c.args.plane.now _ _ c.shape-shape.result c.shape-shape.ensures.pixels c.shape-shape.ensures.same c.shape-shape.ensures.in_range c.requires.of_plane
+    the_trees c.args.plane.now _ _ c.shape-shape.result c.shape-shape.ensures.pixels c.shape-shape.ensures.same c.shape-shape.ensures.in_range
+    c.requires.of_plane
 
 pub node_values-requires-clause-rows : goal.node_values-requires-clause-rows
 node_values-requires-clause-rows c =
-    let trees = the_trees c.args.plane.now _ _ c.shape-shape.result c.shape-shape.ensures.pixels c.shape-shape.ensures.same c.shape-shape.ensures.in_range c.requires.of_plane in
+    let trees =
+    the_trees c.args.plane.now _ _ c.shape-shape.result c.shape-shape.ensures.pixels c.shape-shape.ensures.same c.shape-shape.ensures.in_range
+    c.requires.of_plane in
     subst (λ (rows : List NodeRow). HasRisingLevels rows) (sym c.rows.ensures) (trees_rise c.args.tree.now c.args.sums.now trees)
 
 pub fill-requires-clause-pixels : goal.fill-requires-clause-pixels
 fill-requires-clause-pixels c =
-    ap length c.node_of.ensures ∙ numbers_for_pixels c.args.plane.now c.args.tree.now (c.requires.of_plane.connect, c.requires.of_plane.tree_is) ∙ c.shape-shape.ensures.pixels
+    ap length c.node_of.ensures ∙ numbers_for_pixels c.args.plane.now c.args.tree.now (c.requires.of_plane.connect, c.requires.of_plane.tree_is)
+    ∙ c.shape-shape.ensures.pixels
 
 pub fill-requires-clause-nodes : goal.fill-requires-clause-nodes
 fill-requires-clause-nodes c =
     let plane : IsPlane c.args.plane.now = c.shape-shape.ensures.pixels ∙ ap (λ (s : Shape). s.width * s.height) c.shape-shape.ensures.same in
-    let count : length c.deref-2.result.now ≡ length c.args.tree.now.rows = ap length c.deref-2.ensures.value ∙ c.in_ok-values.ensures.one_each ∙ ap length c.rows.ensures in
-    subst (λ (numbers : List ℕ). (p : ℕ) → p < length numbers → (slice_index numbers p ≡ no_node) ⊎ (slice_index numbers p < length c.deref-2.result.now)) (sym c.node_of.ensures)
-    (subst (λ (k : ℕ). (p : ℕ) → p < length c.args.tree.now.node_of → (slice_index c.args.tree.now.node_of p ≡ no_node) ⊎ (slice_index c.args.tree.now.node_of p < k)) (sym count)
+    let count : length c.deref-2.result.now ≡ length c.args.tree.now.rows =
+    ap length c.deref-2.ensures.value ∙ c.in_ok-values.ensures.one_each ∙ ap length c.rows.ensures in
+    subst (λ (numbers : List ℕ). (p : ℕ) → p < length numbers → (slice_index numbers p ≡ no_node) ⊎ (slice_index numbers p < length c.deref-2.result.now))
+    (sym c.node_of.ensures)
+    (subst (λ (k : ℕ). (p : ℕ) → p < length c.args.tree.now.node_of → (slice_index c.args.tree.now.node_of p ≡ no_node) ⊎ (slice_index c.args.tree.now.node_of
+    p < k)) (sym count)
     (numbers_fit c.args.plane.now c.requires.of_plane.connect c.args.tree.now plane c.requires.of_plane.tree_is))
 
 pub returns : goal.returns
@@ -52,7 +59,8 @@ returns c =
       flags = λ n h. ap (λ (flags : List Bool). flag flags n) c.deref.ensures.value ∙ c.in_ok-kept.ensures.kept c.args.plane.now connect e f plane n h;
       one_each = ap length c.deref-2.ensures.value ∙ c.in_ok-values.ensures.one_each ∙ ap length c.rows.ensures;
       made = subst (λ (values : List ℤ). AreValues c.args.tree.now.rows c.args.rule c.deref.result.now values) (sym c.deref-2.ensures.value)
-          (subst (λ (rows : List NodeRow). AreValues rows c.args.rule c.deref.result.now c.in_ok-values.values.items) c.rows.ensures c.in_ok-values.ensures.values);
+          (subst (λ (rows : List NodeRow). AreValues rows c.args.rule c.deref.result.now c.in_ok-values.values.items) c.rows.ensures
+          c.in_ok-values.ensures.values);
       same_shape = s ∙ c.shape-shape.ensures.same;
       filled = v ∙ ap (map (filled_pixel c.deref-2.result.now)) c.node_of.ensures;
     }))

@@ -15,7 +15,8 @@ loop-n-preserved-then-kept-n c =
       within = omega arith;
       asked = parent_gets c.args.rows.now c.requires.rows c.args.kept.now c.loop-n.kept (c.loop-n.n - 1) node c.requires.one_each
           (subst (λ (k : ℕ). AreWithChildren c.args.rows.now c.args.kept.now c.loop-n.kept k) next c.loop-n.invariant.asked) _
-          (sym (row-parent c.args.rows.now (c.loop-n.n - 1) _ node)) (parent_less c.args.rows.now c.requires.rows c.args.kept.now c.loop-n.kept (c.loop-n.n - 1) node _ c.if-parent.true)
+          (sym (row-parent c.args.rows.now (c.loop-n.n - 1) _ node))
+          (parent_less c.args.rows.now c.requires.rows c.args.kept.now c.loop-n.kept (c.loop-n.n - 1) node _ c.if-parent.true)
           c.if-kept-n.true;
     }
 
@@ -29,6 +30,7 @@ loop-n-preserved c =
           (subst (λ (k : ℕ). AreWithChildren c.args.rows.now c.args.kept.now c.loop-n.kept k) next c.loop-n.invariant.asked)
           (λ l f. elim c.else-parent.branch [
             | else-parent-via-then-parent+else-kept-n w ↦ absurd (true≢false (sym f ∙ w.if-kept-n.false))
-            | else-parent-via-else-parent w ↦ let same : parent_in c.args.rows.now (c.loop-n.n - 1) ≡ no_node = sym (row-parent c.args.rows.now (c.loop-n.n - 1) _ node) ∙ w.if-parent.false in absurd (omega (arith, c.requires.rows.few, l, same))
+            | else-parent-via-else-parent w ↦ let same : parent_in c.args.rows.now (c.loop-n.n - 1) ≡ no_node =
+                sym (row-parent c.args.rows.now (c.loop-n.n - 1) _ node) ∙ w.if-parent.false in absurd (omega (arith, c.requires.rows.few, l, same))
           ]);
     }

@@ -15,7 +15,8 @@ bounds-kept-parent c =
       c.loop-n-test.true,
       c.requires.one_each,
       c.loop-n.invariant.one_each,
-      parent_less c.args.rows.now c.requires.rows c.args.kept.now c.loop-n.kept c.loop-n.n (omega (arith, c.loop-n-test.true, c.loop-n.auto.n-end)) _ c.if-parent.true,
+      parent_less c.args.rows.now c.requires.rows c.args.kept.now c.loop-n.kept c.loop-n.n (omega (arith, c.loop-n-test.true, c.loop-n.auto.n-end)) _
+          c.if-parent.true,
     )
 
 pub loop-n-preserved : goal.loop-n-preserved

@@ -20,7 +20,8 @@ collect-requires-clause-ready g c κs within =
     let grid = c.args.grid.now in
     let plane = c.args.plane.now in
     let count : c.cells.result ≡ cell_count grid.mesh plane.shape = c.cells.ensures.count ∙ ap (λ (s : Shape). cell_count grid.mesh s) c.requires in
-    let inside = nat_range-All (λ k. (grid.shape ≡ plane.shape) × (k < cell_count grid.mesh plane.shape)) 0 c.cells.result (λ k low high. (c.requires, omega arith)) in
+    let inside =
+    nat_range-All (λ k. (grid.shape ≡ plane.shape) × (k < cell_count grid.mesh plane.shape)) 0 c.cells.result (λ k low high. (c.requires, omega arith)) in
     rw (c.map.ensures.base, c.map.ensures.f, c.with_min_len.ensures.base, ends.0, ends.1) (λ k d lt. (inside k d lt, λ y p. tt))
 
 pub returns : goal.returns
@@ -36,7 +37,8 @@ returns g c =
     ∙ ap (λ (it : Iter ℕ). nat_range it.start it.end) c.with_min_len.ensures.base
     ∙ ap (λ (n : ℕ). nat_range n c.into_par_iter.result.end) ends.0 ∙ ap (nat_range 0) ends.1 ∙ ap (range_with_len 0) whole in
     let called : ℕ → Option ℤ = λ k. lower_median (defined_values c.map.result.f.1.now (cell_pixels c.map.result.f.1.now c.map.result.f.2.now.mesh k)) in
-    let answers : IfOk c.in_ok-collect.field-0 (λ (v : Vec (Option ℤ) Global). v.items ≡ map called h.1.0) = collected called h.1.0 h.0 c.in_ok-collect.field-0 h.1.2 h.2 in
+    let answers : IfOk c.in_ok-collect.field-0 (λ (v : Vec (Option ℤ) Global). v.items ≡ map called h.1.0) =
+    collected called h.1.0 h.0 c.in_ok-collect.field-0 h.1.2 h.2 in
     let placed : IfOk c.in_ok-collect.field-0 (λ (v : Vec (Option ℤ) Global). v.items ≡ map called (range_with_len 0 (cell_count grid.mesh plane.shape))) =
     subst (λ (ns : List ℕ). IfOk c.in_ok-collect.field-0 (λ (v : Vec (Option ℤ) Global). v.items ≡ map called ns)) places answers in
     subst (λ (t : Bor Global × Bor Raster × Bor Grid). IfOk c.in_ok-collect.field-0 (λ (v : Vec (Option ℤ) Global). v.items

@@ -25,7 +25,8 @@ loop-y-init c =
     let g = c.args.grid.now in
     let b = c.cell-bounds.result in
     let cell = subst (λ (s : Shape). IsCell g.mesh s.width s.height c.args.cell b.left b.right b.top b.bottom) c.requires.shape c.cell-bounds.ensures in
-    gather-start c.args.plane.now g.mesh c.args.cell b.left b.right b.top b.bottom b.top c.in_ok-members.members.items cell (λ i. b.top) c.in_ok-members.ensures.items
+    gather-start c.args.plane.now g.mesh c.args.cell b.left b.right b.top b.bottom b.top c.in_ok-members.members.items cell (λ i. b.top)
+    c.in_ok-members.ensures.items
 
 pub push_values-requires-clause-ordered : goal.push_values-requires-clause-ordered
 push_values-requires-clause-ordered c = omega (arith, c.cell-bounds.ensures.some_columns)
@@ -47,7 +48,8 @@ loop-y-preserved c =
     let r = c.args.plane.now in
     let cell = subst (λ (s : Shape). IsCell g.mesh s.width s.height c.args.cell b.left b.right b.top b.bottom) c.requires.shape c.cell-bounds.ensures in
     let wide : c.shape-width.result.width ≡ r.shape.width = ap (λ (s : Shape). s.width) c.shape-width.ensures.same in
-    gather-row r g.mesh c.args.cell b.left b.right b.top b.bottom c.loop-y.y c.shape-width.result.width c.loop-y.members.items c.push_values.new.members.items cell
+    gather-row r g.mesh c.args.cell b.left b.right b.top b.bottom c.loop-y.y c.shape-width.result.width c.loop-y.members.items c.push_values.new.members.items
+    cell
     c.loop-y.auto.y c.loop-y-test.true wide c.loop-y.invariant c.in_ok-push_values.ensures
 
 pub returns : goal.returns

@@ -31,17 +31,20 @@ scaled-fits whole part p q h =
 number-fits : (whole : ℕ) (p : ℤ) → whole ≤ 131070 → IsHalfRangeTimes whole p → SFits w64 p
 number-fits whole p few h = up_to-fits w64 (whole * 2 ^ 36) p (omega arith) (times-up_to whole p h)
 
-scaled-is : (whole part : ℕ) (m k p q first second : ℤ) → IsGiven whole part p q → m ≡ pos (whole - part) → k ≡ pos part → first ≡ kept w64 p → second ≡ kept w64 q
+scaled-is : (whole part : ℕ) (m k p q first second : ℤ) → IsGiven whole part p q → m ≡ pos (whole - part) → k ≡ pos part → first ≡ kept w64 p
+    → second ≡ kept w64 q
     → kept w128 (kept w128 m *ℤ kept w128 first) +ℤ kept w128 (kept w128 k *ℤ kept w128 second) ≡ part_way whole part p q
 scaled-is whole part m k p q first second h em ek ep eq =
     let few : whole ≤ 131070 = h.few in
     let most = few-squares whole few in
-    way-computed w128 whole part (whole * 2 ^ 36) m k p q first second em ek (ep ∙ to_z-of_z w64 p (number-fits whole p few h.first)) (eq ∙ to_z-of_z w64 q (number-fits whole q few h.second))
+    way-computed w128 whole part (whole * 2 ^ 36) m k p q first second em ek (ep ∙ to_z-of_z w64 p (number-fits whole p few h.first))
+    (eq ∙ to_z-of_z w64 q (number-fits whole q few h.second))
     h.part_of (times-up_to whole p h.first) (times-up_to whole q h.second) (omega arith) (omega arith) (omega (arith, most.1))
 
 scaled-small : (whole part : ℕ) (p q : ℤ) → IsGiven whole part p q → IsSmallTimes (whole * whole) (part_way whole part p q)
 scaled-small whole part p q h =
-    let up : IsUpTo (whole * (whole * 2 ^ 36)) (part_way whole part p q) = up_to-way whole part (whole * 2 ^ 36) p q h.part_of (times-up_to whole p h.first) (times-up_to whole q h.second) in
+    let up : IsUpTo (whole * (whole * 2 ^ 36)) (part_way whole part p q) =
+    up_to-way whole part (whole * 2 ^ 36) p q h.part_of (times-up_to whole p h.first) (times-up_to whole q h.second) in
     let same : whole * (whole * 2 ^ 36) ≡ whole * whole * 2 ^ 36 = sym (mul_assoc whole whole (2 ^ 36)) in
     let low : _ = up.low in
     let high : _ = up.high in
@@ -53,16 +56,31 @@ small-same parts n z y e f h = subst (λ (m : ℕ). IsSmallTimes m y) (sym e) (s
 pub overflow_add-scaled : goal.overflow_add-scaled
 overflow_add-scaled c =
     let given : IsGiven (2 * c.args.mesh) c.args.part c.args.p c.args.q =
-    record { some = omega (arith, c.requires.some); few = omega (arith, c.requires.few); part_of = c.requires.part; first = c.requires.first; second = c.requires.second } in
+    record {
+      some = omega (arith, c.requires.some);
+      few = omega (arith, c.requires.few);
+      part_of = c.requires.part;
+      first = c.requires.first;
+      second = c.requires.second;
+    } in
     subst (λ (z : ℤ). SFits w128 z)
-    (sym (scaled-is (2 * c.args.mesh) c.args.part c.from.result c.from-3.result c.args.p c.args.q c.from-2.result c.from-4.result given c.from.ensures c.from-3.ensures c.from-2.ensures c.from-4.ensures))
+    (sym (scaled-is (2 * c.args.mesh) c.args.part c.from.result c.from-3.result c.args.p c.args.q c.from-2.result c.from-4.result given c.from.ensures
+    c.from-3.ensures c.from-2.ensures c.from-4.ensures))
     (scaled-fits (2 * c.args.mesh) c.args.part c.args.p c.args.q given)
 
 pub of-requires-clause-size : goal.of-requires-clause-size
 of-requires-clause-size c =
     let given : IsGiven (2 * c.args.mesh) c.args.part c.args.p c.args.q =
-    record { some = omega (arith, c.requires.some); few = omega (arith, c.requires.few); part_of = c.requires.part; first = c.requires.first; second = c.requires.second } in
-    let is = ap (kept w128) (scaled-is (2 * c.args.mesh) c.args.part c.from.result c.from-3.result c.args.p c.args.q c.from-2.result c.from-4.result given c.from.ensures c.from-3.ensures c.from-2.ensures c.from-4.ensures)
+    record {
+      some = omega (arith, c.requires.some);
+      few = omega (arith, c.requires.few);
+      part_of = c.requires.part;
+      first = c.requires.first;
+      second = c.requires.second;
+    } in
+    let is =
+    ap (kept w128) (scaled-is (2 * c.args.mesh) c.args.part c.from.result c.from-3.result c.args.p c.args.q c.from-2.result c.from-4.result given c.from.ensures
+    c.from-3.ensures c.from-2.ensures c.from-4.ensures)
     ∙ to_z-of_z w128 (part_way (2 * c.args.mesh) c.args.part c.args.p c.args.q) (scaled-fits (2 * c.args.mesh) c.args.part c.args.p c.args.q given) in
     small-same (2 * c.args.mesh * (2 * c.args.mesh)) c.parts_of.result (part_way (2 * c.args.mesh) c.args.part c.args.p c.args.q) _ c.parts_of.ensures.parts is
     (scaled-small (2 * c.args.mesh) c.args.part c.args.p c.args.q given)
@@ -70,7 +88,14 @@ of-requires-clause-size c =
 pub returns-clause-value : goal.returns-clause-value
 returns-clause-value c =
     let given : IsGiven (2 * c.args.mesh) c.args.part c.args.p c.args.q =
-    record { some = omega (arith, c.requires.some); few = omega (arith, c.requires.few); part_of = c.requires.part; first = c.requires.first; second = c.requires.second } in
+    record {
+      some = omega (arith, c.requires.some);
+      few = omega (arith, c.requires.few);
+      part_of = c.requires.part;
+      first = c.requires.first;
+      second = c.requires.second;
+    } in
     ap (λ (n : ℕ). in_parts n c.of.result) (sym c.parts_of.ensures.parts) ∙ c.of.ensures.value
-    ∙ ap (kept w128) (scaled-is (2 * c.args.mesh) c.args.part c.from.result c.from-3.result c.args.p c.args.q c.from-2.result c.from-4.result given c.from.ensures c.from-3.ensures c.from-2.ensures c.from-4.ensures)
+    ∙ ap (kept w128) (scaled-is (2 * c.args.mesh) c.args.part c.from.result c.from-3.result c.args.p c.args.q c.from-2.result c.from-4.result given
+    c.from.ensures c.from-3.ensures c.from-2.ensures c.from-4.ensures)
     ∙ to_z-of_z w128 (part_way (2 * c.args.mesh) c.args.part c.args.p c.args.q) (scaled-fits (2 * c.args.mesh) c.args.part c.args.p c.args.q given)

@@ -20,17 +20,23 @@ way-is whole part m k p q le few a b em ek =
 
 pub overflow_add-result : goal.overflow_add-result
 overflow_add-result c =
-    subst (λ (z : ℤ). SFits w64 z) (sym (way-is c.args.whole c.args.part c.from.result c.from-2.result c.args.p c.args.q c.requires.part c.requires.whole c.requires.first c.requires.second c.from.ensures c.from-2.ensures))
+    subst (λ (z : ℤ). SFits w64 z) (sym (way-is c.args.whole c.args.part c.from.result c.from-2.result c.args.p c.args.q c.requires.part c.requires.whole
+    c.requires.first c.requires.second c.from.ensures c.from-2.ensures))
     (way-fits c.args.whole c.args.part c.args.p c.args.q c.requires.part c.requires.whole c.requires.first c.requires.second)
 
 pub returns-clause-value : goal.returns-clause-value
 returns-clause-value c =
-    ap (kept w64) (way-is c.args.whole c.args.part c.from.result c.from-2.result c.args.p c.args.q c.requires.part c.requires.whole c.requires.first c.requires.second c.from.ensures c.from-2.ensures)
-    ∙ to_z-of_z w64 (part_way c.args.whole c.args.part c.args.p c.args.q) (way-fits c.args.whole c.args.part c.args.p c.args.q c.requires.part c.requires.whole c.requires.first c.requires.second)
+    ap (kept w64) (way-is c.args.whole c.args.part c.from.result c.from-2.result c.args.p c.args.q c.requires.part c.requires.whole c.requires.first
+    c.requires.second c.from.ensures c.from-2.ensures)
+    ∙ to_z-of_z w64 (part_way c.args.whole c.args.part c.args.p c.args.q)
+    (way-fits c.args.whole c.args.part c.args.p c.args.q c.requires.part c.requires.whole c.requires.first c.requires.second)
 
 pub returns-clause-in_range : goal.returns-clause-in_range
 returns-clause-in_range c =
     let value =
-    ap (kept w64) (way-is c.args.whole c.args.part c.from.result c.from-2.result c.args.p c.args.q c.requires.part c.requires.whole c.requires.first c.requires.second c.from.ensures c.from-2.ensures)
-    ∙ to_z-of_z w64 (part_way c.args.whole c.args.part c.args.p c.args.q) (way-fits c.args.whole c.args.part c.args.p c.args.q c.requires.part c.requires.whole c.requires.first c.requires.second) in
-    subst (λ (z : ℤ). IsHalfRangeTimes c.args.whole z) (sym value) (half-way c.args.whole c.args.part c.args.p c.args.q c.requires.part c.requires.first c.requires.second)
+    ap (kept w64) (way-is c.args.whole c.args.part c.from.result c.from-2.result c.args.p c.args.q c.requires.part c.requires.whole c.requires.first
+    c.requires.second c.from.ensures c.from-2.ensures)
+    ∙ to_z-of_z w64 (part_way c.args.whole c.args.part c.args.p c.args.q)
+    (way-fits c.args.whole c.args.part c.args.p c.args.q c.requires.part c.requires.whole c.requires.first c.requires.second) in
+    subst (λ (z : ℤ). IsHalfRangeTimes c.args.whole z) (sym value)
+    (half-way c.args.whole c.args.part c.args.p c.args.q c.requires.part c.requires.first c.requires.second)

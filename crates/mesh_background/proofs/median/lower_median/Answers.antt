@@ -14,4 +14,5 @@ returns c =
     let h = c.select_nth_unstable-lesser.ensures in
     let parts = c.select_nth_unstable-lesser.result in
     let fits : SFits w64 parts.1.now = search rules in
-    ap Some (to_z-of_z w64 parts.1.now fits) ∙ sym (median_from_split c.args.members.now parts.0.now parts.2.now parts.1.now h.permutation h.partitioned h.front_len)
+    ap Some (to_z-of_z w64 parts.1.now fits)
+    ∙ sym (median_from_split c.args.members.now parts.0.now parts.2.now parts.1.now h.permutation h.partitioned h.front_len)

@@ -20,7 +20,8 @@ cell-row columns rows cell lt =
 pub loop-near-init : goal.loop-near-init
 loop-near-init c =
     c.clear.ensures.items
-    ∙ rows-none c.args.values.now c.args.columns (c.args.cell % c.args.columns) (max (c.args.cell / c.args.columns) 1 - 1) (c.max-near.result - 1) (ap (λ (n : ℕ). n - 1) c.max-near.ensures)
+    ∙ rows-none c.args.values.now c.args.columns (c.args.cell % c.args.columns) (max (c.args.cell / c.args.columns) 1 - 1) (c.max-near.result - 1)
+    (ap (λ (n : ℕ). n - 1) c.max-near.ensures)
 
 pub loop-near-preserved : goal.loop-near-preserved
 loop-near-preserved c =
@@ -32,10 +33,13 @@ loop-near-preserved c =
     let end : c.min-near-end.result ≡ min (c.args.cell / columns + 2) c.args.rows = c.min-near-end.ensures in
     let low : _ = c.loop-near.auto.near in
     let high : _ = c.loop-near-test.true in
-    rows-next values c.loop-near.around.items c.extend_from_slice.new.self.items columns c.args.rows (c.args.cell % columns) (max (c.args.cell / columns) 1 - 1) near
-    c.requires.one_each (cell-column columns c.args.rows c.args.cell c.requires.cell) (omega (arith, high, end)) (omega (arith, low, first)) c.loop-near.invariant
+    rows-next values c.loop-near.around.items c.extend_from_slice.new.self.items columns c.args.rows (c.args.cell % columns) (max (c.args.cell / columns) 1 - 1)
+    near
+    c.requires.one_each (cell-column columns c.args.rows c.args.cell c.requires.cell) (omega (arith, high, end)) (omega (arith, low, first))
+    c.loop-near.invariant
     (c.in_ok-extend_from_slice.ensures.items
-    ∙ (λ t. c.loop-near.around.items ++ take (near * columns + c.min-right.ensures t - (near * columns + (c.max-left.ensures t - 1))) (drop (near * columns + (c.max-left.ensures t - 1)) values)))
+    ∙ (λ t. c.loop-near.around.items ++ take (near * columns + c.min-right.ensures t - (near * columns + (c.max-left.ensures t - 1)))
+    (drop (near * columns + (c.max-left.ensures t - 1)) values)))
 
 pub returns : goal.returns
 returns c =
@@ -44,5 +48,6 @@ returns c =
     let first : c.max-near.result ≡ max (c.args.cell / columns) 1 = c.max-near.ensures in
     let end : c.min-near-end.result ≡ min (c.args.cell / columns + 2) c.args.rows = c.min-near-end.ensures in
     let near : c.loop-near.near ≡ min (c.args.cell / columns + 2) c.args.rows = omega arith in
-    rows-all c.args.values.now c.loop-near.around.items columns c.args.rows (c.args.cell % columns) (c.args.cell / columns) (max (c.args.cell / columns) 1 - 1) c.loop-near.near row refl
+    rows-all c.args.values.now c.loop-near.around.items columns c.args.rows (c.args.cell % columns) (c.args.cell / columns) (max (c.args.cell / columns) 1 - 1)
+    c.loop-near.near row refl
     (ap (λ (n : ℕ). n - (max (c.args.cell / columns) 1 - 1)) near) c.loop-near.invariant

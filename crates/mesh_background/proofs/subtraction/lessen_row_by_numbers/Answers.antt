@@ -24,14 +24,18 @@ pub overflow_add-number : goal.overflow_add-number
 overflow_add-number c =
     let g = c.args.grid.now in
     let high : g.shape.height ≡ c.args.plane.now.shape.height = ap (λ (s : Shape). s.height) c.requires.shape in
-    let few = place-few g.mesh g.shape.width g.shape.height g.columns c.args.y c.loop-column.column g.some g.shape.within_limits g.columns_is (omega arith) (omega arith) in
+    let few =
+    place-few g.mesh g.shape.width g.shape.height g.columns c.args.y c.loop-column.column g.some g.shape.within_limits g.columns_is (omega arith)
+    (omega arith) in
     omega (arith, few.0, few.1)
 
 pub bounds-numbers-cells : goal.bounds-numbers-cells
 bounds-numbers-cells c =
     let g = c.args.grid.now in
     let high : g.shape.height ≡ c.args.plane.now.shape.height = ap (λ (s : Shape). s.height) c.requires.shape in
-    let few = place-few g.mesh g.shape.width g.shape.height g.columns c.args.y c.loop-column.column g.some g.shape.within_limits g.columns_is (omega arith) (omega arith) in
+    let few =
+    place-few g.mesh g.shape.width g.shape.height g.columns c.args.y c.loop-column.column g.some g.shape.within_limits g.columns_is (omega arith)
+    (omega arith) in
     let same : cell_count g.mesh g.shape ≡ cell_count g.mesh c.args.plane.now.shape = ap (λ (s : Shape). cell_count g.mesh s) c.requires.shape in
     omega (arith, few.0)
 
@@ -41,7 +45,8 @@ lessen_run-requires-clause-in_range c =
     let r : Raster = c.args.plane.now in
     let wide : g.shape.width ≡ r.shape.width = ap (λ (s : Shape). s.width) c.requires.shape in
     let columns : g.columns ≡ cells_along g.mesh r.shape.width = g.columns_is ∙ ap (λ (n : ℕ). cells_along g.mesh n) wide in
-    let start : min (c.loop-column.column * g.mesh) r.shape.width ≡ c.loop-column.column * g.mesh = column-start g.mesh r.shape.width g.columns c.loop-column.column g.some columns c.loop-column-test.true in
+    let start : min (c.loop-column.column * g.mesh) r.shape.width ≡ c.loop-column.column * g.mesh =
+    column-start g.mesh r.shape.width g.columns c.loop-column.column g.some columns c.loop-column-test.true in
     let first : c.args.y * r.shape.width + min (c.loop-column.column * g.mesh) r.shape.width ≡ c.args.y * g.shape.width + c.loop-column.column * g.mesh =
     ap (λ (n : ℕ). c.args.y * r.shape.width + n) start ∙ ap (λ (n : ℕ). c.args.y * n + c.loop-column.column * g.mesh) (sym wide) in
     subst (λ (n : ℕ). IsInHalfRangeFrom n c.loop-column.plane.values) first
@@ -55,10 +60,15 @@ loop-column-preserved c =
     let wide : g.shape.width ≡ r.shape.width = ap (λ (s : Shape). s.width) c.requires.shape in
     let columns : g.columns ≡ cells_along g.mesh r.shape.width = g.columns_is ∙ ap (λ (n : ℕ). cells_along g.mesh n) wide in
     let high : g.shape.height ≡ r.shape.height = ap (λ (s : Shape). s.height) c.requires.shape in
-    let few = place-few g.mesh g.shape.width g.shape.height g.columns c.args.y c.loop-column.column g.some g.shape.within_limits g.columns_is (omega arith) (omega arith) in
+    let few =
+    place-few g.mesh g.shape.width g.shape.height g.columns c.args.y c.loop-column.column g.some g.shape.within_limits g.columns_is (omega arith)
+    (omega arith) in
     let same : cell_count g.mesh g.shape ≡ cell_count g.mesh r.shape = ap (λ (s : Shape). cell_count g.mesh s) c.requires.shape in
     let inside : c.args.y / g.mesh * g.columns + c.loop-column.column < length c.args.numbers.now = omega (arith, few.0) in
     let number : ℤ = get_or c.args.numbers.now (c.args.y / g.mesh * g.columns + c.loop-column.column) (pos 0) in
-    row-next r c.loop-column.plane c.lessen_run.new.plane g.mesh r.shape.width g.columns c.args.y c.loop-column.column c.min-right.result c.args.numbers.now (to_z w64 (of_z w64 number)) g.some columns c.loop-column-test.true
-    (to_z-of_z w64 number (half-fits number (c.requires.numbers_in_range _ (pos 0) inside))) (c.min-right.ensures ∙ ap (λ (n : ℕ). min (c.loop-column.column * g.mesh + g.mesh) n) wide) c.loop-column.invariant
-    (subst (λ (n : ℕ). IsLessened c.loop-column.plane (λ _. to_z w64 (of_z w64 number)) (c.args.y * n + c.loop-column.column * g.mesh) (c.args.y * n + c.min-right.result) c.lessen_run.new.plane) wide c.lessen_run.ensures)
+    row-next r c.loop-column.plane c.lessen_run.new.plane g.mesh r.shape.width g.columns c.args.y c.loop-column.column c.min-right.result c.args.numbers.now
+    (to_z w64 (of_z w64 number)) g.some columns c.loop-column-test.true
+    (to_z-of_z w64 number (half-fits number (c.requires.numbers_in_range _ (pos 0) inside)))
+    (c.min-right.ensures ∙ ap (λ (n : ℕ). min (c.loop-column.column * g.mesh + g.mesh) n) wide) c.loop-column.invariant
+    (subst (λ (n : ℕ). IsLessened c.loop-column.plane (λ _. to_z w64 (of_z w64 number)) (c.args.y * n + c.loop-column.column * g.mesh)
+    (c.args.y * n + c.min-right.result) c.lessen_run.new.plane) wide c.lessen_run.ensures)

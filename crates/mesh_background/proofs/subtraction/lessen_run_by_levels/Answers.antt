@@ -19,7 +19,8 @@ use Rattle.mesh_background.proofs.Lessening.{run-lessened}
 use Rattle.mesh_background.proofs.subtraction.lessen_run_by_levels.Goals as goal
 
 -- the four cells have numbers
-in-grid : (columns rows mesh x y a c : ℕ) (numbers : List ℤ) → 0 < columns → 0 < rows → length numbers ≡ columns * rows → a < columns → c < rows → c * columns + a < length numbers
+in-grid : (columns rows mesh x y a c : ℕ) (numbers : List ℤ) → 0 < columns → 0 < rows → length numbers ≡ columns * rows → a < columns → c < rows
+    → c * columns + a < length numbers
 in-grid columns rows mesh x y a c numbers wide high long al cl = subst (λ (n : ℕ). c * columns + a < n) (sym long) (cell-within columns rows a c al cl)
 
 -- what is known of the grid and the pixel row
@@ -48,7 +49,8 @@ cell-in columns rows mesh x y a b p c d q numbers h k =
       in-grid columns rows mesh x y b d numbers wide high h.long bl dl,
     )
 
-ready : (columns rows mesh y c d q : ℕ) (own shape : Shape) (numbers : List ℤ) → 0 < mesh → columns ≡ cells_along mesh own.width → rows ≡ cells_along mesh own.height → own ≡ shape
+ready : (columns rows mesh y c d q : ℕ) (own shape : Shape) (numbers : List ℤ) → 0 < mesh → columns ≡ cells_along mesh own.width
+    → rows ≡ cells_along mesh own.height → own ≡ shape
     → length numbers ≡ cell_count mesh shape → IsPlaced rows mesh y c d q → IsReady columns rows mesh y c d q numbers
 ready columns rows mesh y c d q own shape numbers some e f same long placed =
     let wide : 0 < cells_along mesh own.width = columns-some mesh own.width some own.within_limits.some_columns in
@@ -74,33 +76,45 @@ pub down_column-before-requires-clause-before : goal.down_column-before-requires
 down_column-before-requires-clause-before c =
     let g = c.args.grid.now in
     let down : IsPlaced g.rows g.mesh c.args.y _ _ _ = record { before_is = c.requires.before; after_is = c.requires.after; past_is = c.requires.past } in
-    let is = ready g.columns g.rows g.mesh c.args.y _ _ _ g.shape c.args.plane.now.shape c.args.numbers.now g.some g.columns_is g.rows_is c.requires.shape c.requires.numbers down in
+    let is =
+    ready g.columns g.rows g.mesh c.args.y _ _ _ g.shape c.args.plane.now.shape c.args.numbers.now g.some g.columns_is g.rows_is c.requires.shape
+    c.requires.numbers down in
     let across = c.cells-across.ensures in
-    (cell-in g.columns g.rows g.mesh _ c.args.y _ _ _ _ _ _ c.args.numbers.now is (record { before_is = across.before; after_is = across.after; past_is = across.past })).0
+    (cell-in g.columns g.rows g.mesh _ c.args.y _ _ _ _ _ _ c.args.numbers.now is
+    (record { before_is = across.before; after_is = across.after; past_is = across.past })).0
 
 pub down_column-before-requires-clause-after : goal.down_column-before-requires-clause-after
 down_column-before-requires-clause-after c =
     let g = c.args.grid.now in
     let down : IsPlaced g.rows g.mesh c.args.y _ _ _ = record { before_is = c.requires.before; after_is = c.requires.after; past_is = c.requires.past } in
-    let is = ready g.columns g.rows g.mesh c.args.y _ _ _ g.shape c.args.plane.now.shape c.args.numbers.now g.some g.columns_is g.rows_is c.requires.shape c.requires.numbers down in
+    let is =
+    ready g.columns g.rows g.mesh c.args.y _ _ _ g.shape c.args.plane.now.shape c.args.numbers.now g.some g.columns_is g.rows_is c.requires.shape
+    c.requires.numbers down in
     let across = c.cells-across.ensures in
-    (cell-in g.columns g.rows g.mesh _ c.args.y _ _ _ _ _ _ c.args.numbers.now is (record { before_is = across.before; after_is = across.after; past_is = across.past })).1
+    (cell-in g.columns g.rows g.mesh _ c.args.y _ _ _ _ _ _ c.args.numbers.now is
+    (record { before_is = across.before; after_is = across.after; past_is = across.past })).1
 
 pub down_column-after-requires-clause-before : goal.down_column-after-requires-clause-before
 down_column-after-requires-clause-before c =
     let g = c.args.grid.now in
     let down : IsPlaced g.rows g.mesh c.args.y _ _ _ = record { before_is = c.requires.before; after_is = c.requires.after; past_is = c.requires.past } in
-    let is = ready g.columns g.rows g.mesh c.args.y _ _ _ g.shape c.args.plane.now.shape c.args.numbers.now g.some g.columns_is g.rows_is c.requires.shape c.requires.numbers down in
+    let is =
+    ready g.columns g.rows g.mesh c.args.y _ _ _ g.shape c.args.plane.now.shape c.args.numbers.now g.some g.columns_is g.rows_is c.requires.shape
+    c.requires.numbers down in
     let across = c.cells-across.ensures in
-    (cell-in g.columns g.rows g.mesh _ c.args.y _ _ _ _ _ _ c.args.numbers.now is (record { before_is = across.before; after_is = across.after; past_is = across.past })).2
+    (cell-in g.columns g.rows g.mesh _ c.args.y _ _ _ _ _ _ c.args.numbers.now is
+    (record { before_is = across.before; after_is = across.after; past_is = across.past })).2
 
 pub down_column-after-requires-clause-after : goal.down_column-after-requires-clause-after
 down_column-after-requires-clause-after c =
     let g = c.args.grid.now in
     let down : IsPlaced g.rows g.mesh c.args.y _ _ _ = record { before_is = c.requires.before; after_is = c.requires.after; past_is = c.requires.past } in
-    let is = ready g.columns g.rows g.mesh c.args.y _ _ _ g.shape c.args.plane.now.shape c.args.numbers.now g.some g.columns_is g.rows_is c.requires.shape c.requires.numbers down in
+    let is =
+    ready g.columns g.rows g.mesh c.args.y _ _ _ g.shape c.args.plane.now.shape c.args.numbers.now g.some g.columns_is g.rows_is c.requires.shape
+    c.requires.numbers down in
     let across = c.cells-across.ensures in
-    (cell-in g.columns g.rows g.mesh _ c.args.y _ _ _ _ _ _ c.args.numbers.now is (record { before_is = across.before; after_is = across.after; past_is = across.past })).3
+    (cell-in g.columns g.rows g.mesh _ c.args.y _ _ _ _ _ _ c.args.numbers.now is
+    (record { before_is = across.before; after_is = across.after; past_is = across.past })).3
 
 pub lessen_slope-requires-clause-levels : goal.lessen_slope-requires-clause-levels
 lessen_slope-requires-clause-levels c =
@@ -113,16 +127,22 @@ lessen_slope-requires-clause-levels c =
     let across = c.cells-across.ensures in
     let first : SFits w64 c.down_column-before.result = search rules in
     let second : SFits w64 c.down_column-after.result = search rules in
-    let run : IsRun c.args.numbers.now g.columns g.rows g.mesh c.args.y left level step = run-is c.args.numbers.now g.columns g.rows g.mesh c.args.y left _ _ _ _ _ _
+    let run : IsRun c.args.numbers.now g.columns g.rows g.mesh c.args.y left level step =
+    run-is c.args.numbers.now g.columns g.rows g.mesh c.args.y left _ _ _ _ _ _
     (kept w64 c.down_column-before.result) (kept w64 c.down_column-after.result) level step
-    (record { before_is = across.before; after_is = across.after; past_is = across.past }) (record { before_is = c.requires.before; after_is = c.requires.after; past_is = c.requires.past })
-    (to_z-of_z w64 c.down_column-before.result first ∙ c.down_column-before.ensures.value) (to_z-of_z w64 c.down_column-after.result second ∙ c.down_column-after.ensures.value)
+    (record { before_is = across.before; after_is = across.after; past_is = across.past })
+    (record { before_is = c.requires.before; after_is = c.requires.after; past_is = c.requires.past })
+    (to_z-of_z w64 c.down_column-before.result first ∙ c.down_column-before.ensures.value)
+    (to_z-of_z w64 c.down_column-after.result second ∙ c.down_column-after.ensures.value)
     c.level_between-level.ensures.value c.step_between-step.ensures.value in
     λ k lt.
     let inside : k < first_before g.mesh g.shape.width (c.args.next + 1) - left = omega (arith, lt, c.run_start-right.ensures) in
     let along = run-along g.mesh g.shape.width c.args.next left k g.some c.run_start-left.ensures inside in
-    let is = ap (λ (n : ℕ). steps_on n level step k) c.parts_of.ensures.parts ∙ run-level c.args.numbers.now g.columns g.rows g.mesh c.args.y left (left + k) k level step run along in
-    subst (λ (z : ℤ). IsInHalfRange z) (sym is) (half-interpolated c.args.numbers.now g.columns g.rows g.mesh (left + k) c.args.y g.some c.requires.numbers_in_range)
+    let is =
+    ap (λ (n : ℕ). steps_on n level step k) c.parts_of.ensures.parts
+    ∙ run-level c.args.numbers.now g.columns g.rows g.mesh c.args.y left (left + k) k level step run along in
+    subst (λ (z : ℤ). IsInHalfRange z) (sym is) (half-interpolated c.args.numbers.now g.columns g.rows g.mesh (left + k) c.args.y g.some
+    c.requires.numbers_in_range)
 
 pub returns : goal.returns
 returns c =
@@ -135,21 +155,32 @@ returns c =
     let across = c.cells-across.ensures in
     let first : SFits w64 c.down_column-before.result = search rules in
     let second : SFits w64 c.down_column-after.result = search rules in
-    let run : IsRun c.args.numbers.now g.columns g.rows g.mesh c.args.y left level step = run-is c.args.numbers.now g.columns g.rows g.mesh c.args.y left _ _ _ _ _ _
+    let run : IsRun c.args.numbers.now g.columns g.rows g.mesh c.args.y left level step =
+    run-is c.args.numbers.now g.columns g.rows g.mesh c.args.y left _ _ _ _ _ _
     (kept w64 c.down_column-before.result) (kept w64 c.down_column-after.result) level step
-    (record { before_is = across.before; after_is = across.after; past_is = across.past }) (record { before_is = c.requires.before; after_is = c.requires.after; past_is = c.requires.past })
-    (to_z-of_z w64 c.down_column-before.result first ∙ c.down_column-before.ensures.value) (to_z-of_z w64 c.down_column-after.result second ∙ c.down_column-after.ensures.value)
+    (record { before_is = across.before; after_is = across.after; past_is = across.past })
+    (record { before_is = c.requires.before; after_is = c.requires.after; past_is = c.requires.past })
+    (to_z-of_z w64 c.down_column-before.result first ∙ c.down_column-before.ensures.value)
+    (to_z-of_z w64 c.down_column-after.result second ∙ c.down_column-after.ensures.value)
     c.level_between-level.ensures.value c.step_between-step.ensures.value in
     let right : ℕ = c.run_start-right.result in
     let wide : g.shape.width ≡ r.shape.width = ap (λ (s : Shape). s.width) c.requires.shape in
     let columns : g.columns ≡ cells_along g.mesh r.shape.width = g.columns_is ∙ ap (λ (n : ℕ). cells_along g.mesh n) wide in
     let rows : g.rows ≡ cells_along g.mesh r.shape.height = g.rows_is ∙ ap (λ (s : Shape). cells_along g.mesh s.height) c.requires.shape in
     let from : left ≡ first_before g.mesh r.shape.width c.args.next = c.run_start-left.ensures ∙ ap (λ (n : ℕ). first_before g.mesh n c.args.next) wide in
-    let end : right ≡ first_before g.mesh r.shape.width (c.args.next + 1) = c.run_start-right.ensures ∙ ap (λ (n : ℕ). first_before g.mesh n (c.args.next + 1)) wide in
-    let done : IsLessened r (λ p. steps_on parts level step (p - (c.args.y * r.shape.width + left))) (c.args.y * r.shape.width + left) (c.args.y * r.shape.width + right) c.lessen_slope.new.plane =
-    subst (λ (n : ℕ). IsLessened r (λ p. steps_on parts level step (p - (c.args.y * n + left))) (c.args.y * n + left) (c.args.y * n + right) c.lessen_slope.new.plane) wide
-    (subst (λ (m : ℕ). IsLessened r (λ p. steps_on m level step (p - (c.args.y * g.shape.width + left))) (c.args.y * g.shape.width + left) (c.args.y * g.shape.width + right) c.lessen_slope.new.plane)
+    let end : right ≡ first_before g.mesh r.shape.width (c.args.next + 1) =
+    c.run_start-right.ensures ∙ ap (λ (n : ℕ). first_before g.mesh n (c.args.next + 1)) wide in
+    let done : IsLessened r (λ p. steps_on parts level step (p - (c.args.y * r.shape.width + left))) (c.args.y * r.shape.width + left)
+    (c.args.y * r.shape.width + right) c.lessen_slope.new.plane =
+    subst (λ (n : ℕ). IsLessened r (λ p. steps_on parts level step (p - (c.args.y * n + left))) (c.args.y * n + left) (c.args.y * n + right)
+    c.lessen_slope.new.plane) wide
+    (subst (λ (m : ℕ). IsLessened r (λ p. steps_on m level step (p - (c.args.y * g.shape.width + left))) (c.args.y * g.shape.width + left)
+    (c.args.y * g.shape.width + right) c.lessen_slope.new.plane)
     c.parts_of.ensures.parts c.lessen_slope.ensures) in
-    let all = run-lessened r c.lessen_slope.new.plane g.mesh g.columns g.rows c.args.y c.args.next left right c.args.numbers.now level step g.some columns rows from end run done in
-    subst (λ (m : ℕ). IsLessened r (pixel_level g.mesh r.shape c.args.numbers.now) (c.args.y * r.shape.width + first_before g.mesh r.shape.width c.args.next) (c.args.y * r.shape.width + m) c.lessen_slope.new.plane) end
-    (subst (λ (m : ℕ). IsLessened r (pixel_level g.mesh r.shape c.args.numbers.now) (c.args.y * r.shape.width + m) (c.args.y * r.shape.width + right) c.lessen_slope.new.plane) from all)
+    let all =
+    run-lessened r c.lessen_slope.new.plane g.mesh g.columns g.rows c.args.y c.args.next left right c.args.numbers.now level step g.some columns rows from end
+    run done in
+    subst (λ (m : ℕ). IsLessened r (pixel_level g.mesh r.shape c.args.numbers.now) (c.args.y * r.shape.width + first_before g.mesh r.shape.width c.args.next)
+    (c.args.y * r.shape.width + m) c.lessen_slope.new.plane) end
+    (subst (λ (m : ℕ). IsLessened r (pixel_level g.mesh r.shape c.args.numbers.now) (c.args.y * r.shape.width + m) (c.args.y * r.shape.width + right)
+    c.lessen_slope.new.plane) from all)

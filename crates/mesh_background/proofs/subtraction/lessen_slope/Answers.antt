@@ -11,10 +11,12 @@ use Rattle.mesh_background.proofs.Lessening.{lessened-none, lessened-more, half_
 use Rattle.mesh_background.proofs.Residuals.{half-fits}
 use Rattle.mesh_background.proofs.subtraction.lessen_slope.Goals as goal
 
-floor-is-on : (parts k : ℕ) (level step at : Mixed) → at.rest < parts → in_parts parts at ≡ in_parts parts level +ℤ pos k *ℤ in_parts parts step → at.floor ≡ steps_on parts level step k
+floor-is-on : (parts k : ℕ) (level step at : Mixed) → at.rest < parts → in_parts parts at ≡ in_parts parts level +ℤ pos k *ℤ in_parts parts step
+    → at.floor ≡ steps_on parts level step k
 floor-is-on parts k level step at few e = mixed-is parts at (in_parts parts level +ℤ pos k *ℤ in_parts parts step) few e
 
-floor-half : (parts k : ℕ) (level step at : Mixed) → at.rest < parts → in_parts parts at ≡ in_parts parts level +ℤ pos k *ℤ in_parts parts step → IsInHalfRange (steps_on parts level step k)
+floor-half : (parts k : ℕ) (level step at : Mixed) → at.rest < parts → in_parts parts at ≡ in_parts parts level +ℤ pos k *ℤ in_parts parts step
+    → IsInHalfRange (steps_on parts level step k)
     → IsInHalfRange at.floor
 floor-half parts k level step at few e h = subst (λ (z : ℤ). IsInHalfRange z) (sym (floor-is-on parts k level step at few e)) h
 
@@ -30,7 +32,8 @@ lessen-requires-clause-number c =
     let h = c.loop-p.invariant in
     let low : _ = c.loop-p.auto.p in
     let lt : c.loop-p.p - c.args.first < c.args.end - c.args.first = omega (arith, c.loop-p-test.true, low) in
-    let half : IsInHalfRange c.loop-p.at.floor = floor-half c.args.parts (c.loop-p.p - c.args.first) c.args.level c.args.step c.loop-p.at h.2 h.1 (c.requires.levels (c.loop-p.p - c.args.first) lt) in
+    let half : IsInHalfRange c.loop-p.at.floor =
+    floor-half c.args.parts (c.loop-p.p - c.args.first) c.args.level c.args.step c.loop-p.at h.2 h.1 (c.requires.levels (c.loop-p.p - c.args.first) lt) in
     subst (λ (z : ℤ). IsInHalfRange z) (sym (to_z-of_z w64 c.loop-p.at.floor (half-fits c.loop-p.at.floor half))) half
 
 pub lessen-requires-clause-in_range : goal.lessen-requires-clause-in_range
@@ -38,7 +41,8 @@ lessen-requires-clause-in_range c =
     let h = c.loop-p.invariant in
     let low : _ = c.loop-p.auto.p in
     let from : IsInHalfRangeFrom c.loop-p.p c.loop-p.plane.values =
-    half_from-later c.args.plane.now c.loop-p.plane (λ p. steps_on c.args.parts c.args.level c.args.step (p - c.args.first)) c.args.first c.loop-p.p c.requires.in_range h.0 low in
+    half_from-later c.args.plane.now c.loop-p.plane (λ p. steps_on c.args.parts c.args.level c.args.step (p - c.args.first)) c.args.first c.loop-p.p
+    c.requires.in_range h.0 low in
     half_from-at c.loop-p.plane.values c.loop-p.p c.loop-p.p from (omega arith)
 
 pub plus-at-requires-clause-level : goal.plus-at-requires-clause-level
@@ -54,10 +58,16 @@ loop-p-preserved c =
     let low : _ = c.loop-p.auto.p in
     let by : ℕ → ℤ = λ p. steps_on c.args.parts c.args.level c.args.step (p - c.args.first) in
     let lt : c.loop-p.p - c.args.first < c.args.end - c.args.first = omega (arith, c.loop-p-test.true, low) in
-    let half : IsInHalfRange c.loop-p.at.floor = floor-half c.args.parts (c.loop-p.p - c.args.first) c.args.level c.args.step c.loop-p.at h.2 h.1 (c.requires.levels (c.loop-p.p - c.args.first) lt) in
-    let is = to_z-of_z w64 c.loop-p.at.floor (half-fits c.loop-p.at.floor half) ∙ floor-is-on c.args.parts (c.loop-p.p - c.args.first) c.args.level c.args.step c.loop-p.at h.2 h.1 in (
-      lessened-more c.args.plane.now c.loop-p.plane c.lessen.new.plane by (λ _. kept w64 c.loop-p.at.floor) c.args.first c.loop-p.p (c.loop-p.p + 1) h.0 c.lessen.ensures low (omega arith)
+    let half : IsInHalfRange c.loop-p.at.floor =
+    floor-half c.args.parts (c.loop-p.p - c.args.first) c.args.level c.args.step c.loop-p.at h.2 h.1 (c.requires.levels (c.loop-p.p - c.args.first) lt) in
+    let is =
+    to_z-of_z w64 c.loop-p.at.floor (half-fits c.loop-p.at.floor half)
+    ∙ floor-is-on c.args.parts (c.loop-p.p - c.args.first) c.args.level c.args.step c.loop-p.at h.2 h.1 in (
+      lessened-more c.args.plane.now c.loop-p.plane c.lessen.new.plane by (λ _. kept w64 c.loop-p.at.floor) c.args.first c.loop-p.p (c.loop-p.p + 1) h.0
+          c.lessen.ensures low (omega arith)
           (λ p from to. let same : c.loop-p.p ≡ p = omega (arith, from, to) in is ∙ ap by same),
-      c.plus-at.ensures.sum ∙ steps-more (c.loop-p.p - c.args.first) (c.loop-p.p + 1 - c.args.first) (in_parts c.args.parts c.loop-p.at) (in_parts c.args.parts c.args.level) (in_parts c.args.parts c.args.step) h.1 (omega (arith, low)),
+      c.plus-at.ensures.sum
+          ∙ steps-more (c.loop-p.p - c.args.first) (c.loop-p.p + 1 - c.args.first) (in_parts c.args.parts c.loop-p.at) (in_parts c.args.parts c.args.level)
+          (in_parts c.args.parts c.args.step) h.1 (omega (arith, low)),
       c.plus-at.ensures.rest,
     )

@@ -25,7 +25,8 @@ lessen_row_by_levels-requires-clause-in_range c =
     let r : Raster = c.args.plane.now in
     let h = c.loop-y.invariant in
     let wide = ap (λ (s : Shape). s.width) h.shape_is in
-    rw wide (half_from-later r c.loop-y.plane (pixel_level c.args.grid.now.mesh r.shape c.args.numbers.now) 0 (c.loop-y.y * r.shape.width) (half_from-all r c.requires.in_range) h (omega arith))
+    rw wide (half_from-later r c.loop-y.plane (pixel_level c.args.grid.now.mesh r.shape c.args.numbers.now) 0 (c.loop-y.y * r.shape.width)
+    (half_from-all r c.requires.in_range) h (omega arith))
 
 pub loop-y-preserved : goal.loop-y-preserved
 loop-y-preserved c =
@@ -33,8 +34,10 @@ loop-y-preserved c =
     let h = c.loop-y.invariant in
     let by : ℕ → ℤ = pixel_level c.args.grid.now.mesh r.shape c.args.numbers.now in
     let row : IsLessened c.loop-y.plane by (c.loop-y.y * r.shape.width) ((c.loop-y.y + 1) * r.shape.width) c.lessen_row_by_levels.new.plane =
-    subst (λ (s : Shape). IsLessened c.loop-y.plane (pixel_level c.args.grid.now.mesh s c.args.numbers.now) (c.loop-y.y * s.width) ((c.loop-y.y + 1) * s.width) c.lessen_row_by_levels.new.plane) h.shape_is c.lessen_row_by_levels.ensures in
-    lessened-more r c.loop-y.plane c.lessen_row_by_levels.new.plane by by 0 (c.loop-y.y * r.shape.width) ((c.loop-y.y + 1) * r.shape.width) h row (omega arith) (omega arith) (λ p low high. refl)
+    subst (λ (s : Shape). IsLessened c.loop-y.plane (pixel_level c.args.grid.now.mesh s c.args.numbers.now) (c.loop-y.y * s.width) ((c.loop-y.y + 1) * s.width)
+    c.lessen_row_by_levels.new.plane) h.shape_is c.lessen_row_by_levels.ensures in
+    lessened-more r c.loop-y.plane c.lessen_row_by_levels.new.plane by by 0 (c.loop-y.y * r.shape.width) ((c.loop-y.y + 1) * r.shape.width) h row (omega arith)
+    (omega arith) (λ p low high. refl)
 
 pub returns : goal.returns
 returns c =
@@ -43,4 +46,5 @@ returns c =
     let high : c.shape-height.result.height ≡ r.shape.height = ap (λ (s : Shape). s.height) c.shape-height.ensures.same in
     let rows : c.loop-y.y ≡ r.shape.height = omega arith in
     let count : c.loop-y.y * r.shape.width ≡ length r.values = ap (λ (n : ℕ). n * r.shape.width) rows ∙ mul_comm r.shape.height r.shape.width ∙ sym plane in
-    levels-all r c.loop-y.plane c.args.grid.now.mesh (c.loop-y.y * r.shape.width) c.args.numbers.now c.args.grid.now.some c.requires.numbers c.loop-y.invariant count
+    levels-all r c.loop-y.plane c.args.grid.now.mesh (c.loop-y.y * r.shape.width) c.args.numbers.now c.args.grid.now.some c.requires.numbers c.loop-y.invariant
+    count

@@ -5,8 +5,8 @@ use Rattle.comp_tree.specs.Raster.{Raster, IsPlane}
 use Rattle.mesh_background.specs.Mesh.{cell_count}
 use Rattle.comp_tree.specs.Limits.{IsInHalfRange}
 use Rattle.mesh_background.specs.Lessened.{number_of_cell, IsLessened}
-use Rattle.mesh_background.proofs.Residuals.{length-values}
-use Rattle.mesh_background.proofs.Lessening.{half_from-all, half_from-later, half-numbers, lessened-more, numbers-all}
+use Rattle.mesh_background.proofs.Residuals.{half-values, length-values}
+use Rattle.mesh_background.proofs.Lessening.{half_from-all, half_from-later, lessened-more, numbers-all}
 use Rattle.mesh_background.proofs.subtraction.subtract_numbers.Goals as goal
 
 pub lessen_row_by_numbers-requires-clause-numbers : goal.lessen_row_by_numbers-requires-clause-numbers
@@ -17,14 +17,15 @@ lessen_row_by_numbers-requires-clause-numbers c =
 
 pub lessen_row_by_numbers-requires-clause-numbers_in_range : goal.lessen_row_by_numbers-requires-clause-numbers_in_range
 lessen_row_by_numbers-requires-clause-numbers_in_range c =
-    subst (λ (vs : List ℤ). All IsInHalfRange vs) (sym c.requires.numbers) (half-numbers c.args.plane.now c.args.grid.now.mesh c.requires.in_range)
+    subst (λ (vs : List ℤ). All IsInHalfRange vs) (sym c.requires.numbers) (half-values c.args.plane.now c.args.grid.now.mesh c.requires.in_range)
 
 pub lessen_row_by_numbers-requires-clause-in_range : goal.lessen_row_by_numbers-requires-clause-in_range
 lessen_row_by_numbers-requires-clause-in_range c =
     let r : Raster = c.args.plane.now in
     let h = c.loop-y.invariant in
     let wide = ap (λ (s : Shape). s.width) h.shape_is in
-    rw wide (half_from-later r c.loop-y.plane (number_of_cell c.args.grid.now.mesh r.shape.width c.args.numbers.now) 0 (c.loop-y.y * r.shape.width) (half_from-all r c.requires.in_range) h (omega arith))
+    rw wide (half_from-later r c.loop-y.plane (number_of_cell c.args.grid.now.mesh r.shape.width c.args.numbers.now) 0 (c.loop-y.y * r.shape.width)
+    (half_from-all r c.requires.in_range) h (omega arith))
 
 pub loop-y-preserved : goal.loop-y-preserved
 loop-y-preserved c =
@@ -33,8 +34,10 @@ loop-y-preserved c =
     let wide : c.loop-y.plane.shape.width ≡ r.shape.width = ap (λ (s : Shape). s.width) h.shape_is in
     let by : ℕ → ℤ = number_of_cell c.args.grid.now.mesh r.shape.width c.args.numbers.now in
     let row : IsLessened c.loop-y.plane by (c.loop-y.y * r.shape.width) ((c.loop-y.y + 1) * r.shape.width) c.lessen_row_by_numbers.new.plane =
-    subst (λ (n : ℕ). IsLessened c.loop-y.plane (number_of_cell c.args.grid.now.mesh n c.args.numbers.now) (c.loop-y.y * n) ((c.loop-y.y + 1) * n) c.lessen_row_by_numbers.new.plane) wide c.lessen_row_by_numbers.ensures in
-    lessened-more r c.loop-y.plane c.lessen_row_by_numbers.new.plane by by 0 (c.loop-y.y * r.shape.width) ((c.loop-y.y + 1) * r.shape.width) h row (omega arith) (omega arith) (λ p low high. refl)
+    subst (λ (n : ℕ). IsLessened c.loop-y.plane (number_of_cell c.args.grid.now.mesh n c.args.numbers.now) (c.loop-y.y * n) ((c.loop-y.y + 1) * n)
+    c.lessen_row_by_numbers.new.plane) wide c.lessen_row_by_numbers.ensures in
+    lessened-more r c.loop-y.plane c.lessen_row_by_numbers.new.plane by by 0 (c.loop-y.y * r.shape.width) ((c.loop-y.y + 1) * r.shape.width) h row (omega arith)
+    (omega arith) (λ p low high. refl)
 
 pub returns : goal.returns
 returns c =
@@ -43,4 +46,5 @@ returns c =
     let high : c.shape-height.result.height ≡ r.shape.height = ap (λ (s : Shape). s.height) c.shape-height.ensures.same in
     let rows : c.loop-y.y ≡ r.shape.height = omega arith in
     let count : c.loop-y.y * r.shape.width ≡ length r.values = ap (λ (n : ℕ). n * r.shape.width) rows ∙ mul_comm r.shape.height r.shape.width ∙ sym plane in
-    numbers-all r c.loop-y.plane c.args.grid.now.mesh (c.loop-y.y * r.shape.width) c.args.numbers.now c.args.grid.now.some r.shape.within_limits.some_columns plane c.requires.numbers c.loop-y.invariant count
+    numbers-all r c.loop-y.plane c.args.grid.now.mesh (c.loop-y.y * r.shape.width) c.args.numbers.now c.args.grid.now.some r.shape.within_limits.some_columns
+    plane c.requires.numbers c.loop-y.invariant count

@@ -6,35 +6,41 @@ use Rattle.node_sums.proofs.adding.add_row.Goals as goal
 
 pub loop-column-init : goal.loop-column-init
 loop-column-init c = record {
-  own = subst (λ n. AreOwnTo c.args.plane.now c.args.node_of.now n c.args.sums.now) (let e : c.args.row * c.args.width ≡ c.args.row * c.args.width + 0 = omega arith in e) c.requires.before;
+  own = subst (λ n. AreOwnTo c.args.plane.now c.args.node_of.now n c.args.sums.now)
+      (let e : c.args.row * c.args.width ≡ c.args.row * c.args.width + 0 = omega arith in e) c.requires.before;
   same_length = refl;
 }
 
 pub get-requires : goal.get-requires
 get-requires c =
     subst (λ n. c.args.row * n + c.loop-column.column < length c.args.plane.now.values) (sym c.requires.width)
-    (Passes.in_plane c.args.plane.now c.args.row c.loop-column.column c.requires.plane c.requires.row (omega (arith, c.loop-column-test.true, c.requires.width)))
+    (Passes.in_plane c.args.plane.now c.args.row c.loop-column.column c.requires.plane c.requires.row
+    (omega (arith, c.loop-column-test.true, c.requires.width)))
 
 pub together-requires : goal.together-requires
 together-requires c =
     let inside : c.args.row * c.args.width + c.loop-column.column < length c.args.plane.now.values =
     subst (λ n. c.args.row * n + c.loop-column.column < length c.args.plane.now.values) (sym c.requires.width)
-    (Passes.in_plane c.args.plane.now c.args.row c.loop-column.column c.requires.plane c.requires.row (omega (arith, c.loop-column-test.true, c.requires.width))) in
+    (Passes.in_plane c.args.plane.now c.args.row c.loop-column.column c.requires.plane c.requires.row
+    (omega (arith, c.loop-column-test.true, c.requires.width))) in
     Passes.turn_size c.args.plane.now c.args.node_of.now c.loop-column.sums _ _ _ _ c.of_pixel-pixel.result c.requires.plane
-    (Passes.turn_from_code c.args.plane.now c.args.node_of.now c.loop-column.sums (c.args.row * c.args.width) c.args.row c.loop-column.column (c.args.row * c.args.width + c.loop-column.column)
+    (Passes.turn_from_code c.args.plane.now c.args.node_of.now c.loop-column.sums (c.args.row * c.args.width) c.args.row c.loop-column.column
+    (c.args.row * c.args.width + c.loop-column.column)
     c.in-Some.value c.get.result _ c.of_pixel-pixel.result c.loop-column.invariant.own (ap (λ n. c.args.row * n) c.requires.width) refl
     (omega (arith, c.loop-column-test.true, c.requires.width)) inside c.get.ensures.value c.in-Some.is c.in-Some.ensures.in_range c.of_pixel-pixel.ensures
     (omega (
       arith,
       c.loop-column.invariant.same_length,
-      c.requires.nodes (c.args.row * c.args.width + c.loop-column.column) (Passes.defined-of c.args.plane.now (c.args.row * c.args.width + c.loop-column.column) c.in-Some.value (sym c.get.ensures.value ∙ c.in-Some.is)),
+      c.requires.nodes (c.args.row * c.args.width + c.loop-column.column)
+          (Passes.defined-of c.args.plane.now (c.args.row * c.args.width + c.loop-column.column) c.in-Some.value (sym c.get.ensures.value ∙ c.in-Some.is)),
     )))
 
 pub loop-column-preserved : goal.loop-column-preserved
 loop-column-preserved c =
     let inside : c.args.row * c.args.width + c.loop-column.column < length c.args.plane.now.values =
     subst (λ n. c.args.row * n + c.loop-column.column < length c.args.plane.now.values) (sym c.requires.width)
-    (Passes.in_plane c.args.plane.now c.args.row c.loop-column.column c.requires.plane c.requires.row (omega (arith, c.loop-column-test.true, c.requires.width))) in
+    (Passes.in_plane c.args.plane.now c.args.row c.loop-column.column c.requires.plane c.requires.row
+    (omega (arith, c.loop-column-test.true, c.requires.width))) in
     let next : c.args.row * c.args.width + c.loop-column.column + 1 ≡ c.args.row * c.args.width + (c.loop-column.column + 1) = omega arith in
     subst (λ n. (let t : Type 0 = record {
       own : AreOwnTo c.args.plane.now c.args.node_of.now n c.match-get.sums;
@@ -43,18 +49,23 @@ loop-column-preserved c =
     (elim c.match-get.branch [
       | in-Some w ↦ record {
         own = rw w.sums-is (Passes.to_next c.args.plane.now c.args.node_of.now c.loop-column.sums _ _ _ _ w.of_pixel-pixel.result w.together.result
-            (Passes.turn_from_code c.args.plane.now c.args.node_of.now c.loop-column.sums (c.args.row * c.args.width) c.args.row c.loop-column.column (c.args.row * c.args.width + c.loop-column.column)
+            (Passes.turn_from_code c.args.plane.now c.args.node_of.now c.loop-column.sums (c.args.row * c.args.width) c.args.row c.loop-column.column
+            (c.args.row * c.args.width + c.loop-column.column)
             w.in-Some.value c.get.result _ w.of_pixel-pixel.result c.loop-column.invariant.own (ap (λ n. c.args.row * n) c.requires.width) refl
-            (omega (arith, c.loop-column-test.true, c.requires.width)) inside c.get.ensures.value w.in-Some.is w.in-Some.ensures.in_range w.of_pixel-pixel.ensures
+            (omega (arith, c.loop-column-test.true, c.requires.width)) inside c.get.ensures.value w.in-Some.is w.in-Some.ensures.in_range
+            w.of_pixel-pixel.ensures
             (omega (
               arith,
               c.loop-column.invariant.same_length,
-              c.requires.nodes (c.args.row * c.args.width + c.loop-column.column) (Passes.defined-of c.args.plane.now (c.args.row * c.args.width + c.loop-column.column) w.in-Some.value (sym c.get.ensures.value ∙ w.in-Some.is)),
+              c.requires.nodes (c.args.row * c.args.width + c.loop-column.column)
+                  (Passes.defined-of c.args.plane.now (c.args.row * c.args.width + c.loop-column.column) w.in-Some.value
+                  (sym c.get.ensures.value ∙ w.in-Some.is)),
             ))) w.together.ensures);
         same_length = c.match-get.auto.sums ∙ c.loop-column.invariant.same_length;
       }
       | in_default w ↦ record {
-        own = rw w.sums-is (Passes.to_next_undefined c.args.plane.now c.args.node_of.now c.loop-column.sums _ c.loop-column.invariant.own (sym c.get.ensures.value ∙ w.in_default.is));
+        own = rw w.sums-is (Passes.to_next_undefined c.args.plane.now c.args.node_of.now c.loop-column.sums _ c.loop-column.invariant.own
+            (sym c.get.ensures.value ∙ w.in_default.is));
         same_length = c.match-get.auto.sums ∙ c.loop-column.invariant.same_length;
       }
     ])

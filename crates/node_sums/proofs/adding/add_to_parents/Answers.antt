@@ -10,7 +10,8 @@ element_of_lent-together c =
 pub together-whole-requires : goal.together-whole-requires
 together-whole-requires c =
     Passes.step_size c.args.plane.now c.args.tree.now c.loop-n.sums _ _ _ _ c.requires.plane c.requires.in_range c.requires.tree
-    (Passes.step_from_code c.args.plane.now c.args.tree.now c.loop-n.sums c.loop-n.n c.rows-rows.result.now _ _ _ c.requires.plane c.requires.tree c.loop-n.invariant
+    (Passes.step_from_code c.args.plane.now c.args.tree.now c.loop-n.sums c.loop-n.n c.rows-rows.result.now _ _ _ c.requires.plane c.requires.tree
+    c.loop-n.invariant
     (omega (arith, c.loop-n-test.true)) c.loop-n.auto.n c.rows-rows.ensures c.if-parent.true)
 
 pub bounds-sums-parent : goal.bounds-sums-parent
@@ -21,7 +22,8 @@ bounds-sums-parent c =
 pub loop-n-preserved-then-parent : goal.loop-n-preserved-then-parent
 loop-n-preserved-then-parent c =
     Passes.step_counted c.args.plane.now c.args.tree.now c.loop-n.sums _ _ _ _ _ c.requires.plane
-    (Passes.step_from_code c.args.plane.now c.args.tree.now c.loop-n.sums c.loop-n.n c.rows-rows.result.now _ _ _ c.requires.plane c.requires.tree c.loop-n.invariant
+    (Passes.step_from_code c.args.plane.now c.args.tree.now c.loop-n.sums c.loop-n.n c.rows-rows.result.now _ _ _ c.requires.plane c.requires.tree
+    c.loop-n.invariant
     (omega (arith, c.loop-n-test.true)) c.loop-n.auto.n c.rows-rows.ensures c.if-parent.true)
     c.together-whole.ensures
 

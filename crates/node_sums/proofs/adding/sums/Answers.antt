@@ -11,7 +11,9 @@ use Rattle.node_sums.proofs.adding.sums.Goals as goal
 pub add_pixels-requires-clause-nodes : goal.add_pixels-requires-clause-nodes
 add_pixels-requires-clause-nodes c = λ p d.
     let h = Passes.number_below c.args.plane.now c.args.tree.now c.requires p d in
-    let entries = ap length (c.deref_mut.ensures.value ∙ c.in_ok-sums.ensures c.args.plane.now) ∙ length-replicate (length c.rows.result.now) (sums_over c.args.plane.now []) in
+    let entries =
+    ap length (c.deref_mut.ensures.value ∙ c.in_ok-sums.ensures c.args.plane.now)
+    ∙ length-replicate (length c.rows.result.now) (sums_over c.args.plane.now []) in
     omega (arith, h, ap (λ (xs : List ℕ). slice_index xs p) c.node_of.ensures, entries, ap length c.rows.ensures)
 
 pub add_pixels-requires-clause-one_each : goal.add_pixels-requires-clause-one_each
@@ -26,7 +28,9 @@ add_to_parents-requires-clause-plane c = c.add_pixels.ensures.plane
 
 pub add_to_parents-requires-clause-own : goal.add_to_parents-requires-clause-own
 add_to_parents-requires-clause-own c =
-    let entries = ap length (c.deref_mut.ensures.value ∙ c.in_ok-sums.ensures c.args.plane.now) ∙ length-replicate (length c.rows.result.now) (sums_over c.args.plane.now []) in
+    let entries =
+    ap length (c.deref_mut.ensures.value ∙ c.in_ok-sums.ensures c.args.plane.now)
+    ∙ length-replicate (length c.rows.result.now) (sums_over c.args.plane.now []) in
     let handed : c.deref_mut-2.result.now ≡ c.add_pixels.new.sums =
     c.deref_mut-2.ensures.value ∙ Passes.take_front c.add_pixels.new.sums _ _ (c.add_pixels.auto.sums ∙ c.deref_mut.ensures.len) in
     let own : AreOwn c.args.plane.now c.args.tree.now.node_of (pixels c.args.plane.now) c.add_pixels.new.sums =
@@ -48,7 +52,8 @@ returns-clause-the_trees c =
     c.deref_mut-2.ensures.value ∙ Passes.take_front c.add_pixels.new.sums _ _ (c.add_pixels.auto.sums ∙ c.deref_mut.ensures.len) in
     subst (λ (sums : List Sums). AreTheTrees c.args.tree.now sums)
     (sym (Passes.take_front c.add_to_parents.new.sums _ _ (c.add_to_parents.auto.sums ∙ ap length handed ∙ c.add_pixels.auto.sums ∙ c.deref_mut.ensures.len)))
-    (Passes.trees_from_counted c.args.plane.now c.args.tree.now c.add_to_parents.new.sums c.add_pixels.ensures.plane c.add_pixels.ensures.in_range c.requires c.add_to_parents.ensures)
+    (Passes.trees_from_counted c.args.plane.now c.args.tree.now c.add_to_parents.new.sums c.add_pixels.ensures.plane c.add_pixels.ensures.in_range c.requires
+    c.add_to_parents.ensures)
 
 pub returns-clause-of_plane : goal.returns-clause-of_plane
 returns-clause-of_plane c =

@@ -4,19 +4,22 @@ use Rattle.node_sums.proofs.area.add_to_parents.Goals as goal
 
 pub bounds-areas-parent : goal.bounds-areas-parent
 bounds-areas-parent c =
-    let step = area_step_from_code c.args.plane.now c.args.tree.now c.loop-n.areas c.loop-n.n c.rows-rows.result.now _ c.requires.plane c.requires.tree c.loop-n.invariant
+    let step =
+    area_step_from_code c.args.plane.now c.args.tree.now c.loop-n.areas c.loop-n.n c.rows-rows.result.now _ c.requires.plane c.requires.tree c.loop-n.invariant
     (omega (arith, c.loop-n-test.true)) c.loop-n.auto.n c.rows-rows.ensures c.if-parent.true in
     omega (arith, step.inside, step.so_far.one_each)
 
 pub bounds-areas-parent-then-parent : goal.bounds-areas-parent-then-parent
 bounds-areas-parent-then-parent c =
-    let step = area_step_from_code c.args.plane.now c.args.tree.now c.loop-n.areas c.loop-n.n c.rows-rows.result.now _ c.requires.plane c.requires.tree c.loop-n.invariant
+    let step =
+    area_step_from_code c.args.plane.now c.args.tree.now c.loop-n.areas c.loop-n.n c.rows-rows.result.now _ c.requires.plane c.requires.tree c.loop-n.invariant
     (omega (arith, c.loop-n-test.true)) c.loop-n.auto.n c.rows-rows.ensures c.if-parent.true in
     omega (arith, step.inside, step.so_far.one_each)
 
 pub overflow_add-areas : goal.overflow_add-areas
 overflow_add-areas c =
-    let step = area_step_from_code c.args.plane.now c.args.tree.now c.loop-n.areas c.loop-n.n c.rows-rows.result.now _ c.requires.plane c.requires.tree c.loop-n.invariant
+    let step =
+    area_step_from_code c.args.plane.now c.args.tree.now c.loop-n.areas c.loop-n.n c.rows-rows.result.now _ c.requires.plane c.requires.tree c.loop-n.invariant
     (omega (arith, c.loop-n-test.true)) c.loop-n.auto.n c.rows-rows.ensures c.if-parent.true in
     omega (arith, step_small c.args.plane.now c.args.tree.now c.loop-n.areas _ _ c.requires.plane c.requires.tree step)
 

@@ -9,7 +9,9 @@ pub count_pixels-requires-clause-one_each : goal.count_pixels-requires-clause-on
 count_pixels-requires-clause-one_each c = ap length c.node_of.ensures ∙ numbers_for_pixels c.args.plane.now c.args.tree.now c.requires
 
 pub count_pixels-requires-clause-none : goal.count_pixels-requires-clause-none
-count_pixels-requires-clause-none c = counts_none c.node_of.result.now (length c.rows.result.now) c.deref_mut.result.now (c.deref_mut.ensures.value ∙ c.in_ok-areas.ensures.items_if_clones_equal (λ y e. e))
+count_pixels-requires-clause-none c =
+    counts_none c.node_of.result.now (length c.rows.result.now) c.deref_mut.result.now
+    (c.deref_mut.ensures.value ∙ c.in_ok-areas.ensures.items_if_clones_equal (λ y e. e))
 
 pub add_to_parents-requires-clause-own : goal.add_to_parents-requires-clause-own
 add_to_parents-requires-clause-own c =

@@ -11,7 +11,8 @@ overflow_add-areas c =
 pub loop-p-preserved : goal.loop-p-preserved
 loop-p-preserved c = elim c.if-node-areas.branch [
   | then-node-areas w ↦
-      rw w.areas-is (counts_more c.args.node_of.now c.loop-p.areas c.loop-p.p (slice_index c.args.node_of.now c.loop-p.p) _ c.loop-p.invariant refl w.if-node-areas.true refl)
+      rw w.areas-is (counts_more c.args.node_of.now c.loop-p.areas c.loop-p.p (slice_index c.args.node_of.now c.loop-p.p) _ c.loop-p.invariant refl
+      w.if-node-areas.true refl)
   | else-node-areas w ↦
       rw w.areas-is (counts_skip c.args.node_of.now c.loop-p.areas c.loop-p.p c.loop-p.invariant w.if-node-areas.false)
 ]

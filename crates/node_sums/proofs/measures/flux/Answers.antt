@@ -12,32 +12,37 @@ bounds-sums-n c = omega (arith, c.requires.node, FluxOfSums.trees_rows c.args.tr
 
 pub overflow_mul-result : goal.overflow_mul-result
 overflow_mul-result c =
-    let read = slice_get-get_or c.args.sums.now c.args.n _ (omega (arith, c.requires.node, FluxOfSums.trees_rows c.args.tree.now c.args.sums.now c.requires.sums)) in
+    let read =
+    slice_get-get_or c.args.sums.now c.args.n _ (omega (arith, c.requires.node, FluxOfSums.trees_rows c.args.tree.now c.args.sums.now c.requires.sums)) in
     let f = FluxOfSums.flux_numbers c.args.tree.now c.args.sums.now c.args.n _ c.requires.sums read in
     subst (FitsSigned w64) (sym (FluxOfSums.product-read _ _ c.base.result _ f c.base.ensures)) f.product_fits
 
 pub overflow_sub-result : goal.overflow_sub-result
 overflow_sub-result c =
-    let read = slice_get-get_or c.args.sums.now c.args.n _ (omega (arith, c.requires.node, FluxOfSums.trees_rows c.args.tree.now c.args.sums.now c.requires.sums)) in
+    let read =
+    slice_get-get_or c.args.sums.now c.args.n _ (omega (arith, c.requires.node, FluxOfSums.trees_rows c.args.tree.now c.args.sums.now c.requires.sums)) in
     let f = FluxOfSums.flux_numbers c.args.tree.now c.args.sums.now c.args.n _ c.requires.sums read in
     subst (FitsSigned w64) (sym (FluxOfSums.flux-read _ _ c.base.result _ f c.base.ensures)) f.flux_fits
 
 pub returns-clause-exact : goal.returns-clause-exact
 returns-clause-exact c = λ plane connect tree sums.
-    let read = slice_get-get_or c.args.sums.now c.args.n _ (omega (arith, c.requires.node, FluxOfSums.trees_rows c.args.tree.now c.args.sums.now c.requires.sums)) in
+    let read =
+    slice_get-get_or c.args.sums.now c.args.n _ (omega (arith, c.requires.node, FluxOfSums.trees_rows c.args.tree.now c.args.sums.now c.requires.sums)) in
     let f = FluxOfSums.flux_numbers c.args.tree.now c.args.sums.now c.args.n _ c.requires.sums read in
     FluxOfSums.result-read _ _ c.base.result _ f c.base.ensures ∙ FluxOfSums.flux-is plane connect c.args.tree.now c.args.sums.now c.args.n _ tree sums read
 
 pub returns-clause-of_sums : goal.returns-clause-of_sums
 returns-clause-of_sums c = λ entry g.
-    let read = slice_get-get_or c.args.sums.now c.args.n _ (omega (arith, c.requires.node, FluxOfSums.trees_rows c.args.tree.now c.args.sums.now c.requires.sums)) in
+    let read =
+    slice_get-get_or c.args.sums.now c.args.n _ (omega (arith, c.requires.node, FluxOfSums.trees_rows c.args.tree.now c.args.sums.now c.requires.sums)) in
     let f = FluxOfSums.flux_numbers c.args.tree.now c.args.sums.now c.args.n _ c.requires.sums read in
     FluxOfSums.result-read _ _ c.base.result _ f c.base.ensures
     ∙ ap (λ (s : Sums). s.r -ℤ base_of c.args.tree.now c.args.n *ℤ pos s.area) (get_or_from_slice_get c.args.sums.now c.args.n entry _ g)
 
 pub returns-clause-never_negative : goal.returns-clause-never_negative
 returns-clause-never_negative c =
-    let read = slice_get-get_or c.args.sums.now c.args.n _ (omega (arith, c.requires.node, FluxOfSums.trees_rows c.args.tree.now c.args.sums.now c.requires.sums)) in
+    let read =
+    slice_get-get_or c.args.sums.now c.args.n _ (omega (arith, c.requires.node, FluxOfSums.trees_rows c.args.tree.now c.args.sums.now c.requires.sums)) in
     let f = FluxOfSums.flux_numbers c.args.tree.now c.args.sums.now c.args.n _ c.requires.sums read in
     subst (λ (z : ℤ). pos 0 ≤ℤ z) (sym (FluxOfSums.result-read _ _ c.base.result _ f c.base.ensures))
     (FluxOfSums.flux_not_negative c.args.tree.now c.args.sums.now c.args.n _ c.requires.sums read)

@@ -1,6 +1,6 @@
 use Rattle.std.proofs.Common.{◌≤◌, ◌<◌, ◌+◌, ◌*◌, ◌⊎◌, inl, inr, ap, ◌∙◌, subst, ℕ, arith}
 use Rattle.std.proofs.lemmas.Bool.{cases_lt}
-use Rattle.source_pick.specs.Clearing.{reach}
+use Rattle.source_pick.specs.Clearing.{columns_beside}
 use Rattle.source_pick.proofs.Around.{IsPartOfRow, part_of_row}
 use Rattle.source_pick.proofs.Nearing.{around_none, around_more, around_all}
 use Rattle.source_pick.proofs.clearing.mark_around.Goals as goal
@@ -14,8 +14,8 @@ loop-row-preserved c =
     around_more c.args.connect c.args.shape.width c.args.x c.args.y c.args.start c.loop-row.row _ _ c.args.marks.now c.loop-row.marks c.mark_between.new.marks c.requires.column
     (omega (arith, c.loop-row.auto.row, c.saturating_sub-row.ensures)) (omega (arith, c.loop-row-test.true, c.min-end.ensures))
     (subst (λ (side : ℕ). IsPartOfRow c.args.shape.width c.args.x side c.loop-row.row (c.loop-row.row * c.args.shape.width + c.saturating_sub.result) (c.loop-row.row * c.args.shape.width + c.min.result))
-    (c.reach-side.ensures.exact ∙ ap (reach c.args.connect) c.distance.ensures)
-    (part_of_row c.args.shape.width c.args.x c.reach-side.result c.loop-row.row c.saturating_sub.result c.min.result c.saturating_sub.ensures c.min.ensures))
+    (c.columns_beside-side.ensures.exact ∙ ap (columns_beside c.args.connect) c.distance.ensures)
+    (part_of_row c.args.shape.width c.args.x c.columns_beside-side.result c.loop-row.row c.saturating_sub.result c.min.result c.saturating_sub.ensures c.min.ensures))
     c.loop-row.invariant c.mark_between.ensures
 
 pub returns : goal.returns

@@ -1,8 +1,9 @@
 use Rattle.std.proofs.Common.{arith}
-use Rattle.source_pick.proofs.Readings.{of_trees, node_inside, rows-length}
+use Rattle.source_pick.proofs.Readings.{of_trees, node_inside}
 use Rattle.source_pick.proofs.Entries.{entry_of-parts}
 use Rattle.source_pick.proofs.Strong.{entry_from_number, none_from_number, weak_outside, weak_small, strong_if}
 use Rattle.source_pick.proofs.marking.passes_as_strong.Goals as goal
+use Rattle.node_sums.proofs.Exported.{rows_are}
 
 pub returns-then-entry : goal.returns-then-entry
 returns-then-entry c = λ r connect of_tree of_sums is_plane.
@@ -23,7 +24,7 @@ has_part-requires-clause-entry c =
     let inside = node_inside t.plane t.of_plane.connect c.args.tree.now c.args.n o.tree_is c.requires.node in
     let entry = entry_from_number t.plane t.of_plane.connect c.args.choice.now c.args.n _ o.plane inside (c.requires.entries.each t.plane t.of_plane.connect o.tree_is o.sums_are o.plane c.args.n c.requires.node) c.if-entry.false in
     let parts = entry_of-parts t.plane t.of_plane.connect c.args.choice.now c.args.n _ o.plane inside entry in
-    omega (arith, parts.node, rows-length t.plane t.of_plane.connect c.args.tree.now o.tree_is)
+    omega (arith, parts.node, rows_are t.plane t.of_plane.connect c.args.tree.now o.tree_is)
 
 pub returns : goal.returns
 returns c = λ r connect of_tree of_sums is_plane.

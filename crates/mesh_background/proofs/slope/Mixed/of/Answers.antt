@@ -14,19 +14,23 @@ count-fits parts z q y few h =
 pub overflow_cast-result-2 : goal.overflow_cast-result-2
 overflow_cast-result-2 c =
     let d : IsDivided c.args.parts c.args.scaled c.div_euclid-floor.result =
-    divided c.args.parts c.args.scaled c.from-unit.result c.div_euclid-floor.result c.requires.some c.requires.few c.requires.size c.from-unit.ensures c.div_euclid-floor.ensures in
+    divided c.args.parts c.args.scaled c.from-unit.result c.div_euclid-floor.result c.requires.some c.requires.few c.requires.size c.from-unit.ensures
+    c.div_euclid-floor.ensures in
     count-fits c.args.parts c.args.scaled c.div_euclid-floor.result _ c.requires.few
     (left-of c.args.parts c.args.scaled c.from-unit.result c.div_euclid-floor.result c.requires.some c.requires.few c.requires.size c.from-unit.ensures d)
 
 pub returns-clause-value : goal.returns-clause-value
 returns-clause-value c =
     let d : IsDivided c.args.parts c.args.scaled c.div_euclid-floor.result =
-    divided c.args.parts c.args.scaled c.from-unit.result c.div_euclid-floor.result c.requires.some c.requires.few c.requires.size c.from-unit.ensures c.div_euclid-floor.ensures in
-    let l = left-of c.args.parts c.args.scaled c.from-unit.result c.div_euclid-floor.result c.requires.some c.requires.few c.requires.size c.from-unit.ensures d in
+    divided c.args.parts c.args.scaled c.from-unit.result c.div_euclid-floor.result c.requires.some c.requires.few c.requires.size c.from-unit.ensures
+    c.div_euclid-floor.ensures in
+    let l =
+    left-of c.args.parts c.args.scaled c.from-unit.result c.div_euclid-floor.result c.requires.some c.requires.few c.requires.size c.from-unit.ensures d in
     (λ i. pos c.args.parts *ℤ small-kept c.div_euclid-floor.result d.small i +ℤ pos (nat_abs (l.is i))) ∙ l.whole
 
 pub returns-clause-small : goal.returns-clause-small
 returns-clause-small c =
     let d : IsDivided c.args.parts c.args.scaled c.div_euclid-floor.result =
-    divided c.args.parts c.args.scaled c.from-unit.result c.div_euclid-floor.result c.requires.some c.requires.few c.requires.size c.from-unit.ensures c.div_euclid-floor.ensures in
+    divided c.args.parts c.args.scaled c.from-unit.result c.div_euclid-floor.result c.requires.some c.requires.few c.requires.size c.from-unit.ensures
+    c.div_euclid-floor.ensures in
     subst (λ (z : ℤ). IsSmallStep z) (sym (small-kept c.div_euclid-floor.result d.small)) d.small
