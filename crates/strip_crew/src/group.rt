@@ -80,6 +80,11 @@ fn pixels_between(plane: &Plane, first_row: u32, row: u32) -> usize
     (row * width - first_row * width) as usize
 }
 
+// The forks for the two halves of a group with these rows: none where a half has no row, for which a thread is not worth while.
+fn forks_of_halves(rows: &[u32], forks: u32) -> u32 {
+    if rows.len() < 3 { 0 } else { forks }
+}
+
 // Joins the strips of a group. The links come last, so that a closure reads all else before it lends them.
 #[cycle(halves)]
 fn join_strips<R: Threads + Sync, J: Gate>(
@@ -100,6 +105,7 @@ fn join_strips<R: Threads + Sync, J: Gate>(
     }
     let middle = rows.len() / 2;
     let row = rows[middle];
+    let forks = forks_of_halves(rows, forks);
     let (above, below) = parents.split_at_mut(pixels_between(plane, first_row, row));
     join_halves(
         rt,
@@ -173,8 +179,8 @@ fn join_halves<R: Threads + Sync, J: Gate>(
 ///
 /// `parents` holds the links of the pixels from the start of `first_row` on, as in `join_row`. The middle row divides the
 /// group: both halves are joined first, each with its own part of the links, and then the middle row by `join_row`, after
-/// the gate was told of it. Where `forks` is above 0 both halves are joined at once, in two threads where one more can be
-/// made, each with one fork fewer; else one after the other. It takes no memory.
+/// the gate was told of it. Where `forks` is above 0 and each half has a row, both halves are joined at once, in two threads
+/// where one more can be made, each with one fork fewer; else one after the other. It takes no memory.
 pub fn join_group<R: Threads + Sync, J: Gate>(
     rt: &R,
     parents: &mut [u32],

@@ -229,6 +229,15 @@ fn two_halves_are_joined_at_once(rt: HostRuntime) -> Result<(), Fail> {
     Ok(())
 }
 
+#[test]
+fn without_forks_all_rows_are_joined(rt: HostRuntime) -> Result<(), Fail> {
+    let plane = column(rt.alloc(), 4)?;
+    let mut links = [NONE; 4];
+    join_pixels(&rt, &plane, &[1, 2, 3], &mut links, 0, &OpenGate);
+    assert_eq!(rt; links, [NONE, 0, 1, 2]);
+    Ok(())
+}
+
 // Counts the rows that are at the gate at one time, and notes when there are more than two.
 #[derive(Drop)]
 struct Crowd {

@@ -132,8 +132,7 @@ impl StripJob {
         ensures links { length self.new.links ≡ length self.new.values }
         ensures standing { IsStanding self.new plane.now }
         ensures queued { queued.new ≡ queued.old + defined_count self.new plane.now }
-        ensures looked { looked.new ≤ looked.old + adjacency_count self.new plane.now }
-        ensures each_look { looked.new ≡ looked.old + adjacency_count self.new plane.now }
+        ensures looked { looked.new ≡ looked.old + adjacency_count self.new plane.now }
     {
         self.flood.run(&self.strip, queued, looked);
         self.flooded = true;

@@ -1,8 +1,6 @@
-use Rattle.std.proofs.Common.{◌≡◌, ◌+◌, ◌*◌, length, false, true, sym, subst, ap, ◌∙◌, arith}
+use Rattle.std.proofs.Common.{◌≡◌, ◌+◌, false, true, sym, subst, ap, ◌∙◌}
 use Rattle.strip_flood.specs.Jobs.{SuitsStrip}
 use Rattle.strip_flood.specs.JobFields.{HasJobFields}
-use Rattle.strip_flood.specs.Jobs.{inner_count}
-use Rattle.strip_flood.specs.Strips.{values_of, ranked_values}
 use Rattle.strip_flood.proofs.Working.{fresh_between, fresh_unseen, fresh_unlooked, job_flooded, fit_after, fit_defined, fit_inner, fit_standing}
 use Rattle.strip_flood.proofs.job.StripJob.flood.Goals as goal
 
@@ -41,22 +39,10 @@ returns-clause-queued g c = c.run.ensures.queued
     (fit_after c.self.inside.shape.width c.self.inside.shape.height c.self.inside.first_row c.self.inside.end_row c.self.inside.strip c.self.inside.flood
     c.run.new.self c.self.inside.flooded true c.args.plane.now (subst (λ v. SuitsStrip v c.args.plane.now) (sym c.self.view_is) c.requires.fit)))
 
-pub returns-clause-each_look : goal.returns-clause-each_look
-returns-clause-each_look g c = c.run.ensures.looked
+pub returns-clause-looked : goal.returns-clause-looked
+returns-clause-looked g c = c.run.ensures.looked
     ∙ ap (λ n. c.args.looked.now + n)
     (fit_inner c.self.inside.shape.width c.self.inside.shape.height c.self.inside.first_row c.self.inside.end_row c.self.inside.strip c.self.invariant.sides
     c.self.invariant.start c.run.new.self c.run.ensures.links true c.args.plane.now
     (fit_after c.self.inside.shape.width c.self.inside.shape.height c.self.inside.first_row c.self.inside.end_row c.self.inside.strip c.self.inside.flood
     c.run.new.self c.self.inside.flooded true c.args.plane.now (subst (λ v. SuitsStrip v c.args.plane.now) (sym c.self.view_is) c.requires.fit)))
-
-pub returns-clause-looked : goal.returns-clause-looked
-returns-clause-looked g c =
-    let few : inner_count (values_of c.self.inside.strip) c.self.inside.strip.width c.self.inside.strip.connect c.self.inside.strip.first
-    (length c.self.inside.strip.ranks.items)
-    ≡ inner_count c.args.plane.now.values c.self.inside.shape.width c.self.inside.strip.connect (c.self.inside.first_row * c.self.inside.shape.width)
-    (length (ranked_values c.self.inside.strip.levels.items c.self.inside.strip.ranks.items))
-    = fit_inner c.self.inside.shape.width c.self.inside.shape.height c.self.inside.first_row c.self.inside.end_row c.self.inside.strip c.self.invariant.sides
-    c.self.invariant.start c.run.new.self c.run.ensures.links true c.args.plane.now
-    (fit_after c.self.inside.shape.width c.self.inside.shape.height c.self.inside.first_row c.self.inside.end_row c.self.inside.strip c.self.inside.flood
-    c.run.new.self c.self.inside.flooded true c.args.plane.now (subst (λ v. SuitsStrip v c.args.plane.now) (sym c.self.view_is) c.requires.fit)) in
-    omega (arith, c.run.ensures.looked)
