@@ -5,7 +5,7 @@ use Rattle.std.proofs.lemmas.Bool.Decides.{leb_tells}
 use Rattle.std.proofs.lemmas.List.{get_or-map, length-map, get_or_past, length-replicate, map-set, set-set, set-get_or}
 use Rattle.std.proofs.lemmas.Option.{none-some, slice_get_within, get_or_from_slice_get}
 use Rattle.level_queue.specs.declared.queue.Ends.{Ends}
-use Rattle.level_queue.specs.Queue.{Queue, list_at, with_list, empty_queue, IsQueued, IsEmpty, IsHighestRank, IsFront, StandsOnce}
+use Rattle.level_queue.specs.Queue.{Queue, list_at, with_list, empty_queue, IsQueued, IsEmpty, IsHighestRank, IsFront}
 use Rattle.level_queue.specs.Ranks.{IsEmptySet, IsGreatest}
 pub use Rattle.level_queue.specs.Links.{list_between, lists_of, queue_of, IsLaid, Holds}
 use Rattle.level_queue.proofs.Links.{slot_cases, laid_lists, Free, appended, shortened, laid_push_first, laid_push_more, laid_pop_last, laid_pop_more, linked}
@@ -85,9 +85,6 @@ is_front links ends used h r e was = first_in (lists_of links ends) r e.first (l
 pub none_of : (links : Links) (ends : AllEnds) (used : List Bool) → Holds links ends used → (r : ℕ) → get_or ends r None ≡ None
     → list_at (lists_of links ends) r ≡ []
 none_of links ends used h r was = h.0.empty r was
-
-pub stands_once : (links : Links) (ends : AllEnds) (used : List Bool) → Holds links ends used → StandsOnce (queue_of links ends)
-stands_once links ends used h = record { inside = h.0.inside; once = h.0.once }
 
 -- ---- the highest rank
 

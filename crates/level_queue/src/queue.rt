@@ -59,7 +59,8 @@ impl LevelQueue {
         requires rank { rank < length self.old.lists }
         requires item { item < self.old.items }
         requires free { ¬ IsQueued self.old item }
-        ensures appended { self.new ≡ with_list self.old rank (list_at self.old.lists rank ++ item ∷ []) }
+        ensures appended { self.new
+            ≡ with_list self.old rank (list_at self.old.lists rank ++ item ∷ []) }
         ensures ticked { queued.new ≡ queued.old + 1 }
     {
         queued.tick();

@@ -188,7 +188,8 @@ pub fn join_group<R: Threads + Sync, J: Gate>(
     requires fits { row_start plane.now first_row + length parents.old ≤ length plane.now.values }
     requires rows { AreRows plane.now.shape.width first_row (length parents.old) rows.now }
     requires forest { IsForest plane.now.values (row_start plane.now first_row) parents.old }
-    requires apart { AreApart plane.now.shape.width (row_start plane.now first_row) parents.old rows.now }
+    requires apart { AreApart plane.now.shape.width
+        (row_start plane.now first_row) parents.old rows.now }
     ensures forest { IsForest plane.now.values (row_start plane.now first_row) parents.new }
     ensures joined { JoinSame plane.now.values (row_start plane.now first_row) (length parents.old)
         (IsLink (row_start plane.now first_row) parents.new)

@@ -1,5 +1,6 @@
 -- Which pixels are canonical, by the links as the code reads them, and the list of these pixels.
-use Rattle.std.proofs.Common.{◌≡◌, ◌≢◌, ℕ, zero, suc, ◌+◌, ◌-◌, ◌<◌, Bool, true, false, cond, ◌&&◌, ◌||◌, not, List, [], ◌∷◌, ◌++◌, length, get_or, refl, sym, ap, ◌∙◌, inl, inr, ◌⊎◌, arith}
+use Rattle.std.proofs.Common.{◌≡◌, ◌≢◌, ℕ, zero, suc, ◌+◌, ◌-◌, ◌<◌, Bool, true, false, cond, ◌&&◌, ◌||◌, not, List, [], ◌∷◌, ◌++◌, length, get_or, refl, sym}
+use Rattle.std.proofs.Common.{ap, ◌∙◌, inl, inr, ◌⊎◌, arith}
 use Rattle.std.specs.Prelude.{IsTrue, IsFalse, ◌==◌, filter}
 use Rattle.std.specs.List.{range_with_len}
 use Rattle.std.proofs.lemmas.Bool.{true≢false, eq-eqb}
@@ -37,7 +38,8 @@ and_true false = refl
 pub canonical-none : (r : Raster) (links : List ℕ) (p : ℕ) → link_of 0 links p ≡ no_node → is_defined r p ≡ is_canonical r links p
 unfolding is_canonical
 canonical-none r links p none =
-    sym (ap (λ (b : Bool). is_defined r p && (b || not (is_at_least r (level r p) (link_of 0 links p)))) (eq-eqb (link_of 0 links p) no_node none) ∙ and_true (is_defined r p))
+    sym (ap (λ (b : Bool). is_defined r p && (b || not (is_at_least r (level r p) (link_of 0 links p)))) (eq-eqb (link_of 0 links p) no_node none)
+    ∙ and_true (is_defined r p))
 
 not_equal : (a b : ℕ) → a ≢ b → a == b ≡ false
 not_equal a b ne = grind arith
@@ -80,9 +82,11 @@ listed r links n = filter (is_canonical r links) (range_with_len 0 n)
 listed_one : (r : Raster) (links : List ℕ) (n : ℕ) → listed r links (n + 1) ≡ listed r links n ++ filter (is_canonical r links) (n ∷ [])
 listed_one r links n =
     ap (λ k. listed r links k) (let e : n + 1 ≡ suc n = omega arith in e)
-    ∙ filter-one (is_canonical r links) 0 n ∙ ap (λ k. filter (is_canonical r links) (range_with_len 0 n) ++ filter (is_canonical r links) (k ∷ [])) (let e : 0 + n ≡ n = omega arith in e)
+    ∙ filter-one (is_canonical r links) 0 n ∙ ap (λ k. filter (is_canonical r links) (range_with_len 0 n) ++ filter (is_canonical r links) (k ∷ []))
+    (let e : 0 + n ≡ n = omega arith in e)
 
-pub listed-yes : (r : Raster) (links : List ℕ) (n : ℕ) (xs : List ℕ) → xs ≡ listed r links n → is_canonical r links n ≡ true → xs ++ n ∷ [] ≡ listed r links (n + 1)
+pub listed-yes : (r : Raster) (links : List ℕ) (n : ℕ) (xs : List ℕ) → xs ≡ listed r links n → is_canonical r links n ≡ true
+    → xs ++ n ∷ [] ≡ listed r links (n + 1)
 listed-yes r links n xs e is =
     ap (λ ys. ys ++ n ∷ []) e
     ∙ sym (listed_one r links n ∙ ap (λ (b : Bool). listed r links n ++ cond b (n ∷ []) []) is)
@@ -91,6 +95,7 @@ pub listed-no : (r : Raster) (links : List ℕ) (n : ℕ) (xs : List ℕ) → xs
 listed-no r links n xs e not_so =
     e ∙ sym (listed_one r links n ∙ ap (λ (b : Bool). listed r links n ++ cond b (n ∷ []) []) not_so ∙ append-nil (listed r links n))
 
-pub listed-all : (r : Raster) (links : List ℕ) (n : ℕ) (xs : List ℕ) → n ≡ length r.values → xs ≡ listed r links n → xs ≡ filter (is_canonical r links) (pixels r)
+pub listed-all : (r : Raster) (links : List ℕ) (n : ℕ) (xs : List ℕ) → n ≡ length r.values → xs ≡ listed r links n
+    → xs ≡ filter (is_canonical r links) (pixels r)
 unfolding pixels
 listed-all r links n xs all e = e ∙ ap (listed r links) all

@@ -1,5 +1,6 @@
 -- Links that fit the tree pixel by pixel are a forest that stands for all adjacencies.
-use Rattle.std.proofs.Common.{◌≡◌, ◌≢◌, ℕ, ◌+◌, ◌<◌, ◌≤◌, ◌⊎◌, Bool, true, false, List, length, refl, sym, ap, subst, ◌∙◌, inl, inr, arith, Some, Option, get_or, ◌<ℤ◌}
+use Rattle.std.proofs.Common.{◌≡◌, ◌≢◌, ℕ, ◌+◌, ◌<◌, ◌≤◌, ◌⊎◌, Bool, true, false, List, length, refl, sym, ap, subst, ◌∙◌, inl, inr, arith, Some, Option}
+use Rattle.std.proofs.Common.{get_or, ◌<ℤ◌}
 use Rattle.std.specs.Prelude.{IsTrue, IsFalse, ℤ, int_le, int_lt}
 use Rattle.std.proofs.lemmas.Bool.{true≢false, cases_eq}
 use Rattle.std.proofs.lemmas.List.{get_or-map, length-map}
@@ -12,19 +13,23 @@ use Rattle.comp_tree.specs.declared.shape.Connect.TheVariants.{Four, Eight}
 use Rattle.comp_tree.specs.declared.tree.NodeRow.{NodeRow}
 use Rattle.comp_tree.specs.Components.{reaches, representative, is_representative, nodes, node_of, parent_of, row_of, tree_of, is_candidate, is_in_node}
 use Rattle.comp_tree.specs.Laws.{top_of}
-use Rattle.comp_tree.proofs.Exported.{before_is, int_le_trans, int_le_antisym, int_lt-true, cases_int, joined_wider, reaches-is_IsReached, below_from_defined, defined_from_at_least, value-level, last_there, last_start, each_component_is_a_node, top-representative, top-defined, below_no_node, rows-are, node-undefined, read-node_of, tree_of-is}
+use Rattle.comp_tree.proofs.Exported.{before_is, int_le_trans, int_le_antisym, int_lt-true, cases_int, joined_wider, reaches-is_IsReached, below_from_defined}
+use Rattle.comp_tree.proofs.Exported.{defined_from_at_least, value-level, last_there, last_start, each_component_is_a_node, top-representative, top-defined}
+use Rattle.comp_tree.proofs.Exported.{below_no_node, rows-are, node-undefined, read-node_of, tree_of-is}
 use Rattle.tree_canon.proofs.Finding.{read_link}
 use Rattle.tree_canon.proofs.Parents.{blank}
 use Rattle.comp_tree.proofs.Exported as Nodes
 use Rattle.comp_tree.specs.Forest.{StandsForAll}
 use Rattle.tree_canon.specs.Fitting.{IsFit, outside, root, inside, up, AreFit}
 
-module _ (r : Raster) (connect : Connect) (links : List ℕ) (plane : IsPlane r) (whole : length links ≡ length r.values) (fit : AreFit r connect links (length r.values)) where
+module _ (r : Raster) (connect : Connect) (links : List ℕ) (plane : IsPlane r) (whole : length links ≡ length r.values)
+    (fit : AreFit r connect links (length r.values)) where
   few : length links ≤ no_node
   few = omega (arith, whole, plane, r.shape.within_limits.few_pixels)
 
   -- pixels of one node have one representative
-  same_node : (p q : ℕ) → IsTrue (is_defined r p) → IsTrue (is_defined r q) → node_of r connect p ≡ node_of r connect q → representative r connect p ≡ representative r connect q
+  same_node : (p q : ℕ) → IsTrue (is_defined r p) → IsTrue (is_defined r q) → node_of r connect p ≡ node_of r connect q
+      → representative r connect p ≡ representative r connect q
   same_node p q dp dq e =
       sym (Nodes.node_of-is r connect p dp).it_is ∙ ap (λ n. get_or (nodes r connect) n 0) e ∙ (Nodes.node_of-is r connect q dq).it_is
 
@@ -32,12 +37,14 @@ module _ (r : Raster) (connect : Connect) (links : List ℕ) (plane : IsPlane r)
   same_level p q dp dq e = sym (Nodes.representative-is r connect p dp).same_level ∙ ap (level r) e ∙ (Nodes.representative-is r connect q dq).same_level
 
   -- and reach each other at their level
-  reach_each_other : (p q : ℕ) → IsTrue (is_defined r p) → IsTrue (is_defined r q) → representative r connect p ≡ representative r connect q → IsTrue (reaches r connect (level r p) p q)
+  reach_each_other : (p q : ℕ) → IsTrue (is_defined r p) → IsTrue (is_defined r q) → representative r connect p ≡ representative r connect q
+      → IsTrue (reaches r connect (level r p) p q)
   reach_each_other p q dp dq e =
       Nodes.reaches_trans r connect (level r p) p (representative r connect p) q (Nodes.representative-is r connect p dp).reached
       (Nodes.reaches_sym r connect (level r p) q (representative r connect p)
       (subst (λ (x : ℕ). IsTrue (reaches r connect (level r p) q x)) (sym e)
-      (subst (λ (h : ℤ). IsTrue (reaches r connect h q (representative r connect q))) (sym (same_level p q dp dq e)) (Nodes.representative-is r connect q dq).reached)))
+      (subst (λ (h : ℤ). IsTrue (reaches r connect h q (representative r connect q))) (sym (same_level p q dp dq e))
+      (Nodes.representative-is r connect q dq).reached)))
 
   -- ---- a link that is a pixel
 
@@ -53,7 +60,8 @@ module _ (r : Raster) (connect : Connect) (links : List ℕ) (plane : IsPlane r)
     candidate : Nodes.IsCandidate r connect p q
     highest : (s : ℕ) → IsTrue (is_candidate r connect p s) → int_le (level r s) (level r q) ≡ true
 
-  up_candidate : (p : ℕ) → IsTrue (is_defined r (link_of 0 links p)) → node_of r connect (link_of 0 links p) ≡ parent_of r connect p → IsHighest p (link_of 0 links p)
+  up_candidate : (p : ℕ) → IsTrue (is_defined r (link_of 0 links p)) → node_of r connect (link_of 0 links p) ≡ parent_of r connect p
+      → IsHighest p (link_of 0 links p)
   up_candidate p dl e = on (parent_of r connect p) (Nodes.parent-case r connect p) e
     where
       of_same : (q : ℕ) → IsTrue (is_candidate r connect p q) → ((s : ℕ) → IsTrue (is_candidate r connect p s) → int_le (level r s) (level r q) ≡ true)
@@ -80,10 +88,12 @@ module _ (r : Raster) (connect : Connect) (links : List ℕ) (plane : IsPlane r)
           levels = sym (same_level (link_of 0 links p) q dl dq reps)
 
       on : (n : ℕ) → Nodes.ParentCase r connect p n → node_of r connect (link_of 0 links p) ≡ n → IsHighest p (link_of 0 links p)
-      on n (Nodes.root none) f = absurd (below_no_node r connect (node_of r connect (link_of 0 links p)) plane (Nodes.node_of-is r connect (link_of 0 links p) dl).below f)
+      on n (Nodes.root none) f =
+          absurd (below_no_node r connect (node_of r connect (link_of 0 links p)) plane (Nodes.node_of-is r connect (link_of 0 links p) dl).below f)
       on n (Nodes.child q c high) f = of_same q c high f
 
-  earlier_from : (a b : ℕ) → IsTrue (is_defined r a) → IsTrue (is_defined r b) → (level r a <ℤ level r b) ⊎ ((level r a ≡ level r b) × (a < b)) → ComesEarlier r.values a b
+  earlier_from : (a b : ℕ) → IsTrue (is_defined r a) → IsTrue (is_defined r b) → (level r a <ℤ level r b) ⊎ ((level r a ≡ level r b) × (a < b))
+      → ComesEarlier r.values a b
   earlier_from a b da db k =
       subst (λ (v : Option ℤ). ComesBefore v a (value_at r.values b) b) (sym (value-level r a da))
       (subst (λ (v : Option ℤ). ComesBefore (Some (level r a)) a v b) (sym (value-level r b db)) (before_is (Some (level r a)) (Some (level r b)) a b k))
@@ -135,15 +145,18 @@ module _ (r : Raster) (connect : Connect) (links : List ℕ) (plane : IsPlane r)
   walked : (h : ℤ) (p z : ℕ) → WayEndsAt r.values 0 links h p z → IsTrue (reaches r connect h p z)
   walked h p z (stop g n) = Nodes.reaches_here r connect h p g.value
   walked h p z (go g l) =
-      let next : IsHigh r.values 0 (length links) h (link_of 0 links p) = last_start r.values 0 links h fit_forest (let e : 0 + length links ≤ no_node = omega (arith, few) in e) (link_of 0 links p) z l in
+      let next : IsHigh r.values 0 (length links) h (link_of 0 links p) =
+      last_start r.values 0 links h fit_forest (let e : 0 + length links ≤ no_node = omega (arith, few) in e) (link_of 0 links p) z l in
       let below = next.within.high in let here = g.within.high in
       let k : IsStep p = step p (omega (arith, here, whole)) (λ (e : link_of 0 links p ≡ no_node). omega (arith, below, few, e)) in
       Nodes.reaches_trans r connect h p (link_of 0 links p) z
       (Nodes.reaches_sym r connect h (link_of 0 links p) p
-      (Nodes.reaches_lower r connect h (level r (link_of 0 links p)) (link_of 0 links p) p (Nodes.level_from_at_least r h (link_of 0 links p) next.value) k.reached))
+      (Nodes.reaches_lower r connect h (level r (link_of 0 links p)) (link_of 0 links p) p
+      (Nodes.level_from_at_least r h (link_of 0 links p) next.value) k.reached))
       (walked h (link_of 0 links p) z l)
 
-  ended : (h : ℤ) (p z : ℕ) → WayEndsAt r.values 0 links h p z → IsHigh r.values 0 (length links) h z × (IsHigh r.values 0 (length links) h (link_of 0 links z) → ⊥)
+  ended : (h : ℤ) (p z : ℕ) → WayEndsAt r.values 0 links h p z
+      → IsHigh r.values 0 (length links) h z × (IsHigh r.values 0 (length links) h (link_of 0 links z) → ⊥)
   ended h p z (stop g n) = (g, n)
   ended h p z (go g l) = ended h (link_of 0 links p) z l
 
@@ -161,7 +174,8 @@ module _ (r : Raster) (connect : Connect) (links : List ℕ) (plane : IsPlane r)
         m,
         record {
           represents = top-representative r connect c.0 c.1;
-          reached = (reaches-is_IsReached r connect h z m).1 ((c.2 m).1 (Nodes.reaches_here r connect (level r m) m (Nodes.at_least-own r m (top-defined r connect c.0 c.1))));
+          reached = (reaches-is_IsReached r connect h z m).1
+              ((c.2 m).1 (Nodes.reaches_here r connect (level r m) m (Nodes.at_least-own r m (top-defined r connect c.0 c.1))));
           covers = λ x l. (c.2 x).0 ((reaches-is_IsReached r connect h z x).0 l);
         },
       )
@@ -201,7 +215,8 @@ module _ (r : Raster) (connect : Connect) (links : List ℕ) (plane : IsPlane r)
       within_level : IsTrue (is_defined r (link_of 0 links z)) → node_of r connect (link_of 0 links z) ≡ node_of r connect z → ⊥
       within_level dl e =
           low (high_from h (link_of 0 links z) (Nodes.at_least-from r h (link_of 0 links z) dl
-          (subst (λ (g : ℤ). int_le h g ≡ true) (sym (same_level (link_of 0 links z) z dl d (same_node (link_of 0 links z) z dl d e))) (Nodes.level_from_at_least r h z high.value))))
+          (subst (λ (g : ℤ). int_le h g ≡ true) (sym (same_level (link_of 0 links z) z dl d (same_node (link_of 0 links z) z dl d e)))
+          (Nodes.level_from_at_least r h z high.value))))
 
       itself : IsFit r connect links z → representative r connect z ≡ z
       itself (outside u none) = absurd (true≢false (sym d ∙ u))
@@ -217,7 +232,8 @@ module _ (r : Raster) (connect : Connect) (links : List ℕ) (plane : IsPlane r)
           on n (Nodes.root none) e = none m (Nodes.candidate-from r connect z m (record { lower = lower; reaches_it = reached }))
           on n (Nodes.child q c _) e =
               below_no_node r connect (node_of r connect q) plane
-              (Nodes.node_of-is r connect q (defined_from_at_least r (level r q) q (Nodes.reaches_start r connect (level r q) q z (Nodes.candidate-parts r connect z q c).reaches_it))).below e
+              (Nodes.node_of-is r connect q (defined_from_at_least r (level r q) q
+              (Nodes.reaches_start r connect (level r q) q z (Nodes.candidate-parts r connect z q c).reaches_it))).below e
       no_lower lower (inside _ dl e _) = within_level dl e
       no_lower lower (up _ _ dl f) =
           low (high_from h (link_of 0 links z) (Nodes.at_least-from r h (link_of 0 links z) dl
@@ -225,27 +241,40 @@ module _ (r : Raster) (connect : Connect) (links : List ℕ) (plane : IsPlane r)
           ((up_candidate z dl f).highest m (Nodes.candidate-from r connect z m (record { lower = lower; reaches_it = reached }))))))
 
   pub fit_stands : StandsForAll r connect links
-  fit_stands = record { joins = λ h p q hp hq. (λ same. joined_from h p q (Nodes.reaches_trans r connect h p same.0 q (walked h p same.0 same.1.0) (Nodes.reaches_sym r connect h q same.0 (walked h q same.0 same.1.1))), λ j. both h p q hp hq (reaches_from h p q j)) }
+  fit_stands =
+      record {
+        joins =
+            λ h p q hp hq. (
+              λ same. joined_from h p q
+                  (Nodes.reaches_trans r connect h p same.0 q (walked h p same.0 same.1.0) (Nodes.reaches_sym r connect h q same.0 (walked h q same.0 same.1.1))),
+              λ j. both h p q hp hq (reaches_from h p q j),
+            );
+      }
     where
-      reaches_from : (h : ℤ) (p q : ℕ) → Joined (IsHigh r.values 0 (length links) h) (IsAdjacency r.values r.shape.width connect) p q → IsTrue (reaches r connect h p q)
+      reaches_from : (h : ℤ) (p q : ℕ) → Joined (IsHigh r.values 0 (length links) h) (IsAdjacency r.values r.shape.width connect) p q
+          → IsTrue (reaches r connect h p q)
       reaches_from h p q j = (reaches-is_IsReached r connect h p q).1 (joined_wider (λ x g. g.value) j)
 
-      joined_from : (h : ℤ) (p q : ℕ) → IsTrue (reaches r connect h p q) → Joined (IsHigh r.values 0 (length links) h) (IsAdjacency r.values r.shape.width connect) p q
+      joined_from : (h : ℤ) (p q : ℕ) → IsTrue (reaches r connect h p q)
+          → Joined (IsHigh r.values 0 (length links) h) (IsAdjacency r.values r.shape.width connect) p q
       joined_from h p q k = joined_wider (high_from h) ((reaches-is_IsReached r connect h p q).0 k)
 
-      both : (h : ℤ) (p q : ℕ) → IsHigh r.values 0 (length links) h p → IsHigh r.values 0 (length links) h q → IsTrue (reaches r connect h p q) → HaveSameLast r.values 0 links h p q
+      both : (h : ℤ) (p q : ℕ) → IsHigh r.values 0 (length links) h p → IsHigh r.values 0 (length links) h q → IsTrue (reaches r connect h p q)
+          → HaveSameLast r.values 0 links h p q
       both h p q hp hq k =
           let small : 0 + length links ≤ no_node = omega (arith, few) in
           let a = last_there r.values 0 links h fit_forest small p hp in let b = last_there r.values 0 links h fit_forest small q hq in
           let ea = ended h p a.0 a.1 in let eb = ended h q b.0 b.1 in
           let m = bottom_of h a.0 ea.0.value in
-          let across = Nodes.reaches_trans r connect h a.0 q b.0 (Nodes.reaches_trans r connect h a.0 p q (Nodes.reaches_sym r connect h p a.0 (walked h p a.0 a.1)) k) (walked h q b.0 b.1) in
+          let across = Nodes.reaches_trans r connect h a.0 q b.0
+          (Nodes.reaches_trans r connect h a.0 p q (Nodes.reaches_sym r connect h p a.0 (walked h p a.0 a.1)) k) (walked h q b.0 b.1) in
           let same : b.0 ≡ a.0 = at_bottom h b.0 m.0 eb.0 eb.1 (bottom_moved h a.0 b.0 m.0 across m.1) ∙ sym (at_bottom h a.0 m.0 ea.0 ea.1 m.1) in
           (a.0, (a.1, subst (λ (z : ℕ). WayEndsAt r.values 0 links h q z) same b.1))
 
 -- ---- reading a tree
 
-pub number_read : (r : Raster) (connect : Connect) (ns : List ℕ) → ns ≡ (tree_of r connect).node_of → (p : ℕ) → p < length r.values → get_or ns p 0 ≡ node_of r connect p
+pub number_read : (r : Raster) (connect : Connect) (ns : List ℕ) → ns ≡ (tree_of r connect).node_of → (p : ℕ) → p < length r.values
+    → get_or ns p 0 ≡ node_of r connect p
 unfolding tree_of
 number_read r connect ns is p lt = ap (λ xs. get_or xs p 0) is ∙ read-node_of r connect p lt
 
@@ -303,16 +332,25 @@ module _ (r : Raster) (connect : Connect) (links : List ℕ) (plane : IsPlane r)
       ap (λ (row : NodeRow). row.parent) (row_is d) ∙ parent_in r connect (representative r connect p) ∙ ap (parent_of r connect) (represents d e)
 
   pub some_row : get_or ns p 0 ≢ no_node → get_or ns p 0 < length rows
-  some_row some = omega (arith, node_is, (Nodes.node_of-is r connect p (defined some)).below, ap length (rows_is ∙ rows-are r connect), length-map (nodes r connect) (row_of r connect))
+  some_row some =
+      omega (
+        arith,
+        node_is,
+        (Nodes.node_of-is r connect p (defined some)).below,
+        ap length (rows_is ∙ rows-are r connect),
+        length-map (nodes r connect) (row_of r connect),
+      )
 
   pub when_outside : get_or ns p 0 ≡ no_node → get_or links p 0 ≡ no_node → IsFit r connect links p
   when_outside none bare = outside (bare_undefined r connect p plane (sym node_is ∙ none)) (sym link_is ∙ bare)
 
-  pub when_root : get_or ns p 0 ≢ no_node → get_or links p 0 ≡ no_node → (get_or rows (get_or ns p 0) blank).rep ≡ p → (get_or rows (get_or ns p 0) blank).parent ≡ no_node
+  pub when_root : get_or ns p 0 ≢ no_node → get_or links p 0 ≡ no_node → (get_or rows (get_or ns p 0) blank).rep ≡ p
+      → (get_or rows (get_or ns p 0) blank).parent ≡ no_node
       → IsFit r connect links p
   when_root some bare e top = root (defined some) (represents (defined some) e) (sym (parent_is (defined some) e) ∙ top) (sym link_is ∙ bare)
 
-  module _ (others : List ℕ) (others_is : others ≡ (tree_of r connect).node_of) (inner : get_or links p 0 < length r.values) (up_some : get_or others (get_or links p 0) 0 ≢ no_node) where
+  module _ (others : List ℕ) (others_is : others ≡ (tree_of r connect).node_of) (inner : get_or links p 0 < length r.values)
+      (up_some : get_or others (get_or links p 0) 0 ≢ no_node) where
     up_is : get_or others (get_or links p 0) 0 ≡ node_of r connect (link_of 0 links p)
     up_is = number_read r connect others others_is (get_or links p 0) inner ∙ ap (node_of r connect) link_is
 
@@ -322,15 +360,10 @@ module _ (r : Raster) (connect : Connect) (links : List ℕ) (plane : IsPlane r)
     pub when_inside : get_or ns p 0 ≢ no_node → get_or others (get_or links p 0) 0 ≡ get_or ns p 0 → get_or links p 0 < p → IsFit r connect links p
     when_inside some same low = inside (defined some) link_defined (sym up_is ∙ same ∙ node_is) (omega (arith, link_is, low))
 
-    pub when_up : get_or ns p 0 ≢ no_node → (get_or rows (get_or ns p 0) blank).rep ≡ p → get_or others (get_or links p 0) 0 ≡ (get_or rows (get_or ns p 0) blank).parent
+    pub when_up : get_or ns p 0 ≢ no_node → (get_or rows (get_or ns p 0) blank).rep ≡ p
+        → get_or others (get_or links p 0) 0 ≡ (get_or rows (get_or ns p 0) blank).parent
         → IsFit r connect links p
     when_up some e same = up (defined some) (represents (defined some) e) link_defined (sym up_is ∙ same ∙ parent_is (defined some) e)
-
-pub fit_more : (r : Raster) (connect : Connect) (links : List ℕ) (n : ℕ) → AreFit r connect links n → IsFit r connect links n → AreFit r connect links (n + 1)
-fit_more r connect links n before here p lt = elim (cases_eq p n) [
-  | inl e ↦ subst (IsFit r connect links) (sym e) here
-  | inr ne ↦ before p (omega arith)
-]
 
 -- a connectivity is one of the two
 pub one_of_two : (r : Raster) (connect : Connect) (links : List ℕ) → StandsForAll r connect links → StandsForAll r Four links ⊎ StandsForAll r Eight links

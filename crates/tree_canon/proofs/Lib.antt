@@ -1,5 +1,5 @@
 mod Finding
-pub mod Fitting
+mod Fitting
 mod Numbering
 mod Parents
 mod Placing

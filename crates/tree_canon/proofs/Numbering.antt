@@ -1,5 +1,6 @@
 -- How the pixels get their numbers: those of the rows first, then all others along the links.
-use Rattle.std.proofs.Common.{◌≡◌, ◌≢◌, ℕ, suc, ◌+◌, ◌-◌, ◌^◌, ◌<◌, ◌≤◌, Bool, true, false, cond, List, [], ◌∷◌, length, map, get_or, set, replicate, refl, sym, ap, subst, ◌∙◌, inl, inr, arith, Some, slice_get, length-set, get_or-set_same, get_or-set_other}
+use Rattle.std.proofs.Common.{◌≡◌, ◌≢◌, ℕ, suc, ◌+◌, ◌^◌, ◌<◌, ◌≤◌, Bool, true, false, cond, List, [], ◌∷◌, length, map, get_or, set, replicate, refl}
+use Rattle.std.proofs.Common.{sym, ap, subst, ◌∙◌, inl, inr, arith, Some, slice_get, length-set, get_or-set_same, get_or-set_other}
 use Rattle.std.specs.Prelude.{IsTrue, All, filter, slice_index}
 use Rattle.std.proofs.lemmas.Bool.{true≢false, cases_eq}
 use Rattle.std.proofs.lemmas.Bool.Decides.{leb_tells}
@@ -8,7 +9,9 @@ use Rattle.std.proofs.lemmas.Option.{slice_get_within, same_Some, slice_get-get_
 use Rattle.comp_tree.specs.declared.tree.NodeRow.{NodeRow}
 use Rattle.comp_tree.specs.Raster.{Raster, value_at, level, pixels}
 use Rattle.comp_tree.specs.Forest.{no_node, link_of, IsForest}
-use Rattle.comp_tree.proofs.Exported.{value-level, before_level, below_from_defined, among_from_defined, IsAmong, among-filter, among_from_filter, length-in_order, length-pixels, ordered-same_place, among_at, among_in_order-from, IsImage, get_is, get-map, get_from_map}
+use Rattle.comp_tree.proofs.Exported.{value-level, before_level, below_from_defined, among_from_defined, IsAmong, among-filter, among_from_filter}
+use Rattle.comp_tree.proofs.Exported.{length-in_order, length-pixels, ordered-same_place, among_at, among_in_order-from, IsImage, get_is, get-map}
+use Rattle.comp_tree.proofs.Exported.{get_from_map}
 use Rattle.tree_canon.specs.Canonical.{is_canonical, canonical_pixels, loose_row, node_number_at, IsNumbering}
 use Rattle.tree_canon.specs.Numbers.{HaveOwnPixels, HasRowNumbers, LeadBack, HasLinkNumbers}
 use Rattle.tree_canon.proofs.Finding.{IsPixelLink, pixel_link, link_high}
@@ -16,6 +19,7 @@ use Rattle.tree_canon.specs.Places.{ArePixelsFrom, IsRowAt, AreNumberedBy}
 use Rattle.tree_canon.proofs.Parents.{blank}
 use Rattle.tree_canon.proofs.Rising.{defined_at}
 use Rattle.tree_canon.proofs.Sorting.{canonical-ordered, canonical-is, canonical-defined, canonical-found, canonical-pixels}
+use Rattle.lemmas.proofs.Exported.{among_get}
 
 -- ---- the pixels of the first k rows
 
@@ -59,75 +63,7 @@ pub record IsFollowedTo (links old new : List ℕ) (k : ℕ) : Type 0 where
   pub followed : (p : ℕ) → p < k → node_number_at old p ≡ no_node → node_number_at new p ≡ node_number_at new (link_of 0 links p)
   pub ahead : (p : ℕ) → k ≤ p → node_number_at new p ≡ node_number_at old p
 
-pub followed_none : (links old : List ℕ) → IsFollowedTo links old old 0
-followed_none links old = record { one_each = refl; kept = λ p some. refl; followed = λ p lt none. absurd (omega arith); ahead = λ p le. refl }
-
--- a pixel that has a number keeps it
-pub followed_same : (links old new : List ℕ) (k : ℕ) → node_number_at new k ≢ no_node → IsFollowedTo links old new k → IsFollowedTo links old new (k + 1)
-followed_same links old new k some h = record {
-  one_each = h.one_each;
-  kept = h.kept;
-  followed = λ p lt none. elim (cases_eq p k) [
-    | inl e ↦ absurd (some (h.ahead k (omega arith) ∙ ap (node_number_at old) (sym e) ∙ none))
-    | inr ne ↦ h.followed p (omega arith) none
-  ];
-  ahead = λ p le. h.ahead p (omega arith);
-}
-
--- one that has none gets that of its link
-pub followed_set : (links old new : List ℕ) (k m : ℕ) → LeadBack links old → length old ≡ length links → length links ≤ 2 ^ 24 → k < length links
-    → node_number_at new k ≡ no_node → m ≡ node_number_at new (link_of 0 links k) → IsFollowedTo links old new k → IsFollowedTo links old (set new k m) (k + 1)
-followed_set links old new k m back count few below none is h = record {
-  one_each = length-set new k m ∙ h.one_each;
-  kept = λ p some. elim (cases_eq p k) [
-    | inl e ↦ absurd (some (ap (node_number_at old) e ∙ none_old))
-    | inr ne ↦ get_or-set_other new k p m no_node ne ∙ h.kept p some
-  ];
-  followed = λ p lt bare. elim (cases_eq p k) [
-    | inl e ↦
-        ap (node_number_at (set new k m)) e ∙ get_or-set_same new k m no_node (omega (arith, h.one_each)) ∙ is
-        ∙ sym (get_or-set_other new k (link_of 0 links k) m no_node (away k (omega arith) none_old)) ∙ ap (λ q. node_number_at (set new k m) (link_of 0 links q)) (sym e)
-    | inr ne ↦
-        get_or-set_other new k p m no_node ne ∙ h.followed p (omega arith) bare
-        ∙ sym (get_or-set_other new k (link_of 0 links p) m no_node (away p (omega arith) bare))
-  ];
-  ahead = λ p le. get_or-set_other new k p m no_node (λ (e : p ≡ k). let f : p ≡ k = e in omega arith) ∙ h.ahead p (omega arith);
-}
-  where
-    none_old : node_number_at old k ≡ no_node
-    none_old = sym (h.ahead k (omega arith)) ∙ none
-
-    away : (p : ℕ) → p ≤ k → node_number_at old p ≡ no_node → link_of 0 links p ≢ k
-    away p le bare e = elim (back p (omega arith) bare) [
-      | inl f ↦ let g : no_node ≡ k = sym f ∙ e in omega (arith, g)
-      | inr lt ↦ omega (arith, lt, e)
-    ]
-
-past_link : (links : List ℕ) (p : ℕ) → length links ≤ p → link_of 0 links p ≡ no_node
-past_link links p le = get_or_past links (p - 0) no_node (omega arith)
-
-past_number : (numbers : List ℕ) (p : ℕ) → length numbers ≤ p → node_number_at numbers p ≡ no_node
-past_number numbers p le = get_or_past numbers p no_node le
-
-pub followed_all : (links old new : List ℕ) (k : ℕ) → length old ≡ length links → length links ≤ 2 ^ 24 → length links ≤ k → IsFollowedTo links old new k → HasLinkNumbers links old new
-followed_all links old new k count few long h = record {
-  one_each = h.one_each;
-  kept = h.kept;
-  followed = λ p bare. elim (leb_tells (length links) p) [
-    | inl far ↦
-        past_number new p (omega (arith, h.one_each, far.1)) ∙ sym (past_number new no_node (omega (arith, h.one_each)))
-        ∙ ap (node_number_at new) (sym (past_link links p far.1))
-    | inr near ↦ h.followed p (omega (arith, near.1)) bare
-  ];
-}
-
 -- ---- both together
-
--- a canonical pixel has a place
-placed : (p : ℕ) (ps : List ℕ) → IsAmong p ps → (n : ℕ) × (slice_get ps n ≡ Some p)
-placed p [] m = absurd m
-placed p (q ∷ ps) (inl e) = (0, ap (λ x. Some x) e)
-placed p (q ∷ ps) (inr m) = let k = placed p ps m in (suc k.0, k.1)
 
 among : (r : Raster) (links : List ℕ) (p : ℕ) → IsTrue (is_canonical r links p) → IsAmong p (canonical_pixels r links)
 unfolding canonical_pixels
@@ -136,7 +72,7 @@ among r links p h =
     (among-filter (is_canonical r links) p (pixels r) (among_from_defined r p (canonical-defined r links p h)) h)
 
 pub place_of : (r : Raster) (links : List ℕ) (p : ℕ) → IsTrue (is_canonical r links p) → (n : ℕ) × (slice_get (canonical_pixels r links) n ≡ Some p)
-place_of r links p h = placed p (canonical_pixels r links) (among r links p h)
+place_of r links p h = among_get p (canonical_pixels r links) (among r links p h)
 
 length-filter_le : (t : ℕ → Bool) (ps : List ℕ) → length (filter t ps) ≤ length ps
 length-filter_le t [] = omega arith
@@ -166,12 +102,14 @@ module _ (r : Raster) (links : List ℕ) (whole : length links ≡ length r.valu
 
   row_of : (n : ℕ) (row : NodeRow) → slice_get rows n ≡ Some row → IsRowOf n row
   row_of n row got =
-      let image : IsImage (loose_row r) (canonical_pixels r links) n row = get_from_map (loose_row r) (canonical_pixels r links) n row (subst (λ (xs : List NodeRow). slice_get xs n ≡ Some row) is got) in
+      let image : IsImage (loose_row r) (canonical_pixels r links) n row =
+      get_from_map (loose_row r) (canonical_pixels r links) n row (subst (λ (xs : List NodeRow). slice_get xs n ≡ Some row) is got) in
       let same : image.it ≡ row.rep = ap (λ (x : NodeRow). x.rep) image.gives in
       let place = get_is (canonical_pixels r links) n image.it image.at in
       record {
         pixel = image.at ∙ ap (λ x. Some x) same;
-        canonical = subst (λ x. IsTrue (is_canonical r links x)) (place.1 ∙ same) (canonical-is r links (get_or (canonical_pixels r links) n 0) (among_at (canonical_pixels r links) n place.0));
+        canonical = subst (λ x. IsTrue (is_canonical r links x)) (place.1 ∙ same)
+            (canonical-is r links (get_or (canonical_pixels r links) n 0) (among_at (canonical_pixels r links) n place.0));
       }
 
   row_at : (n p : ℕ) → slice_get (canonical_pixels r links) n ≡ Some p → slice_get rows n ≡ Some (loose_row r p)
@@ -224,7 +162,8 @@ module _ (r : Raster) (links : List ℕ) (whole : length links ≡ length r.valu
     }
 
 -- the rows of the canonical pixels have the numbers that a numbering gives these
-pub rows_by_pixels : (r : Raster) (links ps numbers : List ℕ) (rows : List NodeRow) → ps ≡ filter (is_canonical r links) (pixels r) → rows ≡ map (loose_row r) (canonical_pixels r links)
+pub rows_by_pixels : (r : Raster) (links ps numbers : List ℕ) (rows : List NodeRow) → ps ≡ filter (is_canonical r links) (pixels r)
+    → rows ≡ map (loose_row r) (canonical_pixels r links)
     → IsNumbering r links numbers → AreNumberedBy rows ps numbers
 rows_by_pixels r links ps numbers rows found is numbering = record { rows_at = rows_at; all = all }
   where
@@ -236,19 +175,23 @@ rows_by_pixels r links ps numbers rows found is numbering = record { rows_at = r
         subst (λ j. IsRowAt rows j (slice_index ps k)) (sym (numbering.canonical n.0 (slice_index ps k) n.1))
         (record {
           inside = omega (arith, place.0, ap length is, length-map (canonical_pixels r links) (loose_row r));
-          pixel = ap (λ (xs : List NodeRow). (get_or xs n.0 blank).rep) is ∙ ap (λ (x : NodeRow). x.rep) (get_or-map (loose_row r) (canonical_pixels r links) n.0 0 blank place.0) ∙ place.1;
+          pixel = ap (λ (xs : List NodeRow). (get_or xs n.0 blank).rep) is
+              ∙ ap (λ (x : NodeRow). x.rep) (get_or-map (loose_row r) (canonical_pixels r links) n.0 0 blank place.0) ∙ place.1;
         })
 
     all : (n : ℕ) (row : NodeRow) → slice_get rows n ≡ Some row → (k : ℕ) × ((k < length ps) × (node_number_at numbers (slice_index ps k) ≡ n))
     all n row got =
-        let image : IsImage (loose_row r) (canonical_pixels r links) n row = get_from_map (loose_row r) (canonical_pixels r links) n row (subst (λ (xs : List NodeRow). slice_get xs n ≡ Some row) is got) in
+        let image : IsImage (loose_row r) (canonical_pixels r links) n row =
+        get_from_map (loose_row r) (canonical_pixels r links) n row (subst (λ (xs : List NodeRow). slice_get xs n ≡ Some row) is got) in
         let here = get_is (canonical_pixels r links) n image.it image.at in
-        let member = canonical-found r links image.it (subst (λ x. IsAmong x (canonical_pixels r links)) here.1 (among_at (canonical_pixels r links) n here.0)) in
-        let k = placed image.it ps (subst (IsAmong image.it) (sym found) member) in
+        let member =
+        canonical-found r links image.it (subst (λ x. IsAmong x (canonical_pixels r links)) here.1 (among_at (canonical_pixels r links) n here.0)) in
+        let k = among_get image.it ps (subst (IsAmong image.it) (sym found) member) in
         let there = get_is ps k.0 image.it k.1 in
         (k.0, (there.0, ap (node_number_at numbers) there.1 ∙ numbering.canonical n image.it image.at))
 
-pub pixels_within : (r : Raster) (links ps : List ℕ) → length links ≡ length r.values → ps ≡ filter (is_canonical r links) (pixels r) → All (λ p. p < length links) ps
+pub pixels_within : (r : Raster) (links ps : List ℕ) → length links ≡ length r.values → ps ≡ filter (is_canonical r links) (pixels r)
+    → All (λ p. p < length links) ps
 pixels_within r links ps whole found k d lt =
     let at : get_or ps k d ≡ get_or ps k 0 = get_or_default ps k d 0 lt in
     let defined = defined_at r 0 ps (subst (ArePixelsFrom r 0) (sym found) (canonical-pixels r links)) k lt in

@@ -1,5 +1,6 @@
 -- What the links give is the component tree, for each connectivity whose adjacencies they stand for.
-use Rattle.std.proofs.Common.{◌≡◌, ◌≢◌, ℕ, zero, suc, ◌+◌, ◌<◌, ◌≤◌, ◌⊎◌, Bool, true, false, not, List, [], ◌∷◌, length, map, refl, sym, ap, subst, ◌∙◌, inl, inr, arith, Some, None}
+use Rattle.std.proofs.Common.{◌≡◌, ◌≢◌, ℕ, zero, suc, ◌+◌, ◌<◌, ◌≤◌, ◌⊎◌, Bool, true, false, not, List, [], ◌∷◌, length, map, refl, sym, ap, subst, ◌∙◌, inl}
+use Rattle.std.proofs.Common.{inr, arith, Some, None}
 use Rattle.std.specs.Prelude.{IsTrue, IsFalse, ℤ, int_le, ◌==◌, filter}
 use Rattle.std.proofs.lemmas.Bool.{true≢false, cases_eq, and_from, eq-eqb}
 use Rattle.std.proofs.lemmas.List.{get_or_past, get_or_default}
@@ -14,18 +15,16 @@ use Rattle.comp_tree.specs.Forest.{no_node, IsHigh, link_of, IsForest, WayEndsAt
 use Rattle.comp_tree.specs.Grid.{IsAdjacency}
 use Rattle.comp_tree.specs.Joined.{Joined}
 use Rattle.comp_tree.specs.Components.{reaches, representative, is_representative, in_order, nodes, node_of, parent_of, row_of, tree_of, is_candidate}
-use Rattle.comp_tree.proofs.Exported.{value-level, level-value, last_is, last_own, representative_from_link, link_from_representative, parent_from_link, before_level, last_start, last_earlier, int_lt_le, int_le_refl, IsAmong, earlier-level, node-undefined, reaches-is_IsReached, below_from_defined, defined_from_at_least, joined_wider, get_is, make_tree, tree_of-well_formed}
+use Rattle.comp_tree.proofs.Exported.{value-level, level-value, last_is, last_own, representative_from_link, link_from_representative, parent_from_link}
+use Rattle.comp_tree.proofs.Exported.{before_level, last_start, last_earlier, int_lt_le, int_le_refl, IsAmong, earlier-level, node-undefined}
+use Rattle.comp_tree.proofs.Exported.{reaches-is_IsReached, below_from_defined, defined_from_at_least, joined_wider, get_is, make_tree, tree_of-well_formed}
 use Rattle.comp_tree.proofs.Exported as Nodes
 use Rattle.comp_tree.specs.Forest.{StandsForAll}
 use Rattle.tree_canon.specs.Canonical.{is_canonical, canonical_pixels, node_number_at, IsNumbering, loose_row, with_parent}
 use Rattle.tree_canon.proofs.Finding.{IsPixelLink, pixel_link, canonical-none, canonical-some, link_high}
 use Rattle.tree_canon.proofs.Sorting.{canonical-defined, canonical-is}
 use Rattle.tree_canon.proofs.Numbering.{place_of}
-
-same_tests : (a b : Bool) → (a ≡ true → b ≡ true) → (b ≡ true → a ≡ true) → a ≡ b
-same_tests true b f g = sym (f refl)
-same_tests false true f g = g refl
-same_tests false false f g = refl
+use Rattle.lemmas.proofs.Exported.{same_bool}
 
 not_true : (b : Bool) → not b ≡ true → b ≡ false
 not_true true e = sym e
@@ -53,7 +52,8 @@ module _ (r : Raster) (connect : Connect) (links : List ℕ) (plane : IsPlane r)
     value = k;
   }
 
-  joined_from : (h : ℤ) (p q : ℕ) → IsTrue (reaches r connect h p q) → Joined (IsHigh r.values 0 (length links) h) (IsAdjacency r.values r.shape.width connect) p q
+  joined_from : (h : ℤ) (p q : ℕ) → IsTrue (reaches r connect h p q)
+      → Joined (IsHigh r.values 0 (length links) h) (IsAdjacency r.values r.shape.width connect) p q
   joined_from h p q k = joined_wider (high_from h) ((reaches-is_IsReached r connect h p q).0 k)
 
   link_low : (p : ℕ) → IsTrue (is_canonical r links p) → IsFalse (is_at_least r (level r p) (link_of 0 links p))
@@ -78,14 +78,15 @@ module _ (r : Raster) (connect : Connect) (links : List ℕ) (plane : IsPlane r)
       ]
 
   canonical_same : (p : ℕ) → is_canonical r links p ≡ is_representative r connect p
-  canonical_same p = same_tests (is_canonical r links p) (is_representative r connect p) (to_representative p) (from_representative p)
+  canonical_same p = same_bool (is_canonical r links p) (is_representative r connect p) (to_representative p) (from_representative p)
 
   pub canonical_nodes : canonical_pixels r links ≡ nodes r connect
   unfolding canonical_pixels nodes
   canonical_nodes = ap (λ (t : ℕ → Bool). in_order r (filter t (pixels r))) (λ i p. canonical_same p i)
 
   -- the link of a pixel that isn't canonical has the same representative
-  link_same : (p : ℕ) → IsTrue (is_defined r p) → IsHigh r.values 0 (length links) (level r p) (link_of 0 links p) → value_at r.values (link_of 0 links p) ≡ Some (level r p)
+  link_same : (p : ℕ) → IsTrue (is_defined r p) → IsHigh r.values 0 (length links) (level r p) (link_of 0 links p)
+      → value_at r.values (link_of 0 links p) ≡ Some (level r p)
       → IsTrue (is_defined r (link_of 0 links p)) → representative r connect p ≡ representative r connect (link_of 0 links p)
   link_same p d high value dl = on (representative r connect p) (last_own r connect links plane whole forest stands p d)
     where
@@ -94,7 +95,8 @@ module _ (r : Raster) (connect : Connect) (links : List ℕ) (plane : IsPlane r)
 
       on : (z : ℕ) → WayEndsAt r.values 0 links (level r p) p z → z ≡ representative r connect (link_of 0 links p)
       on z (stop g n) = absurd (n high)
-      on z (go g l) = last_is r connect links plane whole forest stands (link_of 0 links p) z dl (subst (λ (h : ℤ). WayEndsAt r.values 0 links h (link_of 0 links p) z) (sym same_level) l)
+      on z (go g l) = last_is r connect links plane whole forest stands (link_of 0 links p) z dl
+          (subst (λ (h : ℤ). WayEndsAt r.values 0 links h (link_of 0 links p) z) (sym same_level) l)
 
   module _ (numbers : List ℕ) (numbering : IsNumbering r links numbers) where
     abbrev Numbered : ℕ → Type 0
@@ -123,7 +125,8 @@ module _ (r : Raster) (connect : Connect) (links : List ℕ) (plane : IsPlane r)
             let below = below_from_defined r p d in
             let k : IsPixelLink r links p = pixel_link r links p forest (omega (arith, whole, below)) (some u) in
             let high = link_high r links p d (some u) u in
-            let lower = before_level (value_at r.values (link_of 0 links p)) (value_at r.values p) (level r p) (link_of 0 links p) p (value-level r p d) high k.earlier in
+            let lower = before_level (value_at r.values (link_of 0 links p)) (value_at r.values p) (level r p) (link_of 0 links p) p
+            (value-level r p d) high k.earlier in
             let e = link_same p d (record { within = record { low = omega arith; high = omega (arith, k.below) }; value = high }) lower.0 k.link_defined in
             subst (λ (x : ℕ). Nodes.IsPlace (nodes r connect) x (node_number_at numbers p)) (sym e)
             (subst (λ (m : ℕ). Nodes.IsPlace (nodes r connect) (representative r connect (link_of 0 links p)) m) (sym (numbering.others p u))
@@ -228,13 +231,16 @@ module _ (r : Raster) (connect : Connect) (links : List ℕ) (plane : IsPlane r)
         make_tree s r.shape rows (map (row_of r connect) (nodes r connect)) numbers (map (node_of r connect) (pixels r)) e (is ∙ rows_are) numbers_are
 
 -- the rows, from what the steps of the code say
-pub rows_from : (r : Raster) (links numbers lent : List ℕ) (xs given new : List NodeRow) → xs ≡ map (loose_row r) (canonical_pixels r links) → given ≡ xs → lent ≡ numbers
+pub rows_from : (r : Raster) (links numbers lent : List ℕ) (xs given new : List NodeRow) → xs ≡ map (loose_row r) (canonical_pixels r links) → given ≡ xs
+    → lent ≡ numbers
     → new ≡ map (with_parent links lent) given → new ≡ map (with_parent links numbers) (map (loose_row r) (canonical_pixels r links))
 rows_from r links numbers lent xs given new is same same_numbers made =
     made ∙ ap (λ (ns : List ℕ). map (with_parent links ns) given) same_numbers ∙ ap (map (with_parent links numbers)) (same ∙ is)
 
-pub well_formed : (r : Raster) (links : List ℕ) → IsPlane r → length links ≡ length r.values → IsForest r.values 0 links → StandsForAll r Four links ⊎ StandsForAll r Eight links
-    → (numbers : List ℕ) → IsNumbering r links numbers → (s : Shape) (rows : List NodeRow) → s ≡ r.shape → rows ≡ map (with_parent links numbers) (map (loose_row r) (canonical_pixels r links))
+pub well_formed : (r : Raster) (links : List ℕ) → IsPlane r → length links ≡ length r.values → IsForest r.values 0 links
+    → StandsForAll r Four links ⊎ StandsForAll r Eight links
+    → (numbers : List ℕ) → IsNumbering r links numbers → (s : Shape) (rows : List NodeRow) → s ≡ r.shape
+    → rows ≡ map (with_parent links numbers) (map (loose_row r) (canonical_pixels r links))
     → (let t : ComponentTree = record { shape = s; rows = rows; node_of = numbers } in IsWellFormed t)
 well_formed r links plane whole forest stands numbers numbering s rows e is = elim stands [ inl four ↦ at Four four | inr eight ↦ at Eight eight ]
   where

@@ -15,8 +15,7 @@ ghost use Rattle.std.specs.Prelude.{◌≡◌, ◌⊎◌, length, IfOk};
 ghost use Rattle.comp_tree.specs.declared.shape.Connect.{Connect};
 ghost use Rattle.comp_tree.specs.declared.shape.Connect.TheVariants.{Four, Eight};
 ghost use Rattle.comp_tree.specs.Components.{tree_of};
-ghost use Rattle.comp_tree.specs.Forest.{IsForest};
-ghost use Rattle.comp_tree.specs.Forest.{StandsForAll};
+ghost use Rattle.comp_tree.specs.Forest.{IsForest, StandsForAll};
 
 use comp_tree::{Forest, Plane, Tree};
 use dev_io::OutOfMemory;
@@ -31,8 +30,11 @@ use std::alloc::Global;
 pub fn canon(alloc: Global, plane: &Plane, forest: &Forest) -> Result<Tree, OutOfMemory>
     requires one_each { length forest.now ≡ length plane.now.values }
     requires forest { IsForest plane.now.values 0 forest.now }
-    requires stands { StandsForAll plane.now Four forest.now ⊎ StandsForAll plane.now Eight forest.now }
-    ensures { IfOk result (λ tree. (connect : Connect) → StandsForAll plane.now connect forest.now → tree ≡ tree_of plane.now connect) }
+    requires stands { StandsForAll plane.now Four forest.now
+        ⊎ StandsForAll plane.now Eight forest.now }
+    ensures { IfOk result (λ tree. (connect : Connect)
+        → StandsForAll plane.now connect forest.now
+        → tree ≡ tree_of plane.now connect) }
 {
     let shape = plane.shape();
     let links = forest.parents();

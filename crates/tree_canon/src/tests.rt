@@ -77,8 +77,7 @@ struct Case<'a> {
     width: u32,
     height: u32,
     connect: Connect,
-    // -1 stands for an undefined pixel
-    values: &'a [i64],
+    values: &'a [Option<i64>],
     links: &'a [u32],
     rows: &'a [(i64, u32, u32)],
     node_of: &'a [u32],
@@ -91,7 +90,17 @@ fn trees_from_links(rt: HostRuntime) {
             width: 3,
             height: 3,
             connect: Connect::Four,
-            values: &[5, 0, 6, 5, 2, 6, 3, 3, 3],
+            values: &[
+                Some(5),
+                Some(0),
+                Some(6),
+                Some(5),
+                Some(2),
+                Some(6),
+                Some(3),
+                Some(3),
+                Some(3),
+            ],
             links: &[8, NONE, 8, 0, 1, 2, 4, 6, 7],
             rows: &[(0, 1, NONE), (2, 4, 0), (3, 6, 1), (5, 0, 2), (6, 2, 2)],
             node_of: &[3, 0, 4, 3, 1, 4, 2, 2, 2],
@@ -100,7 +109,17 @@ fn trees_from_links(rt: HostRuntime) {
             width: 3,
             height: 3,
             connect: Connect::Eight,
-            values: &[5, 0, 6, 5, 2, 6, 3, 3, 3],
+            values: &[
+                Some(5),
+                Some(0),
+                Some(6),
+                Some(5),
+                Some(2),
+                Some(6),
+                Some(3),
+                Some(3),
+                Some(3),
+            ],
             links: &[8, NONE, 8, 0, 1, 2, 4, 6, 7],
             rows: &[(0, 1, NONE), (2, 4, 0), (3, 6, 1), (5, 0, 2), (6, 2, 2)],
             node_of: &[3, 0, 4, 3, 1, 4, 2, 2, 2],
@@ -109,7 +128,7 @@ fn trees_from_links(rt: HostRuntime) {
             width: 3,
             height: 2,
             connect: Connect::Four,
-            values: &[1, 5, 1, 7, 1, 1],
+            values: &[Some(1), Some(5), Some(1), Some(7), Some(1), Some(1)],
             links: &[NONE, 0, 0, 2, 2, 4],
             rows: &[(1, 0, NONE), (5, 1, 0), (7, 3, 0)],
             node_of: &[0, 1, 0, 2, 0, 0],
@@ -118,7 +137,7 @@ fn trees_from_links(rt: HostRuntime) {
             width: 3,
             height: 2,
             connect: Connect::Eight,
-            values: &[1, 5, 1, 7, 1, 1],
+            values: &[Some(1), Some(5), Some(1), Some(7), Some(1), Some(1)],
             links: &[NONE, 0, 0, 1, 2, 4],
             rows: &[(1, 0, NONE), (5, 1, 0), (7, 3, 1)],
             node_of: &[0, 1, 0, 2, 0, 0],
@@ -127,7 +146,7 @@ fn trees_from_links(rt: HostRuntime) {
             width: 3,
             height: 1,
             connect: Connect::Four,
-            values: &[5, -1, 5],
+            values: &[Some(5), None, Some(5)],
             links: &[NONE, NONE, NONE],
             rows: &[(5, 0, NONE), (5, 2, NONE)],
             node_of: &[0, NONE, 1],
@@ -137,7 +156,7 @@ fn trees_from_links(rt: HostRuntime) {
             width: 3,
             height: 2,
             connect: Connect::Four,
-            values: &[90, 2, 90, 7, 2, 40],
+            values: &[Some(90), Some(2), Some(90), Some(7), Some(2), Some(40)],
             links: &[3, NONE, 5, 1, 1, 1],
             rows: &[(2, 1, NONE), (7, 3, 0), (40, 5, 0), (90, 0, 1), (90, 2, 2)],
             node_of: &[3, 0, 4, 1, 0, 2],
@@ -146,7 +165,7 @@ fn trees_from_links(rt: HostRuntime) {
             width: 2,
             height: 1,
             connect: Connect::Eight,
-            values: &[-1, -1],
+            values: &[None, None],
             links: &[NONE, NONE],
             rows: &[],
             node_of: &[NONE, NONE],
@@ -154,12 +173,9 @@ fn trees_from_links(rt: HostRuntime) {
     ];
     for (number, case) in cases.iter().enumerate() {
         let shape = Shape::of(case.width, case.height).expect(&rt, "a shape");
-        let mut plane = Plane::blank(rt.alloc(), shape).expect(&rt, "memory");
-        for (p, value) in case.values.iter().enumerate() {
-            if *value >= 0 && *value < 100 && p < plane.shape().pixels() as usize {
-                plane.set(p as u32, Some(*value));
-            }
-        }
+        let plane = Plane::of(rt.alloc(), shape, case.values)
+            .expect(&rt, "memory")
+            .expect(&rt, "a plane");
         let found = tree_from(rt.alloc(), &plane, case.connect, case.links).expect(&rt, "memory");
         let tree = found.expect(&rt, "links that fit");
         assert_eq!(rt; tree.rows().len(), case.rows.len(), "case {number}");

@@ -15,14 +15,16 @@ number_nodes-requires-clause-canonical c = c.deref.ensures.value ∙ c.in_ok-pix
 
 pub set_parents-requires-clause-within : goal.set_parents-requires-clause-within
 set_parents-requires-clause-within c =
-    pixels_within c.args.plane.now c.parents-links.result.now c.deref-3.result.now (ap length c.parents-links.ensures ∙ c.requires.one_each) (c.deref-3.ensures.value ∙ c.in_ok-pixels.ensures)
+    pixels_within c.args.plane.now c.parents-links.result.now c.deref-3.result.now (ap length c.parents-links.ensures ∙ c.requires.one_each)
+    (c.deref-3.ensures.value ∙ c.in_ok-pixels.ensures)
 
 pub set_parents-requires-clause-one_each : goal.set_parents-requires-clause-one_each
 set_parents-requires-clause-one_each c = ap length c.deref-2.ensures.value ∙ c.in_ok-made.ensures.numbers.one_each
 
 pub set_parents-requires-clause-rows : goal.set_parents-requires-clause-rows
 set_parents-requires-clause-rows c =
-    rows_by_pixels c.args.plane.now c.parents-links.result.now c.deref-3.result.now c.deref-2.result.now c.deref_mut.result.now (c.deref-3.ensures.value ∙ c.in_ok-pixels.ensures)
+    rows_by_pixels c.args.plane.now c.parents-links.result.now c.deref-3.result.now c.deref-2.result.now c.deref_mut.result.now
+    (c.deref-3.ensures.value ∙ c.in_ok-pixels.ensures)
     (c.deref_mut.ensures.value ∙ c.in_ok-made.ensures.rows)
     (subst (IsNumbering c.args.plane.now c.parents-links.result.now) (sym c.deref-2.ensures.value) c.in_ok-made.ensures.numbers)
 
@@ -36,7 +38,8 @@ of-requires c =
     (subst (λ ls. StandsForAll r Four ls ⊎ StandsForAll r Eight ls) (sym same) c.requires.stands)
     c.in_ok-made.made.numbers.items c.in_ok-made.ensures.numbers c.shape-shape.result _ c.shape-shape.ensures.same
     (with_items_is c.in_ok-made.made.rows new count
-    ∙ rows_from r links c.in_ok-made.made.numbers.items c.deref-2.result.now c.in_ok-made.made.rows.items c.deref_mut.result.now new c.in_ok-made.ensures.rows c.deref_mut.ensures.value c.deref-2.ensures.value c.set_parents.ensures)
+    ∙ rows_from r links c.in_ok-made.made.numbers.items c.deref-2.result.now c.in_ok-made.made.rows.items c.deref_mut.result.now new c.in_ok-made.ensures.rows
+    c.deref_mut.ensures.value c.deref-2.ensures.value c.set_parents.ensures)
 
 pub returns : goal.returns
 returns c = λ connect stands.
@@ -45,7 +48,9 @@ returns c = λ connect stands.
     let new = c.set_parents.new.rows in
     let count = ap length c.set_parents.ensures ∙ length-map c.deref_mut.result.now (with_parent links c.deref-2.result.now) ∙ c.deref_mut.ensures.len in
     c.of.ensures
-    ∙ tree_is r connect links plane (ap length same ∙ c.requires.one_each) (subst (IsForest r.values 0) (sym same) c.requires.forest) (subst (StandsForAll r connect) (sym same) stands)
+    ∙ tree_is r connect links plane (ap length same ∙ c.requires.one_each) (subst (IsForest r.values 0) (sym same) c.requires.forest)
+    (subst (StandsForAll r connect) (sym same) stands)
     c.in_ok-made.made.numbers.items c.in_ok-made.ensures.numbers c.shape-shape.result _ c.shape-shape.ensures.same
     (with_items_is c.in_ok-made.made.rows new count
-    ∙ rows_from r links c.in_ok-made.made.numbers.items c.deref-2.result.now c.in_ok-made.made.rows.items c.deref_mut.result.now new c.in_ok-made.ensures.rows c.deref_mut.ensures.value c.deref-2.ensures.value c.set_parents.ensures)
+    ∙ rows_from r links c.in_ok-made.made.numbers.items c.deref-2.result.now c.in_ok-made.made.rows.items c.deref_mut.result.now new c.in_ok-made.ensures.rows
+    c.deref_mut.ensures.value c.deref-2.ensures.value c.set_parents.ensures)

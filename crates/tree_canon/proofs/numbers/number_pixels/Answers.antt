@@ -14,7 +14,8 @@ number_rows-requires-clause-few c =
 pub number_rows-requires-clause-within : goal.number_rows-requires-clause-within
 number_rows-requires-clause-within c =
     let made : c.in_ok-numbers.numbers.items ≡ replicate (length c.args.links.now) no_node = search rules in
-    rows_within c.args.plane.now c.args.links.now c.requires.one_each c.requires.forest c.requires.few c.args.rows.now c.requires.canonical c.deref_mut.result.now
+    rows_within c.args.plane.now c.args.links.now c.requires.one_each c.requires.forest c.requires.few c.args.rows.now
+    c.requires.canonical c.deref_mut.result.now
     (ap length (c.deref_mut.ensures.value ∙ made) ∙ length-replicate {A = ℕ} (length c.args.links.now) no_node)
 
 pub number_rows-requires-clause-apart : goal.number_rows-requires-clause-apart

@@ -11,7 +11,8 @@ loop-p-preserved c =
           ap (λ (v : Vec ℕ Global). v.items) w.found-is ∙ w.in_ok-push.ensures.items
           ∙ listed-yes r links c.loop-p.p found c.loop-p.invariant (sym c.is_canonical.ensures ∙ w.if-is_canonical.true)
       | else-is_canonical w ↦
-          ap (λ (v : Vec ℕ Global). v.items) w.found-is ∙ listed-no r links c.loop-p.p found c.loop-p.invariant (sym c.is_canonical.ensures ∙ w.if-is_canonical.false)
+          ap (λ (v : Vec ℕ Global). v.items) w.found-is
+          ∙ listed-no r links c.loop-p.p found c.loop-p.invariant (sym c.is_canonical.ensures ∙ w.if-is_canonical.false)
     ]
 
 pub returns : goal.returns

@@ -12,10 +12,13 @@ loop-p-init c = set_by_none c.args.links.now c.args.numbers.now c.args.pixels.no
 pub loop-p-preserved : goal.loop-p-preserved
 loop-p-preserved c =
     let within : slice_index c.args.pixels.now c.loop-p.p-index < length c.args.links.now = c.requires.within c.loop-p.p-index 0 c.loop-p-test.true in
-    set_by_more c.args.links.now c.args.numbers.now c.args.pixels.now c.args.rows.now c.loop-p.rows c.loop-p.p-index _ c.node_number_at-parent.result c.loop-p-test.true c.requires.rows
+    set_by_more c.args.links.now c.args.numbers.now c.args.pixels.now c.args.rows.now c.loop-p.rows c.loop-p.p-index _ c.node_number_at-parent.result
+    c.loop-p-test.true c.requires.rows
     (get_or_default c.args.numbers.now (slice_index c.args.pixels.now c.loop-p.p-index) 0 no_node (omega (arith, within, c.requires.one_each)))
-    (c.node_number_at-parent.ensures ∙ ap (node_number_at c.args.numbers.now) (read_link c.args.links.now (slice_index c.args.pixels.now c.loop-p.p-index) within))
+    (c.node_number_at-parent.ensures ∙ ap (node_number_at c.args.numbers.now)
+    (read_link c.args.links.now (slice_index c.args.pixels.now c.loop-p.p-index) within))
     c.loop-p.invariant
 
 pub returns : goal.returns
-returns c = set_by_all c.args.links.now c.args.numbers.now c.args.pixels.now c.args.rows.now c.loop-p.rows c.loop-p.p-index c.loop-p-test.false c.requires.rows c.loop-p.invariant
+returns c = set_by_all c.args.links.now c.args.numbers.now c.args.pixels.now c.args.rows.now c.loop-p.rows c.loop-p.p-index c.loop-p-test.false
+    c.requires.rows c.loop-p.invariant
