@@ -27,6 +27,30 @@ STRANGE = """
     SELECT CASE WHEN type = 'table' THEN 'virtual table' ELSE type END, name FROM sqlite_master
     WHERE type = 'trigger' OR (type = 'index' AND sql IS NOT NULL AND tbl_name = 'source') OR sql LIKE 'CREATE VIRTUAL%'
 """
+CAUSES = {
+    3: "the catalogue couldn't be read",
+    4: "its output failed",
+    5: "memory is wanted",
+    6: "the file couldn't be opened or written",
+}
+
+
+def find_survey_program(program: Optional[str] = None) -> str:
+    """The path of maxsurvey: `program`, or where MAXSURVEY, the package, the PATH or the repository has it. Raises
+    NoProgram.
+    """
+    package = pathlib.Path(__file__).resolve().parent
+    built = package.parent.parent / "crates" / "maxsurvey" / "out" / "maxsurvey"
+    found = (
+        program
+        or os.environ.get("MAXSURVEY")
+        or shutil.which(package / "bin" / "maxsurvey")
+        or shutil.which("maxsurvey")
+        or (built if built.exists() else None)
+    )
+    if not found:
+        raise NoProgram("maxsurvey isn't on the PATH; name it in the environment's MAXSURVEY, or build it")
+    return os.fspath(found)
 
 
 def _whole_fluxes(table: Table, unit: float) -> numpy.ndarray:
