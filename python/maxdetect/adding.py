@@ -5,6 +5,7 @@ import os
 import pathlib
 import re
 import shutil
+import sqlite3
 import subprocess
 from typing import Optional, Union
 
@@ -21,11 +22,16 @@ __all__ = ["add", "find_survey_program", "survey_file"]
 # The kinds of the catalogue's columns: 32 bits, or 64.
 WIDE = {"LEVEL", "BASE", "FLUX", "PEAK", "XVAR", "YVAR", "XYCOV"}
 GREATEST = 2.0**62
+# What a database may have that keeps maxsurvey out.
+STRANGE = """
+    SELECT CASE WHEN type = 'table' THEN 'virtual table' ELSE type END, name FROM sqlite_master
+    WHERE type = 'trigger' OR (type = 'index' AND sql IS NOT NULL AND tbl_name = 'source') OR sql LIKE 'CREATE VIRTUAL%'
+"""
 CAUSES = {
     3: "the catalogue couldn't be read",
     4: "its output failed",
     5: "memory is wanted",
-    6: "the file couldn't be opened or written: no permission, no room, damage, or another process that has it",
+    6: "the file couldn't be opened or written",
 }
 
 
@@ -87,9 +93,42 @@ def _alone(path: str):
     except ImportError:
         yield
         return
-    with open(path + ".lock", "a", encoding="ascii") as lock:
+    try:
+        lock = open(path + ".lock", "a", encoding="ascii")
+    except OSError as error:
+        raise Mistake(f"{path}: {error.strerror}") from None
+    with lock:
         fcntl.flock(lock, fcntl.LOCK_EX)
         yield
+
+
+def _why(path: str) -> str:
+    """What keeps maxsurvey from a survey's file, as far as it can be told from outside."""
+    folder = os.path.dirname(os.path.abspath(path))
+    if not os.path.isdir(folder) or os.path.isdir(path):
+        return "there is no such folder" if not os.path.isdir(folder) else "it is a folder"
+    if not os.access(folder, os.W_OK) or (os.path.exists(path) and not os.access(path, os.W_OK)):
+        return "the file, or its folder, can't be written"
+    if shutil.disk_usage(folder).free < 2**20:
+        return "there is no room on the disk"
+    return _why_not_opened(path) if os.path.exists(path) else CAUSES[6]
+
+
+def _why_not_opened(path: str) -> str:
+    """The same of a file that is there and may be written."""
+    connection = sqlite3.connect(path, timeout=0, isolation_level=None)
+    try:
+        connection.execute("BEGIN IMMEDIATE")
+        strange = connection.execute(STRANGE).fetchone()
+        connection.execute("ROLLBACK")
+        if strange:
+            return f"it has the {strange[0]} {strange[1]}, which maxsurvey doesn't understand"
+        sound = connection.execute("PRAGMA quick_check(1)").fetchone()
+        return CAUSES[6] if sound == ("ok",) else "it is damaged"
+    except sqlite3.Error as error:
+        return surveys.cause(error)
+    finally:
+        connection.close()
 
 
 def add(
@@ -112,4 +151,5 @@ def add(
             raise NoProgram(f"{words[0]} can't be run: {error.strerror}") from None
     if done.returncode != 0:
         note = re.sub(r"\s+", " ", done.stderr.decode("utf-8", "replace")).strip()
-        raise Mistake(f"{path}: maxsurvey answers {note or done.returncode}: {CAUSES.get(done.returncode, 'refused')}")
+        cause = _why(path) if done.returncode == 6 else CAUSES.get(done.returncode, "refused")
+        raise Mistake(f"{path}: maxsurvey answers {note or done.returncode}: {cause}")

@@ -57,7 +57,7 @@ class Survey(collections.abc.Mapping):
             with _opened(self.path) as found:
                 return list(found.connection.execute(text, values))
         except sqlite3.Error as error:
-            raise Mistake(f"{self.path}: {_cause(error)}") from None
+            raise Mistake(f"{self.path}: {cause(error)}") from None
 
     def __iter__(self) -> Iterator[str]:
         return iter([_name(self.path, name) for name, in self._asked("SELECT field FROM source ORDER BY field")])
@@ -124,7 +124,7 @@ class Survey(collections.abc.Mapping):
                 rows = [(name, _sum(cells)) for name, cells in writing.execute("SELECT field, cells FROM source")]
                 writing.executemany("INSERT INTO source_sum VALUES (?, ?)", rows)
         except sqlite3.Error as error:
-            raise Mistake(f"{self.path}: {_cause(error)}") from None
+            raise Mistake(f"{self.path}: {cause(error)}") from None
         return len(rows)
 
     def changed(self) -> List[str]:
@@ -171,7 +171,7 @@ def _opened(path: str) -> _Connection:
     return _Connection(sqlite3.connect(f"file:{whole}?mode=ro" + ("&immutable=1" if alone else ""), uri=True))
 
 
-def _cause(error: sqlite3.Error) -> str:
+def cause(error: sqlite3.Error) -> str:
     """What an error of SQLite means for whoever opened a survey."""
     text = str(error)
     if "no such table" in text or "no such column" in text or "not a database" in text:

@@ -224,6 +224,29 @@ def test_what_is_not_added(tmp_path, stars, program, monkeypatch):
         maxdetect.add(tmp_path / "s.db", "A", table)
 
 
+def test_why_the_file_is_not_taken(tmp_path, stars, program):
+    table, _ = maxdetect.catalogue(stars[0])
+
+    def told(path):
+        with pytest.raises(Mistake, match="keeper fault") as caught:
+            maxdetect.add(path, "A", table)
+        return str(caught.value)
+
+    path = tmp_path / "s.db"
+    maxdetect.add(path, "A", table)
+    held = sqlite3.connect(path, isolation_level=None)
+    held.execute("BEGIN IMMEDIATE")
+    assert "another process has the file" in told(path)
+    held.execute("ROLLBACK")
+    held.execute("CREATE TRIGGER t AFTER INSERT ON source BEGIN SELECT 1; END")
+    held.close()
+    assert "the trigger t" in told(path)
+    (tmp_path / "text").write_text("no database, but longer than a header of one" * 9)
+    assert "no survey's file" in told(tmp_path / "text")
+    with pytest.raises(Mistake, match="s.db: No such file"):
+        maxdetect.add(tmp_path / "none" / "s.db", "A", table)
+
+
 def test_maxcat_adds_what_it_found(tmp_path, monkeypatch, stars, program, capsys):
     monkeypatch.chdir(tmp_path)
     fits.writeto("a.fits", stars[0], sky().to_header())
