@@ -24,3 +24,5 @@ pub use Rattle.source_pick.proofs.Windowed.{in_node_reached}
 pub use Rattle.source_pick.proofs.Windowed.{each_source_is_a_tiles, own_sources_are_distinct, own_sources_are_the_wholes, seen_sources_are_sure}
 pub use Rattle.source_pick.proofs.Windowed.{sure_sources_are_seen}
 pub use Rattle.source_pick.proofs.Tiling.{tiles_give_the_catalogue}
+-- the row of a node of a plane fits its columns, and each of its numbers 64 bits
+pub use Rattle.source_pick.proofs.CellsFit.{catalogue_row_fits}

@@ -10,6 +10,7 @@ mod Flags
 mod Marks
 mod Means
 mod Rows
+mod CellsFit
 mod HighNodes
 mod Bordering
 mod AlongBorders
