@@ -103,9 +103,10 @@ impl LevelQueue {
     #[inline]
     pub fn front(&self, rank: u32) -> Option<u32>
         requires { rank < length self.now.lists }
-        ensures { MatchOption result
+        ensures first { MatchOption result
             (list_at self.now.lists rank ≡ [])
             (IsFront self.now.lists rank) }
+        ensures once { StandsOnce self.now }
     {
         let at = rank as usize;
         if self.used.contains(at) {

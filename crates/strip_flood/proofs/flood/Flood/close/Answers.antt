@@ -18,7 +18,7 @@ returns-in_default-clause-between c = record {
 pub overflow_add-pixel : goal.overflow_add-pixel
 overflow_add-pixel c =
     let q : IsInQueue (ground_of c.args.strip.now) c.args.self.now.cursors.items (c.args.strip.now.first + c.in-Some-front.item) =
-    front_queued (ground_of c.args.strip.now) (state_of c.args.self.now) c.requires.fair c.in-Some.next c.in-Some-front.item c.in-Some-front.ensures in
+    front_queued (ground_of c.args.strip.now) (state_of c.args.self.now) c.requires.fair c.in-Some.next c.in-Some-front.item c.in-Some-front.ensures.first in
     let l : c.args.strip.now.first + c.in-Some-front.item < c.args.strip.now.first + length c.args.strip.now.ranks.items = q.inside.high in
     let few : c.args.strip.now.first + length c.args.strip.now.ranks.items ≤ 2 ^ 24 = c.requires.strip.few in omega arith
 
@@ -36,11 +36,11 @@ returns-clause-between c =
           (set c.args.self.now.links.items (e - c.args.strip.now.first) (c.args.strip.now.first + c.in-Some-front.item)))) read
           (close_hang (ground_of c.args.strip.now)
           (state_of c.args.self.now) c.requires.strip.ranked c.requires.fair c.args.rank c.requires.busy c.requires.low c.requires.kept c.requires.empty
-          c.in-Some.next c.in-Some-front.item c.in-Some.ensures c.in-Some-front.ensures c.requires.above);
+          c.in-Some.next c.in-Some-front.item c.in-Some.ensures c.in-Some-front.ensures.first c.requires.above);
     }
 
 pub returns-clause-next : goal.returns-clause-next
 returns-clause-next c =
     let at = front_current (ground_of c.args.strip.now)
-    (state_of c.args.self.now) c.requires.fair c.in-Some.next c.in-Some-front.item c.in-Some.ensures.above c.in-Some-front.ensures in
+    (state_of c.args.self.now) c.requires.fair c.in-Some.next c.in-Some-front.item c.in-Some.ensures.above c.in-Some-front.ensures.first in
     record { top = record { queued = at.top.queued; above = at.top.above }; rank = at.rank; front = at.front }

@@ -8,7 +8,7 @@ use Rattle.strip_flood.proofs.flood.Flood.finish.Goals as goal
 pub overflow_add-result : goal.overflow_add-result
 overflow_add-result c =
     let q : IsInQueue (ground_of c.args.strip.now) c.retire.new.self.cursors.items (c.args.strip.now.first + c.in-Some.item) =
-    front_queued (ground_of c.args.strip.now) (state_of c.retire.new.self) c.retire.ensures.fair c.args.at.rank c.in-Some.item c.in-Some.ensures in
+    front_queued (ground_of c.args.strip.now) (state_of c.retire.new.self) c.retire.ensures.fair c.args.at.rank c.in-Some.item c.in-Some.ensures.first in
     let l : c.args.strip.now.first + c.in-Some.item < c.args.strip.now.first + length c.args.strip.now.ranks.items = q.inside.high in
     let few : c.args.strip.now.first + length c.args.strip.now.ranks.items ≤ 2 ^ 24 = c.requires.strip.few in omega arith
 
@@ -16,9 +16,9 @@ pub returns-in-Some-clause-between : goal.returns-in-Some-clause-between
 returns-in-Some-clause-between c = record {
   items = c.retire.ensures.items ∙ c.requires.between.items;
   turning = still_turning (ground_of c.args.strip.now)
-      (state_of c.retire.new.self) c.args.at.rank c.in-Some.item c.retire.ensures.fair c.retire.ensures.busy c.in-Some.ensures;
+      (state_of c.retire.new.self) c.args.at.rank c.in-Some.item c.retire.ensures.fair c.retire.ensures.busy c.in-Some.ensures.first;
 }
 
 pub returns-in-Some-clause-next : goal.returns-in-Some-clause-next
 returns-in-Some-clause-next c = front_current (ground_of c.args.strip.now)
-    (state_of c.retire.new.self) c.retire.ensures.fair c.args.at.rank c.in-Some.item c.retire.ensures.above c.in-Some.ensures
+    (state_of c.retire.new.self) c.retire.ensures.fair c.args.at.rank c.in-Some.item c.retire.ensures.above c.in-Some.ensures.first
