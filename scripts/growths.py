@@ -1,11 +1,12 @@
 """Refuses each growth of memory in turn, in small runs of the built program.
 
-usage: python3 scripts/growths.py MAXDETECT [TESTS]      (the built program, and the built tests of `strip_crew`)
+usage: python3 scripts/growths.py MAXDETECT [TESTS [MAXSURVEY]]      (the built programs, and the built tests of `strip_crew`)
 
 Each such run has status 5, has written nothing and says `out of memory`, or has status 0 and the whole output, which is compared with what it has to
 be: a growth may be one that the run can do without. A run of three rows asks for memory more often in two strips than in one, and more often in three
 than in two, since each strip is prepared by itself. One of the tests counts the strips that come to the gate: none does where memory was refused, and
-else each. It wants gcc, and takes some seconds. Exit status 1 where a run does otherwise.
+else each. Sessions of `maxsurvey` are tried in memory and over a file, of which a later run then lists what the session left: the tables before it,
+or after some of its commands. It wants gcc, and takes some seconds. Exit status 1 where a run does otherwise.
 """
 import os
 import pathlib
@@ -73,6 +74,14 @@ RUNS = [
     ("measure --values 1 --threshold 2 --contrast 300", BANDS, None),
 ]
 
+# Sessions of maxsurvey: the words, and what they print. Each takes the catalogue of two sources, and then that of one.
+SESSIONS = [
+    ("add A add B list brightest 2", b"A 2 7\nB 1 10\nB 1 10 2900 1000\nA 1 4 2000 1000\n"),
+    ("add A list add A drop A list", b"A 2 7\n"),
+]
+# What a session of two adds may leave in a file, as `list` prints it.
+LEFT = [b"", b"A 2 7\n", b"A 2 7\nB 1 10\n"]
+
 GATE_TEST = "tests::no_strip_comes_to_the_gate_where_memory_is_refused"
 
 
@@ -128,6 +137,47 @@ def gate_trials(refuser, tests):
     return count, wrong
 
 
+def session_trials(refuser, program, words, data, printed, path):
+    """The same of a session, whose output may be cut behind a command. Over a file, at the path, some hundred of the growths are refused, spread
+    over all of them, since there are thousands; the file is made anew for each run."""
+    if path:
+        words = f"--file {path} {words}"
+    command, wrong = [program, *words.split()], []
+    fronts = [printed[:place] for place in range(len(printed) + 1) if place == 0 or printed[place - 1 : place] == b"\n"]
+    number, count, step = 0, 0, 1
+    while number <= count:
+        for end in ("", "-wal", "-shm"):
+            pathlib.Path(f"{path}{end}").unlink(missing_ok=True)
+        done, asked = refuser.run(command, data, number)
+        ended = (done.returncode, done.stderr)
+        if number == 0:
+            count = asked
+            if ended != (0, b"") or done.stdout != printed or not 0 < count < 10 * MANY:
+                return count, [f"{words}: with ample memory it ends with {ended} and {done.stdout!r} after {count} growths"]
+            step = count // 128 + 1 if path else 1
+        elif not (ended == (0, b"") and done.stdout == printed or ended in [(5, b"out of memory\n"), (5, b"")] and done.stdout in fronts):
+            wrong.append(f"{words}: with growth {number} refused it ends with {done.returncode}, {done.stdout!r}, {done.stderr!r}")
+        if path:
+            left = subprocess.run([program, "--file", path, "list"], capture_output=True, timeout=60)
+            if left.returncode != 0 or left.stdout not in LEFT or (ended[0] == 0 and left.stdout != LEFT[-1]):
+                wrong.append(f"{words}: with growth {number} refused it leaves {left.stdout!r} ({left.returncode}, {left.stderr!r})")
+        number += step
+    return count, wrong
+
+
+def survey_trials(refuser, maxdetect, maxsurvey):
+    """The sessions in memory, and two adds over a file."""
+    words = "detect --threshold 2 --contrast"
+    catalogues = [subprocess.run([maxdetect, *words.split(), contrast], input=HILLS, capture_output=True, check=True).stdout for contrast in ("300", "301")]
+    wrong = []
+    trials = [(text, printed, None) for text, printed in SESSIONS] + [("add A add B list", LEFT[-1], refuser.folder / "survey.db")]
+    for text, printed, path in trials:
+        count, found = session_trials(refuser, maxsurvey, text, b"".join(catalogues), printed, path)
+        wrong += found
+        print(f"maxsurvey, {'over a file' if path else 'in memory'}, {text}: {count} growths, {len(found)} end otherwise than they may")
+    return wrong
+
+
 def main():
     if not shutil.which("gcc"):
         print("skipped: scripts/growths.py wants gcc")
@@ -144,6 +194,8 @@ def main():
             count, found = gate_trials(refuser, pathlib.Path(sys.argv[2]).resolve())
             wrong += found
             print(f"the gate's count: {count} growths, {len(found)} end otherwise than they may")
+        if len(sys.argv) > 3:
+            wrong += survey_trials(refuser, program, pathlib.Path(sys.argv[3]).resolve())
     one, two, three = (counts[f"tree --strips {strips} --workers 1"] for strips in (1, 2, 3))
     if not one < two < three:
         wrong.append("more strips don't ask for memory more often")

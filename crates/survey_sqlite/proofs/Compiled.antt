@@ -17,7 +17,9 @@ use Rattle.sqlite.specs.Command.{Command}
 use Rattle.sqlite.specs.Listing.{understood, reads_listing}
 use Rattle.sqlite.proofs.Callers.{IsPlain, command_of, statement_of}
 use Rattle.sqlite_tied.specs.Compute.{everything}
-use Rattle.survey_sqlite.specs.Statements.{no_schema, create_text, replace_text, remove_text, names_text, rows_text}
+use Rattle.survey_sqlite.specs.Statements.{create_text, replace_text, remove_text}
+use Rattle.survey_sqlite.specs.Queries.{names_text, rows_text}
+use Rattle.survey_sqlite.specs.Schemas.{no_schema}
 use Rattle.survey_sqlite.specs.Schemas.{source, source_schema}
 
 abbrev pub all_of : Query → Query

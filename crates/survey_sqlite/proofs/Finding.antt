@@ -7,7 +7,7 @@ use Rattle.sqlite.specs.Program.{overlay}
 use Rattle.sqlite.specs.Effect.{Database, Reads}
 use Rattle.survey_sqlite.specs.Blobs.{blob_cells}
 use Rattle.survey_sqlite.specs.Source.{AreFieldRows, tables_in}
-use Rattle.survey_sqlite.specs.Calls.{IsCellsOf}
+use Rattle.survey_sqlite.specs.Rows.{IsCellsOf}
 use Rattle.survey_sqlite.proofs.Compiled.{has_field, rows_command}
 use Rattle.survey_sqlite.proofs.RowLemmas.{find_row, cells_there, cells_not_there}
 use Rattle.survey_sqlite.proofs.TestLemmas.{answers_one, answers_none}

@@ -16,8 +16,9 @@ use Rattle.sqlite.specs.State.{State, mode_of, Writes, Executes, ExecutesIn, Run
 use Rattle.sqlite.proofs.Callers.{IsPlain, runs_as, reads_as, statement_of}
 use Rattle.survey_core.specs.Fields.{is_name}
 use Rattle.survey_core.specs.Tables.{IsNumbered, put, without_field, cells_of_field}
-use Rattle.survey_sqlite.specs.Statements.{no_schema}
-use Rattle.survey_sqlite.specs.Statements.{create_text, replace_text, remove_text, rows_text, names_text}
+use Rattle.survey_sqlite.specs.Schemas.{no_schema}
+use Rattle.survey_sqlite.specs.Statements.{create_text, replace_text, remove_text}
+use Rattle.survey_sqlite.specs.Queries.{rows_text, names_text}
 use Rattle.survey_sqlite.specs.Schemas.{source, source_schema}
 use Rattle.survey_sqlite.specs.Blobs.{blob_cells}
 use Rattle.survey_sqlite.specs.Source.{AreFieldRows, IsAtRest, tables_in}

@@ -1,12 +1,12 @@
 -- Bookkeeping: what a call on a connection does to the rows of `source`, and what its answer says of them.
-use Rattle.std.specs.Prelude.{◌≡◌, ◌⊎◌, ◌==◌, ℕ, List, [], ◌∷◌, None, Some, is_some, map, IsTrue}
-use Rattle.sqlite.specs.declared.types.Value.TheVariants.{Text, Blob}
-use Rattle.sqlite.specs.Order.{Row, column, bytes}
+use Rattle.std.specs.Prelude.{◌≡◌, ◌⊎◌, ◌==◌, ℕ, List, [], ◌∷◌, is_some, map, IsTrue}
+use Rattle.sqlite.specs.declared.types.Value.TheVariants.{Text}
+use Rattle.sqlite.specs.Order.{Row}
 use Rattle.sqlite.specs.Disk.{MoreFaults}
 use Rattle.sqlite.specs.State.{State, HasCleanDisk}
 use Rattle.survey_core.specs.Tables.{Table, cells_of_field}
-use Rattle.survey_sqlite.specs.Blobs.{blob_cells}
 use Rattle.survey_sqlite.specs.Source.{IsAtRest}
+use Rattle.survey_sqlite.specs.Rows.{IsCellsOf}
 use Rattle.survey_sqlite.specs.Steps.{tables_of}
 
 -- A connection at rest is so again while the disk returned what was written and did not shut it, and the tables become these.
@@ -21,12 +21,6 @@ StaysOpen old new = HasCleanDisk new → IsTrue old.is_open → IsTrue new.is_op
 abbrev pub CountsFound : State → State → List ℕ → ℕ → Type 0
 CountsFound old new field count = HasCleanDisk new → IsAtRest old → (count == 1) ≡ is_some (cells_of_field field (tables_of old))
 
--- no row, and then the field is not there, or one, which has its blob alone
-abbrev pub IsCellsOf : List Table → List ℕ → List Row → Type 0
-IsCellsOf tables field rows =
-    ((rows ≡ []) × (cells_of_field field tables ≡ None))
-    ⊎ ((blob : List ℕ) × (rows ≡ (Blob blob ∷ []) ∷ []) × (cells_of_field field tables ≡ Some (blob_cells blob)))
-
 abbrev pub AnswersCells : State → State → List ℕ → List Row → Type 0
 AnswersCells old new field rows = HasCleanDisk new → IsAtRest old → IsCellsOf (tables_of old) field rows
 
@@ -36,7 +30,3 @@ are_names = map (λ t. Text t.0 ∷ [])
 
 abbrev pub AnswersNames : State → State → List Row → Type 0
 AnswersNames old new rows = HasCleanDisk new → IsAtRest old → rows ≡ are_names (tables_of old)
-
--- the text in a row's one column
-abbrev pub text_in : Row → List ℕ
-text_in row = bytes (column row 0)

@@ -1,8 +1,11 @@
 pub mod Statements
 pub mod Schemas
+pub mod Tables
 pub mod Blobs
 pub mod Source
 pub mod Steps
+pub mod Rows
+pub mod Queries
 pub mod Calls
 pub mod Keepers
 pub mod Laws

@@ -2,7 +2,8 @@
 ghost use Rattle.std.specs.Prelude.{◌≡◌, ◌==◌, true, List, OnOk, OnErr, IfOk, Some, is_some, map, []};
 ghost use Rattle.survey_core.specs.Tables.{IsNumbered, put, without_field, cells_of_field};
 ghost use Rattle.survey_sqlite.specs.Blobs.{blob_cells};
-ghost use Rattle.survey_sqlite.specs.Calls.{IsCellsOf, are_names};
+ghost use Rattle.survey_sqlite.specs.Calls.{are_names};
+ghost use Rattle.survey_sqlite.specs.Rows.{IsCellsOf};
 ghost use Rattle.survey_sqlite.specs.Keepers.{tables_held, Rests};
 
 use crate::statements::{find_blob, list_names, make_table, put_row, remove_row};

@@ -5,14 +5,18 @@ mod blob;
 mod file_keeper;
 mod in_memory;
 mod reading;
+mod schema;
 mod sql_keeper;
 mod statements;
 
 pub use blob::{blob_of, cells_in_blob};
 pub use file_keeper::FileKeeper;
+pub use reading::{Unread, read_cells, read_names};
 pub use sql_keeper::SqlKeeper;
 pub use statements::make_table;
 
+#[cfg(test)]
+mod foreign_tests;
 #[cfg(test)]
 mod sample;
 #[cfg(test)]

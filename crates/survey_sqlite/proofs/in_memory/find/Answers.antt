@@ -1,5 +1,5 @@
 use Rattle.std.specs.declared.option.Option.TheVariants.{Some}
-use Rattle.survey_sqlite.specs.Calls.{IsCellsOf}
+use Rattle.survey_sqlite.specs.Rows.{IsCellsOf}
 use Rattle.survey_sqlite.specs.Keepers.{tables_held}
 use Rattle.survey_sqlite.proofs.Memory.{rests_after, tables_after, merely_told}
 use Rattle.survey_sqlite.proofs.in_memory.find.Goals as goal

@@ -2,7 +2,7 @@ use Rattle.std.proofs.Common.{◌∷◌, [], subst, IfOk}
 use Rattle.sqlite.specs.declared.types.Value.TheVariants.{Text}
 use Rattle.sqlite.specs.State.{Shown}
 use Rattle.sqlite.specs.Held.{state}
-use Rattle.survey_sqlite.specs.Statements.{rows_text}
+use Rattle.survey_sqlite.specs.Queries.{rows_text}
 use Rattle.survey_sqlite.proofs.Compiled.{rows_plain}
 use Rattle.survey_sqlite.proofs.Steps.{rows_turn, query_turns}
 use Rattle.survey_sqlite.proofs.statements.find_blob.Goals as goal

@@ -1,6 +1,6 @@
 use Rattle.std.proofs.Common.{[]}
 use Rattle.sqlite.specs.Held.{state}
-use Rattle.survey_sqlite.specs.Statements.{names_text}
+use Rattle.survey_sqlite.specs.Queries.{names_text}
 use Rattle.survey_sqlite.proofs.Compiled.{names_plain}
 use Rattle.survey_sqlite.proofs.Steps.{names_turn, query_turns}
 use Rattle.survey_sqlite.proofs.statements.list_names.Goals as goal

@@ -1,7 +1,7 @@
 use Rattle.std.proofs.Common.{map, ap, ◌∙◌}
 use Rattle.std.specs.declared.option.Option.TheVariants.{Some}
 use Rattle.survey_core.specs.Tables.{names_of}
-use Rattle.survey_sqlite.specs.Calls.{text_in}
+use Rattle.survey_sqlite.specs.Rows.{text_in}
 use Rattle.survey_sqlite.specs.Keepers.{tables_held}
 use Rattle.survey_sqlite.proofs.Kept.{names_read}
 use Rattle.survey_sqlite.proofs.sql_keeper.SqlKeeperKeeper.names.Goals as goal

@@ -4,7 +4,7 @@ use Rattle.std.specs.Coded.{coded_option, coded_list, coded_ℤ}
 use base.Stored.{Coded-set}
 use Rattle.std.specs.declared.option.Option.TheVariants.{Some}
 use Rattle.survey_core.specs.Tables.{cells_of_field}
-use Rattle.survey_sqlite.specs.Calls.{IsCellsOf}
+use Rattle.survey_sqlite.specs.Rows.{IsCellsOf}
 use Rattle.survey_sqlite.specs.Keepers.{tables_held}
 use Rattle.survey_sqlite.proofs.sql_keeper.SqlKeeperKeeper.rows.Goals as goal
 
