@@ -4,7 +4,7 @@ usage: python3 scripts/survey_file.py MAXDETECT MAXSURVEY      (the built progra
 
 Catalogues are made by `maxdetect detect` of `examples/star_field.py`. What is tried: a second process lists what a first one added; Python's
 sqlite3 opens the file, finds it sound, and decodes each blob to the cells of the catalogue; two processes add to one file at once; a process
-is killed at many moments of a series of adds; and files that can't be used give status 6. Only Python's own library is needed. Exit status 1
+is killed at many moments of a series of adds; a table `source` of another form stays as it is; and files that can't be used give status 6. Only Python's own library is needed. Exit status 1
 where an answer differs.
 """
 import os
@@ -143,6 +143,27 @@ def written_by_python(maxsurvey, folder, catalogues):
     base.close()
 
 
+def another_table(maxsurvey, folder, catalogues):
+    """A table of the name in another form is a fault, and keeps its rows; the program's own goes on after VACUUM, which writes its text anew."""
+    forms = {"plain.db": "field TEXT, cells BLOB)", "nocase.db": "field TEXT NOT NULL PRIMARY KEY COLLATE NOCASE, cells BLOB NOT NULL) STRICT"}
+    for name, form in forms.items():
+        path = folder / name
+        base = sqlite3.connect(path)
+        base.execute(f"CREATE TABLE source ({form}")
+        base.execute("INSERT INTO source VALUES ('A', x'')")
+        base.commit()
+        for words in (["drop", "A"], ["add", "a"], ["list"], ["brightest", "1"]):
+            want(f"{words} over {name}", survey(maxsurvey, ["--file", path, *words], catalogues[0]), (6, "", "keeper fault\n"))
+        want("its rows", base.execute("SELECT field, cells FROM source").fetchall(), [("A", b"")])
+        base.close()
+    path = folder / "vacuumed.db"
+    want("add", survey(maxsurvey, ["--file", path, "add", "A"], catalogues[0]), (0, "", ""))
+    base = sqlite3.connect(path, isolation_level=None)
+    base.execute("VACUUM")
+    base.close()
+    want("after VACUUM", survey(maxsurvey, ["--file", path, "list"]), (0, line("A", catalogues[0]), ""))
+
+
 def at_once(maxsurvey, folder, catalogues):
     """Each add of two processes is there in the end, or was answered as a fault."""
     path, data = folder / "two.db", catalogues[0]
@@ -278,7 +299,7 @@ def main():
         catalogues = [detect(maxdetect, 128, seed) for seed in range(4)]
         print("catalogues of", ", ".join(str(len(catalogue_rows(data))) for data in catalogues), "rows")
         try:
-            for trial in (found_again, written_by_python, at_once, killed, refused, read_only, full_disk):
+            for trial in (found_again, written_by_python, another_table, at_once, killed, refused, read_only, full_disk):
                 print(f"{trial.__name__}:", trial(maxsurvey, folder, catalogues) or "done", flush=True)
         except Wrong as wrong:
             print(f"{trial.__name__}: {wrong}")
