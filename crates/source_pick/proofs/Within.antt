@@ -44,7 +44,8 @@ way_from_within r connect m n plane hm hn w = go (cases_order m n)
     go (inl e) = inl (sym e)
     go (inr (inl l)) = inr (holders_are_nested r connect m n (top_of r connect n) plane l hn in_m in_n)
     go (inr (inr l)) =
-        let more = ((ancestors_are_the_larger_nodes r connect n m plane hn hm).1 (holders_are_nested r connect n m (top_of r connect n) plane l hm in_n in_m)).1 in
+        let more =
+        ((ancestors_are_the_larger_nodes r connect n m plane hn hm).1 (holders_are_nested r connect n m (top_of r connect n) plane l hm in_n in_m)).1 in
         absurd (true≢false (sym (w more.0 more.1) ∙ more.2))
 
 pub way_trans : (rows : List NodeRow) (a b c : ℕ) → IsOnWay rows a b → IsOnWay rows b c → IsOnWay rows a c
@@ -86,7 +87,8 @@ way_down rows m _ (above k n e l rest) = go (way_down rows m k rest)
 
 pub way_smaller : (r : Raster) (connect : Connect) (m n : ℕ) → IsPlane r → n < length (nodes r connect) → IsAncestor (tree_of r connect).rows m n → m < n
 way_smaller r connect m n plane hn a =
-    ancestor_smaller (tree_of r connect).rows m n (goes_down r connect plane) (let l : length (tree_of r connect).rows ≡ length (nodes r connect) = length-rows r connect in omega arith) a
+    ancestor_smaller (tree_of r connect).rows m n (goes_down r connect plane)
+    (let l : length (tree_of r connect).rows ≡ length (nodes r connect) = length-rows r connect in omega arith) a
 
 -- levels rise on the way downwards
 pub level_on_way : (r : Raster) (connect : Connect) (m n : ℕ) → IsPlane r → m < length (nodes r connect) → n < length (nodes r connect)

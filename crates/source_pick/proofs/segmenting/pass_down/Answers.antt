@@ -25,8 +25,10 @@ loop-n-preserved c =
         done = λ marked d known. subst (λ (xs : List ℕ). AreNumbered c.args.tree.now marked (c.loop-n.n + 1) xs) (sym w.numbers-is)
             (numbered_child c.args.tree.now marked c.args.numbers.now c.loop-n.numbers c.loop-n.n _ _ d known (c.loop-n.invariant.done marked d known) inside
             (sym still ∙ w.if-numbers-n-eq0.true) (row_parent c.args.tree.now c.rows-rows.result.now c.loop-n.n _ c.rows-rows.ensures inside)
-            (read_parent_smaller c.args.tree.now c.rows-rows.result.now c.loop-n.n _ c.shape-shape.ensures.well_formed c.rows-rows.ensures inside w.if-parent.true) refl);
-        rest = λ m l. ap (λ (xs : List ℕ). slice_index xs m) w.numbers-is ∙ untouched c.args.numbers.now c.loop-n.numbers c.loop-n.n _ c.loop-n.invariant.rest m l;
+            (read_parent_smaller c.args.tree.now c.rows-rows.result.now c.loop-n.n _ c.shape-shape.ensures.well_formed c.rows-rows.ensures inside
+            w.if-parent.true) refl);
+        rest = λ m l. ap (λ (xs : List ℕ). slice_index xs m) w.numbers-is
+            ∙ untouched c.args.numbers.now c.loop-n.numbers c.loop-n.n _ c.loop-n.invariant.rest m l;
       }
       | else-numbers-n-eq0 w ↦ record {
         done = λ marked d known. subst (λ (xs : List ℕ). AreNumbered c.args.tree.now marked (c.loop-n.n + 1) xs) (sym w.numbers-is)
@@ -38,10 +40,12 @@ loop-n-preserved c =
                   numbered_marked c.args.tree.now marked c.args.numbers.now c.loop-n.numbers c.loop-n.n d known (c.loop-n.invariant.done marked d known) inside
                   still v.if-numbers-n-eq0.false
             ]);
-        rest = λ m l. ap (λ (xs : List ℕ). slice_index xs m) w.numbers-is ∙ untouched_yet c.args.numbers.now c.loop-n.numbers c.loop-n.n c.loop-n.invariant.rest m l;
+        rest = λ m l. ap (λ (xs : List ℕ). slice_index xs m) w.numbers-is
+            ∙ untouched_yet c.args.numbers.now c.loop-n.numbers c.loop-n.n c.loop-n.invariant.rest m l;
       }
     ]
 
 pub returns : goal.returns
 returns c = λ marked d known.
-    numbered_up_to c.args.tree.now marked c.loop-n.numbers _ c.loop-n.n (c.loop-n.invariant.done marked d known) (omega (arith, c.loop-n-test.false, ap length c.rows-rows.ensures))
+    numbered_up_to c.args.tree.now marked c.loop-n.numbers _ c.loop-n.n (c.loop-n.invariant.done marked d known)
+    (omega (arith, c.loop-n-test.false, ap length c.rows-rows.ensures))
