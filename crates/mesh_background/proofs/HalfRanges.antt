@@ -5,9 +5,6 @@ use Rattle.comp_tree.specs.declared.shape.Shape.{Shape}
 use Rattle.comp_tree.specs.Limits.{IsInHalfRange}
 use Rattle.comp_tree.specs.Raster.{Raster, HasValuesInHalfRange, raster_of}
 
-pub half_range-none : HasValuesInHalfRange []
-half_range-none = record { each = λ p v e. absurd (cc) }
-
 -- one value more
 pub half_range-push : (xs : List (Option ℤ)) (pixel : Option ℤ) → HasValuesInHalfRange xs → IfSome pixel IsInHalfRange → HasValuesInHalfRange (xs ++ pixel ∷ [])
 half_range-push xs pixel h small = record { each = pushed xs h.each }

@@ -72,19 +72,6 @@ pub way_of_child : (rows : List NodeRow) (m n p : ℕ) → parent_in rows n ≡ 
 way_of_child rows m n p e l (inl f) = parent n (e ∙ f) (subst (λ (x : ℕ). x < length rows) f l)
 way_of_child rows m n p e l (inr a) = above p n e l a
 
--- a child of an ancestor is on the way
-pub record HasChild (rows : List NodeRow) (m n : ℕ) : Type 0 where
-  pub child : ℕ
-  pub is_child : parent_in rows child ≡ m
-  pub way : IsOnWay rows child n
-
-pub way_down : (rows : List NodeRow) (m n : ℕ) → IsAncestor rows m n → HasChild rows m n
-way_down rows m _ (parent n e l) = record { child = n; is_child = e; way = inl refl }
-way_down rows m _ (above k n e l rest) = go (way_down rows m k rest)
-  where
-    go : HasChild rows m k → HasChild rows m n
-    go c = record { child = c.child; is_child = c.is_child; way = inr (way_of_child rows c.child n k e l c.way) }
-
 pub way_smaller : (r : Raster) (connect : Connect) (m n : ℕ) → IsPlane r → n < length (nodes r connect) → IsAncestor (tree_of r connect).rows m n → m < n
 way_smaller r connect m n plane hn a =
     ancestor_smaller (tree_of r connect).rows m n (goes_down r connect plane)
