@@ -4,3 +4,4 @@ mod WrittenCards
 mod Extensions
 mod WrittenHeaders
 mod Places
+pub mod Exported

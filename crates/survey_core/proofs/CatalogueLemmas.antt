@@ -47,11 +47,11 @@ pads_to size = omega arith
 -- ---- rows
 
 -- the catalogue's columns have so many cells and bytes
-many_columns : length catalogue_columns ≡ cells_in_row
+pub many_columns : length catalogue_columns ≡ cells_in_row
 unfolding catalogue_columns
 many_columns = refl
 
-columns_size : row_size catalogue_columns ≡ bytes_in_row
+pub columns_size : row_size catalogue_columns ≡ bytes_in_row
 unfolding catalogue_columns
 columns_size = refl
 
@@ -100,10 +100,10 @@ rows_wanted bytes k count a b row cells rows h here =
 
 -- ---- the table
 
-lt_false : (m n : ℕ) → n ≤ m → nat_lt m n ≡ false
+pub lt_false : (m n : ℕ) → n ≤ m → nat_lt m n ≡ false
 lt_false m n h = grind (arith, nat_tests)
 
-lt_true : (m n : ℕ) → m < n → nat_lt m n ≡ true
+pub lt_true : (m n : ℕ) → m < n → nat_lt m n ≡ true
 lt_true m n h = grind (arith, nat_tests)
 
 table_short : (bytes : List ℕ) (rows : ℕ) → length bytes < bytes_in_row * rows → table_of bytes rows ≡ rejected (Refused TruncatedTable) (length bytes)

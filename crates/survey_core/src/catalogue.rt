@@ -1,4 +1,4 @@
-// Reading one catalogue.
+//! Reading one catalogue.
 ghost use Rattle.std.specs.Prelude.{◌≡◌, ◌==◌, ◌≤◌, ◌+◌, ◌*◌, ◌^◌, ◌<◌, ◌↔◌, ℕ, true, false, length, min, IsTrue, IfOk, IfErr, IfSome, IfNone, MatchResult};
 ghost use Rattle.std.specs.Option.{ForSome};
 ghost use Rattle.dev_io.specs.Causes.{HasCause};
