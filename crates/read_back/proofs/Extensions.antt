@@ -1,21 +1,20 @@
 -- The header of an extension with two axes: five mandatory cards, PCOUNT, GCOUNT, others, and END.
-use Rattle.std.proofs.Common.{◌≡◌, ◌∙◌, ℕ, zero, suc, ◌+◌, ◌-◌, ◌*◌, ◌^◌, ◌<◌, ◌≤◌, ◌==◌, ◌&&◌, ◌||◌, Bool, true, false, not, cond, List, [], ◌∷◌, ◌++◌}
-use Rattle.std.proofs.Common.{get_or, length, take, map, refl, sym, ap, ap₂, subst, arith, length-append, ℤ, pos, Option, Some, None, Ok, nat_lt, inl, inr, unsigned_abs}
-use Rattle.std.specs.Prelude.{codes, unwrap_or, is_none, is_some, find}
+use Rattle.std.proofs.Common.{◌≡◌, ◌∙◌, ℕ, zero, suc, ◌+◌, ◌-◌, ◌*◌, ◌^◌, ◌<◌, ◌≤◌, ◌&&◌, Bool, true, false, cond, List, [], ◌∷◌, ◌++◌}
+use Rattle.std.proofs.Common.{get_or, length, take, map, refl, sym, ap, ap₂, subst, arith, length-append, ℤ, pos, Some, None, Ok, nat_lt, inl}
+use Rattle.std.proofs.Common.{inr}
+use Rattle.std.specs.Prelude.{codes, unwrap_or, is_none, is_some}
 use Rattle.std.specs.List.{AllByRecursion}
-use Rattle.std.specs.Option.{option_map}
 use Rattle.std.proofs.lemmas.Bool.{cases_lt}
 use Rattle.std.proofs.lemmas.Bool.Decides.{nat_tests}
 use Rattle.std.proofs.Math.Seq.{get_or-append_seam}
 use Rattle.fits_card.specs.declared.number.Whole.TheVariants.{Is}
 use Rattle.fits_card.specs.Written.{written_end}
 use Rattle.fits_hdu.specs.declared.answer.Hdu.{Hdu}
-use Rattle.fits_hdu.specs.declared.answer.Kind.{Kind}
 use Rattle.fits_hdu.specs.declared.answer.Kind.TheVariants.{Image, Other}
-use Rattle.fits_hdu.specs.Cards.{has_keyword, is_end, natural, whole, is_image, is_first, bitpix_of, naxis_of, axis_of, is_mandatory, is_valued}
+use Rattle.fits_hdu.specs.Cards.{has_keyword, is_end, natural, is_image, is_first, bitpix_of, naxis_of, axis_of, is_mandatory, is_valued}
 use Rattle.fits_hdu.specs.Sizes.{number_bytes, data_size}
-use Rattle.fits_hdu.specs.Headers.{cards_from, axis_count, natural_or_zero, axes_of, others_before, counting, is_bad_count, is_bad, ends_header, beginning, kind_of}
-use Rattle.fits_hdu.specs.Headers.{count_or, described, is_groups, judged, header_of, most_data}
+use Rattle.fits_hdu.specs.Headers.{cards_from, axis_count, natural_or_zero, axes_of, others_before, counting, is_bad_count, is_bad, ends_header}
+use Rattle.fits_hdu.specs.Headers.{described, is_groups, judged, header_of, most_data}
 use Rattle.read_back.proofs.Cards.{nth, Full, cards_behind}
 use Rattle.read_back.proofs.Headers.{IsHeader, bad_is, not_below}
 use Rattle.read_back.proofs.WrittenCards.{Quiet, full_end, ends_at, end_keyword, has_not}
@@ -109,7 +108,8 @@ end_calm : Calm written_end
 end_calm = calm_quiet written_end (has_not (codes "PCOUNT  ") (codes "END     ") written_end end_keyword refl)
     (has_not (codes "GCOUNT  ") (codes "END     ") written_end end_keyword refl)
 
-calm_count_bad : (name : List ℕ) (before : List (List ℕ)) (card : List ℕ) → is_valued name card && is_none (natural card) ≡ false → is_bad_count name before card ≡ false
+calm_count_bad : (name : List ℕ) (before : List (List ℕ)) (card : List ℕ) → is_valued name card && is_none (natural card) ≡ false
+    → is_bad_count name before card ≡ false
 unfolding is_bad_count
 calm_count_bad name before card calm = by (is_valued name card) (is_none (counting name before)) (is_none (natural card)) calm
   where

@@ -1,10 +1,9 @@
 -- A header whose cards are told, at its place in a list of bytes.
-use Rattle.std.proofs.Common.{◌≡◌, ◌∙◌, ℕ, zero, suc, ◌+◌, ◌-◌, ◌*◌, ◌/◌, ◌%◌, ◌<◌, ◌≤◌, ◌==◌, ◌&&◌, ◌||◌, Bool, true, false, not, cond, List, [], ◌∷◌, ◌++◌}
-use Rattle.std.proofs.Common.{get_or, length, take, drop, replicate, map, refl, sym, ap, ap₂, subst, arith, append_assoc, length-append, ℤ, pos, nat_lt, if◌then◌else◌, inl, inr, Ok}
+use Rattle.std.proofs.Common.{◌≡◌, ◌∙◌, ℕ, ◌+◌, ◌-◌, ◌*◌, ◌/◌, ◌<◌, ◌≤◌, ◌==◌, ◌&&◌, ◌||◌, Bool, true, false, not, List, [], ◌∷◌, ◌++◌}
+use Rattle.std.proofs.Common.{length, take, drop, replicate, map, refl, sym, ap, arith, append_assoc, length-append, pos}
+use Rattle.std.proofs.Common.{nat_lt, if◌then◌else◌, Ok}
 use Rattle.std.specs.Prelude.{codes, unwrap_or}
 use Rattle.std.specs.List.{concat, AllByRecursion}
-use Rattle.std.specs.Str.{bytes_eq}
-use Rattle.std.proofs.lemmas.Bool.{cases_lt}
 use Rattle.std.proofs.lemmas.Bool.Decides.{nat_tests}
 use Rattle.std.proofs.lemmas.Slice.Eq.{bytes_eq-Decides}
 use Rattle.std.proofs.lemmas.List.{take-append-le, length-replicate}
@@ -12,8 +11,9 @@ use Rattle.std.proofs.Math.Seq.{drop-append_seam}
 use Rattle.fits_hdu.proofs.Exported.{first_passing_is}
 use Rattle.fits_hdu.specs.declared.answer.Hdu.{Hdu}
 use Rattle.fits_hdu.specs.Cards.{naxis_of, bitpix_of, is_image, is_mandatory, is_end}
-use Rattle.fits_hdu.specs.Headers.{Found, found, card_at, is_missing, cards_from, axis_count, natural_or_zero, axes_of, others_before, is_bad_count, is_bad}
-use Rattle.fits_hdu.specs.Headers.{ends_header, stops, first_passing, last_read, beginning, is_beginning, hdu_begins, judged, header_of, head_after, whole_header}
+use Rattle.fits_hdu.specs.Headers.{found, card_at, is_missing, cards_from, axis_count, natural_or_zero, axes_of, others_before, is_bad_count, is_bad}
+use Rattle.fits_hdu.specs.Headers.{ends_header, stops, last_read, beginning, is_beginning, hdu_begins, judged, header_of, head_after}
+use Rattle.fits_hdu.specs.Headers.{whole_header}
 use Rattle.fits_hdu.specs.Headers.{header_read_to, header_at}
 use Rattle.fits_write.specs.Blocks.{filled, room_after}
 use Rattle.fits_write.specs.Hdus.{header}

@@ -1,6 +1,6 @@
 -- The three HDUs one behind the other: where each begins, and what is found there.
-use Rattle.std.proofs.Common.{◌≡◌, ◌∙◌, ℕ, zero, suc, ◌+◌, ◌-◌, ◌*◌, ◌/◌, ◌%◌, ◌<◌, ◌≤◌, List, [], ◌∷◌, ◌++◌}
-use Rattle.std.proofs.Common.{length, map, replicate, refl, sym, ap, ap₂, subst, arith, append_assoc, length-append, zero-add, ℤ, pos, nat_lt, false, true}
+use Rattle.std.proofs.Common.{◌≡◌, ◌∙◌, ℕ, ◌+◌, ◌*◌, ◌/◌, ◌≤◌, List, [], ◌∷◌, ◌++◌}
+use Rattle.std.proofs.Common.{length, map, replicate, refl, sym, ap, arith, append_assoc, length-append, zero-add, ℤ, pos, nat_lt, false, true}
 use Rattle.std.specs.List.{concat, AllByRecursion}
 use Rattle.std.proofs.lemmas.List.{length-replicate}
 use Rattle.byteorder.specs.Endian.{big_bytes}
@@ -8,11 +8,11 @@ use Rattle.byteorder.specs.Numbers.{length-bytes_high_first}
 use Rattle.comp_tree.specs.declared.shape.Shape.{Shape}
 use Rattle.fits_card.specs.Laws.{LogicalIsReadBack, IntegerIsReadBack, TextIsReadBack}
 use Rattle.fits_hdu.specs.declared.answer.Hdu.{Hdu}
-use Rattle.fits_hdu.specs.Headers.{Found, found, header_at}
+use Rattle.fits_hdu.specs.Headers.{found, header_at}
 use Rattle.fits_hdu.specs.Finding.{padded, following, following_found, find_of}
 use Rattle.fits_write.specs.declared.table.Column.{Column}
 use Rattle.fits_write.specs.Blocks.{filled, room_after}
-use Rattle.fits_write.specs.Columns.{row_size, table_bytes, IsTable}
+use Rattle.fits_write.specs.Columns.{table_bytes, IsTable}
 use Rattle.fits_write.specs.Hdus.{header, primary_cards, empty_primary, map_cards, map_bytes, map_hdu, table_cards, table_hdu}
 use Rattle.read_back.specs.Laws.{table_said, table_start}
 use Rattle.read_back.proofs.Headers.{header_found, not_below}
@@ -66,7 +66,8 @@ module _ (logicals : LogicalIsReadBack) (integers : IntegerIsReadBack) (texts : 
       ∙ ap (found (primary_said logicals integers)) (zero-add (length (header primary_cards)))
 
   -- the map's header, its data, and what follows
-  behind_map : map_hdu shape numbers ++ (table_hdu columns cells ++ rest) ≡ header (map_cards shape) ++ (filled 0 (map_bytes numbers) ++ (table_hdu columns cells ++ rest))
+  behind_map : map_hdu shape numbers ++ (table_hdu columns cells ++ rest)
+      ≡ header (map_cards shape) ++ (filled 0 (map_bytes numbers) ++ (table_hdu columns cells ++ rest))
   unfolding map_hdu
   behind_map = append_assoc (header (map_cards shape)) (filled 0 (map_bytes numbers)) (table_hdu columns cells ++ rest)
 

@@ -1,7 +1,8 @@
 -- What one written card says: its length, its keyword, and its value.
-use Rattle.std.proofs.Common.{◌≡◌, ◌∙◌, ℕ, zero, suc, ◌+◌, ◌-◌, ◌^◌, ◌<◌, ◌≤◌, ◌&&◌, Bool, true, false, not, cond, List, [], ◌∷◌, ◌++◌}
-use Rattle.std.proofs.Common.{length, take, replicate, refl, sym, ap, subst, arith, length-append, take_all, ℤ, pos, FitsSigned, w64, Some, None, nat_lt, IsTrue}
-use Rattle.std.specs.Prelude.{codes, unwrap_or, is_none, is_some, nat_le}
+use Rattle.std.proofs.Common.{◌≡◌, ◌∙◌, ℕ, ◌+◌, ◌-◌, ◌^◌, ◌<◌, ◌≤◌, Bool, true, false, cond, List, [], ◌∷◌, ◌++◌}
+use Rattle.std.proofs.Common.{length, take, refl, sym, ap, arith, length-append, take_all, ℤ, pos, FitsSigned, w64, Some, None}
+use Rattle.std.proofs.Common.{IsTrue}
+use Rattle.std.specs.Prelude.{codes, nat_le}
 use Rattle.std.specs.Fmt.{decimal, signed_decimal}
 use Rattle.std.specs.Str.{bytes_eq}
 use Rattle.std.specs.List.{list_all}
@@ -11,10 +12,11 @@ use Rattle.std.proofs.lemmas.Bool.Decides.{nat_tests}
 use Rattle.std.proofs.lemmas.Slice.Eq.{bytes_eq-Decides}
 use Rattle.std.proofs.lemmas.List.{take-append-le, length-replicate}
 use Rattle.fits_card.specs.Pieces.{without_trailing_spaces}
-use Rattle.fits_card.specs.Values.{Value, Logical, Integer, Text, value_of, is_present, logical_of, integer_of, text_of, fits_i64}
-use Rattle.fits_card.specs.Written.{spaces, left_justified, right_justified, numbered_keyword, is_plain, written_value, written_logical, written_integer, written_text, written_end}
+use Rattle.fits_card.specs.Values.{Integer, value_of, integer_of, text_of, fits_i64}
+use Rattle.fits_card.specs.Written.{spaces, left_justified, right_justified, numbered_keyword, is_plain, written_value, written_logical}
+use Rattle.fits_card.specs.Written.{written_integer, written_text, written_end}
 use Rattle.fits_card.specs.Laws.{LogicalIsReadBack, IntegerIsReadBack, TextIsReadBack}
-use Rattle.fits_hdu.specs.Cards.{has_keyword, is_end, natural_of, natural, is_first, is_depth, depth_of, bitpix_of, at_most, naxis_of, axis_of, is_valued}
+use Rattle.fits_hdu.specs.Cards.{has_keyword, is_end, natural_of, natural, is_first, is_depth, bitpix_of, naxis_of, axis_of, is_valued}
 use Rattle.read_back.proofs.Cards.{Full}
 
 -- ---- its bytes
@@ -35,7 +37,8 @@ keyword_is name value eight =
     let two : length (name ++ codes "= ") ≡ 10 = omega (arith, length-append name (codes "= "), eight) in
     let three = length-append (name ++ codes "= ") value in
     take-append-le 8 (name ++ codes "= " ++ value) (spaces (80 - length (name ++ codes "= " ++ value))) (omega (arith, two, three))
-    ∙ take-append-le 8 (name ++ codes "= ") value (omega (arith, two)) ∙ take-append-le 8 name (codes "= ") (omega (arith, eight)) ∙ take_all 8 name (omega (arith, eight))
+    ∙ take-append-le 8 (name ++ codes "= ") value (omega (arith, two)) ∙ take-append-le 8 name (codes "= ") (omega (arith, eight))
+    ∙ take_all 8 name (omega (arith, eight))
 
 pub full_logical : (name : List ℕ) (value : Bool) → length name ≡ 8 → Full (written_logical name value)
 unfolding written_logical
@@ -186,7 +189,8 @@ pub text_written : TextIsReadBack → (name text : List ℕ) → length name ≡
     → text_of (value_of (written_text name text)) ≡ Some (without_trailing_spaces text)
 text_written texts name text eight few plain = ap text_of (texts name text eight few plain)
 
-pub extension_written : TextIsReadBack → (text : List ℕ) → length text ≤ 68 → IsTrue (list_all is_plain text) → is_first false (written_text (codes "XTENSION") text) ≡ true
+pub extension_written : TextIsReadBack → (text : List ℕ) → length text ≤ 68 → IsTrue (list_all is_plain text)
+    → is_first false (written_text (codes "XTENSION") text) ≡ true
 unfolding is_first
 extension_written texts text few plain =
     rw (has (codes "XTENSION") (written_text (codes "XTENSION") text) (text_keyword (codes "XTENSION") text refl), text_written texts (codes "XTENSION") text refl few plain) refl

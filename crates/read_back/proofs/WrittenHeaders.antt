@@ -1,6 +1,7 @@
 -- The headers of an empty primary HDU, of a map and of a table, and what they say.
-use Rattle.std.proofs.Common.{◌≡◌, ◌∙◌, ℕ, zero, suc, ◌+◌, ◌-◌, ◌*◌, ◌/◌, ◌%◌, ◌^◌, ◌<◌, ◌≤◌, Bool, true, false, List, [], ◌∷◌, ◌++◌}
-use Rattle.std.proofs.Common.{length, take, refl, sym, ap, ap₂, subst, arith, append_assoc, length-append, mul-one, mul-le-mul, ℤ, pos, Some, None, Ok, IsTrue, sum_by}
+use Rattle.std.proofs.Common.{◌≡◌, ◌∙◌, ℕ, zero, suc, ◌+◌, ◌*◌, ◌^◌, ◌<◌, ◌≤◌, Bool, true, false, List, [], ◌∷◌, ◌++◌}
+use Rattle.std.proofs.Common.{length, refl, sym, ap, subst, arith, append_assoc, length-append, mul-one, mul-le-mul, pos}
+use Rattle.std.proofs.Common.{Ok, IsTrue}
 use Rattle.std.specs.Prelude.{codes, unwrap_or, is_some}
 use Rattle.std.specs.Fmt.{decimal}
 use Rattle.std.specs.List.{AllByRecursion, list_all}
@@ -9,21 +10,22 @@ use Rattle.std.proofs.lemmas.Fmt.{length-decimal-le, decimal_digit}
 use Rattle.std.proofs.lemmas.List.Sums.{sum_by-cons}
 use Rattle.comp_tree.specs.declared.shape.Shape.{Shape}
 use Rattle.fits_card.specs.Written.{left_justified, numbered_keyword, is_plain, written_logical, written_integer, written_text, written_end}
-use Rattle.fits_card.specs.Values.{text_of, value_of}
 use Rattle.fits_card.specs.Laws.{LogicalIsReadBack, IntegerIsReadBack, TextIsReadBack}
 use Rattle.fits_hdu.specs.declared.answer.Hdu.{Hdu}
-use Rattle.fits_hdu.specs.Cards.{has_keyword, is_depth, is_text, is_image, is_end, naxis_of, bitpix_of, is_mandatory}
+use Rattle.fits_hdu.specs.Cards.{has_keyword, is_depth, is_text, is_image, is_mandatory}
 use Rattle.fits_hdu.specs.Sizes.{number_bytes, data_size}
-use Rattle.fits_hdu.specs.Headers.{cards_from, axis_count, axes_of, others_before, is_bad, ends_header, described, is_groups, judged, header_of, natural_or_zero}
+use Rattle.fits_hdu.specs.Headers.{axis_count, axes_of, others_before, is_bad, ends_header, described, is_groups, judged, header_of}
 use Rattle.fits_write.specs.declared.table.Cell.{Cell}
 use Rattle.fits_write.specs.declared.table.Cell.TheVariants.{J, K}
 use Rattle.fits_write.specs.declared.table.Column.{Column}
 use Rattle.fits_write.specs.Columns.{cell_size, form_of, row_size, column_cards}
 use Rattle.fits_write.specs.Hdus.{primary_cards, map_cards, table_front, table_back, table_cards}
-use Rattle.read_back.proofs.Cards.{nth, Full}
+use Rattle.read_back.proofs.Cards.{nth}
 use Rattle.read_back.proofs.Headers.{IsHeader, bad_is, not_below}
-use Rattle.read_back.proofs.WrittenCards.{filled_up, Apart, Quiet, quiet, full_logical, full_integer, full_text, full_end, ends_at, goes_on_at, has_not, integer_keyword, logical_keyword}
-use Rattle.read_back.proofs.WrittenCards.{text_keyword, natural_written, valued_written, depth_written, naxis_written, axis_written, simple_written, text_written, extension_written}
+use Rattle.read_back.proofs.WrittenCards.{filled_up, Apart, Quiet, quiet, full_logical, full_integer, full_text, full_end, ends_at, goes_on_at}
+use Rattle.read_back.proofs.WrittenCards.{has_not, integer_keyword, logical_keyword}
+use Rattle.read_back.proofs.WrittenCards.{text_keyword, natural_written, valued_written, depth_written, naxis_written, axis_written, simple_written}
+use Rattle.read_back.proofs.WrittenCards.{text_written, extension_written}
 use Rattle.read_back.proofs.Extensions.{hdu_said, is_header}
 
 -- ---- the primary HDU
@@ -127,7 +129,8 @@ second_keyword : codes "NAXIS2  " ≡ numbered_keyword (codes "NAXIS") 2
 unfolding numbered_keyword
 second_keyword = sym (ap (λ digits. left_justified 8 (codes "NAXIS" ++ digits)) (decimal_digit 2 (omega arith)))
 
-integer_has_not : IntegerIsReadBack → (name other : List ℕ) (n : ℕ) → length name ≡ 8 → bytes_eq name other ≡ false → has_keyword other (written_integer name (pos n)) ≡ false
+integer_has_not : IntegerIsReadBack → (name other : List ℕ) (n : ℕ) → length name ≡ 8 → bytes_eq name other ≡ false
+    → has_keyword other (written_integer name (pos n)) ≡ false
 integer_has_not integers name other n eight apart = has_not other name (written_integer name (pos n)) (integer_keyword name (pos n) eight) apart
 
 -- the cards of an extension of this kind, with these bits, sides and further cards
@@ -154,7 +157,8 @@ record IsWritten (kind : List ℕ) (bits width height size : ℕ) (tail : List (
   few : length tail ≤ 30000
 
 extension_header : IntegerIsReadBack → TextIsReadBack → (kind : List ℕ) (bits width height size : ℕ) (tail : List (List ℕ)) (image : Bool)
-    → IsWritten kind bits width height size tail image → IsHeader false (extension_cards kind bits width height tail) (hdu_said image (pos bits) width height size)
+    → IsWritten kind bits width height size tail image
+    → IsHeader false (extension_cards kind bits width height tail) (hdu_said image (pos bits) width height size)
 extension_header integers texts kind bits width height size tail image is =
     let has_none = integer_has_not integers in
     is_header _ _ _ _ _ _ _ tail image (pos bits) width height size

@@ -1,10 +1,9 @@
 -- Catalogues one behind the other are added one by one.
-use Rattle.std.proofs.Common.{◌≡◌, ◌∙◌, ℕ, ◌+◌, true, List, [], ◌∷◌, ◌++◌, length, drop, codes, ℤ, Ok, None, refl, sym, ap, append_assoc, length-append}
+use Rattle.std.proofs.Common.{◌≡◌, ◌∙◌, ℕ, List, [], ◌∷◌, ◌++◌, length, drop, Ok, refl, sym, ap, append_assoc, length-append}
 use Rattle.std.specs.List.{AllByRecursion}
 use Rattle.std.proofs.Math.Seq.{drop-append_seam}
 use Rattle.survey_core.specs.declared.words.Command.{Command}
 use Rattle.survey_core.specs.declared.words.Command.TheVariants.{Add}
-use Rattle.survey_core.specs.Fields.{is_name}
 use Rattle.survey_core.specs.Commands.{session_command, read, commands_of}
 use Rattle.survey_core.specs.Tables.{Table, put}
 use Rattle.survey_core.specs.Sessions.{Outcome, changes, added, effect, followed_by, session}
@@ -20,7 +19,8 @@ unfolding read session_command commands_that_add
 read_adds [] are = refl
 read_adds (a ∷ list) are = rw (are.0.named, read_adds list are.1) refl
 
-words_add : (a : Addition) (list : List Addition) → AllByRecursion IsAddition (a ∷ list) → commands_of (words_that_add (a ∷ list)) ≡ Ok (commands_that_add (a ∷ list))
+words_add : (a : Addition) (list : List Addition) → AllByRecursion IsAddition (a ∷ list)
+    → commands_of (words_that_add (a ∷ list)) ≡ Ok (commands_that_add (a ∷ list))
 unfolding commands_of
 words_add a list are = rw (read_adds (a ∷ list) are) refl
 

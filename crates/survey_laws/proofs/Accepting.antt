@@ -1,9 +1,9 @@
 -- What is written of a plane's sources is accepted, or refused where they are too many.
-use Rattle.std.proofs.Common.{◌≡◌, ◌∙◌, ℕ, ◌+◌, ◌-◌, ◌*◌, ◌/◌, ◌<◌, ◌≤◌, ◌==◌, ◌&&◌, Bool, true, false, List, [], ◌∷◌, ◌++◌, length, drop, replicate, min}
-use Rattle.std.proofs.Common.{refl, sym, ap, ap₂, subst, arith, append_assoc, length-append, ℤ, pos, None, nat_lt, nat_le, map, inl, inr}
+use Rattle.std.proofs.Common.{◌≡◌, ◌∙◌, ℕ, ◌+◌, ◌*◌, ◌/◌, ◌<◌, ◌≤◌, ◌==◌, ◌&&◌, Bool, true, false, List, [], ◌∷◌, ◌++◌, length, drop, replicate, min}
+use Rattle.std.proofs.Common.{refl, sym, ap, ap₂, arith, append_assoc, length-append, ℤ, nat_lt, nat_le}
 use Rattle.std.specs.List.{AllByRecursion, list_all, range_with_len}
 use Rattle.std.proofs.lemmas.Bool.Decides.{nat_tests}
-use Rattle.std.proofs.lemmas.List.{length-map, length-replicate}
+use Rattle.std.proofs.lemmas.List.{length-map}
 use Rattle.std.proofs.lemmas.List.FromFn.{length-range_with_len}
 use Rattle.std.proofs.Math.Nat.{mul-div_cancel_left}
 use Rattle.std.proofs.Math.Seq.{drop-append_seam}
@@ -13,7 +13,7 @@ use Rattle.fits_hdu.specs.Headers.{found}
 use Rattle.fits_hdu.specs.Finding.{find_of, padded}
 use Rattle.fits_write.specs.declared.table.Column.{Column}
 use Rattle.fits_write.specs.Blocks.{filled, room_after}
-use Rattle.fits_write.specs.Columns.{row_size, table_bytes}
+use Rattle.fits_write.specs.Columns.{table_bytes}
 use Rattle.fits_write.specs.Hdus.{header, table_cards, empty_primary, map_hdu, table_hdu}
 use Rattle.catalogue_form.specs.Columns.{catalogue_columns, cells_in_row, bytes_in_row}
 use Rattle.catalogue_form.specs.Rows.{table_cells}
@@ -25,7 +25,8 @@ use Rattle.source_pick.specs.Sources.{sources}
 use Rattle.source_pick.specs.Laws.{SourcesAreInOrder, SourcesAreDisjoint}
 use Rattle.source_pick.specs.Segmentation.{segmentation_of, segmentation}
 use Rattle.survey_core.proofs.Exported.{lt_false, lt_true, many_columns, columns_size}
-use Rattle.survey_core.specs.Catalogues.{most_rows, Reading, accepted, too_many_rows, first_misnumbered, is_catalogue, numbered, table_of, beyond, reading_by, catalogue_in}
+use Rattle.survey_core.specs.Catalogues.{most_rows, accepted, too_many_rows, is_catalogue, table_of}
+use Rattle.survey_core.specs.Catalogues.{reading_by, catalogue_in}
 use Rattle.detect_top.specs.Catalogues.{catalogue_cells, detected_hdus}
 use Rattle.survey_laws.specs.Laws.{IsRunsPlane}
 use Rattle.survey_laws.proofs.CatalogueRows.{many_cells, none_misnumbered, table_is, cells_are_64}
@@ -35,7 +36,8 @@ itself n = grind (arith, nat_tests)
 
 -- ---- the columns
 
-short_from : (columns : List Column) → list_all (λ column. nat_le (length column.name) 68) columns ≡ true → AllByRecursion (λ column. length column.name ≤ 68) columns
+short_from : (columns : List Column) → list_all (λ column. nat_le (length column.name) 68) columns ≡ true
+    → AllByRecursion (λ column. length column.name ≤ 68) columns
 short_from [] all = tt
 short_from (column ∷ columns) all = by (nat_le (length column.name) 68) refl all (short_from columns)
   where
@@ -143,7 +145,8 @@ module _ (find_law : WrittenTableIsFound) (read_law : WrittenTableIsReadBack) (s
   unfolding table_of
   table_there =
       let long : length (the_data ++ rest) ≡ padded (bytes_in_row * n) + length rest = length-append the_data rest ∙ ap (λ k. k + length rest) data_size in
-      let whole : nat_lt (length (the_data ++ rest)) (bytes_in_row * n) ≡ false = lt_false (length (the_data ++ rest)) (bytes_in_row * n) (omega (arith, long)) in
+      let whole : nat_lt (length (the_data ++ rest)) (bytes_in_row * n)
+      ≡ false = lt_false (length (the_data ++ rest)) (bytes_in_row * n) (omega (arith, long)) in
       let size : min (padded (bytes_in_row * n)) (length (the_data ++ rest)) ≡ padded (bytes_in_row * n) = omega (arith, long) in
       rw (whole, read_there, none_misnumbered r connect choice) (ap (accepted cells) size)
 

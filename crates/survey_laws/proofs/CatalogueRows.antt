@@ -1,23 +1,22 @@
 -- The rows of a plane's catalogue: they can be written, and each has the number of its place.
-use Rattle.std.proofs.Common.{◌≡◌, ◌∙◌, ℕ, zero, suc, ◌+◌, ◌-◌, ◌*◌, ◌/◌, ◌^◌, ◌<◌, ◌≤◌, Bool, true, false, not, List, [], ◌∷◌, ◌++◌}
-use Rattle.std.proofs.Common.{length, map, get_or, refl, sym, ap, ap₂, subst, arith, flat_map, length-append, ℤ, pos, FitsSigned, w64, All, None, slice_get, Some, IsTrue, inl, inr}
-use Rattle.std.specs.List.{AllByRecursion, enumerate_from, range_with_len}
-use Rattle.std.specs.Prelude.{find}
+use Rattle.std.proofs.Common.{◌≡◌, ◌∙◌, ℕ, zero, suc, ◌+◌, ◌-◌, ◌*◌, ◌/◌, ◌^◌, ◌<◌, ◌≤◌, true, false, not, List, [], ◌∷◌, ◌++◌}
+use Rattle.std.proofs.Common.{length, map, get_or, refl, sym, ap, subst, arith, flat_map, ℤ, pos, FitsSigned, w64, All, None}
+use Rattle.std.proofs.Common.{slice_get, Some, IsTrue, inl, inr}
+use Rattle.std.specs.List.{AllByRecursion, enumerate_from}
 use Rattle.std.specs.Ordering.{int_eq}
-use Rattle.std.proofs.lemmas.Bool.{cases_lt}
 use Rattle.std.proofs.lemmas.Bool.Decides.{Decides-int_eq}
 use Rattle.std.proofs.lemmas.List.{get_or-append_right, length-map}
 use Rattle.std.proofs.lemmas.List.FromFn.{length-enumerate_from}
 use Rattle.lemmas.proofs.Exported.{find_nothing, IsAmong}
 use Rattle.comp_tree.specs.declared.shape.Connect.{Connect}
-use Rattle.comp_tree.specs.Raster.{Raster, IsPlane, HasValuesInRange}
+use Rattle.comp_tree.specs.Raster.{Raster}
 use Rattle.comp_tree.specs.Components.{tree_of}
 use Rattle.comp_tree.specs.Laws.{IsNode, AreDisjoint}
 use Rattle.node_sums.specs.Sums.{sums_of}
 use Rattle.node_sums.proofs.Exported.{rows_are as tree_rows}
 use Rattle.fits_write.specs.Columns.{IsTable}
 use Rattle.catalogue_form.specs.Columns.{catalogue_columns, cells_in_row, number_place}
-use Rattle.catalogue_form.proofs.Exported.{FitEach, catalogue_are_columns, cells_of_rows, rows_are_table}
+use Rattle.catalogue_form.proofs.Exported.{FitEach, catalogue_are_columns, rows_are_table}
 use Rattle.source_pick.specs.declared.catalogue.CatRow.{CatRow}
 use Rattle.source_pick.specs.declared.choice.Choice.{Choice}
 use Rattle.source_pick.specs.Sources.{is_source, sources}
@@ -39,7 +38,8 @@ number_is r connect number n = refl
 abbrev rows_from : Raster → Connect → ℕ → List ℕ → List CatRow
 rows_from r connect first picked = map (λ e. catalogue_row r connect e.0 e.1) (enumerate_from first picked)
 
-rows_are : (r : Raster) (connect : Connect) (choice : Choice) → catalogue_cells r connect choice ≡ flat_map cells_of (rows_from r connect 1 (sources r connect choice))
+rows_are : (r : Raster) (connect : Connect) (choice : Choice)
+    → catalogue_cells r connect choice ≡ flat_map cells_of (rows_from r connect 1 (sources r connect choice))
 unfolding catalogue_cells catalogue catalogue_of
 rows_are r connect choice = refl
 
@@ -66,7 +66,8 @@ rows_of_all : (r : Raster) (connect : Connect) (first : ℕ) (picked : List ℕ)
 rows_of_all r connect first picked =
     length-map (enumerate_from first picked) (λ e. catalogue_row r connect e.0 e.1) ∙ length-enumerate_from first picked
 
-pub many_cells : (r : Raster) (connect : Connect) (choice : Choice) → length (catalogue_cells r connect choice) ≡ cells_in_row * length (sources r connect choice)
+pub many_cells : (r : Raster) (connect : Connect) (choice : Choice)
+    → length (catalogue_cells r connect choice) ≡ cells_in_row * length (sources r connect choice)
 many_cells r connect choice =
     ap length (rows_are r connect choice) ∙ cells_of_all (rows_from r connect 1 (sources r connect choice))
     ∙ ap (λ n. cells_in_row * n) (rows_of_all r connect 1 (sources r connect choice))
@@ -83,7 +84,8 @@ none_misnumbered r connect choice =
     right : (j : ℕ) → j < length (sources r connect choice) → is_misnumbered (catalogue_cells r connect choice) j ≡ false
     right j h =
         let number : table_cell (catalogue_cells r connect choice) j number_place ≡ pos (j + 1) =
-        ap (λ l. get_or l (cells_in_row * j + number_place) (pos 0)) (rows_are r connect choice) ∙ numbered r connect 1 (sources r connect choice) j h ∙ ap pos (omega arith) in
+        ap (λ l. get_or l (cells_in_row * j + number_place) (pos 0)) (rows_are r connect choice) ∙ numbered r connect 1 (sources r connect choice) j h
+        ∙ ap pos (omega arith) in
         let same : int_eq (table_cell (catalogue_cells r connect choice) j number_place) (pos (j + 1)) ≡ true = (Decides-int_eq _ _).1 number in
         ap not same
 
@@ -104,7 +106,8 @@ module _ (order_law : SourcesAreInOrder) (disjoint_law : SourcesAreDisjoint) (r 
       let b = node_at j t at_j in
       let rising : (sums_of r connect s).first < (sums_of r connect t).first = order_law r connect choice i j s t is.one_each less at_i at_j in
       disjoint_law r connect choice s t is.one_each a.0 b.0 a.1 b.1
-      (λ same. let first : (sums_of r connect s).first ≡ (sums_of r connect t).first = ap (λ n. (sums_of r connect n).first) same in absurd (omega (arith, first, rising)))
+      (λ same. let first : (sums_of r connect s).first
+      ≡ (sums_of r connect t).first = ap (λ n. (sums_of r connect n).first) same in absurd (omega (arith, first, rising)))
 
   pub few_sources : length (sources r connect choice) ≤ 2 ^ 24
   few_sources = few_picked (tree_of r connect) (sources r connect choice) (record {
@@ -121,11 +124,13 @@ module _ (order_law : SourcesAreInOrder) (disjoint_law : SourcesAreDisjoint) (r 
   rows_fit : (first : ℕ) (picked : List ℕ) → first + length picked ≤ 2 ^ 24 + 1 → ((n : ℕ) → IsAmong n picked → IsNode r connect n)
       → AllByRecursion (λ row. FitEach catalogue_columns (cells_of row)) (rows_from r connect first picked)
   rows_fit first [] few each = tt
-  rows_fit first (n ∷ picked) few each =
-      (row_fits (catalogue_row r connect first n) (catalogue_row_fits r connect n first is.one_each is.in_range (each n (inl refl)) (omega (arith, few))).0,
-      rows_fit (first + 1) picked (omega (arith, few)) (λ m a. each m (inr a)))
+  rows_fit first (n ∷ picked) few each = (
+    row_fits (catalogue_row r connect first n) (catalogue_row_fits r connect n first is.one_each is.in_range (each n (inl refl)) (omega (arith, few))).0,
+    rows_fit (first + 1) picked (omega (arith, few)) (λ m a. each m (inr a)),
+  )
 
-  with_row : (cells more : List ℤ) → AllByRecursion (FitsSigned w64) cells → AllByRecursion (FitsSigned w64) more → AllByRecursion (FitsSigned w64) (cells ++ more)
+  with_row : (cells more : List ℤ) → AllByRecursion (FitsSigned w64) cells → AllByRecursion (FitsSigned w64) more
+      → AllByRecursion (FitsSigned w64) (cells ++ more)
   with_row [] more a b = b
   with_row (z ∷ cells) more a b = (a.0, with_row cells more a.1 b)
 

@@ -45,7 +45,7 @@ TooManySourcesAreRefused =
     → IsRunsPlane r → most_rows < length (sources r connect choice)
     → catalogue_in (detected_hdus r connect choice ++ rest)
     ≡ too_many_rows
-        (table_start r.shape (segmentation r connect choice) catalogue_columns (length (sources r connect choice)))
+    (table_start r.shape (segmentation r connect choice) catalogue_columns (length (sources r connect choice)))
 
 -- ---- what the words of `detect` answer
 
@@ -56,10 +56,10 @@ AnswerIsAccepted =
     (words : List (List ℕ)) (bytes rest : List ℕ) (order : Order) (choice : Choice) (plane : Raster) (head end : ℕ)
     → order_of words ≡ Ok order → order.job ≡ Detect choice → verdict_on bytes order.hdu ≡ image plane head end → HasValuesInHalfRange plane.values
     → let residual = residual_of plane order.mesh order.flat in
-      length (sources residual order.connect choice) ≤ most_rows
+    length (sources residual order.connect choice) ≤ most_rows
     → let answer = answer_to_words words bytes in
-      (end_status answer.end ≡ 0)
-      × (catalogue_in (answer.output ++ rest) ≡ accepted (catalogue_cells residual order.connect choice) (length answer.output))
+    (end_status answer.end ≡ 0)
+    × (catalogue_in (answer.output ++ rest) ≡ accepted (catalogue_cells residual order.connect choice) (length answer.output))
 
 -- ---- one catalogue after the other
 
@@ -90,5 +90,5 @@ abbrev pub DetectionsAreAdded : Type 0
 DetectionsAreAdded =
     (first : Observed) (others : List Observed) (rest : List ℕ) (tables : List Table) → AllByRecursion IsTakeable (first ∷ others)
     → let all = map addition_of (first ∷ others) in
-      let answer = session_answer (words_that_add all) (bytes_to_add all ++ rest) tables in
-      (session_status answer.end ≡ 0) × (answer.does ≡ changes (length (bytes_to_add all)) (tables_with all tables))
+    let answer = session_answer (words_that_add all) (bytes_to_add all ++ rest) tables in
+    (session_status answer.end ≡ 0) × (answer.does ≡ changes (length (bytes_to_add all)) (tables_with all tables))
