@@ -1,5 +1,6 @@
 -- Which nodes the arrays show as sources, and the list that is made of them.
-use Rattle.std.proofs.Common.{◌≡◌, ℕ, ◌+◌, ◌*◌, ◌<◌, ◌≤◌, zero, suc, Bool, true, false, ◌&&◌, ◌||◌, not, List, [], ◌∷◌, ◌++◌, length, map, refl, sym, ◌∙◌, ap, subst, arith, ◌⊎◌, inl, inr, set, Result, Ok, Err, Vec, Global}
+use Rattle.std.proofs.Common.{◌≡◌, ℕ, ◌+◌, ◌*◌, ◌<◌, ◌≤◌, zero, suc, Bool, true, false, ◌&&◌, ◌||◌, not, List, [], ◌∷◌, ◌++◌, length, map, refl, sym, ◌∙◌}
+use Rattle.std.proofs.Common.{ap, subst, arith, ◌⊎◌, inl, inr, set, Result, Ok, Err, Vec, Global}
 use Rattle.std.specs.Prelude.{unwrap_or, IfOk, Option, Some, replicate, slice_get, slice_index, slice_index_or}
 use Rattle.std.specs.List.{range_with_len, flat_map}
 use Rattle.std.proofs.lemmas.Bool.{true≢false, and_right, not_from_true, false_from_ne_true, cases_lt, cases_order}
@@ -22,9 +23,11 @@ use Rattle.source_pick.specs.declared.splitting.StrongChildren.{StrongChildren}
 use Rattle.source_pick.specs.declared.splitting.StrongChildren.TheVariants.{Zero, One, Several}
 use Rattle.source_pick.specs.Sources.{is_entry, entry_of, is_split, has_strong_sibling, contains_split, is_source, sources_at, sources}
 use Rattle.source_pick.specs.Segmentation.{AreDisjointNodes}
-use Rattle.source_pick.specs.Passes.{entry_number, AreEntries, AreStrong, IsStrongChild, HasTwoStrongChildren, HasStrongChildren, AreStrongChildCounts, are_several, IsOnWay, IsAboveSplit, AreAboveSplits, AreSources, IsFirstOf, IsNoFirst, StandAtFirst, ArePicked}
+use Rattle.source_pick.specs.Passes.{entry_number, AreEntries, AreStrong, IsStrongChild, HasTwoStrongChildren, HasStrongChildren, AreStrongChildCounts}
+use Rattle.source_pick.specs.Passes.{are_several, IsOnWay, IsAboveSplit, AreAboveSplits, AreSources, IsFirstOf, IsNoFirst, StandAtFirst, ArePicked}
 use Rattle.source_pick.proofs.Entries.{IsEntryOf, entry_of-parts, entry_of-self, entry_of-found, entry_of_child}
-use Rattle.source_pick.proofs.Splits.{AreTwins, other_way, IsSplitNode, split_parts, split_from, split_entry, sibling_parts, sibling_from, ContainsSplit, contains_parts, contains_from}
+use Rattle.source_pick.proofs.Splits.{AreTwins, other_way, IsSplitNode, split_parts, split_from, split_entry, sibling_parts, sibling_from, ContainsSplit}
+use Rattle.source_pick.proofs.Splits.{contains_parts, contains_from}
 use Rattle.source_pick.proofs.Sourcing.{source_from}
 use Rattle.source_pick.proofs.Listing.{first_below, flat-push, list_is, source_node, sources_apart, sources_at-none, sources_at-one}
 use Rattle.source_pick.proofs.Readings.{HasTreeAndSums, numbers-length, tree-shape, node_inside, filled}

@@ -11,7 +11,8 @@ use Rattle.comp_tree.specs.Raster.{Raster, IsPlane, pixels, value_at, at_least, 
 use Rattle.comp_tree.specs.Grid.{are_neighbours}
 use Rattle.comp_tree.proofs.Exported.{are_neighbours_comm, among_from_defined, defined_from_at_least, below_from_defined}
 use Rattle.source_pick.specs.declared.choice.Choice.{Choice}
-use Rattle.source_pick.specs.Locality.{HaveSameSources, IsHighInEither, IsNearHighOfEither, AgreeNearHigh, is_beside_high, is_near_high, kept, KeptIsAPlane, KeptHasTheSameSources}
+use Rattle.source_pick.specs.Locality.{HaveSameSources, IsHighInEither, IsNearHighOfEither, AgreeNearHigh, is_beside_high, is_near_high, kept, KeptIsAPlane}
+use Rattle.source_pick.specs.Locality.{KeptHasTheSameSources}
 use Rattle.source_pick.proofs.Local.{sources_are_local}
 
 pub length-kept : (r : Raster) (connect : Connect) (h : ℤ) → length (kept r connect h).values ≡ length r.values

@@ -1,5 +1,6 @@
 -- Numbers of nodes in a list, as the map gives them to pixels.
-use Rattle.std.proofs.Common.{◌≡◌, ℕ, ◌+◌, ◌*◌, ◌^◌, ◌<◌, ◌≤◌, zero, suc, Bool, true, false, cond, List, [], ◌∷◌, length, refl, sym, ◌∙◌, ap, subst, arith, ◌⊎◌, inl, inr, set, ◌↔◌}
+use Rattle.std.proofs.Common.{◌≡◌, ℕ, ◌+◌, ◌*◌, ◌^◌, ◌<◌, ◌≤◌, zero, suc, Bool, true, false, cond, List, [], ◌∷◌, length, refl, sym, ◌∙◌, ap, subst, arith}
+use Rattle.std.proofs.Common.{◌⊎◌, inl, inr, set, ◌↔◌}
 use Rattle.std.specs.Prelude.{Option, Some, unwrap_or, replicate, slice_get, slice_index, ◌==◌}
 use Rattle.std.specs.List.{range_with_len, position_from, list_any, IsDistinct, AllByRecursion}
 use Rattle.std.proofs.lemmas.Bool.{true≢false, eqb-true, ne_eqb, or_cases, false_from_ne_true, cases_lt, cases_eq}
@@ -13,7 +14,8 @@ use Rattle.comp_tree.specs.Raster.{Raster, IsPlane, pixels, is_defined}
 use Rattle.comp_tree.specs.ComponentTree.{ComponentTree, parent_in, no_node}
 use Rattle.comp_tree.specs.Components.{nodes, node_of, is_in_node, tree_of}
 use Rattle.comp_tree.specs.Laws.{top_of, parent_of_node}
-use Rattle.comp_tree.proofs.Exported.{top-defined, top-representative, below_no_node, pixels_belong_to_their_ancestors, length-nodes-le, read-node_of, in_node-defined, top_inside}
+use Rattle.comp_tree.proofs.Exported.{top-defined, top-representative, below_no_node, pixels_belong_to_their_ancestors, length-nodes-le, read-node_of}
+use Rattle.comp_tree.proofs.Exported.{in_node-defined, top_inside}
 use Rattle.comp_tree.proofs.Exported as Nodes
 use Rattle.source_pick.specs.Segmentation.{source_number_at, segmentation_of, AreDisjointNodes}
 use Rattle.source_pick.specs.Passes.{IsOnWay, AreMarked, AreNumbered}

@@ -16,7 +16,8 @@ use Rattle.node_sums.specs.Sums.{total, least, greatest, x_of, y_of, sums_over, 
 use Rattle.comp_tree.specs.Nesting.{pixels_of, level_of_node}
 use Rattle.node_sums.specs.Flux.{base_of, flux_of}
 use Rattle.node_sums.specs.Sizes.{IsUpTo, HasSizes}
-use Rattle.node_sums.proofs.Exported.{level_at_least, never_negative, BaseCase, at_root, at_child, base-case, base_up_to, fits, sizes, filtered_pixels, level_up_to, total-up_to, up_to_more, up_to-minus, x_small, y_small}
+use Rattle.node_sums.proofs.Exported.{level_at_least, never_negative, BaseCase, at_root, at_child, base-case, base_up_to, fits, sizes, filtered_pixels}
+use Rattle.node_sums.proofs.Exported.{level_up_to, total-up_to, up_to_more, up_to-minus, x_small, y_small}
 use Rattle.source_pick.specs.declared.catalogue.CatRow.{CatRow}
 use Rattle.source_pick.specs.Catalogue.{centre_of, measured_row, catalogue_row, FitsColumn, FitsColumns, IsCentred}
 use Rattle.source_pick.specs.Numbers.{IsMoment, IsMean, IsMeasured}

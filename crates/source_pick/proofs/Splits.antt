@@ -13,7 +13,8 @@ use Rattle.comp_tree.specs.Laws.{IsAncestor, parent_of_node}
 use Rattle.comp_tree.proofs.Exported.{below_no_node, within_from_test, test_from_within}
 use Rattle.node_sums.proofs.Exported.{among_nodes, goes_down, node_from_among}
 use Rattle.source_pick.specs.declared.choice.Choice.{Choice}
-use Rattle.source_pick.specs.Sources.{is_large, entry_of, has_contrast, is_strong, share_entry, are_strong_children, is_split, has_strong_sibling, contains_split}
+use Rattle.source_pick.specs.Sources.{is_large, entry_of, has_contrast, is_strong, share_entry, are_strong_children, is_split, has_strong_sibling}
+use Rattle.source_pick.specs.Sources.{contains_split}
 use Rattle.comp_tree.specs.Nesting.{node_numbers, lies_within}
 use Rattle.source_pick.specs.Passes.{IsOnWay}
 use Rattle.source_pick.proofs.Within.{within_from_way, way_from_within, HasParent, way_up}

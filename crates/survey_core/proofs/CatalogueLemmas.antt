@@ -12,17 +12,18 @@ use Rattle.catalogue_form.proofs.Exported.{length-row_cells, table_cells-more}
 use Rattle.catalogue_form.specs.Columns.{bytes_in_row, cells_in_row, catalogue_columns}
 use Rattle.dev_io.specs.Streams.{Takes, TakesAtMost, Fills}
 use Rattle.dev_io.specs.Laws.{Takes-after, TakesAtMost-after}
-use Rattle.fits_hdu.specs.declared.answer.Hdu.{Hdu}
-use Rattle.fits_hdu.specs.declared.answer.HduFault.{HduFault}
-use Rattle.fits_hdu.specs.declared.answer.HduFault.TheVariants as hdu
+use Rattle.fits_hdu.specs.declared.answer.Hdu.{Hdu as HduSaid}
+use Rattle.fits_hdu.specs.declared.fault.HduFault.{HduFault}
+use Rattle.fits_hdu.specs.declared.fault.HduStop.{HduStop}
+use Rattle.fits_hdu.specs.declared.fault.HduStop.TheVariants as at_hdu
 use Rattle.fits_hdu.specs.Headers.{Found, found, refused}
 use Rattle.fits_hdu.specs.Finding.{padded, find_of, taken_by}
 use Rattle.fits_hdu.specs.Streams.{Stopped}
 use Rattle.survey_core.specs.declared.fault.Stop.{Stop}
 use Rattle.survey_core.specs.declared.fault.Stop.TheVariants.{Refused, ReadFault, WriteFault, NoMemory, KeeperFault}
-use Rattle.survey_core.specs.declared.fault.Fault.TheVariants.{TruncatedTable, RowNumber, NotCatalogue, TooManyRows}
+use Rattle.survey_core.specs.declared.fault.Fault.TheVariants.{Hdu, TruncatedTable, RowNumber, NotCatalogue, TooManyRows}
 use Rattle.survey_core.specs.Tables.{IsNumbered}
-use Rattle.survey_core.specs.Faults.{survey_stop_at_hdu}
+use Rattle.survey_core.specs.Stops.{survey_stop_at_hdu}
 use Rattle.survey_core.specs.Catalogues.{Reading, accepted, rejected, is_misnumbered, first_misnumbered, numbered, table_of, beyond, is_catalogue, most_rows, reading_by, catalogue_in}
 use Rattle.survey_core.specs.Reads.{taken_of}
 use Rattle.catalogue_form.specs.Rows.{row_cells, table_cells}
@@ -213,7 +214,7 @@ hdu_takes bytes (found hdu head) = by (is_catalogue hdu) (nat_lt most_rows hdu.h
     by true false = beyond_takes head (table_of (drop head bytes) hdu.height)
     by false b = omega arith
 
-is_refused : (bytes : List ℕ) (fault : HduFault) (taken : ℕ) → find_of bytes 2 ≡ refused fault taken → catalogue_in bytes ≡ rejected (survey_stop_at_hdu fault) taken
+is_refused : (bytes : List ℕ) (fault : HduFault) (taken : ℕ) → find_of bytes 2 ≡ refused fault taken → catalogue_in bytes ≡ rejected (Refused (Hdu fault)) taken
 unfolding catalogue_in reading_by
 is_refused bytes fault taken is = rw is refl
 
@@ -221,31 +222,25 @@ gone_within : (bytes : List ℕ) (left : Option (List ℕ)) → TakesAtMost byte
 unfolding catalogue_in
 gone_within bytes left gone = at_most bytes left _ _ gone (hdu_takes bytes (find_of bytes 2))
 
-pub no_hdu : (bytes : List ℕ) (left : Option (List ℕ)) (fault : HduFault) (stop : Stop) → stop ≡ survey_stop_at_hdu fault → Stopped (find_of bytes 2) bytes left fault → IsRejected (catalogue_in bytes) bytes left stop
-no_hdu bytes left fault stop is stopped = subst (IsRejected (catalogue_in bytes) bytes left) (sym is) (by fault stopped)
+pub no_hdu : (bytes : List ℕ) (left : Option (List ℕ)) (hdu_stop : HduStop) (stop : Stop) → stop ≡ survey_stop_at_hdu hdu_stop → Stopped (find_of bytes 2) bytes left hdu_stop
+    → IsRejected (catalogue_in bytes) bytes left stop
+no_hdu bytes left hdu_stop stop is stopped = subst (IsRejected (catalogue_in bytes) bytes left) (sym is) (by hdu_stop stopped)
   where
-    by : (fault : HduFault) → Stopped (find_of bytes 2) bytes left fault → IsRejected (catalogue_in bytes) bytes left (survey_stop_at_hdu fault)
-    by hdu.NotFits s = (s.0, is_refused bytes hdu.NotFits s.0 s.1, s.2)
-    by hdu.TruncatedHeader s = (s.0, is_refused bytes hdu.TruncatedHeader s.0 s.1, s.2)
-    by (hdu.BadKeyword h k) s = (s.0, is_refused bytes (hdu.BadKeyword h k) s.0 s.1, s.2)
-    by hdu.HeaderTooLong s = (s.0, is_refused bytes hdu.HeaderTooLong s.0 s.1, s.2)
-    by hdu.Groups s = (s.0, is_refused bytes hdu.Groups s.0 s.1, s.2)
-    by hdu.DataTooLong s = (s.0, is_refused bytes hdu.DataTooLong s.0 s.1, s.2)
-    by hdu.NoSuchHdu s = (s.0, is_refused bytes hdu.NoSuchHdu s.0 s.1, s.2)
-    by hdu.TruncatedSkip s = (s.0, is_refused bytes hdu.TruncatedSkip s.0 s.1, s.2)
-    by hdu.ReadFault s = gone_within bytes left s
+    by : (hdu_stop : HduStop) → Stopped (find_of bytes 2) bytes left hdu_stop → IsRejected (catalogue_in bytes) bytes left (survey_stop_at_hdu hdu_stop)
+    by (at_hdu.Fault fault) s = (s.0, is_refused bytes fault s.0 s.1, s.2)
+    by at_hdu.ReadFault s = gone_within bytes left s
 
-pub no_table : (bytes : List ℕ) (head : ℕ) (hdu : Hdu) (left : Option (List ℕ)) → find_of bytes 2 ≡ found hdu head → Takes bytes left head → is_catalogue hdu ≡ false
+pub no_table : (bytes : List ℕ) (head : ℕ) (hdu : HduSaid) (left : Option (List ℕ)) → find_of bytes 2 ≡ found hdu head → Takes bytes left head → is_catalogue hdu ≡ false
     → (x : ℕ) × (catalogue_in bytes ≡ rejected (Refused NotCatalogue) x) × Takes bytes left x
 unfolding catalogue_in reading_by
 no_table bytes head hdu left is takes none = (head, rw (is, none) refl, takes)
 
-pub too_many : (bytes : List ℕ) (head : ℕ) (hdu : Hdu) (left : Option (List ℕ)) → find_of bytes 2 ≡ found hdu head → Takes bytes left head → is_catalogue hdu ≡ true → most_rows < hdu.height
+pub too_many : (bytes : List ℕ) (head : ℕ) (hdu : HduSaid) (left : Option (List ℕ)) → find_of bytes 2 ≡ found hdu head → Takes bytes left head → is_catalogue hdu ≡ true → most_rows < hdu.height
     → (x : ℕ) × (catalogue_in bytes ≡ rejected (Refused TooManyRows) x) × Takes bytes left x
 unfolding catalogue_in reading_by
 too_many bytes head hdu left is takes some many = (head, rw (is, some, lt_true most_rows hdu.height many) refl, takes)
 
-table_there : (bytes : List ℕ) (head : ℕ) (hdu : Hdu) → find_of bytes 2 ≡ found hdu head → is_catalogue hdu ≡ true → hdu.height ≤ most_rows → catalogue_in bytes ≡ beyond head (table_of (drop head bytes) hdu.height)
+table_there : (bytes : List ℕ) (head : ℕ) (hdu : HduSaid) → find_of bytes 2 ≡ found hdu head → is_catalogue hdu ≡ true → hdu.height ≤ most_rows → catalogue_in bytes ≡ beyond head (table_of (drop head bytes) hdu.height)
 unfolding catalogue_in reading_by
 table_there bytes head hdu is some few = rw (is, some, lt_false most_rows hdu.height few) refl
 
@@ -272,7 +267,7 @@ beyond_cut bytes head a b reading NoMemory takes cut = (beyond_wants head readin
 beyond_cut bytes head a b reading KeeperFault takes cut = cut
 
 -- the table behind its header
-pub behind_header : {C : Type 0} (items : C → List ℤ) (bytes : List ℕ) (head : ℕ) (hdu : Hdu) (a b : Option (List ℕ)) (r : Result C Stop) → find_of bytes 2 ≡ found hdu head → Takes bytes a head → is_catalogue hdu ≡ true → hdu.height ≤ most_rows
+pub behind_header : {C : Type 0} (items : C → List ℤ) (bytes : List ℕ) (head : ℕ) (hdu : HduSaid) (a b : Option (List ℕ)) (r : Result C Stop) → find_of bytes 2 ≡ found hdu head → Takes bytes a head → is_catalogue hdu ≡ true → hdu.height ≤ most_rows
     → MatchResult r (λ cells. IsAccepted (table_of (drop head bytes) hdu.height) (drop head bytes) b (items cells)) (IsRejected (table_of (drop head bytes) hdu.height) (drop head bytes) b)
     → MatchResult r (λ cells. IsAccepted (catalogue_in bytes) bytes b (items cells)) (IsRejected (catalogue_in bytes) bytes b)
 behind_header items bytes head hdu a b (Ok cells) is takes some few read =

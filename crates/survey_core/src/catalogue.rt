@@ -190,7 +190,7 @@ pub(crate) fn read_catalogue<S: Source>(alloc: Global, src: &mut S) -> Result<Ve
 {
     let hdu = match find_hdu(src, TABLE) {
         Ok(hdu) => hdu,
-        Err(fault) => return Err(Stop::at_hdu(fault)),
+        Err(stop) => return Err(Stop::at_hdu(stop)),
     };
     if !is_catalogue(&hdu) {
         return Err(Stop::Refused(Fault::NotCatalogue));

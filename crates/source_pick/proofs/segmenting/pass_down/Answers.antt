@@ -4,7 +4,8 @@ use Rattle.source_pick.specs.Passes.{AreNumbered}
 use Rattle.node_sums.proofs.Exported.{read_parent_smaller}
 use Rattle.source_pick.proofs.Counts.{row_parent}
 use Rattle.source_pick.proofs.Marks.{numbered_none, numbered_child, numbered_marked, numbered_root, numbered_up_to, untouched, untouched_yet}
-use Rattle.source_pick.proofs.segmenting.pass_down.Goals.{then-numbers-n-eq0+then-parent, else-numbers-n-eq0, else-numbers-n-eq0-via-then-numbers-n-eq0+else-parent, else-numbers-n-eq0-via-else-numbers-n-eq0}
+use Rattle.source_pick.proofs.segmenting.pass_down.Goals.{then-numbers-n-eq0+then-parent, else-numbers-n-eq0}
+use Rattle.source_pick.proofs.segmenting.pass_down.Goals.{else-numbers-n-eq0-via-then-numbers-n-eq0+else-parent, else-numbers-n-eq0-via-else-numbers-n-eq0}
 use Rattle.source_pick.proofs.segmenting.pass_down.Goals as goal
 
 pub loop-n-init : goal.loop-n-init

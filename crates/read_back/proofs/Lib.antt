@@ -1,0 +1,6 @@
+mod Cards
+mod Headers
+mod WrittenCards
+mod Extensions
+mod WrittenHeaders
+mod Places
