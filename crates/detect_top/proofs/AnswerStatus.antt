@@ -1,6 +1,6 @@
 -- The status of an answer: no fault that the bytes show is one of a device.
-use Rattle.std.proofs.Common.{◌≡◌, ℕ, zero, suc, ◌+◌, ◌≤◌, Bool, true, false, List, drop, length, refl, subst, sym, arith}
-use Rattle.std.specs.Prelude.{ℤ, nat_lt, if◌then◌else◌, Result, Ok, Err, Option, Some, None, ◌==◌}
+use Rattle.std.proofs.Common.{ℕ, ◌+◌, ◌≤◌, Bool, true, false, List, drop, length, arith}
+use Rattle.std.specs.Prelude.{nat_lt, if◌then◌else◌, Result, Ok, Err, Option, Some, None}
 use Rattle.comp_tree.specs.declared.shape.Shape.{Shape}
 use Rattle.comp_tree.specs.Raster.{Raster}
 use Rattle.fits_hdu.specs.declared.answer.Hdu.{Hdu}
@@ -10,13 +10,13 @@ use Rattle.pixel_plane.specs.declared.fault.ImageFault.{ImageFault}
 use Rattle.pixel_plane.specs.Images.{checked}
 use Rattle.pixel_plane.specs.Reading.{image_bytes}
 use Rattle.pixel_plane.specs.Stored.{first_out_of_range}
-use Rattle.pixel_plane.specs.Verdicts.{Verdict, image, unfound, unreadable, truncated, out_of_range, image_unless, image_behind, verdict_on_hdu}
+use Rattle.pixel_plane.specs.Verdicts.{Verdict, truncated, image_unless, image_behind, verdict_on_hdu}
 use Rattle.pixel_plane.specs.Verdicts.{verdict_on_found, verdict_on}
 use Rattle.detect_top.specs.declared.words.Order.{Order}
 use Rattle.detect_top.specs.declared.words.Usage.{Usage as AtFault}
 use Rattle.detect_top.specs.Words.{order_of}
 use Rattle.detect_top.specs.Products.{image_made}
-use Rattle.detect_top.specs.Answers.{end_status, end_at, answer_to_verdict, answer_to_order, answer_to_read_words, answer_to_words}
+use Rattle.detect_top.specs.Answers.{end_status, answer_to_verdict, answer_to_order, answer_to_read_words}
 use Rattle.detect_top.specs.Laws.{AnswersAreOfWordsAndBytes}
 
 abbrev IsEarly : Order → Verdict → Type 0

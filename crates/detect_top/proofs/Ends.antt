@@ -1,5 +1,5 @@
 -- How a run may end.
-use Rattle.std.proofs.Common.{arith, ◌≡◌, ◌∙◌, ℕ, List, [], refl, sym, ap, subst, Some, None, inl, inr, Bool, Result, Ok, Err}
+use Rattle.std.proofs.Common.{arith, ◌≡◌, ◌∙◌, ℕ, List, [], refl, sym, ap, subst, Some, None, inl, inr, Result, Ok, Err}
 use Rattle.dev_io.specs.Causes.{Rose}
 use Rattle.std.specs.declared.option.Option.{Option}
 use Rattle.std.specs.Io.KnownBytes.{Appends}

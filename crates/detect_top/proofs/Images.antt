@@ -16,7 +16,7 @@ use Rattle.pixel_plane.specs.declared.fault.ImageFault.{ImageFault}
 use Rattle.pixel_plane.specs.Images.{checked}
 use Rattle.pixel_plane.specs.Reading.{image_bytes}
 use Rattle.pixel_plane.specs.Stored.{first_out_of_range}
-use Rattle.pixel_plane.specs.Verdicts.{Verdict, image, truncated, out_of_range, image_unless, verdict_on, verdict_on_hdu, verdict_on_found, taken_for}
+use Rattle.pixel_plane.specs.Verdicts.{Verdict, truncated, image_unless, verdict_on, verdict_on_hdu, verdict_on_found, taken_for}
 use Rattle.detect_top.specs.declared.image.Stop.{Stop}
 use Rattle.detect_top.specs.Faults.{stop_at_hdu}
 use Rattle.detect_top.specs.Streams.{ImageRead, ImageStopped, stop_of}

@@ -1,5 +1,5 @@
 -- The lines of a tree's nodes: those before a place, the one there, and those after it.
-use Rattle.std.proofs.Common.{◌≡◌, ◌∙◌, ℕ, ◌+◌, ◌<◌, ◌≤◌, List, ◌++◌, [], get_or, length, take, take_all, ap, sym, subst, zero-add, arith}
+use Rattle.std.proofs.Common.{◌≡◌, ◌∙◌, ℕ, ◌<◌, ◌≤◌, List, ◌++◌, [], get_or, length, take, take_all, ap, sym, subst, zero-add, arith}
 use Rattle.std.specs.List.{concat}
 use Rattle.std.proofs.lemmas.List.FromFn.{get_or-map-range_with_len, length-map-range_with_len}
 use Rattle.std.specs.declared.option.Option.{Option}

@@ -9,15 +9,14 @@ use Rattle.std.proofs.lemmas.Int.{ints}
 use Rattle.std.proofs.lemmas.Nat.{mod_below}
 use Rattle.std.proofs.lemmas.List.{get_or_past, length-map}
 use Rattle.std.proofs.lemmas.List.Elements.{All-nil, All-append, All-map, All-weaker, All-contains, filter_passes}
-use Rattle.std.proofs.lemmas.List.Sums.{length-filter, count_by-le-length}
 use Rattle.std.proofs.lemmas.Option.{slice_get_within}
 use Rattle.comp_tree.specs.declared.shape.Shape.{Shape}
 use Rattle.comp_tree.specs.declared.shape.Connect.{Connect}
 use Rattle.comp_tree.specs.Raster.{Raster, IsPlane, pixels, value_at, is_defined, level}
 use Rattle.comp_tree.specs.ComponentTree.{ComponentTree}
-use Rattle.comp_tree.specs.Components.{nodes, is_in_node, tree_of}
+use Rattle.comp_tree.specs.Components.{nodes, tree_of}
 use Rattle.comp_tree.specs.Laws.{top_of}
-use Rattle.comp_tree.proofs.Exported.{length-rows, length-pixels, IsImage, get_from_map, get-pixels}
+use Rattle.comp_tree.proofs.Exported.{length-rows, IsImage, get_from_map, get-pixels}
 use Rattle.comp_tree.specs.Raster.{HasValuesInHalfRange}
 use Rattle.mesh_background.specs.Medians.{IsLowerMedian, lower_median}
 use Rattle.mesh_background.specs.Mesh.{cells_along, cell_count, mesh_cell_of, cell_pixels, defined_values, image_value, mesh_value, values_of_mesh}
@@ -30,7 +29,8 @@ use Rattle.node_sums.specs.Sums.{AreOfPlane}
 use Rattle.node_sums.specs.Flux.{base_of, flux_of}
 use Rattle.node_sums.specs.Sizes.{IsUpTo}
 use Rattle.node_sums.proofs.Exported.{few-pixels_of, up_to-minus, total-up_to, BaseCase, at_root, at_child, base-case, flux-is}
-use Rattle.detect_top.specs.Trials.{next_state, states_behind, value_of_state, trial_image, IsSmall, HasSmallValues}
+use Rattle.detect_top.specs.Trials.{next_state, states_behind, value_of_state, trial_image}
+use Rattle.detect_top.specs.TrialSizes.{IsSmall, HasSmallValues}
 use Rattle.detect_top.specs.TrialSizes.{HasSmallFluxes, flux_bound}
 use Rattle.detect_top.proofs.EachArea.{length-sums}
 

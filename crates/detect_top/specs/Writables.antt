@@ -12,7 +12,8 @@ use Rattle.detect_top.specs.declared.product.Product.{Product}
 use Rattle.detect_top.specs.declared.product.Product.TheVariants as made
 use Rattle.detect_top.specs.Lines.{tree_lines}
 use Rattle.detect_top.specs.Catalogues.{hdus}
-use Rattle.detect_top.specs.Trials.{trial_line, HasSmallValues}
+use Rattle.detect_top.specs.Trials.{trial_line}
+use Rattle.detect_top.specs.TrialSizes.{HasSmallValues}
 
 -- a map and cells that can be written
 pub record IsDetection (shape : Shape) (numbers : List ℕ) (cells : List ℤ) : Type 0 where

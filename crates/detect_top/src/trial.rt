@@ -6,7 +6,8 @@ ghost use Rattle.comp_tree.specs.declared.shape.Connect.{Connect};
 ghost use Rattle.comp_tree.specs.Raster.{Raster};
 ghost use Rattle.comp_tree.specs.Components.{tree_of};
 ghost use Rattle.node_sums.specs.Sums.{sums_in, IsTreeOfPlane, AreTheTrees};
-ghost use Rattle.detect_top.specs.Trials.{next_state, trial_image as image_of, is_root_row, is_mapped, total_flux, summary_of, trial_line, HasSmallValues};
+ghost use Rattle.detect_top.specs.Trials.{next_state, trial_image as image_of, is_root_row, is_mapped, total_flux, summary_of, trial_line};
+ghost use Rattle.detect_top.specs.TrialSizes.{HasSmallValues};
 ghost use Rattle.detect_top.specs.TrialSizes.{HasSmallFluxes};
 
 use command_line::lines::put_line;

@@ -2,7 +2,8 @@
 use Rattle.std.proofs.Common.{◌≡◌, ℕ, ◌<◌, ◌≤◌, ◌≢◌, Bool, true, false, cond, eqb, ◌&&◌, ◌⊎◌, List, [], ◌∷◌, length, drop, get_or, Option, Some, None, refl, sym, ap, ◌∙◌, inl, inr, arith, eq-eqb}
 use Rattle.std.proofs.lemmas.Bool.{ne_eqb, and_from, and_left, and_right}
 use Rattle.fits_card.specs.Pieces.{without_leading_spaces, is_over, ClosedString, closed}
-use Rattle.fits_card.specs.Values.{Nothing, Broken, Quoted, value_field, quoted_content, token_content, content_of, token_in}
+use Rattle.fits_card.specs.Values.{Nothing, Broken, Quoted, value_field, quoted_content, token_content, content_of}
+use Rattle.fits_card.specs.Tokens.{token_in}
 
 pub field-there : (card : List ℕ) → get_or card 8 0 ≡ 61 → get_or card 9 0 ≡ 32 → without_leading_spaces (drop 10 card) ≡ value_field card
 unfolding value_field

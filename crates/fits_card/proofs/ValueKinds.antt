@@ -4,7 +4,8 @@ use Rattle.std.specs.Prelude.{codes, SomeIff}
 use Rattle.std.proofs.lemmas.Bool.{ne_eqb, cases_eq, cases_Bool, cases_lt, le-ltb}
 use Rattle.fits_card.specs.Pieces.{is_over, before_any, from_any, ClosedString, closed, without_trailing_spaces}
 use Rattle.fits_card.specs.declared.number.Whole.{Whole}
-use Rattle.fits_card.specs.Values.{Value, NoValue, Malformed, Logical, Integer, Real, Text, Content, Nothing, Broken, Quoted, Token, is_numeral, is_negative, unsigned, signed, number_of, exponent_of, real_of, real_value, number_value, token_value, token_content, quoted_content, content_of, content_value, token_in, value_field, value_of, is_present, logical_of, integer_of, text_of, whole_of, fits_i64}
+use Rattle.fits_card.specs.Values.{Value, NoValue, Malformed, Logical, Integer, Real, Text, Content, Nothing, Broken, Quoted, Token, is_numeral, is_negative, unsigned, signed, number_of, exponent_of, real_of, real_value, number_value, token_value, token_content, quoted_content, content_of, content_value, value_field, value_of, is_present, logical_of, integer_of, text_of, whole_of, fits_i64}
+use Rattle.fits_card.specs.Tokens.{token_in}
 use Rattle.fits_card.proofs.Fields.{content-empty, content-comment, content-string, content-token}
 use Rattle.fits_card.proofs.Reals.{number-integer, number-real}
 

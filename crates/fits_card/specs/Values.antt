@@ -48,11 +48,6 @@ content_of (first ∷ rest) =
     if first == slash then Nothing
     else (if first == quote then quoted_content (closed rest) else token_content (first ∷ rest))
 
--- the token, where the content is one
-abbrev pub token_in : Content → Option (List ℕ)
-token_in (Token bytes) = Some bytes
-token_in _ = None
-
 -- one or more digits
 abbrev pub is_numeral : List ℕ → Bool
 is_numeral [] = false

@@ -3,7 +3,8 @@ ghost use Rattle.std.specs.Prelude.{◌≡◌, ◌+◌, ◌≤◌, length, take,
 ghost use Rattle.std.specs.Option.{option_copied, option_map};
 ghost use Rattle.std.specs.List.{position_or_len};
 ghost use Rattle.fits_card.specs.Pieces.{is_among, closed, before_any, from_any, is_over, without_leading_spaces, without_trailing_spaces};
-ghost use Rattle.fits_card.specs.Values.{value_field, content_of, token_in, token_content};
+ghost use Rattle.fits_card.specs.Values.{value_field, content_of, token_content};
+ghost use Rattle.fits_card.specs.Tokens.{token_in};
 
 use crate::Card;
 use arrayvec::ArrayVec;

@@ -275,8 +275,8 @@ fn the_greatest_data_are_accepted(rt: HostRuntime) -> Result<(), Fail> {
 #[test]
 fn a_failing_source_is_no_cut_header(rt: HostRuntime) -> Result<(), Fail> {
     let bytes = header_of(rt.alloc(), &[simple(), bitpix(8)], 0)?;
-    for fails in [1, 2] {
-        let mut source = MemSource::new(&bytes, 80, &[fails]);
+    for fails in [[1], [2]] {
+        let mut source = MemSource::new(&bytes, 80, &fails);
         assert_eq!(rt; find_hdu(&mut source, 0), Err(HduStop::ReadFault));
     }
     Ok(())

@@ -140,7 +140,13 @@ fn faults_have_numbers_and_names(rt: HostRuntime) -> Result<(), Fail> {
     };
     assert_eq!(rt; fault.number(), 18);
     assert_eq!(rt; fault.name(), "PixelRange");
-    assert_eq!(rt; fault.place(), Some(PixelPlace { pixel: 7, stored: -1 }));
+    assert_eq!(rt;
+        fault.place(),
+        Some(PixelPlace {
+            pixel: 7,
+            stored: -1
+        })
+    );
     Ok(())
 }
 

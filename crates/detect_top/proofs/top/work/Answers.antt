@@ -1,7 +1,7 @@
 use Rattle.std.proofs.Common.{subst, Result}
 use Rattle.detect_top.specs.declared.words.Order.{Order}
 use Rattle.detect_top.specs.declared.words.Usage.{Usage}
-use Rattle.detect_top.specs.Runs.{InputUse, OutputUse, use_of_output}
+use Rattle.detect_top.specs.Runs.{use_of_output}
 use Rattle.detect_top.specs.RunEnds.{no_use, EndBytes, EndCause}
 use Rattle.detect_top.proofs.top.work.Goals as goal
 
