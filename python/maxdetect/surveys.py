@@ -21,11 +21,12 @@ from astropy.wcs import WCS
 
 from . import tables
 from .errors import Mistake
+from .kernel import DESCRIPTIONS
 
 __all__ = ["COLUMNS", "Survey", "survey"]
 
-# The cells of a row, in their order.
-COLUMNS = ("NUMBER LEVEL BASE AREA FLUX PEAK XMIN XMAX YMIN YMAX XFIRST YFIRST XCEN YCEN XVAR YVAR XYCOV").split()
+# The cells of a row, in their order: the columns of `detect`, which those of `measure` stand behind.
+COLUMNS = list(DESCRIPTIONS)[: list(DESCRIPTIONS).index("SEEN")]
 ROW, FLUX = 8 * len(COLUMNS), COLUMNS.index("FLUX")
 SUMS = "CREATE TABLE IF NOT EXISTS source_sum (field TEXT NOT NULL PRIMARY KEY, sum TEXT NOT NULL) STRICT"
 NAME = re.compile(r"[A-Za-z0-9_-]{1,16}")

@@ -52,10 +52,6 @@ bytes_in_row = 96
 abbrev pub measured_cells_in_row : ℕ
 measured_cells_in_row = 24
 
--- how many bytes a row has where it is kept with 64 bits for each cell
-abbrev pub kept_bytes_in_row : ℕ
-kept_bytes_in_row = 8 * cells_in_row
-
 -- ---- the places, from 0, of columns that are looked up
 
 abbrev pub number_place : ℕ

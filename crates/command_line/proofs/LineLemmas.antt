@@ -1,23 +1,14 @@
 -- Pieces that are written one behind the other: those before a place, the one there, and those after it.
-use Rattle.std.proofs.Common.{◌≡◌, ◌∙◌, ℕ, ◌+◌, ◌<◌, ◌≤◌, List, [], ◌∷◌, ◌++◌, get_or, length, map, take, take_all, drop, ap, sym, subst, append-nil, append_assoc, take-append-drop, length-append, arith, Result, OnOk, OnErr}
+use Rattle.std.proofs.Common.{◌≡◌, ◌∙◌, ℕ, ◌+◌, ◌<◌, ◌≤◌, List, [], ◌++◌, get_or, length, map, take, take_all, drop, ap, sym, subst, append_assoc, length-append, arith, Result, OnOk, OnErr}
 use Rattle.std.specs.List.{concat}
-use Rattle.std.proofs.lemmas.List.{take_more, get_or-map, length-map}
-use Rattle.std.proofs.lemmas.List.Folds.{concat-append}
+use Rattle.std.proofs.lemmas.List.{get_or-map, length-map}
 use Rattle.std.specs.declared.option.Option.{Option}
 use denote.Ref.{Bor}
 use Rattle.dev_io.specs.Streams.{AppendsPrefix, PutAppends}
 use Rattle.dev_io.specs.Laws.{AppendsPrefix-more}
 use Rattle.dev_io.specs.Blocks.{Moves, Moves-after, Moves-cut, Moves-flushed}
 use Rattle.command_line.specs.Lines.{texts}
-
-pub concat-more : (xss : List (List ℕ)) (i : ℕ) → i < length xss → concat (take (i + 1) xss) ≡ concat (take i xss) ++ get_or xss i []
-concat-more xss i h =
-    ap concat (take_more xss i [] h) ∙ concat-append (take i xss) (get_or xss i [] ∷ []) ∙ ap (λ l. concat (take i xss) ++ l) (append-nil (get_or xss i []))
-
-pub concat-split : (xss : List (List ℕ)) (i : ℕ) → i < length xss → concat xss ≡ concat (take i xss) ++ (get_or xss i [] ++ concat (drop (i + 1) xss))
-concat-split xss i h =
-    ap concat (sym (take-append-drop (i + 1) xss)) ∙ concat-append (take (i + 1) xss) (drop (i + 1) xss)
-    ∙ ap (λ l. l ++ concat (drop (i + 1) xss)) (concat-more xss i h) ∙ append_assoc (concat (take i xss)) (get_or xss i []) (concat (drop (i + 1) xss))
+use Rattle.lemmas.proofs.Exported.{concat-more, concat-split}
 
 pub piece_short : (xss : List (List ℕ)) (i most : ℕ) (x : List ℕ) → i < length xss → x ≡ get_or xss i [] → length (concat xss) ≤ most → length x ≤ most
 piece_short xss i most x h is few =

@@ -19,20 +19,27 @@ use Rattle.source_pick.specs.Sources.{sources}
 use Rattle.source_pick.specs.Segmentation.{segmentation_of, segmentation}
 use Rattle.source_pick.specs.Catalogue.{catalogue_of, catalogue, cells_of}
 use Rattle.source_pick.proofs.Exported.{numbers-length}
-use Rattle.detect_top.specs.Catalogues.{columns, hdus, catalogue_cells, detection, IsDetection}
+use Rattle.catalogue_form.specs.Columns.{catalogue_columns}
+use Rattle.detect_top.specs.Catalogues.{hdus, catalogue_cells, detected_hdus}
+use Rattle.detect_top.specs.Writables.{IsDetection}
 
 -- the HDUs were put one behind the other
-pub all_put : {T E : Type 0} (a b c d : Option (List ℕ)) (r : Result T E) (shape : Shape) (numbers numbers' : List ℕ) (list : List Column) (cells cells' : List ℤ)
-    → Appends a b empty_primary → Appends b c (map_hdu shape numbers') → PutAppends c d r (table_hdu list cells') → numbers' ≡ numbers → list ≡ columns → cells' ≡ cells
+pub all_put : {T E : Type 0} (a b c d : Option (List ℕ)) (r : Result T E) (shape : Shape) (numbers numbers' : List ℕ) (list : List Column)
+    (cells cells' : List ℤ)
+    → Appends a b empty_primary → Appends b c (map_hdu shape numbers') → PutAppends c d r (table_hdu list cells') → numbers' ≡ numbers
+    → list ≡ catalogue_columns → cells' ≡ cells
     → PutAppends a d r (hdus shape numbers cells)
 all_put a b c d r shape numbers numbers' list cells cells' first second third same_numbers same_columns same_cells =
     let map = subst (λ l. Appends b c (map_hdu shape l)) same_numbers second in
     let table = subst (λ l. PutAppends c d r (table_hdu l cells)) same_columns (subst (λ l. PutAppends c d r (table_hdu list l)) same_cells third) in
-    PutAppends-after a b d r empty_primary (map_hdu shape numbers ++ table_hdu columns cells) first (PutAppends-after b c d r (map_hdu shape numbers) (table_hdu columns cells) map table)
+    PutAppends-after a b d r empty_primary (map_hdu shape numbers ++ table_hdu catalogue_columns cells) first
+    (PutAppends-after b c d r (map_hdu shape numbers) (table_hdu catalogue_columns cells) map table)
 
 -- a map with a number for each pixel, and a table, can be written
-pub can_be_written : (plane : Raster) (tree : ComponentTree) (shape : Shape) (numbers : List ℕ) (cells : List ℤ) → IsTreeOfPlane plane tree → shape ≡ plane.shape
-    → length plane.values ≡ shape.width * shape.height → length numbers ≡ length tree.node_of → ((p : ℕ) → slice_index numbers p ≤ 2 ^ 24) → IsTable columns cells
+pub can_be_written : (plane : Raster) (tree : ComponentTree) (shape : Shape) (numbers : List ℕ) (cells : List ℤ) → IsTreeOfPlane plane tree
+    → shape ≡ plane.shape
+    → length plane.values ≡ shape.width * shape.height → length numbers ≡ length tree.node_of → ((p : ℕ) → slice_index numbers p ≤ 2 ^ 24)
+    → IsTable catalogue_columns cells
     → IsDetection shape numbers cells
 can_be_written plane tree shape numbers cells of_plane same whole one_each few table = record {
   one_each = one_each ∙ numbers-length plane of_plane.0 tree of_plane.1 ∙ whole;
@@ -41,11 +48,13 @@ can_be_written plane tree shape numbers cells of_plane same whole one_each few t
 }
 
 -- the map over the sources and the cells of their catalogue are what is written of them
-pub is_detection : (plane : Raster) (connect : Connect) (choice : Choice) (shape : Shape) (picked marked listed : List ℕ) (numbers : List ℕ) (cells : List ℤ) → shape ≡ plane.shape
+pub is_detection : (plane : Raster) (connect : Connect) (choice : Choice) (shape : Shape) (picked marked listed : List ℕ) (numbers : List ℕ) (cells : List ℤ)
+    → shape ≡ plane.shape
     → picked ≡ sources plane connect choice → marked ≡ picked → numbers ≡ segmentation_of plane connect marked → listed ≡ picked
-    → cells ≡ flat_map cells_of (catalogue_of plane connect listed) → hdus shape numbers cells ≡ detection plane connect choice
-unfolding detection segmentation catalogue catalogue_cells
+    → cells ≡ flat_map cells_of (catalogue_of plane connect listed) → hdus shape numbers cells ≡ detected_hdus plane connect choice
+unfolding detected_hdus segmentation catalogue catalogue_cells
 is_detection plane connect choice shape picked marked listed numbers cells same are same_marked mapped same_listed rows =
     ap (λ s. hdus s numbers cells) same
     ∙ ap (λ l. hdus plane.shape l cells) (mapped ∙ ap (segmentation_of plane connect) (same_marked ∙ are))
-    ∙ ap (hdus plane.shape (segmentation_of plane connect (sources plane connect choice))) (rows ∙ ap (λ l. flat_map cells_of (catalogue_of plane connect l)) (same_listed ∙ are))
+    ∙ ap (hdus plane.shape (segmentation_of plane connect (sources plane connect choice)))
+    (rows ∙ ap (λ l. flat_map cells_of (catalogue_of plane connect l)) (same_listed ∙ are))

@@ -14,7 +14,9 @@ pub length-sums : (r : Raster) (connect : Connect) → length (sums_in r connect
 unfolding sums_in
 length-sums r connect = length-map _ (sums_of r connect) ∙ length-range_with_len 0 _ ∙ sym (length-rows r connect)
 
-pub one_area_each : (r : Raster) (connect : Connect) (tree : ComponentTree) (items : List ℕ) → tree ≡ tree_of r connect → items ≡ areas_in r connect → length items ≡ length tree.rows
+pub one_area_each : (r : Raster) (connect : Connect) (tree : ComponentTree) (items : List ℕ) → tree ≡ tree_of r connect → items ≡ areas_in r connect
+    → length items ≡ length tree.rows
 unfolding areas_in
 one_area_each r connect tree items is are =
-    ap length are ∙ length-map _ (area_of r connect) ∙ length-range_with_len 0 _ ∙ sym (length-rows r connect) ∙ sym (ap (λ (t : ComponentTree). length t.rows) is)
+    ap length are ∙ length-map _ (area_of r connect) ∙ length-range_with_len 0 _ ∙ sym (length-rows r connect)
+    ∙ sym (ap (λ (t : ComponentTree). length t.rows) is)

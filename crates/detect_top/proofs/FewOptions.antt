@@ -9,14 +9,25 @@ use Rattle.std.proofs.lemmas.Slice.Eq.{bytes_eq-Decides}
 use Rattle.comp_tree.proofs.Exported.{find_some}
 use Rattle.detect_top.specs.declared.options.Command.{Command}
 use Rattle.detect_top.specs.declared.options.Setting.{Setting}
-use Rattle.detect_top.specs.declared.options.Setting.TheVariants.{Hdu, Connect, Strips, Workers, Mesh, Flat, Rule, MinArea, MaxArea, MinFlux, MinFill, Threshold, Contrast, Seed, Width, Height, Values}
-use Rattle.detect_top.specs.Options.{settings, option_name, option_named, setting_named, if_taken, takes}
+use Rattle.detect_top.specs.declared.options.Setting.TheVariants.{Hdu, Connect, Strips, Workers, Mesh, Flat, Rule, MinArea, MaxArea, MinFlux, MinFill}
+use Rattle.detect_top.specs.declared.options.Setting.TheVariants.{Threshold, Contrast, Seed, Width, Height, Values}
+use Rattle.detect_top.specs.Options.{settings, option_name, option_named, setting_named, if_taken, command_takes}
 use Rattle.detect_top.specs.Words.{word_at, names, naming, is_bad_option, is_bad_name}
 use Rattle.detect_top.specs.Given.{AreRead}
-use Rattle.detect_top.proofs.Places.{last_tried, find_more}
+use Rattle.lemmas.proofs.Exported.{one_if}
 
-abbrev one_if : Bool → ℕ
-one_if b = cond b 1 0
+unfoldable last_tried : (ℕ → Bool) → ℕ → Option ℕ
+last_tried test k = cond (test k) (Some k) None
+
+find_more : (test : ℕ → Bool) (a n : ℕ) → find test (range_with_len a (suc n)) ≡ option_or (find test (range_with_len a n)) (last_tried test (a + n))
+unfolding last_tried
+find_more test a zero = let same : a + 0 ≡ a = omega arith in rw same refl
+find_more test a (suc n) = by (test a) (find_more test (a + 1) n)
+  where
+    by : (b : Bool) → find test (range_with_len (a + 1) (suc n)) ≡ option_or (find test (range_with_len (a + 1) n)) (last_tried test (a + 1 + n))
+        → cond b (Some a) (find test (range_with_len (a + 1) (suc n))) ≡ option_or (cond b (Some a) (find test (range_with_len (a + 1) n))) (last_tried test (a + suc n))
+    by true rest = refl
+    by false rest = let same : a + 1 + n ≡ a + suc n = omega arith in rest ∙ ap (λ k. option_or (find test (range_with_len (a + 1) n)) (last_tried test k)) same
 
 -- how many of these options the first n pairs name
 unfoldable named_among : List (List ℕ) → ℕ → List Setting → ℕ
@@ -59,7 +70,8 @@ one_called Values = omega arith
 
 -- ---- one pair more
 
-naming_more : (words : List (List ℕ)) (setting : Setting) (n : ℕ) → naming words setting (n + 1) ≡ option_or (naming words setting n) (last_tried (names words setting) (n + 1))
+naming_more : (words : List (List ℕ)) (setting : Setting) (n : ℕ)
+    → naming words setting (n + 1) ≡ option_or (naming words setting n) (last_tried (names words setting) (n + 1))
 unfolding naming
 naming_more words setting n =
     let one : n + 1 ≡ suc n = omega arith in
@@ -78,17 +90,21 @@ same_naming : (words : List (List ℕ)) (a b : Setting) (n : ℕ) → option_nam
 unfolding naming
 same_naming words a b n same = ap (λ name. find (λ i. bytes_eq (word_at words (2 * i)) name) (range_with_len 1 n)) (sym same)
 
-newly_named : (words : List (List ℕ)) (setting : Setting) (n : ℕ) → naming words setting n ≡ None → names words setting (n + 1) ≡ true → one_if (is_some (naming words setting (n + 1))) ≡ 1
+newly_named : (words : List (List ℕ)) (setting : Setting) (n : ℕ) → naming words setting n ≡ None → names words setting (n + 1) ≡ true
+    → one_if (is_some (naming words setting (n + 1))) ≡ 1
 unfolding last_tried
 newly_named words setting n none is =
-    ap (λ o. one_if (is_some o)) (naming_more words setting n ∙ ap (λ o. option_or o (cond (names words setting (n + 1)) (Some (n + 1)) None)) none ∙ ap (λ b. cond b (Some (n + 1)) None) is)
+    ap (λ o. one_if (is_some o)) (naming_more words setting n ∙ ap (λ o. option_or o (cond (names words setting (n + 1)) (Some (n + 1)) None)) none ∙ ap
+    (λ b. cond b (Some (n + 1)) None) is)
 
 none_yet : (o : Option ℕ) → is_some o ≡ false → o ≡ None
 none_yet (Some k) h = absurd (cc)
 none_yet None h = refl
 
-each_named : (words : List (List ℕ)) (setting other : Setting) (n : ℕ) (same : Bool) → is_some (naming words setting n) ≡ false → names words setting (n + 1) ≡ true
-    → bytes_eq (option_name setting) (option_name other) ≡ same → one_if (is_some (naming words other n)) + one_if same ≤ one_if (is_some (naming words other (n + 1)))
+each_named : (words : List (List ℕ)) (setting other : Setting) (n : ℕ) (same : Bool) → is_some (naming words setting n) ≡ false
+    → names words setting (n + 1) ≡ true
+    → bytes_eq (option_name setting) (option_name other) ≡ same
+    → one_if (is_some (naming words other n)) + one_if same ≤ one_if (is_some (naming words other (n + 1)))
 each_named words setting other n true fresh is h =
     let alike : option_name setting ≡ option_name other = (bytes_eq-Decides (option_name setting) (option_name other)).0 h in
     let before : naming words other n ≡ None = same_naming words setting other n alike ∙ none_yet (naming words setting n) fresh in
@@ -97,12 +113,18 @@ each_named words setting other n true fresh is h =
 each_named words setting other n false fresh is h =
     omega (arith, kept_named (naming words other n) (last_tried (names words other) (n + 1)), ap (λ o. one_if (is_some o)) (naming_more words other n))
 
-one_more_named : (words : List (List ℕ)) (setting : Setting) (n : ℕ) (list : List Setting) → is_some (naming words setting n) ≡ false → names words setting (n + 1) ≡ true
+one_more_named : (words : List (List ℕ)) (setting : Setting) (n : ℕ) (list : List Setting) → is_some (naming words setting n) ≡ false
+    → names words setting (n + 1) ≡ true
     → named_among words n list + called (option_name setting) list ≤ named_among words (n + 1) list
 unfolding named_among called
 one_more_named words setting n [] fresh is = omega arith
 one_more_named words setting n (other ∷ rest) fresh is =
-    omega (arith, each_named words setting other n (bytes_eq (option_name setting) (option_name other)) fresh is refl, one_more_named words setting n rest fresh is)
+    omega (
+      arith,
+      each_named words setting other n (bytes_eq (option_name setting) (option_name other)) fresh is refl,
+      one_more_named words setting n rest fresh
+          is,
+    )
 
 -- ---- a pair that isn't at fault
 
@@ -112,7 +134,7 @@ named_is text setting is = (find_some (λ (s : Setting). bytes_eq text (option_n
 
 taken_is : (command : Command) (named : Option Setting) (setting : Setting) → if_taken command named ≡ Some setting → named ≡ Some setting
 taken_is command None setting is = absurd (cc)
-taken_is command (Some other) setting is = by (takes command other) is
+taken_is command (Some other) setting is = by (command_takes command other) is
   where
     by : (b : Bool) → cond b (Some other) None ≡ Some setting → Some other ≡ Some setting
     by true is = is
@@ -123,12 +145,14 @@ unfolding option_named
 option_is command text setting is = named_is text setting (taken_is command (setting_named text) setting is)
 
 -- the pair names an option that no earlier pair names
-good_name : (command : Command) (words : List (List ℕ)) (n : ℕ) (named : Option Setting) → 2 * n + 2 ≤ length words → option_named command (word_at words (2 * (n + 1))) ≡ named
+good_name : (command : Command) (words : List (List ℕ)) (n : ℕ) (named : Option Setting) → 2 * n + 2 ≤ length words
+    → option_named command (word_at words (2 * (n + 1))) ≡ named
     → is_bad_name command words (n + 1) ≡ false → (setting : Setting) × (names words setting (n + 1) ≡ true) × (is_some (naming words setting n) ≡ false)
 unfolding is_bad_name
 good_name command words n named long is good =
     let there : nat_lt (length words) (2 * (n + 1)) ≡ false = grind (arith, nat_tests) in
-    by named is (subst (λ o. is_bad_option words (n + 1) o ≡ false) is (subst (λ b. cond b false (is_bad_option words (n + 1) (option_named command (word_at words (2 * (n + 1))))) ≡ false) there good))
+    by named is (subst (λ o. is_bad_option words (n + 1) o ≡ false) is
+    (subst (λ b. cond b false (is_bad_option words (n + 1) (option_named command (word_at words (2 * (n + 1))))) ≡ false) there good))
   where
     by : (o : Option Setting) → option_named command (word_at words (2 * (n + 1))) ≡ o → is_bad_option words (n + 1) o ≡ false
         → (setting : Setting) × (names words setting (n + 1) ≡ true) × (is_some (naming words setting n) ≡ false)

@@ -6,8 +6,9 @@ use Rattle.dev_io.specs.Streams.{Takes, TakesAtMost}
 use Rattle.comp_tree.specs.declared.shape.Shape.{Shape}
 use Rattle.comp_tree.specs.Raster.{Raster}
 use Rattle.fits_hdu.specs.declared.answer.Hdu.{Hdu}
-use Rattle.fits_hdu.specs.declared.answer.HduFault.{HduFault}
-use Rattle.fits_hdu.specs.declared.answer.HduFault.TheVariants as hdu
+use Rattle.fits_hdu.specs.declared.fault.HduFault.{HduFault}
+use Rattle.fits_hdu.specs.declared.fault.HduStop.{HduStop}
+use Rattle.fits_hdu.specs.declared.fault.HduStop.TheVariants.{Fault, ReadFault}
 use Rattle.fits_hdu.specs.Headers.{Found, found, refused}
 use Rattle.fits_hdu.specs.Finding.{find_of, taken_by as found_taken}
 use Rattle.fits_hdu.specs.Streams.{Stopped}
@@ -15,25 +16,28 @@ use Rattle.pixel_plane.specs.declared.fault.ImageFault.{ImageFault}
 use Rattle.pixel_plane.specs.Images.{checked}
 use Rattle.pixel_plane.specs.Reading.{image_bytes}
 use Rattle.pixel_plane.specs.Stored.{first_out_of_range}
-use Rattle.pixel_plane.specs.Verdicts.{Verdict, image, truncated, out_of_range, image_unless, verdict, verdict_by, verdict_of, taken_for}
+use Rattle.pixel_plane.specs.Verdicts.{Verdict, truncated, image_unless, verdict_on, verdict_on_hdu, verdict_on_found, taken_for}
 use Rattle.detect_top.specs.declared.image.Stop.{Stop}
 use Rattle.detect_top.specs.Faults.{stop_at_hdu}
 use Rattle.detect_top.specs.Streams.{ImageRead, ImageStopped, stop_of}
 
-pub verdict_is : (bytes : List ℕ) (number : ℕ) (search : Found) → find_of bytes number ≡ search → verdict bytes number ≡ verdict_of bytes search
-unfolding verdict
-verdict_is bytes number search is = ap (verdict_of bytes) is
+pub verdict_is : (bytes : List ℕ) (number : ℕ) (search : Found) → find_of bytes number ≡ search → verdict_on bytes number ≡ verdict_on_found bytes search
+unfolding verdict_on
+verdict_is bytes number search is = ap (verdict_on_found bytes) is
 
 abbrev Reads : Verdict → List ℕ → Option (List ℕ) → Result Raster Stop → Type 0
 Reads v bytes left result = MatchResult result (λ plane. ImageRead v bytes left plane) (λ stop. ImageStopped v bytes left stop)
 
-pub image_told : (bytes : List ℕ) (number : ℕ) (hdu : Hdu) (head : ℕ) (left : Option (List ℕ)) (result : Result Raster Stop) → find_of bytes number ≡ found hdu head
-    → MatchResult result (λ plane. ImageRead (verdict_by bytes hdu head (checked hdu)) bytes left plane) (λ stop. ImageStopped (verdict_by bytes hdu head (checked hdu)) bytes left stop)
-    → MatchResult result (λ plane. ImageRead (verdict bytes number) bytes left plane) (λ stop. ImageStopped (verdict bytes number) bytes left stop)
+pub image_told : (bytes : List ℕ) (number : ℕ) (hdu : Hdu) (head : ℕ) (left : Option (List ℕ)) (result : Result Raster Stop)
+    → find_of bytes number ≡ found hdu head
+    → MatchResult result (λ plane. ImageRead (verdict_on_hdu bytes hdu head (checked hdu)) bytes left plane)
+    (λ stop. ImageStopped (verdict_on_hdu bytes hdu head (checked hdu)) bytes left stop)
+    → MatchResult result (λ plane. ImageRead (verdict_on bytes number) bytes left plane) (λ stop. ImageStopped (verdict_on bytes number) bytes left stop)
 image_told bytes number hdu head left result is reads = subst (λ v. Reads v bytes left result) (sym (verdict_is bytes number (found hdu head) is)) reads
 
-refused_as : (bytes : List ℕ) (number : ℕ) (left : Option (List ℕ)) (fault : HduFault) → (taken : ℕ) × (find_of bytes number ≡ refused fault taken) × Takes bytes left taken
-    → (stop_of (verdict bytes number) ≡ Some (stop_at_hdu fault)) × Takes bytes left (taken_for (verdict bytes number))
+refused_as : (bytes : List ℕ) (number : ℕ) (left : Option (List ℕ)) (fault : HduFault) → (taken : ℕ) × (find_of bytes number ≡ refused fault taken)
+    × Takes bytes left taken
+    → (stop_of (verdict_on bytes number) ≡ Some (stop_at_hdu (Fault fault))) × Takes bytes left (taken_for (verdict_on bytes number))
 refused_as bytes number left fault (taken, is, takes) =
     let same = verdict_is bytes number (refused fault taken) is in
     (ap stop_of same, subst (Takes bytes left) (sym (ap taken_for same)) takes)
@@ -48,28 +52,25 @@ cut_most : (bytes : List ℕ) (hdu : Hdu) (head long n : ℕ) (shape : Shape) (p
 cut_most bytes hdu head long n shape pixel true few within = within
 cut_most bytes hdu head long n shape pixel false few within = end_most bytes hdu head n shape pixel few
 
-behind_most : (bytes : List ℕ) (hdu : Hdu) (head n : ℕ) (shape : Result Shape ImageFault) → n ≤ head → n ≤ length bytes → n ≤ taken_for (verdict_by bytes hdu head shape)
+behind_most : (bytes : List ℕ) (hdu : Hdu) (head n : ℕ) (shape : Result Shape ImageFault) → n ≤ head → n ≤ length bytes
+    → n ≤ taken_for (verdict_on_hdu bytes hdu head shape)
 behind_most bytes hdu head n (Err fault) few within = few
 behind_most bytes hdu head n (Ok shape) few within =
-    cut_most (drop head bytes) hdu head (length bytes) n shape (first_out_of_range hdu shape (drop head bytes)) (nat_lt (length bytes) (head + image_bytes hdu shape)) few within
+    cut_most (drop head bytes) hdu head (length bytes) n shape (first_out_of_range hdu shape (drop head bytes))
+    (nat_lt (length bytes) (head + image_bytes hdu shape)) few within
 
-search_most : (bytes : List ℕ) (n : ℕ) (search : Found) → n ≤ found_taken search → n ≤ length bytes → n ≤ taken_for (verdict_of bytes search)
+search_most : (bytes : List ℕ) (n : ℕ) (search : Found) → n ≤ found_taken search → n ≤ length bytes → n ≤ taken_for (verdict_on_found bytes search)
 search_most bytes n (found hdu head) few within = behind_most bytes hdu head n (checked hdu) few within
 search_most bytes n (refused fault taken) few within = few
 
-fault_as : (bytes : List ℕ) (number : ℕ) (left : Option (List ℕ)) → TakesAtMost bytes left (found_taken (find_of bytes number)) → TakesAtMost bytes left (taken_for (verdict bytes number))
-unfolding verdict
-fault_as bytes number left lost = record { count = lost.count; few = search_most bytes lost.count (find_of bytes number) lost.few lost.takes.within; takes = lost.takes }
+fault_as : (bytes : List ℕ) (number : ℕ) (left : Option (List ℕ)) → TakesAtMost bytes left (found_taken (find_of bytes number))
+    → TakesAtMost bytes left (taken_for (verdict_on bytes number))
+unfolding verdict_on
+fault_as bytes number left lost =
+    record { count = lost.count; few = search_most bytes lost.count (find_of bytes number) lost.few lost.takes.within; takes = lost.takes }
 
 -- where no HDU is found
-pub search_stopped : (bytes : List ℕ) (number : ℕ) (left : Option (List ℕ)) (fault : HduFault) → Stopped (find_of bytes number) bytes left fault
-    → ImageStopped (verdict bytes number) bytes left (stop_at_hdu fault)
-search_stopped bytes number left hdu.NotFits h = refused_as bytes number left hdu.NotFits h
-search_stopped bytes number left hdu.TruncatedHeader h = refused_as bytes number left hdu.TruncatedHeader h
-search_stopped bytes number left (hdu.BadKeyword n card) h = refused_as bytes number left (hdu.BadKeyword n card) h
-search_stopped bytes number left hdu.HeaderTooLong h = refused_as bytes number left hdu.HeaderTooLong h
-search_stopped bytes number left hdu.Groups h = refused_as bytes number left hdu.Groups h
-search_stopped bytes number left hdu.DataTooLong h = refused_as bytes number left hdu.DataTooLong h
-search_stopped bytes number left hdu.NoSuchHdu h = refused_as bytes number left hdu.NoSuchHdu h
-search_stopped bytes number left hdu.TruncatedSkip h = refused_as bytes number left hdu.TruncatedSkip h
-search_stopped bytes number left hdu.ReadFault h = fault_as bytes number left h
+pub search_stopped : (bytes : List ℕ) (number : ℕ) (left : Option (List ℕ)) (stop : HduStop) → Stopped (find_of bytes number) bytes left stop
+    → ImageStopped (verdict_on bytes number) bytes left (stop_at_hdu stop)
+search_stopped bytes number left (Fault fault) h = refused_as bytes number left fault h
+search_stopped bytes number left ReadFault h = fault_as bytes number left h

@@ -1,17 +1,17 @@
-pub mod Places
-pub mod FewOptions
-pub mod Images
-pub mod NodeLines
-pub mod Ends
-pub mod Products
-pub mod EachArea
-pub mod Given
-pub mod Limits
-pub mod Cells
-pub mod Detections
-pub mod Trials
-pub mod Summaries
-pub mod Shapes
-pub mod NearPixels
-pub mod AnswerStatus
+mod Places
+mod FewOptions
+mod Images
+mod NodeLines
+mod Ends
+mod Products
+mod EachArea
+mod Given
+mod Limits
+mod Cells
+mod Detections
+mod Trials
+mod Summaries
+mod Shapes
+mod NearPixels
+mod AnswerStatus
 pub mod Exported

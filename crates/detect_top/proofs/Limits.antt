@@ -12,8 +12,9 @@ use Rattle.detect_top.specs.declared.words.Order.{Order}
 use Rattle.detect_top.specs.declared.words.Job.{Job}
 use Rattle.detect_top.specs.declared.words.Job.TheVariants as the_job
 use Rattle.command_line.specs.Numbers.{within, whole_number}
-use Rattle.detect_top.specs.Options.{count_between, strips_in, workers_in, mesh_in, rule_in, thousandths_in, threshold_in, seed_in}
-use Rattle.detect_top.specs.Words.{criterion_given, choice_given, job_given, order_for, value_given, given, HasJobLimits, HasLimits, shape_given, IsMeasureOrder}
+use Rattle.detect_top.specs.Options.{count_between, positive_u16_in, workers_in, u16_in, rule_in, thousandths_in, threshold_in, seed_in}
+use Rattle.detect_top.specs.Words.{criterion_given, choice_given, job_given, order_for, value_given, given, HasJobLimits, HasLimits, shape_given}
+use Rattle.detect_top.specs.Words.{IsMeasureOrder}
 
 record IsBetween (least most n : ℕ) : Type 0 where
   low : least ≤ n
@@ -34,7 +35,8 @@ number_between least most default z true otherwise h =
     let both = and_both (int_le (pos least) z) (int_le z (pos most)) h in
     abs_between least most z (int_le-true _ _ both.0) (int_le-true _ _ both.1)
 
-within_between : (least most default : ℕ) (o : Option ℤ) → IsBetween least most default → IsBetween least most (unwrap_or (option_map unsigned_abs (within (pos least) (pos most) o)) default)
+within_between : (least most default : ℕ) (o : Option ℤ) → IsBetween least most default
+    → IsBetween least most (unwrap_or (option_map unsigned_abs (within (pos least) (pos most) o)) default)
 within_between least most default None otherwise = otherwise
 within_between least most default (Some z) otherwise = number_between least most default z (int_le (pos least) z && int_le z (pos most)) otherwise refl
 
@@ -44,16 +46,16 @@ given_between : (least most default : ℕ) (o : Option (List ℕ)) → IsBetween
 given_between least most default None otherwise = otherwise
 given_between least most default (Some text) otherwise = within_between least most default (whole_number text) otherwise
 
-strips_between : (o : Option (List ℕ)) → IsBetween 1 65535 (unwrap_or (option_and_then strips_in o) 1)
-unfolding strips_in
+strips_between : (o : Option (List ℕ)) → IsBetween 1 65535 (unwrap_or (option_and_then positive_u16_in o) 1)
+unfolding positive_u16_in
 strips_between o = given_between 1 65535 1 o (record { low = omega arith; high = omega arith })
 
 workers_between : (o : Option (List ℕ)) → IsBetween 1 64 (unwrap_or (option_and_then workers_in o) 1)
 unfolding workers_in
 workers_between o = given_between 1 64 1 o (record { low = omega arith; high = omega arith })
 
-mesh_between : (o : Option (List ℕ)) → IsBetween 0 65535 (unwrap_or (option_and_then mesh_in o) 0)
-unfolding mesh_in
+mesh_between : (o : Option (List ℕ)) → IsBetween 0 65535 (unwrap_or (option_and_then u16_in o) 0)
+unfolding u16_in
 mesh_between o = given_between 0 65535 0 o (record { low = omega arith; high = omega arith })
 
 thousandths_between : (default : ℕ) (o : Option (List ℕ)) → default ≤ 1000 → IsBetween 0 1000 (unwrap_or (option_and_then thousandths_in o) default)
@@ -72,7 +74,8 @@ some_job : {T : Type 0} (o : Option T) (f : T → Job) (job : Job) → option_ma
 some_job (Some x) f job is limits = let same : f x ≡ job = cc in subst HasJobLimits same (limits x)
 some_job None f job is limits = absurd (cc)
 
-some_trial : {T S : Type 0} (o : Option T) (s : Option S) (f : T → S → Job) (job : Job) → option_and_then (λ x. option_map (f x) s) o ≡ Some job → ((x : T) (y : S) → HasJobLimits (f x y)) → HasJobLimits job
+some_trial : {T S : Type 0} (o : Option T) (s : Option S) (f : T → S → Job) (job : Job) → option_and_then (λ x. option_map (f x) s) o ≡ Some job
+    → ((x : T) (y : S) → HasJobLimits (f x y)) → HasJobLimits job
 some_trial (Some x) s f job is limits = some_job s (f x) job is (limits x)
 some_trial None s f job is limits = absurd (cc)
 
@@ -115,7 +118,8 @@ unfolding order_for
 job_is words n job = refl
 
 -- the order of what is given to measure is one to measure, where the HDU of the values is another
-pub measure_limits : (words : List (List ℕ)) (n : ℕ) (job : Job) (order : Order) (values : ℕ) → job_given Measure words n ≡ Some job → order ≡ order_for words n job → values ≢ order.hdu
+pub measure_limits : (words : List (List ℕ)) (n : ℕ) (job : Job) (order : Order) (values : ℕ) → job_given Measure words n ≡ Some job
+    → order ≡ order_for words n job → values ≢ order.hdu
     → IsMeasureOrder (record { order = order; values = values })
 measure_limits words n job order values is same apart =
     let choice = detects words n job is in

@@ -9,14 +9,16 @@ use Rattle.source_pick.specs.declared.catalogue.CatRow.{CatRow}
 use Rattle.source_pick.specs.Segmentation.{segmentation}
 use Rattle.source_pick.specs.Catalogue.{cells_of}
 use Rattle.source_pick.specs.Locality.{HaveSameSources}
-use Rattle.detect_top.specs.Catalogues.{hdus, catalogue_cells, detection}
+use Rattle.detect_top.specs.Catalogues.{hdus, catalogue_cells, detected_hdus}
 
-cells_same : (r s : Raster) (connect : Connect) (choice : Choice) → HaveSameSources r s connect choice → catalogue_cells r connect choice ≡ catalogue_cells s connect choice
+cells_same : (r s : Raster) (connect : Connect) (choice : Choice) → HaveSameSources r s connect choice
+    → catalogue_cells r connect choice ≡ catalogue_cells s connect choice
 unfolding catalogue_cells
 cells_same r s connect choice h = ap (λ (rows : List CatRow). flat_map cells_of rows) h.rows
 
-pub detection_same : (r s : Raster) (connect : Connect) (choice : Choice) → r.shape ≡ s.shape → HaveSameSources r s connect choice → detection r connect choice ≡ detection s connect choice
-unfolding detection
+pub detection_same : (r s : Raster) (connect : Connect) (choice : Choice) → r.shape ≡ s.shape → HaveSameSources r s connect choice
+    → detected_hdus r connect choice ≡ detected_hdus s connect choice
+unfolding detected_hdus
 detection_same r s connect choice e h =
     ap (λ (x : Shape). hdus x (segmentation r connect choice) (catalogue_cells r connect choice)) e
     ∙ ap (λ (numbers : List ℕ). hdus s.shape numbers (catalogue_cells r connect choice)) h.numbers

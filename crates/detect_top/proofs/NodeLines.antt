@@ -1,5 +1,5 @@
 -- The lines of a tree's nodes: those before a place, the one there, and those after it.
-use Rattle.std.proofs.Common.{◌≡◌, ◌∙◌, ℕ, ◌+◌, ◌<◌, ◌≤◌, List, ◌++◌, [], get_or, length, take, take_all, ap, sym, subst, zero-add, arith}
+use Rattle.std.proofs.Common.{◌≡◌, ◌∙◌, ℕ, ◌<◌, ◌≤◌, List, ◌++◌, [], get_or, length, take, take_all, ap, sym, subst, zero-add, arith}
 use Rattle.std.specs.List.{concat}
 use Rattle.std.proofs.lemmas.List.FromFn.{get_or-map-range_with_len, length-map-range_with_len}
 use Rattle.std.specs.declared.option.Option.{Option}
@@ -15,7 +15,8 @@ pub line_is : (rows : List NodeRow) (areas : List ℕ) (i : ℕ) (row : NodeRow)
     → node_line i row area ≡ get_or (lines_of rows areas) i []
 unfolding lines_of
 line_is rows areas i row area h is here =
-    ap (λ r. node_line i r area) is ∙ ap (λ a. node_line i (row_numbered rows i) a) here ∙ sym (get_or-map-range_with_len (line_at rows areas) 0 (length rows) i i [] h (zero-add i))
+    ap (λ r. node_line i r area) is ∙ ap (λ a. node_line i (row_numbered rows i) a) here
+    ∙ sym (get_or-map-range_with_len (line_at rows areas) 0 (length rows) i i [] h (zero-add i))
 
 pub line_in : (rows : List NodeRow) (areas : List ℕ) (i : ℕ) → i < length rows → i < length (lines_of rows areas)
 line_in rows areas i h = omega (arith, length-lines_of rows areas)

@@ -1,8 +1,8 @@
 -- The words at fault in so many pairs of a name and a value.
-use Rattle.std.proofs.Common.{◌≡◌, ◌∙◌, ℕ, zero, suc, ◌+◌, ◌-◌, ◌*◌, ◌/◌, ◌%◌, ◌<◌, ◌≤◌, ◌==◌, ◌≢◌, inl, inr, Bool, true, false, not, cond, nat_lt, List, [], ◌∷◌, length, get_or, refl, sym, ap, subst, eq-eqb, arith}
-use Rattle.std.specs.Prelude.{Option, Some, None, find, is_some, option_and_then}
-use Rattle.std.specs.List.{range_with_len}
-use Rattle.std.specs.Option.{option_or, option_map}
+use Rattle.std.proofs.Common.{◌≡◌, ◌∙◌, ℕ, ◌+◌, ◌-◌, ◌*◌, ◌/◌, ◌%◌, ◌<◌, ◌≤◌, ◌==◌, ◌≢◌, inl, inr, Bool, true, false, not, cond, nat_lt, List, []}
+use Rattle.std.proofs.Common.{◌∷◌, length, get_or, refl, sym, ap, subst, eq-eqb, arith}
+use Rattle.std.specs.Prelude.{Option, Some, None, is_some, option_and_then}
+use Rattle.std.specs.Option.{option_map}
 use Rattle.std.specs.Str.{bytes_eq}
 use Rattle.std.proofs.lemmas.Bool.{cases_lt}
 use Rattle.std.proofs.lemmas.Bool.Decides.{nat_tests}
@@ -14,56 +14,14 @@ use Rattle.detect_top.specs.declared.options.Setting.{Setting}
 use Rattle.detect_top.specs.declared.options.Setting.TheVariants.{Values}
 use Rattle.detect_top.specs.declared.words.Order.{Order}
 use Rattle.detect_top.specs.declared.words.Job.{Job}
+use Rattle.lemmas.proofs.Exported.{find_first, find_nothing, find_in_range}
 use Rattle.command_line.proofs.Exported.{text_at}
-use Rattle.detect_top.specs.Options.{option_name, option_named, is_value, hdu_in}
+use Rattle.detect_top.specs.Options.{option_name, option_named, is_value, u16_in}
 use Rattle.command_line.specs.Lines.{texts}
-use Rattle.detect_top.specs.Words.{word_at, names, naming, value_given, is_bad_option, is_bad_name, is_bad_value, is_at_fault, first_at_fault, job_given, order_for, order_given, order_unless, order_of, command_of, at_fault, given, asks_measure, measure_apart, measure_given, measure_order_of}
+use Rattle.detect_top.specs.Words.{word_at, names, naming, value_given, is_bad_option, is_bad_name, is_bad_value, is_at_fault, first_at_fault, job_given}
+use Rattle.detect_top.specs.Words.{order_for, order_given, order_unless, order_of, command_of, at_fault, given, asks_measure, measure_apart, measure_given}
+use Rattle.detect_top.specs.Words.{measure_order_of}
 use Rattle.detect_top.specs.Given.{AreRead, AreAllRead, IsFirstFault}
-
--- ---- the first number that passes a test
-
-found_here : (test : ℕ → Bool) (a k : ℕ) → a ≤ k → test a ≡ true → ((j : ℕ) → a ≤ j → j < k → test j ≡ false) → a ≡ k
-found_here test a k low is none = elim (cases_lt a k) [ inl less ↦ let fails : test a ≡ false = none a (omega arith) less in absurd (cc) | inr more ↦ omega arith ]
-
-found_later : (test : ℕ → Bool) (a k : ℕ) → a ≤ k → test a ≡ false → test k ≡ true → a + 1 ≤ k
-found_later test a k low fails is = elim (cases_lt a k) [ inl less ↦ omega arith | inr more ↦ let same : a ≡ k = omega arith in let other : test k ≡ false = sym (ap test same) ∙ fails in absurd (cc) ]
-
-pub find_first : (test : ℕ → Bool) (a n k : ℕ) → a ≤ k → k < a + n → test k ≡ true → ((j : ℕ) → a ≤ j → j < k → test j ≡ false) → find test (range_with_len a n) ≡ Some k
-find_first test a zero k low high is none = absurd (omega arith)
-find_first test a (suc n) k low high is none =
-    by (test a) refl (λ (next : a + 1 ≤ k). find_first test (a + 1) n k next (omega arith) is (λ j l h. none j (omega arith) h))
-  where
-    by : (b : Bool) → test a ≡ b → (a + 1 ≤ k → find test (range_with_len (a + 1) n) ≡ Some k) → cond b (Some a) (find test (range_with_len (a + 1) n)) ≡ Some k
-    by true here rest = ap Some (found_here test a k low here none)
-    by false here rest = rest (found_later test a k low here is)
-
-pub find_nothing : (test : ℕ → Bool) (a n : ℕ) → ((j : ℕ) → a ≤ j → j < a + n → test j ≡ false) → find test (range_with_len a n) ≡ None
-find_nothing test a zero none = refl
-find_nothing test a (suc n) none =
-    let here : test a ≡ false = none a (omega arith) (omega arith) in
-    rw here (find_nothing test (a + 1) n (λ j l h. none j (omega arith) (omega arith)))
-
-pub find_in_range : (test : ℕ → Bool) (a n k : ℕ) → find test (range_with_len a n) ≡ Some k → (a ≤ k) × (k < a + n)
-find_in_range test a zero k is = absurd (cc)
-find_in_range test a (suc n) k is = by (test a) (λ (later : find test (range_with_len (a + 1) n) ≡ Some k). find_in_range test (a + 1) n k later) is
-  where
-    by : (b : Bool) → (find test (range_with_len (a + 1) n) ≡ Some k → (a + 1 ≤ k) × (k < a + 1 + n)) → cond b (Some a) (find test (range_with_len (a + 1) n)) ≡ Some k
-        → (a ≤ k) × (k < a + suc n)
-    by true rest is = let same : a ≡ k = cc in (omega arith, omega arith)
-    by false rest is = let later = rest is in (omega (arith, later.0), omega (arith, later.1))
-
-unfoldable pub last_tried : (ℕ → Bool) → ℕ → Option ℕ
-last_tried test k = cond (test k) (Some k) None
-
-pub find_more : (test : ℕ → Bool) (a n : ℕ) → find test (range_with_len a (suc n)) ≡ option_or (find test (range_with_len a n)) (last_tried test (a + n))
-unfolding last_tried
-find_more test a zero = let same : a + 0 ≡ a = omega arith in rw same refl
-find_more test a (suc n) = by (test a) (find_more test (a + 1) n)
-  where
-    by : (b : Bool) → find test (range_with_len (a + 1) (suc n)) ≡ option_or (find test (range_with_len (a + 1) n)) (last_tried test (a + 1 + n))
-        → cond b (Some a) (find test (range_with_len (a + 1) (suc n))) ≡ option_or (cond b (Some a) (find test (range_with_len (a + 1) n))) (last_tried test (a + suc n))
-    by true rest = refl
-    by false rest = let same : a + 1 + n ≡ a + suc n = omega arith in rest ∙ ap (λ k. option_or (find test (range_with_len (a + 1) n)) (last_tried test k)) same
 
 -- word k is the one at place k - 1
 pub text_of : (words : List (Bor (List ℕ))) (k i : ℕ) (d : Bor (List ℕ)) → i < length words → k ≡ i + 1 → (get_or words i d).now ≡ word_at (texts words) k
@@ -76,12 +34,14 @@ pub past : (i long : ℕ) → false ≡ nat_lt i long → long ≤ i
 past i long h = grind (arith, nat_tests)
 
 -- what word 2 * k is compared with
-pub name_at : (words : List (Bor (List ℕ))) (setting : Setting) (k i : ℕ) (d : Bor (List ℕ)) (name : List ℕ) (b : Bool) → i < length words → 2 * k ≡ i + 1 → name ≡ option_name setting
+pub name_at : (words : List (Bor (List ℕ))) (setting : Setting) (k i : ℕ) (d : Bor (List ℕ)) (name : List ℕ) (b : Bool) → i < length words → 2 * k ≡ i + 1
+    → name ≡ option_name setting
     → bytes_eq (get_or words i d).now name ≡ b → names (texts words) setting k ≡ b
 name_at words setting k i d name b within is named h =
     ap (λ w. bytes_eq w (option_name setting)) (sym (text_of words (2 * k) i d within is)) ∙ ap (bytes_eq (get_or words i d).now) (sym named) ∙ h
 
-pub one_more_other : (words : List (List ℕ)) (setting : Setting) (n : ℕ) → ((j : ℕ) → 1 ≤ j → j ≤ n → names words setting j ≡ false) → names words setting (n + 1) ≡ false
+pub one_more_other : (words : List (List ℕ)) (setting : Setting) (n : ℕ) → ((j : ℕ) → 1 ≤ j → j ≤ n → names words setting j ≡ false)
+    → names words setting (n + 1) ≡ false
     → (j : ℕ) → 1 ≤ j → j ≤ n + 1 → names words setting j ≡ false
 one_more_other words setting n before here j low high =
     elim (cases_lt n j) [ inl more ↦ let same : j ≡ n + 1 = omega arith in ap (names words setting) same ∙ here | inr less ↦ before j low less ]
@@ -131,7 +91,8 @@ value_place command words i =
     let half : (2 * i + 1) / 2 ≡ i = omega arith in
     rw (odd, half) refl
 
-none_so_far : (command : Command) (words : List (List ℕ)) (n : ℕ) → AreRead command words n → (j : ℕ) → 2 ≤ j → j < 2 * n + 2 → is_at_fault command words j ≡ false
+none_so_far : (command : Command) (words : List (List ℕ)) (n : ℕ) → AreRead command words n → (j : ℕ) → 2 ≤ j → j < 2 * n + 2
+    → is_at_fault command words j ≡ false
 unfolding is_at_fault
 none_so_far command words n is j low high = by (j % 2 == 0)
   where
@@ -166,7 +127,8 @@ value_at_fault command words n k is more good bad at =
 
 -- ---- the next pair
 
-name_by : (command : Command) (words : List (List ℕ)) (n : ℕ) (named : Option Setting) → 2 * n + 1 < length words → option_named command (word_at words (2 * (n + 1))) ≡ named
+name_by : (command : Command) (words : List (List ℕ)) (n : ℕ) (named : Option Setting) → 2 * n + 1 < length words
+    → option_named command (word_at words (2 * (n + 1))) ≡ named
     → is_bad_name command words (n + 1) ≡ is_bad_option words (n + 1) named
 unfolding is_bad_name
 name_by command words n named more is =
@@ -176,7 +138,8 @@ name_by command words n named more is =
 option_by : (words : List (List ℕ)) (n : ℕ) (setting : Setting) → is_bad_option words (n + 1) (Some setting) ≡ is_some (naming words setting n)
 option_by words n setting = let one : n + 1 - 1 ≡ n = omega arith in ap (λ m. is_some (naming words setting m)) one
 
-pub unnamed : (command : Command) (words : List (List ℕ)) (n : ℕ) → 2 * n + 1 < length words → option_named command (word_at words (2 * (n + 1))) ≡ None → is_bad_name command words (n + 1) ≡ true
+pub unnamed : (command : Command) (words : List (List ℕ)) (n : ℕ) → 2 * n + 1 < length words → option_named command (word_at words (2 * (n + 1))) ≡ None
+    → is_bad_name command words (n + 1) ≡ true
 unnamed command words n more is = name_by command words n None more is
 
 pub named_by : (command : Command) (words : List (List ℕ)) (n : ℕ) (setting : Setting) (b : Bool) → 2 * n + 1 < length words
@@ -190,7 +153,8 @@ value_missing command words n short =
     rw there refl
 
 pub value_by : (command : Command) (words : List (List ℕ)) (n : ℕ) (setting : Setting) (b : Bool) → 2 * n + 3 ≤ length words
-    → option_named command (word_at words (2 * (n + 1))) ≡ Some setting → is_value setting (word_at words (2 * (n + 1) + 1)) ≡ not b → is_bad_value command words (n + 1) ≡ b
+    → option_named command (word_at words (2 * (n + 1))) ≡ Some setting → is_value setting (word_at words (2 * (n + 1) + 1)) ≡ not b
+    → is_bad_value command words (n + 1) ≡ b
 unfolding is_bad_value
 value_by command words n setting b long is reads =
     let there : nat_lt (length words) (2 * (n + 1) + 1) ≡ false = grind (arith, nat_tests) in
@@ -203,7 +167,8 @@ value_by command words n setting b long is reads =
 up_to_more : (P : ℕ → Bool) (n : ℕ) → ((i : ℕ) → 1 ≤ i → i ≤ n → P i ≡ false) → P (n + 1) ≡ false → (i : ℕ) → 1 ≤ i → i ≤ n + 1 → P i ≡ false
 up_to_more P n before here i low high = elim (cases_lt n i) [ inl more ↦ let same : i ≡ n + 1 = omega arith in ap P same ∙ here | inr less ↦ before i low less ]
 
-pub pair_read : (command : Command) (words : List (List ℕ)) (n : ℕ) → AreRead command words n → 2 * n + 3 ≤ length words → is_bad_name command words (n + 1) ≡ false
+pub pair_read : (command : Command) (words : List (List ℕ)) (n : ℕ) → AreRead command words n → 2 * n + 3 ≤ length words
+    → is_bad_name command words (n + 1) ≡ false
     → is_bad_value command words (n + 1) ≡ false → AreRead command words (n + 1)
 pair_read command words n is long name value = record {
   whole = omega arith;
@@ -235,7 +200,8 @@ nothing_read command words some = record {
   values = λ i low high. absurd (omega arith);
 }
 
-pub all_read : (command : Command) (words : List (Bor (List ℕ))) (n : ℕ) → AreRead command (texts words) n → length words ≤ 2 * n + 1 → AreAllRead command (texts words) n
+pub all_read : (command : Command) (words : List (Bor (List ℕ))) (n : ℕ) → AreRead command (texts words) n → length words ≤ 2 * n + 1
+    → AreAllRead command (texts words) n
 all_read command words n is all = record { read = is; all = omega (arith, all, length-map words (λ (w : Bor (List ℕ)). w.now)) }
 
 -- the pairs that are read stand in the words
@@ -244,7 +210,8 @@ pairs_there command words n is = omega (arith, is.read.whole, length-map words (
 
 fault_found : (command : Command) (words : List (List ℕ)) (k : ℕ) → IsFirstFault command words k → first_at_fault command words ≡ Some k
 unfolding first_at_fault
-fault_found command words k fault = find_first (is_at_fault command words) 2 (length words) k fault.behind (omega (arith, fault.within)) fault.is fault.none_before
+fault_found command words k fault =
+    find_first (is_at_fault command words) 2 (length words) k fault.behind (omega (arith, fault.within)) fault.is fault.none_before
 
 end_passed : (command : Command) (words : List (List ℕ)) (n : ℕ) → length words ≤ 2 * n + 1 → is_bad_name command words (n + 1) ≡ false
 unfolding is_bad_name
@@ -256,7 +223,8 @@ all_passed : (command : Command) (words : List (List ℕ)) (n : ℕ) → AreRead
     → (j : ℕ) → 2 ≤ j → j < 2 + length words → is_at_fault command words j ≡ false
 all_passed command words n is all j low high = elim (cases_lt j (2 * n + 2)) [
   | inl less ↦ none_so_far command words n is j low less
-  | inr more ↦ let there : j ≡ 2 * (n + 1) = omega arith in ap (is_at_fault command words) there ∙ name_place command words (n + 1) ∙ end_passed command words n all
+  | inr more ↦ let there : j ≡ 2 * (n + 1) =
+      omega arith in ap (is_at_fault command words) there ∙ name_place command words (n + 1) ∙ end_passed command words n all
 ]
 
 no_fault : (command : Command) (words : List (List ℕ)) (n : ℕ) → AreAllRead command words n → first_at_fault command words ≡ None
@@ -271,7 +239,8 @@ end_is command words n is = omega (arith, is.read.whole, is.all)
 
 -- ---- the order
 
-pub refused_at : (command : Command) (words : List (List ℕ)) (k : ℕ) → command_of words ≡ Some command → IsFirstFault command words k → order_of words ≡ at_fault k
+pub refused_at : (command : Command) (words : List (List ℕ)) (k : ℕ) → command_of words ≡ Some command → IsFirstFault command words k
+    → order_of words ≡ at_fault k
 unfolding order_of
 refused_at command words k is fault = let first = fault_found command words k fault in rw (is, first) refl
 
@@ -282,7 +251,8 @@ unfolding order_of
 ordered command words n job is_command is given =
     let none = no_fault command words n is in
     rw (is_command, none) (ap (λ m. order_unless None (length words + 1) (order_given command words m)) (half_is command words n is)
-    ∙ ap (λ k. order_unless None k (order_given command words n)) (end_is command words n is) ∙ ap (λ j. order_unless None (2 * n + 2) (option_map (order_for words n) j)) given)
+    ∙ ap (λ k. order_unless None k (order_given command words n)) (end_is command words n is)
+    ∙ ap (λ j. order_unless None (2 * n + 2) (option_map (order_for words n) j)) given)
 
 pub no_command : (words : List (List ℕ)) → command_of words ≡ None → order_of words ≡ at_fault 1
 unfolding order_of
@@ -295,8 +265,10 @@ unfolding measure_order_of
 measure_refused_at words k fault = let first = fault_found Measure words k fault in rw first refl
 
 -- all words are read: the order to measure by the job and the HDU of the values that are given
-pub measured : (words : List (List ℕ)) (n : ℕ) (job : Option Job) (values : Option ℕ) → AreAllRead Measure words n → job ≡ job_given Measure words n → values ≡ given hdu_in words n Values
-    → measure_order_of words ≡ order_unless None (2 * n + 2) (option_and_then (λ order. option_and_then (measure_apart order) values) (option_map (order_for words n) job))
+pub measured : (words : List (List ℕ)) (n : ℕ) (job : Option Job) (values : Option ℕ) → AreAllRead Measure words n → job ≡ job_given Measure words n
+    → values ≡ given u16_in words n Values
+    → measure_order_of words
+    ≡ order_unless None (2 * n + 2) (option_and_then (λ order. option_and_then (measure_apart order) values) (option_map (order_for words n) job))
 unfolding measure_order_of measure_given
 measured words n job values is p q =
     let none = no_fault Measure words n is in
@@ -307,7 +279,8 @@ measured words n job values is p q =
 pub one_hdu : (order order' : Order) (values : ℕ) → order ≡ order' → values ≡ order.hdu → measure_apart order' values ≡ None
 one_hdu order order' values same both = let test = eq-eqb values order'.hdu (both ∙ ap (λ (o : Order). o.hdu) same) in rw test refl
 
-pub two_hdus : (order order' : Order) (values : ℕ) → order ≡ order' → values ≢ order.hdu → measure_apart order' values ≡ Some (record { order = order; values = values })
+pub two_hdus : (order order' : Order) (values : ℕ) → order ≡ order' → values ≢ order.hdu
+    → measure_apart order' values ≡ Some (record { order = order; values = values })
 two_hdus order order' values same apart =
     let test : (values == order.hdu) ≡ false = grind (arith, nat_tests) in
     subst (λ (o : Order). measure_apart o values ≡ Some (record { order = order; values = values })) same (rw test refl)

@@ -1,6 +1,6 @@
 -- What is made of an image is what its order writes.
-use Rattle.std.proofs.Common.{◌≡◌, ◌∙◌, ap, sym, ℕ, Bool, List, Result, Ok, Err, IfOk}
-use Rattle.std.specs.Prelude.{ℤ, Some, None}
+use Rattle.std.proofs.Common.{◌≡◌, ◌∙◌, ap, sym, ℕ, Bool, Result, Ok, Err, IfOk}
+use Rattle.std.specs.Prelude.{Some, None}
 use Rattle.std.specs.declared.option.Option.{Option}
 use Rattle.comp_tree.specs.declared.shape.Shape.{Shape}
 use Rattle.comp_tree.specs.declared.shape.Connect.{Connect}
@@ -12,16 +12,19 @@ use Rattle.detect_top.specs.declared.words.Order.{Order}
 use Rattle.detect_top.specs.declared.product.Product.{Product}
 use Rattle.detect_top.specs.declared.words.Job.{Job}
 use Rattle.detect_top.specs.declared.words.Job.TheVariants.{Tree, Filter, Detect, Trial}
-use Rattle.detect_top.specs.Products.{output_of_job, output_of, bytes_of, image_made, SuitsJob}
+use Rattle.detect_top.specs.Products.{output_of_job, output_of, image_made}
+use Rattle.detect_top.specs.Writables.{bytes_of, SuitsJob}
 use Rattle.detect_top.specs.Trials.{trial_image}
 use Rattle.detect_top.proofs.Trials.{trial_residual_is_small}
 
-pub made_of_image : {E : Type 0} (order : Order) (image plane left : Raster) (tree : ComponentTree) (made : Result Product E) → plane ≡ residual_of image order.mesh order.flat
+pub made_of_image : {E : Type 0} (order : Order) (image plane left : Raster) (tree : ComponentTree) (made : Result Product E)
+    → plane ≡ residual_of image order.mesh order.flat
     → output_of_job order.job order.connect left ≡ output_of_job order.job order.connect plane → tree ≡ tree_of left order.connect
     → IfOk made (λ product. (connect : Connect) → tree ≡ tree_of left connect → bytes_of product ≡ output_of_job order.job connect left)
     → IfOk made (λ product. bytes_of product ≡ output_of order image)
 unfolding output_of
-made_of_image order image plane left tree (Ok product) residual same is bytes = bytes order.connect is ∙ same ∙ ap (output_of_job order.job order.connect) residual
+made_of_image order image plane left tree (Ok product) residual same is bytes =
+    bytes order.connect is ∙ same ∙ ap (output_of_job order.job order.connect) residual
 made_of_image order image plane left tree (Err e) residual same is bytes = tt
 
 no_image : (made : Raster) → (let o : Option Raster = None in o) ≡ Some made → ⊥
@@ -35,7 +38,8 @@ suits_read (Detect choice) plane is = tt
 suits_read (Trial seed shape) plane is = absurd (no_image (trial_image seed shape) (sym is))
 
 -- and a trial takes its image less the background
-pub suits_made : (job : Job) (seed : ℕ) (shape : Shape) (mesh : ℕ) (flat : Bool) → image_made job ≡ Some (trial_image seed shape) → SuitsJob job (residual_of (trial_image seed shape) mesh flat)
+pub suits_made : (job : Job) (seed : ℕ) (shape : Shape) (mesh : ℕ) (flat : Bool) → image_made job ≡ Some (trial_image seed shape)
+    → SuitsJob job (residual_of (trial_image seed shape) mesh flat)
 suits_made Tree seed shape mesh flat is = absurd (no_image (trial_image seed shape) is)
 suits_made (Filter rule criterion) seed shape mesh flat is = absurd (no_image (trial_image seed shape) is)
 suits_made (Detect choice) seed shape mesh flat is = absurd (no_image (trial_image seed shape) is)

@@ -20,7 +20,8 @@ use Rattle.node_sums.specs.Flux.{base_of, flux_of}
 use Rattle.source_pick.specs.Sources.{sources}
 use Rattle.source_pick.specs.Segmentation.{segmentation, segmentation_of}
 use Rattle.detect_top.specs.declared.trial.Summary.{Summary}
-use Rattle.detect_top.specs.Trials.{next_state, value_of_state, trial_image, trial_choice, is_root_row, is_mapped, total_area, total_flux, summary_of, HasSmallFluxes, flux_bound}
+use Rattle.detect_top.specs.Trials.{next_state, value_of_state, trial_image, trial_choice, is_root_row, is_mapped, total_area, total_flux, summary_of}
+use Rattle.detect_top.specs.TrialSizes.{HasSmallFluxes, flux_bound}
 use Rattle.detect_top.proofs.Trials.{state_at, state-next, trial_value}
 
 -- ---- the image
@@ -39,7 +40,8 @@ value-in_range state z h e =
 pub state_more : (seed p state next : ℕ) → state ≡ state_at seed p → next ≡ next_state state → next ≡ state_at seed (p + 1)
 state_more seed p state next is e = e ∙ ap next_state is ∙ sym (state-next seed p) ∙ ap (state_at seed) (let f : suc p ≡ p + 1 = omega arith in f)
 
-pub value_more : (seed p state next : ℕ) (shape : Shape) (z : ℤ) → state ≡ state_at seed p → next ≡ next_state state → p < shape.width * shape.height → z ≡ pos (next / 2 ^ 24)
+pub value_more : (seed p state next : ℕ) (shape : Shape) (z : ℤ) → state ≡ state_at seed p → next ≡ next_state state → p < shape.width * shape.height
+    → z ≡ pos (next / 2 ^ 24)
     → Some z ≡ value_at (trial_image seed shape).values p
 value_more seed p state next shape z is e lt f =
     ap Some f ∙ ap value_of_state (e ∙ ap next_state is ∙ sym (state-next seed p)) ∙ sym (trial_value seed shape p lt)
@@ -99,7 +101,8 @@ pub record IsTold (r : Raster) (connect : Connect) (tree : ComponentTree) (sums 
   pub sources_are : told.sources ≡ length picked
   pub mapped : told.mapped ≡ count_by is_mapped numbers
 
-pub summary_is : (r : Raster) (connect : Connect) (tree : ComponentTree) (sums : List Sums) (picked numbers : List ℕ) (told : Summary) → IsTold r connect tree sums picked numbers told
+pub summary_is : (r : Raster) (connect : Connect) (tree : ComponentTree) (sums : List Sums) (picked numbers : List ℕ) (told : Summary)
+    → IsTold r connect tree sums picked numbers told
     → told ≡ summary_of r connect
 unfolding summary_of total_area segmentation
 summary_is r connect tree sums picked numbers told h =

@@ -1,5 +1,6 @@
 -- The trial's image: its states, its values, and how large what is made of it is.
-use Rattle.std.proofs.Common.{◌≡◌, ℕ, ◌+◌, ◌*◌, ◌/◌, ◌%◌, ◌^◌, ◌<◌, ◌≤◌, ◌⊎◌, inl, inr, get_or, zero, suc, Bool, true, false, cond, List, [], ◌∷◌, length, map, refl, sym, ap, subst, ◌∙◌, arith}
+use Rattle.std.proofs.Common.{◌≡◌, ℕ, ◌+◌, ◌*◌, ◌/◌, ◌%◌, ◌^◌, ◌<◌, ◌≤◌, ◌⊎◌, inl, inr, get_or, zero, suc, Bool, true, false, cond, List, [], ◌∷◌, length, map}
+use Rattle.std.proofs.Common.{refl, sym, ap, subst, ◌∙◌, arith}
 use Rattle.std.specs.Prelude.{◌==◌, ℤ, pos, ◌-ℤ◌, ◌≤ℤ◌, filter, slice_get, Option, Some, None, unwrap_or, is_some, All}
 use Rattle.std.specs.Option.{option_map}
 use Rattle.std.specs.List.{flat_map, range_with_len}
@@ -8,15 +9,14 @@ use Rattle.std.proofs.lemmas.Int.{ints}
 use Rattle.std.proofs.lemmas.Nat.{mod_below}
 use Rattle.std.proofs.lemmas.List.{get_or_past, length-map}
 use Rattle.std.proofs.lemmas.List.Elements.{All-nil, All-append, All-map, All-weaker, All-contains, filter_passes}
-use Rattle.std.proofs.lemmas.List.Sums.{length-filter, count_by-le-length}
 use Rattle.std.proofs.lemmas.Option.{slice_get_within}
 use Rattle.comp_tree.specs.declared.shape.Shape.{Shape}
 use Rattle.comp_tree.specs.declared.shape.Connect.{Connect}
 use Rattle.comp_tree.specs.Raster.{Raster, IsPlane, pixels, value_at, is_defined, level}
 use Rattle.comp_tree.specs.ComponentTree.{ComponentTree}
-use Rattle.comp_tree.specs.Components.{nodes, is_in_node, tree_of}
+use Rattle.comp_tree.specs.Components.{nodes, tree_of}
 use Rattle.comp_tree.specs.Laws.{top_of}
-use Rattle.comp_tree.proofs.Exported.{length-rows, length-pixels, IsImage, get_from_map, get-pixels}
+use Rattle.comp_tree.proofs.Exported.{length-rows, IsImage, get_from_map, get-pixels}
 use Rattle.comp_tree.specs.Raster.{HasValuesInHalfRange}
 use Rattle.mesh_background.specs.Medians.{IsLowerMedian, lower_median}
 use Rattle.mesh_background.specs.Mesh.{cells_along, cell_count, mesh_cell_of, cell_pixels, defined_values, image_value, mesh_value, values_of_mesh}
@@ -28,8 +28,10 @@ use Rattle.comp_tree.specs.Nesting.{pixels_of}
 use Rattle.node_sums.specs.Sums.{AreOfPlane}
 use Rattle.node_sums.specs.Flux.{base_of, flux_of}
 use Rattle.node_sums.specs.Sizes.{IsUpTo}
-use Rattle.node_sums.proofs.Exported.{up_to-minus, total-up_to, BaseCase, at_root, at_child, base-case, flux-is}
-use Rattle.detect_top.specs.Trials.{next_state, states_behind, value_of_state, trial_image, IsSmall, HasSmallValues, HasSmallFluxes, flux_bound}
+use Rattle.node_sums.proofs.Exported.{few-pixels_of, up_to-minus, total-up_to, BaseCase, at_root, at_child, base-case, flux-is}
+use Rattle.detect_top.specs.Trials.{next_state, states_behind, value_of_state, trial_image}
+use Rattle.detect_top.specs.TrialSizes.{IsSmall, HasSmallValues}
+use Rattle.detect_top.specs.TrialSizes.{HasSmallFluxes, flux_bound}
 use Rattle.detect_top.proofs.EachArea.{length-sums}
 
 -- ---- its states
@@ -68,7 +70,8 @@ pub trial_shape : (seed : ℕ) (shape : Shape) → (trial_image seed shape).shap
 unfolding trial_image
 trial_shape seed shape = refl
 
-pub trial_value : (seed : ℕ) (shape : Shape) (k : ℕ) → k < shape.width * shape.height → value_at (trial_image seed shape).values k ≡ value_of_state (state_at seed (suc k))
+pub trial_value : (seed : ℕ) (shape : Shape) (k : ℕ) → k < shape.width * shape.height
+    → value_at (trial_image seed shape).values k ≡ value_of_state (state_at seed (suc k))
 unfolding trial_image
 trial_value seed shape k lt = value-of_state seed (shape.width * shape.height) k lt
 
@@ -89,7 +92,8 @@ EachIsByte values = (p : ℕ) (v : ℤ) → slice_get values p ≡ Some (Some v)
 bytes-of_states : (state n p : ℕ) (v : ℤ) → slice_get (map value_of_state (states_behind state n)) p ≡ Some (Some v) → IsByte v
 unfolding states_behind
 bytes-of_states state zero p v e = absurd (cc)
-bytes-of_states state (suc n) zero v e = let f : pos (next_state state / 2 ^ 24) ≡ v = cc in subst IsByte f (byte-of_state (next_state state) (next_below state))
+bytes-of_states state (suc n) zero v e =
+    let f : pos (next_state state / 2 ^ 24) ≡ v = cc in subst IsByte f (byte-of_state (next_state state) (next_below state))
 bytes-of_states state (suc n) (suc p) v e = bytes-of_states (next_state state) n p v e
 
 trial_bytes : (seed : ℕ) (shape : Shape) (p : ℕ) (v : ℤ) → slice_get (trial_image seed shape).values p ≡ Some (Some v) → IsByte v
@@ -164,7 +168,8 @@ byte-filtered : (values : List ℤ) (columns rows n : ℕ) → All IsByte values
 unfolding filtered_number numbers_around
 byte-filtered values columns rows n all = byte-median (numbers_around values columns rows (n % columns) (n / columns)) (pos 0)
     (byte-each (λ l. map (λ k. number_in_grid values columns k l) (places_around columns (n % columns))) (places_around rows (n / columns))
-    (λ l. All-map IsByte (λ k. number_in_grid values columns k l) (places_around columns (n % columns)) (λ k d lt. byte-number values columns _ l all))) byte-zero
+    (λ l. All-map IsByte (λ k. number_in_grid values columns k l) (places_around columns (n % columns))
+    (λ k d lt. byte-number values columns _ l all))) byte-zero
 
 byte-smooth : (r : Raster) (mesh : ℕ) → HasBytes r → All IsByte (filtered_values r mesh)
 unfolding filtered_values filtered_mesh
@@ -177,7 +182,9 @@ byte-smooth r mesh h =
 byte-between : (r : Raster) (mesh p : ℕ) → 0 < mesh → HasBytes r → IsByte (pixel_level mesh r.shape (filtered_values r mesh) p)
 unfolding pixel_level
 byte-between r mesh p some h =
-    let between = stay_between (filtered_values r mesh) (cells_along mesh r.shape.width) (cells_along mesh r.shape.height) mesh (p % r.shape.width) (p / r.shape.width) (pos 0) (pos 255)
+    let between =
+    stay_between (filtered_values r mesh) (cells_along mesh r.shape.width) (cells_along mesh r.shape.height) mesh (p % r.shape.width) (p / r.shape.width)
+    (pos 0) (pos 255)
     (columns-some mesh r.shape.width some r.shape.within_limits.some_columns) (columns-some mesh r.shape.height some r.shape.within_limits.some_rows)
     (length-smooth r mesh) some (λ k d lt. let b : IsByte (get_or (filtered_values r mesh) k d) = byte-smooth r mesh h k d lt in (b.low, b.high)) in
     record { low = between.0; high = between.1 }
@@ -186,13 +193,19 @@ byte-background : (r : Raster) (mesh : ℕ) (flat : Bool) (p : ℕ) → HasBytes
 unfolding background
 byte-background r mesh flat p h = go (cases_lt 0 mesh) flat
   where
-    go : (0 < mesh) ⊎ (mesh ≤ 0) → (f : Bool) → IsByte (cond (mesh == 0) (pos 0) (cond f (mesh_value r mesh (mesh_cell_of mesh r.shape.width p)) (pixel_level mesh r.shape (filtered_values r mesh) p)))
+    go : (0 < mesh) ⊎ (mesh ≤ 0) → (f : Bool)
+        → IsByte (cond (mesh == 0) (pos 0)
+        (cond f (mesh_value r mesh (mesh_cell_of mesh r.shape.width p)) (pixel_level mesh r.shape (filtered_values r mesh) p)))
     go (inr none) f = let e : mesh ≡ 0 = omega arith in
-        subst (λ (b : Bool). IsByte (cond b (pos 0) (cond f (mesh_value r mesh (mesh_cell_of mesh r.shape.width p)) (pixel_level mesh r.shape (filtered_values r mesh) p)))) (sym (eq-eqb mesh 0 e)) byte-zero
+        subst (λ (b : Bool). IsByte (cond b (pos 0)
+        (cond f (mesh_value r mesh (mesh_cell_of mesh r.shape.width p)) (pixel_level mesh r.shape (filtered_values r mesh) p)))) (sym (eq-eqb mesh 0
+        e)) byte-zero
     go (inl some) true =
-        subst (λ (b : Bool). IsByte (cond b (pos 0) (mesh_value r mesh (mesh_cell_of mesh r.shape.width p)))) (sym (ne_eqb mesh 0 (λ e. absurd (omega arith)))) (byte-mesh r mesh (mesh_cell_of mesh r.shape.width p) h)
+        subst (λ (b : Bool). IsByte (cond b (pos 0) (mesh_value r mesh (mesh_cell_of mesh r.shape.width p)))) (sym (ne_eqb mesh 0 (λ e. absurd (omega arith))))
+        (byte-mesh r mesh (mesh_cell_of mesh r.shape.width p) h)
     go (inl some) false =
-        subst (λ (b : Bool). IsByte (cond b (pos 0) (pixel_level mesh r.shape (filtered_values r mesh) p))) (sym (ne_eqb mesh 0 (λ e. absurd (omega arith)))) (byte-between r mesh p some h)
+        subst (λ (b : Bool). IsByte (cond b (pos 0) (pixel_level mesh r.shape (filtered_values r mesh) p))) (sym (ne_eqb mesh 0 (λ e. absurd (omega arith))))
+        (byte-between r mesh p some h)
 
 difference_small : (v b : ℤ) → IsByte v → IsByte b → IsSmall (v -ℤ b)
 difference_small v b h k = record { low = omega (arith, ints, h.low, k.high); high = omega (arith, ints, h.high, k.low) }
@@ -218,7 +231,8 @@ small-residual r mesh flat p v h e =
     small-at r mesh flat p v h (subst (λ q. residual_at r mesh flat q ≡ Some v) place image.gives)
 
 pub trial_residual_is_small : (seed : ℕ) (shape : Shape) (mesh : ℕ) (flat : Bool) → HasSmallValues (residual_of (trial_image seed shape) mesh flat).values
-trial_residual_is_small seed shape mesh flat = record { each = λ p v e. small-residual (trial_image seed shape) mesh flat p v (record { each = trial_bytes seed shape }) e }
+trial_residual_is_small seed shape mesh flat =
+    record { each = λ p v e. small-residual (trial_image seed shape) mesh flat p v (record { each = trial_bytes seed shape }) e }
 
 -- ---- the fluxes over a plane of small values
 
@@ -230,31 +244,31 @@ small-level r p h = go (value_at r.values p) refl
     go None e = record { low = omega (arith, ints); high = omega (arith, ints) }
     go (Some v) e = let k : IsSmall v = h.each p v (get_from_read r.values p v e) in record { low = k.low; high = k.high }
 
-small-base : (r : Raster) (connect : Connect) (n : ℕ) → IsPlane r → HasSmallValues r.values → n < length (nodes r connect) → IsUpTo 255 (base_of (tree_of r connect) n)
+small-base : (r : Raster) (connect : Connect) (n : ℕ) → IsPlane r → HasSmallValues r.values → n < length (nodes r connect)
+    → IsUpTo 255 (base_of (tree_of r connect) n)
 small-base r connect n plane small hn = go (base-case r connect n plane hn)
   where
     go : BaseCase r connect n → IsUpTo 255 (base_of (tree_of r connect) n)
     go (at_root e b) = subst (IsUpTo 255) (sym b) (small-level r (top_of r connect n) small)
     go (at_child a e ha b l) = subst (IsUpTo 255) (sym b) (small-level r (top_of r connect a) small)
 
-few-pixels_of : (r : Raster) (connect : Connect) (n : ℕ) → IsPlane r → length (pixels_of r connect n) ≤ 2 ^ 24
-unfolding pixels_of
-few-pixels_of r connect n plane =
-    omega (arith, length-filter (is_in_node r connect n) (pixels r), count_by-le-length (is_in_node r connect n) (pixels r), length-pixels r, plane, r.shape.within_limits.few_pixels)
-
 up_to-area : (area : ℕ) (z : ℤ) → area ≤ 2 ^ 24 → IsUpTo (510 * area) z → z ≤ℤ pos flux_bound
 up_to-area area z few h = omega (arith, ints, h.high)
 
-small-flux : (r : Raster) (connect : Connect) (n : ℕ) → IsPlane r → HasSmallValues r.values → n < length (nodes r connect) → flux_of r connect n ≤ℤ pos flux_bound
+small-flux : (r : Raster) (connect : Connect) (n : ℕ) → IsPlane r → HasSmallValues r.values → n < length (nodes r connect)
+    → flux_of r connect n ≤ℤ pos flux_bound
 unfolding flux_of
 small-flux r connect n plane small hn =
     up_to-area (length (pixels_of r connect n)) _ (few-pixels_of r connect n plane)
     (total-up_to (λ p. level r p -ℤ base_of (tree_of r connect) n) 510 (pixels_of r connect n)
     (λ p m. up_to-minus 255 255 (level r p) (base_of (tree_of r connect) n) (small-level r p small) (small-base r connect n plane small hn)))
 
-pub small_fluxes : (r : Raster) (tree : ComponentTree) (sums : List Sums) → IsPlane r → HasSmallValues r.values → AreOfPlane r tree sums → HasSmallFluxes tree sums
+pub small_fluxes : (r : Raster) (tree : ComponentTree) (sums : List Sums) → IsPlane r → HasSmallValues r.values → AreOfPlane r tree sums
+    → HasSmallFluxes tree sums
 small_fluxes r tree sums plane small of = record {
   each = λ n entry g.
-      let inside : n < length (nodes r of.connect) = omega (arith, slice_get_within sums n entry g, ap length of.sums_are, length-sums r of.connect, length-rows r of.connect) in
-      subst (λ (z : ℤ). z ≤ℤ pos flux_bound) (sym (flux-is r of.connect tree sums n entry of.tree_is of.sums_are g)) (small-flux r of.connect n plane small inside);
+      let inside : n < length (nodes r of.connect) =
+      omega (arith, slice_get_within sums n entry g, ap length of.sums_are, length-sums r of.connect, length-rows r of.connect) in
+      subst (λ (z : ℤ). z ≤ℤ pos flux_bound) (sym (flux-is r of.connect tree sums n entry of.tree_is of.sums_are g))
+      (small-flux r of.connect n plane small inside);
 }

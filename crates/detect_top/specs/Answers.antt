@@ -4,27 +4,29 @@ use Rattle.std.specs.List.{concat}
 use Rattle.std.specs.Fmt.{signed_decimal}
 use Rattle.command_line.specs.Notes.{usage_line}
 use Rattle.comp_tree.specs.Raster.{Raster}
-use Rattle.pixel_plane.specs.Verdicts.{Verdict, image, unfound, unreadable, truncated, out_of_range, verdict}
+use Rattle.pixel_plane.specs.declared.fault.PlaneFault.TheVariants.{TruncatedData, PixelRange}
+use Rattle.pixel_plane.specs.Verdicts.{Verdict, image, unfound, unreadable, truncated, out_of_range, verdict_on}
 use Rattle.detect_top.specs.declared.words.Order.{Order}
 use Rattle.detect_top.specs.declared.words.Usage.{Usage as AtFault}
 use Rattle.detect_top.specs.declared.fault.Fault.{Fault}
 use Rattle.detect_top.specs.declared.top.End.{End}
 use Rattle.detect_top.specs.declared.top.End.TheVariants.{Done, Usage, Refused, ReadFault, WriteFault, NoMemory}
 use Rattle.detect_top.specs.Words.{order_of}
-use Rattle.detect_top.specs.declared.fault.Fault.TheVariants.{TruncatedData, PixelRange}
+use Rattle.detect_top.specs.declared.fault.Fault.TheVariants.{Hdu, Image, Plane}
 use Rattle.detect_top.specs.declared.fault.Place.{Place}
 use Rattle.detect_top.specs.declared.fault.Place.TheVariants.{Card, Pixel}
 use Rattle.detect_top.specs.declared.image.Stop.{Stop}
 use Rattle.detect_top.specs.declared.image.Stop.TheVariants as at_image
-use Rattle.detect_top.specs.Faults.{fault_number, fault_name, place_of, stop_at_hdu, fault_of_image}
+use Rattle.detect_top.specs.Faults.{fault_number, fault_name, place_of}
 use Rattle.detect_top.specs.Products.{output_of, image_made}
 
 -- the number and the name of a fault, and the card or the pixel at fault
 abbrev pub line_at_place : List ℕ → List ℕ → Place → List ℕ
-line_at_place number name (Card hdu card) =
-    concat (codes "refused: " ∷ number ∷ codes " " ∷ name ∷ codes " hdu " ∷ decimal hdu ∷ codes " card " ∷ decimal card ∷ codes "\n" ∷ [])
-line_at_place number name (Pixel pixel stored) =
-    concat (codes "refused: " ∷ number ∷ codes " " ∷ name ∷ codes " pixel " ∷ decimal pixel ∷ codes " stored " ∷ signed_decimal stored ∷ codes "\n" ∷ [])
+line_at_place number name (Card place) =
+    concat (codes "refused: " ∷ number ∷ codes " " ∷ name ∷ codes " hdu " ∷ decimal place.hdu ∷ codes " card " ∷ decimal place.card ∷ codes "\n" ∷ [])
+line_at_place number name (Pixel place) =
+    concat (codes "refused: " ∷ number ∷ codes " " ∷ name ∷ codes " pixel " ∷ decimal place.pixel ∷ codes " stored " ∷ signed_decimal place.stored ∷ codes
+    "\n" ∷ [])
 
 abbrev pub refusal_by : List ℕ → List ℕ → Option Place → List ℕ
 refusal_by number name None = concat (codes "refused: " ∷ number ∷ codes " " ∷ name ∷ codes "\n" ∷ [])
@@ -63,21 +65,21 @@ end_at at_image.ReadFault = ReadFault
 end_at at_image.NoMemory = NoMemory
 
 -- to the verdict on the input's bytes; that the input isn't FITS or has no such HDU is among the faults of a search for an HDU
-abbrev pub answer_to : Order → Verdict → Answer
-answer_to order (image plane head end) = record { end = Done; output = output_of order plane; taken = end }
-answer_to order (unfound fault taken) = record { end = end_at (stop_at_hdu fault); output = []; taken = taken }
-answer_to order (unreadable fault head) = record { end = Refused (fault_of_image fault); output = []; taken = head }
-answer_to order (truncated head taken) = record { end = Refused TruncatedData; output = []; taken = taken }
-answer_to order (out_of_range head end pixel stored) = record { end = Refused (PixelRange pixel stored); output = []; taken = end }
+abbrev pub answer_to_verdict : Order → Verdict → Answer
+answer_to_verdict order (image plane head end) = record { end = Done; output = output_of order plane; taken = end }
+answer_to_verdict order (unfound fault taken) = record { end = Refused (Hdu fault); output = []; taken = taken }
+answer_to_verdict order (unreadable fault head) = record { end = Refused (Image fault); output = []; taken = head }
+answer_to_verdict order (truncated head taken) = record { end = Refused (Plane TruncatedData); output = []; taken = taken }
+answer_to_verdict order (out_of_range head end pixel stored) = record { end = Refused (Plane (PixelRange pixel stored)); output = []; taken = end }
 
 -- an image that the job makes itself needs no bytes
-abbrev pub answer_over : Order → List ℕ → Option Raster → Answer
-answer_over order bytes (Some made) = record { end = Done; output = output_of order made; taken = 0 }
-answer_over order bytes None = answer_to order (verdict bytes order.hdu)
+abbrev pub answer_to_order : Order → List ℕ → Option Raster → Answer
+answer_to_order order bytes (Some made) = record { end = Done; output = output_of order made; taken = 0 }
+answer_to_order order bytes None = answer_to_verdict order (verdict_on bytes order.hdu)
 
-abbrev pub answer_by : Result Order AtFault → List ℕ → Answer
-answer_by (Err usage) bytes = record { end = Usage usage; output = []; taken = 0 }
-answer_by (Ok order) bytes = answer_over order bytes (image_made order.job)
+abbrev pub answer_to_read_words : Result Order AtFault → List ℕ → Answer
+answer_to_read_words (Err usage) bytes = record { end = Usage usage; output = []; taken = 0 }
+answer_to_read_words (Ok order) bytes = answer_to_order order bytes (image_made order.job)
 
-abbrev pub answer : List (List ℕ) → List ℕ → Answer
-answer words bytes = answer_by (order_of words) bytes
+abbrev pub answer_to_words : List (List ℕ) → List ℕ → Answer
+answer_to_words words bytes = answer_to_read_words (order_of words) bytes

@@ -11,3 +11,6 @@ pub mod Answers
 pub mod Runs
 pub mod Headline
 pub mod Laws
+pub mod Writables
+pub mod RunEnds
+pub mod TrialSizes

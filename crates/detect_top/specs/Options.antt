@@ -88,28 +88,28 @@ abbrev pub picks_sources : Command → Bool
 picks_sources command = is_detect command || is_measure command
 
 -- the command has this option
-abbrev pub takes : Command → Setting → Bool
-takes command Hdu = not (is_trial command)
-takes command Connectivity = true
-takes command Strips = true
-takes command Workers = true
-takes command Mesh = true
-takes command Flat = true
-takes command FilterRule = is_filter command
-takes command MinArea = is_filter command || picks_sources command
-takes command MaxArea = is_filter command
-takes command MinFlux = is_filter command || picks_sources command
-takes command MinFill = is_filter command
-takes command Threshold = picks_sources command
-takes command Contrast = picks_sources command
-takes command Seed = is_trial command
-takes command Width = is_trial command
-takes command Height = is_trial command
-takes command Values = is_measure command
+abbrev pub command_takes : Command → Setting → Bool
+command_takes command Hdu = not (is_trial command)
+command_takes command Connectivity = true
+command_takes command Strips = true
+command_takes command Workers = true
+command_takes command Mesh = true
+command_takes command Flat = true
+command_takes command FilterRule = is_filter command
+command_takes command MinArea = is_filter command || picks_sources command
+command_takes command MaxArea = is_filter command
+command_takes command MinFlux = is_filter command || picks_sources command
+command_takes command MinFill = is_filter command
+command_takes command Threshold = picks_sources command
+command_takes command Contrast = picks_sources command
+command_takes command Seed = is_trial command
+command_takes command Width = is_trial command
+command_takes command Height = is_trial command
+command_takes command Values = is_measure command
 
 abbrev pub if_taken : Command → Option Setting → Option Setting
 if_taken command None = None
-if_taken command (Some setting) = if takes command setting then Some setting else None
+if_taken command (Some setting) = if command_takes command setting then Some setting else None
 
 -- the option of the command with this name
 unfoldable pub option_named : Command → List ℕ → Option Setting
@@ -121,9 +121,9 @@ option_named command text = if_taken command (setting_named text)
 abbrev pub count_between : ℤ → ℤ → List ℕ → Option ℕ
 count_between least most text = option_map unsigned_abs (number_between least most text)
 
--- the number of an HDU
-unfoldable pub hdu_in : List ℕ → Option ℕ
-hdu_in text = count_between (pos 0) (pos 65535) text
+-- the number of an HDU, or the side of a mesh cell in pixels, where 0 is no background
+unfoldable pub u16_in : List ℕ → Option ℕ
+u16_in text = count_between (pos 0) (pos 65535) text
 
 abbrev pub connect_of : Option ℤ → Option Connect
 connect_of None = None
@@ -133,17 +133,13 @@ connect_of (Some n) = if int_eq n (pos 4) then Some connectivity.Four else (if i
 unfoldable pub connect_in : List ℕ → Option Connect
 connect_in text = connect_of (number_between (pos 4) (pos 8) text)
 
--- how many strips
-unfoldable pub strips_in : List ℕ → Option ℕ
-strips_in text = count_between (pos 1) (pos 65535) text
+-- how many strips, or the side of an image in pixels
+unfoldable pub positive_u16_in : List ℕ → Option ℕ
+positive_u16_in text = count_between (pos 1) (pos 65535) text
 
 -- how many workers
 unfoldable pub workers_in : List ℕ → Option ℕ
 workers_in text = count_between (pos 1) (pos 64) text
-
--- the side of a mesh cell in pixels, or 0 for no background
-unfoldable pub mesh_in : List ℕ → Option ℕ
-mesh_in text = count_between (pos 0) (pos 65535) text
 
 abbrev pub flat_of : Option ℤ → Option Bool
 flat_of None = None
@@ -181,17 +177,13 @@ threshold_in text = number_between (neg_ℤ (pos (2 ^ 37))) (pos (2 ^ 37)) text
 unfoldable pub seed_in : List ℕ → Option ℕ
 seed_in text = count_between (pos 0) (pos 4294967295) text
 
--- a side of an image in pixels
-unfoldable pub side_in : List ℕ → Option ℕ
-side_in text = count_between (pos 1) (pos 65535) text
-
 -- the word is a value of this option
 abbrev pub is_value : Setting → List ℕ → Bool
-is_value Hdu text = is_some (hdu_in text)
+is_value Hdu text = is_some (u16_in text)
 is_value Connectivity text = is_some (connect_in text)
-is_value Strips text = is_some (strips_in text)
+is_value Strips text = is_some (positive_u16_in text)
 is_value Workers text = is_some (workers_in text)
-is_value Mesh text = is_some (mesh_in text)
+is_value Mesh text = is_some (u16_in text)
 is_value Flat text = is_some (flat_in text)
 is_value FilterRule text = is_some (rule_in text)
 is_value MinArea text = is_some (area_in text)
@@ -201,6 +193,6 @@ is_value MinFill text = is_some (thousandths_in text)
 is_value Threshold text = is_some (threshold_in text)
 is_value Contrast text = is_some (thousandths_in text)
 is_value Seed text = is_some (seed_in text)
-is_value Width text = is_some (side_in text)
-is_value Height text = is_some (side_in text)
-is_value Values text = is_some (hdu_in text)
+is_value Width text = is_some (positive_u16_in text)
+is_value Height text = is_some (positive_u16_in text)
+is_value Values text = is_some (u16_in text)

@@ -4,10 +4,10 @@ use Rattle.std.specs.declared.option.Option.{Option}
 use Rattle.dev_io.specs.Streams.{Takes, TakesAtMost}
 use Rattle.comp_tree.specs.Raster.{Raster, IsPlane}
 use Rattle.pixel_plane.specs.Verdicts.{Verdict, image, unfound, unreadable, truncated, out_of_range, taken_for}
-use Rattle.detect_top.specs.declared.fault.Fault.TheVariants.{TruncatedData, PixelRange}
+use Rattle.pixel_plane.specs.declared.fault.PlaneFault.TheVariants.{TruncatedData, PixelRange}
+use Rattle.detect_top.specs.declared.fault.Fault.TheVariants.{Hdu, Image, Plane}
 use Rattle.detect_top.specs.declared.image.Stop.{Stop}
 use Rattle.detect_top.specs.declared.image.Stop.TheVariants.{Refused, ReadFault, NoMemory}
-use Rattle.detect_top.specs.Faults.{stop_at_hdu, fault_of_image}
 
 -- the verdict is this image, and its bytes were taken
 pub record ImageRead (found : Verdict) (bytes : List ℕ) (left : Option (List ℕ)) (plane : Raster) : Type 0 where
@@ -28,10 +28,10 @@ MemoryWanted (out_of_range head end pixel stored) bytes left = Takes bytes left 
 -- the stop by which the verdict shows, where it isn't an image
 abbrev pub stop_of : Verdict → Option Stop
 stop_of (image plane head end) = None
-stop_of (unfound fault taken) = Some (stop_at_hdu fault)
-stop_of (unreadable fault head) = Some (Refused (fault_of_image fault))
-stop_of (truncated head taken) = Some (Refused TruncatedData)
-stop_of (out_of_range head end pixel stored) = Some (Refused (PixelRange pixel stored))
+stop_of (unfound fault taken) = Some (Refused (Hdu fault))
+stop_of (unreadable fault head) = Some (Refused (Image fault))
+stop_of (truncated head taken) = Some (Refused (Plane TruncatedData))
+stop_of (out_of_range head end pixel stored) = Some (Refused (Plane (PixelRange pixel stored)))
 
 -- what a stop says of the bytes: a refusal is the verdict's, and its bytes were taken
 abbrev pub ImageStopped : Verdict → List ℕ → Option (List ℕ) → Stop → Type 0

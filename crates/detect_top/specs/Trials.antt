@@ -1,16 +1,15 @@
 -- Model: the trial: an image that is made from a number, and the line that tells of its tree and its sources.
-use Rattle.std.specs.Prelude.{◌≡◌, ℕ, zero, suc, ◌+◌, ◌*◌, ◌/◌, ◌%◌, ◌^◌, ◌==◌, Bool, not, List, [], ◌∷◌, length}
-use Rattle.std.specs.Prelude.{map, sum_by, count_by, codes, decimal, ℤ, pos, neg_ℤ, ◌-ℤ◌, ◌*ℤ◌, ◌≤ℤ◌, unsigned_abs, Option, Some, slice_get}
+use Rattle.std.specs.Prelude.{ℕ, zero, suc, ◌+◌, ◌*◌, ◌/◌, ◌%◌, ◌^◌, ◌==◌, Bool, not, List, [], ◌∷◌, length}
+use Rattle.std.specs.Prelude.{map, sum_by, count_by, codes, decimal, ℤ, pos, unsigned_abs, Option, Some}
 use Rattle.std.specs.List.{concat, range_with_len}
 use Rattle.comp_tree.specs.declared.shape.Shape.{Shape}
 use Rattle.comp_tree.specs.declared.shape.Connect.{Connect}
 use Rattle.comp_tree.specs.declared.tree.NodeRow.{NodeRow}
-use Rattle.comp_tree.specs.ComponentTree.{ComponentTree, no_node}
+use Rattle.comp_tree.specs.ComponentTree.{no_node}
 use Rattle.comp_tree.specs.Raster.{Raster}
 use Rattle.comp_tree.specs.Components.{tree_of}
-use Rattle.node_sums.specs.declared.entry.Sums.{Sums}
 use Rattle.node_sums.specs.Sums.{sums_in}
-use Rattle.node_sums.specs.Flux.{base_of, flux_of}
+use Rattle.node_sums.specs.Flux.{flux_of}
 use Rattle.source_pick.specs.declared.choice.Choice.{Choice}
 use Rattle.source_pick.specs.Sources.{sources}
 use Rattle.source_pick.specs.Segmentation.{segmentation}
@@ -73,19 +72,3 @@ trial_line s =
     ∷ codes " fluxes " ∷ decimal s.fluxes ∷ codes " sources " ∷ decimal s.sources ∷ codes " mapped " ∷ decimal s.mapped ∷ codes "\n" ∷ [])
 
 -- ---- how large its numbers are
-
--- what a value of the image less its background can be
-pub record IsSmall (value : ℤ) : Type 0 where
-  pub low : neg_ℤ (pos 255) ≤ℤ value
-  pub high : value ≤ℤ pos 255
-
--- each value of a plane is so
-pub record HasSmallValues (values : List (Option ℤ)) : Type 0 where
-  pub each : (p : ℕ) (v : ℤ) → slice_get values p ≡ Some (Some v) → IsSmall v
-
--- then no flux is above 255 + 255 for each pixel
-abbrev pub flux_bound : ℕ
-flux_bound = 510 * 2 ^ 24
-
-pub record HasSmallFluxes (tree : ComponentTree) (sums : List Sums) : Type 0 where
-  pub each : (n : ℕ) (entry : Sums) → slice_get sums n ≡ Some entry → (entry.r -ℤ base_of tree n *ℤ pos entry.area) ≤ℤ pos flux_bound

@@ -21,8 +21,8 @@ use Rattle.detect_top.specs.declared.words.MeasureOrder.{MeasureOrder}
 use Rattle.detect_top.specs.declared.words.Job.{Job}
 use Rattle.detect_top.specs.declared.words.Job.TheVariants as job
 use Rattle.detect_top.specs.declared.words.Usage.{Usage}
-use Rattle.detect_top.specs.Options.{command_named, option_name, option_named, is_value, hdu_in, connect_in, strips_in, workers_in, mesh_in}
-use Rattle.detect_top.specs.Options.{flat_in, rule_in, area_in, flux_in, thousandths_in, threshold_in, seed_in, side_in}
+use Rattle.detect_top.specs.Options.{command_named, option_name, option_named, is_value, u16_in, connect_in, positive_u16_in, workers_in}
+use Rattle.detect_top.specs.Options.{flat_in, rule_in, area_in, flux_in, thousandths_in, threshold_in, seed_in, positive_u16_in}
 
 -- ---- the places
 
@@ -92,7 +92,7 @@ choice_given words n threshold = record {
 
 -- the shape of a trial's image, if both sides are given and there aren't too many pixels
 unfoldable pub shape_given : List (List ℕ) → ℕ → Option Shape
-shape_given words n = option_and_then (λ width. option_and_then (shape_of width) (given side_in words n Height)) (given side_in words n Width)
+shape_given words n = option_and_then (λ width. option_and_then (shape_of width) (given positive_u16_in words n Height)) (given positive_u16_in words n Width)
 
 -- sources are to be picked, if a threshold is given
 abbrev pub detection_given : List (List ℕ) → ℕ → Option Job
@@ -109,11 +109,11 @@ job_given command.Measure words n = detection_given words n
 unfoldable pub order_for : List (List ℕ) → ℕ → Job → Order
 order_for words n job = record {
   job = job;
-  hdu = unwrap_or (given hdu_in words n Hdu) 0;
+  hdu = unwrap_or (given u16_in words n Hdu) 0;
   connect = unwrap_or (given connect_in words n Connect) Four;
-  strips = unwrap_or (given strips_in words n Strips) 1;
+  strips = unwrap_or (given positive_u16_in words n Strips) 1;
   workers = unwrap_or (given workers_in words n Workers) 1;
-  mesh = unwrap_or (given mesh_in words n Mesh) 0;
+  mesh = unwrap_or (given u16_in words n Mesh) 0;
   flat = unwrap_or (given flat_in words n Flat) false;
 }
 
@@ -172,7 +172,7 @@ measure_apart order values = if values == order.hdu then None else Some (record 
 -- the order to measure that n pairs of a name and a value give, none of which is at fault
 unfoldable pub measure_given : List (List ℕ) → ℕ → Option MeasureOrder
 measure_given words n =
-    option_and_then (λ order. option_and_then (measure_apart order) (given hdu_in words n Values)) (order_given command.Measure words n)
+    option_and_then (λ order. option_and_then (measure_apart order) (given u16_in words n Values)) (order_given command.Measure words n)
 
 -- the order of words that ask for measuring, or the first word at fault; where something is missing at the end, or one HDU is to be both,
 -- that is the one behind the last

@@ -10,11 +10,14 @@ ghost use Rattle.node_sums.specs.Sums.{sums_in, IsTreeOfPlane, AreTheTrees};
 ghost use Rattle.fits_write.specs.Columns.{IsTable};
 ghost use Rattle.source_pick.specs.Segmentation.{AreDisjointNodes};
 ghost use Rattle.source_pick.specs.Catalogue.{catalogue_of, cells_of};
-ghost use Rattle.detect_top.specs.Catalogues.{column as column_of, columns as columns_of_catalogue, hdus, detection, IsDetection};
+ghost use Rattle.catalogue_form.specs.Columns.{catalogue_columns};
+ghost use Rattle.detect_top.specs.Catalogues.{hdus, detected_hdus};
+ghost use Rattle.detect_top.specs.Writables.{IsDetection};
 
+use catalogue_form::{CELLS_IN_ROW, catalogue_columns};
 use comp_tree::{Plane, Shape, Tree};
 use dev_io::{OutOfMemory, Sink};
-use fits_write::{Cell, Column, WriteFault, put_empty_primary, put_map, put_table};
+use fits_write::{WriteFault, put_empty_primary, put_map, put_table};
 use node_sums::{Sums, sums};
 use source_pick::{CatRow, Choice, cells, pick, row, segment_in_parts};
 use std::alloc::Global;
@@ -26,39 +29,6 @@ pub(crate) struct Detection {
     pub(crate) shape: Shape,
     pub(crate) map: Vec<u32>,
     pub(crate) cells: Vec<i64>,
-}
-
-/// A column of a catalogue, by its name, which is filled with spaces, and the kind of its cells.
-pub fn column(name: &[u8; 8], cell: Cell) -> Column
-    ensures { result ≡ column_of name.now cell }
-{
-    Column { name: *name, cell }
-}
-
-/// The columns of the catalogue, in their order.
-#[tactic(auto, unfolding(crate::specs::Catalogues::columns))]
-pub fn columns() -> [Column; 17]
-    ensures { result ≡ columns_of_catalogue }
-{
-    [
-        column(b"NUMBER  ", Cell::J),
-        column(b"LEVEL   ", Cell::K),
-        column(b"BASE    ", Cell::K),
-        column(b"AREA    ", Cell::J),
-        column(b"FLUX    ", Cell::K),
-        column(b"PEAK    ", Cell::K),
-        column(b"XMIN    ", Cell::J),
-        column(b"XMAX    ", Cell::J),
-        column(b"YMIN    ", Cell::J),
-        column(b"YMAX    ", Cell::J),
-        column(b"XFIRST  ", Cell::J),
-        column(b"YFIRST  ", Cell::J),
-        column(b"XCEN    ", Cell::J),
-        column(b"YCEN    ", Cell::J),
-        column(b"XVAR    ", Cell::K),
-        column(b"YVAR    ", Cell::K),
-        column(b"XYCOV   ", Cell::K),
-    ]
 }
 
 // Puts the cells of a row behind those before it.
@@ -80,11 +50,12 @@ fn table_cells(
 ) -> Result<Vec<i64>, OutOfMemory>
     requires sums { AreTheTrees tree.now sums.now }
     requires disjoint { AreDisjointNodes tree.now picked.now }
-    ensures exact { IfOk result (λ table. (plane : Raster) (connect : Connect) → tree.now ≡ tree_of plane connect → sums.now ≡ sums_in plane connect
+    ensures exact { IfOk result (λ table. (plane : Raster) (connect : Connect) → tree.now ≡
+        tree_of plane connect → sums.now ≡ sums_in plane connect
         → table.items ≡ flat_map cells_of (catalogue_of plane connect picked.now)) }
-    ensures table { IfOk result (λ table. IsTable columns_of_catalogue table.items) }
+    ensures table { IfOk result (λ table. IsTable catalogue_columns table.items) }
 {
-    let mut table = match Vec::with_capacity(alloc, 17 * picked.len()) {
+    let mut table = match Vec::with_capacity(alloc, CELLS_IN_ROW * picked.len()) {
         Ok(table) => table,
         Err(_) => return Err(OutOfMemory),
     };
@@ -108,9 +79,11 @@ pub(crate) fn detect<R: Threads + Sync>(
 ) -> Result<Detection, OutOfMemory>
     requires of_plane { IsTreeOfPlane plane.now tree.now }
     requires contrast { choice.now.contrast ≤ 1000 }
-    ensures writable { IfOk result (λ found. IsDetection found.shape found.map.items found.cells.items) }
+    ensures writable { IfOk result
+        (λ found. IsDetection found.shape found.map.items found.cells.items) }
     ensures bytes { IfOk result (λ found. (connect : Connect) → tree.now ≡ tree_of plane.now connect
-        → hdus found.shape found.map.items found.cells.items ≡ detection plane.now connect choice.now) }
+        → hdus found.shape found.map.items found.cells.items ≡
+        detected_hdus plane.now connect choice.now) }
 {
     let sums = sums(alloc, plane, tree)?;
     let picked = pick(alloc, tree, &sums, choice)?;
@@ -126,7 +99,8 @@ pub(crate) fn detect<R: Threads + Sync>(
 /// Writes the primary HDU, the map and the catalogue.
 pub(crate) fn put_detection<O: Sink>(output: &mut O, found: &Detection) -> Result<(), WriteFault>
     requires { IsDetection found.now.shape found.now.map.items found.now.cells.items }
-    ensures bytes { PutAppends (O.written output.old) (O.written output.new) result (hdus found.now.shape found.now.map.items found.now.cells.items) }
+    ensures bytes { PutAppends (O.written output.old) (O.written output.new) result
+        (hdus found.now.shape found.now.map.items found.now.cells.items) }
     ensures cause { HasCause (O.faults output.old) (O.faults output.new) result }
 {
     if let Err(fault) = put_empty_primary(output) {
@@ -135,5 +109,5 @@ pub(crate) fn put_detection<O: Sink>(output: &mut O, found: &Detection) -> Resul
     if let Err(fault) = put_map(output, found.shape, &found.map) {
         return Err(fault);
     }
-    put_table(output, &columns(), &found.cells)
+    put_table(output, &catalogue_columns(), &found.cells)
 }

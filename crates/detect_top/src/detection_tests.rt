@@ -1,4 +1,4 @@
-// The command `detect`: its words, its map and its catalogue.
+//! The command `detect`: its words, its map and its catalogue.
 use crate::in_memory::{Row, append_cards, append_hdu, compare};
 use crate::{Job, Order, Usage, read_words};
 use comp_tree::Connect;

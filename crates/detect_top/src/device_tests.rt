@@ -1,4 +1,4 @@
-// Each call of each device failing in turn.
+//! Each call of each device failing in turn.
 use crate::in_memory::{Failing, NONE_FAILS, Outcome, ROOM, file, run_in_memory};
 use std::alloc::Global;
 use std::process::Abort;

@@ -1,4 +1,4 @@
-// Headers that are made to mislead, each with its answer and the number of bytes that a run takes.
+//! Headers that are made to mislead, each with its answer and the number of bytes that a run takes.
 use crate::in_memory::{NONE_FAILS, append, file, run_in_memory};
 use std::alloc::Global;
 use std::process::Abort;

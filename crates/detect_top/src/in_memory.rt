@@ -1,16 +1,14 @@
 //! Runs in memory, and the files that they read. For tests alone.
 
 use crate::run;
-use dev_io::{MemSink, MemSource};
+use dev_io::{BLOCK, MemSink, MemSource};
 use std::alloc::Global;
 use std::process::Abort;
 use std::test::Fail;
 use std::thread::Threads;
 use strip_crew::OpenGate;
 
-// The bytes of a block, and the bytes that a take moves at most.
-const BLOCK: usize = 2880;
-
+// The bytes that a take moves at most.
 const PIECE: usize = 1000;
 
 /// Room for what is written of a few pixels.

@@ -15,12 +15,11 @@ mod trial;
 mod words;
 
 pub use component::{component_tree, residual_plane};
-pub use detection::{column, columns};
 pub use fault::Fault;
 pub use fits_write::WriteFault;
 pub use image::{Stop, read_found};
 pub use lines::put_tree;
-pub use notes::put_refusal;
+pub use notes::tell;
 pub use top::{End, run};
 pub use trial::{Summary, put_trial};
 pub use words::{Job, MeasureOrder, Order, Usage, is_measure, read_measure, read_words};

@@ -1,4 +1,4 @@
-// The lines of a tree.
+//! The lines of a tree.
 ghost use Rattle.std.specs.Prelude.{◌≡◌, ◌≤◌, ◌++◌, length, OnOk, OnErr};
 ghost use Rattle.dev_io.specs.Causes.{HasCause};
 ghost use Rattle.dev_io.specs.Streams.{PutAppends, AppendsPrefix};
@@ -31,8 +31,10 @@ fn add_node<O: Sink>(
     row: NodeRow,
     area: u32,
 ) -> Result<(), Failed>
-    ensures ok { OnOk result (Moves (O.written sink.old) (O.written sink.new) (block.old ++ node_line number row area) block.new) }
-    ensures err { OnErr result (AppendsPrefix (O.written sink.old) (O.written sink.new) (block.old ++ node_line number row area)) }
+    ensures ok { OnOk result (Moves (O.written sink.old) (O.written sink.new)
+        (block.old ++ node_line number row area) block.new) }
+    ensures err { OnErr result (AppendsPrefix (O.written sink.old) (O.written sink.new)
+        (block.old ++ node_line number row area)) }
     ensures cause { HasCause (O.faults sink.old) (O.faults sink.new) result }
 {
     let mut number_buffer = Buffer::new();
@@ -57,7 +59,8 @@ fn add_node<O: Sink>(
 
 fn put_nodes<O: Sink>(sink: &mut O, rows: &[NodeRow], areas: &[u32]) -> Result<(), Failed>
     requires { length areas.now ≡ length rows.now }
-    ensures bytes { PutAppends (O.written sink.old) (O.written sink.new) result (tree_lines rows.now areas.now) }
+    ensures bytes { PutAppends (O.written sink.old) (O.written sink.new) result
+        (tree_lines rows.now areas.now) }
     ensures cause { HasCause (O.faults sink.old) (O.faults sink.new) result }
 {
     let mut block = Block::new();
@@ -73,7 +76,8 @@ fn put_nodes<O: Sink>(sink: &mut O, rows: &[NodeRow], areas: &[u32]) -> Result<(
 /// root, and its area in pixels. Pixels are counted from 0, row by row.
 pub fn put_tree<O: Sink>(sink: &mut O, tree: &Tree, areas: &[u32]) -> Result<(), WriteFault>
     requires { length areas.now ≡ length tree.now.rows }
-    ensures bytes { PutAppends (O.written sink.old) (O.written sink.new) result (tree_lines tree.now.rows areas.now) }
+    ensures bytes { PutAppends (O.written sink.old) (O.written sink.new) result
+        (tree_lines tree.now.rows areas.now) }
     ensures cause { HasCause (O.faults sink.old) (O.faults sink.new) result }
 {
     match put_nodes(sink, tree.rows(), areas) {

@@ -1,4 +1,4 @@
-// What the words of `measure` mean.
+//! What the words of `measure` mean.
 use crate::{Job, MeasureOrder, Order, Usage, is_measure, read_measure, read_words};
 use comp_tree::Connect;
 use source_pick::Choice;

@@ -1,4 +1,4 @@
-// The line on the notes.
+//! The line on the notes.
 ghost use Rattle.std.specs.Prelude.{◌≡◌, ◌≤◌, length};
 ghost use Rattle.dev_io.specs.Causes.{HasCause};
 ghost use Rattle.dev_io.specs.Streams.{PutAppends};
@@ -16,13 +16,14 @@ use itoa::Buffer;
 fn put_place<N: Sink>(notes: &mut N, number: &[u8], name: &[u8], place: Place) -> Result<(), Failed>
     requires short_number { length number.now ≤ 40 }
     requires short_name { length name.now ≤ 15 }
-    ensures bytes { PutAppends (N.written notes.old) (N.written notes.new) result (line_at_place number.now name.now place) }
+    ensures bytes { PutAppends (N.written notes.old) (N.written notes.new) result
+        (line_at_place number.now name.now place) }
     ensures cause { HasCause (N.faults notes.old) (N.faults notes.new) result }
 {
     let mut first = Buffer::new();
     let mut second = Buffer::new();
     match place {
-        Place::Card { hdu, card } => put_line(
+        Place::Card(place) => put_line(
             notes,
             &[
                 b"refused: ",
@@ -30,13 +31,13 @@ fn put_place<N: Sink>(notes: &mut N, number: &[u8], name: &[u8], place: Place) -
                 b" ",
                 name,
                 b" hdu ",
-                first.format(hdu).as_bytes(),
+                first.format(place.hdu).as_bytes(),
                 b" card ",
-                second.format(card).as_bytes(),
+                second.format(place.card).as_bytes(),
                 b"\n",
             ],
         ),
-        Place::Pixel { pixel, stored } => put_line(
+        Place::Pixel(place) => put_line(
             notes,
             &[
                 b"refused: ",
@@ -44,18 +45,19 @@ fn put_place<N: Sink>(notes: &mut N, number: &[u8], name: &[u8], place: Place) -
                 b" ",
                 name,
                 b" pixel ",
-                first.format(pixel).as_bytes(),
+                first.format(place.pixel).as_bytes(),
                 b" stored ",
-                second.format(stored).as_bytes(),
+                second.format(place.stored).as_bytes(),
                 b"\n",
             ],
         ),
     }
 }
 
-/// Puts the line of a fault: its number, its name, and the card or the pixel at fault.
-pub fn put_refusal<N: Sink>(notes: &mut N, fault: Fault) -> Result<(), Failed>
-    ensures bytes { PutAppends (N.written notes.old) (N.written notes.new) result (refusal_line fault) }
+// Puts the line of a fault: its number, its name, and the card or the pixel at fault.
+fn put_refusal<N: Sink>(notes: &mut N, fault: Fault) -> Result<(), Failed>
+    ensures bytes { PutAppends (N.written notes.old) (N.written notes.new) result
+        (refusal_line fault) }
     ensures cause { HasCause (N.faults notes.old) (N.faults notes.new) result }
 {
     let mut number = Buffer::new();
@@ -82,8 +84,9 @@ fn put_note<N: Sink>(notes: &mut N, end: End) -> Result<(), Failed>
 }
 
 /// Tells how the run ended. What the notes answer changes nothing.
-pub(crate) fn tell<N: Sink>(notes: &mut N, end: End)
-    ensures { Noted (N.written notes.old) (N.written notes.new) (N.settled notes.new) (N.faults notes.old) (N.faults notes.new) (note_of end) }
+pub fn tell<N: Sink>(notes: &mut N, end: End)
+    ensures { Noted (N.written notes.old) (N.written notes.new) (N.settled notes.new)
+        (N.faults notes.old) (N.faults notes.new) (note_of end) }
 {
     if matches!(end, End::Done) {
         return;

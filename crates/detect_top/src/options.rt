@@ -1,6 +1,6 @@
-// The commands and their options.
+//! The commands and their options.
 ghost use Rattle.std.specs.Prelude.{◌≡◌, ◌≤ℤ◌, ◌<◌, ℕ, Some, IfSome, is_some};
-ghost use Rattle.detect_top.specs.Options.{command_named, setting_named, option_named, takes as takes_option, picks_sources as picks_some, option_name, is_value, hdu_in, connect_in, strips_in, workers_in, mesh_in, flat_in, rule_in, area_in, flux_in, thousandths_in, threshold_in, seed_in, side_in};
+ghost use Rattle.detect_top.specs.Options.{command_named, setting_named, option_named, command_takes, picks_sources as picks_some, option_name, is_value, u16_in, connect_in, positive_u16_in, workers_in, flat_in, rule_in, area_in, flux_in, thousandths_in, threshold_in, seed_in};
 
 use command_line::numbers::number_between;
 use comp_tree::Connect;
@@ -44,7 +44,7 @@ impl Command {
     }
 
     fn takes(self, setting: Setting) -> bool
-        ensures { result ≡ takes_option self setting }
+        ensures { result ≡ command_takes self setting }
     {
         match setting {
             Setting::Hdu => self != Command::Trial,
@@ -152,7 +152,7 @@ impl Setting {
         match self {
             Setting::Hdu | Setting::Values => hdu(text).is_some(),
             Setting::Connect => connect(text).is_some(),
-            Setting::Strips => strips(text).is_some(),
+            Setting::Strips => positive_u16(text).is_some(),
             Setting::Workers => workers(text).is_some(),
             Setting::Mesh => mesh(text).is_some(),
             Setting::Flat => flat(text).is_some(),
@@ -162,15 +162,15 @@ impl Setting {
             Setting::MinFill | Setting::Contrast => thousandths(text).is_some(),
             Setting::Threshold => threshold(text).is_some(),
             Setting::Seed => seed(text).is_some(),
-            Setting::Width | Setting::Height => side(text).is_some(),
+            Setting::Width | Setting::Height => positive_u16(text).is_some(),
         }
     }
 }
 
 /// The number of an HDU, from 0.
-#[tactic(auto, unfolding(crate::specs::Options::hdu_in))]
+#[tactic(auto, unfolding(crate::specs::Options::u16_in))]
 pub(crate) fn hdu(text: &str) -> Option<u16>
-    ensures { result ≡ hdu_in text.now }
+    ensures { result ≡ u16_in text.now }
 {
     match number_between(text, 0, 65535) {
         Some(number) => Some(number as u16),
@@ -190,10 +190,10 @@ pub(crate) fn connect(text: &str) -> Option<Connect>
     }
 }
 
-/// How many strips.
-#[tactic(auto, unfolding(crate::specs::Options::strips_in))]
-pub(crate) fn strips(text: &str) -> Option<u32>
-    ensures { result ≡ strips_in text.now }
+/// How many strips, or the side of an image in pixels.
+#[tactic(auto, unfolding(crate::specs::Options::positive_u16_in))]
+pub(crate) fn positive_u16(text: &str) -> Option<u32>
+    ensures { result ≡ positive_u16_in text.now }
 {
     match number_between(text, 1, 65535) {
         Some(number) => Some(number as u32),
@@ -213,9 +213,9 @@ pub(crate) fn workers(text: &str) -> Option<u32>
 }
 
 /// The side of a mesh cell in pixels, or 0 for no background.
-#[tactic(auto, unfolding(crate::specs::Options::mesh_in))]
+#[tactic(auto, unfolding(crate::specs::Options::u16_in))]
 pub(crate) fn mesh(text: &str) -> Option<u32>
-    ensures { result ≡ mesh_in text.now }
+    ensures { result ≡ u16_in text.now }
 {
     match number_between(text, 0, 65535) {
         Some(number) => Some(number as u32),
@@ -292,17 +292,6 @@ pub(crate) fn seed(text: &str) -> Option<u32>
     ensures { result ≡ seed_in text.now }
 {
     match number_between(text, 0, 4294967295) {
-        Some(number) => Some(number as u32),
-        None => None,
-    }
-}
-
-/// A side of an image in pixels.
-#[tactic(auto, unfolding(crate::specs::Options::side_in))]
-pub(crate) fn side(text: &str) -> Option<u32>
-    ensures { result ≡ side_in text.now }
-{
-    match number_between(text, 1, 65535) {
         Some(number) => Some(number as u32),
         None => None,
     }

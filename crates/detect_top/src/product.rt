@@ -9,9 +9,10 @@ ghost use Rattle.node_sums.specs.Sums.{IsTreeOfPlane};
 ghost use Rattle.comp_tree.specs.Raster.{HasValuesInHalfRange};
 ghost use Rattle.filter_rules.specs.Filtered.{filtered as filtered_of};
 ghost use Rattle.detect_top.specs.Words.{HasLimits, HasJobLimits};
-ghost use Rattle.detect_top.specs.Catalogues.{detection};
+ghost use Rattle.detect_top.specs.Catalogues.{detected_hdus};
 ghost use Rattle.detect_top.specs.Lines.{tree_lines, node_list};
-ghost use Rattle.detect_top.specs.Products.{output_of_job, output_of, image_made, bytes_of, SuitsJob, IsWritable};
+ghost use Rattle.detect_top.specs.Products.{output_of_job, output_of, image_made};
+ghost use Rattle.detect_top.specs.Writables.{bytes_of, SuitsJob, IsWritable};
 ghost use Rattle.detect_top.specs.Trials.{trial_image as image_of};
 
 use crate::component::{component_tree, residual_plane};
@@ -68,7 +69,8 @@ fn filtered(
 ) -> Result<Plane, OutOfMemory>
     requires of_plane { IsTreeOfPlane plane.now tree.now }
     requires fill { criterion.now.min_fill ≤ 1000 }
-    ensures { IfOk result (λ left. (connect : Connect) → tree.now ≡ tree_of plane.now connect → left ≡ filtered_of plane.now connect rule criterion.now) }
+    ensures { IfOk result (λ left. (connect : Connect) → tree.now ≡ tree_of plane.now connect →
+        left ≡ filtered_of plane.now connect rule criterion.now) }
 {
     let sums = sums(alloc, plane, tree)?;
     filter(alloc, plane, tree, &sums, rule, criterion)
@@ -87,7 +89,8 @@ fn make_of<R: Threads + Sync>(
     requires limits { HasJobLimits job }
     requires suits { SuitsJob job plane.now }
     ensures writable { IfOk result (λ product. IsWritable product) }
-    ensures bytes { IfOk result (λ product. (connect : Connect) → tree ≡ tree_of plane.now connect → bytes_of product ≡ output_of_job job connect plane.now) }
+    ensures bytes { IfOk result (λ product. (connect : Connect) → tree ≡ tree_of plane.now connect →
+        bytes_of product ≡ output_of_job job connect plane.now) }
 {
     match job {
         Job::Tree => match node_areas(alloc, plane, tree) {
@@ -119,7 +122,8 @@ fn working_plane<R: Threads + Sync>(
 ) -> Result<Plane, OutOfMemory>
     requires suits { SuitsJob order.job plane }
     ensures suits { IfOk result (λ left. SuitsJob order.job left) }
-    ensures same { IfOk result (λ left. output_of_job order.job order.connect left ≡ output_of_job order.job order.connect plane) }
+    ensures same { IfOk result (λ left. output_of_job order.job order.connect left ≡
+        output_of_job order.job order.connect plane) }
 {
     match order.job {
         Job::Detect { choice } => {
@@ -137,7 +141,7 @@ fn without_far<R: Threads + Sync>(
     choice: Choice,
     workers: u32,
 ) -> Result<Plane, OutOfMemory>
-    ensures { IfOk result (λ left. detection left connect choice ≡ detection plane connect choice) }
+    ensures { IfOk result (λ left. detected_hdus left connect choice ≡ detected_hdus plane connect choice) }
 {
     match clear_far(rt, alloc, &mut plane, connect, choice.threshold, workers) {
         Ok(()) => Ok(plane),
@@ -186,7 +190,8 @@ pub(crate) fn make_trial<R: Threads + Sync, G: Gate>(
     requires limits { HasLimits order }
     requires trial { image_made order.job ≡ Some (image_of seed shape) }
     ensures writable { IfOk result (λ product. IsWritable product) }
-    ensures bytes { IfOk result (λ product. bytes_of product ≡ output_of order (image_of seed shape)) }
+    ensures bytes { IfOk result
+        (λ product. bytes_of product ≡ output_of order (image_of seed shape)) }
 {
     match trial_image(alloc, seed, shape) {
         Ok(image) => make(rt, alloc, image, order, gate),
@@ -196,7 +201,8 @@ pub(crate) fn make_trial<R: Threads + Sync, G: Gate>(
 
 fn put_product<O: Sink>(output: &mut O, product: &Product) -> Result<(), WriteFault>
     requires { IsWritable product.now }
-    ensures bytes { PutAppends (O.written output.old) (O.written output.new) result (bytes_of product.now) }
+    ensures bytes { PutAppends (O.written output.old) (O.written output.new) result
+        (bytes_of product.now) }
     ensures cause { HasCause (O.faults output.old) (O.faults output.new) result }
 {
     match product {
@@ -210,7 +216,8 @@ fn put_product<O: Sink>(output: &mut O, product: &Product) -> Result<(), WriteFa
 /// Writes it, and hands all of it on.
 pub(crate) fn write<O: Sink>(output: &mut O, product: &Product) -> Result<(), WriteFault>
     requires { IsWritable product.now }
-    ensures bytes { PutAppends (O.written output.old) (O.written output.new) result (bytes_of product.now) }
+    ensures bytes { PutAppends (O.written output.old) (O.written output.new) result
+        (bytes_of product.now) }
     ensures settled { OnOk result (IsTrue (O.settled output.new)) }
     ensures cause { HasCause (O.faults output.old) (O.faults output.new) result }
 {

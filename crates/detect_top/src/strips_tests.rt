@@ -1,4 +1,4 @@
-// Flooded and joined strips beside the plain way, and two workers at once.
+//! Flooded and joined strips beside the plain way, and two workers at once.
 use crate::component::component_tree;
 use crate::in_memory::file;
 use crate::{Job, Order, run};
@@ -37,13 +37,15 @@ const PLANES: [(u32, &[u8]); 20] = [
 fn plane_of(alloc: Global, width: u32, digits: &[u8]) -> Result<Plane, Fail> {
     let height = digits.len().min(25) as u32 / width.max(1);
     let shape = Shape::of(width, height).ok_or("a shape")?;
-    let mut plane = Plane::blank(alloc, shape)?;
-    for (pixel, digit) in digits.iter().enumerate() {
-        if digit.is_ascii_digit() && pixel < plane.shape().pixels() as usize {
-            plane.set(pixel as u32, Some(i64::from(*digit)));
-        }
+    let mut values = Vec::new(alloc);
+    for digit in digits {
+        values.push(if *digit == b'.' {
+            None
+        } else {
+            Some(i64::from(*digit))
+        })?;
     }
-    Ok(plane)
+    Ok(Plane::of(alloc, shape, &values)?.ok_or("a plane")?)
 }
 
 #[test]

@@ -1,4 +1,4 @@
-// What `tree` answers: lines, refusals and the bytes taken.
+//! What `tree` answers: lines, refusals and the bytes taken.
 use crate::in_memory::{Row, compare};
 use crate::{Usage, read_words};
 use std::test::Fail;

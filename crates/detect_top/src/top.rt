@@ -1,18 +1,20 @@
-// The run as a whole.
+//! The run as a whole.
 ghost use Rattle.std.specs.Prelude.{◌≡◌, ◌<◌, ◌≤◌, ◌↔◌, ℕ, List, Bool, Option, length, Ok, Some, None, IfOk, IfErr, MatchResult, IsErrOf, OnOk, IsErr, IsTrue};
 ghost use Rattle.std.specs.Option.{ForSome};
 ghost use Rattle.std.specs.Io.KnownBytes.{Appends, Keeps};
 ghost use Rattle.dev_io.specs.Causes.{Rose};
-ghost use Rattle.pixel_plane.specs.Verdicts.{verdict};
+ghost use Rattle.pixel_plane.specs.Verdicts.{verdict_on};
 ghost use Rattle.command_line.specs.Lines.{texts};
 ghost use Rattle.detect_top.specs.Words.{order_of, HasLimits};
 ghost use Rattle.detect_top.specs.Faults.{IsCutStop};
-ghost use Rattle.detect_top.specs.Products.{bytes_of, image_made, IsWritable};
+ghost use Rattle.detect_top.specs.Products.{image_made};
+ghost use Rattle.detect_top.specs.Writables.{bytes_of, IsWritable};
 ghost use Rattle.detect_top.specs.Trials.{trial_image as image_of};
 ghost use Rattle.detect_top.specs.Streams.{ImageStopped};
-ghost use Rattle.detect_top.specs.Answers.{answer, note_of, end_status};
+ghost use Rattle.detect_top.specs.Answers.{answer_to_words, note_of, end_status};
 ghost use Rattle.command_line.specs.Notes.{Noted, SourceStays};
-ghost use Rattle.detect_top.specs.Runs.{Took, TookAtMost, ProductRead, Tells, input_use, output_use, no_use, EndBytes, EndCause, LeavesInput};
+ghost use Rattle.detect_top.specs.Runs.{Took, TookAtMost, Tells, use_of_input, use_of_output, LeavesInput};
+ghost use Rattle.detect_top.specs.RunEnds.{ProductRead, no_use, EndBytes, EndCause};
 ghost use Rattle.detect_top.specs.Headline.{ForBytes, IsAnswered, IsStatus, CutsAnswer, MayWantMemory, ReadFails, TellsEnd};
 
 use crate::image::{Stop, read_image};
@@ -38,7 +40,8 @@ pub enum End {
 }
 
 impl End {
-    fn status(self) -> u8
+    /// Its status.
+    pub fn status(self) -> u8
         ensures { result ≡ end_status self }
     {
         match self {
@@ -64,7 +67,7 @@ fn read_and_make<R: Threads + Sync, S: Source, G: Gate>(
     requires reads { image_made order.job ≡ None }
     ensures told { ForSome (S.left input.old) (λ bytes. MatchResult result
         (λ product. ProductRead order bytes (S.left input.new) (bytes_of product))
-        (λ stop. ImageStopped (verdict bytes order.hdu) bytes (S.left input.new) stop)) }
+        (λ stop. ImageStopped (verdict_on bytes order.hdu) bytes (S.left input.new) stop)) }
     ensures writable { IfOk result (λ product. IsWritable product) }
     ensures reads { IsErrOf result Stop.ReadFault → Rose (S.faults input.old) (S.faults input.new) }
     ensures ended { IfErr result (λ stop. IsCutStop stop → IsTrue (S.ended input.new)) }
@@ -92,10 +95,10 @@ fn carry_out<R: Threads + Sync, S: Source, O: Sink, G: Gate>(
     requires limits { HasLimits order }
     requires reads { image_made order.job ≡ None }
     ensures bytes { (bytes : List ℕ) → Tells (Ok order) (S.left input.old) bytes →
-        EndBytes (Ok order) bytes (input_use S.left S.ended S.faults input.old input.new)
-        (output_use O.written O.settled O.faults output.old output.new) result }
-    ensures cause { EndCause (Ok order) (input_use S.left S.ended S.faults input.old input.new)
-        (output_use O.written O.settled O.faults output.old output.new) result }
+        EndBytes (Ok order) bytes (use_of_input S.left S.ended S.faults input.old input.new)
+        (use_of_output O.written O.settled O.faults output.old output.new) result }
+    ensures cause { EndCause (Ok order) (use_of_input S.left S.ended S.faults input.old input.new)
+        (use_of_output O.written O.settled O.faults output.old output.new) result }
     ensures read_later { S.faults input.old ≤ S.faults input.new }
     ensures write_later { O.faults output.old ≤ O.faults output.new }
 {
@@ -124,9 +127,9 @@ fn try_out<R: Threads + Sync, O: Sink, G: Gate>(
     requires limits { HasLimits order }
     requires trial { image_made order.job ≡ Some (image_of seed shape) }
     ensures bytes { (bytes : List ℕ) (left : Option (List ℕ)) (ended : Bool) (faults : ℕ) →
-        EndBytes (Ok order) bytes (no_use left ended faults) (output_use O.written O.settled O.faults output.old output.new) result }
+        EndBytes (Ok order) bytes (no_use left ended faults) (use_of_output O.written O.settled O.faults output.old output.new) result }
     ensures cause { (left : Option (List ℕ)) (ended : Bool) (faults : ℕ) →
-        EndCause (Ok order) (no_use left ended faults) (output_use O.written O.settled O.faults output.old output.new) result }
+        EndCause (Ok order) (no_use left ended faults) (use_of_output O.written O.settled O.faults output.old output.new) result }
     ensures write_later { O.faults output.old ≤ O.faults output.new }
 {
     let product = match make_trial(rt, alloc, order, seed, shape, gate) {
@@ -148,13 +151,14 @@ fn work<R: Threads + Sync, S: Source, O: Sink, G: Gate>(
     gate: &G,
 ) -> End
     ensures bytes { (bytes : List ℕ) → Tells (order_of (texts words.now)) (S.left input.old) bytes →
-        EndBytes (order_of (texts words.now)) bytes (input_use S.left S.ended S.faults input.old input.new)
-        (output_use O.written O.settled O.faults output.old output.new) result }
-    ensures cause { EndCause (order_of (texts words.now)) (input_use S.left S.ended S.faults input.old input.new)
-        (output_use O.written O.settled O.faults output.old output.new) result }
+        EndBytes (order_of (texts words.now)) bytes (use_of_input S.left S.ended S.faults input.old input.new)
+        (use_of_output O.written O.settled O.faults output.old output.new) result }
+    ensures cause { EndCause (order_of (texts words.now)) (use_of_input S.left S.ended S.faults input.old input.new)
+        (use_of_output O.written O.settled O.faults output.old output.new) result }
     ensures read_later { S.faults input.old ≤ S.faults input.new }
     ensures write_later { O.faults output.old ≤ O.faults output.new }
-    ensures untouched { LeavesInput (order_of (texts words.now)) → SourceStays S.left S.ended S.faults input.old input.new }
+    ensures untouched { LeavesInput (order_of (texts words.now)) →
+        SourceStays S.left S.ended S.faults input.old input.new }
 {
     let order = match read_words(words) {
         Ok(order) => order,
@@ -182,27 +186,28 @@ pub fn run<R: Threads + Sync, S: Source, O: Sink, N: Sink, G: Gate>(
 ) -> u8
     // The status is the answer's, or a device's fault or want of memory came between.
     ensures status { ForBytes (texts words.now) (S.left input.old) (λ bytes.
-        IsStatus (answer (texts words.now) bytes) result) }
+        IsStatus (answer_to_words (texts words.now) bytes) result) }
 
     // At the answer's own status its output was written, and its bytes were taken.
     ensures writes { result < 3 → ForBytes (texts words.now) (S.left input.old) (λ bytes.
-        Appends (O.written output.old) (O.written output.new) (answer (texts words.now) bytes).output) }
+        Appends (O.written output.old) (O.written output.new) (answer_to_words (texts words.now) bytes).output) }
     ensures takes { result < 3 → ForBytes (texts words.now) (S.left input.old) (λ bytes.
-        Took (S.left input.old) (S.left input.new) (answer (texts words.now) bytes).taken) }
+        Took (S.left input.old) (S.left input.new) (answer_to_words (texts words.now) bytes).taken) }
     ensures settled { result ≡ 0 → IsTrue (O.settled output.new) }
 
     // A read fault comes only where the input's count rose.
-    ensures read_fault { result ≡ 3 → ReadFails (texts words.now) (S.faults input.old) (S.faults input.new)
+    ensures read_fault { result ≡ 3 →
+        ReadFails (texts words.now) (S.faults input.old) (S.faults input.new)
         (O.written output.old) (O.written output.new) }
     ensures read_so_far { result ≡ 3 → ForBytes (texts words.now) (S.left input.old) (λ bytes.
-        TookAtMost (S.left input.old) (S.left input.new) (answer (texts words.now) bytes).taken) }
+        TookAtMost (S.left input.old) (S.left input.new) (answer_to_words (texts words.now) bytes).taken) }
 
     // A write fault comes only where the output's count rose.
     ensures write_fault { result ≡ 4 → Rose (O.faults output.old) (O.faults output.new) }
     ensures written_so_far { result ≡ 4 → ForBytes (texts words.now) (S.left input.old) (λ bytes.
-        CutsAnswer (answer (texts words.now) bytes) (O.written output.old) (O.written output.new)) }
+        CutsAnswer (answer_to_words (texts words.now) bytes) (O.written output.old) (O.written output.new)) }
     ensures taken_before { result ≡ 4 → ForBytes (texts words.now) (S.left input.old) (λ bytes.
-        Took (S.left input.old) (S.left input.new) (answer (texts words.now) bytes).taken) }
+        Took (S.left input.old) (S.left input.new) (answer_to_words (texts words.now) bytes).taken) }
 
     // Memory is wanted only for an image or a cut one, and before anything is written.
     ensures memory { result ≡ 5 → Keeps (O.written output.old) (O.written output.new) }
@@ -214,14 +219,17 @@ pub fn run<R: Threads + Sync, S: Source, O: Sink, N: Sink, G: Gate>(
         (N.settled notes.new) (N.faults notes.old) (N.faults notes.new) end }
     ensures notes { result < 3 → ForBytes (texts words.now) (S.left input.old) (λ bytes.
         Noted (N.written notes.old) (N.written notes.new) (N.settled notes.new) (N.faults notes.old) (N.faults notes.new)
-        (note_of (answer (texts words.now) bytes).end)) }
+        (note_of (answer_to_words (texts words.now) bytes).end)) }
 
     // Without an order and for a trial the input is left alone.
-    ensures untouched { LeavesInput (order_of (texts words.now)) → SourceStays S.left S.ended S.faults input.old input.new }
+    ensures untouched { LeavesInput (order_of (texts words.now)) →
+        SourceStays S.left S.ended S.faults input.old input.new }
 
     // Where no count rose the status is the answer's, or memory is wanted where it may be.
-    ensures complete { (Rose (S.faults input.old) (S.faults input.new) → ⊥) → (Rose (O.faults output.old) (O.faults output.new) → ⊥) →
-        ForBytes (texts words.now) (S.left input.old) (λ bytes. IsAnswered (answer (texts words.now) bytes) result) }
+    ensures complete { (Rose (S.faults input.old) (S.faults input.new) → ⊥) →
+        (Rose (O.faults output.old) (O.faults output.new) → ⊥) →
+        ForBytes (texts words.now) (S.left input.old)
+        (λ bytes. IsAnswered (answer_to_words (texts words.now) bytes) result) }
 
     // Words without an order give status 1, and no others do.
     ensures usage { IsErr (order_of (texts words.now)) ↔ (result ≡ 1) }

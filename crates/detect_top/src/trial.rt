@@ -6,17 +6,9 @@ ghost use Rattle.comp_tree.specs.declared.shape.Connect.{Connect};
 ghost use Rattle.comp_tree.specs.Raster.{Raster};
 ghost use Rattle.comp_tree.specs.Components.{tree_of};
 ghost use Rattle.node_sums.specs.Sums.{sums_in, IsTreeOfPlane, AreTheTrees};
-ghost use Rattle.detect_top.specs.Trials.{
-  next_state,
-  trial_image as image_of,
-  is_root_row,
-  is_mapped,
-  total_flux,
-  summary_of,
-  trial_line,
-  HasSmallValues,
-  HasSmallFluxes,
-};
+ghost use Rattle.detect_top.specs.Trials.{next_state, trial_image as image_of, is_root_row, is_mapped, total_flux, summary_of, trial_line};
+ghost use Rattle.detect_top.specs.TrialSizes.{HasSmallValues};
+ghost use Rattle.detect_top.specs.TrialSizes.{HasSmallFluxes};
 
 use command_line::lines::put_line;
 use comp_tree::{NONE, NodeRow, Plane, Shape, Tree};
@@ -127,7 +119,8 @@ fn sum_areas(sums: &[Sums]) -> u64
 fn sum_fluxes(tree: &Tree, sums: &[Sums]) -> u64
     requires sums { AreTheTrees tree.now sums.now }
     requires small { HasSmallFluxes tree.now sums.now }
-    ensures { (plane : Raster) (connect : Connect) → tree.now ≡ tree_of plane connect → sums.now ≡ sums_in plane connect → result ≡ total_flux plane connect }
+    ensures { (plane : Raster) (connect : Connect) → tree.now ≡ tree_of plane connect → sums.now ≡
+        sums_in plane connect → result ≡ total_flux plane connect }
 {
     let mut fluxes = 0;
     for n in 0..node_count(tree) {
@@ -146,7 +139,8 @@ pub(crate) fn summarize<R: Threads + Sync>(
 ) -> Result<Summary, OutOfMemory>
     requires of_plane { IsTreeOfPlane plane.now tree.now }
     requires small { HasSmallValues plane.now.values }
-    ensures { IfOk result (λ summary. (connect : Connect) → tree.now ≡ tree_of plane.now connect → summary ≡ summary_of plane.now connect) }
+    ensures { IfOk result (λ summary. (connect : Connect) → tree.now ≡ tree_of plane.now connect →
+        summary ≡ summary_of plane.now connect) }
 {
     let shape = plane.shape();
     let sums = sums(alloc, plane, tree)?;
@@ -165,7 +159,8 @@ pub(crate) fn summarize<R: Threads + Sync>(
 
 /// Writes the line of a trial: `pixels P nodes N roots R areas A fluxes F sources S mapped M`.
 pub fn put_trial<O: Sink>(sink: &mut O, summary: &Summary) -> Result<(), WriteFault>
-    ensures bytes { PutAppends (O.written sink.old) (O.written sink.new) result (trial_line summary.now) }
+    ensures bytes { PutAppends (O.written sink.old) (O.written sink.new) result
+        (trial_line summary.now) }
     ensures cause { HasCause (O.faults sink.old) (O.faults sink.new) result }
 {
     match put_numbers(sink, summary) {
@@ -175,7 +170,8 @@ pub fn put_trial<O: Sink>(sink: &mut O, summary: &Summary) -> Result<(), WriteFa
 }
 
 fn put_numbers<O: Sink>(sink: &mut O, summary: &Summary) -> Result<(), Failed>
-    ensures bytes { PutAppends (O.written sink.old) (O.written sink.new) result (trial_line summary.now) }
+    ensures bytes { PutAppends (O.written sink.old) (O.written sink.new) result
+        (trial_line summary.now) }
     ensures cause { HasCause (O.faults sink.old) (O.faults sink.new) result }
 {
     let mut pixels = Buffer::new();

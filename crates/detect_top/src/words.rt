@@ -1,4 +1,4 @@
-// The words of the command.
+//! The words of the command.
 ghost use Rattle.std.specs.Prelude.{◌≡◌, ◌≤◌, ◌<◌, ◌+◌, ◌*◌, ℕ, IfOk, IfSome, IsTrue, MatchResult, length, is_some};
 ghost use Rattle.std.specs.Option.{option_map};
 ghost use Rattle.command_line.specs.Lines.{texts};
@@ -6,7 +6,7 @@ ghost use Rattle.detect_top.specs.Words.{order_of, measure_order_of, asks_measur
 ghost use Rattle.detect_top.specs.Given.{AreRead, AreAllRead, IsFirstFault};
 
 use crate::options::{
-    Command, Setting, area, connect, flat, flux, hdu, mesh, rule, seed, side, strips, thousandths,
+    Command, Setting, area, connect, flat, flux, hdu, mesh, positive_u16, rule, seed, thousandths,
     threshold, workers,
 };
 use comp_tree::{Connect, Shape};
@@ -162,10 +162,10 @@ fn shape_for(words: &[&str], pairs: u32) -> Option<Shape>
     requires { 2 * pairs + 1 ≤ length words.now }
     ensures { result ≡ shape_given (texts words.now) pairs }
 {
-    let Some(width) = value(words, Setting::Width, pairs).and_then(side) else {
+    let Some(width) = value(words, Setting::Width, pairs).and_then(positive_u16) else {
         return None;
     };
-    let Some(height) = value(words, Setting::Height, pairs).and_then(side) else {
+    let Some(height) = value(words, Setting::Height, pairs).and_then(positive_u16) else {
         return None;
     };
     Shape::of(width, height)
@@ -219,7 +219,7 @@ fn order_of_job(words: &[&str], pairs: u32, job: Job) -> Order
             .and_then(connect)
             .unwrap_or(Connect::Four),
         strips: value(words, Setting::Strips, pairs)
-            .and_then(strips)
+            .and_then(positive_u16)
             .unwrap_or(1),
         workers: value(words, Setting::Workers, pairs)
             .and_then(workers)

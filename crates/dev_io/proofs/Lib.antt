@@ -1,3 +1,5 @@
-pub mod Filling
-pub mod Writing
-pub mod Blocks
+mod Filling
+mod Skipping
+mod Writing
+mod Blocks
+pub mod Exported

@@ -7,13 +7,13 @@ ghost use Rattle.dev_io.specs.Blocks.{Moves};
 use crate::{Failed, Sink};
 use std::marker::Model;
 
-// The bytes of a block (FITS Standard 4.0, section 3.1), and the most that a sink takes at once.
-const SIZE: usize = 2880;
+/// The bytes of a block (FITS Standard 4.0, section 3.1), and the most that a sink takes at once.
+pub const BLOCK: usize = 2880;
 
 /// A block of output. Seen as the bytes that wait in it, fewer than 2,880: as soon as it is full it is put as one piece.
 #[derive(Drop)]
 pub struct Block {
-    bytes: [u8; SIZE],
+    bytes: [u8; BLOCK],
     len: usize,
 }
 
@@ -33,7 +33,7 @@ impl Block {
         ensures { result ≡ [] }
     {
         Block {
-            bytes: [0; SIZE],
+            bytes: [0; BLOCK],
             len: 0,
         }
     }
@@ -48,7 +48,7 @@ impl Block {
         ensures kept { OnErr result (self.new ≡ self.old) }
         ensures cause { HasCause (O.faults sink.old) (O.faults sink.new) result }
     {
-        let room = SIZE - self.len;
+        let room = BLOCK - self.len;
         if bytes.len() < room {
             self.push(bytes);
             return Ok(());

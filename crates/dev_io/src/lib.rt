@@ -15,13 +15,13 @@ mod source;
 mod steps;
 mod write_sink;
 
-pub use block::Block;
+pub use block::{BLOCK, Block};
 pub use mem_sink::MemSink;
 pub use mem_source::MemSource;
 pub use plain_source::PlainSource;
 pub use read_source::ReadSource;
 pub use sink::Sink;
-pub use source::{Failed, OutOfMemory, Source, fill};
+pub use source::{Failed, OutOfMemory, Source, fill, skip};
 pub use steps::Steps;
 pub use write_sink::WriteSink;
 

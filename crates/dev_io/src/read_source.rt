@@ -38,7 +38,7 @@ impl<R: Read> Source for ReadSource<R> {
 
     ghost nothing_after_end = { λ s. left_after-ended s.ended (R.remaining s.reader) };
 
-    /// One read. After the end there is none.
+    // One read. After the end there is none.
     fn take(&mut self, buf: &mut [u8]) -> Result<usize, Failed> {
         if self.ended {
             return Ok(0);

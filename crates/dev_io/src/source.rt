@@ -1,12 +1,13 @@
 //! Where bytes come from.
-ghost use Rattle.std.specs.Prelude.{◌≡◌, ◌<◌, ◌≤◌, ◌||◌, ℕ, Bool, List, length, take, IsTrue, IfOk, OnErr};
+ghost use Rattle.std.specs.Prelude.{◌≡◌, ◌<◌, ◌≤◌, ◌+◌, ◌||◌, ℕ, Bool, false, List, length, take, IsTrue, IfOk, OnErr, MatchResult};
 ghost use Rattle.std.specs.Io.{ReadsAtMost};
 ghost use Rattle.std.specs.Io.KnownBytes.{Consumes, IsAtEnd, Keeps};
 ghost use Rattle.std.specs.declared.option.Option.{Option};
 ghost use Rattle.std.specs.Option.{ForSome};
 ghost use Rattle.dev_io.specs.Causes.{HasCause};
-ghost use Rattle.dev_io.specs.Streams.{gives_nothing, falls_short, Fills, TakesAtMost};
+ghost use Rattle.dev_io.specs.Streams.{gives_nothing, falls_short, Fills, Takes, TakesAtMost, Skipped};
 
+use crate::block::BLOCK;
 use std::alloc::{AllocError, AllocFailed};
 
 /// A call on a source or a sink failed: its count of faults has risen, or stands at its last value, 2^64 - 1.
@@ -73,4 +74,25 @@ pub fn fill<S: Source>(src: &mut S, buf: &mut [u8]) -> Result<usize, Failed>
         }
     }
     Ok(at)
+}
+
+/// Takes so many bytes, and answers whether all of them came.
+pub fn skip<S: Source>(src: &mut S, count: u64) -> Result<bool, Failed>
+    ensures told { (bytes : List ℕ) (at : ℕ) → Takes bytes (S.left src.old) at → MatchResult result
+        (λ all. Skipped bytes at count (S.left src.new) all)
+        (λ _. TakesAtMost bytes (S.left src.new) (at + count)) }
+    ensures ended { IfOk result (λ all. all ≡ false → IsTrue (S.ended src.new)) }
+    ensures cause { HasCause (S.faults src.old) (S.faults src.new) result }
+{
+    let mut buffer = [0; BLOCK];
+    let mut left = count;
+    while left > 0 {
+        let piece = left.min(BLOCK as u64) as usize;
+        match fill(src, &mut buffer[..piece]) {
+            Ok(taken) if taken < piece => return Ok(false),
+            Ok(_) => left -= piece as u64,
+            Err(failed) => return Err(failed),
+        }
+    }
+    Ok(true)
 }

@@ -1,4 +1,4 @@
-// The adapters over memory, and the numbering of the fakes' calls.
+//! The adapters over memory, and the numbering of the fakes' calls.
 ghost use Rattle.std.specs.Prelude.{◌≡◌, ◌<◌, ◌+◌};
 
 use crate::*;

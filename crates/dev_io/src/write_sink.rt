@@ -35,7 +35,7 @@ impl<W: Write> Sink for WriteSink<W> {
 
     ghost faults = { λ s. s.faults };
 
-    /// Writes until the writer has taken the whole piece.
+    // Writes until the writer has taken the whole piece.
     fn put(&mut self, piece: &[u8]) -> Result<(), Failed> {
         self.settled = false;
         let mut rest = piece;
@@ -51,7 +51,7 @@ impl<W: Write> Sink for WriteSink<W> {
         Ok(())
     }
 
-    /// Flushes the writer.
+    // Flushes the writer.
     fn done(&mut self) -> Result<(), Failed> {
         match self.writer.flush() {
             Ok(()) => {

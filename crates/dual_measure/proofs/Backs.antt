@@ -1,5 +1,6 @@
 -- Entries of measures, and the values around a node.
-use Rattle.std.proofs.Common.{◌≡◌, ℕ, ◌+◌, ◌-◌, ◌^◌, ◌<◌, ◌≤◌, zero, suc, Bool, true, false, List, [], ◌∷◌, length, map, refl, sym, ◌∙◌, ap, subst, arith, get_or}
+use Rattle.std.proofs.Common.{◌≡◌, ℕ, ◌+◌, ◌-◌, ◌^◌, ◌<◌, ◌≤◌, zero, suc, Bool, true, false, List, [], ◌∷◌, length, map, refl, sym, ◌∙◌, ap, subst, arith}
+use Rattle.std.proofs.Common.{get_or}
 use Rattle.std.specs.Prelude.{◌==◌, ◌&&◌, not, ℤ, pos, ◌+ℤ◌, ◌-ℤ◌, Some, filter, slice_get, slice_index_or}
 use Rattle.std.specs.List.{range_with_len}
 use Rattle.std.proofs.lemmas.Bool.{eq-eqb, ne_eqb}
@@ -17,7 +18,8 @@ use Rattle.comp_tree.specs.Components.{nodes, is_in_node, tree_of}
 use Rattle.comp_tree.specs.Nesting.{node_numbers, pixels_of}
 use Rattle.node_sums.proofs.Exported.{length-filter-le, parent_holds, rows_are, parent_is}
 use Rattle.dual_measure.specs.declared.values.Measure.{Measure}
-use Rattle.dual_measure.specs.Measures.{measure_over, measure_of, measures_of, floor_mean, around_node, back_of, IsSumOf, HasMeasureSizes, IsPlanesTree, AreTheTreesMeasures}
+use Rattle.dual_measure.specs.Measures.{measure_over, measure_of, measures_of, floor_mean, around_node, back_of, IsSumOf, HasMeasureSizes, IsPlanesTree}
+use Rattle.dual_measure.specs.Measures.{AreTheTreesMeasures}
 use Rattle.dual_measure.specs.Adding.{combined, measured_so_far}
 use Rattle.dual_measure.proofs.Passing.{parent_read, parent_there}
 use Rattle.dual_measure.proofs.Measuring.{so_far_is, so_far-union, level_in_range, sum_small, all_counted, sum_fits}

@@ -8,7 +8,8 @@ use mir.Syntax.{w64}
 use mir.Val.{SFits, of_z, to_z}
 use Rattle.std.proofs.lemmas.Bool.Decides.{nat_tests}
 use Rattle.std.proofs.lemmas.List.FromFn.{length-range_with_len}
-use Rattle.lemmas.proofs.Exported.{IsAmong, among_from_filter, among_from_range, int_max_assoc, int_max_comm, int_min_assoc, int_min_comm, plus_assoc, plus_comm, plus_z_assoc, plus_z_comm}
+use Rattle.lemmas.proofs.Exported.{IsAmong, among_from_filter, among_from_range, int_max_assoc, int_max_comm, int_min_assoc, int_min_comm, plus_assoc}
+use Rattle.lemmas.proofs.Exported.{plus_comm, plus_z_assoc, plus_z_comm}
 use Rattle.comp_tree.specs.Limits.{IsWithinRange}
 use Rattle.comp_tree.specs.Raster.{Raster, IsPlane, HasValuesInRange, is_defined, level, value_at}
 use Rattle.node_sums.specs.Sums.{total, highest}

@@ -1,6 +1,7 @@
 -- The steps of the passes: a pixel is added to its smallest node's entry, a node's entry to that of its parent, and each is settled.
-use Rattle.std.proofs.Common.{◌≡◌, ℕ, ◌+◌, ◌-◌, ◌*◌, ◌<◌, ◌≤◌, zero, suc, Bool, true, false, List, [], ◌∷◌, ◌++◌, length, map, refl, sym, ◌∙◌, ap, subst, arith, ◌⊎◌, inl, inr, get_or, set, add-one}
-use Rattle.std.specs.Prelude.{◌==◌, ◌&&◌, ℤ, IfSome, IfOk, Result, Ok, Err, Option, Some, None, filter, replicate, slice_get, slice_index, slice_index_or}
+use Rattle.std.proofs.Common.{◌≡◌, ℕ, ◌+◌, ◌-◌, ◌*◌, ◌<◌, ◌≤◌, zero, suc, Bool, true, false, List, [], ◌∷◌, ◌++◌, length, map, refl, sym, ◌∙◌, ap, subst}
+use Rattle.std.proofs.Common.{arith, ◌⊎◌, inl, inr, get_or, set, add-one}
+use Rattle.std.specs.Prelude.{◌==◌, ◌&&◌, ℤ, IfSome, Option, Some, None, filter, replicate, slice_get, slice_index, slice_index_or}
 use Rattle.std.specs.List.{range_with_len}
 use Rattle.std.proofs.lemmas.Bool.{eq-eqb, ne_eqb, cases_lt}
 use Rattle.std.proofs.lemmas.List.{length-set}
@@ -16,17 +17,13 @@ use Rattle.comp_tree.specs.Components.{nodes, is_in_node, tree_of}
 use Rattle.comp_tree.specs.Nesting.{pixels_of}
 use Rattle.comp_tree.proofs.Exported.{below_no_node, node-undefined}
 use Rattle.node_sums.specs.Counted.{is_counted}
-use Rattle.node_sums.proofs.Exported.{value_in_range, counted-start, counted-end, counted-same, counted-parent, number-within, IsUnion, range-push, filter_yes, filter_no, filter_same, rows_are, parent_is, parent_inside, numbers_for_pixels, get-written, row-parent}
+use Rattle.node_sums.proofs.Exported.{value_in_range, counted-start, counted-end, counted-same, counted-parent, number-within, IsUnion, range-push}
+use Rattle.node_sums.proofs.Exported.{filter_yes, filter_no, filter_same, rows_are, parent_is, parent_inside, numbers_for_pixels, get-written, row-parent}
 use Rattle.dual_measure.specs.declared.values.Measure.{Measure}
 use Rattle.dual_measure.specs.Measures.{measure_over, measure_of, measures_of, HasMeasureSizes, IsPlanesTree, AreTheTreesMeasures}
 use Rattle.dual_measure.specs.Adding.{blank_measure, measure_at, combined, measured_so_far, settled_measure, AreOfFront, AreDownTo}
 use Rattle.dual_measure.proofs.Measuring.{pixel_measure, settled_is, so_far-none, so_far-push, so_far-union, so_far_small}
 use Rattle.source_pick.proofs.Exported.{tree-shape}
-
--- what holds of an answer that is `Ok`
-pub when_ok : {T E : Type 0} (P : T → Type 0) (result : Result T E) (x : T) → IfOk result P → result ≡ Ok x → P x
-when_ok P (Ok y) x h e = let same : y ≡ x = cc in subst P same h
-when_ok P (Err y) x h e = absurd (cc)
 
 -- ---- the pass over the pixels
 

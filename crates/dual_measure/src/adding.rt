@@ -1,4 +1,5 @@
-// The measures of all nodes: each pixel is added at its smallest node, and each node at its parent.
+//! The measures of all nodes: each pixel is added at its smallest node, and each node at its parent.
+
 ghost use Rattle.std.specs.Prelude.{◌≡◌, ℕ, ◌*◌, ◌<◌, IfOk, length, map, replicate, slice_get, Some};
 ghost use Rattle.comp_tree.specs.declared.shape.Connect.{Connect};
 ghost use Rattle.comp_tree.specs.Raster.{Raster, IsPlane, HasValuesInRange};
@@ -12,9 +13,10 @@ use comp_tree::{NONE, Plane, Tree};
 use dev_io::OutOfMemory;
 use std::alloc::Global;
 
-/// The measure of each node of a max-tree (Salembier, Oliveras and Garrido 1998) in the values of a second plane, in the
-/// order of their numbers: one pass over the pixels, and one over the nodes from the last to the first. A node's pixels are
-/// those that it has in its own plane, also where they are undefined in the values. The one error is that memory was refused.
+/// The measure of each node of a max-tree (Salembier, Oliveras and Garrido 1998) in the values of a second plane, in
+/// the order of their numbers: one pass over the pixels, and one over the nodes from the last to the first. A node's
+/// pixels are those that it has in its own plane, also where they are undefined in the values. The one error is that
+/// memory was refused.
 pub fn measures(alloc: Global, values: &Plane, tree: &Tree) -> Result<Vec<Measure>, OutOfMemory>
     requires shape { values.now.shape ≡ tree.now.shape }
     requires tree { IsPlanesTree tree.now }

@@ -1,4 +1,5 @@
-// Means, and the values around a node.
+//! Means, and the values around a node.
+
 ghost use Rattle.std.specs.Prelude.{◌≡◌, ◌<◌, length};
 ghost use Rattle.comp_tree.specs.declared.shape.Connect.{Connect};
 ghost use Rattle.comp_tree.specs.Raster.{Raster, IsPlane};

@@ -1,4 +1,5 @@
-// The numbers of a catalogue row with those of a second image.
+//! The numbers of a catalogue row with those of a second image.
+
 ghost use Rattle.std.specs.Prelude.{◌≡◌};
 ghost use Rattle.dual_measure.specs.Measures.{IsSumOf};
 ghost use Rattle.dual_measure.specs.Columns.{measured_cells_of};

@@ -1,3 +1,5 @@
+//! Small planes with their nodes measured in a second one, and a row with its further columns.
+
 ghost use Rattle.std.specs.Prelude.{◌≡◌, IfOk};
 
 use super::*;
@@ -72,6 +74,12 @@ fn nodes_are_measured(rt: HostRuntime) -> Result<(), Fail> {
                 (measure(4, 1, -1, -1, 0), 0),
                 (measure(0, 1, 0, 0, 0), -250),
             ],
+        },
+        // no pixel is seen
+        Case {
+            pixels: [1, 1, 1, 9, 1],
+            values: [99; 5],
+            nodes: &[(measure(0, 5, 0, 0, 0), 0), (measure(0, 1, 0, 0, 0), 0)],
         },
     ];
     let shape = Shape::of(5, 1).ok_or("a shape")?;

@@ -1,4 +1,5 @@
-// The values of a node's pixels, while they are being added and when all are.
+//! The values of a node's pixels, while they are being added and when all are.
+
 ghost use Rattle.std.specs.Prelude.{◌≡◌, IfSome};
 ghost use Rattle.comp_tree.specs.Limits.{IsWithinRange};
 ghost use Rattle.dual_measure.specs.Measures.{HasMeasureSizes};

@@ -22,7 +22,8 @@ use Rattle.filter_rules.specs.Filtered.{satisfies_rule, is_kept, holders, smalle
 use Rattle.filter_rules.specs.Laws.{IsSmallestHolder, EachPixelHasASmallestHolder}
 use Rattle.filter_rules.specs.Passes.{flag, value_in, value_of_kept, value_of_node, AreValues}
 use Rattle.filter_rules.proofs.Around.{node_of_top}
-use Rattle.filter_rules.proofs.Holding.{IsChild, holders_of_dropped, smallest_of_kept, rises_of_root, rises_of_kept, same_value, same_holders, IsHolder, holder_is}
+use Rattle.filter_rules.proofs.Holding.{IsChild, holders_of_dropped, smallest_of_kept, rises_of_root, rises_of_kept, same_value, same_holders, IsHolder}
+use Rattle.filter_rules.proofs.Holding.{holder_is}
 
 module _ (r : Raster) (connect : Connect) (plane : IsPlane r) where
   -- a node is a root, or a child

@@ -1,3 +1,5 @@
+//! The plane that a filter leaves: the values of the nodes, and those of the pixels.
+
 ghost use Rattle.std.specs.Prelude.{◌≡◌, ℕ, ◌*◌, ◌<◌, ◌≤◌, ◌⊎◌, ◌≤ℤ◌, IfOk, length, map, slice_index};
 ghost use Rattle.comp_tree.specs.declared.shape.Connect.{Connect};
 ghost use Rattle.comp_tree.specs.Limits.{IsWithinRange};

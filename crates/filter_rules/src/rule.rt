@@ -1,3 +1,5 @@
+//! The four rules, and what a node has to meet.
+
 ghost use Rattle.std.specs.Prelude.{◌≡◌, ◌≤◌, ◌^◌};
 ghost use Rattle.filter_rules.specs.Criteria.{admits, is_filled, box_of};
 ghost use Rattle.filter_rules.specs.Passes.{HasBox};

@@ -1,3 +1,5 @@
+//! Small planes and what each rule leaves of them.
+
 ghost use Rattle.std.specs.Prelude.{◌≤◌};
 
 use super::*;

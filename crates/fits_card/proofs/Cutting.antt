@@ -5,7 +5,7 @@ use Rattle.std.specs.Option.{option_map}
 use Rattle.std.proofs.lemmas.Bool.{ne_eqb}
 use Rattle.std.proofs.lemmas.List.{drop_more, take_more, append-nil, length-drop, length-append}
 use Rattle.std.proofs.lemmas.List.Sums.{position_or_len_is}
-use Rattle.fits_card.specs.Pieces.{without_leading_spaces, without_trailing_spaces, before_kept, is_among, before_any, from_any, Closed, closed, with_first}
+use Rattle.fits_card.specs.Pieces.{without_leading_spaces, without_trailing_spaces, before_kept, is_among, before_any, from_any, ClosedString, closed, with_first}
 
 one-more : (n : ℕ) → 1 + n ≡ suc n
 one-more n = omega arith
@@ -38,15 +38,15 @@ from-place stops (b ∷ rest) =
     ]
 
 -- the string with these bytes in front
-pub with_front : List ℕ → Closed → Closed
+pub with_front : List ℕ → ClosedString → ClosedString
 with_front front string = record { text = front ++ string.text; rest = string.rest }
 
-pub with_none_in_front : (o : Option Closed) → o ≡ option_map (with_front []) o
+pub with_none_in_front : (o : Option ClosedString) → o ≡ option_map (with_front []) o
 unfolding with_front
 with_none_in_front None = refl
 with_none_in_front (Some string) = refl
 
-one-more-in_front : (front : List ℕ) (b : ℕ) (o : Option Closed) → option_map (with_front front) (option_map (with_first b) o) ≡ option_map (with_front (front ++ b ∷ [])) o
+one-more-in_front : (front : List ℕ) (b : ℕ) (o : Option ClosedString) → option_map (with_front front) (option_map (with_first b) o) ≡ option_map (with_front (front ++ b ∷ [])) o
 unfolding with_front
 one-more-in_front front b None = refl
 one-more-in_front front b (Some string) =
@@ -133,9 +133,9 @@ room-kept text new rest next b k r h p e d =
     let shorter : length next ≡ length rest - k = ap length d ∙ length-drop k rest in
     omega arith
 
-text-only : (text rest : List ℕ) (string : Closed) → string ≡ record { text = []; rest = rest } → with_front text string ≡ record { text = text; rest = rest }
+text-only : (text rest : List ℕ) (string : ClosedString) → string ≡ record { text = []; rest = rest } → with_front text string ≡ record { text = text; rest = rest }
 unfolding with_front
-text-only text rest string e = ap (λ (s : Closed). record { text = text ++ s.text; rest = s.rest }) e ∙ ap (λ (xs : List ℕ). record { text = xs; rest = rest }) (append-nil text)
+text-only text rest string e = ap (λ (s : ClosedString). record { text = text ++ s.text; rest = s.rest }) e ∙ ap (λ (xs : List ℕ). record { text = xs; rest = rest }) (append-nil text)
 
 -- the string ends here
 pub ends-with : (bytes text rest next : List ℕ) → closed bytes ≡ option_map (with_front text) (closed rest) → closed rest ≡ Some (record { text = []; rest = next }) → Some (record { text = text; rest = next }) ≡ closed bytes

@@ -1,8 +1,9 @@
 -- What stands in a value field, by its first byte.
 use Rattle.std.proofs.Common.{◌≡◌, ℕ, ◌<◌, ◌≤◌, ◌≢◌, Bool, true, false, cond, eqb, ◌&&◌, ◌⊎◌, List, [], ◌∷◌, length, drop, get_or, Option, Some, None, refl, sym, ap, ◌∙◌, inl, inr, arith, eq-eqb}
 use Rattle.std.proofs.lemmas.Bool.{ne_eqb, and_from, and_left, and_right}
-use Rattle.fits_card.specs.Pieces.{without_leading_spaces, is_over, Closed, closed}
-use Rattle.fits_card.specs.Values.{Nothing, Broken, Quoted, value_field, quoted_content, token_content, content_of, token_in}
+use Rattle.fits_card.specs.Pieces.{without_leading_spaces, is_over, ClosedString, closed}
+use Rattle.fits_card.specs.Values.{Nothing, Broken, Quoted, value_field, quoted_content, token_content, content_of}
+use Rattle.fits_card.specs.Tokens.{token_in}
 
 pub field-there : (card : List ℕ) → get_or card 8 0 ≡ 61 → get_or card 9 0 ≡ 32 → without_leading_spaces (drop 10 card) ≡ value_field card
 unfolding value_field
@@ -46,6 +47,6 @@ no-token-choice : (b : Bool) (bytes : List ℕ) → token_in (cond b (Quoted byt
 no-token-choice true bytes = refl
 no-token-choice false bytes = refl
 
-pub no-token-in_string : (o : Option Closed) → token_in (quoted_content o) ≡ None
+pub no-token-in_string : (o : Option ClosedString) → token_in (quoted_content o) ≡ None
 no-token-in_string None = refl
 no-token-in_string (Some string) = no-token-choice (is_over string.rest) string.text

@@ -6,4 +6,4 @@ mod ReadBack
 mod Reals
 mod ValueKinds
 mod Wholes
-pub mod Writing
+mod Writing

@@ -14,7 +14,8 @@ use Rattle.fits_card.specs.Pieces.{is_among, before_any, from_any, is_over, is_c
 use Rattle.fits_card.specs.Values.{Integer, Text, Token, Quoted, Broken, value_field, content_value, token_content, quoted_content, token_value, number_value, is_negative, unsigned, number_of, signed, value_of, whole_of}
 use Rattle.fits_card.specs.Written.{is_plain, spaces, left_justified, right_justified, written_value, written_logical, written_integer, written_text}
 use Rattle.fits_card.specs.Laws.{LogicalIsReadBack, IntegerIsReadBack, IntegerIsWhole, TextIsReadBack, doubled, DoubledQuotesAreRead}
-use Rattle.fits_card.proofs.Digits.{numerals, digit-in_range}
+use Rattle.fits_card.proofs.Digits.{digit-in_range}
+use Rattle.lemmas.proofs.Exported.{numerals}
 use Rattle.fits_card.proofs.Cutting.{plain-byte, closing-quote}
 use Rattle.fits_card.proofs.Fields.{field-there, content-token, content-string}
 use Rattle.fits_card.proofs.Reals.{number-integer}

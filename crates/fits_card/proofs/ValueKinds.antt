@@ -2,9 +2,10 @@
 use Rattle.std.proofs.Common.{◌≡◌, ℕ, zero, suc, ◌^◌, ◌<◌, ◌≤◌, ◌≢◌, Bool, true, false, not, cond, eqb, List, [], ◌∷◌, ◌++◌, length, get_or, Option, Some, None, ℤ, refl, sym, ap, ◌∙◌, inl, inr, arith, eq-eqb, drop}
 use Rattle.std.specs.Prelude.{codes, SomeIff}
 use Rattle.std.proofs.lemmas.Bool.{ne_eqb, cases_eq, cases_Bool, cases_lt, le-ltb}
-use Rattle.fits_card.specs.Pieces.{is_over, before_any, from_any, Closed, closed, without_trailing_spaces}
+use Rattle.fits_card.specs.Pieces.{is_over, before_any, from_any, ClosedString, closed, without_trailing_spaces}
 use Rattle.fits_card.specs.declared.number.Whole.{Whole}
-use Rattle.fits_card.specs.Values.{Value, NoValue, Malformed, Logical, Integer, Real, Text, Content, Nothing, Broken, Quoted, Token, is_numeral, is_negative, unsigned, signed, number_of, exponent_of, real_of, real_value, number_value, token_value, token_content, quoted_content, content_of, content_value, token_in, value_field, value_of, is_present, logical_of, integer_of, text_of, whole_of, fits_i64}
+use Rattle.fits_card.specs.Values.{Value, NoValue, Malformed, Logical, Integer, Real, Text, Content, Nothing, Broken, Quoted, Token, is_numeral, is_negative, unsigned, signed, number_of, exponent_of, real_of, real_value, number_value, token_value, token_content, quoted_content, content_of, content_value, value_field, value_of, is_present, logical_of, integer_of, text_of, whole_of, fits_i64}
+use Rattle.fits_card.specs.Tokens.{token_in}
 use Rattle.fits_card.proofs.Fields.{content-empty, content-comment, content-string, content-token}
 use Rattle.fits_card.proofs.Reals.{number-integer, number-real}
 
@@ -133,7 +134,7 @@ token-no_text token = elim (token-kind token) [
   | letter b e m ↦ ap text_of e
 ]
 
-quoted-present : (o : Option Closed) → is_present (content_value (quoted_content o)) ≡ true
+quoted-present : (o : Option ClosedString) → is_present (content_value (quoted_content o)) ≡ true
 quoted-present None = refl
 quoted-present (Some string) = choice (λ c. is_present (content_value c) ≡ true) (is_over string.rest) (Quoted string.text) Broken refl refl
 

@@ -58,15 +58,15 @@ abbrev pub is_over : List ℕ → Bool
 is_over bytes = is_comment (without_leading_spaces bytes)
 
 -- a string's bytes, and what follows its closing quote
-pub record Closed : Type 0 where
+pub record ClosedString : Type 0 where
   pub text : List ℕ
   pub rest : List ℕ
 
-abbrev pub with_first : ℕ → Closed → Closed
+abbrev pub with_first : ℕ → ClosedString → ClosedString
 with_first b string = record { text = b ∷ string.text; rest = string.rest }
 
 -- The string that runs up to the first quote that isn't doubled. A doubled quote means one quote. There is none where no quote closes it.
-abbrev pub closed : List ℕ → Option Closed
+abbrev pub closed : List ℕ → Option ClosedString
 closed [] = None
 closed (b ∷ []) = if b == quote then Some (record { text = []; rest = [] }) else None
 closed (b ∷ c ∷ rest) =

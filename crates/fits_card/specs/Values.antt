@@ -6,7 +6,7 @@ use Rattle.std.specs.Str.Parse.{digits_value}
 use Rattle.fits_card.specs.declared.number.Whole.{Whole}
 use Rattle.fits_card.specs.declared.number.Whole.TheVariants.{Is, NotWhole, Beyond, Unreadable}
 use Rattle.fits_card.specs.Pieces.{space, quote, slash, equals, plus, minus, without_leading_spaces}
-use Rattle.fits_card.specs.Pieces.{without_trailing_spaces, before_any, from_any, is_over, Closed, closed}
+use Rattle.fits_card.specs.Pieces.{without_trailing_spaces, before_any, from_any, is_over, ClosedString, closed}
 
 -- what stands in a value field
 pub data Content : Type 0 where
@@ -33,7 +33,7 @@ unfoldable pub value_field : List ℕ → List ℕ
 value_field card = if slice_index card 8 == equals && slice_index card 9 == space then without_leading_spaces (drop 10 card) else []
 
 -- a string is the content where nothing but a comment follows it
-abbrev pub quoted_content : Option Closed → Content
+abbrev pub quoted_content : Option ClosedString → Content
 quoted_content None = Broken
 quoted_content (Some string) = if is_over string.rest then Quoted string.text else Broken
 
@@ -47,11 +47,6 @@ content_of [] = Nothing
 content_of (first ∷ rest) =
     if first == slash then Nothing
     else (if first == quote then quoted_content (closed rest) else token_content (first ∷ rest))
-
--- the token, where the content is one
-abbrev pub token_in : Content → Option (List ℕ)
-token_in (Token bytes) = Some bytes
-token_in _ = None
 
 -- one or more digits
 abbrev pub is_numeral : List ℕ → Bool

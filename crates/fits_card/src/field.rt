@@ -1,9 +1,10 @@
-// The value field of a card, and the pieces that it is cut into.
+//! The value field of a card, and the pieces that it is cut into.
 ghost use Rattle.std.specs.Prelude.{◌≡◌, ◌+◌, ◌≤◌, length, take, drop, IfSome};
 ghost use Rattle.std.specs.Option.{option_copied, option_map};
 ghost use Rattle.std.specs.List.{position_or_len};
 ghost use Rattle.fits_card.specs.Pieces.{is_among, closed, before_any, from_any, is_over, without_leading_spaces, without_trailing_spaces};
-ghost use Rattle.fits_card.specs.Values.{value_field, content_of, token_in, token_content};
+ghost use Rattle.fits_card.specs.Values.{value_field, content_of, token_content};
+ghost use Rattle.fits_card.specs.Tokens.{token_in};
 
 use crate::Card;
 use arrayvec::ArrayVec;
@@ -51,7 +52,7 @@ pub(crate) fn split_before<'a>(bytes: &'a [u8], stops: &[u8]) -> (&'a [u8], &'a 
     bytes.split_at(first_place(bytes, stops))
 }
 
-/// The place of the first byte that is one of the stops, or the length where there is none.
+// The place of the first byte that is one of the stops, or the length where there is none.
 fn first_place(bytes: &[u8], stops: &[u8]) -> usize
     ensures place { result ≡ position_or_len (is_among stops.now) bytes.now }
     ensures within { result ≤ length bytes.now }
@@ -97,7 +98,7 @@ fn token_of(field: &[u8]) -> Option<&[u8]>
     plain_token(field)
 }
 
-/// The token at the front of the field, where nothing but a comment follows it.
+// The token at the front of the field, where nothing but a comment follows it.
 fn plain_token(field: &[u8]) -> Option<&[u8]>
     ensures content { option_copied result ≡ token_in (token_content field.now) }
     ensures short { IfSome result (λ token. length token.now ≤ length field.now) }

@@ -50,7 +50,7 @@ pub(crate) fn is_numeral(bytes: &[u8]) -> bool
     true
 }
 
-/// The number with one more digit at its end, where it fits.
+// The number with one more digit at its end, where it fits.
 fn with_digit(number: u64, digit: u8) -> Option<u64>
     requires low { 48 ≤ digit }
     requires high { digit ≤ 57 }
@@ -133,7 +133,7 @@ fn real(negative: bool, bytes: &[u8]) -> Whole
 // An exponent as far from 0 as this moves the point past all digits that a card can hold, as any farther one does.
 const FAR: u64 = 1_000;
 
-/// The exponent after its letter, or `FAR` or its negative where it is beyond these.
+// The exponent after its letter, or `FAR` or its negative where it is beyond these.
 fn exponent(bytes: &[u8]) -> Option<i64>
     ensures value { result ≡ option_map clamped (exponent_of bytes.now) }
     ensures low { IfSome result (λ e. negsuc 999 ≤ℤ e) }
@@ -149,7 +149,7 @@ fn exponent(bytes: &[u8]) -> Option<i64>
     signed(negative, magnitude(digits).unwrap_or(FAR).min(FAR))
 }
 
-/// The exponent of a real whose digits after the point are counted to the whole number.
+// The exponent of a real whose digits after the point are counted to the whole number.
 fn less(exponent: i64, decimals: usize) -> i64
     requires low { negsuc 999 ≤ℤ exponent }
     requires high { exponent ≤ℤ pos 1000 }
@@ -178,7 +178,7 @@ fn append(digits: &mut ArrayVec<u8, 70>, more: &[u8])
     }
 }
 
-/// The number that the digits write, times 10 to the power of the shift.
+// The number that the digits write, times 10 to the power of the shift.
 fn shifted(negative: bool, digits: &[u8], shift: i64) -> Whole
     requires { IsTrue (all_ascii_digits digits.now) }
     ensures { result ≡ whole_real (signed negative (number_of digits.now)) shift }
@@ -198,7 +198,7 @@ fn shifted(negative: bool, digits: &[u8], shift: i64) -> Whole
     fitted(negative, magnitude(front))
 }
 
-/// The number that the digits and so many zeros write, where it fits.
+// The number that the digits and so many zeros write, where it fits.
 fn raised(digits: &[u8], zeros: u64) -> Option<u64>
     requires { IsTrue (all_ascii_digits digits.now) }
     ensures { SomeIff result (number_of digits.now * 10 ^ zeros < 2 ^ 64) (number_of digits.now * 10 ^ zeros) }

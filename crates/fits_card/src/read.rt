@@ -1,4 +1,4 @@
-// The readers of a card.
+//! The readers of a card.
 ghost use Rattle.std.specs.Prelude.{◌≡◌, ◌≤◌, ◌↔◌, IsTrue, take, length};
 ghost use Rattle.std.specs.Option.{option_map};
 ghost use Rattle.fits_card.specs.Values.{value_of, token_value, is_present, logical_of, integer_of, text_of, whole_of};

@@ -1,11 +1,11 @@
-// The cards that a program writes, in fixed format (FITS Standard 4.0, section 4.2).
+//! The cards that a program writes, in fixed format (FITS Standard 4.0, section 4.2).
 ghost use Rattle.std.specs.Prelude.{◌≡◌, ◌+◌, ◌≤◌, ◌++◌, length, take, drop, IsTrue};
 ghost use Rattle.std.specs.List.{list_all};
 ghost use Rattle.fits_card.specs.Written.{is_plain, written_value, written_logical, written_integer, written_text, written_end};
 
 use crate::Card;
 
-/// Writes the bytes from this place on.
+// Writes the bytes from this place on.
 fn put(line: &mut [u8], at: usize, bytes: &[u8])
     requires { at + length bytes.now ≤ length line.old }
     ensures { line.new ≡ take at line.old ++ bytes.now ++ drop (at + length bytes.now) line.old }
@@ -13,7 +13,7 @@ fn put(line: &mut [u8], at: usize, bytes: &[u8])
     line[at..at + bytes.len()].copy_from_slice(bytes);
 }
 
-/// A card with this value from column 11 on.
+// A card with this value from column 11 on.
 fn value_card(name: &[u8; 8], value: &[u8]) -> Card
     requires { length value.now ≤ 70 }
     ensures { result ≡ written_value name.now value.now }

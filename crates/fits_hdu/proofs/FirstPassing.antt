@@ -4,13 +4,20 @@ use Rattle.std.proofs.lemmas.Bool.{cases_lt}
 use Rattle.fits_hdu.specs.Headers.{first_passing}
 
 found_here : (test : ℕ → Bool) (first k : ℕ) → first ≤ k → test first ≡ true → ((j : ℕ) → first ≤ j → j < k → test j ≡ false) → first ≡ k
-found_here test first k low passes none = elim (cases_lt first k) [ inl less ↦ let fails : test first ≡ false = none first (omega arith) less in absurd (cc) | inr more ↦ omega arith ]
+found_here test first k low passes none =
+    elim (cases_lt first k) [ inl less ↦ let fails : test first ≡ false = none first (omega arith) less in absurd (cc) | inr more ↦ omega arith ]
 
 further : (test : ℕ → Bool) (first k : ℕ) → first ≤ k → test first ≡ false → test k ≡ true → first + 1 ≤ k
-further test first k low fails passes = elim (cases_lt first k) [ inl less ↦ omega arith | inr more ↦ let same : first ≡ k = omega arith in let other : test k ≡ false = sym (ap test same) ∙ fails in absurd (cc) ]
+further test first k low fails passes =
+    elim (cases_lt first k) [
+      | inl less ↦ omega arith
+      | inr more ↦ let same : first ≡ k = omega arith in let other : test k ≡ false = sym
+          (ap test same) ∙ fails in absurd (cc)
+    ]
 
 -- it is the first one that passes
-pub first_passing_is : (test : ℕ → Bool) (n first k : ℕ) → first ≤ k → k < first + n → test k ≡ true → ((j : ℕ) → first ≤ j → j < k → test j ≡ false) → first_passing test first n ≡ k
+pub first_passing_is : (test : ℕ → Bool) (n first k : ℕ) → first ≤ k → k < first + n → test k ≡ true → ((j : ℕ) → first ≤ j → j < k → test j ≡ false)
+    → first_passing test first n ≡ k
 unfolding first_passing
 first_passing_is test zero first k low high passes none = absurd (omega arith)
 first_passing_is test (suc n) first k low high passes none =

@@ -1,5 +1,6 @@
 -- What is kept of one axis or one card more.
-use Rattle.std.proofs.Common.{◌≡◌, ℕ, ◌*◌, ◌≤◌, Bool, true, false, ◌&&◌, List, [], ◌∷◌, ◌++◌, length, Option, Some, None, refl, sym, ap, ◌∙◌, arith, cond, not, ◌||◌, is_none, is_some, codes}
+use Rattle.std.proofs.Common.{◌≡◌, ℕ, ◌*◌, ◌≤◌, Bool, true, false, ◌&&◌, List, [], ◌∷◌, ◌++◌, length, Option, Some, None, refl, sym, ap, ◌∙◌, arith, cond, not}
+use Rattle.std.proofs.Common.{◌||◌, is_none, is_some, codes}
 use Rattle.std.specs.Prelude.{◌==◌, find}
 use Rattle.std.specs.List.{list_all}
 use Rattle.std.specs.Option.{option_map, option_or}
@@ -19,14 +20,16 @@ product_more axes n = held-times (product axes) n ∙ ap held (sym (product-appe
 pub kept_first : (axes : List ℕ) (kept : Axes) (n product : ℕ) → length axes ≡ 0 → kept ≡ kept_axes axes → product ≡ held (kept.product * n)
     → record { width = n; height = 0; flat = true; product = product } ≡ kept_axes (axes ++ n ∷ [])
 unfolding kept_axes
-kept_first [] kept n p count is product_is = let all : p ≡ held (product (n ∷ [])) = product_is ∙ ap (λ k. held (k.product * n)) is ∙ product_more [] n in rw all refl
+kept_first [] kept n p count is product_is =
+    let all : p ≡ held (product (n ∷ [])) = product_is ∙ ap (λ k. held (k.product * n)) is ∙ product_more [] n in rw all refl
 kept_first (x ∷ axes) kept n p count is product_is = absurd (omega arith)
 
 pub kept_second : (axes : List ℕ) (kept : Axes) (n product : ℕ) → length axes ≡ 1 → kept ≡ kept_axes axes → product ≡ held (kept.product * n)
     → record { width = kept.width; height = n; flat = true; product = product } ≡ kept_axes (axes ++ n ∷ [])
 unfolding kept_axes
 kept_second [] kept n p count is product_is = absurd (omega arith)
-kept_second (x ∷ []) kept n p count is product_is = let all : p ≡ held (product (x ∷ n ∷ [])) = product_is ∙ ap (λ k. held (k.product * n)) is ∙ product_more (x ∷ []) n in rw (all, is) refl
+kept_second (x ∷ []) kept n p count is product_is =
+    let all : p ≡ held (product (x ∷ n ∷ [])) = product_is ∙ ap (λ k. held (k.product * n)) is ∙ product_more (x ∷ []) n in rw (all, is) refl
 kept_second (x ∷ y ∷ axes) kept n p count is product_is = absurd (omega arith)
 
 flat_more : (axes : List ℕ) (n : ℕ) → list_all (λ k. k == 1) (axes ++ n ∷ []) ≡ (list_all (λ k. k == 1) axes && (n == 1))
@@ -36,7 +39,8 @@ flat_more axes n = list_all-append (λ k. k == 1) axes (n ∷ []) ∙ ap (λ b. 
     last true = refl
     last false = refl
 
-pub kept_later : (axes : List ℕ) (kept : Axes) (n product : ℕ) (flat : Bool) → 2 ≤ length axes → kept ≡ kept_axes axes → product ≡ held (kept.product * n) → flat ≡ (kept.flat && (n == 1))
+pub kept_later : (axes : List ℕ) (kept : Axes) (n product : ℕ) (flat : Bool) → 2 ≤ length axes → kept ≡ kept_axes axes → product ≡ held (kept.product * n)
+    → flat ≡ (kept.flat && (n == 1))
     → record { width = kept.width; height = kept.height; flat = flat; product = product } ≡ kept_axes (axes ++ n ∷ [])
 unfolding kept_axes
 kept_later [] kept n p flat count is product_is flat_is = absurd (omega arith)
@@ -57,17 +61,20 @@ counting_more f name cards card =
     one true = refl
     one false = refl
 
-    by : (o : Option (List ℕ)) → option_map f (option_or o (find (is_valued name) (card ∷ []))) ≡ option_or (option_map f o) (cond (is_valued name card) (Some (f card)) None)
+    by : (o : Option (List ℕ))
+        → option_map f (option_or o (find (is_valued name) (card ∷ []))) ≡ option_or (option_map f o) (cond (is_valued name card) (Some (f card)) None)
     by None = one (is_valued name card)
     by (Some c) = refl
 
-kept_or : {T : Type 0} (f : List ℕ → T) (name : List ℕ) (cards : List (List ℕ)) (card : List ℕ) (kept : Option T) (valued : Bool) → kept ≡ option_map f (counting name cards) → is_valued name card ≡ valued
+kept_or : {T : Type 0} (f : List ℕ → T) (name : List ℕ) (cards : List (List ℕ)) (card : List ℕ) (kept : Option T) (valued : Bool)
+    → kept ≡ option_map f (counting name cards) → is_valued name card ≡ valued
     → option_or kept (cond valued (Some (f card)) None) ≡ option_map f (counting name (cards ++ card ∷ []))
 kept_or f name cards card kept valued is v = rw (is, ← v) (sym (counting_more f name cards card))
 
 -- it is the new card, where none was kept and it has a value
 pub keep_new : {T : Type 0} (f : List ℕ → T) (name : List ℕ) (cards : List (List ℕ)) (card : List ℕ) (kept : Option T)
-    → kept ≡ option_map f (counting name cards) → is_some kept ≡ false → is_valued name card ≡ true → Some (f card) ≡ option_map f (counting name (cards ++ card ∷ []))
+    → kept ≡ option_map f (counting name cards) → is_some kept ≡ false → is_valued name card ≡ true
+    → Some (f card) ≡ option_map f (counting name (cards ++ card ∷ []))
 keep_new f name cards card None is none valued = kept_or f name cards card None true is valued
 keep_new f name cards card (Some x) is none valued = absurd (cc)
 
@@ -95,7 +102,8 @@ unfolding kept_others
 others_more cards card groups pcount gcount bscale bzero blank a b c d e f = rw (a, b, c, d, e, f) refl
 
 -- whether one is kept
-is_none_kept : {T : Type 0} (f : List ℕ → T) (name : List ℕ) (cards : List (List ℕ)) (kept : Option T) → kept ≡ option_map f (counting name cards) → is_none kept ≡ is_none (counting name cards)
+is_none_kept : {T : Type 0} (f : List ℕ → T) (name : List ℕ) (cards : List (List ℕ)) (kept : Option T) → kept ≡ option_map f (counting name cards)
+    → is_none kept ≡ is_none (counting name cards)
 is_none_kept f name cards kept is = ap is_none is ∙ by (counting name cards)
   where
     by : (o : Option (List ℕ)) → is_none (option_map f o) ≡ is_none o
@@ -109,7 +117,8 @@ none_from (Some x) true h = absurd (cc)
 none_from (Some x) false h = refl
 
 -- the card that counts and isn't an integer from 0
-pub bad_count : (name : List ℕ) (cards : List (List ℕ)) (card : List ℕ) (kept : Option ℕ) (valued none unread : Bool) → kept ≡ option_map natural_or_zero (counting name cards)
+pub bad_count : (name : List ℕ) (cards : List (List ℕ)) (card : List ℕ) (kept : Option ℕ) (valued none unread : Bool)
+    → kept ≡ option_map natural_or_zero (counting name cards)
     → is_valued name card ≡ valued → is_some kept ≡ not none → is_some (natural card) ≡ not unread → is_bad_count name cards card ≡ (valued && (none && unread))
 unfolding is_bad_count
 bad_count name cards card kept valued none unread is a b c =
@@ -121,21 +130,25 @@ pub good_unvalued : (name : List ℕ) (cards : List (List ℕ)) (card : List ℕ
 unfolding is_bad_count
 good_unvalued name cards card a = rw a refl
 
-pub good_kept : (name : List ℕ) (cards : List (List ℕ)) (card : List ℕ) (kept : Option ℕ) → kept ≡ option_map natural_or_zero (counting name cards) → is_valued name card ≡ true → is_some kept ≡ true → is_bad_count name cards card ≡ false
+pub good_kept : (name : List ℕ) (cards : List (List ℕ)) (card : List ℕ) (kept : Option ℕ) → kept ≡ option_map natural_or_zero (counting name cards)
+    → is_valued name card ≡ true → is_some kept ≡ true → is_bad_count name cards card ≡ false
 unfolding is_bad_count
 good_kept name cards card kept is a b =
     let first : is_none (counting name cards) ≡ false = sym (is_none_kept natural_or_zero name cards kept is) ∙ none_from kept false b in
     rw (a, first) refl
 
-pub groups_kept : (cards : List (List ℕ)) (others : Others) → others ≡ kept_others cards → others.groups ≡ option_map is_true (counting (codes "GROUPS  ") cards)
+pub groups_kept : (cards : List (List ℕ)) (others : Others) → others ≡ kept_others cards
+    → others.groups ≡ option_map is_true (counting (codes "GROUPS  ") cards)
 unfolding kept_others
 groups_kept cards others is = ap (λ (o : Others). o.groups) is
 
-pub pcount_kept : (cards : List (List ℕ)) (others : Others) → others ≡ kept_others cards → others.pcount ≡ option_map natural_or_zero (counting (codes "PCOUNT  ") cards)
+pub pcount_kept : (cards : List (List ℕ)) (others : Others) → others ≡ kept_others cards
+    → others.pcount ≡ option_map natural_or_zero (counting (codes "PCOUNT  ") cards)
 unfolding kept_others
 pcount_kept cards others is = ap (λ (o : Others). o.pcount) is
 
-pub gcount_kept : (cards : List (List ℕ)) (others : Others) → others ≡ kept_others cards → others.gcount ≡ option_map natural_or_zero (counting (codes "GCOUNT  ") cards)
+pub gcount_kept : (cards : List (List ℕ)) (others : Others) → others ≡ kept_others cards
+    → others.gcount ≡ option_map natural_or_zero (counting (codes "GCOUNT  ") cards)
 unfolding kept_others
 gcount_kept cards others is = ap (λ (o : Others). o.gcount) is
 

@@ -2,6 +2,7 @@
 use Rattle.std.proofs.Common.{◌≡◌, ℕ, ◌+◌, ◌-◌, ◌/◌, ◌%◌, ◌^◌, ◌<◌, ◌≤◌, List, [], ◌∷◌, ◌++◌, length, replicate, codes, sym, ap, ◌∙◌, arith}
 use Rattle.std.specs.Fmt.{decimal}
 use Rattle.std.proofs.lemmas.Fmt.{decimal_digit, decimal_step}
+use Rattle.lemmas.proofs.Exported.{two_digits}
 use Rattle.fits_card.specs.Written.{numbered_keyword}
 
 abbrev named : List ℕ → List ℕ
@@ -19,16 +20,13 @@ keyword_of_one k less =
     let ones : k % 10 ≡ k = omega arith in
     rw ones (sym (keyword_is k _ (decimal_digit k less)))
 
-two_digits : (k : ℕ) → 10 ≤ k → k < 100 → decimal k ≡ (48 + k / 10) ∷ (48 + k % 10) ∷ []
-two_digits k least most =
-    decimal_step k least (omega arith) ∙ ap (λ l. l ++ (48 + k % 10) ∷ []) (decimal_digit (k / 10) (omega arith))
-
 pub keyword_of_two : (k : ℕ) → 10 ≤ k → k < 100 → 78 ∷ 65 ∷ 88 ∷ 73 ∷ 83 ∷ (48 + k / 10 % 10) ∷ (48 + k % 10) ∷ 32 ∷ [] ≡ numbered_keyword (codes "NAXIS") k
 keyword_of_two k least most =
     let tens : k / 10 % 10 ≡ k / 10 = omega arith in
     rw tens (sym (keyword_is k _ (two_digits k least most)))
 
-pub keyword_of_three : (k : ℕ) → 100 ≤ k → k ≤ 999 → 78 ∷ 65 ∷ 88 ∷ 73 ∷ 83 ∷ (48 + k / 100) ∷ (48 + k / 10 % 10) ∷ (48 + k % 10) ∷ [] ≡ numbered_keyword (codes "NAXIS") k
+pub keyword_of_three : (k : ℕ) → 100 ≤ k → k ≤ 999
+    → 78 ∷ 65 ∷ 88 ∷ 73 ∷ 83 ∷ (48 + k / 100) ∷ (48 + k / 10 % 10) ∷ (48 + k % 10) ∷ [] ≡ numbered_keyword (codes "NAXIS") k
 keyword_of_three k least most =
     let tens : k / 10 / 10 ≡ k / 100 = omega arith in
     let digits : decimal k ≡ (48 + k / 10 / 10) ∷ (48 + k / 10 % 10) ∷ (48 + k % 10) ∷ [] =

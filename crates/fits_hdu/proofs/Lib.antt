@@ -7,7 +7,6 @@ mod Filled
 mod Reaching
 mod Stages
 mod Judging
-mod Skipping
 mod Heads
 mod Searching
 mod ImageData

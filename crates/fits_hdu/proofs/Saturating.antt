@@ -22,9 +22,6 @@ min-times top p (suc k) = elim (cases_lt top p) [ inl more ↦ above more | inr 
 pub held-times : (p n : ℕ) → held (held p * n) ≡ held (p * n)
 held-times p n = min-times (2 ^ 64 - 1) p n
 
-pub held-plus : (p n : ℕ) → held (held p + n) ≡ held (p + n)
-held-plus p n = omega arith
-
 pub product-append : (axes : List ℕ) (n : ℕ) → product (axes ++ n ∷ []) ≡ product axes * n
 product-append [] n = omega arith
 product-append (x ∷ axes) n = ap (λ p. x * p) (product-append axes n) ∙ sym (mul_assoc x (product axes) n)

@@ -1,6 +1,6 @@
 -- Model: the HDU with a number, from 0, of a list of bytes. The HDUs before it are skipped (FITS Standard 4.0, section 3.3).
 use Rattle.std.specs.Prelude.{ℕ, zero, suc, ◌+◌, ◌-◌, ◌*◌, ◌/◌, List, length, if◌then◌else◌, nat_lt}
-use Rattle.fits_hdu.specs.declared.answer.HduFault.TheVariants.{NoSuchHdu, TruncatedSkip}
+use Rattle.fits_hdu.specs.declared.fault.HduFault.TheVariants.{NoSuchHdu, TruncatedSkip}
 use Rattle.fits_hdu.specs.Headers.{Found, found, refused, header_at}
 
 -- so many bytes in whole blocks

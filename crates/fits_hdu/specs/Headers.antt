@@ -9,8 +9,8 @@ use Rattle.fits_card.specs.declared.number.Whole.TheVariants.{Is}
 use Rattle.fits_hdu.specs.declared.answer.Kind.{Kind}
 use Rattle.fits_hdu.specs.declared.answer.Kind.TheVariants.{Primary, Image, Other}
 use Rattle.fits_hdu.specs.declared.answer.Hdu.{Hdu}
-use Rattle.fits_hdu.specs.declared.answer.HduFault.{HduFault}
-use Rattle.fits_hdu.specs.declared.answer.HduFault.TheVariants.{NotFits, TruncatedHeader, BadKeyword, HeaderTooLong, Groups, DataTooLong, NoSuchHdu}
+use Rattle.fits_hdu.specs.declared.fault.HduFault.{HduFault}
+use Rattle.fits_hdu.specs.declared.fault.HduFault.TheVariants.{NotFits, TruncatedHeader, BadKeyword, HeaderTooLong, Groups, DataTooLong, NoSuchHdu}
 use Rattle.fits_hdu.specs.Cards.{is_end, is_true, natural, whole, is_image, bitpix_of, naxis_of, is_mandatory, is_valued}
 use Rattle.fits_hdu.specs.Sizes.{data_size}
 
@@ -59,12 +59,12 @@ is_bad primary card j =
     else not (is_mandatory primary j (card j))
 
 -- card j is END and stands above the mandatory cards
-unfoldable pub is_last : (ℕ → List ℕ) → ℕ → Bool
-is_last card j = nat_lt (3 + axis_count card) j && is_end (card j)
+unfoldable pub ends_header : (ℕ → List ℕ) → ℕ → Bool
+ends_header card j = nat_lt (3 + axis_count card) j && is_end (card j)
 
 -- reading ends at card j: it isn't there, is at fault or is END
 unfoldable pub stops : List ℕ → ℕ → ℕ → ℕ → Bool
-stops bytes hdu start j = is_missing bytes start j || (is_bad (hdu == 0) (card_at bytes start) j || is_last (card_at bytes start) j)
+stops bytes hdu start j = is_missing bytes start j || (is_bad (hdu == 0) (card_at bytes start) j || ends_header (card_at bytes start) j)
 
 -- the least number that passes the test, of so many from the first on, or the one after them
 unfoldable pub first_passing : (ℕ → Bool) → ℕ → ℕ → ℕ
@@ -87,8 +87,8 @@ unfoldable pub is_beginning : Bool → List ℕ → Bool
 is_beginning primary bytes = bytes_eq (take 8 bytes) (beginning primary)
 
 -- an HDU begins at this place
-abbrev pub begins : ℕ → List ℕ → ℕ → Bool
-begins hdu bytes start = is_beginning (hdu == 0) (drop start bytes)
+abbrev pub hdu_begins : ℕ → List ℕ → ℕ → Bool
+hdu_begins hdu bytes start = is_beginning (hdu == 0) (drop start bytes)
 
 -- it is neither the primary HDU nor an image extension
 abbrev pub is_other : Kind → Bool
@@ -173,5 +173,5 @@ header_read_to bytes hdu start j =
 -- the HDU with this number, whose header starts here
 unfoldable pub header_at : List ℕ → ℕ → ℕ → Found
 header_at bytes hdu start =
-    if begins hdu bytes start then header_read_to bytes hdu start (last_read bytes hdu start)
+    if hdu_begins hdu bytes start then header_read_to bytes hdu start (last_read bytes hdu start)
     else refused (if hdu == 0 then NotFits else NoSuchHdu) (min (start + 80) (length bytes))

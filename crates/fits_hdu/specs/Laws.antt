@@ -3,7 +3,7 @@ use Rattle.std.specs.Prelude.{◌≡◌, ℕ, ◌+◌, ◌<◌, ◌≤◌, List,
 use Rattle.fits_hdu.specs.declared.answer.Hdu.{Hdu}
 use Rattle.fits_hdu.specs.Headers.{found}
 use Rattle.fits_hdu.specs.Finding.{find_of, find_after_of}
-use Rattle.fits_hdu.specs.Streams.{IsOther, IsOtherAfter}
+use Rattle.fits_hdu.specs.Streams.{MeetsOtherBytes, MeetsOtherBytesAfter}
 
 -- HDU n was found, and all its data are there
 pub record HasData (bytes : List ℕ) (n : ℕ) (passed : Hdu) (head : ℕ) : Type 0 where
@@ -18,4 +18,4 @@ SearchGoesOn = (bytes : List ℕ) (n number : ℕ) (passed : Hdu) (head : ℕ) �
 -- and where it meets other bytes than an extension's, the search from the start meets them
 abbrev pub OtherBytesAreMet : Type 0
 OtherBytesAreMet = (bytes : List ℕ) (n number : ℕ) (passed : Hdu) (head : ℕ) → HasData bytes n passed head → n < number
-    → IsOtherAfter bytes n passed.data_bytes (head + passed.data_bytes) number → IsOther bytes (find_of bytes) 0 number
+    → MeetsOtherBytesAfter bytes n passed.data_bytes (head + passed.data_bytes) number → MeetsOtherBytes bytes (find_of bytes) 0 number

@@ -1,5 +1,6 @@
 pub mod Cards
 pub mod Sizes
+pub mod Faults
 pub mod Headers
 pub mod Finding
 pub mod Streams

@@ -1,18 +1,20 @@
 -- Bookkeeping: how far reading has come, and what stands behind each fault.
-use Rattle.std.specs.Prelude.{◌≡◌, ℕ, ◌+◌, ◌*◌, ◌<◌, ◌≤◌, Bool, true, false, List, length, take, drop, Some, ℤ, IsTrue, ◌⊎◌}
+use Rattle.std.specs.Prelude.{◌≡◌, ℕ, ◌+◌, ◌*◌, ◌<◌, ◌≤◌, Bool, true, false, List, length, take, drop, Result, Ok, Err, Some, ℤ, IsTrue, ◌⊎◌}
 use Rattle.std.specs.declared.option.Option.{Option}
 use Rattle.dev_io.specs.Causes.{Rose}
 use Rattle.dev_io.specs.Streams.{Takes, TakesAtMost}
 use Rattle.fits_hdu.specs.declared.answer.Hdu.{Hdu}
-use Rattle.fits_hdu.specs.declared.answer.HduFault.{HduFault}
-use Rattle.fits_hdu.specs.declared.answer.HduFault.TheVariants.{TruncatedHeader, TruncatedSkip, NoSuchHdu, ReadFault}
+use Rattle.fits_hdu.specs.declared.fault.HduFault.{HduFault}
+use Rattle.fits_hdu.specs.declared.fault.HduFault.TheVariants.{TruncatedHeader, Groups, DataTooLong, TruncatedSkip, NoSuchHdu}
+use Rattle.fits_hdu.specs.declared.fault.HduStop.{HduStop}
+use Rattle.fits_hdu.specs.declared.fault.HduStop.TheVariants.{Fault, ReadFault}
 use Rattle.fits_hdu.specs.declared.axes.Axes.{Axes}
 use Rattle.fits_hdu.specs.declared.header.Mandatory.{Mandatory}
 use Rattle.fits_hdu.specs.declared.header.Ended.{Ended}
 use Rattle.fits_hdu.specs.Cards.{is_image, bitpix_of, natural}
-use Rattle.fits_hdu.specs.Headers.{found, begins, stops, card_at, axis_count, axes_of, others_before, whole_header, header_at}
+use Rattle.fits_hdu.specs.Headers.{found, hdu_begins, stops, card_at, axis_count, axes_of, others_before, whole_header, header_at}
 use Rattle.fits_hdu.specs.Finding.{padded, padding, find_on_of}
-use Rattle.fits_hdu.specs.Streams.{OtherBytes, IsOther}
+use Rattle.fits_hdu.specs.Streams.{OtherBytes, MeetsOtherBytes}
 use Rattle.fits_hdu.specs.Kept.{kept_axes, kept_others}
 
 -- the next 80 bytes were read
@@ -21,14 +23,14 @@ pub record CardRead (bytes : List ℕ) (at : ℕ) (left : Option (List ℕ)) (ca
   pub takes : Takes bytes left (at + 80)
 
 -- they weren't
-abbrev pub CardMissing : List ℕ → ℕ → Option (List ℕ) → HduFault → Type 0
-CardMissing bytes at left TruncatedHeader = (length bytes < at + 80) × Takes bytes left (length bytes)
+abbrev pub CardMissing : List ℕ → ℕ → Option (List ℕ) → HduStop → Type 0
+CardMissing bytes at left (Fault TruncatedHeader) = (length bytes < at + 80) × Takes bytes left (length bytes)
 CardMissing bytes at left ReadFault = TakesAtMost bytes left (at + 80)
-CardMissing bytes at left fault = ⊥
+CardMissing bytes at left (Fault fault) = ⊥
 
 -- reading doesn't end up to card k, whose last byte was taken
 pub record CardsPassed (bytes : List ℕ) (hdu start : ℕ) (left : Option (List ℕ)) (k : ℕ) : Type 0 where
-  pub begun : begins hdu bytes start ≡ true
+  pub begun : hdu_begins hdu bytes start ≡ true
   pub passed : (j : ℕ) → 1 ≤ j → j ≤ k → stops bytes hdu start j ≡ false
   pub takes : Takes bytes left (start + 80 * k)
 
@@ -68,20 +70,24 @@ pub record EndRead (bytes : List ℕ) (hdu start : ℕ) (left : Option (List ℕ
   pub takes : Takes bytes left (start + 80 * ended.number)
   pub most : ended.number ≤ 36000
 
--- so many bytes were passed over, or the bytes end before
-abbrev pub Skipped : List ℕ → ℕ → ℕ → Option (List ℕ) → Bool → Type 0
-Skipped bytes at count left true = Takes bytes left (at + count)
-Skipped bytes at count left false = (length bytes < at + count) × Takes bytes left (length bytes)
-
 -- The causes of faults.
 
 -- A header or a skip that is cut short has found the end, a read fault has raised the count, and behind NoSuchHdu stands what is named.
-abbrev pub Caused : Type 0 → Bool → ℕ → ℕ → HduFault → Type 0
-Caused missing ended before now TruncatedHeader = IsTrue ended
-Caused missing ended before now TruncatedSkip = IsTrue ended
-Caused missing ended before now NoSuchHdu = missing
+abbrev pub Caused : Type 0 → Bool → ℕ → ℕ → HduStop → Type 0
+Caused missing ended before now (Fault TruncatedHeader) = IsTrue ended
+Caused missing ended before now (Fault TruncatedSkip) = IsTrue ended
+Caused missing ended before now (Fault NoSuchHdu) = missing
 Caused missing ended before now ReadFault = Rose before now
-Caused missing ended before now fault = Unit {0}
+Caused missing ended before now (Fault fault) = Unit {0}
+
+-- a fault of a header that was read, as the end of a search
+abbrev pub stops_at_fault : Result Hdu HduFault → Result Hdu HduStop
+stops_at_fault (Ok hdu) = Ok hdu
+stops_at_fault (Err fault) = Err (Fault fault)
+
+-- a fault that only a whole header shows
+abbrev pub IsOfWholeHeader : HduStop → Type 0
+IsOfWholeHeader stop = (stop ≡ Fault Groups) ⊎ (stop ≡ Fault DataTooLong)
 
 -- the bytes that were left begin so
 abbrev pub OtherLeft : Option (List ℕ) → ℕ → Type 0
@@ -101,4 +107,4 @@ OtherBehind left hdu size = (bytes : List ℕ) (head : ℕ) → Takes bytes left
 
 -- the same after HDU n or a later one
 abbrev pub OtherLater : Option (List ℕ) → ℕ → Hdu → ℕ → Type 0
-OtherLater left n hdu number = (bytes : List ℕ) (head : ℕ) → Takes bytes left head → IsOther bytes (find_on_of bytes n (found hdu head)) n number
+OtherLater left n hdu number = (bytes : List ℕ) (head : ℕ) → Takes bytes left head → MeetsOtherBytes bytes (find_on_of bytes n (found hdu head)) n number

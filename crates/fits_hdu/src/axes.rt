@@ -1,4 +1,4 @@
-// The axes, of which no array is kept.
+//! The axes, of which no array is kept.
 ghost use Rattle.std.specs.Prelude.{◌≡◌, List, ℕ, [], ◌∷◌, ◌++◌, length};
 ghost use Rattle.fits_hdu.specs.Kept.{kept_axes};
 
@@ -26,7 +26,8 @@ impl Axes {
 
     /// With one more axis, after so many.
     pub(crate) fn with(&self, count: u16, size: u64) -> Axes
-        ensures { (axes : List ℕ) → length axes ≡ count → self.now ≡ kept_axes axes → result ≡ kept_axes (axes ++ size ∷ []) }
+        ensures { (axes : List ℕ) → length axes ≡ count → self.now ≡ kept_axes axes → result ≡
+            kept_axes (axes ++ size ∷ []) }
     {
         let product = self.product.saturating_mul(size);
         match count {

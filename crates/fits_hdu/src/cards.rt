@@ -1,4 +1,4 @@
-// What one card says.
+//! What one card says.
 ghost use Rattle.std.specs.Prelude.{◌≡◌, ◌<◌, ◌≤◌, Bool, List, ℕ, codes};
 ghost use Rattle.fits_card.specs.Written.{numbered_keyword};
 ghost use Rattle.fits_hdu.specs.Cards.{has_keyword, natural, whole, is_true, is_image, is_end, is_first, bitpix_of, naxis_of, axis_of, is_valued};
@@ -133,7 +133,7 @@ pub(crate) fn axis(card: &Card, number: u16) -> Option<u64>
     }
 }
 
-/// The keyword of an axis: its number without leading zeros, filled with spaces.
+// The keyword of an axis: its number without leading zeros, filled with spaces.
 #[tactic(auto, unfolding(fits_card::specs::Written::numbered_keyword))]
 fn axis_keyword(number: u16) -> [u8; 8]
     requires { number ≤ 999 }

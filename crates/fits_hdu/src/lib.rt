@@ -5,13 +5,15 @@
 mod answer;
 mod axes;
 mod cards;
+mod fault;
 mod finding;
 mod header;
 pub mod laws;
 mod others;
 mod stream;
 
-pub use answer::{Hdu, HduFault, Kind};
+pub use answer::{Hdu, Kind};
+pub use fault::{CardPlace, HduFault, HduStop};
 pub use finding::{find_after, find_hdu};
 
 #[cfg(test)]

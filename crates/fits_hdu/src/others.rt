@@ -1,4 +1,4 @@
-// The cards after the mandatory ones.
+//! The cards after the mandatory ones.
 ghost use Rattle.std.specs.Prelude.{◌≡◌, List, ℕ, [], ◌∷◌, ◌++◌, ◌&&◌, ◌||◌, codes, not};
 ghost use Rattle.std.specs.Option.{option_map};
 ghost use Rattle.fits_hdu.specs.Cards.{is_true, whole};
@@ -21,7 +21,8 @@ pub(crate) struct Others {
 }
 
 fn keep_logical(kept: Option<bool>, card: &Card, keyword: &[u8; 8]) -> Option<bool>
-    ensures { (cards : List (List ℕ)) → kept ≡ option_map is_true (counting keyword.now cards) → result ≡ option_map is_true (counting keyword.now (cards ++ card.now ∷ [])) }
+    ensures { (cards : List (List ℕ)) → kept ≡ option_map is_true (counting keyword.now cards) →
+        result ≡ option_map is_true (counting keyword.now (cards ++ card.now ∷ [])) }
 {
     if kept.is_none() && is_valued(card, keyword) {
         Some(is_true(card))
@@ -31,7 +32,9 @@ fn keep_logical(kept: Option<bool>, card: &Card, keyword: &[u8; 8]) -> Option<bo
 }
 
 fn keep_number(kept: Option<u64>, card: &Card, keyword: &[u8; 8]) -> Option<u64>
-    ensures { (cards : List (List ℕ)) → kept ≡ option_map natural_or_zero (counting keyword.now cards) → result ≡ option_map natural_or_zero (counting keyword.now (cards ++ card.now ∷ [])) }
+    ensures { (cards : List (List ℕ)) → kept ≡
+        option_map natural_or_zero (counting keyword.now cards) → result ≡
+        option_map natural_or_zero (counting keyword.now (cards ++ card.now ∷ [])) }
 {
     if kept.is_none() && is_valued(card, keyword) {
         Some(natural(card).unwrap_or(0))
@@ -41,7 +44,8 @@ fn keep_number(kept: Option<u64>, card: &Card, keyword: &[u8; 8]) -> Option<u64>
 }
 
 fn keep_whole(kept: Option<Whole>, card: &Card, keyword: &[u8; 8]) -> Option<Whole>
-    ensures { (cards : List (List ℕ)) → kept ≡ option_map whole (counting keyword.now cards) → result ≡ option_map whole (counting keyword.now (cards ++ card.now ∷ [])) }
+    ensures { (cards : List (List ℕ)) → kept ≡ option_map whole (counting keyword.now cards) →
+        result ≡ option_map whole (counting keyword.now (cards ++ card.now ∷ [])) }
 {
     if kept.is_none() && is_valued(card, keyword) {
         Some(whole(card))
@@ -50,9 +54,11 @@ fn keep_whole(kept: Option<Whole>, card: &Card, keyword: &[u8; 8]) -> Option<Who
     }
 }
 
-/// Whether the card is the one with this keyword that counts, and isn't an integer from 0.
+// Whether the card is the one with this keyword that counts, and isn't an integer from 0.
 fn is_bad_count(kept: Option<u64>, card: &Card, keyword: &[u8; 8]) -> bool
-    ensures { (cards : List (List ℕ)) → kept ≡ option_map natural_or_zero (counting keyword.now cards) → result ≡ is_bad_count keyword.now cards card.now }
+    ensures { (cards : List (List ℕ)) → kept ≡
+        option_map natural_or_zero (counting keyword.now cards) → result ≡
+        is_bad_count keyword.now cards card.now }
 {
     is_valued(card, keyword) && (kept.is_none() && natural(card).is_none())
 }
@@ -73,7 +79,9 @@ impl Others {
 
     /// Whether the card is an extension's PCOUNT or GCOUNT that counts, and isn't an integer from 0.
     pub(crate) fn is_bad(&self, primary: bool, card: &Card) -> bool
-        ensures { (cards : List (List ℕ)) → self.now ≡ kept_others cards → result ≡ (not primary && (is_bad_count (codes "PCOUNT  ") cards card.now || is_bad_count (codes "GCOUNT  ") cards card.now)) }
+        ensures { (cards : List (List ℕ)) → self.now ≡ kept_others cards → result ≡ (not primary &&
+            (is_bad_count (codes "PCOUNT  ") cards card.now || is_bad_count
+            (codes "GCOUNT  ") cards card.now)) }
     {
         if primary {
             return false;
@@ -83,7 +91,8 @@ impl Others {
 
     /// With one more card.
     pub(crate) fn with(&self, card: &Card) -> Others
-        ensures { (cards : List (List ℕ)) → self.now ≡ kept_others cards → result ≡ kept_others (cards ++ card.now ∷ []) }
+        ensures { (cards : List (List ℕ)) → self.now ≡ kept_others cards → result ≡
+            kept_others (cards ++ card.now ∷ []) }
     {
         Others {
             groups: keep_logical(self.groups, card, b"GROUPS  "),

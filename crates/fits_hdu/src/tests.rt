@@ -1,7 +1,7 @@
 ghost use Rattle.std.specs.Prelude.{◌<◌};
 
 use super::*;
-use dev_io::PlainSource;
+use dev_io::{MemSource, PlainSource};
 use fits_card::number::Whole;
 use fits_card::{Card, end_card, int_card, logical_card};
 use std::alloc::{AllocError, Global};
@@ -30,14 +30,14 @@ fn header_of(alloc: Global, cards: &[Card], blanks: u32) -> Result<Vec<u8>, Allo
 }
 
 // The HDU and how many bytes are left.
-fn find(bytes: &[u8], number: u16) -> (Result<Hdu, HduFault>, usize) {
+fn find(bytes: &[u8], number: u16) -> (Result<Hdu, HduStop>, usize) {
     let mut source = PlainSource::new(bytes);
     let found = find_hdu(&mut source, number);
     (found, source.rest().len())
 }
 
 // The HDU with this number after an extension with three bytes of data, which were taken, and how many bytes are left.
-fn go_on(bytes: &[u8], number: u16) -> (Result<Hdu, HduFault>, usize)
+fn go_on(bytes: &[u8], number: u16) -> (Result<Hdu, HduStop>, usize)
     requires { 1 < number }
 {
     let mut source = PlainSource::new(bytes);
@@ -217,7 +217,7 @@ fn headers_are_refused(rt: HostRuntime) -> Result<(), Fail> {
     ];
     for (cards, blanks, fault, rest) in rows {
         let bytes = header_of(rt.alloc(), cards, blanks)?;
-        assert_eq!(rt; find(&bytes, 0), (Err(fault), rest));
+        assert_eq!(rt; find(&bytes, 0), (Err(HduStop::Fault(fault)), rest));
     }
     Ok(())
 }
@@ -233,7 +233,10 @@ fn too_many_bytes_of_data_are_refused(rt: HostRuntime) -> Result<(), Fail> {
         end_card(),
     ];
     let bytes = header_of(rt.alloc(), &long, 31)?;
-    assert_eq!(rt; find(&bytes, 0), (Err(HduFault::DataTooLong), 0));
+    assert_eq!(rt;
+        find(&bytes, 0),
+        (Err(HduStop::Fault(HduFault::DataTooLong)), 0)
+    );
     let deep = [
         simple(),
         bitpix(8),
@@ -244,7 +247,48 @@ fn too_many_bytes_of_data_are_refused(rt: HostRuntime) -> Result<(), Fail> {
         end_card(),
     ];
     let bytes = header_of(rt.alloc(), &deep, 29)?;
-    assert_eq!(rt; find(&bytes, 0), (Err(HduFault::DataTooLong), 0));
+    assert_eq!(rt;
+        find(&bytes, 0),
+        (Err(HduStop::Fault(HduFault::DataTooLong)), 0)
+    );
+    Ok(())
+}
+
+// 2^40 bytes are not too many.
+#[test]
+fn the_greatest_data_are_accepted(rt: HostRuntime) -> Result<(), Fail> {
+    let most = [
+        simple(),
+        bitpix(8),
+        naxis(1),
+        axis(b'1', 1099511627776),
+        end_card(),
+    ];
+    let bytes = header_of(rt.alloc(), &most, 31)?;
+    match find(&bytes, 0) {
+        (Ok(hdu), _) => assert_eq!(rt; hdu.data_bytes, 1099511627776),
+        (Err(stop), _) => assert_eq!(rt; Some(stop), None),
+    }
+    Ok(())
+}
+
+#[test]
+fn a_failing_source_is_no_cut_header(rt: HostRuntime) -> Result<(), Fail> {
+    let bytes = header_of(rt.alloc(), &[simple(), bitpix(8)], 0)?;
+    for fails in [[1], [2]] {
+        let mut source = MemSource::new(&bytes, 80, &fails);
+        assert_eq!(rt; find_hdu(&mut source, 0), Err(HduStop::ReadFault));
+    }
+    Ok(())
+}
+
+#[test]
+fn faults_have_numbers_and_names(rt: HostRuntime) -> Result<(), Fail> {
+    let fault = HduFault::BadKeyword { hdu: 1, card: 4 };
+    assert_eq!(rt; fault.number(), 3);
+    assert_eq!(rt; fault.name(), "BadKeyword");
+    assert_eq!(rt; fault.place(), Some(CardPlace { hdu: 1, card: 4 }));
+    assert_eq!(rt; HduFault::TruncatedSkip.place(), None);
     Ok(())
 }
 
@@ -260,7 +304,10 @@ fn a_bad_axis_is_named_by_its_card(rt: HostRuntime) -> Result<(), Fail> {
     let bytes = header_of(rt.alloc(), &cards, 31)?;
     assert_eq!(rt;
         find(&bytes, 0),
-        (Err(HduFault::BadKeyword { hdu: 0, card: 4 }), 2560)
+        (
+            Err(HduStop::Fault(HduFault::BadKeyword { hdu: 0, card: 4 })),
+            2560
+        )
     );
     Ok(())
 }
@@ -297,9 +344,15 @@ fn later_hdus_are_found(rt: HostRuntime) -> Result<(), Fail> {
     bytes.extend_from_slice(&header_of(alloc, &extension, 27)?)?;
     bytes.extend_from_slice(&[1, 2])?;
     assert_eq!(rt; find(&bytes, 1), (Ok(image_row()), 2));
-    assert_eq!(rt; find(&bytes, 2), (Err(HduFault::TruncatedSkip), 0));
+    assert_eq!(rt;
+        find(&bytes, 2),
+        (Err(HduStop::Fault(HduFault::TruncatedSkip)), 0)
+    );
     bytes.extend_from_slice(&[1])?;
-    assert_eq!(rt; find(&bytes, 2), (Err(HduFault::NoSuchHdu), 0));
+    assert_eq!(rt;
+        find(&bytes, 2),
+        (Err(HduStop::Fault(HduFault::NoSuchHdu)), 0)
+    );
     Ok(())
 }
 
@@ -322,7 +375,10 @@ fn a_count_below_0_is_refused(rt: HostRuntime) -> Result<(), Fail> {
     bytes.extend_from_slice(&extension)?;
     assert_eq!(rt;
         find(&bytes, 1),
-        (Err(HduFault::BadKeyword { hdu: 1, card: 4 }), 2560)
+        (
+            Err(HduStop::Fault(HduFault::BadKeyword { hdu: 1, card: 4 })),
+            2560
+        )
     );
     Ok(())
 }
@@ -333,7 +389,10 @@ fn the_search_goes_on(rt: HostRuntime) -> Result<(), Fail> {
     let header = header_of(alloc, &extension(), 28)?;
     let mut bytes = Vec::new(alloc);
     bytes.resize(2877, 0)?;
-    assert_eq!(rt; go_on(&bytes, 3), (Err(HduFault::NoSuchHdu), 0));
+    assert_eq!(rt;
+        go_on(&bytes, 3),
+        (Err(HduStop::Fault(HduFault::NoSuchHdu)), 0)
+    );
     bytes.extend_from_slice(&header)?;
     bytes.extend_from_slice(&[1, 2, 3])?;
     assert_eq!(rt; go_on(&bytes, 2), (Ok(image_row()), 3));
@@ -342,13 +401,19 @@ fn the_search_goes_on(rt: HostRuntime) -> Result<(), Fail> {
     bytes.extend_from_slice(&later)?;
     assert_eq!(rt;
         go_on(&bytes, 3),
-        (Err(HduFault::BadKeyword { hdu: 3, card: 2 }), 2720)
+        (
+            Err(HduStop::Fault(HduFault::BadKeyword { hdu: 3, card: 2 })),
+            2720
+        )
     );
     Ok(())
 }
 
 #[test]
 fn an_end_in_the_padding_is_no_hdu(rt: HostRuntime) -> Result<(), Fail> {
-    assert_eq!(rt; go_on(&[0; 2876], 2), (Err(HduFault::NoSuchHdu), 0));
+    assert_eq!(rt;
+        go_on(&[0; 2876], 2),
+        (Err(HduStop::Fault(HduFault::NoSuchHdu)), 0)
+    );
     Ok(())
 }

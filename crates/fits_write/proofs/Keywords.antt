@@ -1,7 +1,8 @@
 -- The keyword of a column by its root and its digits.
-use Rattle.std.proofs.Common.{◌≡◌, ℕ, ◌+◌, ◌/◌, ◌%◌, ◌<◌, ◌≤◌, List, [], ◌∷◌, ◌++◌, length, get_or, sym, ap, ◌∙◌, arith}
+use Rattle.std.proofs.Common.{◌≡◌, ℕ, ◌+◌, ◌/◌, ◌%◌, ◌<◌, ◌≤◌, List, [], ◌∷◌, ◌++◌, length, get_or, sym, ap, arith}
 use Rattle.std.specs.Fmt.{decimal}
-use Rattle.std.proofs.lemmas.Fmt.{decimal_digit, decimal_step}
+use Rattle.std.proofs.lemmas.Fmt.{decimal_digit}
+use Rattle.lemmas.proofs.Exported.{two_digits}
 use Rattle.fits_card.specs.Written.{left_justified, numbered_keyword}
 
 by_digits : (root digits : List ℕ) (n : ℕ) → decimal n ≡ digits → numbered_keyword root n ≡ left_justified 8 (root ++ digits)
@@ -15,11 +16,8 @@ numbered_by_one (a ∷ b ∷ c ∷ d ∷ e ∷ []) n five less =
     rw ones (sym (by_digits (a ∷ b ∷ c ∷ d ∷ e ∷ []) _ n (decimal_digit n less)))
 numbered_by_one _ n five less = absurd (omega arith)
 
-two_digits : (k : ℕ) → 10 ≤ k → k < 100 → decimal k ≡ (48 + k / 10) ∷ (48 + k % 10) ∷ []
-two_digits k least most =
-    decimal_step k least (omega arith) ∙ ap (λ l. l ++ (48 + k % 10) ∷ []) (decimal_digit (k / 10) (omega arith))
-
 pub numbered_by_two : (root : List ℕ) (n : ℕ) → length root ≡ 5 → 10 ≤ n → n ≤ 99
-    → get_or root 0 0 ∷ get_or root 1 0 ∷ get_or root 2 0 ∷ get_or root 3 0 ∷ get_or root 4 0 ∷ (48 + n / 10) ∷ (48 + n % 10) ∷ 32 ∷ [] ≡ numbered_keyword root n
+    → get_or root 0 0 ∷ get_or root 1 0 ∷ get_or root 2 0 ∷ get_or root 3 0 ∷ get_or root 4 0 ∷ (48 + n / 10) ∷ (48 + n % 10) ∷ 32 ∷ []
+    ≡ numbered_keyword root n
 numbered_by_two (a ∷ b ∷ c ∷ d ∷ e ∷ []) n five least most = sym (by_digits (a ∷ b ∷ c ∷ d ∷ e ∷ []) _ n (two_digits n least (omega arith)))
 numbered_by_two _ n five least most = absurd (omega arith)

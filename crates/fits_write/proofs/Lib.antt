@@ -1,3 +1,3 @@
-pub mod Pieces
+mod Pieces
 mod Keywords
 mod TableParts

@@ -1,8 +1,9 @@
 -- Pieces that are written one behind the other, and the filling of the last block.
-use Rattle.std.proofs.Common.{◌≡◌, ◌∙◌, ℕ, ◌+◌, ◌-◌, ◌%◌, ◌<◌, ◌≤◌, List, [], ◌∷◌, ◌++◌, get_or, length, map, replicate, take, take_all, drop, ap, refl, sym, subst, append-nil, append_assoc, take-append-drop, length-append, arith, Result}
+use Rattle.std.proofs.Common.{◌≡◌, ◌∙◌, ℕ, ◌+◌, ◌-◌, ◌%◌, ◌<◌, ◌≤◌, List, [], ◌∷◌, ◌++◌, get_or, length, map, replicate, take, take_all, drop, ap, refl, sym}
+use Rattle.std.proofs.Common.{subst, append-nil, append_assoc, take-append-drop, length-append, arith, Result}
 use Rattle.std.specs.List.{concat, flat_map}
 use Rattle.std.proofs.Math.Nat.{mod-add-mod, mod-eq_of_lt}
-use Rattle.std.proofs.lemmas.List.{map-append, take_more, length-map, get_or-map, take-replicate, length-replicate}
+use Rattle.std.proofs.lemmas.List.{map-append, length-map, get_or-map, take-replicate, length-replicate}
 use Rattle.std.proofs.Math.Seq.{take-add}
 use Rattle.std.proofs.lemmas.List.Folds.{concat-append}
 use Rattle.std.proofs.lemmas.List.Concat.{flat_map-cons}
@@ -11,18 +12,11 @@ use Rattle.std.specs.Io.KnownBytes.{Appends}
 use Rattle.dev_io.specs.Streams.{AppendsPrefix, PutAppends}
 use Rattle.dev_io.specs.Laws.{AppendsPrefix-more, PutAppends-after}
 use Rattle.dev_io.specs.Blocks.{Moves, Moves-after, Moves-cut}
-use Rattle.fits_write.specs.Blocks.{Waits, filled, room_after}
+use Rattle.lemmas.proofs.Exported.{concat-more, concat-split}
+use Rattle.fits_write.specs.Blocks.{filled, room_after}
+use Rattle.fits_write.specs.Waiting.{Waits}
 use Rattle.byteorder.specs.Endian.{big_bytes}
 use Rattle.fits_write.specs.Hdus.{header, map_bytes}
-
-concat-more : (xss : List (List ℕ)) (i : ℕ) → i < length xss → concat (take (i + 1) xss) ≡ concat (take i xss) ++ get_or xss i []
-concat-more xss i h =
-    ap concat (take_more xss i [] h) ∙ concat-append (take i xss) (get_or xss i [] ∷ []) ∙ ap (λ l. concat (take i xss) ++ l) (append-nil (get_or xss i []))
-
-concat-split : (xss : List (List ℕ)) (i : ℕ) → i < length xss → concat xss ≡ concat (take i xss) ++ (get_or xss i [] ++ concat (drop (i + 1) xss))
-concat-split xss i h =
-    ap concat (sym (take-append-drop (i + 1) xss)) ∙ concat-append (take (i + 1) xss) (drop (i + 1) xss)
-    ∙ ap (λ l. l ++ concat (drop (i + 1) xss)) (concat-more xss i h) ∙ append_assoc (concat (take i xss)) (get_or xss i []) (concat (drop (i + 1) xss))
 
 -- more bytes behind those that wait
 pub Waits-after : (a b c : Option (List ℕ)) (xs ys v w : List ℕ) → Waits a b xs v → Waits b c (v ++ ys) w → Waits a c (xs ++ ys) w
@@ -71,7 +65,8 @@ unfolding filled
 waits_filled a b c r xs v byte p put =
     let rest = replicate (room_after (length v)) byte in
     let all : p.moves.sent ++ (v ++ rest) ≡ xs ++ replicate (room_after (length xs)) byte =
-    sym (append_assoc p.moves.sent v rest) ∙ ap (λ l. l ++ rest) (sym p.moves.split) ∙ ap (λ n. xs ++ replicate n byte) (room_in_block (length xs) (length v) p.whole) in
+    sym (append_assoc p.moves.sent v rest) ∙ ap (λ l. l ++ rest) (sym p.moves.split)
+    ∙ ap (λ n. xs ++ replicate n byte) (room_in_block (length xs) (length v) p.whole) in
     subst (λ (l : List ℕ). PutAppends a c r l) all (PutAppends-after a b c r p.moves.sent (v ++ rest) p.moves.appended put)
 
 -- a front of these bytes is a front of them in whole blocks
@@ -125,7 +120,8 @@ all_put a b xs v p none = subst (Appends a b) (sym (p.split ∙ ap (λ l. p.sent
 pub piece_in : {X : Type 0} (f : X → List ℕ) (xs : List X) (i : ℕ) → i < length xs → i < length (map f xs)
 piece_in f xs i h = omega (arith, length-map xs f)
 
-pub piece_is : {X : Type 0} (f : X → List ℕ) (xs : List X) (i : ℕ) (x d : X) (bytes : List ℕ) → i < length xs → bytes ≡ f x → x ≡ get_or xs i d → bytes ≡ get_or (map f xs) i []
+pub piece_is : {X : Type 0} (f : X → List ℕ) (xs : List X) (i : ℕ) (x d : X) (bytes : List ℕ) → i < length xs → bytes ≡ f x → x ≡ get_or xs i d
+    → bytes ≡ get_or (map f xs) i []
 piece_is f xs i x d bytes h is here = is ∙ ap f here ∙ sym (get_or-map f xs i d [] h)
 
 pub pieces_over : {X : Type 0} (f : X → List ℕ) (xs : List X) (i : ℕ) → length xs ≤ i → length (map f xs) ≤ i
@@ -144,10 +140,12 @@ cut_from_nothing a b start xs empty p = subst (λ l. AppendsPrefix a b (l ++ xs)
 pub header_put : (a b : Option (List ℕ)) (cards expected : List (List ℕ)) → cards ≡ expected → Appends a b (header cards) → Appends a b (header expected)
 header_put a b cards expected same p = subst (λ l. Appends a b (header l)) same p
 
-pub header_front : (a b : Option (List ℕ)) (cards expected : List (List ℕ)) → cards ≡ expected → AppendsPrefix a b (header cards) → AppendsPrefix a b (header expected)
+pub header_front : (a b : Option (List ℕ)) (cards expected : List (List ℕ)) → cards ≡ expected → AppendsPrefix a b (header cards)
+    → AppendsPrefix a b (header expected)
 header_front a b cards expected same p = subst (λ l. AppendsPrefix a b (header l)) same p
 
-pub header_cut : (a b : Option (List ℕ)) (cards expected : List (List ℕ)) (data_blocks : List ℕ) → cards ≡ expected → AppendsPrefix a b (header cards) → AppendsPrefix a b (header expected ++ data_blocks)
+pub header_cut : (a b : Option (List ℕ)) (cards expected : List (List ℕ)) (data_blocks : List ℕ) → cards ≡ expected → AppendsPrefix a b (header cards)
+    → AppendsPrefix a b (header expected ++ data_blocks)
 header_cut a b cards expected data_blocks same p = AppendsPrefix-more a b (header expected) data_blocks (subst (λ l. AppendsPrefix a b (header l)) same p)
 
 pub header_and_data : {T E : Type 0} (a b c : Option (List ℕ)) (r : Result T E) (cards expected : List (List ℕ)) (data_blocks : List ℕ) → cards ≡ expected
@@ -165,7 +163,8 @@ map_bytes-next : (xs : List ℕ) (n m : ℕ) → map_bytes (take n xs) ++ map_by
 map_bytes-next xs n m = sym (map_bytes-append (take n xs) (take m (drop n xs))) ∙ ap map_bytes (sym (take-add n m xs))
 
 -- the bytes of a part behind those of the numbers before it
-pub part_waits : (a b c : Option (List ℕ)) (xs v w : List ℕ) (n m k : ℕ) → k ≡ n + m → Waits a b (map_bytes (take n xs)) v → Waits b c (v ++ map_bytes (take (k - n) (drop n xs))) w
+pub part_waits : (a b c : Option (List ℕ)) (xs v w : List ℕ) (n m k : ℕ) → k ≡ n + m → Waits a b (map_bytes (take n xs)) v
+    → Waits b c (v ++ map_bytes (take (k - n) (drop n xs))) w
     → Waits a c (map_bytes (take k xs)) w
 part_waits a b c xs v w n m k e before here =
     let same : map_bytes (take n xs) ++ map_bytes (take (k - n) (drop n xs)) ≡ map_bytes (take k xs) =
@@ -177,7 +176,8 @@ pub part_cut : (a b c : Option (List ℕ)) (xs v : List ℕ) (n m k : ℕ) → k
     → AppendsPrefix b c (v ++ map_bytes (take (k - n) (drop n xs))) → AppendsPrefix a c (map_bytes xs)
 part_cut a b c xs v n m k e before here =
     let same : (map_bytes (take n xs) ++ map_bytes (take (k - n) (drop n xs))) ++ map_bytes (drop k xs) ≡ map_bytes xs =
-    ap (λ l. l ++ map_bytes (drop k xs)) (map_bytes-next xs n (k - n) ∙ ap (λ (i : ℕ). map_bytes (take i xs)) (let back : n + (k - n) ≡ k = omega arith in back))
+    ap (λ l. l ++ map_bytes (drop k xs)) (map_bytes-next xs n (k - n) ∙ ap (λ (i : ℕ). map_bytes (take i xs))
+    (let back : n + (k - n) ≡ k = omega arith in back))
     ∙ sym (map_bytes-append (take k xs) (drop k xs)) ∙ ap map_bytes (take-append-drop k xs) in
     subst (AppendsPrefix a c) same (Waits-cut a b c (map_bytes (take n xs)) (map_bytes (take (k - n) (drop n xs))) (map_bytes (drop k xs)) v before here)
 

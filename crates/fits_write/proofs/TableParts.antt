@@ -1,5 +1,6 @@
 -- The cards of a table's columns one behind the other, and the bytes of its cells.
-use Rattle.std.proofs.Common.{◌≡◌, ◌∙◌, ℕ, ◌+◌, ◌<◌, ◌≤◌, List, [], ◌∷◌, ◌++◌, get_or, length, map, replicate, take, drop, ap, sym, subst, append-nil, append_assoc, zero-add, take-append-drop, arith, ℤ, Option}
+use Rattle.std.proofs.Common.{◌≡◌, ◌∙◌, ℕ, ◌+◌, ◌<◌, ◌≤◌, List, [], ◌∷◌, ◌++◌, get_or, length, map, replicate, take, drop, ap, sym, subst, append-nil}
+use Rattle.std.proofs.Common.{append_assoc, zero-add, take-append-drop, arith, ℤ, Option}
 use Rattle.std.specs.Prelude.{codes}
 use Rattle.std.specs.List.{concat, range_with_len}
 use Rattle.std.proofs.lemmas.List.{take_more, length-take-le}
@@ -11,7 +12,8 @@ use Rattle.dev_io.specs.Laws.{AppendsPrefix-more}
 use Rattle.fits_card.specs.Written.{numbered_keyword, written_text}
 use Rattle.fits_write.specs.declared.table.Cell.{Cell}
 use Rattle.fits_write.specs.declared.table.Column.{Column}
-use Rattle.fits_write.specs.Blocks.{Waits, room_after}
+use Rattle.fits_write.specs.Blocks.{room_after}
+use Rattle.fits_write.specs.Waiting.{Waits}
 use Rattle.fits_write.specs.Hdus.{header, table_cards, table_front, table_back}
 use Rattle.fits_write.specs.Columns.{column_cards, form_of, bytes_at, cell_bytes, cell_at, number_at}
 use Rattle.fits_write.proofs.Pieces.{Waits-after, Waits-cut, from_nothing, cut_from_nothing, cut_filled, waits_filled}
@@ -39,28 +41,35 @@ columns_split columns k =
     ∙ concat-append (column_cards 1 (take k columns)) (column_cards (1 + length (take k columns)) (drop k columns))
 
 -- the cards of the column at place i behind those before it
-pub columns_wait : (a b c : Option (List ℕ)) (start : List ℕ) (columns : List Column) (v w : List ℕ) (i : ℕ) (x : Column) (cards : List (List ℕ)) → i < length columns
-    → x ≡ get_or columns i x → cards ≡ column_cards (i + 1) (x ∷ []) → Waits a b (start ++ concat (column_cards 1 (take i columns))) v → Waits b c (v ++ concat cards) w
+pub columns_wait : (a b c : Option (List ℕ)) (start : List ℕ) (columns : List Column) (v w : List ℕ) (i : ℕ) (x : Column) (cards : List (List ℕ))
+    → i < length columns
+    → x ≡ get_or columns i x → cards ≡ column_cards (i + 1) (x ∷ []) → Waits a b (start ++ concat (column_cards 1 (take i columns))) v
+    → Waits b c (v ++ concat cards) w
     → Waits a c (start ++ concat (column_cards 1 (take (i + 1) columns))) w
 columns_wait a b c start columns v w i x cards h here are before now =
     let front = concat (column_cards 1 (take i columns)) in
     let more : (start ++ front) ++ concat cards ≡ start ++ concat (column_cards 1 (take (i + 1) columns)) =
-    append_assoc start front (concat cards) ∙ ap (λ l. start ++ (front ++ concat l)) are ∙ ap (λ y. start ++ (front ++ concat (column_cards (i + 1) (y ∷ [])))) here
+    append_assoc start front (concat cards) ∙ ap (λ l. start ++ (front ++ concat l)) are
+    ∙ ap (λ y. start ++ (front ++ concat (column_cards (i + 1) (y ∷ [])))) here
     ∙ ap (λ l. start ++ l) (sym (columns_more columns i x h)) in
     subst (λ l. Waits a c l w) more (Waits-after a b c (start ++ front) (concat cards) v w before now)
 
 -- a front of them is a front of the cards of all columns
-pub columns_cut : (a b c : Option (List ℕ)) (start : List ℕ) (columns : List Column) (v : List ℕ) (i : ℕ) (x : Column) (cards : List (List ℕ)) → i < length columns
-    → x ≡ get_or columns i x → cards ≡ column_cards (i + 1) (x ∷ []) → Waits a b (start ++ concat (column_cards 1 (take i columns))) v → AppendsPrefix b c (v ++ concat cards)
+pub columns_cut : (a b c : Option (List ℕ)) (start : List ℕ) (columns : List Column) (v : List ℕ) (i : ℕ) (x : Column) (cards : List (List ℕ))
+    → i < length columns
+    → x ≡ get_or columns i x → cards ≡ column_cards (i + 1) (x ∷ []) → Waits a b (start ++ concat (column_cards 1 (take i columns))) v
+    → AppendsPrefix b c (v ++ concat cards)
     → AppendsPrefix a c (start ++ concat (column_cards 1 columns))
 columns_cut a b c start columns v i x cards h here are before now =
     let front = concat (column_cards 1 (take i columns)) in
     let rest = concat (column_cards (1 + length (take (i + 1) columns)) (drop (i + 1) columns)) in
     let more : (start ++ front) ++ concat cards ≡ start ++ concat (column_cards 1 (take (i + 1) columns)) =
-    append_assoc start front (concat cards) ∙ ap (λ l. start ++ (front ++ concat l)) are ∙ ap (λ y. start ++ (front ++ concat (column_cards (i + 1) (y ∷ [])))) here
+    append_assoc start front (concat cards) ∙ ap (λ l. start ++ (front ++ concat l)) are
+    ∙ ap (λ y. start ++ (front ++ concat (column_cards (i + 1) (y ∷ [])))) here
     ∙ ap (λ l. start ++ l) (sym (columns_more columns i x h)) in
     let all : ((start ++ front) ++ concat cards) ++ rest ≡ start ++ concat (column_cards 1 columns) =
-    ap (λ l. l ++ rest) more ∙ append_assoc start (concat (column_cards 1 (take (i + 1) columns))) rest ∙ ap (λ l. start ++ l) (sym (columns_split columns (i + 1))) in
+    ap (λ l. l ++ rest) more ∙ append_assoc start (concat (column_cards 1 (take (i + 1) columns))) rest
+    ∙ ap (λ l. start ++ l) (sym (columns_split columns (i + 1))) in
     subst (AppendsPrefix a c) all (Waits-cut a b c (start ++ front) (concat cards) rest v before now)
 
 -- ---- cells
@@ -74,7 +83,8 @@ cell_in columns cells k h = omega (arith, length-map-range_with_len (bytes_at co
 pub cells_over : (columns : List Column) (cells : List ℤ) (k : ℕ) → length cells ≤ k → length (cell_pieces columns cells) ≤ k
 cells_over columns cells k h = omega (arith, length-map-range_with_len (bytes_at columns cells) 0 (length cells))
 
-pub cell_is : (columns : List Column) (cells : List ℤ) (k : ℕ) (cell : Cell) (number : ℤ) → k < length cells → cell ≡ cell_at columns k → number ≡ number_at cells k
+pub cell_is : (columns : List Column) (cells : List ℤ) (k : ℕ) (cell : Cell) (number : ℤ) → k < length cells → cell ≡ cell_at columns k
+    → number ≡ number_at cells k
     → cell_bytes cell number ≡ get_or (cell_pieces columns cells) k []
 unfolding bytes_at
 cell_is columns cells k cell number h where_is here =
@@ -86,7 +96,8 @@ cell_is columns cells k cell number h where_is here =
 all_cards : (front middle back : List (List ℕ)) → concat (front ++ middle ++ back) ≡ (concat front ++ concat middle) ++ concat back
 all_cards front middle back = concat-append (front ++ middle) back ∙ ap (λ l. l ++ concat back) (concat-append front middle)
 
-pub front_cut : (a b : Option (List ℕ)) (start : List ℕ) (columns : List Column) (rows : ℕ) (cards : List (List ℕ)) → start ≡ [] → cards ≡ table_front columns rows
+pub front_cut : (a b : Option (List ℕ)) (start : List ℕ) (columns : List Column) (rows : ℕ) (cards : List (List ℕ)) → start ≡ []
+    → cards ≡ table_front columns rows
     → AppendsPrefix a b (start ++ concat cards) → AppendsPrefix a b (header (table_cards columns rows))
 unfolding header table_cards
 front_cut a b start columns rows cards empty are p =
@@ -97,13 +108,16 @@ front_cut a b start columns rows cards empty are p =
     AppendsPrefix-more a b (concat front ++ concat middle) (concat table_back) (AppendsPrefix-more a b (concat front) (concat middle) here) in
     cut_filled a b (concat (front ++ middle ++ table_back)) 32 (subst (AppendsPrefix a b) (sym (all_cards front middle table_back)) more)
 
-pub middle_waits : (a b c : Option (List ℕ)) (start : List ℕ) (columns : List Column) (rows : ℕ) (cards : List (List ℕ)) (v w : List ℕ) → start ≡ [] → cards ≡ table_front columns rows
-    → Waits a b (start ++ concat cards) v → Waits b c (v ++ concat (column_cards 1 columns)) w → Waits a c (concat (table_front columns rows) ++ concat (column_cards 1 columns)) w
+pub middle_waits : (a b c : Option (List ℕ)) (start : List ℕ) (columns : List Column) (rows : ℕ) (cards : List (List ℕ)) (v w : List ℕ) → start ≡ []
+    → cards ≡ table_front columns rows
+    → Waits a b (start ++ concat cards) v → Waits b c (v ++ concat (column_cards 1 columns)) w
+    → Waits a c (concat (table_front columns rows) ++ concat (column_cards 1 columns)) w
 middle_waits a b c start columns rows cards v w empty are p q =
     Waits-after a b c (concat (table_front columns rows)) (concat (column_cards 1 columns)) v w
     (subst (λ l. Waits a b (concat l) v) are (from_nothing a b start (concat cards) v empty p)) q
 
-pub middle_cut : (a b c : Option (List ℕ)) (start : List ℕ) (columns : List Column) (rows : ℕ) (cards : List (List ℕ)) (v : List ℕ) → start ≡ [] → cards ≡ table_front columns rows
+pub middle_cut : (a b c : Option (List ℕ)) (start : List ℕ) (columns : List Column) (rows : ℕ) (cards : List (List ℕ)) (v : List ℕ) → start ≡ []
+    → cards ≡ table_front columns rows
     → Waits a b (start ++ concat cards) v → AppendsPrefix b c (v ++ concat (column_cards 1 columns)) → AppendsPrefix a c (header (table_cards columns rows))
 unfolding header table_cards
 middle_cut a b c start columns rows cards v empty are p q =
@@ -114,7 +128,8 @@ middle_cut a b c start columns rows cards v empty are p q =
     (subst (AppendsPrefix a c) (sym (all_cards front middle table_back)) (Waits-cut a b c (concat front) (concat middle) (concat table_back) v before q))
 
 pub back_cut : (a b c : Option (List ℕ)) (columns : List Column) (rows : ℕ) (cards : List (List ℕ)) (v : List ℕ) → cards ≡ table_back
-    → Waits a b (concat (table_front columns rows) ++ concat (column_cards 1 columns)) v → AppendsPrefix b c (v ++ concat cards) → AppendsPrefix a c (header (table_cards columns rows))
+    → Waits a b (concat (table_front columns rows) ++ concat (column_cards 1 columns)) v → AppendsPrefix b c (v ++ concat cards)
+    → AppendsPrefix a c (header (table_cards columns rows))
 unfolding header table_cards
 back_cut a b c columns rows cards v are p q =
     let front = table_front columns rows in
@@ -125,7 +140,8 @@ back_cut a b c columns rows cards v are p q =
     append-nil ((concat front ++ concat middle) ++ concat table_back) ∙ sym (all_cards front middle table_back) in
     cut_filled a c (concat (front ++ middle ++ table_back)) 32 (subst (AppendsPrefix a c) all cut)
 
-pub header_filled : {T E : Type 0} (a b c d : Option (List ℕ)) (r : Result T E) (columns : List Column) (rows : ℕ) (cards : List (List ℕ)) (v w : List ℕ) → cards ≡ table_back
+pub header_filled : {T E : Type 0} (a b c d : Option (List ℕ)) (r : Result T E) (columns : List Column) (rows : ℕ) (cards : List (List ℕ)) (v w : List ℕ)
+    → cards ≡ table_back
     → Waits a b (concat (table_front columns rows) ++ concat (column_cards 1 columns)) v → Waits b c (v ++ concat cards) w
     → PutAppends c d r (w ++ replicate (room_after (length w)) 32) → PutAppends a d r (header (table_cards columns rows))
 unfolding header table_cards

@@ -1,7 +1,5 @@
 -- Model: bytes that are filled to whole blocks (FITS Standard 4.0, section 3.1), and how they get to a sink.
-use Rattle.std.specs.Prelude.{◌≡◌, ℕ, ◌-◌, ◌%◌, List, ◌++◌, length, replicate}
-use Rattle.std.specs.declared.option.Option.{Option}
-use Rattle.dev_io.specs.Blocks.{Moves}
+use Rattle.std.specs.Prelude.{ℕ, ◌-◌, ◌%◌, List, ◌++◌, length, replicate}
 
 -- how many bytes a block that holds the last of n bytes still has room for
 unfoldable pub room_after : ℕ → ℕ
@@ -10,8 +8,3 @@ room_after n = (2880 - n % 2880) % 2880
 -- these bytes, and copies of one byte up to whole blocks
 unfoldable pub filled : ℕ → List ℕ → List ℕ
 filled byte bytes = bytes ++ replicate (room_after (length bytes)) byte
-
--- whole blocks of these bytes were appended, and the others wait
-pub record Waits (old new : Option (List ℕ)) (bytes waiting : List ℕ) : Type 0 where
-  pub moves : Moves old new bytes waiting
-  pub whole : length waiting % 2880 ≡ length bytes % 2880

@@ -1,12 +1,13 @@
 -- Model: the bytes of written HDUs (FITS Standard 4.0): the cards of the header in fixed format (sections 4.2 and 4.4) up to
 -- END, and spaces to a block; then the numbers in two's complement, the most significant byte first (section 5.2), and zero
 -- bytes to a block.
-use Rattle.std.specs.Prelude.{ℕ, ◌^◌, ◌/◌, true, List, [], ◌∷◌, ◌++◌, length, map, codes, ℤ, pos, neg_ℤ, Option, unwrap_or}
+use Rattle.std.specs.Prelude.{ℕ, ◌/◌, true, List, [], ◌∷◌, ◌++◌, length, map, codes, ℤ, pos, Option, unwrap_or}
 use Rattle.std.specs.List.{concat}
 use Rattle.std.specs.Int.{w64, cast_unsigned}
 use Rattle.byteorder.specs.Endian.{big_bytes}
 use Rattle.comp_tree.specs.declared.shape.Shape.{Shape}
 use Rattle.comp_tree.specs.Raster.{Raster}
+use Rattle.comp_tree.specs.Stored.{undefined_number}
 use Rattle.fits_card.specs.Pieces.{space}
 use Rattle.fits_card.specs.Written.{written_logical, written_integer, written_text, written_end}
 use Rattle.fits_write.specs.declared.table.Column.{Column}
@@ -30,11 +31,7 @@ primary_cards =
 unfoldable pub empty_primary : List ℕ
 empty_primary = header primary_cards
 
--- ---- a plane as a primary HDU
-
--- the number that stands for an undefined pixel: -2 ^ 63
-abbrev pub blank : ℤ
-blank = neg_ℤ (pos (2 ^ 63))
+-- ---- a plane as a primary HDU, in which the number that keeps an undefined pixel in memory stands for it, too
 
 unfoldable pub plane_cards : Shape → List (List ℕ)
 plane_cards shape =
@@ -43,12 +40,12 @@ plane_cards shape =
     ∷ written_integer (codes "NAXIS   ") (pos 2)
     ∷ written_integer (codes "NAXIS1  ") (pos shape.width)
     ∷ written_integer (codes "NAXIS2  ") (pos shape.height)
-    ∷ written_integer (codes "BLANK   ") blank
+    ∷ written_integer (codes "BLANK   ") undefined_number
     ∷ written_end ∷ []
 
 -- the bytes of a pixel, which may be undefined
 abbrev pub pixel_bytes : Option ℤ → List ℕ
-pixel_bytes value = big_bytes 8 (cast_unsigned w64 (unwrap_or value blank))
+pixel_bytes value = big_bytes 8 (cast_unsigned w64 (unwrap_or value undefined_number))
 
 unfoldable pub pixels_bytes : List (Option ℤ) → List ℕ
 pixels_bytes values = concat (map pixel_bytes values)

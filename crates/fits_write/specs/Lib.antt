@@ -1,3 +1,4 @@
 pub mod Blocks
+pub mod Waiting
 pub mod Columns
 pub mod Hdus

@@ -2,12 +2,11 @@
 ghost use Rattle.std.specs.Prelude.{◌≡◌, ◌≤◌, [], ◌++◌, length, replicate, OnOk, OnErr};
 ghost use Rattle.dev_io.specs.Causes.{HasCause};
 ghost use Rattle.dev_io.specs.Streams.{AppendsPrefix, PutAppends};
-ghost use Rattle.fits_write.specs.Blocks.{Waits, room_after};
+ghost use Rattle.fits_write.specs.Blocks.{room_after};
+ghost use Rattle.fits_write.specs.Waiting.{Waits};
 
-use dev_io::{Block, Failed, Sink};
+use dev_io::{BLOCK, Block, Failed, Sink};
 use std::marker::Model;
-
-const SIZE: usize = 2880;
 
 /// Bytes that go to a sink in whole blocks. Seen as those that wait until a block is full.
 #[derive(Drop)]
@@ -40,24 +39,27 @@ impl Blocks {
     /// Lets these bytes wait behind those that do.
     pub(crate) fn add<O: Sink>(&mut self, sink: &mut O, bytes: &[u8]) -> Result<(), Failed>
         requires { length bytes.now ≤ 2880 }
-        ensures ok { OnOk result (Waits (O.written sink.old) (O.written sink.new) (self.old ++ bytes.now) self.new) }
-        ensures err { OnErr result (AppendsPrefix (O.written sink.old) (O.written sink.new) (self.old ++ bytes.now)) }
+        ensures ok { OnOk result
+            (Waits (O.written sink.old) (O.written sink.new) (self.old ++ bytes.now) self.new) }
+        ensures err { OnErr result
+            (AppendsPrefix (O.written sink.old) (O.written sink.new) (self.old ++ bytes.now)) }
         ensures cause { HasCause (O.faults sink.old) (O.faults sink.new) result }
     {
         if let Err(failed) = self.block.add(sink, bytes) {
             return Err(failed);
         }
-        self.len = (self.len + bytes.len()) % SIZE;
+        self.len = (self.len + bytes.len()) % BLOCK;
         Ok(())
     }
 
     /// Fills what waits to a block with copies of this byte, and puts it.
     pub(crate) fn fill<O: Sink>(&mut self, sink: &mut O, byte: u8) -> Result<(), Failed>
-        ensures bytes { PutAppends (O.written sink.old) (O.written sink.new) result (self.old ++ replicate (room_after (length self.old)) byte) }
+        ensures bytes { PutAppends (O.written sink.old) (O.written sink.new) result
+            (self.old ++ replicate (room_after (length self.old)) byte) }
         ensures cause { HasCause (O.faults sink.old) (O.faults sink.new) result }
     {
-        let copies = [byte; SIZE];
-        let room = (SIZE - self.len) % SIZE;
+        let copies = [byte; BLOCK];
+        let room = (BLOCK - self.len) % BLOCK;
         if let Err(failed) = self.block.add(sink, &copies[..room]) {
             return Err(failed);
         }

@@ -3,7 +3,7 @@ ghost use Rattle.std.specs.Prelude.{◌++◌, OnOk, OnErr};
 ghost use Rattle.std.specs.List.{concat};
 ghost use Rattle.dev_io.specs.Causes.{HasCause};
 ghost use Rattle.dev_io.specs.Streams.{AppendsPrefix, PutAppends};
-ghost use Rattle.fits_write.specs.Blocks.{Waits};
+ghost use Rattle.fits_write.specs.Waiting.{Waits};
 ghost use Rattle.fits_write.specs.Hdus.{header};
 
 use crate::blocks::Blocks;
@@ -16,8 +16,10 @@ pub(crate) fn add_cards<O: Sink>(
     blocks: &mut Blocks,
     cards: &[Card],
 ) -> Result<(), Failed>
-    ensures ok { OnOk result (Waits (O.written sink.old) (O.written sink.new) (blocks.old ++ concat cards.now) blocks.new) }
-    ensures err { OnErr result (AppendsPrefix (O.written sink.old) (O.written sink.new) (blocks.old ++ concat cards.now)) }
+    ensures ok { OnOk result (Waits (O.written sink.old) (O.written sink.new)
+        (blocks.old ++ concat cards.now) blocks.new) }
+    ensures err { OnErr result
+        (AppendsPrefix (O.written sink.old) (O.written sink.new) (blocks.old ++ concat cards.now)) }
     ensures cause { HasCause (O.faults sink.old) (O.faults sink.new) result }
 {
     for card in cards {

@@ -3,7 +3,8 @@ ghost use Rattle.std.specs.Prelude.{◌≡◌, ◌*◌, ◌^◌, ◌≤◌, ◌+
 ghost use Rattle.std.specs.List.{All};
 ghost use Rattle.dev_io.specs.Causes.{HasCause};
 ghost use Rattle.dev_io.specs.Streams.{AppendsPrefix, PutAppends};
-ghost use Rattle.fits_write.specs.Blocks.{Waits, filled};
+ghost use Rattle.fits_write.specs.Blocks.{filled};
+ghost use Rattle.fits_write.specs.Waiting.{Waits};
 ghost use Rattle.fits_write.specs.Hdus.{map_cards, map_bytes, map_hdu};
 
 use crate::WriteFault;
@@ -21,7 +22,8 @@ const PART: usize = 720;
 pub fn put_map<O: Sink>(sink: &mut O, shape: Shape, numbers: &[u32]) -> Result<(), WriteFault>
     requires count { length numbers.now ≡ shape.width * shape.height }
     requires small { All (λ n. n ≤ 2 ^ 24) numbers.now }
-    ensures bytes { PutAppends (O.written sink.old) (O.written sink.new) result (map_hdu shape numbers.now) }
+    ensures bytes { PutAppends (O.written sink.old) (O.written sink.new) result
+        (map_hdu shape numbers.now) }
     ensures cause { HasCause (O.faults sink.old) (O.faults sink.new) result }
 {
     match put_header_and_numbers(sink, shape, numbers) {
@@ -35,7 +37,8 @@ fn put_header_and_numbers<O: Sink>(
     shape: Shape,
     numbers: &[u32],
 ) -> Result<(), Failed>
-    ensures bytes { PutAppends (O.written sink.old) (O.written sink.new) result (map_hdu shape numbers.now) }
+    ensures bytes { PutAppends (O.written sink.old) (O.written sink.new) result
+        (map_hdu shape numbers.now) }
     ensures cause { HasCause (O.faults sink.old) (O.faults sink.new) result }
 {
     if let Err(failed) = put_header(sink, &map_cards(shape)) {
@@ -45,7 +48,8 @@ fn put_header_and_numbers<O: Sink>(
 }
 
 fn put_numbers<O: Sink>(sink: &mut O, numbers: &[u32]) -> Result<(), Failed>
-    ensures bytes { PutAppends (O.written sink.old) (O.written sink.new) result (filled 0 (map_bytes numbers.now)) }
+    ensures bytes { PutAppends (O.written sink.old) (O.written sink.new) result
+        (filled 0 (map_bytes numbers.now)) }
     ensures cause { HasCause (O.faults sink.old) (O.faults sink.new) result }
 {
     let mut blocks = Blocks::new();
@@ -64,8 +68,10 @@ fn put_numbers<O: Sink>(sink: &mut O, numbers: &[u32]) -> Result<(), Failed>
 // Lets the bytes of these numbers wait.
 fn add_numbers<O: Sink>(sink: &mut O, blocks: &mut Blocks, numbers: &[u32]) -> Result<(), Failed>
     requires { length numbers.now ≤ 720 }
-    ensures ok { OnOk result (Waits (O.written sink.old) (O.written sink.new) (blocks.old ++ map_bytes numbers.now) blocks.new) }
-    ensures err { OnErr result (AppendsPrefix (O.written sink.old) (O.written sink.new) (blocks.old ++ map_bytes numbers.now)) }
+    ensures ok { OnOk result (Waits (O.written sink.old) (O.written sink.new)
+        (blocks.old ++ map_bytes numbers.now) blocks.new) }
+    ensures err { OnErr result (AppendsPrefix (O.written sink.old) (O.written sink.new)
+        (blocks.old ++ map_bytes numbers.now)) }
     ensures cause { HasCause (O.faults sink.old) (O.faults sink.new) result }
 {
     let mut room = [0; 4 * PART];

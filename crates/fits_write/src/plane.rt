@@ -18,7 +18,8 @@ const BLANK: i64 = i64::MIN;
 
 /// Writes a plane as a primary HDU of 64-bit integers, in which BLANK stands for undefined pixels.
 pub fn put_plane<O: Sink>(sink: &mut O, plane: &Plane) -> Result<(), WriteFault>
-    ensures bytes { PutAppends (O.written sink.old) (O.written sink.new) result (plane_hdu plane.now) }
+    ensures bytes { PutAppends (O.written sink.old) (O.written sink.new) result
+        (plane_hdu plane.now) }
     ensures cause { HasCause (O.faults sink.old) (O.faults sink.new) result }
 {
     match put_header_and_pixels(sink, plane) {
@@ -28,7 +29,8 @@ pub fn put_plane<O: Sink>(sink: &mut O, plane: &Plane) -> Result<(), WriteFault>
 }
 
 fn put_header_and_pixels<O: Sink>(sink: &mut O, plane: &Plane) -> Result<(), Failed>
-    ensures bytes { PutAppends (O.written sink.old) (O.written sink.new) result (plane_hdu plane.now) }
+    ensures bytes { PutAppends (O.written sink.old) (O.written sink.new) result
+        (plane_hdu plane.now) }
     ensures cause { HasCause (O.faults sink.old) (O.faults sink.new) result }
 {
     if let Err(failed) = put_header(sink, &plane_cards(plane.shape())) {
@@ -38,7 +40,8 @@ fn put_header_and_pixels<O: Sink>(sink: &mut O, plane: &Plane) -> Result<(), Fai
 }
 
 fn put_pixels<O: Sink>(sink: &mut O, plane: &Plane) -> Result<(), Failed>
-    ensures bytes { PutAppends (O.written sink.old) (O.written sink.new) result (filled 0 (pixels_bytes plane.now.values)) }
+    ensures bytes { PutAppends (O.written sink.old) (O.written sink.new) result
+        (filled 0 (pixels_bytes plane.now.values)) }
     ensures cause { HasCause (O.faults sink.old) (O.faults sink.new) result }
 {
     let mut blocks = Blocks::new();

@@ -3,7 +3,8 @@ ghost use Rattle.std.specs.Prelude.{◌≡◌, ◌*◌, ◌≤◌, ◌^◌, [], 
 ghost use Rattle.std.specs.List.{concat, list_all};
 ghost use Rattle.dev_io.specs.Causes.{HasCause};
 ghost use Rattle.dev_io.specs.Streams.{AppendsPrefix, PutAppends};
-ghost use Rattle.fits_write.specs.Blocks.{Waits, filled};
+ghost use Rattle.fits_write.specs.Blocks.{filled};
+ghost use Rattle.fits_write.specs.Waiting.{Waits};
 ghost use Rattle.fits_card.specs.Written.{is_plain, numbered_keyword};
 ghost use Rattle.fits_write.specs.Columns.{IsTable, FitsCell, cell_size, cell_bytes, form_of, row_size, column_cards, table_bytes};
 ghost use Rattle.fits_write.specs.Hdus.{header, table_front, table_back, table_cards, table_hdu};
@@ -33,7 +34,8 @@ pub struct Column {
 /// 32 bits.
 pub fn put_table<O: Sink>(sink: &mut O, columns: &[Column], cells: &[i64]) -> Result<(), WriteFault>
     requires { IsTable columns.now cells.now }
-    ensures bytes { PutAppends (O.written sink.old) (O.written sink.new) result (table_hdu columns.now cells.now) }
+    ensures bytes { PutAppends (O.written sink.old) (O.written sink.new) result
+        (table_hdu columns.now cells.now) }
     ensures cause { HasCause (O.faults sink.old) (O.faults sink.new) result }
 {
     match put_header_and_cells(sink, columns, cells) {
@@ -48,7 +50,8 @@ fn put_header_and_cells<O: Sink>(
     cells: &[i64],
 ) -> Result<(), Failed>
     requires { IsTable columns.now cells.now }
-    ensures bytes { PutAppends (O.written sink.old) (O.written sink.new) result (table_hdu columns.now cells.now) }
+    ensures bytes { PutAppends (O.written sink.old) (O.written sink.new) result
+        (table_hdu columns.now cells.now) }
     ensures cause { HasCause (O.faults sink.old) (O.faults sink.new) result }
 {
     if let Err(failed) = put_table_header(sink, columns, cells.len() / columns.len()) {
@@ -61,7 +64,8 @@ fn put_table_header<O: Sink>(sink: &mut O, columns: &[Column], rows: usize) -> R
     requires few_columns { length columns.now ≤ 99 }
     requires few_rows { rows ≤ 2 ^ 24 }
     requires plain_names { IsTrue (list_all (λ column. list_all is_plain column.name) columns.now) }
-    ensures bytes { PutAppends (O.written sink.old) (O.written sink.new) result (header (table_cards columns.now rows)) }
+    ensures bytes { PutAppends (O.written sink.old) (O.written sink.new) result
+        (header (table_cards columns.now rows)) }
     ensures cause { HasCause (O.faults sink.old) (O.faults sink.new) result }
 {
     let mut blocks = Blocks::new();
@@ -129,8 +133,10 @@ fn cell_size(cell: Cell) -> usize
 fn add_columns<O: Sink>(sink: &mut O, blocks: &mut Blocks, columns: &[Column]) -> Result<(), Failed>
     requires few_columns { length columns.now ≤ 99 }
     requires plain_names { IsTrue (list_all (λ column. list_all is_plain column.name) columns.now) }
-    ensures ok { OnOk result (Waits (O.written sink.old) (O.written sink.new) (blocks.old ++ concat (column_cards 1 columns.now)) blocks.new) }
-    ensures err { OnErr result (AppendsPrefix (O.written sink.old) (O.written sink.new) (blocks.old ++ concat (column_cards 1 columns.now))) }
+    ensures ok { OnOk result (Waits (O.written sink.old) (O.written sink.new)
+        (blocks.old ++ concat (column_cards 1 columns.now)) blocks.new) }
+    ensures err { OnErr result (AppendsPrefix (O.written sink.old) (O.written sink.new)
+        (blocks.old ++ concat (column_cards 1 columns.now))) }
     ensures cause { HasCause (O.faults sink.old) (O.faults sink.new) result }
 {
     for (index, column) in columns.iter().enumerate() {
@@ -174,7 +180,8 @@ fn numbered(root: &[u8; 5], number: usize) -> [u8; 8]
 
 fn put_cells<O: Sink>(sink: &mut O, columns: &[Column], cells: &[i64]) -> Result<(), Failed>
     requires { IsTable columns.now cells.now }
-    ensures bytes { PutAppends (O.written sink.old) (O.written sink.new) result (filled 0 (table_bytes columns.now cells.now)) }
+    ensures bytes { PutAppends (O.written sink.old) (O.written sink.new) result
+        (filled 0 (table_bytes columns.now cells.now)) }
     ensures cause { HasCause (O.faults sink.old) (O.faults sink.new) result }
 {
     let mut blocks = Blocks::new();
@@ -194,8 +201,10 @@ fn add_cell<O: Sink>(
     number: i64,
 ) -> Result<(), Failed>
     requires { FitsCell cell number }
-    ensures ok { OnOk result (Waits (O.written sink.old) (O.written sink.new) (blocks.old ++ cell_bytes cell number) blocks.new) }
-    ensures err { OnErr result (AppendsPrefix (O.written sink.old) (O.written sink.new) (blocks.old ++ cell_bytes cell number)) }
+    ensures ok { OnOk result (Waits (O.written sink.old) (O.written sink.new)
+        (blocks.old ++ cell_bytes cell number) blocks.new) }
+    ensures err { OnErr result (AppendsPrefix (O.written sink.old) (O.written sink.new)
+        (blocks.old ++ cell_bytes cell number)) }
     ensures cause { HasCause (O.faults sink.old) (O.faults sink.new) result }
 {
     let mut bytes = [0; 8];

@@ -1,4 +1,4 @@
-// Written HDUs beside literals.
+//! Written HDUs beside literals.
 ghost use Rattle.std.specs.Prelude.{◌+◌, ◌*◌, ◌≤◌, length};
 
 use crate::*;

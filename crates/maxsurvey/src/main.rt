@@ -2,35 +2,12 @@
 //! and exits with its status.
 #![tactic(auto)]
 
-use dev_io::{OutOfMemory, ReadSource, WriteSink};
-use std::env;
-use std::io::ErrorKind;
+use command_line::words::{NO_MEMORY, words};
+use dev_io::{ReadSource, WriteSink};
 use std::process::ExitCode;
-use std::rt::{Env, HostRuntime};
+use std::rt::HostRuntime;
 use survey_core::{Keeper, MemKeeper, path_of, run_survey};
 use survey_sqlite::FileKeeper;
-
-const NO_MEMORY: u8 = 5;
-
-// The words behind the program's name; `?` in place of arguments that the runtime refuses.
-fn words(rt: &(impl Env + AllocGlobal)) -> Result<Vec<String>, OutOfMemory> {
-    let alloc = rt.alloc();
-    match env::args(rt) {
-        Ok(args) => {
-            let mut words = Vec::new(alloc);
-            for word in args.skip(1) {
-                words.push(word)?;
-            }
-            Ok(words)
-        }
-        Err(error) if error.kind() == ErrorKind::OutOfMemory => Err(OutOfMemory),
-        Err(_) => {
-            let mut words = Vec::new(alloc);
-            words.push(String::from_str(alloc, "?")?)?;
-            Ok(words)
-        }
-    }
-}
 
 // Over these tables, with the program's streams.
 fn survey<K: Keeper>(rt: &HostRuntime, words: &[&str], keeper: &mut K) -> u8 {

@@ -8,7 +8,9 @@ use Rattle.comp_tree.specs.ComponentTree.{no_node}
 use Rattle.comp_tree.specs.Components.{reaches, nodes, node_of, is_candidate, is_in_node, tree_of}
 use Rattle.comp_tree.specs.Nesting.{is_root, level_of_node}
 use Rattle.comp_tree.specs.Laws.{top_of, parent_of_node}
-use Rattle.comp_tree.proofs.Exported.{int_le-from, int_le_trans, int_le_from_lt, cases_int, top-representative, top-defined, length-rows, IsParent, parent-candidate, parent-of_node, below_no_node, AlikeAbove, IsCounterpart, above_level, above_pixels, above_reached, above_sym, counterpart, counterpart_pixels, counterpart_sym, counterpart_test, reached_high}
+use Rattle.comp_tree.proofs.Exported.{int_le-from, int_le_trans, int_le_from_lt, cases_int, top-representative, top-defined, length-rows, IsParent}
+use Rattle.comp_tree.proofs.Exported.{parent-candidate, parent-of_node, below_no_node, AlikeAbove, IsCounterpart, above_level, above_pixels, above_reached}
+use Rattle.comp_tree.proofs.Exported.{above_sym, counterpart, counterpart_pixels, counterpart_sym, counterpart_test, reached_high}
 use Rattle.comp_tree.proofs.Exported as Nodes
 use Rattle.node_sums.proofs.Exported.{goes_down, level-of_node}
 use Rattle.dual_measure.specs.Measures.{measure_over, measure_of, mean_of, around_node, back_of}
@@ -22,12 +24,14 @@ parent_cases : (r : Raster) (connect : Connect) (n : ℕ) → IsPlane r → n < 
     → (parent_of_node r connect n ≡ no_node) ⊎ (parent_of_node r connect n < length (nodes r connect))
 parent_cases r connect n plane hn = go ((goes_down r connect plane).parents n (omega (arith, length-rows r connect)))
   where
-    go : (parent_of_node r connect n ≡ no_node) ⊎ (parent_of_node r connect n < n) → (parent_of_node r connect n ≡ no_node) ⊎ (parent_of_node r connect n < length (nodes r connect))
+    go : (parent_of_node r connect n ≡ no_node) ⊎ (parent_of_node r connect n < n) → (parent_of_node r connect n ≡ no_node)
+        ⊎ (parent_of_node r connect n < length (nodes r connect))
     go (inl e) = inl e
     go (inr l) = inr (omega arith)
 
 -- what is below a pixel, and has at least h, is below it in the other plane
-candidate_there : (r s : Raster) (connect : Connect) (h : ℤ) (p q : ℕ) → AlikeAbove r s h → IsTrue (is_at_least r h q) → Nodes.IsCandidate r connect p q → Nodes.IsCandidate s connect p q
+candidate_there : (r s : Raster) (connect : Connect) (h : ℤ) (p q : ℕ) → AlikeAbove r s h → IsTrue (is_at_least r h q) → Nodes.IsCandidate r connect p q
+    → Nodes.IsCandidate s connect p q
 candidate_there r s connect h p q a k c = record {
   lower = subst (λ (z : ℤ). int_lt z (level s p) ≡ true) same_q (subst (λ (z : ℤ). int_lt (level r q) z ≡ true) same_p c.lower);
   reaches_it = subst (λ (z : ℤ). IsTrue (reaches s connect z q p)) same_q (above_reached r s connect h (level r q) q p a low c.reaches_it);
@@ -43,11 +47,13 @@ candidate_there r s connect h p q a k c = record {
     same_p = above_level r s h p a (reached_high r connect h (level r q) q p low c.reaches_it)
 
 -- a parent of at least h has the counterpart's parent for its counterpart
-parent_there : (r s : Raster) (connect : Connect) (h : ℤ) (n m k j : ℕ) → IsPlane r → AlikeAbove r s h → IsCounterpart r s connect h n m → IsCounterpart r s connect h k j
+parent_there : (r s : Raster) (connect : Connect) (h : ℤ) (n m k j : ℕ) → IsPlane r → AlikeAbove r s h → IsCounterpart r s connect h n m
+    → IsCounterpart r s connect h k j
     → parent_of_node r connect n ≡ k → parent_of_node s connect m ≡ j
 parent_there r s connect h n m k j plane a c d e =
     parent-of_node s connect m c.other
-    ∙ Nodes.parent-is s connect (top_of s connect m) (top_of s connect j) (Nodes.candidate-from s connect (top_of s connect m) (top_of s connect j) there) highest
+    ∙ Nodes.parent-is s connect (top_of s connect m) (top_of s connect j) (Nodes.candidate-from s connect (top_of s connect m) (top_of s connect j) there)
+    highest
     ∙ Nodes.node-unique s connect (top_of s connect j) j (top-defined s connect j d.other)
     (record { below = d.other; it_is = sym (Nodes.is_representative-parts s connect (top_of s connect j) (top-representative s connect j d.other)).1 })
   where
@@ -59,7 +65,8 @@ parent_there r s connect h n m k j plane a c d e =
 
     there : Nodes.IsCandidate s connect (top_of s connect m) (top_of s connect j)
     there = subst (λ (x : ℕ). Nodes.IsCandidate s connect x (top_of s connect j)) c.top
-        (subst (λ (x : ℕ). Nodes.IsCandidate s connect (top_of r connect n) x) d.top (candidate_there r s connect h (top_of r connect n) (top_of r connect k) a d.high p.candidate))
+        (subst (λ (x : ℕ). Nodes.IsCandidate s connect (top_of r connect n) x) d.top
+        (candidate_there r s connect h (top_of r connect n) (top_of r connect k) a d.high p.candidate))
 
     highest : (t : ℕ) → IsTrue (is_candidate s connect (top_of s connect m) t) → int_le (level s t) (level s (top_of s connect j)) ≡ true
     highest t k_t = go (cases_int (level s t) h)
@@ -70,19 +77,23 @@ parent_there r s connect h n m k j plane a c d e =
         go : (int_lt (level s t) h ≡ true) ⊎ (int_le h (level s t) ≡ true) → int_le (level s t) (level s (top_of s connect j)) ≡ true
         go (inl l) =
             subst (λ (z : ℤ). int_le (level s t) z ≡ true) level_k
-            (int_le_trans (level s t) h (level r (top_of r connect k)) (int_le_from_lt (level s t) h l) (Nodes.level_from_at_least r h (top_of r connect k) d.high))
+            (int_le_trans (level s t) h (level r (top_of r connect k)) (int_le_from_lt (level s t) h l)
+            (Nodes.level_from_at_least r h (top_of r connect k) d.high))
         go (inr l) =
-            let high : IsTrue (is_at_least s h t) = Nodes.at_least-lower s h (level s t) t l (Nodes.reaches_start s connect (level s t) t (top_of r connect n) below.reaches_it) in
+            let high : IsTrue (is_at_least s h t) =
+            Nodes.at_least-lower s h (level s t) t l (Nodes.reaches_start s connect (level s t) t (top_of r connect n) below.reaches_it) in
             subst (λ (z : ℤ). int_le (level s t) z ≡ true) level_k
             (subst (λ (z : ℤ). int_le z (level r (top_of r connect k)) ≡ true) (sym (above_level s r h t (above_sym r s h a) high))
             (p.highest t (candidate_there s r connect h (top_of r connect n) t (above_sym r s h a) high below)))
 
 -- a root is a root in the cut plane: each parent there has at least h
-root_in_cut : (r : Raster) (connect : Connect) (h : ℤ) (n m : ℕ) → IsPlane r → IsPlane (cut r h) → IsCounterpart r (cut r h) connect h n m → parent_of_node r connect n ≡ no_node
+root_in_cut : (r : Raster) (connect : Connect) (h : ℤ) (n m : ℕ) → IsPlane r → IsPlane (cut r h) → IsCounterpart r (cut r h) connect h n m
+    → parent_of_node r connect n ≡ no_node
     → parent_of_node (cut r h) connect m ≡ no_node
 root_in_cut r connect h n m plane plane_cut c e = go (parent_cases (cut r h) connect m plane_cut c.other)
   where
-    go : (parent_of_node (cut r h) connect m ≡ no_node) ⊎ (parent_of_node (cut r h) connect m < length (nodes (cut r h) connect)) → parent_of_node (cut r h) connect m ≡ no_node
+    go : (parent_of_node (cut r h) connect m ≡ no_node) ⊎ (parent_of_node (cut r h) connect m < length (nodes (cut r h) connect))
+        → parent_of_node (cut r h) connect m ≡ no_node
     go (inl f) = f
     go (inr l) = absurd (below_no_node r connect (node_of r connect (top_of (cut r h) connect up)) plane d.other (sym named ∙ e))
       where
@@ -96,7 +107,9 @@ root_in_cut r connect h n m plane plane_cut c e = go (parent_cases (cut r h) con
         d = counterpart (cut r h) r connect h up back l (high_in_cut r h (top_of (cut r h) connect up) (top-defined (cut r h) connect up l))
 
         named : parent_of_node r connect n ≡ node_of r connect (top_of (cut r h) connect up)
-        named = parent_there (cut r h) r connect h m n up (node_of r connect (top_of (cut r h) connect up)) plane_cut back (counterpart_sym r (cut r h) connect h n m (cut_alike r h) c) d refl
+        named =
+            parent_there (cut r h) r connect h m n up (node_of r connect (top_of (cut r h) connect up)) plane_cut back
+            (counterpart_sym r (cut r h) connect h n m (cut_alike r h) c) d refl
 
 -- ---- the values around a node
 
@@ -129,7 +142,8 @@ around_same r s connect h n m k j a c d e f =
 
 -- ---- a node and the one that the same pixel represents in the cut plane
 
-high_top : (r : Raster) (connect : Connect) (h : ℤ) (n : ℕ) → n < length (nodes r connect) → h ≤ℤ level_of_node r connect n → IsTrue (is_at_least r h (top_of r connect n))
+high_top : (r : Raster) (connect : Connect) (h : ℤ) (n : ℕ) → n < length (nodes r connect) → h ≤ℤ level_of_node r connect n
+    → IsTrue (is_at_least r h (top_of r connect n))
 high_top r connect h n hn l =
     Nodes.at_least-from r h (top_of r connect n) (top-defined r connect n hn)
     (int_le-from h (level r (top_of r connect n)) (subst (λ (z : ℤ). h ≤ℤ z) (level-of_node r connect n hn) l))
@@ -148,7 +162,8 @@ pub same_measure : (r values : Raster) (connect : Connect) (h : ℤ) (n : ℕ) �
     → measure_of values (cut r h) connect (node_in_cut r connect h (top_of r connect n)) ≡ measure_of values r connect n
 unfolding measure_of
 same_measure r values connect h n plane hn l =
-    ap (measure_over values) (sym (counterpart_pixels r (cut r h) connect h n (node_in_cut r connect h (top_of r connect n)) (cut_alike r h) (in_cut r connect h n hn l)))
+    ap (measure_over values) (sym (counterpart_pixels r (cut r h) connect h n (node_in_cut r connect h (top_of r connect n)) (cut_alike r h)
+    (in_cut r connect h n hn l)))
 
 -- and the same back, where its parent is left too
 pub same_back : (r values : Raster) (connect : Connect) (h : ℤ) (n : ℕ) → IsPlane r → n < length (nodes r connect) → h ≤ℤ level_of_node r connect n
@@ -165,10 +180,12 @@ same_back r values connect h n plane hn l left = go (parent_cases r connect n pl
     plane_cut : IsPlane (cut r h)
     plane_cut = cut_is_a_plane r h plane
 
-    go : (parent_of_node r connect n ≡ no_node) ⊎ (parent_of_node r connect n < length (nodes r connect)) → back_of values (cut r h) connect m ≡ back_of values r connect n
+    go : (parent_of_node r connect n ≡ no_node) ⊎ (parent_of_node r connect n < length (nodes r connect))
+        → back_of values (cut r h) connect m ≡ back_of values r connect n
     go (inl e) = back-root values (cut r h) connect m (root_in_cut r connect h n m plane plane_cut c e) ∙ sym (back-root values r connect n e)
     go (inr hk) =
-        back-child values (cut r h) connect m (not_root (cut r h) connect m plane_cut (subst (λ (x : ℕ). x < length (nodes (cut r h) connect)) (sym there) d.other))
+        back-child values (cut r h) connect m (not_root (cut r h) connect m plane_cut
+        (subst (λ (x : ℕ). x < length (nodes (cut r h) connect)) (sym there) d.other))
         ∙ ap (λ ps. mean_of (measure_over values ps)) (sym (around_same r (cut r h) connect h n m k j (cut_alike r h) c d refl there))
         ∙ sym (back-child values r connect n (not_root r connect n plane hk))
       where

@@ -60,7 +60,8 @@ cut_all r plane h count c all = raster_is plane (cut r h) c.same_shape same
 
     same : plane.values ≡ map (λ p. cond (is_at_least r h p) (value_at r.values p) None) (range_with_len 0 (length r.values))
     same = ext_get_or None plane.values (map (λ p. cond (is_at_least r h p) (value_at r.values p) None) (range_with_len 0 (length r.values)))
-        (c.one_each ∙ sym (length-map (range_with_len 0 (length r.values)) (λ p. cond (is_at_least r h p) (value_at r.values p) None) ∙ length-range_with_len 0 (length r.values)))
+        (c.one_each ∙ sym (length-map (range_with_len 0 (length r.values)) (λ p. cond (is_at_least r h p) (value_at r.values p) None) ∙ length-range_with_len 0
+        (length r.values)))
         (λ q l. let b : q < length r.values = omega (arith, c.one_each) in
         c.done q (omega arith)
         ∙ sym (get_or-map-range_with_len (λ p. cond (is_at_least r h p) (value_at r.values p) None) 0 (length r.values) q q None b (omega arith)))

@@ -10,30 +10,29 @@ use Rattle.detect_top.specs.declared.image.Stop.TheVariants as at_image
 use Rattle.detect_top.specs.declared.words.MeasureOrder.{MeasureOrder}
 use Rattle.detect_top.specs.declared.words.Usage.{Usage as AtFault}
 use Rattle.detect_top.specs.Runs.{InputUse, OutputUse, Took, TookAtMost}
+use Rattle.detect_top.proofs.Exported.{same_bytes}
 use Rattle.measure_top.specs.declared.images.TwoPlanes.{TwoPlanes}
-use Rattle.measure_top.specs.declared.images.TwoStop.{TwoStop}
-use Rattle.measure_top.specs.declared.images.TwoStop.TheVariants.{At, ShapesDiffer}
-use Rattle.measure_top.specs.declared.top.MeasureEnd.{MeasureEnd}
-use Rattle.measure_top.specs.declared.top.MeasureEnd.TheVariants as at_end
-use Rattle.measure_top.specs.TwoImages.{TwoVerdict, two_images, earlier_fault, later_fault, shapes_differ, taken_for_two, MemoryWantedForTwo, TwoRead, TwoStopped, stop_of_two}
-use Rattle.measure_top.specs.MeasureAnswers.{measure_end, measure_output, verdict_for, measure_answer_by, measure_status}
+use Rattle.detect_top.specs.declared.image.Stop.{Stop}
+use Rattle.detect_top.specs.declared.top.End.{End}
+use Rattle.detect_top.specs.declared.top.End.TheVariants as at_end
+use Rattle.detect_top.specs.Answers.{end_status}
+use Rattle.measure_top.specs.TwoImages.{TwoVerdict, two_images, earlier_fault, later_fault, shapes_differ, taken_for_two, MemoryWantedForTwo, stop_of_two}
+use Rattle.measure_top.specs.TwoReads.{TwoRead, TwoStopped}
+use Rattle.measure_top.specs.MeasureAnswers.{measure_end, measure_output, verdict_for, measure_answer_to_read_words}
 use Rattle.measure_top.specs.MeasureRuns.{MeasureTells, MeasureWantsMemory, MayLackMemoryForTwo, MayLackMeasureMemory}
-use Rattle.measure_top.specs.MeasureEnds.{BothRead, AnswersMeasure, IsCutThere, MeasureEndBytes, MeasureEndCause}
-
-same_bytes : (a b : List ℕ) (left : Option (List ℕ)) → left ≡ Some a → left ≡ Some b → a ≡ b
-same_bytes a b left p q = cc
+use Rattle.measure_top.specs.MeasureEnds.{BothRead, GivesMeasureAnswer, IsCutThere, MeasureEndBytes, MeasureEndCause}
 
 -- ---- an input without two images
 
-stop_writes : (order : MeasureOrder) (found : TwoVerdict) (stop : TwoStop) → stop_of_two found ≡ Some stop → measure_output order found ≡ []
+stop_writes : (order : MeasureOrder) (found : TwoVerdict) (stop : Stop) → stop_of_two found ≡ Some stop → measure_output order found ≡ []
 stop_writes order (two_images first head end second head' end') stop is = absurd (cc)
 stop_writes order (earlier_fault found) stop is = refl
 stop_writes order (later_fault head end found) stop is = refl
 stop_writes order (shapes_differ head end head') stop is = refl
 
-stop_measured : (order : MeasureOrder) (bytes : List ℕ) (i : InputUse) (o : OutputUse) (stop : TwoStop) → i.left ≡ Some bytes
+stop_measured : (order : MeasureOrder) (bytes : List ℕ) (i : InputUse) (o : OutputUse) (stop : Stop) → i.left ≡ Some bytes
     → stop_of_two (verdict_for order bytes) ≡ Some stop → Takes bytes i.left' (taken_for_two (verdict_for order bytes)) → Appends o.written o.written' []
-    → AnswersMeasure (Ok order) bytes i o (measure_end (Some stop))
+    → GivesMeasureAnswer (Ok order) bytes i o (measure_end (Some stop))
 stop_measured order bytes i o stop told is takes none = record {
   end_is = ap measure_end is;
   written_is = subst (Appends o.written o.written') (sym (stop_writes order (verdict_for order bytes) stop is)) none;
@@ -41,22 +40,17 @@ stop_measured order bytes i o stop told is takes none = record {
 }
 
 pub refusal_measured : (order : MeasureOrder) (bytes : List ℕ) (i : InputUse) (o : OutputUse) (fault : Fault) → i.left ≡ Some bytes
-    → TwoStopped (verdict_for order bytes) bytes i.left' (At (at_image.Refused fault)) → Appends o.written o.written' []
-    → AnswersMeasure (Ok order) bytes i o (at_end.Refused fault)
-refusal_measured order bytes i o fault told stopped none = stop_measured order bytes i o (At (at_image.Refused fault)) told stopped.0 stopped.1 none
-
-pub shapes_measured : (order : MeasureOrder) (bytes : List ℕ) (i : InputUse) (o : OutputUse) → i.left ≡ Some bytes
-    → TwoStopped (verdict_for order bytes) bytes i.left' ShapesDiffer → Appends o.written o.written' []
-    → AnswersMeasure (Ok order) bytes i o at_end.ShapesDiffer
-shapes_measured order bytes i o told stopped none = stop_measured order bytes i o ShapesDiffer told stopped.0 stopped.1 none
+    → TwoStopped (verdict_for order bytes) bytes i.left' (at_image.Refused fault) → Appends o.written o.written' []
+    → GivesMeasureAnswer (Ok order) bytes i o (at_end.Refused fault)
+refusal_measured order bytes i o fault told stopped none = stop_measured order bytes i o (at_image.Refused fault) told stopped.0 stopped.1 none
 
 pub fault_measured : (order : MeasureOrder) (bytes : List ℕ) (left left' : Option (List ℕ)) → left ≡ Some bytes
-    → TwoStopped (verdict_for order bytes) bytes left' (At at_image.ReadFault) → TookAtMost left left' (taken_for_two (verdict_for order bytes))
+    → TwoStopped (verdict_for order bytes) bytes left' at_image.ReadFault → TookAtMost left left' (taken_for_two (verdict_for order bytes))
 fault_measured order bytes left left' told stopped =
     λ x e. subst (λ l. TakesAtMost l left' (taken_for_two (verdict_for order bytes))) (same_bytes bytes x left told e) stopped
 
 pub memory_measured : (order : MeasureOrder) (bytes : List ℕ) (left left' : Option (List ℕ)) → left ≡ Some bytes
-    → TwoStopped (verdict_for order bytes) bytes left' (At at_image.NoMemory) → MeasureWantsMemory (Ok order) bytes left left'
+    → TwoStopped (verdict_for order bytes) bytes left' at_image.NoMemory → MeasureWantsMemory (Ok order) bytes left left'
 memory_measured order bytes left left' told stopped =
     λ x e. subst (λ l. MemoryWantedForTwo (verdict_for order bytes) l left') (same_bytes bytes x left told e) stopped
 
@@ -82,7 +76,7 @@ ends_done : (order : MeasureOrder) (bytes : List ℕ) (left' : Option (List ℕ)
 ends_done order bytes left' output read = ap (λ v. measure_end (stop_of_two v)) read.are_images
 
 pub both_measured : (order : MeasureOrder) (bytes : List ℕ) (i : InputUse) (o : OutputUse) (output : List ℕ) → i.left ≡ Some bytes
-    → BothRead order bytes i.left' output → Appends o.written o.written' output → AnswersMeasure (Ok order) bytes i o at_end.Done
+    → BothRead order bytes i.left' output → Appends o.written o.written' output → GivesMeasureAnswer (Ok order) bytes i o at_end.Done
 both_measured order bytes i o output told read all = record {
   end_is = ends_done order bytes i.left' output read;
   written_is = subst (Appends o.written o.written') (output_is order bytes i.left' output read) all;
@@ -99,7 +93,7 @@ both_cut order bytes i o output told read front = record {
 
 -- words without an order
 pub usage_measured : (usage : AtFault) (bytes : List ℕ) (i : InputUse) (o : OutputUse) → i.left' ≡ i.left → Appends o.written o.written' []
-    → AnswersMeasure (Err usage) bytes i o (at_end.Usage usage)
+    → GivesMeasureAnswer (Err usage) bytes i o (at_end.Usage usage)
 usage_measured usage bytes i o same none = record {
   end_is = refl;
   written_is = none;
@@ -124,14 +118,13 @@ wants_may (Err usage) old new bytes tells wants = wants
 wants_may (Ok order) old new bytes tells wants = two_may (verdict_for order bytes) bytes new (wants bytes tells)
 
 -- the end is the answer's, or memory was wanted where it may be
-pub completes_measure : (order : Result MeasureOrder AtFault) (i : InputUse) (o : OutputUse) (bytes : List ℕ) (end : MeasureEnd)
+pub completes_measure : (order : Result MeasureOrder AtFault) (i : InputUse) (o : OutputUse) (bytes : List ℕ) (end : End)
     → MeasureEndBytes order bytes i o end → MeasureEndCause order i o end → (Rose i.faults i.faults' → ⊥) → (Rose o.faults o.faults' → ⊥)
     → MeasureTells order i.left bytes
-    → (measure_status end ≡ measure_status (measure_answer_by order bytes).end) ⊎ ((measure_status end ≡ 5) × MayLackMeasureMemory order bytes)
-completes_measure order i o bytes at_end.Done by why read write tells = inl (sym (ap measure_status by.end_is))
-completes_measure order i o bytes (at_end.Usage usage) by why read write tells = inl (sym (ap measure_status by.end_is))
-completes_measure order i o bytes (at_end.Refused fault) by why read write tells = inl (sym (ap measure_status by.end_is))
-completes_measure order i o bytes at_end.ShapesDiffer by why read write tells = inl (sym (ap measure_status by.end_is))
+    → (end_status end ≡ end_status (measure_answer_to_read_words order bytes).end) ⊎ ((end_status end ≡ 5) × MayLackMeasureMemory order bytes)
+completes_measure order i o bytes at_end.Done by why read write tells = inl (sym (ap end_status by.end_is))
+completes_measure order i o bytes (at_end.Usage usage) by why read write tells = inl (sym (ap end_status by.end_is))
+completes_measure order i o bytes (at_end.Refused fault) by why read write tells = inl (sym (ap end_status by.end_is))
 completes_measure order i o bytes at_end.ReadFault by why read write tells = absurd (read why.1)
 completes_measure order i o bytes at_end.WriteFault by why read write tells = absurd (write why.1)
 completes_measure order i o bytes at_end.NoMemory by why read write tells = inr (refl, wants_may order i.left i.left' bytes tells by)

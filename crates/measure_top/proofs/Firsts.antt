@@ -1,8 +1,8 @@
 -- The image of the earlier HDU, and where its reading stops.
-use Rattle.std.proofs.Common.{◌≡◌, ℕ, ◌+◌, ◌<◌, ◌≤◌, ◌⊎◌, inl, inr, Bool, true, false, cond, nat_lt, List, drop, length, refl, sym, ◌∙◌, subst, ap, arith, Result, Ok, Err}
+use Rattle.std.proofs.Common.{◌≡◌, ℕ, ◌+◌, ◌<◌, ◌≤◌, ◌⊎◌, inl, inr, Bool, true, false, cond, nat_lt, List, drop, length, refl, sym, ◌∙◌, subst, ap, arith}
+use Rattle.std.proofs.Common.{Result, Ok, Err}
 use Rattle.std.specs.Prelude.{Some, None, MatchResult}
 use Rattle.std.specs.declared.option.Option.{Option}
-use Rattle.std.specs.Option.{option_map}
 use Rattle.std.specs.Result.{result_ok}
 use Rattle.std.proofs.lemmas.Bool.Decides.{nat_tests}
 use Rattle.dev_io.specs.Streams.{Takes}
@@ -10,7 +10,7 @@ use Rattle.comp_tree.specs.declared.shape.Shape.{Shape}
 use Rattle.comp_tree.specs.Raster.{Raster}
 use Rattle.fits_hdu.specs.declared.answer.Hdu.{Hdu}
 use Rattle.fits_hdu.specs.Headers.{Found, found, refused}
-use Rattle.fits_hdu.specs.declared.answer.HduFault.{HduFault}
+use Rattle.fits_hdu.specs.declared.fault.HduStop.{HduStop}
 use Rattle.fits_hdu.specs.Finding.{find_of, find_after_of, taken_by}
 use Rattle.fits_hdu.specs.Streams.{Stopped, Finds}
 use Rattle.fits_hdu.specs.Laws.{HasData}
@@ -19,7 +19,7 @@ use Rattle.pixel_plane.specs.declared.fault.ImageFault.{ImageFault}
 use Rattle.pixel_plane.specs.Images.{checked}
 use Rattle.pixel_plane.specs.Reading.{image_bytes}
 use Rattle.pixel_plane.specs.Stored.{first_out_of_range}
-use Rattle.pixel_plane.specs.Verdicts.{Verdict, image, unfound, unreadable, truncated, out_of_range, image_unless, verdict, verdict_by}
+use Rattle.pixel_plane.specs.Verdicts.{Verdict, image, unfound, unreadable, truncated, out_of_range, image_unless, verdict_on, verdict_on_hdu}
 use Rattle.pixel_plane.proofs.Exported.{all_data}
 use Rattle.detect_top.specs.declared.image.Stop.{Stop}
 use Rattle.detect_top.specs.declared.image.Stop.TheVariants.{Refused, ReadFault, NoMemory}
@@ -28,10 +28,10 @@ use Rattle.detect_top.specs.Streams.{ImageRead, ImageStopped}
 use Rattle.detect_top.proofs.Exported.{verdict_is}
 use Rattle.measure_top.specs.declared.images.FirstImage.{FirstImage}
 use Rattle.measure_top.specs.declared.images.TwoPlanes.{TwoPlanes}
-use Rattle.measure_top.specs.declared.images.TwoStop.{TwoStop}
-use Rattle.measure_top.specs.declared.images.TwoStop.TheVariants.{At}
 use Rattle.measure_top.specs.FirstImages.{FirstImageRead}
-use Rattle.measure_top.specs.TwoImages.{TwoVerdict, header_shape, is_other_shape, verdict_beside, verdict_on_both, verdict_on_two, taken_for_two, TwoRead, TwoStopped, MemoryWantedForTwo}
+use Rattle.measure_top.specs.TwoImages.{TwoVerdict, header_shape, is_other_shape, verdict_beside, combined_verdict, verdict_on_two, taken_for_two}
+use Rattle.measure_top.specs.TwoImages.{MemoryWantedForTwo}
+use Rattle.measure_top.specs.TwoReads.{TwoRead, TwoStopped}
 use Rattle.measure_top.proofs.Besides.{two_is, search_most, search_beside}
 
 -- An image stands where its header and its shape say.
@@ -43,7 +43,8 @@ record IsBehind (bytes : List ℕ) (hdu : Hdu) (at : ℕ) (check : Result Shape 
   end_is : end ≡ at + image_bytes hdu shape
   within : end ≤ length bytes
 
-whole_image : (bytes : List ℕ) (hdu : Hdu) (at long : ℕ) (shape : Shape) (pixel : Option ℕ) (plane : Raster) (head end : ℕ) → image_unless bytes hdu at shape pixel ≡ image plane head end
+whole_image : (bytes : List ℕ) (hdu : Hdu) (at long : ℕ) (shape : Shape) (pixel : Option ℕ) (plane : Raster) (head end : ℕ)
+    → image_unless bytes hdu at shape pixel ≡ image plane head end
     → (at ≡ head) × (end ≡ at + image_bytes hdu shape)
 whole_image bytes hdu at long shape (Some pixel) plane head end is = absurd (cc)
 whole_image bytes hdu at long shape None plane head end is =
@@ -51,7 +52,8 @@ whole_image bytes hdu at long shape None plane head end is =
     let same : at ≡ head = cc in
     (same, sym place)
 
-image_behind_parts : (bytes : List ℕ) (hdu : Hdu) (at : ℕ) (check : Result Shape ImageFault) (plane : Raster) (head end : ℕ) → verdict_by bytes hdu at check ≡ image plane head end → IsBehind bytes hdu at check head end
+image_behind_parts : (bytes : List ℕ) (hdu : Hdu) (at : ℕ) (check : Result Shape ImageFault) (plane : Raster) (head end : ℕ)
+    → verdict_on_hdu bytes hdu at check ≡ image plane head end → IsBehind bytes hdu at check head end
 image_behind_parts bytes hdu at (Err fault) plane head end is = absurd (cc)
 image_behind_parts bytes hdu at (Ok shape) plane head end is = by (nat_lt (length bytes) (at + image_bytes hdu shape)) refl is
   where
@@ -59,7 +61,8 @@ image_behind_parts bytes hdu at (Ok shape) plane head end is = by (nat_lt (lengt
     long n m h = grind (arith, nat_tests)
 
     by : (cut : Bool) → nat_lt (length bytes) (at + image_bytes hdu shape) ≡ cut
-        → cond cut (truncated at (length bytes)) (image_unless (drop at bytes) hdu at shape (first_out_of_range hdu shape (drop at bytes))) ≡ image plane head end → IsBehind bytes hdu at (Ok shape) head end
+        → cond cut (truncated at (length bytes)) (image_unless (drop at bytes) hdu at shape (first_out_of_range hdu shape (drop at bytes)))
+        ≡ image plane head end → IsBehind bytes hdu at (Ok shape) head end
     by true e v = absurd (cc)
     by false e v =
         let place = whole_image (drop at bytes) hdu at (length bytes) shape (first_out_of_range hdu shape (drop at bytes)) plane head end v in
@@ -71,7 +74,8 @@ record IsAt (bytes : List ℕ) (number : ℕ) (hdu : Hdu) (head end : ℕ) : Typ
   end_is : end ≡ head + hdu.data_bytes
   within : end ≤ length bytes
 
-image_at : (bytes : List ℕ) (number : ℕ) (hdu : Hdu) (at : ℕ) (plane : Raster) (head end : ℕ) → find_of bytes number ≡ found hdu at → verdict_by bytes hdu at (checked hdu) ≡ image plane head end → IsAt bytes number hdu head end
+image_at : (bytes : List ℕ) (number : ℕ) (hdu : Hdu) (at : ℕ) (plane : Raster) (head end : ℕ) → find_of bytes number ≡ found hdu at
+    → verdict_on_hdu bytes hdu at (checked hdu) ≡ image plane head end → IsAt bytes number hdu head end
 image_at bytes number hdu at plane head end is v =
     let behind = image_behind_parts bytes hdu at (checked hdu) plane head end v in
     record {
@@ -81,7 +85,7 @@ image_at bytes number hdu at plane head end is v =
     }
 
 pub first_read : (bytes : List ℕ) (number : ℕ) (head : ℕ) (left : Option (List ℕ)) (first : FirstImage) → find_of bytes number ≡ found first.hdu head
-    → ImageRead (verdict_by bytes first.hdu head (checked first.hdu)) bytes left first.plane → FirstImageRead bytes number left first
+    → ImageRead (verdict_on_hdu bytes first.hdu head (checked first.hdu)) bytes left first.plane → FirstImageRead bytes number left first
 first_read bytes number head left first is read =
     let place : IsAt bytes number first.hdu read.head read.end = image_at bytes number first.hdu head first.plane read.head read.end is read.is_image in
     record {
@@ -94,7 +98,8 @@ first_read bytes number head left first is read =
 
 -- The later HDU stands behind the earlier image.
 
-behind_first : (bytes : List ℕ) (at number : ℕ) (plane : Raster) (head end : ℕ) → at < number → verdict bytes at ≡ image plane head end → (end ≤ taken_by (find_of bytes number)) × (end ≤ length bytes)
+behind_first : (bytes : List ℕ) (at number : ℕ) (plane : Raster) (head end : ℕ) → at < number → verdict_on bytes at ≡ image plane head end
+    → (end ≤ taken_by (find_of bytes number)) × (end ≤ length bytes)
 behind_first bytes at number plane head end low v = by (find_of bytes at) refl
   where
     by : (search : Found) → find_of bytes at ≡ search → (end ≤ taken_by (find_of bytes number)) × (end ≤ length bytes)
@@ -105,7 +110,8 @@ behind_first bytes at number plane head end low v = by (find_of bytes at) refl
         (subst (λ n. n ≤ taken_by (find_of bytes number)) (sym place.end_is) (data_taken bytes at number hdu head there low), place.within)
 
 -- where memory is wanted for the earlier image, it is for both
-first_wanted : (first : Raster) (head end : ℕ) (later : Verdict) (shape : Option Shape) (bytes : List ℕ) (left : Option (List ℕ)) (other : Bool) → is_other_shape first.shape shape ≡ other
+first_wanted : (first : Raster) (head end : ℕ) (later : Verdict) (shape : Option Shape) (bytes : List ℕ) (left : Option (List ℕ)) (other : Bool)
+    → is_other_shape first.shape shape ≡ other
     → Takes bytes left head ⊎ Takes bytes left end → MemoryWantedForTwo (verdict_beside first head end later shape) bytes left
 first_wanted first head end (unfound fault taken) shape bytes left other e (inl takes) = inl takes
 first_wanted first head end (unfound fault taken) shape bytes left other e (inr takes) = inr (inl takes)
@@ -126,32 +132,35 @@ first_wanted first head end (image second head' end') shape bytes left false e (
 
 stopped_by : (v later : Verdict) (shape : Option Shape) (bytes : List ℕ) (left : Option (List ℕ)) (stop : Stop)
     → ((plane : Raster) (head end : ℕ) → v ≡ image plane head end → end ≤ taken_for_two (verdict_beside plane head end later shape))
-    → ImageStopped v bytes left stop → TwoStopped (verdict_on_both v later shape) bytes left (At stop)
+    → ImageStopped v bytes left stop → TwoStopped (combined_verdict v later shape) bytes left stop
 stopped_by (image plane head end) later shape bytes left (Refused fault) most (is, takes) = absurd (cc)
-stopped_by (image plane head end) later shape bytes left ReadFault most lost = record { count = lost.count; few = omega (arith, lost.few, most plane head end refl); takes = lost.takes }
+stopped_by (image plane head end) later shape bytes left ReadFault most lost =
+    record { count = lost.count; few = omega (arith, lost.few, most plane head end refl); takes = lost.takes }
 stopped_by (image plane head end) later shape bytes left NoMemory most wanted = first_wanted plane head end later shape bytes left _ refl wanted
-stopped_by (unfound of taken) later shape bytes left (Refused fault) most (is, takes) = (ap (option_map At) is, takes)
+stopped_by (unfound of taken) later shape bytes left (Refused fault) most (is, takes) = (is, takes)
 stopped_by (unfound of taken) later shape bytes left ReadFault most lost = lost
 stopped_by (unfound of taken) later shape bytes left NoMemory most wanted = wanted
-stopped_by (unreadable of head) later shape bytes left (Refused fault) most (is, takes) = (ap (option_map At) is, takes)
+stopped_by (unreadable of head) later shape bytes left (Refused fault) most (is, takes) = (is, takes)
 stopped_by (unreadable of head) later shape bytes left ReadFault most lost = lost
 stopped_by (unreadable of head) later shape bytes left NoMemory most wanted = wanted
-stopped_by (truncated head taken) later shape bytes left (Refused fault) most (is, takes) = (ap (option_map At) is, takes)
+stopped_by (truncated head taken) later shape bytes left (Refused fault) most (is, takes) = (is, takes)
 stopped_by (truncated head taken) later shape bytes left ReadFault most lost = lost
 stopped_by (truncated head taken) later shape bytes left NoMemory most wanted = wanted
-stopped_by (out_of_range head end pixel stored) later shape bytes left (Refused fault) most (is, takes) = (ap (option_map At) is, takes)
+stopped_by (out_of_range head end pixel stored) later shape bytes left (Refused fault) most (is, takes) = (is, takes)
 stopped_by (out_of_range head end pixel stored) later shape bytes left ReadFault most lost = lost
 stopped_by (out_of_range head end pixel stored) later shape bytes left NoMemory most wanted = wanted
 
 -- the reading of the earlier image stops
-pub first_stopped : (bytes : List ℕ) (at number : ℕ) (left : Option (List ℕ)) (stop : Stop) → at < number → ImageStopped (verdict bytes at) bytes left stop → TwoStopped (verdict_on_two bytes at number) bytes left (At stop)
+pub first_stopped : (bytes : List ℕ) (at number : ℕ) (left : Option (List ℕ)) (stop : Stop) → at < number → ImageStopped (verdict_on bytes at) bytes left stop
+    → TwoStopped (verdict_on_two bytes at number) bytes left stop
 unfolding verdict_on_two
-first_stopped bytes at number left stop low h = stopped_by (verdict bytes at) (verdict bytes number) (header_shape bytes number) bytes left stop most h
+first_stopped bytes at number left stop low h = stopped_by (verdict_on bytes at) (verdict_on bytes number) (header_shape bytes number) bytes left stop most h
   where
-    most : (plane : Raster) (head end : ℕ) → verdict bytes at ≡ image plane head end → end ≤ taken_for_two (verdict_beside plane head end (verdict bytes number) (header_shape bytes number))
+    most : (plane : Raster) (head end : ℕ) → verdict_on bytes at ≡ image plane head end
+        → end ≤ taken_for_two (verdict_beside plane head end (verdict_on bytes number) (header_shape bytes number))
     most plane head end v =
         let place = behind_first bytes at number plane head end low v in
-        let same = ap (λ v. verdict_on_both v (verdict bytes number) (header_shape bytes number)) v in
+        let same = ap (λ v. combined_verdict v (verdict_on bytes number) (header_shape bytes number)) v in
         let whole = two_is bytes at number plane head end (find_of bytes number) v refl in
         subst (λ two. end ≤ taken_for_two two) (sym whole ∙ same) (search_most bytes plane head end end (find_of bytes number) place.0 place.1)
 
@@ -163,28 +172,32 @@ on_from_first bytes at number before first read low =
     let there : HasData bytes at first.hdu read.head = record { is = read.is; whole = read.takes.within } in
     search_goes_on bytes at number first.hdu read.head there low
 
-pub second_stopped : (bytes : List ℕ) (at number : ℕ) (before left : Option (List ℕ)) (first : FirstImage) (fault : HduFault) → at < number
-    → ((bytes : List ℕ) (start : ℕ) → Takes bytes before start → Stopped (find_after_of bytes at first.hdu.data_bytes start number) bytes left fault)
-    → FirstImageRead bytes at before first → TwoStopped (verdict_on_two bytes at number) bytes left (At (stop_at_hdu fault))
-second_stopped bytes at number before left first fault low says read =
+pub second_stopped : (bytes : List ℕ) (at number : ℕ) (before left : Option (List ℕ)) (first : FirstImage) (stop : HduStop) → at < number
+    → ((bytes : List ℕ) (start : ℕ) → Takes bytes before start → Stopped (find_after_of bytes at first.hdu.data_bytes start number) bytes left stop)
+    → FirstImageRead bytes at before first → TwoStopped (verdict_on_two bytes at number) bytes left (stop_at_hdu stop)
+second_stopped bytes at number before left first stop low says read =
     let end = read.head + first.hdu.data_bytes in
-    let search : Stopped (find_of bytes number) bytes left fault = subst (λ s. Stopped s bytes left fault) (on_from_first bytes at number before first read low) (says bytes end read.takes) in
+    let search : Stopped (find_of bytes number) bytes left stop =
+    subst (λ s. Stopped s bytes left stop) (on_from_first bytes at number before first read low) (says bytes end read.takes) in
     let is = two_is bytes at number first.plane read.head end (find_of bytes number) read.is_image refl in
-    subst (λ two. TwoStopped two bytes left (At (stop_at_hdu fault))) (sym is) (search_beside bytes first.plane read.head end left (find_of bytes number) fault search)
+    subst (λ two. TwoStopped two bytes left (stop_at_hdu stop)) (sym is) (search_beside bytes first.plane read.head end left (find_of bytes number) stop search)
 
-abbrev BothRead : TwoVerdict → List ℕ → Option (List ℕ) → Result TwoPlanes TwoStop → Type 0
+abbrev BothRead : TwoVerdict → List ℕ → Option (List ℕ) → Result TwoPlanes Stop → Type 0
 BothRead two bytes left result = MatchResult result (λ planes. TwoRead two bytes left planes) (λ stop. TwoStopped two bytes left stop)
 
-pub second_read : (bytes : List ℕ) (at number : ℕ) (before after left : Option (List ℕ)) (first : FirstImage) (hdu : Hdu) (result : Result TwoPlanes TwoStop) → at < number
+pub second_read : (bytes : List ℕ) (at number : ℕ) (before after left : Option (List ℕ)) (first : FirstImage) (hdu : Hdu) (result : Result TwoPlanes Stop)
+    → at < number
     → ((bytes : List ℕ) (start : ℕ) → Takes bytes before start → Finds (find_after_of bytes at first.hdu.data_bytes start number) bytes after (Ok hdu))
     → ((bytes : List ℕ) (head end head' : ℕ) → Takes bytes after head' → MatchResult result
-    (λ planes. TwoRead (verdict_beside first.plane head end (verdict_by bytes hdu head' (checked hdu)) (result_ok (checked hdu))) bytes left planes)
-    (λ stop. TwoStopped (verdict_beside first.plane head end (verdict_by bytes hdu head' (checked hdu)) (result_ok (checked hdu))) bytes left stop))
+    (λ planes. TwoRead (verdict_beside first.plane head end (verdict_on_hdu bytes hdu head' (checked hdu)) (result_ok (checked hdu))) bytes left planes)
+    (λ stop. TwoStopped (verdict_beside first.plane head end (verdict_on_hdu bytes hdu head' (checked hdu)) (result_ok (checked hdu))) bytes left stop))
     → FirstImageRead bytes at before first
-    → MatchResult result (λ planes. TwoRead (verdict_on_two bytes at number) bytes left planes) (λ stop. TwoStopped (verdict_on_two bytes at number) bytes left stop)
+    → MatchResult result (λ planes. TwoRead (verdict_on_two bytes at number) bytes left planes)
+    (λ stop. TwoStopped (verdict_on_two bytes at number) bytes left stop)
 second_read bytes at number before after left first hdu result low finds says read = by (finds bytes (read.head + first.hdu.data_bytes) read.takes)
   where
-    by : Finds (find_after_of bytes at first.hdu.data_bytes (read.head + first.hdu.data_bytes) number) bytes after (Ok hdu) → BothRead (verdict_on_two bytes at number) bytes left result
+    by : Finds (find_after_of bytes at first.hdu.data_bytes (read.head + first.hdu.data_bytes) number) bytes after (Ok hdu)
+        → BothRead (verdict_on_two bytes at number) bytes left result
     by (head', is, takes) =
         let end = read.head + first.hdu.data_bytes in
         let search : find_of bytes number ≡ found hdu head' = sym (on_from_first bytes at number before first read low) ∙ is in

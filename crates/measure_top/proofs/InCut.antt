@@ -1,5 +1,6 @@
 -- The sources of a plane in the plane that is cut at the lowest of their bases: they are its nodes too, with the same cells.
-use Rattle.std.proofs.Common.{◌≡◌, ◌∙◌, ap, sym, subst, refl, arith, ℕ, zero, suc, ◌+◌, ◌*◌, ◌<◌, ◌≤◌, Bool, true, false, cond, List, [], ◌∷◌, ◌++◌, length, map}
+use Rattle.std.proofs.Common.{◌≡◌, ◌∙◌, ap, sym, subst, refl, arith, ℕ, zero, suc, ◌+◌, ◌*◌, ◌<◌, ◌≤◌, Bool, true, false, cond, List, [], ◌∷◌, ◌++◌, length}
+use Rattle.std.proofs.Common.{map}
 use Rattle.std.specs.Prelude.{ℤ, ◌≤ℤ◌, ⊤, Some, slice_get, slice_index, filter}
 use Rattle.std.specs.List.{range_with_len, flat_map, enumerate_from}
 use Rattle.std.proofs.lemmas.Int.{ints}
@@ -56,11 +57,13 @@ sources_are_nodes : (r : Raster) (connect : Connect) (choice : Choice) → AreNo
 unfolding sources sources_at
 sources_are_nodes r connect choice =
     nodes_of_each (length (nodes r connect)) (sources_at r connect choice) (pixels r)
-    (λ p. nodes_filtered (length (nodes r connect)) _ (range_with_len 0 (length (nodes r connect))) (nodes_in_range (length (nodes r connect)) 0 (length (nodes r connect)) (omega arith)))
+    (λ p. nodes_filtered (length (nodes r connect)) _ (range_with_len 0 (length (nodes r connect)))
+    (nodes_in_range (length (nodes r connect)) 0 (length (nodes r connect)) (omega arith)))
 
 -- ---- levels from the base on
 
-level_from_base : (r : Raster) (connect : Connect) (h : ℤ) (n : ℕ) → IsPlane r → n < length (nodes r connect) → h ≤ℤ base_of (tree_of r connect) n → h ≤ℤ level_of_node r connect n
+level_from_base : (r : Raster) (connect : Connect) (h : ℤ) (n : ℕ) → IsPlane r → n < length (nodes r connect) → h ≤ℤ base_of (tree_of r connect) n
+    → h ≤ℤ level_of_node r connect n
 level_from_base r connect h n plane within low = go (base-case r connect n plane within)
   where
     own : level_of_node r connect n ≡ level r (top_of r connect n)
@@ -90,7 +93,8 @@ record IsPickedAs (r : Raster) (connect : Connect) (h : ℤ) (number n : ℕ) (n
   rep_is : node.rep ≡ top_of r connect n
   low : h ≤ℤ node.row.base
 
-base_low : (r : Raster) (connect : Connect) (h : ℤ) (number n : ℕ) (node : PickedNode) → IsPickedAs r connect h number n node → h ≤ℤ base_of (tree_of r connect) n
+base_low : (r : Raster) (connect : Connect) (h : ℤ) (number n : ℕ) (node : PickedNode) → IsPickedAs r connect h number n node
+    → h ≤ℤ base_of (tree_of r connect) n
 base_low r connect h number n node k = subst (λ (z : ℤ). h ≤ℤ z) (ap (λ (row : CatRow). row.base) k.row_is ∙ row_base r connect number n) k.low
 
 stands : (r : Raster) (connect : Connect) (h : ℤ) (number n : ℕ) (node : PickedNode) → IsPlane r → IsPickedAs r connect h number n node
@@ -116,7 +120,9 @@ cells_same r values connect h number n node plane k = λ i. measured_cells_of (k
     measure = ap (λ p. measure_of values (cut r h) connect (node_of (cut r h) connect p)) k.rep_is ∙ same_measure r values connect h n plane k.within high
 
     back : back_of values (cut r h) connect (node_of (cut r h) connect node.rep) ≡ back_of values r connect n
-    back = ap (λ p. back_of values (cut r h) connect (node_of (cut r h) connect p)) k.rep_is ∙ same_back r values connect h n plane k.within high (parent_from_base r connect h n low)
+    back =
+        ap (λ p. back_of values (cut r h) connect (node_of (cut r h) connect p)) k.rep_is
+        ∙ same_back r values connect h n plane k.within high (parent_from_base r connect h n low)
 
 -- ---- all of them
 
@@ -128,7 +134,8 @@ ArePickedAs r connect h number (n ∷ picked) [] = ⊥
 ArePickedAs r connect h number (n ∷ picked) (node ∷ found) = IsPickedAs r connect h number n node × ArePickedAs r connect h (number + 1) picked found
 
 picked_as : (r : Raster) (connect : Connect) (h : ℤ) (number : ℕ) (picked : List ℕ) (found : List PickedNode) → AreNodes (length (nodes r connect)) picked
-    → map (λ n. n.row) found ≡ map (λ e. catalogue_row r connect e.0 e.1) (enumerate_from number picked) → map (λ n. n.rep) found ≡ map (top_of r connect) picked
+    → map (λ n. n.row) found ≡ map (λ e. catalogue_row r connect e.0 e.1) (enumerate_from number picked)
+    → map (λ n. n.rep) found ≡ map (top_of r connect) picked
     → HaveBasesFrom h found → ArePickedAs r connect h number picked found
 picked_as r connect h number [] [] within rows reps low = tt
 picked_as r connect h number [] (node ∷ found) within rows reps low = absurd (cc)
@@ -142,8 +149,10 @@ picked_as r connect h number (n ∷ picked) (node ∷ found) within rows reps lo
       picked_as r connect h (number + 1) picked found within.1 rows_are reps_are (λ k x at. low (suc k) x at),
     )
 
-all_stand : (r : Raster) (connect : Connect) (h : ℤ) (number : ℕ) (picked : List ℕ) (found : List PickedNode) → IsPlane r → ArePickedAs r connect h number picked found
-    → (k : ℕ) (node : PickedNode) → slice_get found k ≡ Some node → (node.rep < length r.values) × (node_in_cut r connect h node.rep < length (nodes (cut r h) connect))
+all_stand : (r : Raster) (connect : Connect) (h : ℤ) (number : ℕ) (picked : List ℕ) (found : List PickedNode) → IsPlane r
+    → ArePickedAs r connect h number picked found
+    → (k : ℕ) (node : PickedNode) → slice_get found k ≡ Some node → (node.rep < length r.values)
+    × (node_in_cut r connect h node.rep < length (nodes (cut r h) connect))
 all_stand r connect h number [] [] plane are k node at = absurd (cc)
 all_stand r connect h number [] (x ∷ found) plane are k node at = absurd are
 all_stand r connect h number (n ∷ picked) [] plane are k node at = absurd are
@@ -152,7 +161,8 @@ all_stand r connect h number (n ∷ picked) (x ∷ found) plane are zero node at
     stands r connect h number n node plane (subst (IsPickedAs r connect h number n) same are.0)
 all_stand r connect h number (n ∷ picked) (x ∷ found) plane are (suc k) node at = all_stand r connect h (number + 1) picked found plane are.1 k node at
 
-all_cells_same : (r values : Raster) (connect : Connect) (h : ℤ) (number : ℕ) (picked : List ℕ) (found : List PickedNode) → IsPlane r → ArePickedAs r connect h number picked found
+all_cells_same : (r values : Raster) (connect : Connect) (h : ℤ) (number : ℕ) (picked : List ℕ) (found : List PickedNode) → IsPlane r
+    → ArePickedAs r connect h number picked found
     → flat_map (cells_at (cut r h) values connect) found ≡ flat_map (λ e. row_with_measure r values connect e.0 e.1) (enumerate_from number picked)
 all_cells_same r values connect h number [] [] plane are = refl
 all_cells_same r values connect h number [] (node ∷ found) plane are = absurd are
@@ -161,7 +171,8 @@ all_cells_same r values connect h number (n ∷ picked) (node ∷ found) plane a
     ap (λ (l : List ℤ). l ++ flat_map (cells_at (cut r h) values connect) found) (cells_same r values connect h number n node plane are.0)
     ∙ ap (λ (l : List ℤ). row_with_measure r values connect number n ++ l) (all_cells_same r values connect h (number + 1) picked found plane are.1)
 
-sources_picked : (r : Raster) (connect : Connect) (choice : Choice) (h : ℤ) (found : List PickedNode) → AreNodesOf r connect (sources r connect choice) found → HaveBasesFrom h found
+sources_picked : (r : Raster) (connect : Connect) (choice : Choice) (h : ℤ) (found : List PickedNode) → AreNodesOf r connect (sources r connect choice) found
+    → HaveBasesFrom h found
     → ArePickedAs r connect h 1 (sources r connect choice) found
 unfolding catalogue_of
 sources_picked r connect choice h found are low =
@@ -172,12 +183,14 @@ unfolding cut
 shape-cut r h = refl
 
 -- the sources are nodes of the cut plane's tree
-pub sources_stand : (r plane : Raster) (connect : Connect) (choice : Choice) (h : ℤ) (tree : ComponentTree) (found : List PickedNode) → IsPlane r → plane ≡ cut r h
+pub sources_stand : (r plane : Raster) (connect : Connect) (choice : Choice) (h : ℤ) (tree : ComponentTree) (found : List PickedNode) → IsPlane r
+    → plane ≡ cut r h
     → tree ≡ tree_of plane connect → AreNodesOf r connect (sources r connect choice) found → HaveBasesFrom h found → StandIn tree found
 unfolding tree_of
 sources_stand r plane connect choice h tree found one is tree_is are low k node at =
     let stand = all_stand r connect h 1 (sources r connect choice) found one (sources_picked r connect choice h found are low) k node at in
-    subst (λ (t : ComponentTree). (node.rep < length t.node_of) × (slice_index t.node_of node.rep < length t.rows)) (sym (tree_is ∙ ap (λ (p : Raster). tree_of p connect) is)) (
+    subst (λ (t : ComponentTree). (node.rep < length t.node_of) × (slice_index t.node_of node.rep < length t.rows))
+    (sym (tree_is ∙ ap (λ (p : Raster). tree_of p connect) is)) (
       omega (arith, stand.0, many),
       subst (λ m. m < length (tree_of (cut r h) connect).rows) (sym (read-node_of (cut r h) connect node.rep (omega (arith, stand.0, values))))
           (omega (arith, stand.1, length-rows (cut r h) connect)),
@@ -191,7 +204,8 @@ sources_stand r plane connect choice h tree found one is tree_is are low k node 
 
 -- and their cells there are those of their rows
 pub sources_measured : (r plane values : Raster) (connect : Connect) (choice : Choice) (h : ℤ) (found : List PickedNode) → IsPlane r → plane ≡ cut r h
-    → AreNodesOf r connect (sources r connect choice) found → HaveBasesFrom h found → all_cells plane values connect found ≡ rows_with_measures r values connect (sources r connect choice)
+    → AreNodesOf r connect (sources r connect choice) found → HaveBasesFrom h found
+    → all_cells plane values connect found ≡ rows_with_measures r values connect (sources r connect choice)
 unfolding all_cells rows_with_measures
 sources_measured r plane values connect choice h found one is are low =
     ap (λ (p : Raster). all_cells p values connect found) is

@@ -4,9 +4,9 @@ mod Firsts
 mod InCut
 mod PickedRows
 mod PickedSources
-pub mod CutAlike
-pub mod CutNodes
-pub mod Ended
-pub mod MeasuredRows
-pub mod MeasuredSources
-pub mod MeasuredTables
+mod CutAlike
+mod CutNodes
+mod Ended
+mod MeasuredRows
+mod MeasuredSources
+mod MeasuredTables

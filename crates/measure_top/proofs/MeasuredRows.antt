@@ -1,5 +1,6 @@
 -- The rows of a catalogue with measures, put one behind the other.
-use Rattle.std.proofs.Common.{◌≡◌, ◌∙◌, ap, sym, subst, arith, ℕ, ◌+◌, ◌*◌, ◌^◌, ◌<◌, ◌≤◌, List, [], ◌∷◌, ◌++◌, length, take, get_or, append-nil, length-append, ℤ}
+use Rattle.std.proofs.Common.{◌≡◌, ◌∙◌, ap, sym, subst, arith, ℕ, ◌+◌, ◌*◌, ◌^◌, ◌<◌, ◌≤◌, List, [], ◌∷◌, ◌++◌, length, take, get_or, append-nil, length-append}
+use Rattle.std.proofs.Common.{ℤ}
 use Rattle.std.specs.Prelude.{Some, slice_get}
 use Rattle.std.specs.List.{flat_map}
 use Rattle.std.proofs.lemmas.Grind.{flat_map-append}
@@ -17,29 +18,34 @@ use Rattle.source_pick.specs.declared.catalogue.CatRow.{CatRow}
 use Rattle.source_pick.proofs.Exported.{numbers-length}
 use Rattle.dual_measure.specs.declared.values.Measure.{Measure}
 use Rattle.dual_measure.specs.Measures.{measure_of, measures_of, back_of, HasMeasureSizes, AreTheTreesMeasures}
+use Rattle.dual_measure.proofs.Exported.{one_for_each}
 use Rattle.dual_measure.specs.Columns.{measured_cells_of}
 use Rattle.measure_top.specs.declared.picking_near.PickedNode.{PickedNode}
-use Rattle.measure_top.specs.MeasuredCatalogues.{measured_columns}
+use Rattle.catalogue_form.specs.Columns.{measured_columns, measured_cells_in_row}
+use Rattle.catalogue_form.proofs.Exported.{no_rows, tables_joined}
+use Rattle.catalogue_form.proofs.Exported.{measured_are_columns}
 use Rattle.measure_top.specs.Picks.{cells_at, all_cells}
-use Rattle.measure_top.proofs.MeasuredTables.{no_rows, tables_joined}
+use Rattle.measure_top.proofs.MeasuredTables.{many_columns}
 
 -- these are the cells of the first count of some nodes
 pub record AreMeasuredRows (tree : ComponentTree) (measures : List Measure) (picked : List PickedNode) (count : ℕ) (items : List ℤ) : Type 0 where
   pub table : IsTable measured_columns items
-  pub many : length items ≡ 24 * count
+  pub many : length items ≡ measured_cells_in_row * count
   pub exact : (plane values : Raster) (connect : Connect) → IsPlane plane → tree ≡ tree_of plane connect → measures ≡ measures_of values plane connect
       → items ≡ all_cells plane values connect (take count picked)
 
-pub before_rows : (tree : ComponentTree) (measures : List Measure) (picked : List PickedNode) (items : List ℤ) → items ≡ [] → AreMeasuredRows tree measures picked 0 items
+pub before_rows : (tree : ComponentTree) (measures : List Measure) (picked : List PickedNode) (items : List ℤ) → items ≡ []
+    → AreMeasuredRows tree measures picked 0 items
 unfolding all_cells
 before_rows tree measures picked items empty = record {
-  table = subst (IsTable measured_columns) (sym empty) no_rows;
+  table = subst (IsTable measured_columns) (sym empty) (no_rows measured_columns measured_are_columns);
   many = ap (λ (l : List ℤ). length l) empty;
   exact = λ plane values connect one is these. empty;
 }
 
 one_more : (plane values : Raster) (connect : Connect) (picked : List PickedNode) (count : ℕ) (d : PickedNode) → count < length picked
-    → all_cells plane values connect (take (count + 1) picked) ≡ all_cells plane values connect (take count picked) ++ cells_at plane values connect (get_or picked count d)
+    → all_cells plane values connect (take (count + 1) picked) ≡ all_cells plane values connect (take count picked)
+    ++ cells_at plane values connect (get_or picked count d)
 unfolding all_cells
 one_more plane values connect picked count d within =
     let cells : PickedNode → List ℤ = cells_at plane values connect in
@@ -48,14 +54,17 @@ one_more plane values connect picked count d within =
     ∙ ap (λ l. flat_map cells (take count picked) ++ l) (append-nil _)
 
 pub rows_more : (tree : ComponentTree) (measures : List Measure) (picked : List PickedNode) (count : ℕ) (d : PickedNode) (items items' row : List ℤ)
-    → AreMeasuredRows tree measures picked count items → length picked ≤ 2 ^ 24 → count < length picked → items' ≡ items ++ row → length row ≡ 24 → IsTable measured_columns row
+    → AreMeasuredRows tree measures picked count items → length picked ≤ 2 ^ 24 → count < length picked → items' ≡ items ++ row
+    → length row ≡ measured_cells_in_row → IsTable measured_columns row
     → ((plane values : Raster) (connect : Connect) → IsPlane plane → tree ≡ tree_of plane connect → measures ≡ measures_of values plane connect
     → row ≡ cells_at plane values connect (get_or picked count d))
     → AreMeasuredRows tree measures picked (count + 1) items'
 rows_more tree measures picked count d items items' row before few within more cells table is =
     let many = before.many in
     record {
-      table = subst (IsTable measured_columns) (sym more) (tables_joined items row count 1 before.table table many cells (omega (arith, few, within)));
+      table = subst (IsTable measured_columns) (sym more)
+          (tables_joined measured_columns items row count 1 before.table table (many ∙ ap (λ n. n * count) (sym many_columns))
+          (omega (arith, cells, many_columns)) (omega (arith, few, within)));
       many = ap (λ (l : List ℤ). length l) more ∙ length-append items row ∙ omega (arith, many, cells);
       exact = λ plane values connect one tree_is measures_are.
           more
@@ -64,7 +73,8 @@ rows_more tree measures picked count d items items' row before few within more c
           ∙ sym (one_more plane values connect picked count d within);
     }
 
-pub all_rows : (tree : ComponentTree) (measures : List Measure) (picked : List PickedNode) (count : ℕ) (items : List ℤ) → AreMeasuredRows tree measures picked count items
+pub all_rows : (tree : ComponentTree) (measures : List Measure) (picked : List PickedNode) (count : ℕ) (items : List ℤ)
+    → AreMeasuredRows tree measures picked count items
     → length picked ≤ count → (plane values : Raster) (connect : Connect) → IsPlane plane → tree ≡ tree_of plane connect
     → measures ≡ measures_of values plane connect → items ≡ all_cells plane values connect picked
 all_rows tree measures picked count items are whole plane values connect one tree_is measures_are =
@@ -72,31 +82,29 @@ all_rows tree measures picked count items are whole plane values connect one tre
 
 -- ---- the row of a node
 
-pub one_measure_each : (tree : ComponentTree) (measures : List Measure) → AreTheTreesMeasures tree measures → length measures ≡ length tree.rows
-unfolding measures_of
-one_measure_each tree measures h =
-    ap (λ (l : List Measure). length l) h.measures_are
-    ∙ length-map-range_with_len (measure_of h.values h.plane h.connect) 0 (length (nodes h.plane h.connect))
-    ∙ sym (rows_are h.plane h.connect tree h.tree_is)
-
-pub measure_read : (values plane : Raster) (connect : Connect) (tree : ComponentTree) (measures : List Measure) (n : ℕ) (d : Measure) → tree ≡ tree_of plane connect
+pub measure_read : (values plane : Raster) (connect : Connect) (tree : ComponentTree) (measures : List Measure) (n : ℕ) (d : Measure)
+    → tree ≡ tree_of plane connect
     → measures ≡ measures_of values plane connect → n < length tree.rows → get_or measures n d ≡ measure_of values plane connect n
 unfolding measures_of
 measure_read values plane connect tree measures n d tree_is are within =
     ap (λ (l : List Measure). get_or l n d) are
-    ∙ get_or-map-range_with_len (measure_of values plane connect) 0 (length (nodes plane connect)) n n d (omega (arith, within, rows_are plane connect tree tree_is)) (omega arith)
+    ∙ get_or-map-range_with_len (measure_of values plane connect) 0 (length (nodes plane connect)) n n d
+    (omega (arith, within, rows_are plane connect tree tree_is)) (omega arith)
 
 pub size_read : (tree : ComponentTree) (measures : List Measure) (n : ℕ) (d : Measure) → AreTheTreesMeasures tree measures
     → ((m : ℕ) (entry : Measure) → slice_get measures m ≡ Some entry → HasMeasureSizes entry) → n < length tree.rows → HasMeasureSizes (get_or measures n d)
-size_read tree measures n d are small within = small n (get_or measures n d) (slice_get-get_or measures n d (omega (arith, within, one_measure_each tree measures are)))
+size_read tree measures n d are small within =
+    small n (get_or measures n d) (slice_get-get_or measures n d (omega (arith, within, one_for_each tree measures are)))
 
-pub cells_are : (row : CatRow) (measure measure' : Measure) (back back' : ℤ) → measure ≡ measure' → back ≡ back' → measured_cells_of row measure back ≡ measured_cells_of row measure' back'
+pub cells_are : (row : CatRow) (measure measure' : Measure) (back back' : ℤ) → measure ≡ measure' → back ≡ back'
+    → measured_cells_of row measure back ≡ measured_cells_of row measure' back'
 cells_are row measure measure' back back' a b = λ i. measured_cells_of row (a i) (b i)
 
 -- ---- the node of a pixel
 
 -- the number that is read for it is that of its node
-pub node_read : (plane values : Raster) (connect : Connect) (tree : ComponentTree) (numbers : List ℕ) (node : PickedNode) (row : List ℤ) → tree ≡ tree_of plane connect → numbers ≡ tree.node_of
+pub node_read : (plane values : Raster) (connect : Connect) (tree : ComponentTree) (numbers : List ℕ) (node : PickedNode) (row : List ℤ)
+    → tree ≡ tree_of plane connect → numbers ≡ tree.node_of
     → node.rep < length tree.node_of
     → row ≡ measured_cells_of node.row (measure_of values plane connect (get_or numbers node.rep 0)) (back_of values plane connect (get_or numbers node.rep 0))
     → row ≡ cells_at plane values connect node

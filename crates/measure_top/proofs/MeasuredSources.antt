@@ -18,7 +18,9 @@ use Rattle.dual_measure.specs.Measures.{IsPlanesTree}
 use Rattle.detect_top.specs.declared.words.Order.{Order}
 use Rattle.measure_top.specs.declared.measuring.Measured.{Measured}
 use Rattle.measure_top.specs.declared.picking_near.PickedNode.{PickedNode}
-use Rattle.measure_top.specs.MeasuredCatalogues.{measured_columns, measured_hdus, rows_with_measures, measured_sources, measured_output, IsMeasuredDetection}
+use Rattle.measure_top.specs.MeasuredCatalogues.{measured_hdus, rows_with_measures, measured_sources, measured_output}
+use Rattle.catalogue_form.specs.Columns.{measured_columns}
+use Rattle.measure_top.specs.TwoReads.{IsMeasuredDetection}
 use Rattle.measure_top.specs.Cuts.{cut}
 use Rattle.measure_top.specs.Picks.{AreSourcesOf, CanBeListed, HaveBasesFrom, all_cells}
 use Rattle.measure_top.proofs.InCut.{sources_measured, plane-cut, same_shape-cut}
@@ -26,8 +28,10 @@ use Rattle.measure_top.proofs.InCut.{sources_measured, plane-cut, same_shape-cut
 -- ---- the HDUs
 
 -- they were put one behind the other
-pub hdus_put : {T E : Type 0} (a b c d : Option (List ℕ)) (r : Result T E) (shape : Shape) (numbers numbers' : List ℕ) (list : List Column) (cells cells' : List ℤ)
-    → Appends a b empty_primary → Appends b c (map_hdu shape numbers') → PutAppends c d r (table_hdu list cells') → numbers' ≡ numbers → list ≡ measured_columns → cells' ≡ cells
+pub hdus_put : {T E : Type 0} (a b c d : Option (List ℕ)) (r : Result T E) (shape : Shape) (numbers numbers' : List ℕ) (list : List Column)
+    (cells cells' : List ℤ)
+    → Appends a b empty_primary → Appends b c (map_hdu shape numbers') → PutAppends c d r (table_hdu list cells') → numbers' ≡ numbers → list ≡ measured_columns
+    → cells' ≡ cells
     → PutAppends a d r (measured_hdus shape numbers cells)
 hdus_put a b c d r shape numbers numbers' list cells cells' first second third same_numbers same_columns same_cells =
     let map = subst (λ l. Appends b c (map_hdu shape l)) same_numbers second in
@@ -36,7 +40,8 @@ hdus_put a b c d r shape numbers numbers' list cells cells' first second third s
     (PutAppends-after b c d r (map_hdu shape numbers) (table_hdu measured_columns cells) map table)
 
 -- a map with a number for each pixel, and a table, can be written
-pub can_be_put : (plane : Raster) (shape : Shape) (numbers : List ℕ) (found : List PickedNode) (cells : List ℤ) → shape ≡ plane.shape → CanBeListed plane.shape numbers found
+pub can_be_put : (plane : Raster) (shape : Shape) (numbers : List ℕ) (found : List PickedNode) (cells : List ℤ) → shape ≡ plane.shape
+    → CanBeListed plane.shape numbers found
     → IsTable measured_columns cells → IsMeasuredDetection shape numbers cells
 can_be_put plane shape numbers found cells same listed table = record {
   one_each = listed.one_each ∙ sym (ap (λ (s : Shape). s.width * s.height) same);
@@ -47,8 +52,10 @@ can_be_put plane shape numbers found cells same listed table = record {
 -- ---- what they hold
 
 -- the map over the sources and their rows are what is written of them
-pub are_sources : (plane left values : Raster) (connect : Connect) (choice : Choice) (shape : Shape) (h : ℤ) (numbers : List ℕ) (found : List PickedNode) (cells : List ℤ) → IsPlane plane
-    → shape ≡ plane.shape → AreSourcesOf plane connect choice numbers found → left ≡ cut plane h → HaveBasesFrom h found → cells ≡ all_cells left values connect found
+pub are_sources : (plane left values : Raster) (connect : Connect) (choice : Choice) (shape : Shape) (h : ℤ) (numbers : List ℕ) (found : List PickedNode)
+    (cells : List ℤ) → IsPlane plane
+    → shape ≡ plane.shape → AreSourcesOf plane connect choice numbers found → left ≡ cut plane h → HaveBasesFrom h found
+    → cells ≡ all_cells left values connect found
     → measured_hdus shape numbers cells ≡ measured_sources plane values connect choice
 unfolding measured_sources
 are_sources plane left values connect choice shape h numbers found cells one same are is low cells_are =
@@ -59,7 +66,8 @@ are_sources plane left values connect choice shape h numbers found cells one sam
 
 -- ---- the tree of the cut plane
 
-pub cut_tree : (plane left : Raster) (connect : Connect) (h : ℤ) (tree : ComponentTree) → IsPlane plane → left ≡ cut plane h → tree ≡ tree_of left connect → IsPlanesTree tree
+pub cut_tree : (plane left : Raster) (connect : Connect) (h : ℤ) (tree : ComponentTree) → IsPlane plane → left ≡ cut plane h → tree ≡ tree_of left connect
+    → IsPlanesTree tree
 cut_tree plane left connect h tree one is tree_is = record {
   plane = left;
   one_each = plane-cut plane left h one is;
@@ -67,18 +75,21 @@ cut_tree plane left connect h tree one is tree_is = record {
   tree_is = tree_is;
 }
 
-pub cut_tree_shape : (plane left values : Raster) (connect : Connect) (h : ℤ) (tree : ComponentTree) → left ≡ cut plane h → tree ≡ tree_of left connect → plane.shape ≡ values.shape
+pub cut_tree_shape : (plane left values : Raster) (connect : Connect) (h : ℤ) (tree : ComponentTree) → left ≡ cut plane h → tree ≡ tree_of left connect
+    → plane.shape ≡ values.shape
     → values.shape ≡ tree.shape
 unfolding tree_of
 cut_tree_shape plane left values connect h tree is tree_is same = sym same ∙ sym (ap (λ (t : ComponentTree). t.shape) tree_is ∙ same_shape-cut plane left h is)
 
 -- residuals have the shapes of their images
-pub residuals_alike : (image other plane values : Raster) (mesh : ℕ) (flat : Bool) → plane ≡ residual_of image mesh flat → values ≡ residual_of other mesh flat → image.shape ≡ other.shape
+pub residuals_alike : (image other plane values : Raster) (mesh : ℕ) (flat : Bool) → plane ≡ residual_of image mesh flat → values ≡ residual_of other mesh flat
+    → image.shape ≡ other.shape
     → plane.shape ≡ values.shape
 unfolding residual_of
 residuals_alike image other plane values mesh flat first second same = ap (λ (r : Raster). r.shape) first ∙ same ∙ sym (ap (λ (r : Raster). r.shape) second)
 
-pub made_of_images : {E : Type 0} (order : Order) (choice : Choice) (image other plane values : Raster) (made : Result Measured E) → plane ≡ residual_of image order.mesh order.flat
+pub made_of_images : {E : Type 0} (order : Order) (choice : Choice) (image other plane values : Raster) (made : Result Measured E)
+    → plane ≡ residual_of image order.mesh order.flat
     → values ≡ residual_of other order.mesh order.flat
     → IfOk made (λ found. measured_hdus found.shape found.map.items found.cells.items ≡ measured_sources plane values order.connect choice)
     → IfOk made (λ found. measured_hdus found.shape found.map.items found.cells.items ≡ measured_output order choice image other)

@@ -1,5 +1,6 @@
 -- The nodes that were picked, put one behind the other.
-use Rattle.std.proofs.Common.{◌≡◌, ◌∙◌, ap, sym, subst, refl, arith, ℕ, zero, suc, ◌+◌, ◌^◌, ◌<◌, ◌≤◌, List, [], ◌∷◌, ◌++◌, length, map, take, get_or, length-append, ℤ}
+use Rattle.std.proofs.Common.{◌≡◌, ◌∙◌, ap, sym, subst, refl, arith, ℕ, zero, suc, ◌+◌, ◌^◌, ◌<◌, ◌≤◌, List, [], ◌∷◌, ◌++◌, length, map, take, get_or}
+use Rattle.std.proofs.Common.{length-append, ℤ}
 use Rattle.std.specs.Prelude.{Some, slice_get, pos, ◌≤ℤ◌}
 use Rattle.std.specs.List.{enumerate_from}
 use Rattle.std.proofs.lemmas.Int.{ints}
@@ -18,17 +19,14 @@ use Rattle.node_sums.proofs.Exported.{rows_are}
 use Rattle.source_pick.specs.declared.catalogue.CatRow.{CatRow}
 use Rattle.source_pick.specs.Catalogue.{catalogue_row, catalogue_of, FitsColumns}
 use Rattle.source_pick.specs.Segmentation.{AreDisjointNodes}
-use Rattle.source_pick.proofs.Exported.{few_marked, few_rows}
 use Rattle.measure_top.specs.declared.picking_near.PickedNode.{PickedNode}
 use Rattle.measure_top.specs.Picks.{AreNodesOf, HaveFittingRows, HaveBasesFrom}
-
-pub few_sources : (tree : ComponentTree) (picked : List ℕ) → AreDisjointNodes tree picked → length picked ≤ 2 ^ 24
-few_sources tree picked d = omega (arith, few_marked tree picked d, few_rows tree picked d)
 
 -- ---- lists that grow at their end
 
 -- what holds of each item so far and of the next holds of all of them
-each_more : {X : Type 0} (P : X → Type 0) (xs : List X) (x : X) → ((k : ℕ) (y : X) → slice_get xs k ≡ Some y → P y) → P x → (k : ℕ) (y : X) → slice_get (xs ++ x ∷ []) k ≡ Some y → P y
+each_more : {X : Type 0} (P : X → Type 0) (xs : List X) (x : X) → ((k : ℕ) (y : X) → slice_get xs k ≡ Some y → P y) → P x → (k : ℕ) (y : X)
+    → slice_get (xs ++ x ∷ []) k ≡ Some y → P y
 each_more P [] x before now zero y at = let same : x ≡ y = cc in subst P same now
 each_more P [] x before now (suc k) y at = absurd (cc)
 each_more P (z ∷ xs) x before now zero y at = before zero y at
@@ -42,7 +40,8 @@ pub record AreFirstNodes (tree : ComponentTree) (sums : List Sums) (picked : Lis
   pub fits : HaveFittingRows nodes
   pub rows : (plane : Raster) (connect : Connect) → tree ≡ tree_of plane connect → sums ≡ sums_in plane connect
       → map (λ n. n.row) nodes ≡ map (λ e. catalogue_row plane connect e.0 e.1) (take count (enumerate_from 1 picked))
-  pub representatives : (plane : Raster) (connect : Connect) → tree ≡ tree_of plane connect → map (λ n. n.rep) nodes ≡ map (top_of plane connect) (take count picked)
+  pub representatives : (plane : Raster) (connect : Connect) → tree ≡ tree_of plane connect
+      → map (λ n. n.rep) nodes ≡ map (top_of plane connect) (take count picked)
 
 no_item : {X : Type 0} (P : X → Type 0) (xs : List X) → xs ≡ [] → (k : ℕ) (y : X) → slice_get xs k ≡ Some y → P y
 no_item P [] empty k y at = absurd (cc)
@@ -56,9 +55,11 @@ no_nodes tree sums picked nodes empty = record {
   representatives = λ plane connect is. ap (map (λ (n : PickedNode). n.rep)) empty;
 }
 
-pub node_more : (tree : ComponentTree) (sums : List Sums) (picked : List ℕ) (count : ℕ) (nodes nodes' : List PickedNode) (node : PickedNode) → AreFirstNodes tree sums picked count nodes
+pub node_more : (tree : ComponentTree) (sums : List Sums) (picked : List ℕ) (count : ℕ) (nodes nodes' : List PickedNode) (node : PickedNode)
+    → AreFirstNodes tree sums picked count nodes
     → count < length picked → nodes' ≡ nodes ++ node ∷ [] → FitsColumns node.row
-    → ((plane : Raster) (connect : Connect) → tree ≡ tree_of plane connect → sums ≡ sums_in plane connect → node.row ≡ catalogue_row plane connect (count + 1) (get_or picked count 0))
+    → ((plane : Raster) (connect : Connect) → tree ≡ tree_of plane connect → sums ≡ sums_in plane connect → node.row
+    ≡ catalogue_row plane connect (count + 1) (get_or picked count 0))
     → ((plane : Raster) (connect : Connect) → tree ≡ tree_of plane connect → node.rep ≡ top_of plane connect (get_or picked count 0))
     → AreFirstNodes tree sums picked (count + 1) nodes'
 node_more tree sums picked count nodes nodes' node before within more fits row rep = record {
@@ -68,28 +69,35 @@ node_more tree sums picked count nodes nodes' node before within more fits row r
       ap (map (λ (n : PickedNode). n.row)) more
       ∙ map-append (λ (n : PickedNode). n.row) nodes (node ∷ [])
       ∙ ap (λ (l : List CatRow). l ++ node.row ∷ []) (before.rows plane connect is are)
-      ∙ ap (λ (x : CatRow). map (λ (e : ℕ × ℕ). catalogue_row plane connect e.0 e.1) (take count (enumerate_from 1 picked)) ++ x ∷ []) (row plane connect is are)
-      ∙ sym (ap (map (λ (e : ℕ × ℕ). catalogue_row plane connect e.0 e.1)) next ∙ map-append (λ (e : ℕ × ℕ). catalogue_row plane connect e.0 e.1) (take count (enumerate_from 1 picked)) ((count + 1, get_or picked count 0) ∷ []));
+      ∙ ap (λ (x : CatRow). map (λ (e : ℕ × ℕ). catalogue_row plane connect e.0 e.1) (take count (enumerate_from 1 picked)) ++ x ∷ [])
+      (row plane connect is are)
+      ∙ sym (ap (map (λ (e : ℕ × ℕ). catalogue_row plane connect e.0 e.1)) next ∙ map-append (λ (e : ℕ × ℕ). catalogue_row plane connect e.0 e.1)
+      (take count (enumerate_from 1 picked)) ((count + 1, get_or picked count 0) ∷ []));
   representatives = λ plane connect is.
       ap (map (λ (n : PickedNode). n.rep)) more
       ∙ map-append (λ (n : PickedNode). n.rep) nodes (node ∷ [])
       ∙ ap (λ (l : List ℕ). l ++ node.rep ∷ []) (before.representatives plane connect is)
       ∙ ap (λ (x : ℕ). map (top_of plane connect) (take count picked) ++ x ∷ []) (rep plane connect is)
-      ∙ sym (ap (map (top_of plane connect)) (take_more picked count 0 within) ∙ map-append (top_of plane connect) (take count picked) (get_or picked count 0 ∷ []));
+      ∙ sym (ap (map (top_of plane connect)) (take_more picked count 0 within) ∙ map-append (top_of plane connect) (take count picked)
+      (get_or picked count 0 ∷ []));
 }
   where
     pair : get_or (enumerate_from 1 picked) count (0, 0) ≡ (count + 1, get_or picked count 0)
     pair = get_or-enumerate_from 1 picked count (0, 0) within ∙ ap (λ n. (n, get_or picked count 0)) (omega arith)
 
     next : take (count + 1) (enumerate_from 1 picked) ≡ take count (enumerate_from 1 picked) ++ (count + 1, get_or picked count 0) ∷ []
-    next = take_more (enumerate_from 1 picked) count (0, 0) (omega (arith, within, length-enumerate_from 1 picked)) ∙ ap (λ e. take count (enumerate_from 1 picked) ++ e ∷ []) pair
+    next =
+        take_more (enumerate_from 1 picked) count (0, 0) (omega (arith, within, length-enumerate_from 1 picked))
+        ∙ ap (λ e. take count (enumerate_from 1 picked) ++ e ∷ []) pair
 
-pub all_nodes : (tree : ComponentTree) (sums : List Sums) (picked : List ℕ) (count : ℕ) (nodes : List PickedNode) → AreFirstNodes tree sums picked count nodes → length picked ≤ count
+pub all_nodes : (tree : ComponentTree) (sums : List Sums) (picked : List ℕ) (count : ℕ) (nodes : List PickedNode) → AreFirstNodes tree sums picked count nodes
+    → length picked ≤ count
     → (plane : Raster) (connect : Connect) → tree ≡ tree_of plane connect → sums ≡ sums_in plane connect → AreNodesOf plane connect picked nodes
 unfolding catalogue_of
 all_nodes tree sums picked count nodes are whole plane connect is sums_are = record {
   rows = are.rows plane connect is sums_are
-      ∙ ap (map (λ (e : ℕ × ℕ). catalogue_row plane connect e.0 e.1)) (take_all count (enumerate_from 1 picked) (omega (arith, whole, length-enumerate_from 1 picked)));
+      ∙ ap (map (λ (e : ℕ × ℕ). catalogue_row plane connect e.0 e.1))
+      (take_all count (enumerate_from 1 picked) (omega (arith, whole, length-enumerate_from 1 picked)));
   representatives = are.representatives plane connect is ∙ ap (map (top_of plane connect)) (take_all count picked whole);
 }
 
@@ -136,12 +144,11 @@ all_bases h nodes count before whole = subst (HaveBasesFrom h) (take_all count n
 -- ---- one node
 
 -- the pixel that represents it, read from its row
-pub rep_is : (plane : Raster) (connect : Connect) (tree : ComponentTree) (rows : List NodeRow) (n : ℕ) (d : NodeRow) → tree ≡ tree_of plane connect → rows ≡ tree.rows → n < length tree.rows
+pub rep_is : (plane : Raster) (connect : Connect) (tree : ComponentTree) (rows : List NodeRow) (n : ℕ) (d : NodeRow) → tree ≡ tree_of plane connect
+    → rows ≡ tree.rows → n < length tree.rows
     → (get_or rows n d).rep ≡ top_of plane connect n
 unfolding tree_of row_of
 rep_is plane connect tree rows n d is are within =
     ap (λ (l : List NodeRow). (get_or l n d).rep) (are ∙ ap (λ (t : ComponentTree). t.rows) is)
-    ∙ ap (λ (x : NodeRow). x.rep) (get_or-map (row_of plane connect) (of_plane.nodes plane connect) n 0 d (omega (arith, within, rows_are plane connect tree is)))
-
-pub le_trans : (a b c : ℤ) → a ≤ℤ b → b ≤ℤ c → a ≤ℤ c
-le_trans a b c first second = omega (arith, ints)
+    ∙ ap (λ (x : NodeRow). x.rep) (get_or-map (row_of plane connect) (of_plane.nodes plane connect) n 0 d
+    (omega (arith, within, rows_are plane connect tree is)))

@@ -19,7 +19,8 @@ use Rattle.measure_top.specs.declared.picking_near.Picked.{Picked}
 use Rattle.measure_top.specs.Picks.{AreNodesOf, AreSourcesOf, HaveFittingRows, CanBeListed}
 
 pub are_sources_of : (plane : Raster) (connect : Connect) (choice : Choice) (picked marked listed : List ℕ) (numbers : List ℕ) (found : List PickedNode)
-    → picked ≡ sources plane connect choice → marked ≡ picked → numbers ≡ segmentation_of plane connect marked → listed ≡ picked → AreNodesOf plane connect listed found
+    → picked ≡ sources plane connect choice → marked ≡ picked → numbers ≡ segmentation_of plane connect marked → listed ≡ picked
+    → AreNodesOf plane connect listed found
     → AreSourcesOf plane connect choice numbers found
 unfolding segmentation
 are_sources_of plane connect choice picked marked listed numbers found are same_marked mapped same_listed are_nodes = record {
@@ -28,7 +29,8 @@ are_sources_of plane connect choice picked marked listed numbers found are same_
 }
 
 pub can_be_listed : (plane : Raster) (tree : ComponentTree) (numbers : List ℕ) (found : List PickedNode) → IsTreeOfPlane plane tree → IsPlane plane
-    → length numbers ≡ length tree.node_of → ((p : ℕ) → slice_index numbers p ≤ 2 ^ 24) → length found ≤ 2 ^ 24 → HaveFittingRows found → CanBeListed plane.shape numbers found
+    → length numbers ≡ length tree.node_of → ((p : ℕ) → slice_index numbers p ≤ 2 ^ 24) → length found ≤ 2 ^ 24 → HaveFittingRows found
+    → CanBeListed plane.shape numbers found
 can_be_listed plane tree numbers found of_plane whole one_each small few fits = record {
   one_each = one_each ∙ numbers-length plane of_plane.0 tree of_plane.1 ∙ whole;
   small = λ k d within. subst (λ n. n ≤ 2 ^ 24) (get_or_default numbers k 0 d within) (small k);
@@ -53,11 +55,14 @@ pub sources_kept : {E : Type 0} (plane copy near : Raster) (connect : Connect) (
     → IfOk made (λ picked. (connect' : Connect) → tree ≡ tree_of near connect' → AreSourcesOf near connect' choice picked.map.items picked.nodes.items)
     → IfOk made (λ picked. AreSourcesOf plane connect choice picked.map.items picked.nodes.items)
 sources_kept plane copy near connect choice tree (Ok picked) is same tree_is are =
-    same_sources plane near connect choice picked.map.items picked.nodes.items (subst (λ (r : Raster). HaveSameSources r near connect choice) is same) (are connect tree_is)
+    same_sources plane near connect choice picked.map.items picked.nodes.items (subst (λ (r : Raster). HaveSameSources r near connect choice) is same)
+    (are connect tree_is)
 sources_kept plane copy near connect choice tree (Err e) is same tree_is are = tt
 
 pub listed_kept : {E : Type 0} (plane copy near : Raster) (connect : Connect) (h : ℤ) (made : Result Picked E) → copy ≡ plane → near ≡ kept copy connect h
-    → IfOk made (λ picked. CanBeListed near.shape picked.map.items picked.nodes.items) → IfOk made (λ picked. CanBeListed plane.shape picked.map.items picked.nodes.items)
+    → IfOk made (λ picked. CanBeListed near.shape picked.map.items picked.nodes.items)
+    → IfOk made (λ picked. CanBeListed plane.shape picked.map.items picked.nodes.items)
 listed_kept plane copy near connect h (Ok picked) is kept_is can =
-    subst (λ (s : Shape). CanBeListed s picked.map.items picked.nodes.items) (ap (λ (r : Raster). r.shape) kept_is ∙ shape-kept copy connect h ∙ ap (λ (r : Raster). r.shape) is) can
+    subst (λ (s : Shape). CanBeListed s picked.map.items picked.nodes.items)
+    (ap (λ (r : Raster). r.shape) kept_is ∙ shape-kept copy connect h ∙ ap (λ (r : Raster). r.shape) is) can
 listed_kept plane copy near connect h (Err e) is kept_is can = tt

@@ -6,3 +6,4 @@ pub mod MeasureRuns
 pub mod MeasureEnds
 pub mod Cuts
 pub mod Picks
+pub mod TwoReads

@@ -9,10 +9,10 @@ use Rattle.detect_top.specs.declared.words.MeasureOrder.{MeasureOrder}
 use Rattle.detect_top.specs.declared.words.Usage.{Usage as AtFault}
 use Rattle.detect_top.specs.Faults.{IsCutShort}
 use Rattle.detect_top.specs.Runs.{InputUse, OutputUse, Took, TookAtMost}
-use Rattle.measure_top.specs.declared.top.MeasureEnd.{MeasureEnd}
-use Rattle.measure_top.specs.declared.top.MeasureEnd.TheVariants.{Done, Usage, Refused, ShapesDiffer, ReadFault, WriteFault, NoMemory}
+use Rattle.detect_top.specs.declared.top.End.{End}
+use Rattle.detect_top.specs.declared.top.End.TheVariants.{Done, Usage, Refused, ReadFault, WriteFault, NoMemory}
 use Rattle.measure_top.specs.TwoImages.{two_images}
-use Rattle.measure_top.specs.MeasureAnswers.{verdict_for, measured_of_two, measure_answer_by}
+use Rattle.measure_top.specs.MeasureAnswers.{verdict_for, measured_of_two, measure_answer_to_read_words}
 use Rattle.measure_top.specs.MeasureRuns.{MeasureWantsMemory}
 
 -- both images were read, and this is what the order writes of them
@@ -28,33 +28,31 @@ pub record BothRead (order : MeasureOrder) (bytes : List ℕ) (left : Option (Li
   pub takes : Takes bytes left end'
 
 -- what an end of its own says of the bytes: it is the answer's, the output was written, and the bytes were taken
-pub record AnswersMeasure (order : Result MeasureOrder AtFault) (bytes : List ℕ) (i : InputUse) (o : OutputUse) (end : MeasureEnd) : Type 0 where
-  pub end_is : (measure_answer_by order bytes).end ≡ end
-  pub written_is : Appends o.written o.written' (measure_answer_by order bytes).output
-  pub taken_is : Took i.left i.left' (measure_answer_by order bytes).taken
+pub record GivesMeasureAnswer (order : Result MeasureOrder AtFault) (bytes : List ℕ) (i : InputUse) (o : OutputUse) (end : End) : Type 0 where
+  pub end_is : (measure_answer_to_read_words order bytes).end ≡ end
+  pub written_is : Appends o.written o.written' (measure_answer_to_read_words order bytes).output
+  pub taken_is : Took i.left i.left' (measure_answer_to_read_words order bytes).taken
 
 -- what the end at a write fault says of the bytes
 pub record IsCutThere (order : Result MeasureOrder AtFault) (bytes : List ℕ) (i : InputUse) (o : OutputUse) : Type 0 where
-  pub done : (measure_answer_by order bytes).end ≡ Done
-  pub front : AppendsPrefix o.written o.written' (measure_answer_by order bytes).output
-  pub taken_is : Took i.left i.left' (measure_answer_by order bytes).taken
+  pub done : (measure_answer_to_read_words order bytes).end ≡ Done
+  pub front : AppendsPrefix o.written o.written' (measure_answer_to_read_words order bytes).output
+  pub taken_is : Took i.left i.left' (measure_answer_to_read_words order bytes).taken
 
 -- what an end says of the bytes
-abbrev pub MeasureEndBytes : Result MeasureOrder AtFault → List ℕ → InputUse → OutputUse → MeasureEnd → Type 0
-MeasureEndBytes order bytes i o Done = AnswersMeasure order bytes i o Done
-MeasureEndBytes order bytes i o (Usage usage) = AnswersMeasure order bytes i o (Usage usage)
-MeasureEndBytes order bytes i o (Refused fault) = AnswersMeasure order bytes i o (Refused fault)
-MeasureEndBytes order bytes i o ShapesDiffer = AnswersMeasure order bytes i o ShapesDiffer
-MeasureEndBytes order bytes i o ReadFault = TookAtMost i.left i.left' (measure_answer_by order bytes).taken
+abbrev pub MeasureEndBytes : Result MeasureOrder AtFault → List ℕ → InputUse → OutputUse → End → Type 0
+MeasureEndBytes order bytes i o Done = GivesMeasureAnswer order bytes i o Done
+MeasureEndBytes order bytes i o (Usage usage) = GivesMeasureAnswer order bytes i o (Usage usage)
+MeasureEndBytes order bytes i o (Refused fault) = GivesMeasureAnswer order bytes i o (Refused fault)
+MeasureEndBytes order bytes i o ReadFault = TookAtMost i.left i.left' (measure_answer_to_read_words order bytes).taken
 MeasureEndBytes order bytes i o WriteFault = IsCutThere order bytes i o
 MeasureEndBytes order bytes i o NoMemory = MeasureWantsMemory order bytes i.left i.left'
 
 -- what an end says in any case
-abbrev pub MeasureEndCause : Result MeasureOrder AtFault → InputUse → OutputUse → MeasureEnd → Type 0
+abbrev pub MeasureEndCause : Result MeasureOrder AtFault → InputUse → OutputUse → End → Type 0
 MeasureEndCause order i o Done = IsOk order × IsTrue o.settled'
 MeasureEndCause order i o (Usage usage) = (order ≡ Err usage) × Keeps o.written o.written'
 MeasureEndCause order i o (Refused fault) = IsOk order × (IsCutShort fault → IsTrue i.ended') × Keeps o.written o.written'
-MeasureEndCause order i o ShapesDiffer = IsOk order × Keeps o.written o.written'
 MeasureEndCause order i o ReadFault = IsOk order × Rose i.faults i.faults' × Keeps o.written o.written'
 MeasureEndCause order i o WriteFault = IsOk order × Rose o.faults o.faults'
 MeasureEndCause order i o NoMemory = IsOk order × Keeps o.written o.written'

@@ -4,39 +4,36 @@ use Rattle.std.specs.declared.option.Option.{Option}
 use Rattle.std.specs.Option.{ForSome}
 use Rattle.std.specs.Io.KnownBytes.{Appends, Keeps}
 use Rattle.dev_io.specs.Causes.{Rose}
-use Rattle.dev_io.specs.Streams.{AppendsPrefix}
 use Rattle.command_line.specs.Notes.{Noted}
 use Rattle.detect_top.specs.declared.words.MeasureOrder.{MeasureOrder}
 use Rattle.detect_top.specs.declared.words.Usage.{Usage as AtFault}
 use Rattle.detect_top.specs.declared.top.End.{End}
 use Rattle.detect_top.specs.Words.{order_of, measure_order_of}
-use Rattle.detect_top.specs.Faults.{IsCutShort}
-use Rattle.detect_top.specs.Answers.{answer, note_of}
+use Rattle.detect_top.specs.Answers.{answer_to_words, end_status, note_of}
 use Rattle.detect_top.specs.Runs.{InputUse, OutputUse, Took, TookAtMost}
 use Rattle.detect_top.specs.Headline.{ForBytes, IsStatus, CutsAnswer, ReadFails, MayWantMemory, TellsEnd, IsAnswered}
-use Rattle.measure_top.specs.declared.top.MeasureEnd.{MeasureEnd}
-use Rattle.measure_top.specs.declared.top.MeasureEnd.TheVariants.{Done, Refused}
 use Rattle.pixel_plane.specs.Verdicts.{unfound, unreadable}
 use Rattle.measure_top.specs.TwoImages.{TwoVerdict, earlier_fault, MemoryWantedForTwo}
-use Rattle.measure_top.specs.MeasureAnswers.{MeasureAnswer, measure_status, measure_note, verdict_for, measure_answer}
+use Rattle.measure_top.specs.MeasureAnswers.{verdict_for, measure_answer_to_words}
 
 -- what the words that don't ask for measuring do: each clause is one of `run` in `detect_top`
 pub record IsRun (words : List (List ℕ)) (i : InputUse) (o n : OutputUse) (status : ℕ) : Type 0 where
-  pub status_is : ForBytes words i.left (λ bytes. IsStatus (answer words bytes) status)
-  pub writes : status < 3 → ForBytes words i.left (λ bytes. Appends o.written o.written' (answer words bytes).output)
-  pub takes : status < 3 → ForBytes words i.left (λ bytes. Took i.left i.left' (answer words bytes).taken)
+  pub status_is : ForBytes words i.left (λ bytes. IsStatus (answer_to_words words bytes) status)
+  pub writes : status < 3 → ForBytes words i.left (λ bytes. Appends o.written o.written' (answer_to_words words bytes).output)
+  pub takes : status < 3 → ForBytes words i.left (λ bytes. Took i.left i.left' (answer_to_words words bytes).taken)
   pub settled : status ≡ 0 → IsTrue o.settled'
   pub read_fault : status ≡ 3 → ReadFails words i.faults i.faults' o.written o.written'
-  pub read_so_far : status ≡ 3 → ForBytes words i.left (λ bytes. TookAtMost i.left i.left' (answer words bytes).taken)
+  pub read_so_far : status ≡ 3 → ForBytes words i.left (λ bytes. TookAtMost i.left i.left' (answer_to_words words bytes).taken)
   pub write_fault : status ≡ 4 → Rose o.faults o.faults'
-  pub written_so_far : status ≡ 4 → ForBytes words i.left (λ bytes. CutsAnswer (answer words bytes) o.written o.written')
-  pub taken_before : status ≡ 4 → ForBytes words i.left (λ bytes. Took i.left i.left' (answer words bytes).taken)
+  pub written_so_far : status ≡ 4 → ForBytes words i.left (λ bytes. CutsAnswer (answer_to_words words bytes) o.written o.written')
+  pub taken_before : status ≡ 4 → ForBytes words i.left (λ bytes. Took i.left i.left' (answer_to_words words bytes).taken)
   pub memory : status ≡ 5 → Keeps o.written o.written'
   pub memory_wanted : status ≡ 5 → ForBytes words i.left (λ bytes. MayWantMemory words bytes i.left i.left')
   pub noted : (end : End) × TellsEnd status i.ended' n.written n.written' n.settled' n.faults n.faults' end
   pub notes : status < 3 → ForBytes words i.left (λ bytes.
-      Noted n.written n.written' n.settled' n.faults n.faults' (note_of (answer words bytes).end))
-  pub complete : (Rose i.faults i.faults' → ⊥) → (Rose o.faults o.faults' → ⊥) → ForBytes words i.left (λ bytes. IsAnswered (answer words bytes) status)
+      Noted n.written n.written' n.settled' n.faults n.faults' (note_of (answer_to_words words bytes).end))
+  pub complete : (Rose i.faults i.faults' → ⊥) → (Rose o.faults o.faults' → ⊥)
+      → ForBytes words i.left (λ bytes. IsAnswered (answer_to_words words bytes) status)
   pub usage : IsErr (order_of words) ↔ (status ≡ 1)
 
 -- ---- words that ask for measuring
@@ -49,15 +46,6 @@ MeasureTells (Err usage) left bytes = Unit {0}
 abbrev pub ForMeasured : List (List ℕ) → Option (List ℕ) → (List ℕ → Type 0) → Type 0
 ForMeasured words left P = (bytes : List ℕ) → MeasureTells (measure_order_of words) left bytes → P bytes
 
--- the answer's status, or that of a device's fault or of want of memory
-abbrev pub IsMeasureStatus : MeasureAnswer → ℕ → Type 0
-IsMeasureStatus answer status = (status ≡ measure_status answer.end) ⊎ ((3 ≤ status) × (status ≤ 5))
-
--- the answer has status 0, and a front of its output was written
-pub record CutsMeasure (answer : MeasureAnswer) (old new : Option (List ℕ)) : Type 0 where
-  pub done : answer.end ≡ Done
-  pub front : AppendsPrefix old new answer.output
-
 -- the count rose, the words give an order, and nothing was written
 pub record MeasureReadFails (words : List (List ℕ)) (faults faults' : ℕ) (written written' : Option (List ℕ)) : Type 0 where
   pub rose : Rose faults faults'
@@ -68,16 +56,6 @@ pub record MeasureReadFails (words : List (List ℕ)) (faults faults' : ℕ) (wr
 abbrev pub MeasureWantsMemory : Result MeasureOrder AtFault → List ℕ → Option (List ℕ) → Option (List ℕ) → Type 0
 MeasureWantsMemory (Ok order) bytes old new = ForSome old (λ told. MemoryWantedForTwo (verdict_for order bytes) told new)
 MeasureWantsMemory (Err usage) bytes old new = ⊥
-
-abbrev pub IsCutMeasure : MeasureEnd → Type 0
-IsCutMeasure (Refused fault) = IsCutShort fault
-IsCutMeasure _ = ⊥
-
--- how the run ended, and its line on the notes; a fault that only the end of the input shows comes only there
-pub record TellsMeasureEnd (status : ℕ) (ended' : Bool) (old new : Option (List ℕ)) (settled' : Bool) (faults faults' : ℕ) (end : MeasureEnd) : Type 0 where
-  pub status_is : status ≡ measure_status end
-  pub noted : Noted old new settled' faults faults' (measure_note end)
-  pub cut : IsCutMeasure end → IsTrue ended'
 
 -- memory may be wanted for this verdict: unless the earlier HDU isn't found, or isn't an image that can be read
 abbrev pub MayLackMemoryForTwo : TwoVerdict → Type 0
@@ -92,23 +70,23 @@ MayLackMeasureMemory (Ok order) bytes = MayLackMemoryForTwo (verdict_for order b
 -- the answer's status, or want of memory where it may come
 abbrev pub IsMeasureAnswered : List (List ℕ) → List ℕ → ℕ → Type 0
 IsMeasureAnswered words bytes status =
-    (status ≡ measure_status (measure_answer words bytes).end) ⊎ ((status ≡ 5) × MayLackMeasureMemory (measure_order_of words) bytes)
+    (status ≡ end_status (measure_answer_to_words words bytes).end) ⊎ ((status ≡ 5) × MayLackMeasureMemory (measure_order_of words) bytes)
 
 -- what words that ask for measuring do
 pub record IsMeasureRun (words : List (List ℕ)) (i : InputUse) (o n : OutputUse) (status : ℕ) : Type 0 where
-  pub status_is : ForMeasured words i.left (λ bytes. IsMeasureStatus (measure_answer words bytes) status)
-  pub writes : status < 3 → ForMeasured words i.left (λ bytes. Appends o.written o.written' (measure_answer words bytes).output)
-  pub takes : status < 3 → ForMeasured words i.left (λ bytes. Took i.left i.left' (measure_answer words bytes).taken)
+  pub status_is : ForMeasured words i.left (λ bytes. IsStatus (measure_answer_to_words words bytes) status)
+  pub writes : status < 3 → ForMeasured words i.left (λ bytes. Appends o.written o.written' (measure_answer_to_words words bytes).output)
+  pub takes : status < 3 → ForMeasured words i.left (λ bytes. Took i.left i.left' (measure_answer_to_words words bytes).taken)
   pub settled : status ≡ 0 → IsTrue o.settled'
   pub read_fault : status ≡ 3 → MeasureReadFails words i.faults i.faults' o.written o.written'
-  pub read_so_far : status ≡ 3 → ForMeasured words i.left (λ bytes. TookAtMost i.left i.left' (measure_answer words bytes).taken)
+  pub read_so_far : status ≡ 3 → ForMeasured words i.left (λ bytes. TookAtMost i.left i.left' (measure_answer_to_words words bytes).taken)
   pub write_fault : status ≡ 4 → Rose o.faults o.faults'
-  pub written_so_far : status ≡ 4 → ForMeasured words i.left (λ bytes. CutsMeasure (measure_answer words bytes) o.written o.written')
-  pub taken_before : status ≡ 4 → ForMeasured words i.left (λ bytes. Took i.left i.left' (measure_answer words bytes).taken)
+  pub written_so_far : status ≡ 4 → ForMeasured words i.left (λ bytes. CutsAnswer (measure_answer_to_words words bytes) o.written o.written')
+  pub taken_before : status ≡ 4 → ForMeasured words i.left (λ bytes. Took i.left i.left' (measure_answer_to_words words bytes).taken)
   pub memory : status ≡ 5 → Keeps o.written o.written'
   pub memory_wanted : status ≡ 5 → ForMeasured words i.left (λ bytes. MeasureWantsMemory (measure_order_of words) bytes i.left i.left')
-  pub noted : (end : MeasureEnd) × TellsMeasureEnd status i.ended' n.written n.written' n.settled' n.faults n.faults' end
+  pub noted : (end : End) × TellsEnd status i.ended' n.written n.written' n.settled' n.faults n.faults' end
   pub notes : status < 3 → ForMeasured words i.left (λ bytes.
-      Noted n.written n.written' n.settled' n.faults n.faults' (measure_note (measure_answer words bytes).end))
+      Noted n.written n.written' n.settled' n.faults n.faults' (note_of (measure_answer_to_words words bytes).end))
   pub complete : (Rose i.faults i.faults' → ⊥) → (Rose o.faults o.faults' → ⊥) → ForMeasured words i.left (λ bytes. IsMeasureAnswered words bytes status)
   pub usage : IsErr (measure_order_of words) ↔ (status ≡ 1)

@@ -1,14 +1,12 @@
 -- Model: what is written of the sources of one plane that are measured in another, the values: a primary HDU without data, their segmentation map,
 -- and their catalogue with the columns of the measures.
-use Rattle.std.specs.Prelude.{◌≡◌, ℕ, ◌*◌, ◌^◌, ◌≤◌, List, [], ◌∷◌, ◌++◌, length, codes, ℤ}
-use Rattle.std.specs.List.{All, flat_map, enumerate_from}
+use Rattle.std.specs.Prelude.{ℕ, List, ◌++◌, ℤ}
+use Rattle.std.specs.List.{flat_map, enumerate_from}
 use Rattle.comp_tree.specs.declared.shape.Shape.{Shape}
 use Rattle.comp_tree.specs.declared.shape.Connect.{Connect}
 use Rattle.comp_tree.specs.Raster.{Raster}
 use Rattle.mesh_background.specs.Residuals.{residual_of}
-use Rattle.fits_write.specs.declared.table.Cell.TheVariants.{J, K}
-use Rattle.fits_write.specs.declared.table.Column.{Column}
-use Rattle.fits_write.specs.Columns.{IsTable}
+use Rattle.catalogue_form.specs.Columns.{measured_columns}
 use Rattle.fits_write.specs.Hdus.{empty_primary, map_hdu, table_hdu}
 use Rattle.source_pick.specs.declared.choice.Choice.{Choice}
 use Rattle.source_pick.specs.Sources.{sources}
@@ -17,19 +15,6 @@ use Rattle.source_pick.specs.Catalogue.{catalogue_row}
 use Rattle.dual_measure.specs.Measures.{measure_of, back_of}
 use Rattle.dual_measure.specs.Columns.{measured_cells_of}
 use Rattle.detect_top.specs.declared.words.Order.{Order}
-use Rattle.detect_top.specs.Catalogues.{column, columns}
-
--- the columns of a catalogue, and behind them those of the measures
-unfoldable pub measured_columns : List Column
-measured_columns =
-    columns
-    ++ column (codes "SEEN    ") J
-    ∷ column (codes "MISSING ") J
-    ∷ column (codes "VSUM    ") K
-    ∷ column (codes "VLOW    ") K
-    ∷ column (codes "VPEAK   ") K
-    ∷ column (codes "VMEAN   ") K
-    ∷ column (codes "VBACK   ") K ∷ []
 
 -- the HDUs one behind the other
 abbrev pub measured_hdus : Shape → List ℕ → List ℤ → List ℕ
@@ -53,9 +38,3 @@ measured_sources plane values connect choice =
 unfoldable pub measured_output : Order → Choice → (image values : Raster) → List ℕ
 measured_output order choice image values =
     measured_sources (residual_of image order.mesh order.flat) (residual_of values order.mesh order.flat) order.connect choice
-
--- a map and cells that can be written
-pub record IsMeasuredDetection (shape : Shape) (numbers : List ℕ) (cells : List ℤ) : Type 0 where
-  pub one_each : length numbers ≡ shape.width * shape.height
-  pub small : All (λ n. n ≤ 2 ^ 24) numbers
-  pub table : IsTable measured_columns cells

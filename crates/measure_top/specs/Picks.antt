@@ -61,7 +61,8 @@ StandIn tree nodes = (k : ℕ) (node : PickedNode) → slice_get nodes k ≡ Som
 -- the row of a node, and its measure and its back in a plane where a pixel represents it
 unfoldable pub cells_at : (plane values : Raster) → Connect → PickedNode → List ℤ
 cells_at plane values connect node =
-    measured_cells_of node.row (measure_of values plane connect (node_of plane connect node.rep)) (back_of values plane connect (node_of plane connect node.rep))
+    measured_cells_of node.row (measure_of values plane connect (node_of plane connect node.rep))
+    (back_of values plane connect (node_of plane connect node.rep))
 
 -- of all of them, one behind the other
 unfoldable pub all_cells : (plane values : Raster) → Connect → List PickedNode → List ℤ

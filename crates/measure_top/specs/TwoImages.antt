@@ -1,20 +1,17 @@
--- Model: the verdict on two HDUs of one input, and what their reading does to the bytes that are told.
-use Rattle.std.specs.Prelude.{◌≡◌, ℕ, Bool, false, not, ◌&&◌, ◌==◌, ◌⊎◌, List, Option, Some, None, if◌then◌else◌}
-use Rattle.std.specs.Option.{option_map}
+-- Model: the verdict on two HDUs of one input, and by which stop it shows.
+use Rattle.std.specs.Prelude.{ℕ, Bool, false, not, ◌&&◌, ◌==◌, ◌⊎◌, List, Option, Some, None, if◌then◌else◌}
 use Rattle.std.specs.Result.{result_ok}
-use Rattle.dev_io.specs.Streams.{Takes, TakesAtMost}
+use Rattle.dev_io.specs.Streams.{Takes}
 use Rattle.comp_tree.specs.declared.shape.Shape.{Shape}
-use Rattle.comp_tree.specs.Raster.{Raster, IsPlane}
+use Rattle.comp_tree.specs.Raster.{Raster}
 use Rattle.fits_hdu.specs.Headers as at_header
 use Rattle.fits_hdu.specs.Finding.{find_of}
 use Rattle.pixel_plane.specs.Images.{checked}
-use Rattle.pixel_plane.specs.Verdicts.{Verdict, image, unfound, unreadable, truncated, out_of_range, verdict, taken_for}
-use Rattle.detect_top.specs.declared.image.Stop.TheVariants.{Refused, ReadFault, NoMemory}
-use Rattle.detect_top.specs.Faults.{IsCutStop}
+use Rattle.pixel_plane.specs.Verdicts.{Verdict, image, unfound, unreadable, truncated, out_of_range, verdict_on, taken_for}
+use Rattle.detect_top.specs.declared.fault.Fault.TheVariants.{ShapeDiffers}
+use Rattle.detect_top.specs.declared.image.Stop.{Stop}
+use Rattle.detect_top.specs.declared.image.Stop.TheVariants.{Refused}
 use Rattle.detect_top.specs.Streams.{MemoryWanted, stop_of}
-use Rattle.measure_top.specs.declared.images.TwoPlanes.{TwoPlanes}
-use Rattle.measure_top.specs.declared.images.TwoStop.{TwoStop}
-use Rattle.measure_top.specs.declared.images.TwoStop.TheVariants.{At, ShapesDiffer}
 
 -- The numbers `head` and `end` are those of the earlier HDU: the end of its header, and the place after its last data byte.
 -- With a prime they are those of the later one.
@@ -54,14 +51,14 @@ verdict_beside first head end (image second head' end') shape =
     if is_other_shape first.shape shape then shapes_differ head end head' else two_images first head end second head' end'
 
 -- by the verdict on each
-abbrev pub verdict_on_both : Verdict → Verdict → Option Shape → TwoVerdict
-verdict_on_both (image first head end) later shape = verdict_beside first head end later shape
-verdict_on_both fault later shape = earlier_fault fault
+abbrev pub combined_verdict : Verdict → Verdict → Option Shape → TwoVerdict
+combined_verdict (image first head end) later shape = verdict_beside first head end later shape
+combined_verdict fault later shape = earlier_fault fault
 
 -- the verdict on the HDUs with the lesser and the greater number: a fault of the lesser one; else a fault of the search for the greater one
 -- or of its header; else that the shapes differ; else that the data of the greater one are cut or out of range; else both images
 unfoldable pub verdict_on_two : List ℕ → ℕ → ℕ → TwoVerdict
-verdict_on_two bytes lesser greater = verdict_on_both (verdict bytes lesser) (verdict bytes greater) (header_shape bytes greater)
+verdict_on_two bytes lesser greater = combined_verdict (verdict_on bytes lesser) (verdict_on bytes greater) (header_shape bytes greater)
 
 -- how many bytes are taken for it
 abbrev pub taken_for_two : TwoVerdict → ℕ
@@ -79,32 +76,9 @@ MemoryWantedForTwo (earlier_fault found) bytes left = MemoryWanted found bytes l
 MemoryWantedForTwo (later_fault head end found) bytes left = Takes bytes left head ⊎ (Takes bytes left end ⊎ MemoryWanted found bytes left)
 MemoryWantedForTwo (shapes_differ head end head') bytes left = Takes bytes left head ⊎ Takes bytes left end
 
--- the verdict is these two images, and their bytes were taken
-pub record TwoRead (found : TwoVerdict) (bytes : List ℕ) (left : Option (List ℕ)) (planes : TwoPlanes) : Type 0 where
-  pub head : ℕ
-  pub end : ℕ
-  pub head' : ℕ
-  pub end' : ℕ
-  pub are_images : found ≡ two_images planes.first head end planes.second head' end'
-  pub first_whole : IsPlane planes.first
-  pub second_whole : IsPlane planes.second
-  pub takes : Takes bytes left end'
-
 -- the stop by which the verdict shows, where it isn't two images
-abbrev pub stop_of_two : TwoVerdict → Option TwoStop
+abbrev pub stop_of_two : TwoVerdict → Option Stop
 stop_of_two (two_images first head end second head' end') = None
-stop_of_two (earlier_fault found) = option_map At (stop_of found)
-stop_of_two (later_fault head end found) = option_map At (stop_of found)
-stop_of_two (shapes_differ head end head') = Some ShapesDiffer
-
--- what a stop says of the bytes: a refusal is the verdict's, and its bytes were taken
-abbrev pub TwoStopped : TwoVerdict → List ℕ → Option (List ℕ) → TwoStop → Type 0
-TwoStopped found bytes left (At (Refused fault)) = (stop_of_two found ≡ Some (At (Refused fault))) × Takes bytes left (taken_for_two found)
-TwoStopped found bytes left (At ReadFault) = TakesAtMost bytes left (taken_for_two found)
-TwoStopped found bytes left (At NoMemory) = MemoryWantedForTwo found bytes left
-TwoStopped found bytes left ShapesDiffer = (stop_of_two found ≡ Some ShapesDiffer) × Takes bytes left (taken_for_two found)
-
--- a stop that only the end of the input shows
-abbrev pub IsCutTwo : TwoStop → Type 0
-IsCutTwo (At stop) = IsCutStop stop
-IsCutTwo ShapesDiffer = ⊥
+stop_of_two (earlier_fault found) = stop_of found
+stop_of_two (later_fault head end found) = stop_of found
+stop_of_two (shapes_differ head end head') = Some (Refused ShapeDiffers)

@@ -1,4 +1,4 @@
-// The two images: their HDUs are found and judged one after the other, and their pixels are read.
+//! The two images: their HDUs are found and judged one after the other, and their pixels are read.
 ghost use Rattle.std.specs.Prelude.{◌≡◌, ◌<◌, ◌≤◌, ℕ, List, Ok, IfOk, IfErr, IsErrOf, IsTrue, MatchResult};
 ghost use Rattle.std.specs.Option.{ForSome};
 ghost use Rattle.std.specs.Result.{result_ok};
@@ -6,14 +6,15 @@ ghost use Rattle.dev_io.specs.Causes.{Rose};
 ghost use Rattle.dev_io.specs.Streams.{Takes};
 ghost use Rattle.comp_tree.specs.Raster.{IsPlane, HasValuesInHalfRange};
 ghost use Rattle.pixel_plane.specs.Images.{checked};
-ghost use Rattle.pixel_plane.specs.Verdicts.{verdict, verdict_by};
+ghost use Rattle.pixel_plane.specs.Verdicts.{verdict_on, verdict_on_hdu};
 ghost use Rattle.detect_top.specs.Faults.{IsCutStop};
 ghost use Rattle.detect_top.specs.Streams.{ImageStopped};
-ghost use Rattle.measure_top.specs.TwoImages.{is_other_shape, verdict_beside, verdict_on_two, TwoRead, TwoStopped, IsCutTwo};
+ghost use Rattle.measure_top.specs.TwoImages.{is_other_shape, verdict_beside, verdict_on_two};
+ghost use Rattle.measure_top.specs.TwoReads.{TwoRead, TwoStopped};
 ghost use Rattle.measure_top.specs.FirstImages.{FirstImageRead};
 
 use comp_tree::{Plane, Shape};
-use detect_top::{Stop, read_found};
+use detect_top::{Fault, Stop, read_found};
 use dev_io::Source;
 use fits_hdu::{Hdu, find_after, find_hdu};
 use pixel_plane::check_image;
@@ -24,13 +25,6 @@ use std::alloc::Global;
 pub(crate) struct TwoPlanes {
     pub(crate) first: Plane,
     pub(crate) second: Plane,
-}
-
-/// Why there aren't two images: the reading of one of them stops, or their shapes differ.
-#[derive(Clone, Copy, Debug, PartialEq, Eq)]
-pub(crate) enum TwoStop {
-    At(Stop),
-    ShapesDiffer,
 }
 
 // The image of an HDU, with what its header says.
@@ -54,7 +48,7 @@ fn has_other_shape(hdu: &Hdu, shape: Shape) -> bool
 fn read_first<S: Source>(alloc: Global, src: &mut S, number: u16) -> Result<FirstImage, Stop>
     ensures told { ForSome (S.left src.old) (λ bytes. MatchResult result
         (λ first. FirstImageRead bytes number (S.left src.new) first)
-        (λ stop. ImageStopped (verdict bytes number) bytes (S.left src.new) stop)) }
+        (λ stop. ImageStopped (verdict_on bytes number) bytes (S.left src.new) stop)) }
     ensures storable { IfOk result (λ first. HasValuesInHalfRange first.plane.values) }
     ensures ended { IfErr result (λ stop. IsCutStop stop → IsTrue (S.ended src.new)) }
     ensures later { S.faults src.old ≤ S.faults src.new }
@@ -62,7 +56,7 @@ fn read_first<S: Source>(alloc: Global, src: &mut S, number: u16) -> Result<Firs
 {
     let hdu = match find_hdu(src, number) {
         Ok(hdu) => hdu,
-        Err(fault) => return Err(Stop::at_hdu(fault)),
+        Err(stop) => return Err(Stop::at_hdu(stop)),
     };
     match read_found(alloc, src, &hdu) {
         Ok(plane) => Ok(FirstImage { hdu, plane }),
@@ -76,23 +70,28 @@ fn read_beside<S: Source>(
     src: &mut S,
     first: Plane,
     hdu: &Hdu,
-) -> Result<TwoPlanes, TwoStop>
-    ensures told { (bytes : List ℕ) (head end head' : ℕ) → Takes bytes (S.left src.old) head' → MatchResult result
-        (λ planes. TwoRead (verdict_beside first head end (verdict_by bytes hdu.now head' (checked hdu.now)) (result_ok (checked hdu.now))) bytes (S.left src.new) planes)
-        (λ stop. TwoStopped (verdict_beside first head end (verdict_by bytes hdu.now head' (checked hdu.now)) (result_ok (checked hdu.now))) bytes (S.left src.new) stop) }
+) -> Result<TwoPlanes, Stop>
+    ensures told { (bytes : List ℕ) (head end head' : ℕ) → Takes bytes (S.left src.old) head' →
+        MatchResult result
+        (λ planes. TwoRead (verdict_beside first head end
+        (verdict_on_hdu bytes hdu.now head' (checked hdu.now))
+        (result_ok (checked hdu.now))) bytes (S.left src.new) planes)
+        (λ stop. TwoStopped (verdict_beside first head end
+        (verdict_on_hdu bytes hdu.now head' (checked hdu.now))
+        (result_ok (checked hdu.now))) bytes (S.left src.new) stop) }
     ensures same { IfOk result (λ planes. planes.first ≡ first) }
     ensures storable { IfOk result (λ planes. HasValuesInHalfRange planes.second.values) }
     ensures same_shape { IfOk result (λ planes. planes.first.shape ≡ planes.second.shape) }
-    ensures ended { IfErr result (λ stop. IsCutTwo stop → IsTrue (S.ended src.new)) }
+    ensures ended { IfErr result (λ stop. IsCutStop stop → IsTrue (S.ended src.new)) }
     ensures later { S.faults src.old ≤ S.faults src.new }
-    ensures fault { IsErrOf result (TwoStop.At Stop.ReadFault) → Rose (S.faults src.old) (S.faults src.new) }
+    ensures fault { IsErrOf result Stop.ReadFault → Rose (S.faults src.old) (S.faults src.new) }
 {
     if has_other_shape(hdu, first.shape()) {
-        return Err(TwoStop::ShapesDiffer);
+        return Err(Stop::Refused(Fault::ShapeDiffers));
     }
     match read_found(alloc, src, hdu) {
         Ok(second) => Ok(TwoPlanes { first, second }),
-        Err(stop) => Err(TwoStop::At(stop)),
+        Err(stop) => Err(stop),
     }
 }
 
@@ -103,21 +102,22 @@ fn read_second<S: Source>(
     first: FirstImage,
     at: u16,
     number: u16,
-) -> Result<TwoPlanes, TwoStop>
+) -> Result<TwoPlanes, Stop>
     requires { at < number }
-    ensures told { (bytes : List ℕ) → FirstImageRead bytes at (S.left src.old) first → MatchResult result
+    ensures told { (bytes : List ℕ) → FirstImageRead bytes at (S.left src.old) first →
+        MatchResult result
         (λ planes. TwoRead (verdict_on_two bytes at number) bytes (S.left src.new) planes)
         (λ stop. TwoStopped (verdict_on_two bytes at number) bytes (S.left src.new) stop) }
     ensures same { IfOk result (λ planes. planes.first ≡ first.plane) }
     ensures storable { IfOk result (λ planes. HasValuesInHalfRange planes.second.values) }
     ensures same_shape { IfOk result (λ planes. planes.first.shape ≡ planes.second.shape) }
-    ensures ended { IfErr result (λ stop. IsCutTwo stop → IsTrue (S.ended src.new)) }
+    ensures ended { IfErr result (λ stop. IsCutStop stop → IsTrue (S.ended src.new)) }
     ensures later { S.faults src.old ≤ S.faults src.new }
-    ensures fault { IsErrOf result (TwoStop.At Stop.ReadFault) → Rose (S.faults src.old) (S.faults src.new) }
+    ensures fault { IsErrOf result Stop.ReadFault → Rose (S.faults src.old) (S.faults src.new) }
 {
     let hdu = match find_after(src, &first.hdu, at, number) {
         Ok(hdu) => hdu,
-        Err(fault) => return Err(TwoStop::At(Stop::at_hdu(fault))),
+        Err(stop) => return Err(Stop::at_hdu(stop)),
     };
     read_beside(alloc, src, first.plane, &hdu)
 }
@@ -128,20 +128,21 @@ pub(crate) fn read_two<S: Source>(
     src: &mut S,
     first: u16,
     second: u16,
-) -> Result<TwoPlanes, TwoStop>
+) -> Result<TwoPlanes, Stop>
     requires { first < second }
     ensures told { ForSome (S.left src.old) (λ bytes. MatchResult result
         (λ planes. TwoRead (verdict_on_two bytes first second) bytes (S.left src.new) planes)
         (λ stop. TwoStopped (verdict_on_two bytes first second) bytes (S.left src.new) stop)) }
-    ensures storable { IfOk result (λ planes. HasValuesInHalfRange planes.first.values × HasValuesInHalfRange planes.second.values) }
+    ensures storable { IfOk result (λ planes. HasValuesInHalfRange planes.first.values ×
+        HasValuesInHalfRange planes.second.values) }
     ensures same_shape { IfOk result (λ planes. planes.first.shape ≡ planes.second.shape) }
-    ensures ended { IfErr result (λ stop. IsCutTwo stop → IsTrue (S.ended src.new)) }
+    ensures ended { IfErr result (λ stop. IsCutStop stop → IsTrue (S.ended src.new)) }
     ensures later { S.faults src.old ≤ S.faults src.new }
-    ensures fault { IsErrOf result (TwoStop.At Stop.ReadFault) → Rose (S.faults src.old) (S.faults src.new) }
+    ensures fault { IsErrOf result Stop.ReadFault → Rose (S.faults src.old) (S.faults src.new) }
 {
     let image = match read_first(alloc, src, first) {
         Ok(image) => image,
-        Err(stop) => return Err(TwoStop::At(stop)),
+        Err(stop) => return Err(stop),
     };
     read_second(alloc, src, image, first, second)
 }

@@ -1,13 +1,13 @@
-// Two images of one small file.
-use crate::images::{TwoPlanes, TwoStop, read_two};
+//! Two images of one small file.
+use crate::images::{TwoPlanes, read_two};
 use comp_tree::Plane;
 use detect_top::{Fault, Stop};
-use dev_io::MemSource;
+use dev_io::{BLOCK, MemSource};
+use fits_hdu::HduFault;
+use pixel_plane::PlaneFault;
 use std::alloc::Global;
 use std::process::Abort;
 use std::test::Fail;
-
-const BLOCK: usize = 2880;
 
 // The primary HDU, with one row of five pixels.
 const PRIMARY: &[u8] = b"SIMPLE  = T|BITPIX  = 8|NAXIS   = 2|NAXIS1  = 5|NAXIS2  = 1|END|#";
@@ -45,7 +45,7 @@ fn append(bytes: &mut Vec<u8>, header: &[u8], data: &[u8]) -> Result<(), Fail> {
 // What was read, and how many bytes were taken for it.
 #[derive(Drop)]
 struct Outcome {
-    result: Result<TwoPlanes, TwoStop>,
+    result: Result<TwoPlanes, Stop>,
     taken: usize,
 }
 
@@ -104,11 +104,17 @@ fn images_of_two_shapes_are_refused(rt: HostRuntime) -> Result<(), Fail> {
         b"#XTENSION= 'IMAGE   '|BITPIX  = 8|NAXIS   = 2|NAXIS1  = 4|NAXIS2  = 1|PCOUNT  = 0|GCOUNT  = 1|END|#";
     let outcome = read(rt.alloc(), FIRST, narrow, &[10, 20, 30, 40], &[])?;
     assert_eq!(rt; outcome.taken, 8640);
-    assert_eq!(rt; outcome.result.err(), Some(TwoStop::ShapesDiffer));
+    assert_eq!(rt;
+        outcome.result.err(),
+        Some(Stop::Refused(Fault::ShapeDiffers))
+    );
     // Also where the data of the later one are cut.
     let outcome = read(rt.alloc(), FIRST, narrow, &[10], &[])?;
     assert_eq!(rt; outcome.taken, 8640);
-    assert_eq!(rt; outcome.result.err(), Some(TwoStop::ShapesDiffer));
+    assert_eq!(rt;
+        outcome.result.err(),
+        Some(Stop::Refused(Fault::ShapeDiffers))
+    );
     Ok(())
 }
 
@@ -118,7 +124,7 @@ fn cut_data_are_refused(rt: HostRuntime) -> Result<(), Fail> {
     assert_eq!(rt; outcome.taken, 8642);
     assert_eq!(rt;
         outcome.result.err(),
-        Some(TwoStop::At(Stop::Refused(Fault::TruncatedData)))
+        Some(Stop::Refused(Fault::Plane(PlaneFault::TruncatedData)))
     );
     Ok(())
 }
@@ -129,13 +135,13 @@ fn the_earlier_hdu_is_judged_first(rt: HostRuntime) -> Result<(), Fail> {
     assert_eq!(rt; outcome.taken, 2882);
     assert_eq!(rt;
         outcome.result.err(),
-        Some(TwoStop::At(Stop::Refused(Fault::TruncatedData)))
+        Some(Stop::Refused(Fault::Plane(PlaneFault::TruncatedData)))
     );
     let outcome = read(rt.alloc(), FIRST, b"", &[], &[])?;
     assert_eq!(rt; outcome.taken, 2885);
     assert_eq!(rt;
         outcome.result.err(),
-        Some(TwoStop::At(Stop::Refused(Fault::NoSuchHdu)))
+        Some(Stop::Refused(Fault::Hdu(HduFault::NoSuchHdu)))
     );
     Ok(())
 }
@@ -144,6 +150,6 @@ fn the_earlier_hdu_is_judged_first(rt: HostRuntime) -> Result<(), Fail> {
 fn a_take_that_fails_behind_the_earlier_image_is_a_read_fault(rt: HostRuntime) -> Result<(), Fail> {
     let outcome = read(rt.alloc(), FIRST, EXTENSION, &[10, 20, 255, 40, 7], &[11])?;
     assert_eq!(rt; outcome.taken, 2885);
-    assert_eq!(rt; outcome.result.err(), Some(TwoStop::At(Stop::ReadFault)));
+    assert_eq!(rt; outcome.result.err(), Some(Stop::ReadFault));
     Ok(())
 }

@@ -1,13 +1,11 @@
 //! Runs in memory, and the files that they read. For tests alone.
 
 use crate::run_all;
-use dev_io::{MemSink, MemSource};
+use dev_io::{BLOCK, MemSink, MemSource};
 use std::alloc::Global;
 use std::test::Fail;
 use std::thread::Threads;
 use strip_crew::OpenGate;
-
-const BLOCK: usize = 2880;
 
 /// A primary HDU with one row of five pixels.
 pub(crate) const PRIMARY: &[u8] =

@@ -4,7 +4,6 @@
 mod cutting;
 mod images;
 mod measuring;
-mod notes;
 mod picking_near;
 mod top;
 

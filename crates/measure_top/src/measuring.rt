@@ -11,22 +11,19 @@ ghost use Rattle.dual_measure.specs.declared.values.Measure.{Measure as Entry};
 ghost use Rattle.dual_measure.specs.Measures.{measure_of, measures_of, back_of, HasMeasureSizes, IsPlanesTree, AreTheTreesMeasures};
 ghost use Rattle.dual_measure.specs.Columns.{measured_cells_of};
 ghost use Rattle.detect_top.specs.Words.{HasLimits};
-ghost use Rattle.measure_top.specs.MeasuredCatalogues.{
-  measured_columns,
-  measured_hdus,
-  measured_sources,
-  measured_output,
-  IsMeasuredDetection,
-};
+ghost use Rattle.measure_top.specs.MeasuredCatalogues.{measured_hdus, measured_sources, measured_output};
+ghost use Rattle.catalogue_form.specs.Columns.{measured_columns};
+ghost use Rattle.measure_top.specs.TwoReads.{IsMeasuredDetection};
 ghost use Rattle.measure_top.specs.Picks.{HaveFittingRows, StandIn, all_cells};
 
 use crate::cutting::cut_below;
 use crate::picking_near::{PickedNode, lowest_base, pick_near};
+use catalogue_form::{MEASURED_CELLS_IN_ROW, measured_columns};
 use comp_tree::{Plane, Shape, Tree};
-use detect_top::{Order, column, columns, component_tree, residual_plane};
+use detect_top::{Order, component_tree, residual_plane};
 use dev_io::{OutOfMemory, Sink};
 use dual_measure::{Measure, back, measured_cells, measures};
-use fits_write::{Cell, Column, WriteFault, put_empty_primary, put_map, put_table};
+use fits_write::{WriteFault, put_empty_primary, put_map, put_table};
 use source_pick::{CatRow, Choice};
 use std::alloc::Global;
 use std::thread::Threads;
@@ -40,33 +37,22 @@ pub(crate) struct Measured {
     pub(crate) cells: Vec<i64>,
 }
 
-// The columns of the measures stand behind those of the catalogue.
-#[tactic(auto, unfolding(crate::specs::MeasuredCatalogues::measured_columns))]
-fn measured_columns() -> [Column; 24]
-    ensures { result ≡ measured_columns }
-{
-    let mut all = [column(b"        ", Cell::J); 24];
-    all[..17].copy_from_slice(&columns());
-    all[17..].copy_from_slice(&[
-        column(b"SEEN    ", Cell::J),
-        column(b"MISSING ", Cell::J),
-        column(b"VSUM    ", Cell::K),
-        column(b"VLOW    ", Cell::K),
-        column(b"VPEAK   ", Cell::K),
-        column(b"VMEAN   ", Cell::K),
-        column(b"VBACK   ", Cell::K),
-    ]);
-    all
-}
-
 // The cells of a row, of which `n` is the node in this tree. They are a table of one row.
-fn row_cells(tree: &Tree, measures: &[Measure], row: &CatRow, n: u32) -> [i64; 24]
+fn row_cells(
+    tree: &Tree,
+    measures: &[Measure],
+    row: &CatRow,
+    n: u32,
+) -> [i64; MEASURED_CELLS_IN_ROW]
     requires measures { AreTheTreesMeasures tree.now measures.now }
-    requires small { (m : ℕ) (entry : Entry) → slice_get measures.now m ≡ Some entry → HasMeasureSizes entry }
+    requires small { (m : ℕ) (entry : Entry) → slice_get measures.now m ≡ Some entry →
+        HasMeasureSizes entry }
     requires node { n < length tree.now.rows }
     requires columns { FitsColumns row.now }
-    ensures exact { (plane values : Raster) (connect : Connect) → IsPlane plane → tree.now ≡ tree_of plane connect → measures.now ≡ measures_of values plane connect
-        → result ≡ measured_cells_of row.now (measure_of values plane connect n) (back_of values plane connect n) }
+    ensures exact { (plane values : Raster) (connect : Connect) → IsPlane plane → tree.now ≡
+        tree_of plane connect → measures.now ≡ measures_of values plane connect
+        → result ≡ measured_cells_of row.now (measure_of values plane connect n)
+        (back_of values plane connect n) }
     ensures table { IsTable measured_columns result }
 {
     let around = back(tree, measures, n);
@@ -74,7 +60,7 @@ fn row_cells(tree: &Tree, measures: &[Measure], row: &CatRow, n: u32) -> [i64; 2
 }
 
 // Puts a row behind those before it.
-fn add_row(table: &mut Vec<i64>, row: &[i64; 24]) -> Result<(), OutOfMemory>
+fn add_row(table: &mut Vec<i64>, row: &[i64; MEASURED_CELLS_IN_ROW]) -> Result<(), OutOfMemory>
     ensures { OnOk result (table.new.items ≡ table.old.items ++ row.now) }
 {
     match table.extend_from_slice(row) {
@@ -91,15 +77,18 @@ fn table_cells(
     nodes: &[PickedNode],
 ) -> Result<Vec<i64>, OutOfMemory>
     requires measures { AreTheTreesMeasures tree.now measures.now }
-    requires small { (m : ℕ) (entry : Entry) → slice_get measures.now m ≡ Some entry → HasMeasureSizes entry }
+    requires small { (m : ℕ) (entry : Entry) → slice_get measures.now m ≡ Some entry →
+        HasMeasureSizes entry }
     requires there { StandIn tree.now nodes.now }
     requires few { length nodes.now ≤ 2 ^ 24 }
     requires fits { HaveFittingRows nodes.now }
-    ensures exact { IfOk result (λ table. (plane values : Raster) (connect : Connect) → IsPlane plane → tree.now ≡ tree_of plane connect
-        → measures.now ≡ measures_of values plane connect → table.items ≡ all_cells plane values connect nodes.now) }
+    ensures exact { IfOk result (λ table. (plane values : Raster) (connect : Connect) →
+        IsPlane plane → tree.now ≡ tree_of plane connect
+        → measures.now ≡ measures_of values plane connect → table.items ≡
+        all_cells plane values connect nodes.now) }
     ensures table { IfOk result (λ table. IsTable measured_columns table.items) }
 {
-    let mut table = match Vec::with_capacity(alloc, 24 * nodes.len()) {
+    let mut table = match Vec::with_capacity(alloc, MEASURED_CELLS_IN_ROW * nodes.len()) {
         Ok(table) => table,
         Err(_) => return Err(OutOfMemory),
     };
@@ -125,7 +114,8 @@ fn cells_in_tree(
     requires there { StandIn tree.now nodes.now }
     requires few { length nodes.now ≤ 2 ^ 24 }
     requires fits { HaveFittingRows nodes.now }
-    ensures exact { IfOk result (λ cells. (plane : Raster) (connect : Connect) → IsPlane plane → tree.now ≡ tree_of plane connect
+    ensures exact { IfOk result (λ cells. (plane : Raster) (connect : Connect) → IsPlane plane →
+        tree.now ≡ tree_of plane connect
         → cells.items ≡ all_cells plane values.now connect nodes.now) }
     ensures table { IfOk result (λ cells. IsTable measured_columns cells.items) }
 {
@@ -147,8 +137,11 @@ fn measure_residuals<R: Threads + Sync, G: Gate>(
     requires limits { HasLimits order }
     requires contrast { choice.now.contrast ≤ 1000 }
     requires shape { plane.shape ≡ values.now.shape }
-    ensures writable { IfOk result (λ found. IsMeasuredDetection found.shape found.map.items found.cells.items) }
-    ensures bytes { IfOk result (λ found. measured_hdus found.shape found.map.items found.cells.items ≡ measured_sources plane values.now order.connect choice.now) }
+    ensures writable { IfOk result
+        (λ found. IsMeasuredDetection found.shape found.map.items found.cells.items) }
+    ensures bytes { IfOk result
+        (λ found. measured_hdus found.shape found.map.items found.cells.items ≡
+        measured_sources plane values.now order.connect choice.now) }
 {
     let shape = plane.shape();
     let picked = pick_near(rt, alloc, &plane, order, choice, gate)?;
@@ -180,8 +173,11 @@ pub(crate) fn measure_sources<R: Threads + Sync, G: Gate>(
     requires storable { HasValuesInHalfRange image.values }
     requires values_storable { HasValuesInHalfRange values.values }
     requires shape { image.shape ≡ values.shape }
-    ensures writable { IfOk result (λ found. IsMeasuredDetection found.shape found.map.items found.cells.items) }
-    ensures bytes { IfOk result (λ found. measured_hdus found.shape found.map.items found.cells.items ≡ measured_output order choice image values) }
+    ensures writable { IfOk result
+        (λ found. IsMeasuredDetection found.shape found.map.items found.cells.items) }
+    ensures bytes { IfOk result
+        (λ found. measured_hdus found.shape found.map.items found.cells.items ≡
+        measured_output order choice image values) }
 {
     let plane = match residual_plane(rt, alloc, image, order.mesh, order.flat) {
         Ok(plane) => plane,

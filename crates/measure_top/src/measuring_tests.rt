@@ -1,4 +1,4 @@
-// Sources of small planes, measured in others.
+//! Sources of small planes, measured in others.
 ghost use Rattle.std.specs.Prelude.{◌≡◌, IfOk};
 ghost use Rattle.comp_tree.specs.Raster.{HasValuesInHalfRange};
 ghost use Rattle.detect_top.specs.Words.{HasLimits};

@@ -39,8 +39,10 @@ fn picked_node(tree: &Tree, sums: &[Sums], number: u32, n: u32) -> PickedNode
     requires node { n < length tree.now.rows }
     requires from_one { 1 ≤ number }
     requires few { number ≤ 2 ^ 24 }
-    ensures row { ForEachPlaneOf tree.now sums.now (λ plane connect. result.row ≡ catalogue_row plane connect number n) }
-    ensures rep { (plane : Raster) (connect : Connect) → tree.now ≡ tree_of plane connect → result.rep ≡ top_of plane connect n }
+    ensures row { ForEachPlaneOf tree.now sums.now
+        (λ plane connect. result.row ≡ catalogue_row plane connect number n) }
+    ensures rep { (plane : Raster) (connect : Connect) → tree.now ≡ tree_of plane connect →
+        result.rep ≡ top_of plane connect n }
     ensures columns { FitsColumns result.row }
 {
     PickedNode {
@@ -58,7 +60,8 @@ fn picked_nodes(
 ) -> Result<Vec<PickedNode>, OutOfMemory>
     requires sums { AreTheTrees tree.now sums.now }
     requires disjoint { AreDisjointNodes tree.now picked.now }
-    ensures exact { IfOk result (λ nodes. ForEachPlaneOf tree.now sums.now (λ plane connect. AreNodesOf plane connect picked.now nodes.items)) }
+    ensures exact { IfOk result (λ nodes. ForEachPlaneOf tree.now sums.now
+        (λ plane connect. AreNodesOf plane connect picked.now nodes.items)) }
     ensures few { IfOk result (λ nodes. length nodes.items ≤ 2 ^ 24) }
     ensures fits { IfOk result (λ nodes. HaveFittingRows nodes.items) }
 {
@@ -87,9 +90,11 @@ fn pick_of_tree<R: Threads + Sync>(
 ) -> Result<Picked, OutOfMemory>
     requires of_plane { IsTreeOfPlane plane.now tree.now }
     requires contrast { choice.now.contrast ≤ 1000 }
-    ensures exact { IfOk result (λ picked. (connect : Connect) → tree.now ≡ tree_of plane.now connect
+    ensures exact { IfOk result
+        (λ picked. (connect : Connect) → tree.now ≡ tree_of plane.now connect
         → AreSourcesOf plane.now connect choice.now picked.map.items picked.nodes.items) }
-    ensures listed { IfOk result (λ picked. CanBeListed plane.now.shape picked.map.items picked.nodes.items) }
+    ensures listed { IfOk result
+        (λ picked. CanBeListed plane.now.shape picked.map.items picked.nodes.items) }
 {
     let _shape = plane.shape();
     let sums = sums(alloc, plane, tree)?;
@@ -111,7 +116,8 @@ pub(crate) fn pick_near<R: Threads + Sync, G: Gate>(
     requires limits { HasLimits order }
     requires contrast { choice.now.contrast ≤ 1000 }
     ensures exact { IfOk result (λ picked. AreSourcesOf plane.now order.connect choice.now picked.map.items picked.nodes.items) }
-    ensures listed { IfOk result (λ picked. CanBeListed plane.now.shape picked.map.items picked.nodes.items) }
+    ensures listed { IfOk result
+        (λ picked. CanBeListed plane.now.shape picked.map.items picked.nodes.items) }
 {
     let mut near = plane.copied(alloc)?;
     clear_far(

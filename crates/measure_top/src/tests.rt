@@ -1,4 +1,4 @@
-// Runs of `measure`, and of other words.
+//! Runs of `measure`, and of other words.
 use crate::in_memory::{EXTENSION, file, run_in_memory};
 use std::alloc::Global;
 use std::process::Abort;

@@ -1,4 +1,4 @@
-// The run as a whole.
+//! The run as a whole.
 ghost use Rattle.std.specs.Prelude.{◌≡◌, ◌<◌, ◌≤◌, ◌↔◌, ℕ, List, Bool, true, false, Option, length, Ok, Some, IfOk, IfErr, MatchResult, IsErrOf, IsErr, IsTrue};
 ghost use Rattle.std.specs.Option.{ForSome};
 ghost use Rattle.std.specs.Io.KnownBytes.{Appends, Keeps};
@@ -8,49 +8,25 @@ ghost use Rattle.source_pick.specs.declared.choice.Choice.{Choice};
 ghost use Rattle.command_line.specs.Lines.{texts};
 ghost use Rattle.command_line.specs.Notes.{Noted, SourceStays};
 ghost use Rattle.detect_top.specs.Words.{order_of, asks_measure, measure_order_of, IsMeasureOrder, HasLimits};
-ghost use Rattle.detect_top.specs.Runs.{Took, TookAtMost, input_use, output_use, LeavesInput};
-ghost use Rattle.measure_top.specs.TwoImages.{TwoStopped, IsCutTwo};
-ghost use Rattle.measure_top.specs.MeasuredCatalogues.{measured_hdus, IsMeasuredDetection};
-ghost use Rattle.measure_top.specs.MeasureAnswers.{measure_status, measure_note, measure_answer, verdict_for, measured_by, measured_of_two};
-ghost use Rattle.measure_top.specs.MeasureRuns.{IsRun, IsMeasureRun, MeasureTells, ForMeasured, IsMeasureStatus, CutsMeasure, MeasureReadFails, MeasureWantsMemory, TellsMeasureEnd, IsMeasureAnswered};
+ghost use Rattle.detect_top.specs.Answers.{note_of};
+ghost use Rattle.detect_top.specs.Faults.{IsCutStop};
+ghost use Rattle.detect_top.specs.Headline.{IsStatus, CutsAnswer, TellsEnd};
+ghost use Rattle.detect_top.specs.Runs.{Took, TookAtMost, use_of_input, use_of_output, LeavesInput};
+ghost use Rattle.measure_top.specs.TwoReads.{TwoStopped};
+ghost use Rattle.measure_top.specs.MeasuredCatalogues.{measured_hdus};
+ghost use Rattle.measure_top.specs.TwoReads.{IsMeasuredDetection};
+ghost use Rattle.measure_top.specs.MeasureAnswers.{measure_answer_to_words, verdict_for, measured_by, measured_of_two};
+ghost use Rattle.measure_top.specs.MeasureRuns.{IsRun, IsMeasureRun, MeasureTells, ForMeasured, MeasureReadFails, MeasureWantsMemory, IsMeasureAnswered};
 ghost use Rattle.measure_top.specs.MeasureEnds.{BothRead, MeasureEndBytes, MeasureEndCause};
 
-use crate::images::{TwoPlanes, TwoStop, read_two};
+use crate::images::{TwoPlanes, read_two};
 use crate::measuring::{Measured, measure_sources, put_measured};
-use crate::notes::tell;
 use comp_tree::Plane;
-use detect_top::{Fault, Job, MeasureOrder, Order, Stop, Usage, is_measure, read_measure, run};
+use detect_top::{End, Job, MeasureOrder, Order, Stop, is_measure, read_measure, run, tell};
 use dev_io::{OutOfMemory, Sink, Source};
 use std::alloc::Global;
 use std::thread::Threads;
 use strip_crew::Gate;
-
-/// How a run that measures ends.
-#[derive(Clone, Copy, Debug, PartialEq, Eq)]
-pub(crate) enum MeasureEnd {
-    Done,
-    Usage(Usage),
-    Refused(Fault),
-    ShapesDiffer,
-    ReadFault,
-    WriteFault,
-    NoMemory,
-}
-
-impl MeasureEnd {
-    fn status(self) -> u8
-        ensures { result ≡ measure_status self }
-    {
-        match self {
-            MeasureEnd::Done => 0,
-            MeasureEnd::Usage(_) => 1,
-            MeasureEnd::Refused(_) | MeasureEnd::ShapesDiffer => 2,
-            MeasureEnd::ReadFault => 3,
-            MeasureEnd::WriteFault => 4,
-            MeasureEnd::NoMemory => 5,
-        }
-    }
-}
 
 // What the order makes of the image in which it detects, and of the values.
 fn make<R: Threads + Sync, G: Gate>(
@@ -66,8 +42,11 @@ fn make<R: Threads + Sync, G: Gate>(
     requires storable { HasValuesInHalfRange image.values }
     requires values_storable { HasValuesInHalfRange values.values }
     requires shape { image.shape ≡ values.shape }
-    ensures writable { IfOk result (λ found. IsMeasuredDetection found.shape found.map.items found.cells.items) }
-    ensures bytes { IfOk result (λ found. measured_hdus found.shape found.map.items found.cells.items ≡ measured_by order order.job image values) }
+    ensures writable { IfOk result
+        (λ found. IsMeasuredDetection found.shape found.map.items found.cells.items) }
+    ensures bytes { IfOk result
+        (λ found. measured_hdus found.shape found.map.items found.cells.items ≡
+        measured_by order order.job image values) }
 {
     match order.job {
         Job::Detect { choice } => measure_sources(rt, alloc, image, values, order, choice, gate),
@@ -88,8 +67,11 @@ fn make_of_two<R: Threads + Sync, G: Gate>(
     requires storable { HasValuesInHalfRange planes.first.values }
     requires later_storable { HasValuesInHalfRange planes.second.values }
     requires shape { planes.first.shape ≡ planes.second.shape }
-    ensures writable { IfOk result (λ found. IsMeasuredDetection found.shape found.map.items found.cells.items) }
-    ensures bytes { IfOk result (λ found. measured_hdus found.shape found.map.items found.cells.items ≡ measured_of_two order planes.first planes.second) }
+    ensures writable { IfOk result
+        (λ found. IsMeasuredDetection found.shape found.map.items found.cells.items) }
+    ensures bytes { IfOk result
+        (λ found. measured_hdus found.shape found.map.items found.cells.items ≡
+        measured_of_two order planes.first planes.second) }
 {
     if order.order.hdu < order.values {
         make(rt, alloc, order.order, planes.first, planes.second, gate)
@@ -105,14 +87,16 @@ fn read_and_make<R: Threads + Sync, S: Source, G: Gate>(
     order: MeasureOrder,
     input: &mut S,
     gate: &G,
-) -> Result<Measured, TwoStop>
+) -> Result<Measured, Stop>
     requires order { IsMeasureOrder order }
     ensures told { ForSome (S.left input.old) (λ bytes. MatchResult result
-        (λ found. BothRead order bytes (S.left input.new) (measured_hdus found.shape found.map.items found.cells.items))
+        (λ found. BothRead order bytes (S.left input.new)
+        (measured_hdus found.shape found.map.items found.cells.items))
         (λ stop. TwoStopped (verdict_for order bytes) bytes (S.left input.new) stop)) }
-    ensures writable { IfOk result (λ found. IsMeasuredDetection found.shape found.map.items found.cells.items) }
-    ensures reads { IsErrOf result (TwoStop.At Stop.ReadFault) → Rose (S.faults input.old) (S.faults input.new) }
-    ensures ended { IfErr result (λ stop. IsCutTwo stop → IsTrue (S.ended input.new)) }
+    ensures writable { IfOk result
+        (λ found. IsMeasuredDetection found.shape found.map.items found.cells.items) }
+    ensures reads { IsErrOf result Stop.ReadFault → Rose (S.faults input.old) (S.faults input.new) }
+    ensures ended { IfErr result (λ stop. IsCutStop stop → IsTrue (S.ended input.new)) }
     ensures later { S.faults input.old ≤ S.faults input.new }
 {
     let (first, second) = (
@@ -125,7 +109,7 @@ fn read_and_make<R: Threads + Sync, S: Source, G: Gate>(
     };
     match make_of_two(rt, alloc, order, planes, gate) {
         Ok(found) => Ok(found),
-        Err(_) => Err(TwoStop::At(Stop::NoMemory)),
+        Err(_) => Err(Stop::NoMemory),
     }
 }
 
@@ -137,26 +121,25 @@ fn carry_out<R: Threads + Sync, S: Source, O: Sink, G: Gate>(
     input: &mut S,
     output: &mut O,
     gate: &G,
-) -> MeasureEnd
+) -> End
     requires order { IsMeasureOrder order }
     ensures bytes { (bytes : List ℕ) → MeasureTells (Ok order) (S.left input.old) bytes →
-        MeasureEndBytes (Ok order) bytes (input_use S.left S.ended S.faults input.old input.new)
-        (output_use O.written O.settled O.faults output.old output.new) result }
-    ensures cause { MeasureEndCause (Ok order) (input_use S.left S.ended S.faults input.old input.new)
-        (output_use O.written O.settled O.faults output.old output.new) result }
+        MeasureEndBytes (Ok order) bytes (use_of_input S.left S.ended S.faults input.old input.new)
+        (use_of_output O.written O.settled O.faults output.old output.new) result }
+    ensures cause { MeasureEndCause (Ok order) (use_of_input S.left S.ended S.faults input.old input.new)
+        (use_of_output O.written O.settled O.faults output.old output.new) result }
     ensures read_later { S.faults input.old ≤ S.faults input.new }
     ensures write_later { O.faults output.old ≤ O.faults output.new }
 {
     let found = match read_and_make(rt, alloc, order, input, gate) {
         Ok(found) => found,
-        Err(TwoStop::At(Stop::Refused(fault))) => return MeasureEnd::Refused(fault),
-        Err(TwoStop::At(Stop::ReadFault)) => return MeasureEnd::ReadFault,
-        Err(TwoStop::At(Stop::NoMemory)) => return MeasureEnd::NoMemory,
-        Err(TwoStop::ShapesDiffer) => return MeasureEnd::ShapesDiffer,
+        Err(Stop::Refused(fault)) => return End::Refused(fault),
+        Err(Stop::ReadFault) => return End::ReadFault,
+        Err(Stop::NoMemory) => return End::NoMemory,
     };
     match put_measured(output, &found) {
-        Ok(()) => MeasureEnd::Done,
-        Err(_) => MeasureEnd::WriteFault,
+        Ok(()) => End::Done,
+        Err(_) => End::WriteFault,
     }
 }
 
@@ -167,20 +150,22 @@ fn work<R: Threads + Sync, S: Source, O: Sink, G: Gate>(
     input: &mut S,
     output: &mut O,
     gate: &G,
-) -> MeasureEnd
+) -> End
     requires { asks_measure (texts words.now) ≡ true }
-    ensures bytes { (bytes : List ℕ) → MeasureTells (measure_order_of (texts words.now)) (S.left input.old) bytes →
-        MeasureEndBytes (measure_order_of (texts words.now)) bytes (input_use S.left S.ended S.faults input.old input.new)
-        (output_use O.written O.settled O.faults output.old output.new) result }
-    ensures cause { MeasureEndCause (measure_order_of (texts words.now)) (input_use S.left S.ended S.faults input.old input.new)
-        (output_use O.written O.settled O.faults output.old output.new) result }
+    ensures bytes { (bytes : List ℕ) →
+        MeasureTells (measure_order_of (texts words.now)) (S.left input.old) bytes →
+        MeasureEndBytes (measure_order_of (texts words.now)) bytes (use_of_input S.left S.ended S.faults input.old input.new)
+        (use_of_output O.written O.settled O.faults output.old output.new) result }
+    ensures cause { MeasureEndCause (measure_order_of (texts words.now)) (use_of_input S.left S.ended S.faults input.old input.new)
+        (use_of_output O.written O.settled O.faults output.old output.new) result }
     ensures read_later { S.faults input.old ≤ S.faults input.new }
     ensures write_later { O.faults output.old ≤ O.faults output.new }
-    ensures untouched { IsErr (measure_order_of (texts words.now)) → SourceStays S.left S.ended S.faults input.old input.new }
+    ensures untouched { IsErr (measure_order_of (texts words.now)) →
+        SourceStays S.left S.ended S.faults input.old input.new }
 {
     match read_measure(words) {
         Ok(order) => carry_out(rt, alloc, order, input, output, gate),
-        Err(usage) => MeasureEnd::Usage(usage),
+        Err(usage) => End::Usage(usage),
     }
 }
 
@@ -195,33 +180,38 @@ fn run_measure<R: Threads + Sync, S: Source, O: Sink, N: Sink, G: Gate>(
     gate: &G,
 ) -> u8
     requires { asks_measure (texts words.now) ≡ true }
-    ensures status { ForMeasured (texts words.now) (S.left input.old) (λ bytes. IsMeasureStatus (measure_answer (texts words.now) bytes) result) }
+    ensures status { ForMeasured (texts words.now) (S.left input.old)
+        (λ bytes. IsStatus (measure_answer_to_words (texts words.now) bytes) result) }
     ensures writes { result < 3 → ForMeasured (texts words.now) (S.left input.old) (λ bytes.
-        Appends (O.written output.old) (O.written output.new) (measure_answer (texts words.now) bytes).output) }
+        Appends (O.written output.old) (O.written output.new) (measure_answer_to_words (texts words.now) bytes).output) }
     ensures takes { result < 3 → ForMeasured (texts words.now) (S.left input.old) (λ bytes.
-        Took (S.left input.old) (S.left input.new) (measure_answer (texts words.now) bytes).taken) }
+        Took (S.left input.old) (S.left input.new) (measure_answer_to_words (texts words.now) bytes).taken) }
     ensures settled { result ≡ 0 → IsTrue (O.settled output.new) }
-    ensures read_fault { result ≡ 3 → MeasureReadFails (texts words.now) (S.faults input.old) (S.faults input.new)
+    ensures read_fault { result ≡ 3 →
+        MeasureReadFails (texts words.now) (S.faults input.old) (S.faults input.new)
         (O.written output.old) (O.written output.new) }
     ensures read_so_far { result ≡ 3 → ForMeasured (texts words.now) (S.left input.old) (λ bytes.
-        TookAtMost (S.left input.old) (S.left input.new) (measure_answer (texts words.now) bytes).taken) }
+        TookAtMost (S.left input.old) (S.left input.new) (measure_answer_to_words (texts words.now) bytes).taken) }
     ensures write_fault { result ≡ 4 → Rose (O.faults output.old) (O.faults output.new) }
     ensures written_so_far { result ≡ 4 → ForMeasured (texts words.now) (S.left input.old) (λ bytes.
-        CutsMeasure (measure_answer (texts words.now) bytes) (O.written output.old) (O.written output.new)) }
+        CutsAnswer (measure_answer_to_words (texts words.now) bytes) (O.written output.old) (O.written output.new)) }
     ensures taken_before { result ≡ 4 → ForMeasured (texts words.now) (S.left input.old) (λ bytes.
-        Took (S.left input.old) (S.left input.new) (measure_answer (texts words.now) bytes).taken) }
+        Took (S.left input.old) (S.left input.new) (measure_answer_to_words (texts words.now) bytes).taken) }
     ensures memory { result ≡ 5 → Keeps (O.written output.old) (O.written output.new) }
     ensures memory_wanted { result ≡ 5 → ForMeasured (texts words.now) (S.left input.old) (λ bytes.
         MeasureWantsMemory (measure_order_of (texts words.now)) bytes (S.left input.old) (S.left input.new)) }
-    ensures noted { (end : MeasureEnd) × TellsMeasureEnd result (S.ended input.new) (N.written notes.old) (N.written notes.new)
+    ensures noted { (end : End) × TellsEnd result (S.ended input.new) (N.written notes.old) (N.written notes.new)
         (N.settled notes.new) (N.faults notes.old) (N.faults notes.new) end }
     ensures notes { result < 3 → ForMeasured (texts words.now) (S.left input.old) (λ bytes.
         Noted (N.written notes.old) (N.written notes.new) (N.settled notes.new) (N.faults notes.old) (N.faults notes.new)
-        (measure_note (measure_answer (texts words.now) bytes).end)) }
-    ensures complete { (Rose (S.faults input.old) (S.faults input.new) → ⊥) → (Rose (O.faults output.old) (O.faults output.new) → ⊥) →
-        ForMeasured (texts words.now) (S.left input.old) (λ bytes. IsMeasureAnswered (texts words.now) bytes result) }
+        (note_of (measure_answer_to_words (texts words.now) bytes).end)) }
+    ensures complete { (Rose (S.faults input.old) (S.faults input.new) → ⊥) →
+        (Rose (O.faults output.old) (O.faults output.new) → ⊥) →
+        ForMeasured (texts words.now) (S.left input.old)
+        (λ bytes. IsMeasureAnswered (texts words.now) bytes result) }
     ensures usage { IsErr (measure_order_of (texts words.now)) ↔ (result ≡ 1) }
-    ensures untouched { IsErr (measure_order_of (texts words.now)) → SourceStays S.left S.ended S.faults input.old input.new }
+    ensures untouched { IsErr (measure_order_of (texts words.now)) →
+        SourceStays S.left S.ended S.faults input.old input.new }
 {
     let end = work(rt, alloc, words, input, output, gate);
     tell(notes, end);
@@ -243,15 +233,19 @@ pub fn run_all<R: Threads + Sync, S: Source, O: Sink, N: Sink, G: Gate>(
     gate: &G,
 ) -> u8
     // Other words are those of `run`.
-    ensures other { asks_measure (texts words.now) ≡ false → IsRun (texts words.now) (input_use S.left S.ended S.faults input.old input.new)
-        (output_use O.written O.settled O.faults output.old output.new) (output_use N.written N.settled N.faults notes.old notes.new) result }
-    ensures other_untouched { asks_measure (texts words.now) ≡ false → LeavesInput (order_of (texts words.now))
+    ensures other { asks_measure (texts words.now) ≡ false →
+        IsRun (texts words.now) (use_of_input S.left S.ended S.faults input.old input.new)
+        (use_of_output O.written O.settled O.faults output.old output.new) (use_of_output N.written N.settled N.faults notes.old notes.new) result }
+    ensures other_untouched { asks_measure (texts words.now) ≡ false →
+        LeavesInput (order_of (texts words.now))
         → SourceStays S.left S.ended S.faults input.old input.new }
 
     // Where the first word is `measure` the run is by the verdict on both images.
-    ensures measure { asks_measure (texts words.now) ≡ true → IsMeasureRun (texts words.now) (input_use S.left S.ended S.faults input.old input.new)
-        (output_use O.written O.settled O.faults output.old output.new) (output_use N.written N.settled N.faults notes.old notes.new) result }
-    ensures measure_untouched { asks_measure (texts words.now) ≡ true → IsErr (measure_order_of (texts words.now))
+    ensures measure { asks_measure (texts words.now) ≡ true →
+        IsMeasureRun (texts words.now) (use_of_input S.left S.ended S.faults input.old input.new)
+        (use_of_output O.written O.settled O.faults output.old output.new) (use_of_output N.written N.settled N.faults notes.old notes.new) result }
+    ensures measure_untouched { asks_measure (texts words.now) ≡ true →
+        IsErr (measure_order_of (texts words.now))
         → SourceStays S.left S.ended S.faults input.old input.new }
 {
     if is_measure(words) {

@@ -5,9 +5,6 @@ use Rattle.comp_tree.specs.declared.shape.Shape.{Shape}
 use Rattle.comp_tree.specs.Limits.{IsInHalfRange}
 use Rattle.comp_tree.specs.Raster.{Raster, HasValuesInHalfRange, raster_of}
 
-pub half_range-none : HasValuesInHalfRange []
-half_range-none = record { each = λ p v e. absurd (cc) }
-
 -- one value more
 pub half_range-push : (xs : List (Option ℤ)) (pixel : Option ℤ) → HasValuesInHalfRange xs → IfSome pixel IsInHalfRange → HasValuesInHalfRange (xs ++ pixel ∷ [])
 half_range-push xs pixel h small = record { each = pushed xs h.each }
@@ -24,7 +21,8 @@ half_range-push xs pixel h small = record { each = pushed xs h.each }
     pushed (y ∷ ys) each (suc p) v e = pushed ys (λ q w k. each (suc q) w k) p v e
 
 -- the plane has these values
-pub half_range-of : (shape : Shape) (values : List (Option ℤ)) (r : Raster) → raster_of shape values ≡ Some r → HasValuesInHalfRange values → HasValuesInHalfRange r.values
+pub half_range-of : (shape : Shape) (values : List (Option ℤ)) (r : Raster) → raster_of shape values ≡ Some r → HasValuesInHalfRange values
+    → HasValuesInHalfRange r.values
 unfolding raster_of
 half_range-of shape values r e h = go _ e
   where

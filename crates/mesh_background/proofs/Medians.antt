@@ -1,5 +1,7 @@
 -- The lower median by counts is unique, exists, and is the one that the test finds.
-use Rattle.std.proofs.Common.{◌≡◌, ℕ, ◌+◌, ◌-◌, ◌/◌, ◌<◌, ◌≤◌, zero, suc, Bool, true, false, cond, List, [], ◌∷◌, ◌++◌, length, take, drop, get_or, refl, sym, ap, subst, ◌∙◌, arith, IsPermutation, length-drop, length-append, append_assoc, get_or-take, get_or-drop, take-append-drop}
+use Rattle.std.proofs.Common.{◌≡◌, ℕ, ◌+◌, ◌-◌, ◌/◌, ◌<◌, ◌≤◌, zero, suc, Bool, true, false, cond, List, [], ◌∷◌, ◌++◌, length, take, drop, get_or, refl}
+use Rattle.std.proofs.Common.{sym, ap, subst, ◌∙◌, arith, IsPermutation, length-drop, length-append, append_assoc, get_or-take, get_or-drop}
+use Rattle.std.proofs.Common.{take-append-drop}
 use Rattle.std.specs.Prelude.{ℤ, pos, ◌≤ℤ◌, ◌<ℤ◌, int_lt, int_le, nat_lt, nat_le, find, Option, Some, None, Contains, IsSome, IsTrue}
 use Rattle.std.specs.List.{All}
 use Rattle.std.specs.List.Sorted.{IsSplitAround}
@@ -10,8 +12,10 @@ use Rattle.std.proofs.lemmas.Int.{ints, by_lt_z}
 use Rattle.std.specs.Int.Signed.{≤ℤ_refl}
 use Rattle.std.proofs.lemmas.List.{length-take-le, get_or_default}
 use Rattle.std.proofs.lemmas.List.Elements.{All-nil, All-cons, All-append, All-weaker}
-use Rattle.std.proofs.lemmas.List.Sorted.{IsPermutation-sym, IsPermutation-trans, IsPermutation-cons, IsPermutation-middle, IsPermutation-refl, All-permutation, Contains-permutation, sum_by-IsPermutation, length_permutation}
-use Rattle.lemmas.proofs.Exported.{IsAmong, among_at_place, contains_from_among, find_none, find_some, int_le-from, int_le-true, int_lt-false, int_lt-from, int_lt-from_not_le, int_lt-true}
+use Rattle.std.proofs.lemmas.List.Sorted.{IsPermutation-sym, IsPermutation-trans, IsPermutation-cons, IsPermutation-middle, IsPermutation-refl}
+use Rattle.std.proofs.lemmas.List.Sorted.{All-permutation, Contains-permutation, sum_by-IsPermutation, length_permutation}
+use Rattle.lemmas.proofs.Exported.{IsAmong, among_at_place, contains_from_among, find_none, find_some, int_le-from, int_le-true, int_lt-false, int_lt-from}
+use Rattle.lemmas.proofs.Exported.{int_lt-from_not_le, int_lt-true}
 use Rattle.mesh_background.specs.Medians.{lower_half, count_less, count_up_to, IsLowerMedian, splits_in_half, lower_median}
 use Rattle.mesh_background.specs.Laws.{LowerMedianIsTheOne, SomeMemberIsLowerMedian}
 use Rattle.mesh_background.proofs.Counts.{count-weaker, count_most, count_least}

@@ -9,7 +9,8 @@ use Rattle.std.proofs.lemmas.Bool.{and_parts, and_from, leb-true, le-leb, eqb-tr
 use Rattle.std.proofs.lemmas.Nat.{div-add-mod', div-mul-add, mod-mul-add, mod_below, div_below, mul-add-lt, same_from_place}
 use Rattle.std.proofs.lemmas.List.{length-map}
 use Rattle.std.proofs.lemmas.List.FromFn.{get_or-map-range_with_len}
-use Rattle.lemmas.proofs.Exported.{ArePaired, HasPartnerIn, IsAmong, IsRising, among-filter, among-range, among_from_filter, among_from_range, not_empty, paired_filter, paired_flat_map, paired_from_rising, paired_map, rising-pixels}
+use Rattle.lemmas.proofs.Exported.{ArePaired, HasPartnerIn, IsAmong, IsRising, among-filter, among-range, among_from_filter, among_from_range, not_empty}
+use Rattle.lemmas.proofs.Exported.{paired_filter, paired_flat_map, paired_from_rising, paired_map, rising-pixels}
 use Rattle.comp_tree.specs.declared.shape.Shape.{Shape}
 use Rattle.comp_tree.specs.Raster.{Raster, IsPlane, pixels, value_at, is_defined, level}
 use Rattle.comp_tree.specs.Windows.{Window, IsInside, in_whole, seen_through}

@@ -35,8 +35,8 @@ pub fn mesh_values<R: Threads + Sync>(
     filled(alloc, &medians, otherwise)
 }
 
-// The lower median of each cell that has a defined pixel. To sort a cell is work enough for a thread, so even a few cells are
-// split up: without that, a thousand of them would be one piece.
+// The lower median of each cell that has a defined pixel. To sort a cell is work enough for a thread, so even a few
+// cells are split up: without that, a thousand of them would be one piece.
 fn cell_medians<R: Threads + Sync>(
     rt: &R,
     alloc: Global,

@@ -7,7 +7,7 @@ ghost use Rattle.mesh_background.specs.Slopes.{first_before};
 
 use comp_tree::Shape;
 
-/// A mesh over an image of some shape, which it cuts from pixel 0 into cells of `mesh` by `mesh` pixels.
+// A mesh over an image of some shape, which it cuts from pixel 0 into cells of `mesh` by `mesh` pixels.
 #[derive(Clone, Copy)]
 pub(crate) struct Grid {
     pub(crate) shape: Shape,
@@ -20,7 +20,7 @@ pub(crate) struct Grid {
     pub ghost rows_is: { rows ≡ cells_along mesh shape.height },
 }
 
-/// The pixels of one cell: those in the columns from `left` up to `right` and in the rows from `top` up to `bottom`.
+// The pixels of one cell: those in the columns from `left` up to `right` and in the rows from `top` up to `bottom`.
 #[derive(Clone, Copy)]
 pub(crate) struct Cell {
     pub(crate) left: u32,
@@ -44,7 +44,7 @@ impl Grid {
         }
     }
 
-    /// How many cells there are: at most as many as pixels.
+    // How many cells there are: at most as many as pixels.
     pub(crate) fn cells(&self) -> u32
         ensures count { result ≡ cell_count self.now.mesh self.now.shape }
         ensures few { result ≤ 2 ^ 24 }
@@ -52,7 +52,7 @@ impl Grid {
         self.columns * self.rows
     }
 
-    /// The column of pixels from which on `next` is the first column of cells whose centre lies past theirs.
+    // The column of pixels from which on `next` is the first column of cells whose centre lies past theirs.
     pub(crate) fn run_start(&self, next: u32) -> u32
         requires { next ≤ self.now.columns + 1 }
         ensures { result ≡ first_before self.now.mesh self.now.shape.width next }
@@ -61,7 +61,7 @@ impl Grid {
         ((next * self.mesh).max(half) - half).min(self.shape.width)
     }
 
-    /// The pixels of a cell. Those at the right and at the bottom may be short.
+    // The pixels of a cell. Those at the right and at the bottom may be short.
     pub(crate) fn cell(&self, number: u32) -> Cell
         requires { number < cell_count self.now.mesh self.now.shape }
         ensures { IsCell self.now.mesh self.now.shape.width self.now.shape.height number

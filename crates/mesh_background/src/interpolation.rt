@@ -9,9 +9,10 @@ ghost use Rattle.mesh_background.specs.Slopes.{in_parts, IsSmallStep};
 
 use crate::slope::Mixed;
 
-/// The level at the pixel in column `x` of row `y`, between the numbers of the four cells whose centres lie around it: bilinear, in
-/// whole numbers, rounded towards minus infinity. `values` has one number for each cell, row by row; the centre of a cell is that
-/// of a full one of `mesh` by `mesh` pixels. Where there is no cell on one side, the last one is taken in its place.
+/// The level at the pixel in column `x` of row `y`, between the numbers of the four cells whose centres lie around it:
+/// bilinear, in whole numbers, rounded towards minus infinity. `values` has one number for each cell, row by row; the
+/// centre of a cell is that of a full one of `mesh` by `mesh` pixels. Where there is no cell on one side, the last one
+/// is taken in its place.
 pub fn level_at(values: &[i64], columns: u32, rows: u32, mesh: u32, x: u32, y: u32) -> i64
     requires some_columns { 0 < columns }
     requires some_rows { 0 < rows }
@@ -30,7 +31,7 @@ pub fn level_at(values: &[i64], columns: u32, rows: u32, mesh: u32, x: u32, y: u
     level_between(mesh, across.past, before, after).floor
 }
 
-/// Where the centre of a pixel lies along a side: between those of two cells, `past` half pixels behind the first one's.
+// Where the centre of a pixel lies along a side: between those of two cells, `past` half pixels behind the first one's.
 #[derive(Clone, Copy)]
 pub(crate) struct Between {
     pub(crate) before: u32,
@@ -62,7 +63,7 @@ impl Between {
     }
 }
 
-/// In one column of cells the number at a pixel between two rows of cells, times twice the mesh.
+// In one column of cells the number at a pixel between two rows of cells, times twice the mesh.
 pub(crate) fn down_column(
     values: &[i64],
     columns: u32,
@@ -96,8 +97,8 @@ fn on_the_way(whole: u32, part: u32, p: i64, q: i64) -> i64
     i64::from(whole - part) * p + i64::from(part) * q
 }
 
-/// The level that lies `part` of twice the mesh on the way from `p` to `q`, which are such numbers of two columns of cells: a mixed
-/// number of `parts_of(mesh)` parts.
+// The level that lies `part` of twice the mesh on the way from `p` to `q`, which are such numbers of two columns of
+// cells: a mixed number of `parts_of(mesh)` parts.
 pub(crate) fn level_between(mesh: u32, part: u32, p: i64, q: i64) -> Mixed
     requires some { 0 < mesh }
     requires few { mesh ≤ 65535 }
@@ -111,7 +112,7 @@ pub(crate) fn level_between(mesh: u32, part: u32, p: i64, q: i64) -> Mixed
     Mixed::of(scaled, parts_of(mesh))
 }
 
-/// How much such a level rises from one pixel of a row to the next.
+// How much such a level rises from one pixel of a row to the next.
 pub(crate) fn step_between(mesh: u32, p: i64, q: i64) -> Mixed
     requires some { 0 < mesh }
     requires few { mesh ≤ 65535 }
@@ -124,7 +125,7 @@ pub(crate) fn step_between(mesh: u32, p: i64, q: i64) -> Mixed
     Mixed::of(2 * (i128::from(q) - i128::from(p)), parts_of(mesh))
 }
 
-/// How many parts a unit of these levels has.
+// How many parts a unit of these levels has.
 pub(crate) fn parts_of(mesh: u32) -> u64
     requires some { 0 < mesh }
     requires few { mesh ≤ 65535 }

@@ -1,5 +1,5 @@
-//! The laws of the lower median, of the cells, of the interpolation and of the residual. Each part is the contract of a function
-//! that does nothing, and speaks of the definitions alone.
+//! The laws of the lower median, of the cells, of the interpolation and of the residual. Each part is the contract of a
+//! function that does nothing, and speaks of the definitions alone.
 
 ghost use Rattle.mesh_background.specs.Windows.{BackgroundIsSeen, ResidualIsSeen, ResidualIsShown, ClearIsToldFromTheWindow};
 ghost use Rattle.mesh_background.specs.Laws.{LowerMedianIsTheOne, SomeMemberIsLowerMedian, CellsAreSquares, PixelsLieBetweenCentres, LevelsStayBetween, NoMeshLeavesThePlane, ResidualIsPlane, ResidualIsInRange};
@@ -10,8 +10,8 @@ pub fn each_list_has_one_lower_median()
     ensures some { SomeMemberIsLowerMedian }
 {}
 
-/// A cell is a square of the mesh: two pixels lie in one cell exactly where their columns, and their rows, have one quotient by
-/// its size.
+/// A cell is a square of the mesh: two pixels lie in one cell exactly where their columns, and their rows, have one
+/// quotient by its size.
 #[tactic(auto, using(crate::proofs::Extents::cells_are_squares))]
 pub fn cells_are_squares()
     ensures { CellsAreSquares }
@@ -40,9 +40,9 @@ pub fn residual_is_a_plane()
     ensures in_range { ResidualIsInRange }
 {}
 
-/// Where a window's corner stands on the mesh, and the cells on which a pixel's background depends lie whole in the window and
-/// have defined pixels, the background and the residual are the same in the window. So its residual shows that of the whole
-/// there, and which pixels these are can be told from the window.
+/// Where a window's corner stands on the mesh, and the cells on which a pixel's background depends lie whole in the
+/// window and have defined pixels, the background and the residual are the same in the window. So its residual shows
+/// that of the whole there, and which pixels these are can be told from the window.
 pub fn residual_is_seen()
     ensures background { BackgroundIsSeen }
     ensures residual { ResidualIsSeen }

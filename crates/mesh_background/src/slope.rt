@@ -1,11 +1,11 @@
-//! Levels that rise by the same part of a unit from pixel to pixel. To carry along what is left of a division costs a comparison
-//! for each pixel, and not a division.
+//! Levels that rise by the same part of a unit from pixel to pixel. To carry along what is left of a division costs a
+//! comparison for each pixel, and not a division.
 
 ghost use Rattle.std.specs.Prelude.{◌≡◌, ◌+◌, ◌*◌, ◌<◌, ◌≤◌, ◌^◌, ◌+ℤ◌};
 ghost use Rattle.comp_tree.specs.Limits.{IsInHalfRange};
 ghost use Rattle.mesh_background.specs.Slopes.{in_parts, IsSmallStep, IsSmallTimes};
 
-/// A mixed number: so many units and, above them, so many parts of one, less than a whole.
+// A mixed number: so many units and, above them, so many parts of one, less than a whole.
 #[derive(Clone, Copy)]
 pub(crate) struct Mixed {
     pub(crate) floor: i64,
@@ -13,7 +13,7 @@ pub(crate) struct Mixed {
 }
 
 impl Mixed {
-    /// So many parts, of which a unit has `parts`.
+    // So many parts, of which a unit has `parts`.
     pub(crate) fn of(scaled: i128, parts: u64) -> Mixed
         requires some { 0 < parts }
         requires few { parts ≤ 2 ^ 60 }
@@ -30,7 +30,7 @@ impl Mixed {
         }
     }
 
-    /// The sum of a level and a step.
+    // The sum of a level and a step.
     pub(crate) fn plus(self, step: Mixed, parts: u64) -> Mixed
         requires parts { parts ≤ 2 ^ 60 }
         requires level { IsInHalfRange self.floor }

@@ -10,8 +10,8 @@ use std::alloc::Global;
 // How many cells a cell and those around it are, at most.
 const MOST_AROUND: usize = 9;
 
-/// The filtered numbers of a grid of cells, row by row: for each cell the lower median of its own number and of those of the cells
-/// around it, also across a corner. At the edge of the grid there are fewer.
+/// The filtered numbers of a grid of cells, row by row: for each cell the lower median of its own number and of those
+/// of the cells around it, also across a corner. At the edge of the grid there are fewer.
 ///
 /// The one error is that memory was refused.
 pub fn smooth_mesh(

@@ -21,12 +21,12 @@ use std::thread::Threads;
 
 /// The residual of a plane under a mesh: each defined pixel less its background. Undefined pixels stay undefined.
 ///
-/// Where the order is `flat`, the background is the number of the pixel's cell. Else the numbers of the cells are filtered, each
-/// by the lower median of itself and those around it, and the background is the level between the four cells whose centres lie
-/// around the pixel's. With mesh 0 it is 0 everywhere, so the residual equals the plane.
+/// Where the order is `flat`, the background is the number of the pixel's cell. Else the numbers of the cells are
+/// filtered, each by the lower median of itself and those around it, and the background is the level between the four
+/// cells whose centres lie around the pixel's. With mesh 0 it is 0 everywhere, so the residual equals the plane.
 ///
-/// The one error is that memory was refused. Where the plane itself isn't needed any more, `subtract_background` makes no
-/// second one.
+/// The one error is that memory was refused. Where the plane itself isn't needed any more, `subtract_background` makes
+/// no second one.
 pub fn residual<R: Threads + Sync>(
     rt: &R,
     alloc: Global,
@@ -142,8 +142,8 @@ fn lessen_row_by_levels(plane: &mut Plane, grid: &Grid, numbers: &[i64], y: u32)
     }
 }
 
-// The same for those pixels of a row that lie between the same two columns of cells, of which the second one is `next`. There the
-// level rises evenly, so there is no division for each pixel.
+// The same for those pixels of a row that lie between the same two columns of cells, of which the second one is `next`.
+// There the level rises evenly, so there is no division for each pixel.
 fn lessen_run_by_levels(
     plane: &mut Plane,
     grid: &Grid,
@@ -185,8 +185,8 @@ fn lessen_run_by_levels(
     );
 }
 
-// Takes levels away from the values of the pixels from `first` up to `end`: from the first one this one, from the next one a step
-// more, and so on.
+// Takes levels away from the values of the pixels from `first` up to `end`: from the first one this one, from the next
+// one a step more, and so on.
 fn lessen_slope(plane: &mut Plane, first: u32, end: u32, level: Mixed, step: Mixed, parts: u64)
     requires order { first ≤ end }
     requires within { end ≤ length plane.old.values }

@@ -128,9 +128,9 @@ fn the_filter_looks_at_the_rows_above_and_below(rt: HostRuntime) -> Result<(), F
     Ok(())
 }
 
-// The cells of the first plane have the numbers 1, 9, 5, 9, 3 and 3; the second plane is its window from the third cell on. From
-// pixel 7 on the background depends on cells of the window alone, and the residual is the same. Pixel 6 has one cell of margin,
-// which isn't enough.
+// The cells of the first plane have the numbers 1, 9, 5, 9, 3 and 3; the second plane is its window from the third cell
+// on. From pixel 7 on the background depends on cells of the window alone, and the residual is the same. Pixel 6 has
+// one cell of margin, which isn't enough.
 #[test]
 fn residual_of_a_window(rt: HostRuntime) -> Result<(), Fail> {
     let plane = plane_of(rt.alloc(), 12, 1, &[1, 1, 9, 9, 5, 5, 9, 9, 3, 3, 3, 3])?;
@@ -156,7 +156,8 @@ fn smooth_residual_below_zero(rt: HostRuntime) -> Result<(), Fail> {
     try_residual(&rt, rt.alloc(), &plane, 2, false, &[0, -2, 3, 0, 10, 10])
 }
 
-// The last of three cells has one row, but the centre of a full one. The filtered numbers are 6 6 0, the background 6 6 6 6 6 4 2.
+// The last of three cells has one row, but the centre of a full one. The filtered numbers are 6 6 0, the background 6 6
+// 6 6 6 4 2.
 #[test]
 fn a_short_last_cell_keeps_its_centre(rt: HostRuntime) -> Result<(), Fail> {
     let plane = plane_of(rt.alloc(), 1, 7, &[6, 6, 6, 9, 9, 9, 0])?;

@@ -1,3 +1,5 @@
+//! The sums of all nodes: each pixel is added at its smallest node, and each node at its parent.
+
 ghost use Rattle.std.specs.Prelude.{◌≡◌, [], ℕ, ◌+◌, ◌*◌, ◌<◌, IsTrue, IfOk, length, slice_index, replicate};
 ghost use Rattle.comp_tree.specs.declared.shape.Connect.{Connect};
 ghost use Rattle.comp_tree.specs.Raster.{Raster, IsPlane, HasValuesInRange, pixels, is_defined};

@@ -12,8 +12,9 @@ use comp_tree::{NONE, Plane, Tree};
 use dev_io::OutOfMemory;
 use std::alloc::Global;
 
-/// The area of each node of a plane's tree in pixels, in the order of their numbers: one pass over the pixels' nodes, without
-/// a look at a value, and one over the nodes from the last to the first. The one error is that memory was refused.
+/// The area of each node of a plane's tree in pixels, in the order of their numbers: one pass over the pixels' nodes,
+/// without a look at a value, and one over the nodes from the last to the first. The one error is that memory was
+/// refused.
 pub fn areas(alloc: Global, plane: &Plane, tree: &Tree) -> Result<Vec<u32>, OutOfMemory>
     requires { IsTreeOfPlane plane.now tree.now }
     ensures exact { IfOk result (λ areas. (connect : Connect) → tree.now ≡ tree_of plane.now connect

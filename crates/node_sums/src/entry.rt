@@ -1,3 +1,5 @@
+//! The sums over the pixels of one node.
+
 ghost use Rattle.std.specs.Prelude.{◌≡◌, [], ◌≤◌};
 ghost use Rattle.comp_tree.specs.Limits.{IsWithinRange};
 ghost use Rattle.comp_tree.specs.Raster.{Raster};

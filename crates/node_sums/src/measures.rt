@@ -1,3 +1,5 @@
+//! What follows from the sums of a node: its base and its flux.
+
 ghost use Rattle.std.specs.Prelude.{◌≡◌, ◌<◌, pos, ◌-ℤ◌, ◌*ℤ◌, ◌≤ℤ◌, length, slice_get, Some};
 ghost use Rattle.node_sums.specs.declared.entry.Sums.{Sums as Entry};
 ghost use Rattle.node_sums.specs.Sums.{AreTheTrees, ForEachPlaneOf};

@@ -1,3 +1,5 @@
+//! Small planes with their nodes, areas, sums and fluxes.
+
 ghost use Rattle.std.specs.Prelude.{◌<◌, length};
 ghost use Rattle.node_sums.specs.Sums.{AreTheTrees};
 
@@ -95,6 +97,33 @@ fn sums_and_fluxes_of_small_planes(rt: HostRuntime) -> Result<(), Fail> {
                 ymax: 2,
                 first: 0,
                 peak: 4,
+            },
+        },
+        // a root alone
+        Case {
+            width: 2,
+            height: 1,
+            connect: Connect::Four,
+            values: &[5, 5],
+            nodes: &[(5, 5, 0)],
+            areas: &[2],
+            node: 0,
+            sums: Sums {
+                area: 2,
+                r: 10,
+                x: 3,
+                y: 2,
+                xx: 5,
+                xy: 3,
+                yy: 2,
+                rx: 15,
+                ry: 10,
+                xmin: 1,
+                xmax: 2,
+                ymin: 1,
+                ymax: 1,
+                first: 0,
+                peak: 5,
             },
         },
     ];

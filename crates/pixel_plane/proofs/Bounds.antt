@@ -1,11 +1,12 @@
 -- A number of 64 bits is compared with the bounds of the values, less BZERO.
 use Rattle.std.proofs.Common.{◌≡◌, ◌^◌, ℤ, pos, neg_ℤ, ◌+ℤ◌, ◌-ℤ◌, ◌≤ℤ◌, ◌<ℤ◌, Bool, true, false, refl, ◌∙◌, ap, arith}
-use Rattle.std.specs.Prelude.{int_le, int_lt, not, Some, None, ◌&&◌}
+use Rattle.std.specs.Prelude.{int_le, int_lt, Some, None}
 use Rattle.std.specs.declared.option.Option.{Option}
 use Rattle.std.specs.Option.{option_eq}
 use Rattle.std.specs.Ordering.{int_eq}
 use Rattle.std.proofs.lemmas.Int.{ints, by_lt_z}
 use Rattle.comp_tree.proofs.Exported.{int_le-from, int_le-true, int_le-false, int_lt-from, int_lt-false, int_eq-true, int_eq_refl}
+use Rattle.lemmas.proofs.Exported.{both_true}
 use Rattle.comp_tree.specs.Limits.{IsInHalfRange}
 use Rattle.pixel_plane.specs.Stored.{is_out_of_range, is_blank, value_stored_as}
 use Rattle.pixel_plane.specs.Sizes.{IsFarNumber}
@@ -24,16 +25,8 @@ high_test zero stored low = by_lt_z (pos (2 ^ 36) -ℤ zero) stored
     over : int_le (neg_ℤ (pos (2 ^ 36))) (zero +ℤ stored) ≡ true
     over = int_le-from (neg_ℤ (pos (2 ^ 36))) (zero +ℤ stored) (omega (arith, ints, low))
 
-pub low_test : (zero stored : ℤ) → stored <ℤ (neg_ℤ (pos (2 ^ 36)) -ℤ zero) → true ≡ is_out_of_range (Some (zero +ℤ stored))
-low_test zero stored h = let under : int_le (neg_ℤ (pos (2 ^ 36))) (zero +ℤ stored) ≡ false = int_le-false (neg_ℤ (pos (2 ^ 36))) (zero +ℤ stored) (omega (arith, ints)) in rw under refl
-
 pub not_below : (a b : ℤ) → int_lt a b ≡ false → b ≤ℤ a
 not_below a b h = by_lt_z a b (λ (l : a <ℤ b). let t : int_lt a b ≡ true = int_lt-from a b l in absurd (cc)) (λ l. l)
-
-both_true : (a b : Bool) → not (a && b) ≡ false → (a ≡ true) × (b ≡ true)
-both_true true true h = (refl, refl)
-both_true true false h = absurd (cc)
-both_true false b h = absurd (cc)
 
 -- a value that isn't out of range
 pub half_range_of : (value : ℤ) → is_out_of_range (Some value) ≡ false → IsInHalfRange value
@@ -51,7 +44,8 @@ not_blank (Some b) number h = go (int_eq number b) refl
     go true e = let k : option_eq int_eq (Some number) (Some number) ≡ false = ap (λ x. option_eq int_eq (Some x) (Some number)) (int_eq-true number b e) ∙ h in
         let r : int_eq number number ≡ true = int_eq_refl number in absurd (cc)
 
-pub unless_blank : (zero : ℤ) (blank : Option ℤ) (number : ℤ) → option_eq int_eq blank (Some number) ≡ false → value_stored_as zero blank number ≡ Some (zero +ℤ number)
+pub unless_blank : (zero : ℤ) (blank : Option ℤ) (number : ℤ) → option_eq int_eq blank (Some number) ≡ false
+    → value_stored_as zero blank number ≡ Some (zero +ℤ number)
 unless_blank zero blank number h = rw (not_blank blank number h) refl
 
 pub far_number : (zero : ℤ) (blank : Option ℤ) (number : ℤ) → option_eq int_eq blank (Some number) ≡ false → is_out_of_range (Some (zero +ℤ number)) ≡ true

@@ -1,5 +1,6 @@
 -- The pixels are read one after the other.
-use Rattle.std.proofs.Common.{◌≡◌, ℕ, ◌+◌, ◌-◌, ◌*◌, ◌<◌, ◌≤◌, ◌⊎◌, List, length, take, drop, take_all, Option, None, ℤ, pos, ◌∙◌, ap, sym, subst, arith, slice_set, inl, inr, ⊎_elim, zero, suc, get_or, refl, mul-le-mul_right, suc-mul, length-drop, IsTrue, true, ◌==◌, ◌||◌}
+use Rattle.std.proofs.Common.{◌≡◌, ℕ, ◌+◌, ◌-◌, ◌*◌, ◌<◌, ◌≤◌, ◌⊎◌, List, length, take, drop, take_all, Option, None, ℤ, pos, ◌∙◌, ap, sym, subst, arith}
+use Rattle.std.proofs.Common.{slice_set, inl, inr, ⊎_elim, zero, suc, get_or, refl, mul-le-mul_right, suc-mul, length-drop, IsTrue, true, ◌==◌, ◌||◌}
 use Rattle.std.specs.Int.{w16, w32, w64, cast_signed}
 use Rattle.std.proofs.lemmas.Bool.{or_cases}
 use Rattle.std.proofs.lemmas.Bool.Decides.{nat_tests}
@@ -11,8 +12,9 @@ use Rattle.std.proofs.lemmas.List.{get_or-set_same, get_or-set_other}
 use Rattle.comp_tree.specs.Raster.{value_at, HasValuesInHalfRange}
 use Rattle.pixel_plane.specs.declared.encoding.Encoding.{Encoding}
 use Rattle.pixel_plane.specs.Decoding.{decoded, IsDecoded, IsFar, FarInside, FarRead, ReadSoFar, BytesStopped, RestStopped, PixelsStopped}
-use Rattle.pixel_plane.specs.declared.fault.PlaneFault.{PlaneFault}
-use Rattle.pixel_plane.specs.declared.fault.PlaneFault.TheVariants.{TruncatedData, PixelRange, ReadFault, OutOfMemory}
+use Rattle.pixel_plane.specs.declared.fault.PlaneFault.TheVariants.{TruncatedData, PixelRange}
+use Rattle.pixel_plane.specs.declared.fault.PlaneStop.{PlaneStop}
+use Rattle.pixel_plane.specs.declared.fault.PlaneStop.TheVariants.{Fault, ReadFault, OutOfMemory}
 use Rattle.pixel_plane.specs.Stored.{stored_number, value_stored_as, pixel_at, is_out_of_range}
 use Rattle.pixel_plane.specs.Sizes.{is_number_size, IsFarNumber}
 use Rattle.pixel_plane.proofs.HalfRange.{none_far}
@@ -64,7 +66,8 @@ big_from-take i (suc n) m bytes fits =
     rw (first, others) refl
 
 -- a number is in its first bytes
-number_in_front : (size m : ℕ) (bytes : List ℕ) → size ≡ 1 ⊎ (size ≡ 2 ⊎ (size ≡ 4 ⊎ size ≡ 8)) → size ≤ m → stored_number size (take m bytes) ≡ stored_number size bytes
+number_in_front : (size m : ℕ) (bytes : List ℕ) → size ≡ 1 ⊎ (size ≡ 2 ⊎ (size ≡ 4 ⊎ size ≡ 8)) → size ≤ m
+    → stored_number size (take m bytes) ≡ stored_number size bytes
 number_in_front size m bytes (inl e) fits = rw e (ap pos (get_or-take m bytes 0 0 (omega (arith, e, fits))))
 number_in_front size m bytes (inr (inl e)) fits = rw e (ap (cast_signed w16) (big_from-take 0 2 m bytes (omega (arith, e, fits))))
 number_in_front size m bytes (inr (inr (inl e))) fits = rw e (ap (cast_signed w32) (big_from-take 0 4 m bytes (omega (arith, e, fits))))
@@ -95,16 +98,19 @@ decoded_there encoding bytes first p end low high = ap (value_stored_as encoding
 
 -- the bytes from a place on to the end
 pub value_from : (encoding : Encoding) (bytes : List ℕ) (k : ℕ)
-    → value_stored_as encoding.zero encoding.blank (stored_number encoding.size (take (length bytes - k * encoding.size) (drop (k * encoding.size) bytes))) ≡ decoded encoding bytes k
+    → value_stored_as encoding.zero encoding.blank (stored_number encoding.size (take (length bytes - k * encoding.size) (drop (k * encoding.size) bytes)))
+    ≡ decoded encoding bytes k
 unfolding pixel_at
 value_from encoding bytes k =
     ap (λ xs. value_stored_as encoding.zero encoding.blank (stored_number encoding.size xs)) (take_rest bytes (k * encoding.size))
 
 pub far_from : (encoding : Encoding) (bytes : List ℕ) (k : ℕ) (stored : ℤ) → encoding.size ≡ 8
-    → IsFarNumber encoding.zero encoding.blank stored (stored_number encoding.size (take (length bytes - k * encoding.size) (drop (k * encoding.size) bytes))) → IsFar encoding bytes k stored
+    → IsFarNumber encoding.zero encoding.blank stored (stored_number encoding.size (take (length bytes - k * encoding.size) (drop (k * encoding.size) bytes)))
+    → IsFar encoding bytes k stored
 unfolding pixel_at
 far_from encoding bytes k stored wide far =
-    let rest : take (length bytes - k * encoding.size) (drop (k * encoding.size) bytes) ≡ drop (k * encoding.size) bytes = take_rest bytes (k * encoding.size) in
+    let rest : take (length bytes - k * encoding.size) (drop (k * encoding.size) bytes) ≡ drop (k * encoding.size) bytes =
+    take_rest bytes (k * encoding.size) in
     record {
       wide = wide;
       number = far.same ∙ ap (stored_number encoding.size) rest;
@@ -123,7 +129,8 @@ filled encoding bytes left' first end buf size fills =
     sym (take_all (length buf) buf (omega arith)) ∙ fills.front ∙ ap (λ k. take k (drop (first * encoding.size) bytes)) size
 
 -- its bytes are taken
-pub taken_to : (encoding : Encoding) (bytes : List ℕ) (left left' : Option (List ℕ)) (first end : ℕ) (buf : List ℕ) → first ≤ end → length buf ≡ (end - first) * encoding.size
+pub taken_to : (encoding : Encoding) (bytes : List ℕ) (left left' : Option (List ℕ)) (first end : ℕ) (buf : List ℕ) → first ≤ end
+    → length buf ≡ (end - first) * encoding.size
     → Takes bytes left (first * encoding.size) → Fills (drop (first * encoding.size) bytes) left' (length buf) buf → Takes bytes left' (end * encoding.size)
 taken_to encoding bytes left left' first end buf order size before fills =
     subst (Takes bytes left') total (Takes-after bytes left left' (first * encoding.size) (length buf) before fills.takes)
@@ -146,41 +153,44 @@ pub read_more : (encoding : Encoding) (bytes : List ℕ) (left left' : Option (L
     → Fills (drop (first * encoding.size) bytes) left' (length buf) buf → IsDecoded encoding buf first end old new → ReadSoFar encoding bytes left' new end
 read_more encoding bytes left left' first end buf old new order size before fills next = record {
   takes = taken_to encoding bytes left left' first end buf order size before.takes fills;
-  are_decoded = read_up_to encoding bytes first end end buf old new (omega arith) (filled encoding bytes left' first end buf size fills) before.are_decoded next;
+  are_decoded = read_up_to encoding bytes first end end buf old new (omega arith) (filled encoding bytes left' first end buf size fills) before.are_decoded
+      next;
 }
 
 -- ---- a reading that stops
 
 -- at further bytes
-pub stopped_after : (bytes : List ℕ) (left left' : Option (List ℕ)) (m n total : ℕ) (fault : PlaneFault) → m + n ≤ total → Takes bytes left m
-    → BytesStopped n (drop m bytes) left' fault → BytesStopped total bytes left' fault
-stopped_after bytes left left' m n total TruncatedData room before (short, takes) =
+pub stopped_after : (bytes : List ℕ) (left left' : Option (List ℕ)) (m n total : ℕ) (stop : PlaneStop) → m + n ≤ total → Takes bytes left m
+    → BytesStopped n (drop m bytes) left' stop → BytesStopped total bytes left' stop
+stopped_after bytes left left' m n total (Fault TruncatedData) room before (short, takes) =
     let all : m + length (drop m bytes) ≡ length bytes = omega (arith, length-drop m bytes, before.within) in
     (omega (arith, all, short, room), subst (Takes bytes left') all (Takes-after bytes left left' m (length (drop m bytes)) before takes))
 stopped_after bytes left left' m n total ReadFault room before lost =
     let after = TakesAtMost-after bytes left left' m n before lost in
     record { count = after.count; few = omega (arith, after.few, room); takes = after.takes }
 stopped_after bytes left left' m n total OutOfMemory room before stopped = absurd stopped
-stopped_after bytes left left' m n total (PixelRange pixel stored) room before stopped = absurd stopped
+stopped_after bytes left left' m n total (Fault (PixelRange pixel stored)) room before stopped = absurd stopped
 
 -- so do the pixels
-pub pixels_stopped : (encoding : Encoding) (count : ℕ) (bytes : List ℕ) (left : Option (List ℕ)) (fault : PlaneFault) → BytesStopped (count * encoding.size) bytes left fault
-    → PixelsStopped encoding count bytes left fault
-pixels_stopped encoding count bytes left TruncatedData stopped = stopped
+pub pixels_stopped : (encoding : Encoding) (count : ℕ) (bytes : List ℕ) (left : Option (List ℕ)) (stop : PlaneStop)
+    → BytesStopped (count * encoding.size) bytes left stop
+    → PixelsStopped encoding count bytes left stop
+pixels_stopped encoding count bytes left (Fault TruncatedData) stopped = stopped
 pixels_stopped encoding count bytes left ReadFault stopped = stopped
 pixels_stopped encoding count bytes left OutOfMemory stopped = absurd stopped
-pixels_stopped encoding count bytes left (PixelRange pixel stored) stopped = absurd stopped
+pixels_stopped encoding count bytes left (Fault (PixelRange pixel stored)) stopped = absurd stopped
 
 -- at a block
-pub block_stopped : (encoding : Encoding) (bytes : List ℕ) (left left' : Option (List ℕ)) (first end count n : ℕ) (fault : PlaneFault) → first ≤ end → end ≤ count
-    → n ≡ (end - first) * encoding.size → Takes bytes left (first * encoding.size) → BytesStopped n (drop (first * encoding.size) bytes) left' fault
-    → PixelsStopped encoding count bytes left' fault
-block_stopped encoding bytes left left' first end count n fault order within size before stopped =
+pub block_stopped : (encoding : Encoding) (bytes : List ℕ) (left left' : Option (List ℕ)) (first end count n : ℕ) (stop : PlaneStop) → first ≤ end → end ≤ count
+    → n ≡ (end - first) * encoding.size → Takes bytes left (first * encoding.size) → BytesStopped n (drop (first * encoding.size) bytes) left' stop
+    → PixelsStopped encoding count bytes left' stop
+block_stopped encoding bytes left left' first end count n stop order within size before stopped =
     let room : first * encoding.size + n ≤ count * encoding.size = omega (arith, block_within first end count encoding.size order within, size) in
-    pixels_stopped encoding count bytes left' fault (stopped_after bytes left left' (first * encoding.size) n (count * encoding.size) fault room before stopped)
+    pixels_stopped encoding count bytes left' stop (stopped_after bytes left left' (first * encoding.size) n (count * encoding.size) stop room before stopped)
 
 -- the pixel that is out of range in a block is the least one
-far_read : (encoding : Encoding) (bytes : List ℕ) (left : Option (List ℕ)) (first end count : ℕ) (buf : List ℕ) (old new : List (Option ℤ)) (pixel : ℕ) (stored : ℤ) → end ≤ count
+far_read : (encoding : Encoding) (bytes : List ℕ) (left : Option (List ℕ)) (first end count : ℕ) (buf : List ℕ) (old new : List (Option ℤ)) (pixel : ℕ)
+    (stored : ℤ) → end ≤ count
     → buf ≡ take ((end - first) * encoding.size) (drop (first * encoding.size) bytes)
     → ((q : ℕ) → q < first → value_at old q ≡ decoded encoding bytes q) → FarInside encoding buf first end old new pixel stored → HasValuesInHalfRange new
     → Takes bytes left (count * encoding.size) → FarRead encoding count bytes left pixel stored
@@ -188,19 +198,23 @@ far_read encoding bytes left first end count buf old new pixel stored within sam
   inside = omega (arith, far.inside, within);
   is_far = record {
     wide = far.is_far.wide;
-    number = far.is_far.number ∙ ap (λ xs. stored_number encoding.size (drop ((pixel - first) * encoding.size) xs)) same ∙ number_there encoding bytes first pixel end far.from far.inside;
-    far = sym (ap is_out_of_range (ap (λ xs. decoded encoding xs (pixel - first)) same ∙ decoded_there encoding bytes first pixel end far.from far.inside)) ∙ far.is_far.far;
+    number = far.is_far.number ∙ ap (λ xs. stored_number encoding.size (drop ((pixel - first) * encoding.size) xs)) same
+        ∙ number_there encoding bytes first pixel end far.from far.inside;
+    far = sym (ap is_out_of_range (ap (λ xs. decoded encoding xs (pixel - first)) same ∙ decoded_there encoding bytes first pixel end far.from far.inside))
+        ∙ far.is_far.far;
   };
-  before = λ q h. sym (ap is_out_of_range (read_up_to encoding bytes first end pixel buf old new (omega (arith, far.inside)) same before far.decoded_before q h)) ∙ none_far new q near;
+  before = λ q h. sym (ap is_out_of_range (read_up_to encoding bytes first end pixel buf old new (omega (arith, far.inside)) same before far.decoded_before q
+      h)) ∙ none_far new q near;
   takes = takes;
 }
 
 -- at a pixel out of range
-pub far_stopped : (encoding : Encoding) (bytes : List ℕ) (left left' left'' : Option (List ℕ)) (first end count : ℕ) (buf : List ℕ) (old new : List (Option ℤ)) (pixel : ℕ) (stored : ℤ)
-    (fault : PlaneFault) → first ≤ end → end ≤ count → length buf ≡ (end - first) * encoding.size → ReadSoFar encoding bytes left old first
+pub far_stopped : (encoding : Encoding) (bytes : List ℕ) (left left' left'' : Option (List ℕ)) (first end count : ℕ) (buf : List ℕ) (old new : List (Option ℤ))
+    (pixel : ℕ) (stored : ℤ)
+    (stop : PlaneStop) → first ≤ end → end ≤ count → length buf ≡ (end - first) * encoding.size → ReadSoFar encoding bytes left old first
     → Fills (drop (first * encoding.size) bytes) left' (length buf) buf → FarInside encoding buf first end old new pixel stored → HasValuesInHalfRange new
-    → RestStopped ((count - end) * encoding.size) pixel stored (drop (end * encoding.size) bytes) left'' fault → PixelsStopped encoding count bytes left'' fault
-far_stopped encoding bytes left left' left'' first end count buf old new pixel stored fault order within size before fills far near stopped = go fault stopped
+    → RestStopped ((count - end) * encoding.size) pixel stored (drop (end * encoding.size) bytes) left'' stop → PixelsStopped encoding count bytes left'' stop
+far_stopped encoding bytes left left' left'' first end count buf old new pixel stored stop order within size before fills far near stopped = go stop stopped
   where
     taken : Takes bytes left' (end * encoding.size)
     taken = taken_to encoding bytes left left' first end buf order size before.takes fills
@@ -208,15 +222,19 @@ far_stopped encoding bytes left left' left'' first end count buf old new pixel s
     total : end * encoding.size + (count - end) * encoding.size ≡ count * encoding.size
     total = grind arith
 
-    rest : (fault : PlaneFault) → BytesStopped ((count - end) * encoding.size) (drop (end * encoding.size) bytes) left'' fault → PixelsStopped encoding count bytes left'' fault
-    rest fault stopped = pixels_stopped encoding count bytes left'' fault
-        (stopped_after bytes left' left'' (end * encoding.size) ((count - end) * encoding.size) (count * encoding.size) fault (omega (arith, total)) taken stopped)
+    rest : (stop : PlaneStop) → BytesStopped ((count - end) * encoding.size) (drop (end * encoding.size) bytes) left'' stop
+        → PixelsStopped encoding count bytes left'' stop
+    rest stop stopped = pixels_stopped encoding count bytes left'' stop
+        (stopped_after bytes left' left'' (end * encoding.size) ((count - end) * encoding.size) (count * encoding.size) stop (omega (arith, total)) taken
+        stopped)
 
-    go : (fault : PlaneFault) → RestStopped ((count - end) * encoding.size) pixel stored (drop (end * encoding.size) bytes) left'' fault → PixelsStopped encoding count bytes left'' fault
-    go TruncatedData stopped = rest TruncatedData stopped
+    go : (stop : PlaneStop) → RestStopped ((count - end) * encoding.size) pixel stored (drop (end * encoding.size) bytes) left'' stop
+        → PixelsStopped encoding count bytes left'' stop
+    go (Fault TruncatedData) stopped = rest (Fault TruncatedData) stopped
     go ReadFault stopped = rest ReadFault stopped
     go OutOfMemory stopped = absurd stopped
-    go (PixelRange p number) (same_pixel, same_number, takes) =
+    go (Fault (PixelRange p number)) (same_pixel, same_number, takes) =
         let all : Takes bytes left'' (count * encoding.size) = subst (Takes bytes left'') total (Takes-after bytes left' left'' _ _ taken takes) in
         subst (λ k. FarRead encoding count bytes left'' k number) (sym same_pixel) (subst (FarRead encoding count bytes left'' pixel) (sym same_number)
-        (far_read encoding bytes left'' first end count buf old new pixel stored within (filled encoding bytes left' first end buf size fills) before.are_decoded far near all))
+        (far_read encoding bytes left'' first end count buf old new pixel stored within (filled encoding bytes left' first end buf size fills)
+        before.are_decoded far near all))

@@ -1,2 +1,4 @@
 -- The lemmas of this crate that crates above use. Its other modules of lemmas are its own.
+
+-- the data of an HDU that holds an image which can be read are exactly the image's bytes
 pub use Rattle.pixel_plane.proofs.ImageData.{all_data}

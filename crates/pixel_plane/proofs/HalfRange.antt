@@ -36,7 +36,8 @@ blank_in_half_range n values blank = record { each = each }
         absurd (cc)
 
 -- one value more
-pub set_in_half_range : (values : List (Option ℤ)) (p : ℕ) (value : Option ℤ) → IfSome value (λ v. IsInHalfRange v) → HasValuesInHalfRange values → HasValuesInHalfRange (set values p value)
+pub set_in_half_range : (values : List (Option ℤ)) (p : ℕ) (value : Option ℤ) → IfSome value (λ v. IsInHalfRange v) → HasValuesInHalfRange values
+    → HasValuesInHalfRange (set values p value)
 set_in_half_range values p value here all = record { each = each }
   where
     by : (q : ℕ) (v : ℤ) → q < length values → get_or (set values p value) q None ≡ Some v → IsInHalfRange v
@@ -44,12 +45,16 @@ set_in_half_range values p value here all = record { each = each }
       | inl less ↦ all.each q v (there values q v within (sym (get_or-set_other values p q value None (omega arith)) ∙ is))
       | inr more ↦ elim (cases_lt p q) [
         | inl greater ↦ all.each q v (there values q v within (sym (get_or-set_other values p q value None (omega arith)) ∙ is))
-        | inr same ↦ let at : q ≡ p = omega arith in is_in_half_range value v here (sym (get_or-set_same values p value None (omega arith)) ∙ sym (ap (λ i. get_or (set values p value) i None) at) ∙ is)
+        | inr same ↦ let at : q ≡ p =
+            omega arith in is_in_half_range value v here
+            (sym (get_or-set_same values p value None (omega arith)) ∙ sym (ap (λ i. get_or (set values p value) i None) at) ∙ is)
       ]
     ]
 
     each : (q : ℕ) (v : ℤ) → slice_get (set values p value) q ≡ Some (Some v) → IsInHalfRange v
-    each q v is = by q v (omega (arith, slice_get_within (set values p value) q (Some v) is, length-set values p value)) (get_or_from_slice_get (set values p value) q (Some v) None is)
+    each q v is =
+        by q v (omega (arith, slice_get_within (set values p value) q (Some v) is, length-set values p value))
+        (get_or_from_slice_get (set values p value) q (Some v) None is)
 
 -- ---- no value of such a plane is out of range
 

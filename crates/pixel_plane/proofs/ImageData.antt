@@ -20,7 +20,8 @@ record HasSides (shape : Shape) (width height : ℕ) : Type 0 where
   columns : shape.width ≡ width
   rows : shape.height ≡ height
 
-sides_if : (width height : ℕ) (within : Bool) (limits : within ≡ true → IsWithinLimits width height) (s : Shape) → shape_if width height within limits ≡ Some s → HasSides s width height
+sides_if : (width height : ℕ) (within : Bool) (limits : within ≡ true → IsWithinLimits width height) (s : Shape) → shape_if width height within limits ≡ Some s
+    → HasSides s width height
 sides_if width height true limits s h =
     let made : Shape = record { width = width; height = height; within_limits = limits refl } in
     let same : made ≡ s = cc in
@@ -34,7 +35,9 @@ shape_kept None (Some t) s h = let same : t ≡ s = cc in ap Some same
 
 has_sides : (hdu : Hdu) (shape : Shape) → checked hdu ≡ Ok shape → HasSides shape hdu.width hdu.height
 unfolding checked shape_of
-has_sides hdu shape is = sides_if hdu.width hdu.height (fits_limits hdu.width hdu.height) (limits_from hdu.width hdu.height) shape (shape_kept (image_fault hdu) (shape_of hdu.width hdu.height) shape is)
+has_sides hdu shape is =
+    sides_if hdu.width hdu.height (fits_limits hdu.width hdu.height) (limits_from hdu.width hdu.height) shape
+    (shape_kept (image_fault hdu) (shape_of hdu.width hdu.height) shape is)
 
 record HasPlane (hdu : Hdu) : Type 0 where
   two : 2 ≤ hdu.naxis
@@ -56,7 +59,8 @@ has_plane hdu h =
     not_below n h = grind (arith, nat_tests)
 
 -- the pixels of an HDU that was found, and is an image which can be read, take all its data
-pub all_data : (bytes : List ℕ) (n : ℕ) (hdu : Hdu) (head : ℕ) (shape : Shape) → find_of bytes n ≡ found hdu head → checked hdu ≡ Ok shape → image_bytes hdu shape ≡ hdu.data_bytes
+pub all_data : (bytes : List ℕ) (n : ℕ) (hdu : Hdu) (head : ℕ) (shape : Shape) → find_of bytes n ≡ found hdu head → checked hdu ≡ Ok shape
+    → image_bytes hdu shape ≡ hdu.data_bytes
 all_data bytes n hdu head shape is image =
     let tests : IsReadable hdu = readable hdu (shape_without_fault hdu shape image) in
     let sides : HasSides shape hdu.width hdu.height = has_sides hdu shape image in

@@ -1,8 +1,8 @@
-pub mod Readable
-pub mod HalfRange
-pub mod Bounds
-pub mod Decoding
-pub mod Planes
-pub mod Naming
-pub mod ImageData
+mod Readable
+mod HalfRange
+mod Bounds
+mod Decoding
+mod Planes
+mod Naming
+mod ImageData
 pub mod Exported

@@ -5,8 +5,9 @@ use Rattle.std.specs.Prelude.{None}
 use Rattle.comp_tree.specs.declared.shape.Shape.{Shape}
 use Rattle.fits_hdu.specs.declared.answer.Hdu.{Hdu}
 use Rattle.pixel_plane.specs.declared.encoding.Encoding.{Encoding}
-use Rattle.pixel_plane.specs.declared.fault.PlaneFault.{PlaneFault}
-use Rattle.pixel_plane.specs.declared.fault.PlaneFault.TheVariants.{TruncatedData, PixelRange, ReadFault, OutOfMemory}
+use Rattle.pixel_plane.specs.declared.fault.PlaneFault.TheVariants.{TruncatedData, PixelRange}
+use Rattle.pixel_plane.specs.declared.fault.PlaneStop.{PlaneStop}
+use Rattle.pixel_plane.specs.declared.fault.PlaneStop.TheVariants.{Fault, ReadFault, OutOfMemory}
 use Rattle.pixel_plane.specs.Images.{image_fault}
 use Rattle.pixel_plane.specs.Stored.{pixel_at, value_stored_as, is_out_of_range}
 use Rattle.pixel_plane.specs.Reading.{NamesPixel}
@@ -14,17 +15,11 @@ use Rattle.pixel_plane.specs.Decoding.{FarInside, IsFarPixel, NamesNone, NamesOn
 use Rattle.pixel_plane.proofs.Readable.{wide_bits}
 use Rattle.pixel_plane.proofs.Planes.{IsEncodingOf}
 
-pub none_only : (pixel : ℕ) (stored : ℤ) (fault : PlaneFault) → NamesNone fault → NamesOnly pixel stored fault
-none_only pixel stored TruncatedData h = tt
-none_only pixel stored ReadFault h = tt
-none_only pixel stored OutOfMemory h = tt
-none_only pixel stored (PixelRange p number) h = absurd h
-
-pub none_far_named : (encoding : Encoding) (count : ℕ) (fault : PlaneFault) → NamesNone fault → NamesFar encoding count fault
-none_far_named encoding count TruncatedData h = tt
+pub none_far_named : (encoding : Encoding) (count : ℕ) (stop : PlaneStop) → NamesNone stop → NamesFar encoding count stop
+none_far_named encoding count (Fault TruncatedData) h = tt
 none_far_named encoding count ReadFault h = tt
 none_far_named encoding count OutOfMemory h = tt
-none_far_named encoding count (PixelRange p number) h = absurd h
+none_far_named encoding count (Fault (PixelRange p number)) h = absurd h
 
 far_pixel : (encoding : Encoding) (bytes : List ℕ) (first end count : ℕ) (old new : List (Option ℤ)) (pixel : ℕ) (stored : ℤ) → end ≤ count
     → FarInside encoding bytes first end old new pixel stored → IsFarPixel encoding count pixel stored
@@ -35,20 +30,22 @@ far_pixel encoding bytes first end count old new pixel stored within far = recor
   far = ap (λ number. is_out_of_range (value_stored_as encoding.zero encoding.blank number)) far.is_far.number ∙ far.is_far.far;
 }
 
-pub far_named : (encoding : Encoding) (bytes : List ℕ) (first end count : ℕ) (old new : List (Option ℤ)) (pixel : ℕ) (stored : ℤ) (fault : PlaneFault) → end ≤ count
-    → FarInside encoding bytes first end old new pixel stored → NamesOnly pixel stored fault → NamesFar encoding count fault
-far_named encoding bytes first end count old new pixel stored TruncatedData within far h = tt
+pub far_named : (encoding : Encoding) (bytes : List ℕ) (first end count : ℕ) (old new : List (Option ℤ)) (pixel : ℕ) (stored : ℤ) (stop : PlaneStop)
+    → end ≤ count
+    → FarInside encoding bytes first end old new pixel stored → NamesOnly pixel stored stop → NamesFar encoding count stop
+far_named encoding bytes first end count old new pixel stored (Fault TruncatedData) within far h = tt
 far_named encoding bytes first end count old new pixel stored ReadFault within far h = tt
 far_named encoding bytes first end count old new pixel stored OutOfMemory within far h = tt
-far_named encoding bytes first end count old new pixel stored (PixelRange p number) within far (same, same_number) =
-    subst (λ k. IsFarPixel encoding count k number) (sym same) (subst (IsFarPixel encoding count pixel) (sym same_number) (far_pixel encoding bytes first end count old new pixel stored within far))
+far_named encoding bytes first end count old new pixel stored (Fault (PixelRange p number)) within far (same, same_number) =
+    subst (λ k. IsFarPixel encoding count k number) (sym same)
+    (subst (IsFarPixel encoding count pixel) (sym same_number) (far_pixel encoding bytes first end count old new pixel stored within far))
 
-pub pixel_named : (hdu : Hdu) (shape : Shape) (encoding : Encoding) (n : ℕ) (fault : PlaneFault) → IsEncodingOf hdu encoding → image_fault hdu ≡ None
-    → n ≡ shape.width * shape.height → NamesFar encoding n fault → NamesPixel hdu shape fault
-pixel_named hdu shape encoding n TruncatedData e readable count h = tt
+pub pixel_named : (hdu : Hdu) (shape : Shape) (encoding : Encoding) (n : ℕ) (stop : PlaneStop) → IsEncodingOf hdu encoding → image_fault hdu ≡ None
+    → n ≡ shape.width * shape.height → NamesFar encoding n stop → NamesPixel hdu shape stop
+pixel_named hdu shape encoding n (Fault TruncatedData) e readable count h = tt
 pixel_named hdu shape encoding n ReadFault e readable count h = tt
 pixel_named hdu shape encoding n OutOfMemory e readable count h = tt
-pixel_named hdu shape encoding n (PixelRange pixel stored) e readable count far = record {
+pixel_named hdu shape encoding n (Fault (PixelRange pixel stored)) e readable count far = record {
   bits = wide_bits hdu readable (sym e.size ∙ far.wide);
   inside = omega (arith, far.inside, count);
   outside = rw (← e.zero, ← e.blank) far.far;

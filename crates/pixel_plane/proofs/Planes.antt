@@ -15,8 +15,9 @@ use Rattle.pixel_plane.specs.Reading.{PlaneRead, PlaneStopped, image_bytes}
 use Rattle.pixel_plane.specs.Decoding.{decoded, PixelsRead, PixelsStopped}
 use Rattle.pixel_plane.proofs.Readable.{wide_bits}
 use Rattle.pixel_plane.proofs.HalfRange.{none_far, no_position, position_at}
-use Rattle.pixel_plane.specs.declared.fault.PlaneFault.{PlaneFault}
-use Rattle.pixel_plane.specs.declared.fault.PlaneFault.TheVariants.{TruncatedData, PixelRange, ReadFault, OutOfMemory}
+use Rattle.pixel_plane.specs.declared.fault.PlaneFault.TheVariants.{TruncatedData, PixelRange}
+use Rattle.pixel_plane.specs.declared.fault.PlaneStop.{PlaneStop}
+use Rattle.pixel_plane.specs.declared.fault.PlaneStop.TheVariants.{Fault, ReadFault, OutOfMemory}
 
 -- the encoding of this image
 pub record IsEncodingOf (hdu : Hdu) (encoding : Encoding) : Type 0 where
@@ -28,7 +29,8 @@ same_pixels : (hdu : Hdu) (encoding : Encoding) (bytes : List ℕ) (p : ℕ) →
 same_pixels hdu encoding bytes p e = rw (e.size, e.zero, e.blank) refl
 
 -- the number of bytes is that of the encoding's numbers
-image_bytes_are : (hdu : Hdu) (shape : Shape) (encoding : Encoding) (n : ℕ) → IsEncodingOf hdu encoding → n ≡ shape.width * shape.height → n * encoding.size ≡ image_bytes hdu shape
+image_bytes_are : (hdu : Hdu) (shape : Shape) (encoding : Encoding) (n : ℕ) → IsEncodingOf hdu encoding → n ≡ shape.width * shape.height
+    → n * encoding.size ≡ image_bytes hdu shape
 image_bytes_are hdu shape encoding n e count = ap (λ size. n * size) e.size ∙ ap (λ k. k * size_of hdu) count
 
 raster_is : (a b : Raster) → a.shape ≡ b.shape → a.values ≡ b.values → a ≡ b
@@ -50,7 +52,8 @@ unfolding stored_plane
 stored_shape hdu shape bytes = refl
 
 -- with values in half the range no pixel is out of it
-none_first : (hdu : Hdu) (shape : Shape) (bytes : List ℕ) → HasValuesInHalfRange (stored_plane hdu shape bytes).values → first_out_of_range hdu shape bytes ≡ None
+none_first : (hdu : Hdu) (shape : Shape) (bytes : List ℕ) → HasValuesInHalfRange (stored_plane hdu shape bytes).values
+    → first_out_of_range hdu shape bytes ≡ None
 unfolding first_out_of_range
 none_first hdu shape bytes near = go (int_eq hdu.bitpix (pos 64)) (no_position (stored_plane hdu shape bytes).values (λ p. none_far _ p near))
   where
@@ -59,13 +62,16 @@ none_first hdu shape bytes near = go (int_eq hdu.bitpix (pos 64)) (no_position (
     go true h = h
     go false h = refl
 
-some_first : (hdu : Hdu) (shape : Shape) (bytes : List ℕ) (p : ℕ) → hdu.bitpix ≡ pos 64 → position is_out_of_range (stored_plane hdu shape bytes).values ≡ Some p
+some_first : (hdu : Hdu) (shape : Shape) (bytes : List ℕ) (p : ℕ) → hdu.bitpix ≡ pos 64
+    → position is_out_of_range (stored_plane hdu shape bytes).values ≡ Some p
     → first_out_of_range hdu shape bytes ≡ Some p
 unfolding first_out_of_range
 some_first hdu shape bytes p bits h = let wide : int_eq hdu.bitpix (pos 64) ≡ true = rw bits refl in rw wide h
 
-pub plane_is_read : (hdu : Hdu) (shape : Shape) (encoding : Encoding) (bytes : List ℕ) (left : Option (List ℕ)) (plane : Raster) → IsEncodingOf hdu encoding → plane.shape ≡ shape
-    → length plane.values ≡ shape.width * shape.height → HasValuesInHalfRange plane.values → PixelsRead encoding bytes left plane.values → PlaneRead hdu shape bytes left plane
+pub plane_is_read : (hdu : Hdu) (shape : Shape) (encoding : Encoding) (bytes : List ℕ) (left : Option (List ℕ)) (plane : Raster) → IsEncodingOf hdu encoding
+    → plane.shape ≡ shape
+    → length plane.values ≡ shape.width * shape.height → HasValuesInHalfRange plane.values → PixelsRead encoding bytes left plane.values
+    → PlaneRead hdu shape bytes left plane
 plane_is_read hdu shape encoding bytes left plane e same count near read = record {
   plane_is = raster_is plane (stored_plane hdu shape bytes) (same ∙ sym (stored_shape hdu shape bytes)) values_are;
   none_out_of_range = none_first hdu shape bytes (subst HasValuesInHalfRange values_are near);
@@ -77,13 +83,15 @@ plane_is_read hdu shape encoding bytes left plane e same count near read = recor
         read.are_decoded p h ∙ sym (stored_pixel hdu shape encoding bytes p e (omega (arith, h, count))))
 
 -- of a reading that stopped
-pub plane_stopped : (hdu : Hdu) (shape : Shape) (encoding : Encoding) (bytes : List ℕ) (left : Option (List ℕ)) (n : ℕ) (fault : PlaneFault) → IsEncodingOf hdu encoding
-    → image_fault hdu ≡ None → n ≡ shape.width * shape.height → PixelsStopped encoding n bytes left fault → PlaneStopped hdu shape bytes left fault
-plane_stopped hdu shape encoding bytes left n TruncatedData e readable count (short, takes) =
+pub plane_stopped : (hdu : Hdu) (shape : Shape) (encoding : Encoding) (bytes : List ℕ) (left : Option (List ℕ)) (n : ℕ) (stop : PlaneStop)
+    → IsEncodingOf hdu encoding
+    → image_fault hdu ≡ None → n ≡ shape.width * shape.height → PixelsStopped encoding n bytes left stop → PlaneStopped hdu shape bytes left stop
+plane_stopped hdu shape encoding bytes left n (Fault TruncatedData) e readable count (short, takes) =
     (subst (λ total. length bytes < total) (image_bytes_are hdu shape encoding n e count) short, takes)
-plane_stopped hdu shape encoding bytes left n ReadFault e readable count stopped = subst (TakesAtMost bytes left) (image_bytes_are hdu shape encoding n e count) stopped
+plane_stopped hdu shape encoding bytes left n ReadFault e readable count stopped =
+    subst (TakesAtMost bytes left) (image_bytes_are hdu shape encoding n e count) stopped
 plane_stopped hdu shape encoding bytes left n OutOfMemory e readable count stopped = absurd stopped
-plane_stopped hdu shape encoding bytes left n (PixelRange pixel stored) e readable count far = record {
+plane_stopped hdu shape encoding bytes left n (Fault (PixelRange pixel stored)) e readable count far = record {
   bits = bits;
   least = some_first hdu shape bytes pixel bits (position_at (stored_plane hdu shape bytes).values pixel (omega (arith, inside, stored_length hdu shape bytes))
       (ap is_out_of_range (stored_pixel hdu shape encoding bytes pixel e inside) ∙ far.is_far.far)

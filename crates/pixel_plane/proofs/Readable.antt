@@ -1,8 +1,9 @@
 -- What an HDU without a fault as an image has.
-use Rattle.std.proofs.Common.{◌≡◌, ℕ, ◌^◌, ◌/◌, Bool, true, false, ◌&&◌, ◌||◌, not, [], ◌∷◌, None, Option, Some, ℤ, pos, neg_ℤ, ◌≤ℤ◌, refl, sym, ◌⊎◌, inl, inr, ⊎_elim, unsigned_abs, ap, ◌∙◌, arith}
+use Rattle.std.proofs.Common.{◌≡◌, ℕ, ◌^◌, ◌/◌, Bool, true, false, ◌||◌, not, [], ◌∷◌, None, Option, Some, ℤ, pos, neg_ℤ, ◌≤ℤ◌, refl, sym, ◌⊎◌, inl, inr}
+use Rattle.std.proofs.Common.{⊎_elim, unsigned_abs, ap, ◌∙◌, arith}
 use Rattle.std.specs.Prelude.{Result, Ok, Err, IfOk}
 use Rattle.std.specs.Result.{result_err}
-use Rattle.std.proofs.lemmas.Bool.{or_cases, not-false}
+use Rattle.std.proofs.lemmas.Bool.{and_parts, or_cases, not-false}
 use Rattle.std.specs.Ordering.{int_eq}
 use Rattle.comp_tree.proofs.Exported.{int_eq-true, int_le-true, shape_of_sides}
 use Rattle.comp_tree.specs.declared.shape.Shape.{Shape}
@@ -17,7 +18,8 @@ use Rattle.pixel_plane.specs.Images.{checked, image_fault, first_fault, has_no_p
 use Rattle.pixel_plane.specs.Stored.{size_of, whole_or_zero}
 use Rattle.pixel_plane.specs.Sizes.{is_number_size}
 
-none_passed : (a b c d e f g : Bool) → first_fault ((a, NotImage) ∷ (b, NoImage) ∷ (c, ImageTooLarge) ∷ (d, Bitpix) ∷ (e, Bscale) ∷ (f, Bzero) ∷ (g, Blank) ∷ []) ≡ None
+none_passed : (a b c d e f g : Bool)
+    → first_fault ((a, NotImage) ∷ (b, NoImage) ∷ (c, ImageTooLarge) ∷ (d, Bitpix) ∷ (e, Bscale) ∷ (f, Bzero) ∷ (g, Blank) ∷ []) ≡ None
     → (a ≡ false) × (b ≡ false) × (d ≡ false) × (f ≡ false)
 none_passed true b c d e f g h = absurd (cc)
 none_passed false true c d e f g h = absurd (cc)
@@ -34,18 +36,12 @@ pub record IsReadable (hdu : Hdu) : Type 0 where
   pub size : is_stored_size hdu.bitpix ≡ true
   pub zero : is_zero_point hdu.bzero ≡ true
 
-and_first : (a b : Bool) → (a && b) ≡ true → a ≡ true
-and_first true b h = refl
-and_first false b h = absurd (cc)
-
-and_second : (a b : Bool) → (a && b) ≡ true → b ≡ true
-and_second true b h = h
-and_second false b h = absurd (cc)
-
 pub readable : (hdu : Hdu) → image_fault hdu ≡ None → IsReadable hdu
 unfolding image_fault
 readable hdu h =
-    let tests = none_passed (is_other hdu.kind) (has_no_pixels hdu) (not (fits_limits hdu.width hdu.height)) (not (is_stored_size hdu.bitpix)) (not (is_one hdu.bscale)) (not (is_zero_point hdu.bzero)) (not (is_blank_or_none hdu.blank)) h in
+    let tests =
+    none_passed (is_other hdu.kind) (has_no_pixels hdu) (not (fits_limits hdu.width hdu.height)) (not (is_stored_size hdu.bitpix)) (not (is_one hdu.bscale))
+    (not (is_zero_point hdu.bzero)) (not (is_blank_or_none hdu.blank)) h in
     record { kind = tests.0; pixels = tests.1; size = not-false _ tests.2; zero = not-false _ tests.3 }
 
 bits_from : (bitpix : ℤ) → is_stored_size bitpix ≡ true → bitpix ≡ pos 8 ⊎ (bitpix ≡ pos 16 ⊎ (bitpix ≡ pos 32 ⊎ bitpix ≡ pos 64))
@@ -83,7 +79,7 @@ pub record IsNear (zero : ℤ) : Type 0 where
   pub high : zero ≤ℤ pos (2 ^ 32)
 
 near_from : (zero : Whole) → is_zero_point zero ≡ true → IsNear (whole_or_zero zero)
-near_from (Is n) h = record { low = int_le-true _ _ (and_first _ _ h); high = int_le-true _ _ (and_second _ _ h) }
+near_from (Is n) h = record { low = int_le-true _ _ (and_parts _ _ h).0; high = int_le-true _ _ (and_parts _ _ h).1 }
 near_from NotWhole h = absurd (cc)
 near_from Beyond h = absurd (cc)
 near_from Unreadable h = absurd (cc)
@@ -95,7 +91,8 @@ zero_is_near hdu h = near_from hdu.bzero (readable hdu h).zero
 -- ---- the shape
 
 -- an answer with the first fault or with the sides is the right one
-pub checked_from : (hdu : Hdu) (r : Result Shape ImageFault) → result_err r ≡ image_fault hdu → IfOk r (λ shape. (shape.width ≡ hdu.width) × (shape.height ≡ hdu.height)) → r ≡ checked hdu
+pub checked_from : (hdu : Hdu) (r : Result Shape ImageFault) → result_err r ≡ image_fault hdu
+    → IfOk r (λ shape. (shape.width ≡ hdu.width) × (shape.height ≡ hdu.height)) → r ≡ checked hdu
 unfolding checked
 checked_from hdu (Err fault) h sides = rw (sym h) refl
 checked_from hdu (Ok shape) h sides = rw (sym h, shape_of_sides hdu.width hdu.height shape sides.0 sides.1) refl

@@ -4,8 +4,9 @@ use Rattle.std.specs.declared.option.Option.{Option}
 use Rattle.dev_io.specs.Streams.{Takes, TakesAtMost}
 use Rattle.comp_tree.specs.Raster.{value_at}
 use Rattle.pixel_plane.specs.declared.encoding.Encoding.{Encoding}
-use Rattle.pixel_plane.specs.declared.fault.PlaneFault.{PlaneFault}
-use Rattle.pixel_plane.specs.declared.fault.PlaneFault.TheVariants.{TruncatedData, PixelRange, ReadFault, OutOfMemory}
+use Rattle.pixel_plane.specs.declared.fault.PlaneFault.TheVariants.{TruncatedData, PixelRange}
+use Rattle.pixel_plane.specs.declared.fault.PlaneStop.{PlaneStop}
+use Rattle.pixel_plane.specs.declared.fault.PlaneStop.TheVariants.{Fault, ReadFault, OutOfMemory}
 use Rattle.pixel_plane.specs.Stored.{stored_number, value_stored_as, pixel_at, is_out_of_range}
 
 -- the value of pixel p, where the numbers are encoded so
@@ -44,16 +45,16 @@ abbrev pub PixelsRead : Encoding → List ℕ → Option (List ℕ) → List (Op
 PixelsRead encoding bytes left values = ReadSoFar encoding bytes left values (length values)
 
 -- why so many bytes weren't all taken
-abbrev pub BytesStopped : ℕ → List ℕ → Option (List ℕ) → PlaneFault → Type 0
-BytesStopped total bytes left TruncatedData = (length bytes < total) × Takes bytes left (length bytes)
+abbrev pub BytesStopped : ℕ → List ℕ → Option (List ℕ) → PlaneStop → Type 0
+BytesStopped total bytes left (Fault TruncatedData) = (length bytes < total) × Takes bytes left (length bytes)
 BytesStopped total bytes left ReadFault = TakesAtMost bytes left total
 BytesStopped total bytes left OutOfMemory = ⊥
-BytesStopped total bytes left (PixelRange pixel stored) = ⊥
+BytesStopped total bytes left (Fault (PixelRange pixel stored)) = ⊥
 
 -- why an image in which this pixel is out of range isn't read, where so many bytes were still to come
-abbrev pub RestStopped : ℕ → ℕ → ℤ → List ℕ → Option (List ℕ) → PlaneFault → Type 0
-RestStopped rest pixel stored bytes left (PixelRange p number) = (p ≡ pixel) × (number ≡ stored) × Takes bytes left rest
-RestStopped rest pixel stored bytes left fault = BytesStopped rest bytes left fault
+abbrev pub RestStopped : ℕ → ℕ → ℤ → List ℕ → Option (List ℕ) → PlaneStop → Type 0
+RestStopped rest pixel stored bytes left (Fault (PixelRange p number)) = (p ≡ pixel) × (number ≡ stored) × Takes bytes left rest
+RestStopped rest pixel stored bytes left stop = BytesStopped rest bytes left stop
 
 -- of so many pixels this is the least that is out of range, and the bytes of all were taken
 pub record FarRead (encoding : Encoding) (count : ℕ) (bytes : List ℕ) (left : Option (List ℕ)) (pixel : ℕ) (stored : ℤ) : Type 0 where
@@ -63,21 +64,21 @@ pub record FarRead (encoding : Encoding) (count : ℕ) (bytes : List ℕ) (left 
   pub takes : Takes bytes left (count * encoding.size)
 
 -- why so many pixels weren't all read
-abbrev pub PixelsStopped : Encoding → ℕ → List ℕ → Option (List ℕ) → PlaneFault → Type 0
-PixelsStopped encoding count bytes left (PixelRange pixel stored) = FarRead encoding count bytes left pixel stored
-PixelsStopped encoding count bytes left fault = BytesStopped (count * encoding.size) bytes left fault
+abbrev pub PixelsStopped : Encoding → ℕ → List ℕ → Option (List ℕ) → PlaneStop → Type 0
+PixelsStopped encoding count bytes left (Fault (PixelRange pixel stored)) = FarRead encoding count bytes left pixel stored
+PixelsStopped encoding count bytes left stop = BytesStopped (count * encoding.size) bytes left stop
 
 -- ---- the pixel that a fault names, also where the bytes aren't told
 
 -- it names none
-abbrev pub NamesNone : PlaneFault → Type 0
-NamesNone (PixelRange pixel stored) = ⊥
-NamesNone fault = Unit {0}
+abbrev pub NamesNone : PlaneStop → Type 0
+NamesNone (Fault (PixelRange pixel stored)) = ⊥
+NamesNone stop = Unit {0}
 
 -- no other than this
-abbrev pub NamesOnly : ℕ → ℤ → PlaneFault → Type 0
-NamesOnly pixel stored (PixelRange p number) = (p ≡ pixel) × (number ≡ stored)
-NamesOnly pixel stored fault = Unit {0}
+abbrev pub NamesOnly : ℕ → ℤ → PlaneStop → Type 0
+NamesOnly pixel stored (Fault (PixelRange p number)) = (p ≡ pixel) × (number ≡ stored)
+NamesOnly pixel stored stop = Unit {0}
 
 -- one of so many, whose value is out of range
 pub record IsFarPixel (encoding : Encoding) (count pixel : ℕ) (stored : ℤ) : Type 0 where
@@ -85,6 +86,6 @@ pub record IsFarPixel (encoding : Encoding) (count pixel : ℕ) (stored : ℤ) :
   pub inside : pixel < count
   pub far : is_out_of_range (value_stored_as encoding.zero encoding.blank stored) ≡ true
 
-abbrev pub NamesFar : Encoding → ℕ → PlaneFault → Type 0
-NamesFar encoding count (PixelRange pixel stored) = IsFarPixel encoding count pixel stored
-NamesFar encoding count fault = Unit {0}
+abbrev pub NamesFar : Encoding → ℕ → PlaneStop → Type 0
+NamesFar encoding count (Fault (PixelRange pixel stored)) = IsFarPixel encoding count pixel stored
+NamesFar encoding count stop = Unit {0}

@@ -5,8 +5,9 @@ use Rattle.dev_io.specs.Streams.{Takes, TakesAtMost}
 use Rattle.comp_tree.specs.declared.shape.Shape.{Shape}
 use Rattle.comp_tree.specs.Raster.{Raster}
 use Rattle.fits_hdu.specs.declared.answer.Hdu.{Hdu}
-use Rattle.pixel_plane.specs.declared.fault.PlaneFault.{PlaneFault}
-use Rattle.pixel_plane.specs.declared.fault.PlaneFault.TheVariants.{TruncatedData, PixelRange, ReadFault, OutOfMemory}
+use Rattle.pixel_plane.specs.declared.fault.PlaneFault.TheVariants.{TruncatedData, PixelRange}
+use Rattle.pixel_plane.specs.declared.fault.PlaneStop.{PlaneStop}
+use Rattle.pixel_plane.specs.declared.fault.PlaneStop.TheVariants.{Fault, ReadFault, OutOfMemory}
 use Rattle.pixel_plane.specs.Stored.{size_of, whole_or_zero, blank_of, value_stored_as, stored_plane, stored_at, is_out_of_range, first_out_of_range}
 
 -- how many data bytes an image of this shape has
@@ -28,9 +29,9 @@ pub record PixelOutOfRange (hdu : Hdu) (shape : Shape) (bytes : List ℕ) (left 
 
 -- why there is no plane: the bytes end before the image, and all were taken; all are there, and a pixel is out of range; the source failed;
 -- or, before any byte, memory was wanted
-abbrev pub PlaneStopped : Hdu → Shape → List ℕ → Option (List ℕ) → PlaneFault → Type 0
-PlaneStopped hdu shape bytes left TruncatedData = (length bytes < image_bytes hdu shape) × Takes bytes left (length bytes)
-PlaneStopped hdu shape bytes left (PixelRange pixel stored) = PixelOutOfRange hdu shape bytes left pixel stored
+abbrev pub PlaneStopped : Hdu → Shape → List ℕ → Option (List ℕ) → PlaneStop → Type 0
+PlaneStopped hdu shape bytes left (Fault TruncatedData) = (length bytes < image_bytes hdu shape) × Takes bytes left (length bytes)
+PlaneStopped hdu shape bytes left (Fault (PixelRange pixel stored)) = PixelOutOfRange hdu shape bytes left pixel stored
 PlaneStopped hdu shape bytes left ReadFault = TakesAtMost bytes left (image_bytes hdu shape)
 PlaneStopped hdu shape bytes left OutOfMemory = Takes bytes left 0
 
@@ -41,6 +42,6 @@ pub record MayBeOutOfRange (hdu : Hdu) (shape : Shape) (pixel : ℕ) (stored : �
   pub outside : is_out_of_range (value_stored_as (whole_or_zero hdu.bzero) (blank_of hdu.blank) stored) ≡ true
 
 -- a fault that names a pixel comes with that alone
-abbrev pub NamesPixel : Hdu → Shape → PlaneFault → Type 0
-NamesPixel hdu shape (PixelRange pixel stored) = MayBeOutOfRange hdu shape pixel stored
-NamesPixel hdu shape fault = Unit {0}
+abbrev pub NamesPixel : Hdu → Shape → PlaneStop → Type 0
+NamesPixel hdu shape (Fault (PixelRange pixel stored)) = MayBeOutOfRange hdu shape pixel stored
+NamesPixel hdu shape stop = Unit {0}

@@ -3,7 +3,7 @@ use Rattle.std.specs.Prelude.{ℕ, ◌+◌, ℤ, List, length, drop, Option, Som
 use Rattle.comp_tree.specs.declared.shape.Shape.{Shape}
 use Rattle.comp_tree.specs.Raster.{Raster}
 use Rattle.fits_hdu.specs.declared.answer.Hdu.{Hdu}
-use Rattle.fits_hdu.specs.declared.answer.HduFault.{HduFault}
+use Rattle.fits_hdu.specs.declared.fault.HduFault.{HduFault}
 use Rattle.fits_hdu.specs.Headers as at_header
 use Rattle.fits_hdu.specs.Finding.{find_of}
 use Rattle.pixel_plane.specs.declared.fault.ImageFault.{ImageFault}
@@ -34,17 +34,17 @@ image_behind bytes hdu head shape =
     if nat_lt (length bytes) (head + image_bytes hdu shape) then truncated head (length bytes)
     else image_unless (drop head bytes) hdu head shape (first_out_of_range hdu shape (drop head bytes))
 
-abbrev pub verdict_by : List ℕ → Hdu → ℕ → Result Shape ImageFault → Verdict
-verdict_by bytes hdu head (Err fault) = unreadable fault head
-verdict_by bytes hdu head (Ok shape) = image_behind bytes hdu head shape
+abbrev pub verdict_on_hdu : List ℕ → Hdu → ℕ → Result Shape ImageFault → Verdict
+verdict_on_hdu bytes hdu head (Err fault) = unreadable fault head
+verdict_on_hdu bytes hdu head (Ok shape) = image_behind bytes hdu head shape
 
-abbrev pub verdict_of : List ℕ → at_header.Found → Verdict
-verdict_of bytes (at_header.found hdu head) = verdict_by bytes hdu head (checked hdu)
-verdict_of bytes (at_header.refused fault taken) = unfound fault taken
+abbrev pub verdict_on_found : List ℕ → at_header.Found → Verdict
+verdict_on_found bytes (at_header.found hdu head) = verdict_on_hdu bytes hdu head (checked hdu)
+verdict_on_found bytes (at_header.refused fault taken) = unfound fault taken
 
 -- the verdict on the HDU with this number
-unfoldable pub verdict : List ℕ → ℕ → Verdict
-verdict bytes number = verdict_of bytes (find_of bytes number)
+unfoldable pub verdict_on : List ℕ → ℕ → Verdict
+verdict_on bytes number = verdict_on_found bytes (find_of bytes number)
 
 -- how many bytes are taken for it
 abbrev pub taken_for : Verdict → ℕ

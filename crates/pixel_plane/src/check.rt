@@ -22,7 +22,8 @@ pub fn check_image(hdu: &Hdu) -> Result<Shape, ImageFault>
 #[tactic(auto, unfolding(crate::specs::Images::image_fault))]
 fn image_shape(hdu: &Hdu) -> Result<Shape, ImageFault>
     ensures fault { result_err result ≡ image_fault hdu.now }
-    ensures sides { IfOk result (λ shape. (shape.width ≡ hdu.now.width) × (shape.height ≡ hdu.now.height)) }
+    ensures sides { IfOk result
+        (λ shape. (shape.width ≡ hdu.now.width) × (shape.height ≡ hdu.now.height)) }
 {
     if hdu.kind == Kind::Other {
         return Err(ImageFault::NotImage);

@@ -42,7 +42,8 @@ impl Encoding {
     pub(crate) fn value(&self, bytes: &[u8]) -> Option<i64>
         requires room { self.now.size ≤ length bytes.now }
         requires narrow { self.now.size ≢ 8 }
-        ensures value { result ≡ value_stored_as self.now.zero self.now.blank (stored_number self.now.size bytes.now) }
+        ensures value { result ≡
+            value_stored_as self.now.zero self.now.blank (stored_number self.now.size bytes.now) }
         ensures in_range { IfSome result (λ v. IsWithinRange v) }
         ensures half_range { IfSome result (λ v. IsInHalfRange v) }
     {
@@ -74,8 +75,10 @@ impl Encoding {
         requires room { self.now.size ≤ length bytes.now }
         requires wide { self.now.size ≡ 8 }
         ensures value { MatchResult result
-            (λ value. value ≡ value_stored_as self.now.zero self.now.blank (stored_number self.now.size bytes.now))
-            (λ stored. IsFarNumber self.now.zero self.now.blank stored (stored_number self.now.size bytes.now)) }
+            (λ value. value ≡ value_stored_as self.now.zero self.now.blank
+            (stored_number self.now.size bytes.now))
+            (λ stored. IsFarNumber self.now.zero self.now.blank stored
+            (stored_number self.now.size bytes.now)) }
         ensures in_range { IfOk result (λ value. IfSome value (λ v. IsWithinRange v)) }
         ensures half_range { IfOk result (λ value. IfSome value (λ v. IsInHalfRange v)) }
     {

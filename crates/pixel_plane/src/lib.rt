@@ -7,7 +7,7 @@ mod fault;
 mod read;
 
 pub use check::check_image;
-pub use fault::{ImageFault, PlaneFault};
+pub use fault::{ImageFault, PixelPlace, PlaneFault, PlaneStop};
 pub use read::read_plane;
 
 #[cfg(test)]

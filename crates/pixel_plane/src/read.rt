@@ -2,21 +2,18 @@
 ghost use Rattle.std.specs.Prelude.{◌≡◌, ◌≢◌, ◌≤◌, ◌-◌, ◌*◌, Ok, length, IfOk, IfErr, IsErrOf, IsTrue, MatchResult};
 ghost use Rattle.std.specs.Option.{ForSome};
 ghost use Rattle.dev_io.specs.Causes.{Rose};
-ghost use Rattle.dev_io.specs.Streams.{Takes, Fills};
+ghost use Rattle.dev_io.specs.Streams.{Fills};
 ghost use Rattle.comp_tree.specs.Raster.{HasValuesInHalfRange};
 ghost use Rattle.pixel_plane.specs.Images.{checked};
 ghost use Rattle.pixel_plane.specs.Reading.{PlaneRead, PlaneStopped, NamesPixel};
 ghost use Rattle.pixel_plane.specs.Decoding.{PixelsRead, PixelsStopped, BytesStopped, RestStopped, IsDecoded, FarInside, NamesNone, NamesOnly, NamesFar};
 
-use crate::PlaneFault;
 use crate::encoding::Encoding;
+use crate::{PixelPlace, PlaneFault, PlaneStop};
 use comp_tree::{Plane, Shape};
-use dev_io::{Source, fill};
+use dev_io::{BLOCK, Source, fill, skip};
 use fits_hdu::Hdu;
 use std::alloc::Global;
-
-// A block of the file, which holds a whole number of pixels of each size.
-const BLOCK: usize = 2880;
 
 /// The plane of an image whose data are the next bytes, row by row. A pixel has the value BZERO and its stored number together, and is
 /// undefined where the stored number is BLANK (FITS Standard 4.0, section 4.4.2.5). All memory is taken before the first byte. A pixel
@@ -26,33 +23,28 @@ pub fn read_plane<S: Source>(
     src: &mut S,
     hdu: &Hdu,
     shape: Shape,
-) -> Result<Plane, PlaneFault>
+) -> Result<Plane, PlaneStop>
     requires { checked hdu.now ≡ Ok shape }
     ensures told { ForSome (S.left src.old) (λ bytes. MatchResult result
         (λ plane. PlaneRead hdu.now shape bytes (S.left src.new) plane)
-        (λ fault. PlaneStopped hdu.now shape bytes (S.left src.new) fault)) }
+        (λ stop. PlaneStopped hdu.now shape bytes (S.left src.new) stop)) }
     ensures shape { IfOk result (λ plane. plane.shape ≡ shape) }
     ensures range { IfErr result (NamesPixel hdu.now shape) }
     ensures half_range { IfOk result (λ plane. HasValuesInHalfRange plane.values) }
-    ensures truncated { IsErrOf result PlaneFault.TruncatedData → IsTrue (S.ended src.new) }
+    ensures truncated { IsErrOf result (PlaneStop.Fault PlaneFault.TruncatedData) →
+        IsTrue (S.ended src.new) }
     ensures later { S.faults src.old ≤ S.faults src.new }
-    ensures fault { IsErrOf result PlaneFault.ReadFault → Rose (S.faults src.old) (S.faults src.new) }
+    ensures fault { IsErrOf result PlaneStop.ReadFault →
+        Rose (S.faults src.old) (S.faults src.new) }
 {
     let Ok(mut plane) = Plane::blank(alloc, shape) else {
-        return Err(PlaneFault::OutOfMemory);
+        return Err(PlaneStop::OutOfMemory);
     };
     let encoding = Encoding::of(hdu);
     match read_pixels(src, &encoding, &mut plane) {
         Ok(()) => Ok(plane),
-        Err(fault) => Err(fault),
+        Err(stop) => Err(stop),
     }
-}
-
-// A pixel whose value is out of range, with its stored number.
-#[derive(Clone, Copy)]
-struct FarPixel {
-    pixel: u32,
-    stored: i64,
 }
 
 // Gives the pixels their values, from the next bytes.
@@ -60,91 +52,78 @@ fn read_pixels<S: Source>(
     src: &mut S,
     encoding: &Encoding,
     plane: &mut Plane,
-) -> Result<(), PlaneFault>
+) -> Result<(), PlaneStop>
     requires { HasValuesInHalfRange plane.old.values }
     ensures shape { plane.new.shape ≡ plane.old.shape }
     ensures count { length plane.new.values ≡ length plane.old.values }
     ensures half_range { HasValuesInHalfRange plane.new.values }
     ensures told { ForSome (S.left src.old) (λ bytes. MatchResult result
         (λ _. PixelsRead encoding.now bytes (S.left src.new) plane.new.values)
-        (λ fault. PixelsStopped encoding.now (length plane.old.values) bytes (S.left src.new) fault)) }
+        (λ stop. PixelsStopped encoding.now (length plane.old.values) bytes
+        (S.left src.new) stop)) }
     ensures range { IfErr result (NamesFar encoding.now (length plane.old.values)) }
-    ensures truncated { IsErrOf result PlaneFault.TruncatedData → IsTrue (S.ended src.new) }
+    ensures truncated { IsErrOf result (PlaneStop.Fault PlaneFault.TruncatedData) →
+        IsTrue (S.ended src.new) }
     ensures later { S.faults src.old ≤ S.faults src.new }
-    ensures fault { IsErrOf result PlaneFault.ReadFault → Rose (S.faults src.old) (S.faults src.new) }
+    ensures fault { IsErrOf result PlaneStop.ReadFault →
+        Rose (S.faults src.old) (S.faults src.new) }
 {
     let count = plane.shape().pixels();
+    // A block holds a whole number of pixels of each size.
     let most = (BLOCK / encoding.size) as u32;
     let mut block = [0; BLOCK];
     let mut first = 0;
     while first < count {
         let end = count.min(first + most);
         let bytes = &mut block[..(end - first) as usize * encoding.size];
-        if let Err(fault) = fill_all(src, bytes) {
-            return Err(fault);
+        if let Err(stop) = fill_all(src, bytes) {
+            return Err(stop);
         }
         if let Err(far) = decode(encoding, bytes, plane, first, end) {
-            return Err(range_fault(src, &far, (count - end) as usize * encoding.size));
+            return Err(stop_at_range(src, &far, (count - end) as usize * encoding.size));
         }
         first = end;
     }
     Ok(())
 }
 
-// The fault of an image in which this is the first pixel out of range, and so many bytes are still to come: where they don't all
-// come, that goes before it.
-fn range_fault<S: Source>(src: &mut S, far: &FarPixel, rest: usize) -> PlaneFault
-    ensures told { ForSome (S.left src.old) (λ bytes. RestStopped rest far.now.pixel far.now.stored bytes (S.left src.new) result) }
+// Why the reading of an image stops in which this is the first pixel out of range, and so many bytes are still to come: where
+// they don't all come, that goes before it.
+fn stop_at_range<S: Source>(src: &mut S, far: &PixelPlace, rest: usize) -> PlaneStop
+    ensures told { ForSome (S.left src.old)
+        (λ bytes. RestStopped rest far.now.pixel far.now.stored bytes (S.left src.new) result) }
     ensures range { NamesOnly far.now.pixel far.now.stored result }
-    ensures truncated { result ≡ PlaneFault.TruncatedData → IsTrue (S.ended src.new) }
+    ensures truncated { result ≡ PlaneStop.Fault PlaneFault.TruncatedData →
+        IsTrue (S.ended src.new) }
     ensures later { S.faults src.old ≤ S.faults src.new }
-    ensures fault { result ≡ PlaneFault.ReadFault → Rose (S.faults src.old) (S.faults src.new) }
+    ensures fault { result ≡ PlaneStop.ReadFault → Rose (S.faults src.old) (S.faults src.new) }
 {
-    match skip(src, rest) {
-        Ok(()) => PlaneFault::PixelRange {
+    match skip(src, rest as u64) {
+        Ok(true) => PlaneStop::Fault(PlaneFault::PixelRange {
             pixel: far.pixel,
             stored: far.stored,
-        },
-        Err(fault) => fault,
+        }),
+        Ok(false) => PlaneStop::Fault(PlaneFault::TruncatedData),
+        Err(_) => PlaneStop::ReadFault,
     }
-}
-
-// Passes over so many bytes.
-fn skip<S: Source>(src: &mut S, count: usize) -> Result<(), PlaneFault>
-    ensures told { ForSome (S.left src.old) (λ bytes. MatchResult result
-        (λ _. Takes bytes (S.left src.new) count)
-        (λ fault. BytesStopped count bytes (S.left src.new) fault)) }
-    ensures range { IfErr result NamesNone }
-    ensures truncated { IsErrOf result PlaneFault.TruncatedData → IsTrue (S.ended src.new) }
-    ensures later { S.faults src.old ≤ S.faults src.new }
-    ensures fault { IsErrOf result PlaneFault.ReadFault → Rose (S.faults src.old) (S.faults src.new) }
-{
-    let mut block = [0; BLOCK];
-    let mut taken = 0;
-    while taken < count {
-        let piece = BLOCK.min(count - taken);
-        if let Err(fault) = fill_all(src, &mut block[..piece]) {
-            return Err(fault);
-        }
-        taken += piece;
-    }
-    Ok(())
 }
 
 // Fills the buffer from the next bytes.
-fn fill_all<S: Source>(src: &mut S, buf: &mut [u8]) -> Result<(), PlaneFault>
+fn fill_all<S: Source>(src: &mut S, buf: &mut [u8]) -> Result<(), PlaneStop>
     ensures told { ForSome (S.left src.old) (λ bytes. MatchResult result
         (λ _. Fills bytes (S.left src.new) (length buf.new) buf.new)
-        (λ fault. BytesStopped (length buf.new) bytes (S.left src.new) fault)) }
+        (λ stop. BytesStopped (length buf.new) bytes (S.left src.new) stop)) }
     ensures range { IfErr result NamesNone }
-    ensures truncated { IsErrOf result PlaneFault.TruncatedData → IsTrue (S.ended src.new) }
+    ensures truncated { IsErrOf result (PlaneStop.Fault PlaneFault.TruncatedData) →
+        IsTrue (S.ended src.new) }
     ensures later { S.faults src.old ≤ S.faults src.new }
-    ensures fault { IsErrOf result PlaneFault.ReadFault → Rose (S.faults src.old) (S.faults src.new) }
+    ensures fault { IsErrOf result PlaneStop.ReadFault →
+        Rose (S.faults src.old) (S.faults src.new) }
 {
     match fill(src, buf) {
-        Ok(taken) if taken < buf.len() => Err(PlaneFault::TruncatedData),
+        Ok(taken) if taken < buf.len() => Err(PlaneStop::Fault(PlaneFault::TruncatedData)),
         Ok(_) => Ok(()),
-        Err(_) => Err(PlaneFault::ReadFault),
+        Err(_) => Err(PlaneStop::ReadFault),
     }
 }
 
@@ -155,7 +134,7 @@ fn decode(
     plane: &mut Plane,
     first: u32,
     end: u32,
-) -> Result<(), FarPixel>
+) -> Result<(), PixelPlace>
     requires order { first ≤ end }
     requires room { (end - first) * encoding.now.size ≤ length bytes.now }
     requires within { end ≤ length plane.old.values }
@@ -197,7 +176,7 @@ fn decode_wide(
     plane: &mut Plane,
     first: u32,
     end: u32,
-) -> Result<(), FarPixel>
+) -> Result<(), PixelPlace>
     requires wide { encoding.now.size ≡ 8 }
     requires room { (end - first) * encoding.now.size ≤ length bytes.now }
     requires within { end ≤ length plane.old.values }
@@ -213,7 +192,7 @@ fn decode_wide(
         let at = (p - first) as usize * encoding.size;
         match encoding.wide_value(&bytes[at..]) {
             Ok(value) => plane.set(p, value),
-            Err(stored) => return Err(FarPixel { pixel: p, stored }),
+            Err(stored) => return Err(PixelPlace { pixel: p, stored }),
         }
     }
     Ok(())

@@ -1,4 +1,4 @@
-// Checks and planes of small images.
+//! Checks and planes of small images.
 use crate::*;
 use dev_io::{MemSource, PlainSource};
 use fits_card::number::Whole;
@@ -117,15 +117,35 @@ fn a_cut_and_a_failing_source_are_told_apart(rt: HostRuntime) -> Result<(), Fail
     assert!(rt;
         matches!(
             read_plane(rt.alloc(), &mut cut, &IMAGE, shape),
-            Err(PlaneFault::TruncatedData)
+            Err(PlaneStop::Fault(PlaneFault::TruncatedData))
         )
     );
     let mut failing = MemSource::new(&[0x80, 0, 0, 1], 2, &[2]);
     assert!(rt;
         matches!(
             read_plane(rt.alloc(), &mut failing, &IMAGE, shape),
-            Err(PlaneFault::ReadFault)
+            Err(PlaneStop::ReadFault)
         )
+    );
+    Ok(())
+}
+
+#[test]
+fn faults_have_numbers_and_names(rt: HostRuntime) -> Result<(), Fail> {
+    assert_eq!(rt; ImageFault::Bzero.number(), 15);
+    assert_eq!(rt; ImageFault::Bzero.name(), "Bzero");
+    let fault = PlaneFault::PixelRange {
+        pixel: 7,
+        stored: -1,
+    };
+    assert_eq!(rt; fault.number(), 18);
+    assert_eq!(rt; fault.name(), "PixelRange");
+    assert_eq!(rt;
+        fault.place(),
+        Some(PixelPlace {
+            pixel: 7,
+            stored: -1
+        })
     );
     Ok(())
 }
@@ -207,10 +227,10 @@ fn the_least_pixel_out_of_range_is_answered_at_the_end(rt: HostRuntime) -> Resul
     assert!(rt;
         matches!(
             read_plane(rt.alloc(), &mut source, &WIDE, shape),
-            Err(PlaneFault::PixelRange {
+            Err(PlaneStop::Fault(PlaneFault::PixelRange {
                 pixel: 0,
                 stored: 68_719_476_737
-            })
+            }))
         )
     );
     assert_eq!(rt; source.rest(), &[9][..]);
@@ -218,7 +238,7 @@ fn the_least_pixel_out_of_range_is_answered_at_the_end(rt: HostRuntime) -> Resul
     assert!(rt;
         matches!(
             read_plane(rt.alloc(), &mut cut, &WIDE, shape),
-            Err(PlaneFault::TruncatedData)
+            Err(PlaneStop::Fault(PlaneFault::TruncatedData))
         )
     );
     Ok(())
@@ -237,10 +257,10 @@ fn a_pixel_out_of_range_is_answered_behind_all_blocks(rt: HostRuntime) -> Result
     assert!(rt;
         matches!(
             read_plane(rt.alloc(), &mut source, &hdu, shape),
-            Err(PlaneFault::PixelRange {
+            Err(PlaneStop::Fault(PlaneFault::PixelRange {
                 pixel: 0,
                 stored: -9_187_201_950_435_737_472
-            })
+            }))
         )
     );
     assert_eq!(rt; source.rest(), &[0x80][..]);
@@ -248,7 +268,7 @@ fn a_pixel_out_of_range_is_answered_behind_all_blocks(rt: HostRuntime) -> Result
     assert!(rt;
         matches!(
             read_plane(rt.alloc(), &mut cut, &hdu, shape),
-            Err(PlaneFault::TruncatedData)
+            Err(PlaneStop::Fault(PlaneFault::TruncatedData))
         )
     );
     Ok(())
@@ -269,10 +289,10 @@ fn bzero_counts_for_the_range(rt: HostRuntime) -> Result<(), Fail> {
     assert!(rt;
         matches!(
             read_plane(rt.alloc(), &mut source, &hdu, shape),
-            Err(PlaneFault::PixelRange {
+            Err(PlaneStop::Fault(PlaneFault::PixelRange {
                 pixel: 1,
                 stored: 68_719_476_736
-            })
+            }))
         )
     );
     Ok(())

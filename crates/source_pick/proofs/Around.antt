@@ -15,7 +15,8 @@ use Rattle.source_pick.specs.Clearing.{IsAround, columns_beside}
 pub row_place : (width u v : ℕ) → u < width → ((v * width + u) / width ≡ v) × ((v * width + u) % width ≡ u)
 row_place width u v inside =
     let next : (v + 1) * width ≡ v * width + width = omega arith in
-    let place : ((v * width + u) / width ≡ v) × ((v * width + u) % width ≡ v * width + u - v * width) = row-from width v (v * width + u) (omega arith) (omega arith) (omega arith) in
+    let place : ((v * width + u) / width ≡ v) × ((v * width + u) % width ≡ v * width + u - v * width) =
+    row-from width v (v * width + u) (omega arith) (omega arith) (omega arith) in
     (place.0, omega (arith, place.1))
 
 -- ---- who is around whom
@@ -23,10 +24,13 @@ row_place width u v inside =
 linked_sides : (connect : Connect) (x y u v : ℕ) → are_linked connect (distance x u) (distance y v) ≡ true
     → (x ≤ u + columns_beside connect (distance y v)) × (u ≤ x + columns_beside connect (distance y v)) × (y ≤ v + 1) × (v ≤ y + 1)
 unfolding are_linked distance
-linked_sides Four x y u v k = let n : distance x u + distance y v ≡ 1 = eqb-true (distance x u + distance y v) 1 k in (omega arith, omega arith, omega arith, omega arith)
-linked_sides Eight x y u v k = let n : max (distance x u) (distance y v) ≡ 1 = eqb-true (max (distance x u) (distance y v)) 1 k in (omega arith, omega arith, omega arith, omega arith)
+linked_sides Four x y u v k =
+    let n : distance x u + distance y v ≡ 1 = eqb-true (distance x u + distance y v) 1 k in (omega arith, omega arith, omega arith, omega arith)
+linked_sides Eight x y u v k =
+    let n : max (distance x u) (distance y v) ≡ 1 = eqb-true (max (distance x u) (distance y v)) 1 k in (omega arith, omega arith, omega arith, omega arith)
 
-linked_from_sides : (connect : Connect) (x y u v : ℕ) → (x ≡ u → y ≡ v → ⊥) → x ≤ u + columns_beside connect (distance y v) → u ≤ x + columns_beside connect (distance y v) → y ≤ v + 1 → v ≤ y + 1
+linked_from_sides : (connect : Connect) (x y u v : ℕ) → (x ≡ u → y ≡ v → ⊥) → x ≤ u + columns_beside connect (distance y v)
+    → u ≤ x + columns_beside connect (distance y v) → y ≤ v + 1 → v ≤ y + 1
     → are_linked connect (distance x u) (distance y v) ≡ true
 unfolding are_linked distance
 linked_from_sides Four x y u v apart a b c d = eq-eqb (distance x u + distance y v) 1 (one (cases_eq x u) (cases_eq y v))
@@ -61,7 +65,8 @@ around_sides connect width x y u v one other (inl e) =
 around_sides connect width x y u v one other (inr n) = linked_sides connect x y u v (sym (neighbours_linked connect width x y u v one other) ∙ n)
 
 around_from_sides : (connect : Connect) (width x y u v : ℕ) → x < width → u < width
-    → x ≤ u + columns_beside connect (distance y v) → u ≤ x + columns_beside connect (distance y v) → y ≤ v + 1 → v ≤ y + 1 → IsAround connect width (y * width + x) (v * width + u)
+    → x ≤ u + columns_beside connect (distance y v) → u ≤ x + columns_beside connect (distance y v) → y ≤ v + 1 → v ≤ y + 1
+    → IsAround connect width (y * width + x) (v * width + u)
 around_from_sides connect width x y u v one other a b c d = go (cases_eq x u) (cases_eq y v)
   where
     linked : (x ≡ u → y ≡ v → ⊥) → IsAround connect width (y * width + x) (v * width + u)
@@ -92,13 +97,16 @@ div_below width q m l = go (cases_lt (q / width) m)
   where
     go : (q / width < m) ⊎ (m ≤ q / width) → q / width < m
     go (inl k) = k
-    go (inr k) = let e : q / width * width + q % width ≡ q = div-add-mod' q width in let f : m * width ≤ q / width * width = mul-le-mul_right width k in absurd (omega arith)
+    go (inr k) =
+        let e : q / width * width + q % width ≡ q =
+        div-add-mod' q width in let f : m * width ≤ q / width * width = mul-le-mul_right width k in absurd (omega arith)
 
 div_mono : (width p q : ℕ) → 0 < width → p ≤ q → p / width ≤ q / width
 div_mono width p q some l = let e : p / width * width + p % width ≡ p = div-add-mod' p width in le-div (p / width) q width some (omega arith)
 
 -- so a run of pixels needs no rows but its own, the one before and the one after
-pub first_row : (connect : Connect) (width start first p q : ℕ) → 0 < width → first ≡ start / width - 1 → start ≤ q → IsAround connect width p q → first * width ≤ p
+pub first_row : (connect : Connect) (width start first p q : ℕ) → 0 < width → first ≡ start / width - 1 → start ≤ q → IsAround connect width p q
+    → first * width ≤ p
 first_row connect width start first p q some e l a =
     let rows : (p / width ≤ q / width + 1) × (q / width ≤ p / width + 1) = around_rows connect width p q a in
     let low : start / width ≤ q / width = div_mono width start q some l in
@@ -106,7 +114,8 @@ first_row connect width start first p q some e l a =
     let whole : p / width * width + p % width ≡ p = div-add-mod' p width in
     omega arith
 
-pub last_row : (connect : Connect) (width height last row p q : ℕ) → 0 < width → (last / width + 2 ≤ row) ⊎ (height ≤ row) → q ≤ last → p < height * width → IsAround connect width p q
+pub last_row : (connect : Connect) (width height last row p q : ℕ) → 0 < width → (last / width + 2 ≤ row) ⊎ (height ≤ row) → q ≤ last → p < height * width
+    → IsAround connect width p q
     → p < row * width
 last_row connect width height last row p q some end l inside a =
     let whole : p / width * width + p % width ≡ p = div-add-mod' p width in
@@ -134,7 +143,8 @@ pub record IsPartOfRow (width x side v first end : ℕ) : Type 0 where
   pub end_in : end ≤ v * width + width
   pub end_low : (end ≡ v * width + (x + side + 1)) ⊎ (end ≡ v * width + width)
 
-pub part_of_row : (width x side v low high : ℕ) → low ≡ x - side → high ≡ min (x + side + 1) width → IsPartOfRow width x side v (v * width + low) (v * width + high)
+pub part_of_row : (width x side v low high : ℕ) → low ≡ x - side → high ≡ min (x + side + 1) width
+    → IsPartOfRow width x side v (v * width + low) (v * width + high)
 part_of_row width x side v low high l h = record {
   first_is = ap (λ n. v * width + n) l;
   end_high = omega (arith, h);
@@ -146,11 +156,13 @@ part_of_row width x side v low high l h = record {
     go (inl k) = inl (omega (arith, h))
     go (inr k) = inr (omega (arith, h))
 
-pub part_around : (connect : Connect) (width x y v first end q : ℕ) → x < width → y ≤ v + 1 → v ≤ y + 1 → IsPartOfRow width x (columns_beside connect (distance y v)) v first end
+pub part_around : (connect : Connect) (width x y v first end q : ℕ) → x < width → y ≤ v + 1 → v ≤ y + 1
+    → IsPartOfRow width x (columns_beside connect (distance y v)) v first end
     → first ≤ q → q < end → IsAround connect width (y * width + x) q
 part_around connect width x y v first end q inside low high part a b =
     subst (IsAround connect width (y * width + x)) here
-    (around_from_sides connect width x y (q - v * width) v inside (omega (arith, part.end_in, b, l)) (omega (arith, part.first_is, a)) (omega (arith, part.end_high, b, l)) low high)
+    (around_from_sides connect width x y (q - v * width) v inside (omega (arith, part.end_in, b, l)) (omega (arith, part.first_is, a))
+    (omega (arith, part.end_high, b, l)) low high)
   where
     l : v * width ≤ q
     l = omega (arith, part.first_is, a)
@@ -164,11 +176,13 @@ around_part connect width x y v first end q inside part low high a =
     let next : (v + 1) * width ≡ v * width + width = omega arith in
     let here : v * width + (q - v * width) ≡ q = omega arith in
     let in_row : q - v * width < width = omega arith in
-    let sides : (x ≤ q - v * width + columns_beside connect (distance y v)) × (q - v * width ≤ x + columns_beside connect (distance y v)) × (y ≤ v + 1) × (v ≤ y + 1) =
+    let sides : (x ≤ q - v * width + columns_beside connect (distance y v)) × (q - v * width ≤ x + columns_beside connect
+    (distance y v)) × (y ≤ v + 1) × (v ≤ y + 1) =
     around_sides connect width x y (q - v * width) v inside in_row (subst (IsAround connect width (y * width + x)) (sym here) a) in
     (omega (arith, part.first_is, sides.0), go part.end_low sides.1)
   where
-    go : (end ≡ v * width + (x + columns_beside connect (distance y v) + 1)) ⊎ (end ≡ v * width + width) → q - v * width ≤ x + columns_beside connect (distance y v) → q < end
+    go : (end ≡ v * width + (x + columns_beside connect (distance y v) + 1)) ⊎ (end ≡ v * width + width)
+        → q - v * width ≤ x + columns_beside connect (distance y v) → q < end
     go (inl e) s = omega (arith, low)
     go (inr e) s = let next : (v + 1) * width ≡ v * width + width = omega arith in omega arith
 
@@ -180,7 +194,8 @@ around_after connect width x y first q inside e l a =
     let m : q / width < first = div_below width q first l in
     absurd (omega (arith, rows.0, place.0))
 
-pub around_before : (connect : Connect) (width height x y row q : ℕ) → x < width → (y + 2 ≤ row) ⊎ (height ≤ row) → q < height * width → IsAround connect width (y * width + x) q → q < row * width
+pub around_before : (connect : Connect) (width height x y row q : ℕ) → x < width → (y + 2 ≤ row) ⊎ (height ≤ row) → q < height * width
+    → IsAround connect width (y * width + x) q → q < row * width
 around_before connect width height x y row q inside end l a =
     let whole : q / width * width + q % width ≡ q = div-add-mod' q width in
     let rest : q % width < width = mod_below q width (omega arith) in
@@ -213,7 +228,8 @@ some_pixels width height parts rows wide high some e =
         go : (0 < rows) ⊎ (rows ≤ 0) → 1 ≤ rows
         go (inl l) = l
         go (inr l) =
-            let enough : (height ≤ (height / parts + min 1 (height % parts)) * parts) × ((height / parts + min 1 (height % parts)) * parts < height + parts) = div_ceil_times height parts some in
+            let enough : (height ≤ (height / parts + min 1 (height % parts)) * parts) × ((height / parts + min 1 (height % parts)) * parts < height + parts) =
+            div_ceil_times height parts some in
             let none : height / parts + min 1 (height % parts) ≡ 0 = omega arith in
             let zero : (height / parts + min 1 (height % parts)) * parts ≡ 0 = ap (λ n. n * parts) none ∙ zero-mul parts in
             absurd (omega arith)

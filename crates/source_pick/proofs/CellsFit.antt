@@ -77,10 +77,16 @@ row_fits number level base flux width s is level_fits peak =
                               (
                                 column_fits _ columns.ycen,
                                 (
-                                  one_spread_fits s.area s.xx s.x s.x (record { some = some; few = sizes.area; products_small = sizes.xx; first_small = sizes.x; second_small = sizes.x }),
+                                  one_spread_fits s.area s.xx s.x s.x
+                                      (record { some = some; few = sizes.area; products_small = sizes.xx; first_small = sizes.x; second_small = sizes.x }),
                                   (
-                                    one_spread_fits s.area s.yy s.y s.y (record { some = some; few = sizes.area; products_small = sizes.yy; first_small = sizes.y; second_small = sizes.y }),
-                                    (one_spread_fits s.area s.xy s.x s.y (record { some = some; few = sizes.area; products_small = sizes.xy; first_small = sizes.x; second_small = sizes.y }), tt),
+                                    one_spread_fits s.area s.yy s.y s.y
+                                        (record { some = some; few = sizes.area; products_small = sizes.yy; first_small = sizes.y; second_small = sizes.y }),
+                                    (
+                                      one_spread_fits s.area s.xy s.x s.y
+                                          (record { some = some; few = sizes.area; products_small = sizes.xy; first_small = sizes.x; second_small = sizes.y }),
+                                      tt,
+                                    ),
                                   ),
                                 ),
                               ),
@@ -112,5 +118,6 @@ pub catalogue_row_fits : (r : Raster) (connect : Connect) (n number : ℕ) → I
 unfolding catalogue_row
 catalogue_row_fits r connect n number plane range hn few =
     let is = measured r connect n plane range hn number few in
-    let level : FitsSigned w64 (level_of_node r connect n) = subst (FitsSigned w64) (sym (level-of_node r connect n hn)) (level_fits r (top_of r connect n) range) in
+    let level : FitsSigned w64 (level_of_node r connect n) =
+    subst (FitsSigned w64) (sym (level-of_node r connect n hn)) (level_fits r (top_of r connect n) range) in
     (row_columns number (level_of_node r connect n) _ _ _ _ is, row_fits number (level_of_node r connect n) _ _ _ _ is level (node_peak r connect n range))

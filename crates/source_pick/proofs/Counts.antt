@@ -27,7 +27,8 @@ stays rows entries strong k m One out h = record { first = h.first; below = omeg
     go : (n : ℕ) → (n < k) ⊎ (k ≤ n) → n < k + 1 → IsStrongChild rows entries strong m n → n ≡ h.first
     go n (inl x) l i = h.only n x i
     go n (inr x) l i = let e : n ≡ k = omega arith in absurd (out (subst (λ (j : ℕ). IsStrongChild rows entries strong m j) e i))
-stays rows entries strong k m Several out h = record { first = h.first; second = h.second; apart = h.apart; below = omega (arith, h.below); one = h.one; other = h.other }
+stays rows entries strong k m Several out h =
+    record { first = h.first; second = h.second; apart = h.apart; below = omega (arith, h.below); one = h.one; other = h.other }
 
 more : (rows : List NodeRow) (entries : List ℕ) (strong : List Bool) (k m : ℕ) (c : StrongChildren) → IsStrongChild rows entries strong m k
     → HasStrongChildren rows entries strong k m c → HasStrongChildren rows entries strong (k + 1) m (with_one_more c)
@@ -37,26 +38,34 @@ more rows entries strong k m Zero i h = record { first = k; below = omega arith;
     go n (inl x) l j = absurd (h.none n x j)
     go n (inr x) l j = omega arith
 more rows entries strong k m One i h = record { first = h.first; second = k; apart = h.below; below = omega arith; one = h.one; other = i }
-more rows entries strong k m Several i h = record { first = h.first; second = h.second; apart = h.apart; below = omega (arith, h.below); one = h.one; other = h.other }
+more rows entries strong k m Several i h =
+    record { first = h.first; second = h.second; apart = h.apart; below = omega (arith, h.below); one = h.one; other = h.other }
 
-pub counted_without : (rows : List NodeRow) (entries : List ℕ) (strong : List Bool) (k : ℕ) (children : List StrongChildren) → AreStrongChildCounts rows entries strong k children
+pub counted_without : (rows : List NodeRow) (entries : List ℕ) (strong : List Bool) (k : ℕ) (children : List StrongChildren)
+    → AreStrongChildCounts rows entries strong k children
     → ((m : ℕ) → m < length rows → IsStrongChild rows entries strong m k → ⊥) → AreStrongChildCounts rows entries strong (k + 1) children
 counted_without rows entries strong k children h out = record {
   one_each = h.one_each;
-  each = λ m c g. stays rows entries strong k m c (out m (let a : m < length children = slice_get_within children m c g in let b : length children ≡ length rows = h.one_each in omega arith)) (h.each m c g);
+  each = λ m c g. stays rows entries strong k m c (out m
+      (let a : m < length children = slice_get_within children m c g in let b : length children ≡ length rows = h.one_each in omega arith)) (h.each m c g);
 }
 
-pub counted_with : (rows : List NodeRow) (entries : List ℕ) (strong : List Bool) (k m : ℕ) (c v : StrongChildren) (children : List StrongChildren) → AreStrongChildCounts rows entries strong k children
-    → slice_get children m ≡ Some c → IsStrongChild rows entries strong m k → v ≡ with_one_more c → AreStrongChildCounts rows entries strong (k + 1) (set children m v)
-counted_with rows entries strong k m c v children h at inner e = record { one_each = length-set children m v ∙ h.one_each; each = λ j d g. go j d (get-written children m v j d g) }
+pub counted_with : (rows : List NodeRow) (entries : List ℕ) (strong : List Bool) (k m : ℕ) (c v : StrongChildren) (children : List StrongChildren)
+    → AreStrongChildCounts rows entries strong k children
+    → slice_get children m ≡ Some c → IsStrongChild rows entries strong m k → v ≡ with_one_more c
+    → AreStrongChildCounts rows entries strong (k + 1) (set children m v)
+counted_with rows entries strong k m c v children h at inner e =
+    record { one_each = length-set children m v ∙ h.one_each; each = λ j d g. go j d (get-written children m v j d g) }
   where
-    go : (j : ℕ) (d : StrongChildren) → ((j ≡ m) × (v ≡ d)) ⊎ ((j ≡ m → ⊥) × (slice_get children j ≡ Some d)) → HasStrongChildren rows entries strong (k + 1) j d
+    go : (j : ℕ) (d : StrongChildren) → ((j ≡ m) × (v ≡ d)) ⊎ ((j ≡ m → ⊥) × (slice_get children j ≡ Some d))
+        → HasStrongChildren rows entries strong (k + 1) j d
     go j d (inl x) =
         subst (λ (y : ℕ). HasStrongChildren rows entries strong (k + 1) y d) (sym x.0)
         (subst (λ (y : StrongChildren). HasStrongChildren rows entries strong (k + 1) m y) (sym e ∙ x.1) (more rows entries strong k m c inner (h.each m c at)))
     go j d (inr x) = stays rows entries strong k j d (λ i. x.0 (sym i.is_child ∙ inner.is_child)) (h.each j d x.1)
 
-pub counted_up_to : (rows : List NodeRow) (entries : List ℕ) (strong : List Bool) (j k : ℕ) (children : List StrongChildren) → AreStrongChildCounts rows entries strong k children → j ≡ k
+pub counted_up_to : (rows : List NodeRow) (entries : List ℕ) (strong : List Bool) (j k : ℕ) (children : List StrongChildren)
+    → AreStrongChildCounts rows entries strong k children → j ≡ k
     → AreStrongChildCounts rows entries strong j children
 counted_up_to rows entries strong j k children h e = subst (λ (n : ℕ). AreStrongChildCounts rows entries strong n children) (sym e) h
 
@@ -97,7 +106,8 @@ passed_with rows splits k n p flags h e inside flag is_parent l = record {
         record { split = s.split; inside = s.inside; on_way = way_trans rows m n s.split (inr up) s.on_way; is_split = s.is_split }
     sound m x (inr y) f = h.sound m x (sym (get_or-set_other flags p m true false y) ∙ f)
 
-    handed : (m j : ℕ) → n ≤ j → j < length rows → parent_in rows j ≡ m → m < length rows → (j ≡ n) ⊎ (j ≡ n → ⊥) → slice_index_or (set flags p true) j false ≡ true
+    handed : (m j : ℕ) → n ≤ j → j < length rows → parent_in rows j ≡ m → m < length rows → (j ≡ n) ⊎ (j ≡ n → ⊥)
+        → slice_index_or (set flags p true) j false ≡ true
         → slice_index_or (set flags p true) m false ≡ true
     handed m j a b c d (inl y) f =
         let same : m ≡ p = sym c ∙ ap (parent_in rows) y ∙ is_parent in
@@ -120,7 +130,8 @@ passed_without rows splits k n flags h e out = record {
     handed m j a b c d (inl y) f = absurd (out m (ap (parent_in rows) (sym y) ∙ c) d (ap (λ (x : ℕ). get_or flags x false) (sym y) ∙ f))
     handed m j a b c d (inr y) f = h.handed m j (omega arith) b c d f
 
-pub passed_all : (rows : List NodeRow) (splits : List Bool) (k : ℕ) (flags : List Bool) → ArePassed rows splits k flags → k ≡ 0 → AreAboveSplits rows splits flags
+pub passed_all : (rows : List NodeRow) (splits : List Bool) (k : ℕ) (flags : List Bool) → ArePassed rows splits k flags → k ≡ 0
+    → AreAboveSplits rows splits flags
 passed_all rows splits k flags h e = record { one_each = h.one_each; sound = h.sound; complete = complete }
   where
     climb : (m n : ℕ) → n < length rows → slice_index_or flags n false ≡ true → IsAncestor rows m n → slice_index_or flags m false ≡ true
@@ -136,12 +147,14 @@ passed_all rows splits k flags h e = record { one_each = h.one_each; sound = h.s
 
 -- ---- as the code reads it
 
-pub row_parent : (tree : ComponentTree) (rows : List NodeRow) (n : ℕ) (d : NodeRow) → rows ≡ tree.rows → n < length tree.rows → parent_in tree.rows n ≡ (slice_index_or rows n d).parent
+pub row_parent : (tree : ComponentTree) (rows : List NodeRow) (n : ℕ) (d : NodeRow) → rows ≡ tree.rows → n < length tree.rows
+    → parent_in tree.rows n ≡ (slice_index_or rows n d).parent
 row_parent tree rows n d f h =
     sym (row-parent rows n d (let l : length rows ≡ length tree.rows = ap length f in omega arith) ∙ ap (λ (xs : List NodeRow). parent_in xs n) f)
 
 -- a parent that is none is no row's number
-pub none_outside : (tree : ComponentTree) (n m x : ℕ) → IsWellFormed tree → parent_in tree.rows n ≡ x → x ≡ no_node → parent_in tree.rows n ≡ m → m < length tree.rows → ⊥
+pub none_outside : (tree : ComponentTree) (n m x : ℕ) → IsWellFormed tree → parent_in tree.rows n ≡ x → x ≡ no_node → parent_in tree.rows n ≡ m
+    → m < length tree.rows → ⊥
 none_outside tree n m x w e f g l =
     let few : tree.shape.width * tree.shape.height ≤ 2 ^ 24 = tree.shape.within_limits.few_pixels in
     let rows : length tree.rows ≤ tree.shape.width * tree.shape.height = w.few_rows in

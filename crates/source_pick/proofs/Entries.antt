@@ -34,15 +34,20 @@ entry_parts r connect choice n h = record {
     low : Bool
     low = (parent_of_node r connect n == no_node) || int_lt (level_of_node r connect (parent_of_node r connect n)) choice.threshold
 
-    whole : (int_le choice.threshold (level_of_node r connect n) && ((parent_of_node r connect n == no_node) || int_lt (level_of_node r connect (parent_of_node r connect n)) choice.threshold) ≡ true)
+    whole : (int_le choice.threshold
+        (level_of_node r connect n) && ((parent_of_node r connect n == no_node) || int_lt (level_of_node r connect (parent_of_node r connect n))
+        choice.threshold) ≡ true)
         × (is_large r connect choice n ≡ true)
     whole =
-        and_parts (int_le choice.threshold (level_of_node r connect n) && ((parent_of_node r connect n == no_node) || int_lt (level_of_node r connect (parent_of_node r connect n)) choice.threshold))
+        and_parts (int_le choice.threshold (level_of_node r connect n) && ((parent_of_node r connect n == no_node) || int_lt
+        (level_of_node r connect (parent_of_node r connect n)) choice.threshold))
         (is_large r connect choice n) h
 
     front : (int_le choice.threshold (level_of_node r connect n) ≡ true)
         × (((parent_of_node r connect n == no_node) || int_lt (level_of_node r connect (parent_of_node r connect n)) choice.threshold) ≡ true)
-    front = and_parts (int_le choice.threshold (level_of_node r connect n)) ((parent_of_node r connect n == no_node) || int_lt (level_of_node r connect (parent_of_node r connect n)) choice.threshold) whole.0
+    front =
+        and_parts (int_le choice.threshold (level_of_node r connect n))
+        ((parent_of_node r connect n == no_node) || int_lt (level_of_node r connect (parent_of_node r connect n)) choice.threshold) whole.0
 
     split : (parent_of_node r connect n == no_node ≡ true) ⊎ (int_lt (level_of_node r connect (parent_of_node r connect n)) choice.threshold ≡ true)
         → (parent_of_node r connect n ≡ no_node) ⊎ (level_of_node r connect (parent_of_node r connect n) <ℤ choice.threshold)
@@ -81,7 +86,8 @@ pub record IsEntryOf (r : Raster) (connect : Connect) (choice : Choice) (n e : �
   pub entry : is_entry r connect choice e ≡ true
   pub way : IsOnWay (tree_of r connect).rows e n
 
-pub entries_that_share : (r : Raster) (connect : Connect) (choice : Choice) (d e q : ℕ) → IsPlane r → d < length (nodes r connect) → e < length (nodes r connect)
+pub entries_that_share : (r : Raster) (connect : Connect) (choice : Choice) (d e q : ℕ) → IsPlane r → d < length (nodes r connect)
+    → e < length (nodes r connect)
     → is_entry r connect choice d ≡ true → is_entry r connect choice e ≡ true → is_in_node r connect d q ≡ true → is_in_node r connect e q ≡ true → d ≡ e
 entries_that_share r connect choice d e q plane hd he is_d is_e in_d in_e = go (way_from_shared r connect d e q plane hd he in_d in_e)
   where
@@ -187,7 +193,8 @@ entry_of_parent r connect choice n p e isnt is_parent k =
     record { node = k.node; entry = k.entry; way = subst (λ (x : ℕ). IsOnWay (tree_of r connect).rows e x) (sym h.is_parent ∙ is_parent) h.way }
 
 pub entry_of-child : (r : Raster) (connect : Connect) (choice : Choice) (n p : ℕ) → IsPlane r → n < length (nodes r connect)
-    → is_entry r connect choice n ≡ false → parent_of_node r connect n ≡ p → p < length (nodes r connect) → entry_of r connect choice n ≡ entry_of r connect choice p
+    → is_entry r connect choice n ≡ false → parent_of_node r connect n ≡ p → p < length (nodes r connect)
+    → entry_of r connect choice n ≡ entry_of r connect choice p
 entry_of-child r connect choice n p plane hn isnt is_parent hp = go (entry_of r connect choice p) refl
   where
     go : (o : Option ℕ) → entry_of r connect choice p ≡ o → entry_of r connect choice n ≡ entry_of r connect choice p
@@ -195,4 +202,5 @@ entry_of-child r connect choice n p plane hn isnt is_parent hp = go (entry_of r 
         entry_of-no r connect choice n plane hn
         (λ e k. entry_of-none r connect choice p e plane hp u (entry_of_parent r connect choice n p e isnt is_parent k)) ∙ sym u
     go (Some e) u =
-        entry_of-found r connect choice n e plane hn (entry_of_child r connect choice n p e is_parent hp (entry_of-parts r connect choice p e plane hp u)) ∙ sym u
+        entry_of-found r connect choice n e plane hn (entry_of_child r connect choice n p e is_parent hp (entry_of-parts r connect choice p e plane hp u))
+        ∙ sym u

@@ -2,6 +2,8 @@
 
 -- a plane's tree has a number for each pixel, and the plane's shape
 pub use Rattle.source_pick.proofs.Readings.{numbers-length, tree-shape}
+-- a node's parent is none, or a node
+pub use Rattle.source_pick.proofs.Splits.{parent_cases}
 -- a tree has few rows, and a list of disjoint nodes is short
 pub use Rattle.source_pick.proofs.Marks.{few_marked, few_rows}
 -- the plane that is kept has the same shape
@@ -12,9 +14,6 @@ pub use Rattle.source_pick.proofs.Listing.{first_inside}
 pub use Rattle.source_pick.proofs.AlongSums.{length_paired, total_paired}
 -- the list of the sources of a plane: its members are the sources, and it rises by their least pixels
 pub use Rattle.source_pick.proofs.Pairing.{among_sources, source_from_among, sources_rise, rising_from_get}
-pub use Rattle.source_pick.proofs.Listing.{sources_are_listed, sources_are_in_order}
--- no two sources share a pixel
-pub use Rattle.source_pick.proofs.Sourcing.{sources_are_disjoint}
 -- the catalogue is the rows of the sources, and the map the places of the sources that have the pixels
 pub use Rattle.source_pick.proofs.Local.{catalogue-is, number-is, segmentation-is}
 -- the pixel that represents a source has at least the threshold, and each pixel of the source is reached from it there

@@ -1,5 +1,6 @@
 -- Which nodes the arrays show as sources, and the list that is made of them.
-use Rattle.std.proofs.Common.{◌≡◌, ℕ, ◌+◌, ◌*◌, ◌<◌, ◌≤◌, zero, suc, Bool, true, false, ◌&&◌, ◌||◌, not, List, [], ◌∷◌, ◌++◌, length, map, refl, sym, ◌∙◌, ap, subst, arith, ◌⊎◌, inl, inr, set, Result, Ok, Err, Vec, Global}
+use Rattle.std.proofs.Common.{◌≡◌, ℕ, ◌+◌, ◌*◌, ◌<◌, ◌≤◌, zero, suc, Bool, true, false, ◌&&◌, ◌||◌, not, List, [], ◌∷◌, ◌++◌, length, map, refl, sym, ◌∙◌}
+use Rattle.std.proofs.Common.{ap, subst, arith, ◌⊎◌, inl, inr, set, Result, Ok, Err, Vec, Global}
 use Rattle.std.specs.Prelude.{unwrap_or, IfOk, Option, Some, replicate, slice_get, slice_index, slice_index_or}
 use Rattle.std.specs.List.{range_with_len, flat_map}
 use Rattle.std.proofs.lemmas.Bool.{true≢false, and_right, not_from_true, false_from_ne_true, cases_lt, cases_order}
@@ -9,7 +10,7 @@ use Rattle.lemmas.proofs.Exported.{same_bool}
 use Rattle.comp_tree.specs.declared.shape.Shape.{Shape}
 use Rattle.comp_tree.specs.declared.shape.Connect.{Connect}
 use Rattle.comp_tree.specs.declared.tree.NodeRow.{NodeRow}
-use Rattle.comp_tree.specs.Raster.{Raster, IsPlane, pixels}
+use Rattle.comp_tree.specs.Raster.{Raster, IsPlane}
 use Rattle.comp_tree.specs.ComponentTree.{ComponentTree, parent_in, no_node}
 use Rattle.comp_tree.specs.Components.{nodes, tree_of}
 use Rattle.comp_tree.specs.Laws.{parent_of_node}
@@ -22,9 +23,11 @@ use Rattle.source_pick.specs.declared.splitting.StrongChildren.{StrongChildren}
 use Rattle.source_pick.specs.declared.splitting.StrongChildren.TheVariants.{Zero, One, Several}
 use Rattle.source_pick.specs.Sources.{is_entry, entry_of, is_split, has_strong_sibling, contains_split, is_source, sources_at, sources}
 use Rattle.source_pick.specs.Segmentation.{AreDisjointNodes}
-use Rattle.source_pick.specs.Passes.{entry_number, AreEntries, AreStrong, IsStrongChild, HasTwoStrongChildren, HasStrongChildren, AreStrongChildCounts, are_several, IsOnWay, IsAboveSplit, AreAboveSplits, AreSources, IsFirstOf, IsNoFirst, StandAtFirst, ArePicked}
+use Rattle.source_pick.specs.Passes.{entry_number, AreEntries, AreStrong, IsStrongChild, HasTwoStrongChildren, HasStrongChildren, AreStrongChildCounts}
+use Rattle.source_pick.specs.Passes.{are_several, IsOnWay, IsAboveSplit, AreAboveSplits, AreSources, IsFirstOf, IsNoFirst, StandAtFirst, ArePicked}
 use Rattle.source_pick.proofs.Entries.{IsEntryOf, entry_of-parts, entry_of-self, entry_of-found, entry_of_child}
-use Rattle.source_pick.proofs.Splits.{AreTwins, other_way, IsSplitNode, split_parts, split_from, split_entry, sibling_parts, sibling_from, ContainsSplit, contains_parts, contains_from}
+use Rattle.source_pick.proofs.Splits.{AreTwins, other_way, IsSplitNode, split_parts, split_from, split_entry, sibling_parts, sibling_from, ContainsSplit}
+use Rattle.source_pick.proofs.Splits.{contains_parts, contains_from}
 use Rattle.source_pick.proofs.Sourcing.{source_from}
 use Rattle.source_pick.proofs.Listing.{first_below, flat-push, list_is, source_node, sources_apart, sources_at-none, sources_at-one}
 use Rattle.source_pick.proofs.Readings.{HasTreeAndSums, numbers-length, tree-shape, node_inside, filled}
@@ -33,20 +36,23 @@ use Rattle.source_pick.proofs.Strong.{entry_from_number}
 -- ---- what the arrays say
 
 -- the arrays are those of the nodes
-pub record IsKnown (r : Raster) (connect : Connect) (choice : Choice) (tree : ComponentTree) (sums : List Sums) (entries : List ℕ) (strong : List Bool) (children : List StrongChildren) (above : List Bool) : Type 0 where
+pub record IsKnown (r : Raster) (connect : Connect) (choice : Choice) (tree : ComponentTree) (sums : List Sums) (entries : List ℕ) (strong : List Bool)
+    (children : List StrongChildren) (above : List Bool) : Type 0 where
   pub of : HasTreeAndSums r connect tree sums
   pub entries_are : AreEntries choice tree sums (length tree.rows) entries
   pub strong_are : AreStrong choice tree sums (length tree.rows) strong
   pub children_are : AreStrongChildCounts tree.rows entries strong (length tree.rows) children
   pub above_are : AreAboveSplits tree.rows (map are_several children) above
 
-two_from_several : (rows : List NodeRow) (entries : List ℕ) (strong : List Bool) (count m : ℕ) (c : StrongChildren) → HasStrongChildren rows entries strong count m c → are_several c ≡ true
+two_from_several : (rows : List NodeRow) (entries : List ℕ) (strong : List Bool) (count m : ℕ) (c : StrongChildren)
+    → HasStrongChildren rows entries strong count m c → are_several c ≡ true
     → HasTwoStrongChildren rows entries strong count m
 two_from_several rows entries strong count m Zero h e = absurd (true≢false (sym e))
 two_from_several rows entries strong count m One h e = absurd (true≢false (sym e))
 two_from_several rows entries strong count m Several h e = h
 
-several_from_two : (rows : List NodeRow) (entries : List ℕ) (strong : List Bool) (count m a b : ℕ) (c : StrongChildren) → HasStrongChildren rows entries strong count m c → a < b → b < count
+several_from_two : (rows : List NodeRow) (entries : List ℕ) (strong : List Bool) (count m a b : ℕ) (c : StrongChildren)
+    → HasStrongChildren rows entries strong count m c → a < b → b < count
     → IsStrongChild rows entries strong m a → IsStrongChild rows entries strong m b → are_several c ≡ true
 several_from_two rows entries strong count m a b Zero h l u i j = absurd (h.none b u j)
 several_from_two rows entries strong count m a b One h l u i j =
@@ -55,12 +61,14 @@ several_from_two rows entries strong count m a b One h l u i j =
     absurd (omega arith)
 several_from_two rows entries strong count m a b Several h l u i j = refl
 
-flag-is : (children : List StrongChildren) (m : ℕ) (d : StrongChildren) → m < length children → slice_index_or (map are_several children) m false ≡ are_several (slice_index_or children m d)
+flag-is : (children : List StrongChildren) (m : ℕ) (d : StrongChildren) → m < length children
+    → slice_index_or (map are_several children) m false ≡ are_several (slice_index_or children m d)
 flag-is [] m d h = absurd (omega arith)
 flag-is (x ∷ xs) zero d h = refl
 flag-is (x ∷ xs) (suc m) d h = flag-is xs m d (omega arith)
 
-module _ (r : Raster) (connect : Connect) (choice : Choice) (tree : ComponentTree) (sums : List Sums) (entries : List ℕ) (strong : List Bool) (children : List StrongChildren) (above : List Bool)
+module _ (r : Raster) (connect : Connect) (choice : Choice) (tree : ComponentTree) (sums : List Sums) (entries : List ℕ) (strong : List Bool)
+    (children : List StrongChildren) (above : List Bool)
     (k : IsKnown r connect choice tree sums entries strong children above) where
   plane : IsPlane r
   plane = k.of.plane
@@ -75,9 +83,12 @@ module _ (r : Raster) (connect : Connect) (choice : Choice) (tree : ComponentTre
   child_of n = ap (λ (t : ComponentTree). parent_in t.rows n) k.of.tree_is
 
   entry_at : (m : ℕ) → m < length tree.rows → (slice_index entries m ≡ no_node → ⊥) → entry_of r connect choice m ≡ Some (slice_index entries m)
-  entry_at m h some = entry_from_number r connect choice m (slice_index entries m) plane (node m h) (k.entries_are.each r connect k.of.tree_is k.of.sums_are k.of.plane m h) some
+  entry_at m h some =
+      entry_from_number r connect choice m (slice_index entries m) plane (node m h) (k.entries_are.each r connect k.of.tree_is k.of.sums_are k.of.plane m h)
+      some
 
-  inner_entry : (m a : ℕ) → m < length tree.rows → a < length tree.rows → IsStrongChild tree.rows entries strong m a → entry_of r connect choice a ≡ Some (slice_index entries m)
+  inner_entry : (m a : ℕ) → m < length tree.rows → a < length tree.rows → IsStrongChild tree.rows entries strong m a
+      → entry_of r connect choice a ≡ Some (slice_index entries m)
   inner_entry m a hm ha i =
       entry_of-found r connect choice a (slice_index entries m) plane (node a ha)
       (entry_of_child r connect choice a m (slice_index entries m) (sym (child_of a) ∙ i.is_child) (node m hm)
@@ -96,14 +107,16 @@ module _ (r : Raster) (connect : Connect) (choice : Choice) (tree : ComponentTre
     other_entry = inner_entry m b hm hb j;
   }
 
-  inner_from_twins : (m a b : ℕ) → m < length tree.rows → a < length (nodes r connect) → b < length (nodes r connect) → AreTwins r connect choice m a b → IsStrongChild tree.rows entries strong m a
+  inner_from_twins : (m a b : ℕ) → m < length tree.rows → a < length (nodes r connect) → b < length (nodes r connect) → AreTwins r connect choice m a b
+      → IsStrongChild tree.rows entries strong m a
   unfolding entry_number
   inner_from_twins m a b hm ha hb t = record {
     is_child = child_of a ∙ t.one_child;
     is_strong = k.strong_are.each r connect k.of.tree_is k.of.sums_are k.of.plane a (row a ha) ∙ t.one_strong;
     has_entry = λ e. below_no_node r connect t.entry plane
         (entry_of-parts r connect choice m t.entry plane (node m hm) (split_entry r connect choice m a b plane (node m hm) ha hb t)).node
-        (sym (k.entries_are.each r connect k.of.tree_is k.of.sums_are k.of.plane m hm ∙ ap (λ (o : Option ℕ). unwrap_or o no_node) (split_entry r connect choice m a b plane (node m hm) ha hb t)) ∙ e);
+        (sym (k.entries_are.each r connect k.of.tree_is k.of.sums_are k.of.plane m hm ∙ ap (λ (o : Option ℕ). unwrap_or o no_node)
+        (split_entry r connect choice m a b plane (node m hm) ha hb t)) ∙ e);
   }
 
   child_state : (m : ℕ) → m < length tree.rows → HasStrongChildren tree.rows entries strong (length tree.rows) m (slice_index_or children m Zero)
@@ -116,7 +129,8 @@ module _ (r : Raster) (connect : Connect) (choice : Choice) (tree : ComponentTre
     where
       there : are_several (slice_index_or children m Zero) ≡ true → is_split r connect choice m ≡ true
       there e =
-          let t : HasTwoStrongChildren tree.rows entries strong (length tree.rows) m = two_from_several tree.rows entries strong (length tree.rows) m (slice_index_or children m Zero) (child_state m h) e in
+          let t : HasTwoStrongChildren tree.rows entries strong (length tree.rows) m =
+          two_from_several tree.rows entries strong (length tree.rows) m (slice_index_or children m Zero) (child_state m h) e in
           let u : t.second < length tree.rows = t.below in
           let v : t.first < length tree.rows = omega (arith, t.apart) in
           split_from r connect choice m t.first t.second (node t.first v) (node t.second u) (twins_from_inner m t.first t.second h v u t.apart t.one t.other)
@@ -135,8 +149,12 @@ module _ (r : Raster) (connect : Connect) (choice : Choice) (tree : ComponentTre
 
           order : (s.first ≡ s.second) ⊎ ((s.first < s.second) ⊎ (s.second < s.first)) → are_several (slice_index_or children m Zero) ≡ true
           order (inl f) = absurd (s.twins.apart f)
-          order (inr (inl l)) = several_from_two tree.rows entries strong (length tree.rows) m s.first s.second (slice_index_or children m Zero) (child_state m h) l (row s.second s.second_node) one other
-          order (inr (inr l)) = several_from_two tree.rows entries strong (length tree.rows) m s.second s.first (slice_index_or children m Zero) (child_state m h) l (row s.first s.first_node) other one
+          order (inr (inl l)) =
+              several_from_two tree.rows entries strong (length tree.rows) m s.first s.second (slice_index_or children m Zero) (child_state m h) l
+              (row s.second s.second_node) one other
+          order (inr (inr l)) =
+              several_from_two tree.rows entries strong (length tree.rows) m s.second s.first (slice_index_or children m Zero) (child_state m h) l
+              (row s.first s.first_node) other one
 
   split_flag : (m : ℕ) → m < length tree.rows → slice_index_or (map are_several children) m false ≡ is_split r connect choice m
   split_flag m h = flag-is children m Zero (let l : length children ≡ length tree.rows = k.children_are.one_each in omega arith) ∙ several-is m h
@@ -157,13 +175,23 @@ module _ (r : Raster) (connect : Connect) (choice : Choice) (tree : ComponentTre
       there e =
           let s : IsAboveSplit tree.rows (map are_several children) n = k.above_are.sound n h e in
           contains_from r connect choice n plane (node n h)
-          (record { split = s.split; node = node s.split s.inside; way = way_same n s.split s.on_way; is_split = sym (split_flag s.split s.inside) ∙ s.is_split })
+          (record {
+            split = s.split;
+            node = node s.split s.inside;
+            way = way_same n s.split s.on_way;
+            is_split = sym (split_flag s.split s.inside) ∙ s.is_split;
+          })
 
       back : contains_split r connect choice n ≡ true → slice_index_or above n false ≡ true
       back e =
           let s : ContainsSplit r connect choice n = contains_parts r connect choice n plane (node n h) e in
           k.above_are.complete n
-          (record { split = s.split; inside = row s.split s.node; on_way = way_back n s.split s.way; is_split = split_flag s.split (row s.split s.node) ∙ s.is_split })
+          (record {
+            split = s.split;
+            inside = row s.split s.node;
+            on_way = way_back n s.split s.way;
+            is_split = split_flag s.split (row s.split s.node) ∙ s.is_split;
+          })
 
   -- ---- each exit of the test
 
@@ -177,15 +205,20 @@ module _ (r : Raster) (connect : Connect) (choice : Choice) (tree : ComponentTre
   exit_entry n h e f =
       let own : entry_of r connect choice n ≡ Some (slice_index entries n) = entry_at n h (λ g. below_no_node r connect n plane (node n h) (sym f ∙ g)) in
       let parts : IsEntryOf r connect choice n (slice_index entries n) = entry_of-parts r connect choice n (slice_index entries n) plane (node n h) own in
-      sym (source_from r connect choice n (record { stands = inl (subst (λ (x : ℕ). is_entry r connect choice x ≡ true) f parts.entry); whole = sym (above-is n h) ∙ e }))
+      sym (source_from r connect choice n (record {
+        stands = inl (subst (λ (x : ℕ). is_entry r connect choice x ≡ true) f parts.entry);
+        whole = sym (above-is n h) ∙ e;
+      }))
 
   no_entry : (n : ℕ) → n < length tree.rows → (slice_index entries n ≡ n → ⊥) → is_entry r connect choice n ≡ false
   unfolding entry_number
   no_entry n h other =
       false_from_ne_true (is_entry r connect choice n)
-      (λ e. other (k.entries_are.each r connect k.of.tree_is k.of.sums_are k.of.plane n h ∙ ap (λ (o : Option ℕ). unwrap_or o no_node) (entry_of-self r connect choice n plane (node n h) e)))
+      (λ e. other (k.entries_are.each r connect k.of.tree_is k.of.sums_are k.of.plane n h ∙ ap (λ (o : Option ℕ). unwrap_or o no_node)
+      (entry_of-self r connect choice n plane (node n h) e)))
 
-  by_sibling : (n : ℕ) (b : Bool) → n < length tree.rows → slice_index_or above n false ≡ false → (slice_index entries n ≡ n → ⊥) → b ≡ has_strong_sibling r connect choice n
+  by_sibling : (n : ℕ) (b : Bool) → n < length tree.rows → slice_index_or above n false ≡ false → (slice_index entries n ≡ n → ⊥)
+      → b ≡ has_strong_sibling r connect choice n
       → b ≡ is_source r connect choice n
   unfolding is_source
   by_sibling n b h e other f = rw (no_entry n h other, sym (above-is n h) ∙ e) (f ∙ last (has_strong_sibling r connect choice n))
@@ -194,20 +227,24 @@ module _ (r : Raster) (connect : Connect) (choice : Choice) (tree : ComponentTre
       last true = refl
       last false = refl
 
-  pub exit_weak : (n : ℕ) → n < length tree.rows → slice_index_or above n false ≡ false → (slice_index entries n ≡ n → ⊥) → slice_index_or strong n false ≡ false → false ≡ is_source r connect choice n
+  pub exit_weak : (n : ℕ) → n < length tree.rows → slice_index_or above n false ≡ false → (slice_index entries n ≡ n → ⊥)
+      → slice_index_or strong n false ≡ false → false ≡ is_source r connect choice n
   exit_weak n h e other weak =
       by_sibling n false h e other
       (sym (false_from_ne_true (has_strong_sibling r connect choice n)
-      (λ s. true≢false (sym (sibling_parts r connect choice n plane (node n h) s).strong ∙ sym (k.strong_are.each r connect k.of.tree_is k.of.sums_are k.of.plane n h) ∙ weak))))
+      (λ s. true≢false (sym (sibling_parts r connect choice n plane (node n h) s).strong ∙ sym
+      (k.strong_are.each r connect k.of.tree_is k.of.sums_are k.of.plane n h) ∙ weak))))
 
-  pub exit_root : (n p : ℕ) → n < length tree.rows → slice_index_or above n false ≡ false → (slice_index entries n ≡ n → ⊥) → p ≡ parent_of_node r connect n → p ≡ no_node
+  pub exit_root : (n p : ℕ) → n < length tree.rows → slice_index_or above n false ≡ false → (slice_index entries n ≡ n → ⊥) → p ≡ parent_of_node r connect n
+      → p ≡ no_node
       → false ≡ is_source r connect choice n
   exit_root n p h e other is_parent none =
       by_sibling n false h e other
       (sym (false_from_ne_true (has_strong_sibling r connect choice n)
       (λ s. below_no_node r connect (parent_of_node r connect n) plane (sibling_parts r connect choice n plane (node n h) s).node (sym is_parent ∙ none))))
 
-  pub exit_child : (n p : ℕ) (b : Bool) → n < length tree.rows → slice_index_or above n false ≡ false → (slice_index entries n ≡ n → ⊥) → slice_index_or strong n false ≡ true
+  pub exit_child : (n p : ℕ) (b : Bool) → n < length tree.rows → slice_index_or above n false ≡ false → (slice_index entries n ≡ n → ⊥)
+      → slice_index_or strong n false ≡ true
       → p ≡ parent_of_node r connect n → p < n → b ≡ is_split r connect choice p → b ≡ is_source r connect choice n
   exit_child n p b h e other on is_parent l f =
       by_sibling n b h e other (f ∙ same_bool (is_split r connect choice p) (has_strong_sibling r connect choice n) there back)
@@ -224,22 +261,29 @@ module _ (r : Raster) (connect : Connect) (choice : Choice) (tree : ComponentTre
 
 -- ---- the flags
 
-pub sources_none : (choice : Choice) (tree : ComponentTree) (sums : List Sums) (flags : List Bool) → length flags ≡ length tree.rows → AreSources choice tree sums 0 flags
+pub sources_none : (choice : Choice) (tree : ComponentTree) (sums : List Sums) (flags : List Bool) → length flags ≡ length tree.rows
+    → AreSources choice tree sums 0 flags
 sources_none choice tree sums flags l = record { one_each = l; each = λ r connect of_tree of_sums is_plane n h. absurd (omega arith) }
 
-pub sources_more : (choice : Choice) (tree : ComponentTree) (sums : List Sums) (k : ℕ) (x : Bool) (flags : List Bool) → AreSources choice tree sums k flags → k < length tree.rows
+pub sources_more : (choice : Choice) (tree : ComponentTree) (sums : List Sums) (k : ℕ) (x : Bool) (flags : List Bool) → AreSources choice tree sums k flags
+    → k < length tree.rows
     → ForEachPlaneOf tree sums (λ r connect. IsPlane r → x ≡ is_source r connect choice k) → AreSources choice tree sums (k + 1) (set flags k x)
 sources_more choice tree sums k x flags h inside here = record {
   one_each = length-set flags k x ∙ h.one_each;
-  each = λ r connect of_tree of_sums is_plane. filled flags k x false (is_source r connect choice) (let l : length flags ≡ length tree.rows = h.one_each in omega arith) (h.each r connect of_tree of_sums is_plane) (here r connect of_tree of_sums is_plane);
+  each = λ r connect of_tree of_sums is_plane. filled flags k x false (is_source r connect choice)
+      (let l : length flags ≡ length tree.rows = h.one_each in omega arith) (h.each r connect of_tree of_sums is_plane)
+      (here r connect of_tree of_sums is_plane);
 }
 
-pub sources_up_to : (choice : Choice) (tree : ComponentTree) (sums : List Sums) (j k : ℕ) (flags : List Bool) → AreSources choice tree sums k flags → j ≤ k → AreSources choice tree sums j flags
-sources_up_to choice tree sums j k flags h l = record { one_each = h.one_each; each = λ r connect of_tree of_sums is_plane n m. h.each r connect of_tree of_sums is_plane n (omega arith) }
+pub sources_up_to : (choice : Choice) (tree : ComponentTree) (sums : List Sums) (j k : ℕ) (flags : List Bool) → AreSources choice tree sums k flags → j ≤ k
+    → AreSources choice tree sums j flags
+sources_up_to choice tree sums j k flags h l =
+    record { one_each = h.one_each; each = λ r connect of_tree of_sums is_plane n m. h.each r connect of_tree of_sums is_plane n (omega arith) }
 
 -- ---- the marks at least pixels
 
-pub stand_none : (choice : Choice) (tree : ComponentTree) (sums : List Sums) (marks : List ℕ) → marks ≡ replicate (length tree.node_of) no_node → StandAtFirst choice tree sums 0 marks
+pub stand_none : (choice : Choice) (tree : ComponentTree) (sums : List Sums) (marks : List ℕ) → marks ≡ replicate (length tree.node_of) no_node
+    → StandAtFirst choice tree sums 0 marks
 stand_none choice tree sums marks e = record {
   one_each = ap length e ∙ length-replicate (length tree.node_of) no_node;
   each = λ r connect of_tree of_sums is_plane p n g. inr (record {
@@ -258,7 +302,8 @@ pub stand_source : (choice : Choice) (tree : ComponentTree) (sums : List Sums) (
     → ForEachPlaneOf tree sums (λ r connect. IsPlane r → f ≡ (sums_of r connect k).first) → StandAtFirst choice tree sums (k + 1) (set marks f k)
 stand_source choice tree sums k f marks h source first = record {
   one_each = length-set marks f k ∙ h.one_each;
-  each = λ r connect of_tree of_sums is_plane p n g. go r connect (record { plane = is_plane; tree_is = of_tree; sums_are = of_sums }) p n (get-written marks f k p n g);
+  each = λ r connect of_tree of_sums is_plane p n g. go r connect (record { plane = is_plane; tree_is = of_tree; sums_are = of_sums }) p n
+      (get-written marks f k p n g);
 }
   where
     go : (r : Raster) (connect : Connect) → HasTreeAndSums r connect tree sums → (p n : ℕ) → ((p ≡ f) × (k ≡ n)) ⊎ ((p ≡ f → ⊥) × (slice_get marks p ≡ Some n))
@@ -270,7 +315,8 @@ stand_source choice tree sums k f marks h source first = record {
     })
     go r connect o p n (inr x) = old (h.each r connect o.tree_is o.sums_are o.plane p n x.1)
       where
-        old : IsFirstOf r connect choice k p n ⊎ IsNoFirst r connect choice k p n → IsFirstOf r connect choice (k + 1) p n ⊎ IsNoFirst r connect choice (k + 1) p n
+        old : IsFirstOf r connect choice k p n ⊎ IsNoFirst r connect choice k p n
+            → IsFirstOf r connect choice (k + 1) p n ⊎ IsNoFirst r connect choice (k + 1) p n
         old (inl a) = inl (record { below = omega (arith, a.below); source = a.source; first = a.first })
         old (inr a) = inr (record { none = a.none; no_source = λ m l s e. last m (cases_lt m k) l s e })
           where
@@ -282,22 +328,31 @@ stand_source choice tree sums k f marks h source first = record {
 
 pub stand_other : (choice : Choice) (tree : ComponentTree) (sums : List Sums) (k : ℕ) (marks : List ℕ) → StandAtFirst choice tree sums k marks
     → ForEachPlaneOf tree sums (λ r connect. IsPlane r → is_source r connect choice k ≡ false) → StandAtFirst choice tree sums (k + 1) marks
-stand_other choice tree sums k marks h other = record { one_each = h.one_each; each = λ r connect of_tree of_sums is_plane p n g. old r connect (record { plane = is_plane; tree_is = of_tree; sums_are = of_sums }) p n (h.each r connect of_tree of_sums is_plane p n g) }
+stand_other choice tree sums k marks h other =
+    record {
+      one_each = h.one_each;
+      each = λ r connect of_tree of_sums is_plane p n g. old r connect (record { plane = is_plane; tree_is = of_tree; sums_are = of_sums }) p n
+          (h.each r connect of_tree of_sums is_plane p n g);
+    }
   where
-    old : (r : Raster) (connect : Connect) → HasTreeAndSums r connect tree sums → (p n : ℕ) → IsFirstOf r connect choice k p n ⊎ IsNoFirst r connect choice k p n
+    old : (r : Raster) (connect : Connect) → HasTreeAndSums r connect tree sums → (p n : ℕ)
+        → IsFirstOf r connect choice k p n ⊎ IsNoFirst r connect choice k p n
         → IsFirstOf r connect choice (k + 1) p n ⊎ IsNoFirst r connect choice (k + 1) p n
     old r connect o p n (inl a) = inl (record { below = omega (arith, a.below); source = a.source; first = a.first })
     old r connect o p n (inr a) = inr (record { none = a.none; no_source = λ m l s e. last m (cases_lt m k) l s e })
       where
         last : (m : ℕ) → (m < k) ⊎ (k ≤ m) → m < k + 1 → is_source r connect choice m ≡ true → (sums_of r connect m).first ≡ p → ⊥
         last m (inl y) l s e = a.no_source m y s e
-        last m (inr y) l s e = let same : m ≡ k = omega arith in true≢false (sym s ∙ ap (is_source r connect choice) same ∙ other r connect o.tree_is o.sums_are o.plane)
+        last m (inr y) l s e =
+            let same : m ≡ k = omega arith in true≢false (sym s ∙ ap (is_source r connect choice) same ∙ other r connect o.tree_is o.sums_are o.plane)
 
-pub stand_up_to : (choice : Choice) (tree : ComponentTree) (sums : List Sums) (j k : ℕ) (marks : List ℕ) → StandAtFirst choice tree sums k marks → j ≡ k → StandAtFirst choice tree sums j marks
+pub stand_up_to : (choice : Choice) (tree : ComponentTree) (sums : List Sums) (j k : ℕ) (marks : List ℕ) → StandAtFirst choice tree sums k marks → j ≡ k
+    → StandAtFirst choice tree sums j marks
 stand_up_to choice tree sums j k marks h e = subst (λ (n : ℕ). StandAtFirst choice tree sums n marks) (sym e) h
 
 -- a node's least pixel has a place
-pub first_place : (r : Raster) (connect : Connect) (tree : ComponentTree) (sums : List Sums) (n : ℕ) (s : Sums) (marks : List ℕ) → HasTreeAndSums r connect tree sums → n < length tree.rows
+pub first_place : (r : Raster) (connect : Connect) (tree : ComponentTree) (sums : List Sums) (n : ℕ) (s : Sums) (marks : List ℕ)
+    → HasTreeAndSums r connect tree sums → n < length tree.rows
     → s ≡ sums_of r connect n → length marks ≡ length tree.node_of → s.first < length marks
 first_place r connect tree sums n s marks o h e l =
     let a : (sums_of r connect n).first < length r.values = first_below r connect n o.plane (node_inside r connect tree n o.tree_is h) in
@@ -321,31 +376,44 @@ picked_step choice tree sums i picked here h at = record {
       ∙ ap (λ (n : ℕ). flat_map (sources_at r connect choice) (range_with_len 0 n)) next;
 }
 
-pub picked_more : (choice : Choice) (tree : ComponentTree) (sums : List Sums) (i n : ℕ) (marks picked : List ℕ) → StandAtFirst choice tree sums (length tree.rows) marks
+pub picked_more : (choice : Choice) (tree : ComponentTree) (sums : List Sums) (i n : ℕ) (marks picked : List ℕ)
+    → StandAtFirst choice tree sums (length tree.rows) marks
     → slice_get marks i ≡ Some n → (n ≡ no_node → ⊥) → ArePicked choice tree sums i picked → ArePicked choice tree sums (i + 1) (picked ++ n ∷ [])
-picked_more choice tree sums i n marks picked s g some h = picked_step choice tree sums i picked (n ∷ []) h (λ r connect of_tree of_sums is_plane. at r connect (record { plane = is_plane; tree_is = of_tree; sums_are = of_sums }) (s.each r connect of_tree of_sums is_plane i n g))
+picked_more choice tree sums i n marks picked s g some h =
+    picked_step choice tree sums i picked (n ∷ []) h
+    (λ r connect of_tree of_sums is_plane. at r connect (record { plane = is_plane; tree_is = of_tree; sums_are = of_sums })
+    (s.each r connect of_tree of_sums is_plane i n g))
   where
-    at : (r : Raster) (connect : Connect) → HasTreeAndSums r connect tree sums → IsFirstOf r connect choice (length tree.rows) i n ⊎ IsNoFirst r connect choice (length tree.rows) i n
+    at : (r : Raster) (connect : Connect) → HasTreeAndSums r connect tree sums
+        → IsFirstOf r connect choice (length tree.rows) i n ⊎ IsNoFirst r connect choice (length tree.rows) i n
         → sources_at r connect choice i ≡ n ∷ []
-    at r connect o (inl a) = sources_at-one r connect choice i n o.plane (record { node = node_inside r connect tree n o.tree_is a.below; source = a.source; first = a.first })
+    at r connect o (inl a) =
+        sources_at-one r connect choice i n o.plane (record { node = node_inside r connect tree n o.tree_is a.below; source = a.source; first = a.first })
     at r connect o (inr a) = absurd (some a.none)
 
-pub picked_same : (choice : Choice) (tree : ComponentTree) (sums : List Sums) (i n : ℕ) (marks picked : List ℕ) → StandAtFirst choice tree sums (length tree.rows) marks
+pub picked_same : (choice : Choice) (tree : ComponentTree) (sums : List Sums) (i n : ℕ) (marks picked : List ℕ)
+    → StandAtFirst choice tree sums (length tree.rows) marks
     → slice_get marks i ≡ Some n → n ≡ no_node → ArePicked choice tree sums i picked → ArePicked choice tree sums (i + 1) picked
 picked_same choice tree sums i n marks picked s g none h =
-    subst (ArePicked choice tree sums (i + 1)) (append-nil picked) (picked_step choice tree sums i picked [] h (λ r connect of_tree of_sums is_plane. at r connect (record { plane = is_plane; tree_is = of_tree; sums_are = of_sums }) (s.each r connect of_tree of_sums is_plane i n g)))
+    subst (ArePicked choice tree sums (i + 1)) (append-nil picked)
+    (picked_step choice tree sums i picked [] h (λ r connect of_tree of_sums is_plane. at r connect
+    (record { plane = is_plane; tree_is = of_tree; sums_are = of_sums }) (s.each r connect of_tree of_sums is_plane i n g)))
   where
-    at : (r : Raster) (connect : Connect) → HasTreeAndSums r connect tree sums → IsFirstOf r connect choice (length tree.rows) i n ⊎ IsNoFirst r connect choice (length tree.rows) i n
+    at : (r : Raster) (connect : Connect) → HasTreeAndSums r connect tree sums
+        → IsFirstOf r connect choice (length tree.rows) i n ⊎ IsNoFirst r connect choice (length tree.rows) i n
         → sources_at r connect choice i ≡ []
     at r connect o (inl a) = absurd (below_no_node r connect n o.plane (node_inside r connect tree n o.tree_is a.below) none)
     at r connect o (inr a) =
         sources_at-none r connect choice i
-        (λ m x. a.no_source m (let l : length tree.rows ≡ length (nodes r connect) = rows_are r connect tree o.tree_is in let y : m < length (nodes r connect) = x.node in omega arith) x.source x.first)
+        (λ m x. a.no_source m (let l : length tree.rows ≡ length (nodes r connect) = rows_are r connect tree o.tree_is in let y : m < length
+        (nodes r connect) = x.node in omega arith) x.source x.first)
 
-pub picked_up_to : (choice : Choice) (tree : ComponentTree) (sums : List Sums) (j k : ℕ) (picked : List ℕ) → ArePicked choice tree sums k picked → j ≡ k → ArePicked choice tree sums j picked
+pub picked_up_to : (choice : Choice) (tree : ComponentTree) (sums : List Sums) (j k : ℕ) (picked : List ℕ) → ArePicked choice tree sums k picked → j ≡ k
+    → ArePicked choice tree sums j picked
 picked_up_to choice tree sums j k picked h e = subst (λ (n : ℕ). ArePicked choice tree sums n picked) (sym e) h
 
-pub picked_all : (r : Raster) (connect : Connect) (choice : Choice) (tree : ComponentTree) (sums : List Sums) (count : ℕ) (picked : List ℕ) → ArePicked choice tree sums count picked
+pub picked_all : (r : Raster) (connect : Connect) (choice : Choice) (tree : ComponentTree) (sums : List Sums) (count : ℕ) (picked : List ℕ)
+    → ArePicked choice tree sums count picked
     → count ≡ length tree.node_of → HasTreeAndSums r connect tree sums → picked ≡ sources r connect choice
 picked_all r connect choice tree sums count picked h e o =
     h.listed r connect o.tree_is o.sums_are o.plane
@@ -353,7 +421,8 @@ picked_all r connect choice tree sums count picked h e o =
     ∙ sym (list_is r connect choice)
 
 -- any plane with this tree and these sums
-pub of_same : (r : Raster) (connect : Connect) (tree : ComponentTree) (sums : List Sums) → AreTheTrees tree sums → tree ≡ tree_of r connect → sums ≡ sums_in r connect → HasTreeAndSums r connect tree sums
+pub of_same : (r : Raster) (connect : Connect) (tree : ComponentTree) (sums : List Sums) → AreTheTrees tree sums → tree ≡ tree_of r connect
+    → sums ≡ sums_in r connect → HasTreeAndSums r connect tree sums
 of_same r connect tree sums t e f = record { plane = plane; tree_is = e; sums_are = f }
   where
     plane : IsPlane r
@@ -361,7 +430,8 @@ of_same r connect tree sums t e f = record { plane = plane; tree_is = e; sums_ar
         sym (numbers-length r connect tree e) ∙ numbers-length t.plane t.of_plane.connect tree t.of_plane.tree_is ∙ t.one_each
         ∙ ap (λ (s : Shape). s.width * s.height) (sym (tree-shape t.plane t.of_plane.connect tree t.of_plane.tree_is) ∙ tree-shape r connect tree e)
 
-pub picked_disjoint : (choice : Choice) (tree : ComponentTree) (sums : List Sums) (picked : List ℕ) → (t : AreTheTrees tree sums) → picked ≡ sources t.plane t.of_plane.connect choice
+pub picked_disjoint : (choice : Choice) (tree : ComponentTree) (sums : List Sums) (picked : List ℕ) → (t : AreTheTrees tree sums)
+    → picked ≡ sources t.plane t.of_plane.connect choice
     → AreDisjointNodes tree picked
 picked_disjoint choice tree sums picked t e = record {
   plane = t.plane;
@@ -369,16 +439,19 @@ picked_disjoint choice tree sums picked t e = record {
   one_each = t.one_each;
   tree_is = t.of_plane.tree_is;
   nodes = λ i s g.
-      let a : s < length (nodes t.plane t.of_plane.connect) = source_node t.plane t.of_plane.connect choice i s t.one_each (ap (λ (xs : List ℕ). slice_get xs i) (sym e) ∙ g) in
+      let a : s < length (nodes t.plane t.of_plane.connect) =
+      source_node t.plane t.of_plane.connect choice i s t.one_each (ap (λ (xs : List ℕ). slice_get xs i) (sym e) ∙ g) in
       let b : length tree.rows ≡ length (nodes t.plane t.of_plane.connect) = rows_are t.plane t.of_plane.connect tree t.of_plane.tree_is in
       omega arith;
   disjoint = λ i j m n l f g.
-      sources_apart t.plane t.of_plane.connect choice i j m n t.one_each l (ap (λ (xs : List ℕ). slice_get xs i) (sym e) ∙ f) (ap (λ (xs : List ℕ). slice_get xs j) (sym e) ∙ g);
+      sources_apart t.plane t.of_plane.connect choice i j m n t.one_each l (ap (λ (xs : List ℕ). slice_get xs i) (sym e) ∙ f)
+      (ap (λ (xs : List ℕ). slice_get xs j) (sym e) ∙ g);
 }
 
 -- ---- as the code answers
 
-pub flags_exact : {E : Type 0} (result : Result (Vec Bool Global) E) (choice : Choice) (tree : ComponentTree) (sums : List Sums) (entries : List ℕ) (strong : List Bool)
+pub flags_exact : {E : Type 0} (result : Result (Vec Bool Global) E) (choice : Choice) (tree : ComponentTree) (sums : List Sums) (entries : List ℕ)
+    (strong : List Bool)
     → AreEntries choice tree sums (length tree.rows) entries → AreStrong choice tree sums (length tree.rows) strong
     → IfOk result (λ flags. (c : Choice) (s : List Sums) → AreEntries c tree s (length tree.rows) entries → AreStrong c tree s (length tree.rows) strong
     → AreSources c tree s (length tree.rows) flags.items)
@@ -386,9 +459,11 @@ pub flags_exact : {E : Type 0} (result : Result (Vec Bool Global) E) (choice : C
 flags_exact (Ok v) choice tree sums entries strong a b h = h choice sums a b
 flags_exact (Err d) choice tree sums entries strong a b h = tt
 
-pub picked_exact : {E : Type 0} (result : Result (Vec ℕ Global) E) (choice : Choice) (tree : ComponentTree) (sums : List Sums) (marks : List ℕ) → AreTheTrees tree sums
+pub picked_exact : {E : Type 0} (result : Result (Vec ℕ Global) E) (choice : Choice) (tree : ComponentTree) (sums : List Sums) (marks : List ℕ)
+    → AreTheTrees tree sums
     → StandAtFirst choice tree sums (length tree.rows) marks
-    → IfOk result (λ picked. (c : Choice) (t : ComponentTree) (s : List Sums) → StandAtFirst c t s (length t.rows) marks → ArePicked c t s (length marks) picked.items)
+    → IfOk result (λ picked. (c : Choice) (t : ComponentTree) (s : List Sums) → StandAtFirst c t s (length t.rows) marks
+    → ArePicked c t s (length marks) picked.items)
     → IfOk result (λ picked. ForEachPlaneOf tree sums (λ plane connect. picked.items ≡ sources plane connect choice))
 picked_exact (Ok v) choice tree sums marks t stand h = λ plane connect e f.
     picked_all plane connect choice tree sums (length marks) v.items (h choice tree sums stand) stand.one_each (of_same plane connect tree sums t e f)

@@ -11,13 +11,15 @@ use Rattle.comp_tree.specs.Raster.{Raster, IsPlane, pixels, value_at, at_least, 
 use Rattle.comp_tree.specs.Grid.{are_neighbours}
 use Rattle.comp_tree.proofs.Exported.{are_neighbours_comm, among_from_defined, defined_from_at_least, below_from_defined}
 use Rattle.source_pick.specs.declared.choice.Choice.{Choice}
-use Rattle.source_pick.specs.Locality.{HaveSameSources, IsHighInEither, IsNearHighOfEither, AgreeNearHigh, is_beside_high, is_near_high, kept, KeptIsAPlane, KeptHasTheSameSources}
+use Rattle.source_pick.specs.Locality.{HaveSameSources, IsHighInEither, IsNearHighOfEither, AgreeNearHigh, is_beside_high, is_near_high, kept, KeptIsAPlane}
+use Rattle.source_pick.specs.Locality.{KeptHasTheSameSources}
 use Rattle.source_pick.proofs.Local.{sources_are_local}
 
 pub length-kept : (r : Raster) (connect : Connect) (h : ℤ) → length (kept r connect h).values ≡ length r.values
 unfolding kept pixels
 length-kept r connect h =
-    length-map (range_with_len 0 (length r.values)) (λ p. cond (is_near_high r connect h p) (value_at r.values p) None) ∙ length-range_with_len 0 (length r.values)
+    length-map (range_with_len 0 (length r.values)) (λ p. cond (is_near_high r connect h p) (value_at r.values p) None)
+    ∙ length-range_with_len 0 (length r.values)
 
 pub shape-kept : (r : Raster) (connect : Connect) (h : ℤ) → (kept r connect h).shape ≡ r.shape
 unfolding kept
@@ -51,12 +53,14 @@ high_in_either : (r : Raster) (connect : Connect) (h : ℤ) (p : ℕ) → IsHigh
 high_in_either r connect h p (inl k) = k
 high_in_either r connect h p (inr k) = high_in_whole r connect h p k
 
-pub near_from_neighbour : (r : Raster) (connect : Connect) (h : ℤ) (p q : ℕ) → IsTrue (is_at_least r h q) → IsTrue (are_neighbours connect r.shape.width q p) → IsTrue (is_near_high r connect h p)
+pub near_from_neighbour : (r : Raster) (connect : Connect) (h : ℤ) (p q : ℕ) → IsTrue (is_at_least r h q) → IsTrue (are_neighbours connect r.shape.width q p)
+    → IsTrue (is_near_high r connect h p)
 unfolding is_near_high is_beside_high
 near_from_neighbour r connect h p q k n =
     or_right (is_at_least r h p) (list_any (is_at_least r h) (filter (are_neighbours connect r.shape.width p) (pixels r)))
     (any_from_among (is_at_least r h) q (filter (are_neighbours connect r.shape.width p) (pixels r))
-    (among-filter (are_neighbours connect r.shape.width p) q (pixels r) (among_from_defined r q (defined_from_at_least r h q k)) (are_neighbours_comm connect r.shape.width p q ∙ n)) k)
+    (among-filter (are_neighbours connect r.shape.width p) q (pixels r) (among_from_defined r q (defined_from_at_least r h q k))
+    (are_neighbours_comm connect r.shape.width p q ∙ n)) k)
 
 pub near_from_own : (r : Raster) (connect : Connect) (h : ℤ) (p : ℕ) → IsTrue (is_at_least r h p) → IsTrue (is_near_high r connect h p)
 unfolding is_near_high
@@ -74,9 +78,11 @@ kept_agrees r connect h = record {
 
 pub kept_has_the_same_sources : KeptHasTheSameSources
 kept_has_the_same_sources r connect choice plane =
-    sources_are_local r (kept r connect choice.threshold) connect choice plane (kept_is_a_plane r connect choice.threshold plane) (kept_agrees r connect choice.threshold)
+    sources_are_local r (kept r connect choice.threshold) connect choice plane (kept_is_a_plane r connect choice.threshold plane)
+    (kept_agrees r connect choice.threshold)
 
 -- so has a plane that is this one
-pub cleared_has_the_same_sources : (r s : Raster) (connect : Connect) (choice : Choice) (h : ℤ) → IsPlane r → choice.threshold ≡ h → s ≡ kept r connect h → HaveSameSources r s connect choice
+pub cleared_has_the_same_sources : (r s : Raster) (connect : Connect) (choice : Choice) (h : ℤ) → IsPlane r → choice.threshold ≡ h → s ≡ kept r connect h
+    → HaveSameSources r s connect choice
 cleared_has_the_same_sources r s connect choice h plane e same =
     subst (λ (x : Raster). HaveSameSources r x connect choice) (ap (kept r connect) e ∙ sym same) (kept_has_the_same_sources r connect choice plane)

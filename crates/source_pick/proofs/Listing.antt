@@ -1,5 +1,6 @@
 -- The list of the sources, by their least pixels.
-use Rattle.std.proofs.Common.{◌≡◌, ℕ, ◌+◌, ◌-◌, ◌*◌, ◌^◌, ◌<◌, ◌≤◌, zero, suc, Bool, true, false, cond, ◌&&◌, List, [], ◌∷◌, ◌++◌, length, min, refl, sym, ◌∙◌, ap, subst, arith, ◌⊎◌, inl, inr}
+use Rattle.std.proofs.Common.{◌≡◌, ℕ, ◌+◌, ◌-◌, ◌*◌, ◌^◌, ◌<◌, ◌≤◌, zero, suc, Bool, true, false, cond, ◌&&◌, List, [], ◌∷◌, ◌++◌, length, min, refl, sym}
+use Rattle.std.proofs.Common.{◌∙◌, ap, subst, arith, ◌⊎◌, inl, inr}
 use Rattle.std.specs.Prelude.{IsTrue, ◌==◌, filter, Some, slice_get, Contains}
 use Rattle.std.specs.List.{range_with_len, flat_map}
 use Rattle.std.proofs.lemmas.Bool.{eqb-true, eq-eqb, and_parts, and_from, false_from_ne_true, cases_lt, cases_eq}
@@ -27,13 +28,15 @@ least_among [] x h small = absurd h
 least_among (y ∷ []) x h small = let l : y < 2 ^ 32 - 1 = small y (inl refl) in let e : y ≡ min y (2 ^ 32 - 1) = omega arith in inl e
 least_among (y ∷ z ∷ zs) x h small = go (cases_lt (least (λ p. p) (z ∷ zs)) y) (least_among (z ∷ zs) z (inl refl) (λ p k. small p (inr k)))
   where
-    go : (least (λ p. p) (z ∷ zs) < y) ⊎ (y ≤ least (λ p. p) (z ∷ zs)) → IsAmong (least (λ p. p) (z ∷ zs)) (z ∷ zs) → IsAmong (least (λ p. p) (y ∷ z ∷ zs)) (y ∷ z ∷ zs)
+    go : (least (λ p. p) (z ∷ zs) < y) ⊎ (y ≤ least (λ p. p) (z ∷ zs)) → IsAmong (least (λ p. p) (z ∷ zs)) (z ∷ zs)
+        → IsAmong (least (λ p. p) (y ∷ z ∷ zs)) (y ∷ z ∷ zs)
     go (inl l) ih =
         let e : least (λ p. p) (z ∷ zs) ≡ min y (least (λ p. p) (z ∷ zs)) = omega arith in
         inr (subst (λ (m : ℕ). IsAmong m (z ∷ zs)) e ih)
     go (inr l) ih = let e : y ≡ min y (least (λ p. p) (z ∷ zs)) = omega arith in inl e
 
-pub first_inside : (r : Raster) (connect : Connect) (n : ℕ) → IsPlane r → n < length (nodes r connect) → is_in_node r connect n (sums_of r connect n).first ≡ true
+pub first_inside : (r : Raster) (connect : Connect) (n : ℕ) → IsPlane r → n < length (nodes r connect)
+    → is_in_node r connect n (sums_of r connect n).first ≡ true
 unfolding sums_of sums_over pixels_of
 first_inside r connect n plane hn =
     (among_from_filter (is_in_node r connect n) (least (λ p. p) (filter (is_in_node r connect n) (pixels r))) (pixels r)
@@ -69,7 +72,8 @@ filter_one test a zero y low high h only = absurd (omega arith)
 filter_one test a (suc n) y low high h only = go (cases_eq a y) (filter_one test (a + 1) n y)
   where
     go : (a ≡ y) ⊎ (a ≡ y → ⊥)
-        → (a + 1 ≤ y → y < a + 1 + n → test y ≡ true → ((x : ℕ) → a + 1 ≤ x → x < a + 1 + n → test x ≡ true → x ≡ y) → filter test (range_with_len (a + 1) n) ≡ y ∷ [])
+        → (a + 1 ≤ y → y < a + 1 + n → test y ≡ true → ((x : ℕ) → a + 1 ≤ x → x < a + 1 + n → test x ≡ true → x ≡ y) → filter test (range_with_len (a + 1) n)
+        ≡ y ∷ [])
         → cond (test a) (a ∷ filter test (range_with_len (a + 1) n)) (filter test (range_with_len (a + 1) n)) ≡ y ∷ []
     go (inl e) ih =
         let on : test a ≡ true = ap test e ∙ h in
@@ -86,7 +90,8 @@ pub record IsSourceAt (r : Raster) (connect : Connect) (choice : Choice) (p n : 
   pub source : is_source r connect choice n ≡ true
   pub first : (sums_of r connect n).first ≡ p
 
-pub same_source : (r : Raster) (connect : Connect) (choice : Choice) (p m n : ℕ) → IsPlane r → IsSourceAt r connect choice p m → IsSourceAt r connect choice p n → m ≡ n
+pub same_source : (r : Raster) (connect : Connect) (choice : Choice) (p m n : ℕ) → IsPlane r → IsSourceAt r connect choice p m
+    → IsSourceAt r connect choice p n → m ≡ n
 same_source r connect choice p m n plane a b =
     sources_that_share r connect choice m n p plane a.node b.node a.source b.source
     (subst (λ (q : ℕ). is_in_node r connect m q ≡ true) a.first (first_inside r connect m plane a.node))
@@ -98,20 +103,24 @@ source_test r connect choice p n hn h =
     let parts = and_parts (is_source r connect choice n) ((sums_of r connect n).first == p) h in
     record { node = hn; source = parts.0; first = eqb-true (sums_of r connect n).first p parts.1 }
 
-pub sources_at-one : (r : Raster) (connect : Connect) (choice : Choice) (p n : ℕ) → IsPlane r → IsSourceAt r connect choice p n → sources_at r connect choice p ≡ n ∷ []
+pub sources_at-one : (r : Raster) (connect : Connect) (choice : Choice) (p n : ℕ) → IsPlane r → IsSourceAt r connect choice p n
+    → sources_at r connect choice p ≡ n ∷ []
 unfolding sources_at
 sources_at-one r connect choice p n plane k =
     filter_one (λ x. is_source r connect choice x && ((sums_of r connect x).first == p)) 0 (length (nodes r connect)) n (omega arith) (omega (arith, k.node))
     (and_from (is_source r connect choice n) ((sums_of r connect n).first == p) k.source (eq-eqb (sums_of r connect n).first p k.first))
     (λ x l u h. same_source r connect choice p x n plane (source_test r connect choice p x (omega arith) h) k)
 
-pub sources_at-none : (r : Raster) (connect : Connect) (choice : Choice) (p : ℕ) → ((n : ℕ) → IsSourceAt r connect choice p n → ⊥) → sources_at r connect choice p ≡ []
+pub sources_at-none : (r : Raster) (connect : Connect) (choice : Choice) (p : ℕ) → ((n : ℕ) → IsSourceAt r connect choice p n → ⊥)
+    → sources_at r connect choice p ≡ []
 unfolding sources_at
 sources_at-none r connect choice p none =
     filter_none (λ x. is_source r connect choice x && ((sums_of r connect x).first == p)) 0 (length (nodes r connect))
-    (λ x l u. false_from_ne_true (is_source r connect choice x && ((sums_of r connect x).first == p)) (λ h. none x (source_test r connect choice p x (omega arith) h)))
+    (λ x l u. false_from_ne_true (is_source r connect choice x && ((sums_of r connect x).first == p))
+    (λ h. none x (source_test r connect choice p x (omega arith) h)))
 
-pub among_sources_at : (r : Raster) (connect : Connect) (choice : Choice) (p n : ℕ) → IsAmong n (sources_at r connect choice p) → IsSourceAt r connect choice p n
+pub among_sources_at : (r : Raster) (connect : Connect) (choice : Choice) (p n : ℕ) → IsAmong n (sources_at r connect choice p)
+    → IsSourceAt r connect choice p n
 unfolding sources_at
 among_sources_at r connect choice p n h =
     let k = among_from_filter (λ x. is_source r connect choice x && ((sums_of r connect x).first == p)) n (node_numbers r connect) h in
@@ -163,7 +172,8 @@ listed_one r connect choice count xs x plane h k = record {
     each {i} n (inl g) =
         let m : IsListed r connect choice count n = h.each i n g.1 in
         record { node = m.node; source = m.source; first = omega (arith, m.first) }
-    each n (inr g) = subst (λ (y : ℕ). IsListed r connect choice (suc count) y) g.1 (record { node = k.node; source = k.source; first = omega (arith, k.first) })
+    each n (inr g) =
+        subst (λ (y : ℕ). IsListed r connect choice (suc count) y) g.1 (record { node = k.node; source = k.source; first = omega (arith, k.first) })
 
     rise : {i j : ℕ} (m n : ℕ) → i < j → ((i < length xs) × (slice_get xs i ≡ Some m)) ⊎ ((i ≡ length xs) × (x ≡ m))
         → ((j < length xs) × (slice_get xs j ≡ Some n)) ⊎ ((j ≡ length xs) × (x ≡ n)) → (sums_of r connect m).first < (sums_of r connect n).first
@@ -175,7 +185,8 @@ listed_one r connect choice count xs x plane h k = record {
     rise {i} {j} m n l (inr f) (inl g) = let a : i ≡ length xs = f.0 in let b : j < length xs = g.0 in absurd (omega arith)
     rise {i} {j} m n l (inr f) (inr g) = let a : i ≡ length xs = f.0 in let b : j ≡ length xs = g.0 in absurd (omega arith)
 
-    all : (n : ℕ) → IsListed r connect choice (suc count) n → ((sums_of r connect n).first ≡ count) ⊎ ((sums_of r connect n).first ≡ count → ⊥) → IsAmong n (xs ++ x ∷ [])
+    all : (n : ℕ) → IsListed r connect choice (suc count) n → ((sums_of r connect n).first ≡ count) ⊎ ((sums_of r connect n).first ≡ count → ⊥)
+        → IsAmong n (xs ++ x ∷ [])
     all n m (inl e) =
         let same : x ≡ n = same_source r connect choice count x n plane k (record { node = m.node; source = m.source; first = e }) in
         subst (λ (y : ℕ). IsAmong y (xs ++ x ∷ [])) same (among_last x xs)
@@ -196,7 +207,8 @@ listed_none r connect choice count xs h none = record {
     all n m (inr d) = let a : (sums_of r connect n).first < suc count = m.first in h.all n (record { node = m.node; source = m.source; first = omega arith })
 
 pub flat-push : (r : Raster) (connect : Connect) (choice : Choice) (count : ℕ)
-    → flat_map (sources_at r connect choice) (range_with_len 0 (suc count)) ≡ flat_map (sources_at r connect choice) (range_with_len 0 count) ++ sources_at r connect choice count
+    → flat_map (sources_at r connect choice) (range_with_len 0 (suc count)) ≡ flat_map (sources_at r connect choice) (range_with_len 0 count)
+    ++ sources_at r connect choice count
 flat-push r connect choice count =
     ap (flat_map (sources_at r connect choice)) (range-push 0 count count (omega arith))
     ∙ flat_map-append (sources_at r connect choice) (range_with_len 0 count) (count ∷ [])
@@ -210,12 +222,16 @@ are_listed r connect choice zero plane = record {
   all = λ n m. (let l : (sums_of r connect n).first < zero = m.first in absurd (omega arith));
 }
 are_listed r connect choice (suc count) plane =
-    subst (AreListed r connect choice (suc count)) (sym (flat-push r connect choice count)) (go (sources_at r connect choice count) refl (are_listed r connect choice count plane))
+    subst (AreListed r connect choice (suc count)) (sym (flat-push r connect choice count))
+    (go (sources_at r connect choice count) refl (are_listed r connect choice count plane))
   where
-    go : (ys : List ℕ) → sources_at r connect choice count ≡ ys → AreListed r connect choice count (flat_map (sources_at r connect choice) (range_with_len 0 count))
+    go : (ys : List ℕ) → sources_at r connect choice count ≡ ys
+        → AreListed r connect choice count (flat_map (sources_at r connect choice) (range_with_len 0 count))
         → AreListed r connect choice (suc count) (flat_map (sources_at r connect choice) (range_with_len 0 count) ++ sources_at r connect choice count)
     go [] u ih =
-        subst (AreListed r connect choice (suc count)) (sym (ap (λ (ys : List ℕ). flat_map (sources_at r connect choice) (range_with_len 0 count) ++ ys) u ∙ append-nil (flat_map (sources_at r connect choice) (range_with_len 0 count))))
+        subst (AreListed r connect choice (suc count))
+        (sym (ap (λ (ys : List ℕ). flat_map (sources_at r connect choice) (range_with_len 0 count) ++ ys) u ∙ append-nil
+        (flat_map (sources_at r connect choice) (range_with_len 0 count))))
         (listed_none r connect choice count (flat_map (sources_at r connect choice) (range_with_len 0 count)) ih none)
       where
         cons_nil : (n : ℕ) → n ∷ [] ≡ [] → ⊥
@@ -224,25 +240,29 @@ are_listed r connect choice (suc count) plane =
         none : (n : ℕ) → IsSourceAt r connect choice count n → ⊥
         none n k = cons_nil n (sym (sources_at-one r connect choice count n plane k) ∙ u)
     go (x ∷ ys) u ih =
-        subst (λ (zs : List ℕ). AreListed r connect choice (suc count) (flat_map (sources_at r connect choice) (range_with_len 0 count) ++ zs)) (sym (sources_at-one r connect choice count x plane k))
+        subst (λ (zs : List ℕ). AreListed r connect choice (suc count) (flat_map (sources_at r connect choice) (range_with_len 0 count) ++ zs))
+        (sym (sources_at-one r connect choice count x plane k))
         (listed_one r connect choice count (flat_map (sources_at r connect choice) (range_with_len 0 count)) x plane ih k)
       where
         k : IsSourceAt r connect choice count x
         k = among_sources_at r connect choice count x (subst (λ (zs : List ℕ). IsAmong x zs) (sym u) (inl refl))
 
-pub list_is : (r : Raster) (connect : Connect) (choice : Choice) → sources r connect choice ≡ flat_map (sources_at r connect choice) (range_with_len 0 (length r.values))
+pub list_is : (r : Raster) (connect : Connect) (choice : Choice)
+    → sources r connect choice ≡ flat_map (sources_at r connect choice) (range_with_len 0 (length r.values))
 unfolding sources pixels
 list_is r connect choice = refl
 
 sources_listed : (r : Raster) (connect : Connect) (choice : Choice) → IsPlane r → AreListed r connect choice (length r.values) (sources r connect choice)
-sources_listed r connect choice plane = subst (AreListed r connect choice (length r.values)) (sym (list_is r connect choice)) (are_listed r connect choice (length r.values) plane)
+sources_listed r connect choice plane =
+    subst (AreListed r connect choice (length r.values)) (sym (list_is r connect choice)) (are_listed r connect choice (length r.values) plane)
 
 pub sources_are_listed : SourcesAreListed
 sources_are_listed r connect choice n plane = (there, back)
   where
     there : Contains (sources r connect choice) n → (n < length (nodes r connect)) × IsTrue (is_source r connect choice n)
     there (k, l, e) =
-        let m : IsListed r connect choice (length r.values) n = (sources_listed r connect choice plane).each k n (slice_get-get_or (sources r connect choice) k n l ∙ ap Some e) in
+        let m : IsListed r connect choice (length r.values) n =
+        (sources_listed r connect choice plane).each k n (slice_get-get_or (sources r connect choice) k n l ∙ ap Some e) in
         (m.node, m.source)
 
     back : (n < length (nodes r connect)) × IsTrue (is_source r connect choice n) → Contains (sources r connect choice) n
@@ -254,7 +274,8 @@ sources_are_in_order r connect choice i j m n plane l f g = (sources_listed r co
 
 -- ---- as nodes that share no pixel
 
-pub source_node : (r : Raster) (connect : Connect) (choice : Choice) (i n : ℕ) → IsPlane r → slice_get (sources r connect choice) i ≡ Some n → n < length (nodes r connect)
+pub source_node : (r : Raster) (connect : Connect) (choice : Choice) (i n : ℕ) → IsPlane r → slice_get (sources r connect choice) i ≡ Some n
+    → n < length (nodes r connect)
 source_node r connect choice i n plane g = ((sources_listed r connect choice plane).each i n g).node
 
 pub sources_apart : (r : Raster) (connect : Connect) (choice : Choice) (i j m n : ℕ) → IsPlane r → i < j

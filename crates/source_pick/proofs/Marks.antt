@@ -1,5 +1,6 @@
 -- Numbers of nodes in a list, as the map gives them to pixels.
-use Rattle.std.proofs.Common.{◌≡◌, ℕ, ◌+◌, ◌*◌, ◌^◌, ◌<◌, ◌≤◌, zero, suc, Bool, true, false, cond, List, [], ◌∷◌, length, refl, sym, ◌∙◌, ap, subst, arith, ◌⊎◌, inl, inr, set, ◌↔◌}
+use Rattle.std.proofs.Common.{◌≡◌, ℕ, ◌+◌, ◌*◌, ◌^◌, ◌<◌, ◌≤◌, zero, suc, Bool, true, false, cond, List, [], ◌∷◌, length, refl, sym, ◌∙◌, ap, subst, arith}
+use Rattle.std.proofs.Common.{◌⊎◌, inl, inr, set, ◌↔◌}
 use Rattle.std.specs.Prelude.{Option, Some, unwrap_or, replicate, slice_get, slice_index, ◌==◌}
 use Rattle.std.specs.List.{range_with_len, position_from, list_any, IsDistinct, AllByRecursion}
 use Rattle.std.proofs.lemmas.Bool.{true≢false, eqb-true, ne_eqb, or_cases, false_from_ne_true, cases_lt, cases_eq}
@@ -13,7 +14,8 @@ use Rattle.comp_tree.specs.Raster.{Raster, IsPlane, pixels, is_defined}
 use Rattle.comp_tree.specs.ComponentTree.{ComponentTree, parent_in, no_node}
 use Rattle.comp_tree.specs.Components.{nodes, node_of, is_in_node, tree_of}
 use Rattle.comp_tree.specs.Laws.{top_of, parent_of_node}
-use Rattle.comp_tree.proofs.Exported.{top-defined, top-representative, below_no_node, pixels_belong_to_their_ancestors, length-nodes-le, read-node_of, in_node-defined, top_inside}
+use Rattle.comp_tree.proofs.Exported.{top-defined, top-representative, below_no_node, pixels_belong_to_their_ancestors, length-nodes-le, read-node_of}
+use Rattle.comp_tree.proofs.Exported.{in_node-defined, top_inside}
 use Rattle.comp_tree.proofs.Exported as Nodes
 use Rattle.source_pick.specs.Segmentation.{source_number_at, segmentation_of, AreDisjointNodes}
 use Rattle.source_pick.specs.Passes.{IsOnWay, AreMarked, AreNumbered}
@@ -24,7 +26,8 @@ use Rattle.node_sums.proofs.Exported.{rows_are}
 
 -- ---- the place of the first number that passes
 
-place_found : (test : ℕ → Bool) (k : ℕ) (xs : List ℕ) (i s : ℕ) → slice_get xs i ≡ Some s → test s ≡ true → ((j u : ℕ) → j < i → slice_get xs j ≡ Some u → test u ≡ false)
+place_found : (test : ℕ → Bool) (k : ℕ) (xs : List ℕ) (i s : ℕ) → slice_get xs i ≡ Some s → test s ≡ true
+    → ((j u : ℕ) → j < i → slice_get xs j ≡ Some u → test u ≡ false)
     → unwrap_or (position_from test k xs) 0 ≡ k + i
 place_found test k [] i s g h before = absurd (cc)
 place_found test k (x ∷ xs) zero s g h before = let on : test x ≡ true = ap test (same_Some x s g) ∙ h in rw on (omega arith)
@@ -47,7 +50,8 @@ place_bound : (test : ℕ → Bool) (k : ℕ) (xs : List ℕ) → 1 ≤ k → un
 place_bound test k [] h = omega arith
 place_bound test k (x ∷ xs) h = go (test x) (place_bound test (k + 1) xs (omega arith))
   where
-    go : (b : Bool) → unwrap_or (position_from test (k + 1) xs) 0 + 1 ≤ k + 1 + length xs → unwrap_or (cond b (Some k) (position_from test (k + 1) xs)) 0 + 1 ≤ k + suc (length xs)
+    go : (b : Bool) → unwrap_or (position_from test (k + 1) xs) 0 + 1 ≤ k + 1 + length xs
+        → unwrap_or (cond b (Some k) (position_from test (k + 1) xs)) 0 + 1 ≤ k + suc (length xs)
     go true ih = omega arith
     go false ih = omega arith
 
@@ -65,7 +69,8 @@ holds-way r connect s q plane hs d = pixels_belong_to_their_ancestors r connect 
 
 -- ---- disjoint nodes
 
-ways_apart : (tree : ComponentTree) (marked : List ℕ) (i j s t : ℕ) → AreDisjointNodes tree marked → i < j → slice_get marked i ≡ Some s → slice_get marked j ≡ Some t
+ways_apart : (tree : ComponentTree) (marked : List ℕ) (i j s t : ℕ) → AreDisjointNodes tree marked → i < j → slice_get marked i ≡ Some s
+    → slice_get marked j ≡ Some t
     → IsOnWay tree.rows s t ⊎ IsOnWay tree.rows t s → ⊥
 ways_apart tree marked i j s t d l f g = go
   where
@@ -78,16 +83,19 @@ ways_apart tree marked i j s t d l f g = go
     go : IsOnWay tree.rows s t ⊎ IsOnWay tree.rows t s → ⊥
     go (inl w) =
         d.disjoint i j s t l f g (top_of d.plane d.connect t)
-        (within_from_way d.plane d.connect s t d.one_each hs ht (subst (λ (x : ComponentTree). IsOnWay x.rows s t) d.tree_is w) (top_of d.plane d.connect t) (top_inside d.plane d.connect t ht))
+        (within_from_way d.plane d.connect s t d.one_each hs ht (subst (λ (x : ComponentTree). IsOnWay x.rows s t) d.tree_is w) (top_of d.plane d.connect t)
+        (top_inside d.plane d.connect t ht))
         (top_inside d.plane d.connect t ht)
     go (inr w) =
         d.disjoint i j s t l f g (top_of d.plane d.connect s) (top_inside d.plane d.connect s hs)
-        (within_from_way d.plane d.connect t s d.one_each ht hs (subst (λ (x : ComponentTree). IsOnWay x.rows t s) d.tree_is w) (top_of d.plane d.connect s) (top_inside d.plane d.connect s hs))
+        (within_from_way d.plane d.connect t s d.one_each ht hs (subst (λ (x : ComponentTree). IsOnWay x.rows t s) d.tree_is w) (top_of d.plane d.connect s)
+        (top_inside d.plane d.connect s hs))
 
 distinct_from : (xs : List ℕ) → ((i j s t : ℕ) → i < j → slice_get xs i ≡ Some s → slice_get xs j ≡ Some t → s ≡ t → ⊥) → IsDistinct ◌==◌ xs
 unfolding IsDistinct
 distinct_from [] h = tt
-distinct_from (x ∷ xs) h = (others xs (λ j t g. h 0 (suc j) x t (omega arith) refl g), distinct_from xs (λ i j s t l f g. h (suc i) (suc j) s t (omega arith) f g))
+distinct_from (x ∷ xs) h =
+    (others xs (λ j t g. h 0 (suc j) x t (omega arith) refl g), distinct_from xs (λ i j s t l f g. h (suc i) (suc j) s t (omega arith) f g))
   where
     others : (ys : List ℕ) → ((j t : ℕ) → slice_get ys j ≡ Some t → x ≡ t → ⊥) → AllByRecursion (λ y. x == y ≡ false) ys
     others [] k = tt
@@ -126,17 +134,20 @@ few_rows tree marked d =
 
 -- ---- the number of a pixel
 
-module _ (r : Raster) (connect : Connect) (tree : ComponentTree) (marked : List ℕ) (plane : IsPlane r) (same : tree ≡ tree_of r connect) (d : AreDisjointNodes tree marked) where
+module _ (r : Raster) (connect : Connect) (tree : ComponentTree) (marked : List ℕ) (plane : IsPlane r) (same : tree ≡ tree_of r connect)
+    (d : AreDisjointNodes tree marked) where
   node : (n : ℕ) → n < length tree.rows → n < length (nodes r connect)
   node n h = node_inside r connect tree n same h
 
   is_node : (j u : ℕ) → slice_get marked j ≡ Some u → u < length (nodes r connect)
   is_node j u g = node u (d.nodes j u g)
 
-  apart : (i j s t q : ℕ) → i < j → slice_get marked i ≡ Some s → slice_get marked j ≡ Some t → is_in_node r connect s q ≡ true → is_in_node r connect t q ≡ true → ⊥
+  apart : (i j s t q : ℕ) → i < j → slice_get marked i ≡ Some s → slice_get marked j ≡ Some t → is_in_node r connect s q ≡ true
+      → is_in_node r connect t q ≡ true → ⊥
   apart i j s t q l f g in_s in_t =
       ways_apart tree marked i j s t d l f g
-      (subst (λ (x : ComponentTree). IsOnWay x.rows s t ⊎ IsOnWay x.rows t s) (sym same) (way_from_shared r connect s t q plane (is_node i s f) (is_node j t g) in_s in_t))
+      (subst (λ (x : ComponentTree). IsOnWay x.rows s t ⊎ IsOnWay x.rows t s) (sym same)
+      (way_from_shared r connect s t q plane (is_node i s f) (is_node j t g) in_s in_t))
 
   pub number-found : (i s p : ℕ) → slice_get marked i ≡ Some s → is_in_node r connect s p ≡ true → source_number_at r connect marked p ≡ i + 1
   unfolding source_number_at
@@ -148,16 +159,20 @@ module _ (r : Raster) (connect : Connect) (tree : ComponentTree) (marked : List 
   unfolding source_number_at
   number-none p h = place_none (λ n. is_in_node r connect n p) 1 marked h
 
-  pub number-same : (p q : ℕ) → ((j u : ℕ) → slice_get marked j ≡ Some u → is_in_node r connect u p ≡ is_in_node r connect u q) → source_number_at r connect marked p ≡ source_number_at r connect marked q
+  pub number-same : (p q : ℕ) → ((j u : ℕ) → slice_get marked j ≡ Some u → is_in_node r connect u p ≡ is_in_node r connect u q)
+      → source_number_at r connect marked p ≡ source_number_at r connect marked q
   unfolding source_number_at
   number-same p q h = ap (λ (o : Option ℕ). unwrap_or o 0) (place_same (λ n. is_in_node r connect n p) (λ n. is_in_node r connect n q) 1 marked h)
 
   pub number_bound : (p : ℕ) → source_number_at r connect marked p ≤ length marked
   unfolding source_number_at
-  number_bound p = let b : unwrap_or (position_from (λ n. is_in_node r connect n p) 1 marked) 0 + 1 ≤ 1 + length marked = place_bound (λ n. is_in_node r connect n p) 1 marked (omega arith) in omega arith
+  number_bound p =
+      let b : unwrap_or (position_from (λ n. is_in_node r connect n p) 1 marked) 0 + 1 ≤ 1 + length marked =
+      place_bound (λ n. is_in_node r connect n p) 1 marked (omega arith) in omega arith
 
   -- the top of node m
-  top_way : (u m : ℕ) → u < length (nodes r connect) → m < length (nodes r connect) → (is_in_node r connect u (top_of r connect m) ≡ true) ↔ IsOnWay (tree_of r connect).rows u m
+  top_way : (u m : ℕ) → u < length (nodes r connect) → m < length (nodes r connect)
+      → (is_in_node r connect u (top_of r connect m) ≡ true) ↔ IsOnWay (tree_of r connect).rows u m
   top_way u m hu hm =
       subst (λ (x : ℕ). (is_in_node r connect u (top_of r connect m) ≡ true) ↔ IsOnWay (tree_of r connect).rows u x) (node_of-top r connect m hm)
       (holds-way r connect u (top_of r connect m) plane hu (top-defined r connect m hm))
@@ -195,7 +210,8 @@ module _ (r : Raster) (connect : Connect) (tree : ComponentTree) (marked : List 
   pub number_of_root : (n p : ℕ) → n < length tree.rows → p ≡ parent_of_node r connect n → p ≡ no_node → ((j : ℕ) → slice_get marked j ≡ Some n → ⊥)
       → source_number_at r connect marked (top_of r connect n) ≡ 0
   number_of_root n p h is_parent none out =
-      number-none (top_of r connect n) (λ j u g. false_from_ne_true (is_in_node r connect u (top_of r connect n)) (λ k. from j u g ((top_way u n (is_node j u g) (node n h)).0 k)))
+      number-none (top_of r connect n) (λ j u g. false_from_ne_true (is_in_node r connect u (top_of r connect n))
+      (λ k. from j u g ((top_way u n (is_node j u g) (node n h)).0 k)))
     where
       from : (j u : ℕ) → slice_get marked j ≡ Some u → IsOnWay (tree_of r connect).rows u n → ⊥
       from j u g (inl e) = out j (g ∙ ap Some (sym e))
@@ -222,22 +238,27 @@ module _ (r : Raster) (connect : Connect) (tree : ComponentTree) (marked : List 
       is : n ≡ node_of r connect p
       is = e ∙ numbers_read p h
 
-      go : (b : Bool) → is_defined r p ≡ b → (n < length tree.rows) × (source_number_at r connect marked (top_of r connect n) ≡ source_number_at r connect marked p)
+      go : (b : Bool) → is_defined r p ≡ b
+          → (n < length tree.rows) × (source_number_at r connect marked (top_of r connect n) ≡ source_number_at r connect marked p)
       go false u = absurd (some (is ∙ undefined_none p u))
-      go true u = (let l : length tree.rows ≡ length (nodes r connect) = rows_are r connect tree same in omega (arith, hn), number-same (top_of r connect n) p each)
+      go true u =
+          (let l : length tree.rows ≡ length (nodes r connect) = rows_are r connect tree same in omega (arith, hn), number-same (top_of r connect n) p each)
         where
           hn : n < length (nodes r connect)
           hn = subst (λ (x : ℕ). x < length (nodes r connect)) (sym is) (Nodes.node_of-is r connect p u).below
 
           each : (j v : ℕ) → slice_get marked j ≡ Some v → is_in_node r connect v (top_of r connect n) ≡ is_in_node r connect v p
           each j v g = same_bool (is_in_node r connect v (top_of r connect n)) (is_in_node r connect v p)
-              (λ k. (holds-way r connect v p plane (is_node j v g) u).1 (subst (λ (x : ℕ). IsOnWay (tree_of r connect).rows v x) is ((top_way v n (is_node j v g) hn).0 k)))
-              (λ k. (top_way v n (is_node j v g) hn).1 (subst (λ (x : ℕ). IsOnWay (tree_of r connect).rows v x) (sym is) ((holds-way r connect v p plane (is_node j v g) u).0 k)))
+              (λ k. (holds-way r connect v p plane (is_node j v g) u).1
+              (subst (λ (x : ℕ). IsOnWay (tree_of r connect).rows v x) is ((top_way v n (is_node j v g) hn).0 k)))
+              (λ k. (top_way v n (is_node j v g) hn).1
+              (subst (λ (x : ℕ). IsOnWay (tree_of r connect).rows v x) (sym is) ((holds-way r connect v p plane (is_node j v g) u).0 k)))
 
   pub number_of_undefined : (p n : ℕ) → p < length tree.node_of → n ≡ slice_index tree.node_of p → n ≡ no_node → source_number_at r connect marked p ≡ 0
   number_of_undefined p n h e none =
       number-none p (λ j u g. false_from_ne_true (is_in_node r connect u p) (λ k.
-      below_no_node r connect (node_of r connect p) plane (Nodes.node_of-is r connect p (in_node-defined r connect u p k)).below (sym (e ∙ numbers_read p h) ∙ none)))
+      below_no_node r connect (node_of r connect p) plane (Nodes.node_of-is r connect p (in_node-defined r connect u p k)).below
+      (sym (e ∙ numbers_read p h) ∙ none)))
 
 -- ---- marking
 
@@ -258,14 +279,16 @@ marked_more size marked numbers i n v h g inside e = record {
     at_n : slice_index (set numbers n v) n ≡ i + 1
     at_n = get_or-set_same numbers n v 0 here ∙ e
 
-    sound : (m : ℕ) → (m ≡ n) ⊎ (m ≡ n → ⊥) → (slice_index numbers m ≡ 0) ⊎ ((j : ℕ) × (j < i) × (slice_get marked j ≡ Some m) × (slice_index numbers m ≡ j + 1))
+    sound : (m : ℕ) → (m ≡ n) ⊎ (m ≡ n → ⊥)
+        → (slice_index numbers m ≡ 0) ⊎ ((j : ℕ) × (j < i) × (slice_get marked j ≡ Some m) × (slice_index numbers m ≡ j + 1))
         → (slice_index (set numbers n v) m ≡ 0) ⊎ ((j : ℕ) × (j < i + 1) × (slice_get marked j ≡ Some m) × (slice_index (set numbers n v) m ≡ j + 1))
     sound m (inl s) old = inr (i, omega arith, g ∙ ap Some (sym s), ap (λ (x : ℕ). slice_index (set numbers n v) x) s ∙ at_n)
     sound m (inr s) (inl z) = inl (get_or-set_other numbers n m v 0 s ∙ z)
     sound m (inr s) (inr (j, l, f, z)) = inr (j, omega arith, f, get_or-set_other numbers n m v 0 s ∙ z)
 
     complete : (j m : ℕ) → (m ≡ n) ⊎ (m ≡ n → ⊥) → (j < i) ⊎ (i ≤ j) → j < i + 1 → slice_get marked j ≡ Some m → slice_index (set numbers n v) m ≡ 0 → ⊥
-    complete j m (inl s) t x f z = let a : slice_index (set numbers n v) m ≡ i + 1 = ap (λ (y : ℕ). slice_index (set numbers n v) y) s ∙ at_n in absurd (omega arith)
+    complete j m (inl s) t x f z =
+        let a : slice_index (set numbers n v) m ≡ i + 1 = ap (λ (y : ℕ). slice_index (set numbers n v) y) s ∙ at_n in absurd (omega arith)
     complete j m (inr s) (inl t) x f z = h.complete j m t f (sym (get_or-set_other numbers n m v 0 s) ∙ z)
     complete j m (inr s) (inr t) x f z = let b : j ≡ i = omega arith in s (same_Some m n (sym f ∙ ap (slice_get marked) b ∙ g))
 
@@ -278,32 +301,42 @@ pub numbered_none : (tree : ComponentTree) (marked numbers : List ℕ) → lengt
 numbered_none tree marked numbers l = record { one_each = l; each = λ r connect plane e n h. absurd (omega arith) }
 
 -- a node that isn't marked isn't in the list
-unmarked : (tree : ComponentTree) (marked first : List ℕ) (n : ℕ) → AreMarked (length tree.rows) marked (length marked) first → slice_index first n ≡ 0 → (j : ℕ) → slice_get marked j ≡ Some n → ⊥
+unmarked : (tree : ComponentTree) (marked first : List ℕ) (n : ℕ) → AreMarked (length tree.rows) marked (length marked) first → slice_index first n ≡ 0
+    → (j : ℕ) → slice_get marked j ≡ Some n → ⊥
 unmarked tree marked first n m z j g = m.complete j n (slice_get_within marked j n g) g z
 
-pub numbered_child : (tree : ComponentTree) (marked first numbers : List ℕ) (n p x : ℕ) → AreDisjointNodes tree marked → AreMarked (length tree.rows) marked (length marked) first
+pub numbered_child : (tree : ComponentTree) (marked first numbers : List ℕ) (n p x : ℕ) → AreDisjointNodes tree marked
+    → AreMarked (length tree.rows) marked (length marked) first
     → AreNumbered tree marked n numbers → n < length tree.rows → slice_index first n ≡ 0 → parent_in tree.rows n ≡ p → p < n → x ≡ slice_index numbers p
     → AreNumbered tree marked (n + 1) (set numbers n x)
 numbered_child tree marked first numbers n p x d m h inside zeros is_parent l e = record {
   one_each = length-set numbers n x ∙ h.one_each;
   each = λ r connect plane same.
-      filled numbers n x 0 (λ k. source_number_at r connect marked (top_of r connect k)) (let a : length numbers ≡ length tree.rows = h.one_each in omega arith) (h.each r connect plane same)
+      filled numbers n x 0 (λ k. source_number_at r connect marked (top_of r connect k)) (let a : length numbers ≡ length tree.rows = h.one_each in omega arith)
+      (h.each r connect plane same)
       (e ∙ h.each r connect plane same p l
-      ∙ number_of_child r connect tree marked plane same d n p inside (sym is_parent ∙ ap (λ (t : ComponentTree). parent_in t.rows n) same) l (unmarked tree marked first n m zeros));
+      ∙ number_of_child r connect tree marked plane same d n p inside (sym is_parent ∙ ap (λ (t : ComponentTree). parent_in t.rows n) same) l
+      (unmarked tree marked first n m zeros));
 }
 
 one_further : (tree : ComponentTree) (marked numbers : List ℕ) (n : ℕ) → AreNumbered tree marked n numbers
-    → ((r : Raster) (connect : Connect) → IsPlane r → tree ≡ tree_of r connect → slice_index numbers n ≡ source_number_at r connect marked (top_of r connect n)) → AreNumbered tree marked (n + 1) numbers
+    → ((r : Raster) (connect : Connect) → IsPlane r → tree ≡ tree_of r connect → slice_index numbers n
+    ≡ source_number_at r connect marked (top_of r connect n)) → AreNumbered tree marked (n + 1) numbers
 one_further tree marked numbers n h here = record { one_each = h.one_each; each = λ r connect plane same k l. go r connect plane same k (cases_lt k n) l }
   where
-    go : (r : Raster) (connect : Connect) → IsPlane r → tree ≡ tree_of r connect → (k : ℕ) → (k < n) ⊎ (n ≤ k) → k < n + 1 → slice_index numbers k ≡ source_number_at r connect marked (top_of r connect k)
+    go : (r : Raster) (connect : Connect) → IsPlane r → tree ≡ tree_of r connect → (k : ℕ) → (k < n) ⊎ (n ≤ k) → k < n + 1
+        → slice_index numbers k ≡ source_number_at r connect marked (top_of r connect k)
     go r connect plane same k (inl x) l = h.each r connect plane same k x
     go r connect plane same k (inr x) l =
-        let e : n ≡ k = omega arith in subst (λ (y : ℕ). slice_index numbers y ≡ source_number_at r connect marked (top_of r connect y)) e (here r connect plane same)
+        let e : n ≡ k =
+        omega arith in subst (λ (y : ℕ). slice_index numbers y ≡ source_number_at r connect marked (top_of r connect y)) e (here r connect plane same)
 
-pub numbered_marked : (tree : ComponentTree) (marked first numbers : List ℕ) (n : ℕ) → AreDisjointNodes tree marked → AreMarked (length tree.rows) marked (length marked) first
-    → AreNumbered tree marked n numbers → n < length tree.rows → slice_index numbers n ≡ slice_index first n → (slice_index numbers n ≡ 0 → ⊥) → AreNumbered tree marked (n + 1) numbers
-numbered_marked tree marked first numbers n d m h inside still some = one_further tree marked numbers n h (λ r connect plane same. go r connect plane same (m.sound n inside))
+pub numbered_marked : (tree : ComponentTree) (marked first numbers : List ℕ) (n : ℕ) → AreDisjointNodes tree marked
+    → AreMarked (length tree.rows) marked (length marked) first
+    → AreNumbered tree marked n numbers → n < length tree.rows → slice_index numbers n ≡ slice_index first n → (slice_index numbers n ≡ 0 → ⊥)
+    → AreNumbered tree marked (n + 1) numbers
+numbered_marked tree marked first numbers n d m h inside still some =
+    one_further tree marked numbers n h (λ r connect plane same. go r connect plane same (m.sound n inside))
   where
     go : (r : Raster) (connect : Connect) → IsPlane r → tree ≡ tree_of r connect
         → (slice_index first n ≡ 0) ⊎ ((i : ℕ) × (i < length marked) × (slice_get marked i ≡ Some n) × (slice_index first n ≡ i + 1))
@@ -311,25 +344,31 @@ numbered_marked tree marked first numbers n d m h inside still some = one_furthe
     go r connect plane same (inl z) = absurd (some (still ∙ z))
     go r connect plane same (inr (i, l, g, z)) = still ∙ z ∙ sym (number_of_marked r connect tree marked plane same d i n inside g)
 
-pub numbered_root : (tree : ComponentTree) (marked first numbers : List ℕ) (n p : ℕ) → AreDisjointNodes tree marked → AreMarked (length tree.rows) marked (length marked) first
-    → AreNumbered tree marked n numbers → n < length tree.rows → slice_index numbers n ≡ slice_index first n → slice_index numbers n ≡ 0 → parent_in tree.rows n ≡ p → p ≡ no_node
+pub numbered_root : (tree : ComponentTree) (marked first numbers : List ℕ) (n p : ℕ) → AreDisjointNodes tree marked
+    → AreMarked (length tree.rows) marked (length marked) first
+    → AreNumbered tree marked n numbers → n < length tree.rows → slice_index numbers n ≡ slice_index first n → slice_index numbers n ≡ 0
+    → parent_in tree.rows n ≡ p → p ≡ no_node
     → AreNumbered tree marked (n + 1) numbers
 numbered_root tree marked first numbers n p d m h inside still z is_parent none =
     one_further tree marked numbers n h (λ r connect plane same.
-    z ∙ sym (number_of_root r connect tree marked plane same d n p inside (sym is_parent ∙ ap (λ (t : ComponentTree). parent_in t.rows n) same) none (unmarked tree marked first n m (sym still ∙ z))))
+    z ∙ sym (number_of_root r connect tree marked plane same d n p inside (sym is_parent ∙ ap (λ (t : ComponentTree). parent_in t.rows n) same) none
+    (unmarked tree marked first n m (sym still ∙ z))))
 
 pub numbered_up_to : (tree : ComponentTree) (marked numbers : List ℕ) (j k : ℕ) → AreNumbered tree marked k numbers → j ≤ k → AreNumbered tree marked j numbers
 numbered_up_to tree marked numbers j k h l = record { one_each = h.one_each; each = λ r connect plane same n x. h.each r connect plane same n (omega arith) }
 
-pub untouched : (first numbers : List ℕ) (n x : ℕ) → ((m : ℕ) → n ≤ m → slice_index numbers m ≡ slice_index first m) → (m : ℕ) → n + 1 ≤ m → slice_index (set numbers n x) m ≡ slice_index first m
+pub untouched : (first numbers : List ℕ) (n x : ℕ) → ((m : ℕ) → n ≤ m → slice_index numbers m ≡ slice_index first m) → (m : ℕ) → n + 1 ≤ m
+    → slice_index (set numbers n x) m ≡ slice_index first m
 untouched first numbers n x h m l = get_or-set_other numbers n m x 0 (λ e. absurd (omega arith)) ∙ h m (omega arith)
 
-pub untouched_yet : (first numbers : List ℕ) (n : ℕ) → ((m : ℕ) → n ≤ m → slice_index numbers m ≡ slice_index first m) → (m : ℕ) → n + 1 ≤ m → slice_index numbers m ≡ slice_index first m
+pub untouched_yet : (first numbers : List ℕ) (n : ℕ) → ((m : ℕ) → n ≤ m → slice_index numbers m ≡ slice_index first m) → (m : ℕ) → n + 1 ≤ m
+    → slice_index numbers m ≡ slice_index first m
 untouched_yet first numbers n h m l = h m (omega arith)
 
 -- ---- the map
 
-pub filled_still : (xs : List ℕ) (k : ℕ) (f : ℕ → ℕ) → ((n : ℕ) → n < k → slice_index xs n ≡ f n) → slice_index xs k ≡ f k → (n : ℕ) → n < k + 1 → slice_index xs n ≡ f n
+pub filled_still : (xs : List ℕ) (k : ℕ) (f : ℕ → ℕ) → ((n : ℕ) → n < k → slice_index xs n ≡ f n) → slice_index xs k ≡ f k → (n : ℕ) → n < k + 1
+    → slice_index xs n ≡ f n
 filled_still xs k f before here n l = go (cases_lt n k)
   where
     go : (n < k) ⊎ (k ≤ n) → slice_index xs n ≡ f n
@@ -347,21 +386,24 @@ zeros_replicate xs k e n = ap (λ (ys : List ℕ). slice_index ys n) e ∙ go k 
     go (suc k) zero = refl
     go (suc k) (suc n) = go k n
 
-pub zeros_part : (xs part : List ℕ) (start : ℕ) → ((n : ℕ) → slice_index xs n ≡ 0) → ((k : ℕ) → k < length part → slice_index part k ≡ slice_index xs (start + k)) → (k : ℕ) → slice_index part k ≡ 0
+pub zeros_part : (xs part : List ℕ) (start : ℕ) → ((n : ℕ) → slice_index xs n ≡ 0)
+    → ((k : ℕ) → k < length part → slice_index part k ≡ slice_index xs (start + k)) → (k : ℕ) → slice_index part k ≡ 0
 zeros_part xs part start none each k = go (cases_lt k (length part))
   where
     go : (k < length part) ⊎ (length part ≤ k) → slice_index part k ≡ 0
     go (inl l) = each k l ∙ none (start + k)
     go (inr l) = get_or_past part k 0 l
 
-pub pixels_all : (r : Raster) (connect : Connect) (tree : ComponentTree) (marked numbers : List ℕ) → tree ≡ tree_of r connect → length numbers ≡ length tree.node_of
+pub pixels_all : (r : Raster) (connect : Connect) (tree : ComponentTree) (marked numbers : List ℕ) → tree ≡ tree_of r connect
+    → length numbers ≡ length tree.node_of
     → ((p : ℕ) → p < length tree.node_of → slice_index numbers p ≡ source_number_at r connect marked p) → numbers ≡ segmentation_of r connect marked
 unfolding segmentation_of pixels
 pixels_all r connect tree marked numbers same l h =
     fill_by_all (source_number_at r connect marked) numbers (length r.values) 0 (l ∙ numbers-length r connect tree same)
     (λ p x. h p (let e : length tree.node_of ≡ length r.values = numbers-length r connect tree same in omega arith))
 
-pub map_bound : (tree : ComponentTree) (marked numbers : List ℕ) → (d : AreDisjointNodes tree marked) → numbers ≡ segmentation_of d.plane d.connect marked → (p : ℕ) → slice_index numbers p ≤ 2 ^ 24
+pub map_bound : (tree : ComponentTree) (marked numbers : List ℕ) → (d : AreDisjointNodes tree marked) → numbers ≡ segmentation_of d.plane d.connect marked
+    → (p : ℕ) → slice_index numbers p ≤ 2 ^ 24
 unfolding segmentation_of pixels
 map_bound tree marked numbers d e p = go (cases_lt p (length d.plane.values))
   where
@@ -376,11 +418,13 @@ map_bound tree marked numbers d e p = go (cases_lt p (length d.plane.values))
     go : (p < length d.plane.values) ⊎ (length d.plane.values ≤ p) → slice_index numbers p ≤ 2 ^ 24
     go (inl l) =
         let a : slice_index numbers p ≡ source_number_at d.plane d.connect marked p =
-        ap (λ (xs : List ℕ). slice_index xs p) e ∙ get_or-map-range_with_len (source_number_at d.plane d.connect marked) 0 (length d.plane.values) p p 0 l (omega arith) in
+        ap (λ (xs : List ℕ). slice_index xs p) e
+        ∙ get_or-map-range_with_len (source_number_at d.plane d.connect marked) 0 (length d.plane.values) p p 0 l (omega arith) in
         let b : source_number_at d.plane d.connect marked p ≤ length marked = number_bound d.plane d.connect tree marked d.one_each d.tree_is d p in
         omega (arith, few)
     go (inr l) =
         let n : length numbers ≡ length d.plane.values =
-        ap length e ∙ length-map (range_with_len 0 (length d.plane.values)) (source_number_at d.plane d.connect marked) ∙ length-range_with_len 0 (length d.plane.values) in
+        ap length e ∙ length-map (range_with_len 0 (length d.plane.values)) (source_number_at d.plane d.connect marked)
+        ∙ length-range_with_len 0 (length d.plane.values) in
         let z : slice_index numbers p ≡ 0 = past numbers p (omega arith) in
         omega arith

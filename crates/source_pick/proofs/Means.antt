@@ -1,5 +1,6 @@
 -- Quotients rounded towards minus infinity, centres and spreads.
-use Rattle.std.proofs.Common.{◌≡◌, ℕ, ◌+◌, ◌*◌, ◌/◌, ◌^◌, ◌<◌, ◌≤◌, zero, suc, Bool, true, false, cond, List, [], ◌∷◌, length, refl, sym, ◌∙◌, ap, subst, arith, ◌⊎◌, inl, inr, lit<}
+use Rattle.std.proofs.Common.{◌≡◌, ℕ, ◌+◌, ◌*◌, ◌/◌, ◌^◌, ◌<◌, ◌≤◌, zero, suc, Bool, true, false, cond, List, [], ◌∷◌, length, refl, sym, ◌∙◌, ap, subst}
+use Rattle.std.proofs.Common.{arith, ◌⊎◌, inl, inr, lit<}
 use Rattle.std.specs.Prelude.{ℤ, pos, negsuc, neg_ℤ, ◌+ℤ◌, ◌-ℤ◌, ◌*ℤ◌, ◌≤ℤ◌, sum_by}
 use Rattle.std.specs.Int.{int_div_euclid}
 use Rattle.std.specs.Ordering.{int_eq}
@@ -8,7 +9,7 @@ use Rattle.std.proofs.lemmas.Nat.{mul-le}
 use Rattle.std.proofs.lemmas.Bool.{true≢false, cases_lt, false_from_ne_true}
 use Rattle.std.proofs.lemmas.List.Sums.{sum_by-cons}
 use Rattle.std.proofs.Math.Nat.{mul_comm, mul_assoc, mul-le-mul_left, div-lt_iff_lt-mul}
-use Rattle.std.proofs.Math.IntN.{*ℤ_comm, *ℤ-zero, suc_ℤ-*ℤ, pos-*ℤ-pos}
+use Rattle.std.proofs.Math.IntN.{*ℤ_comm, *ℤ-zero, pos-*ℤ-pos}
 use mir.Syntax.{w64, w128}
 use mir.Val.{SFits, of_z, to_z}
 use Rattle.lemmas.proofs.Exported.{IsAmong, int_eq-from, int_eq-true, times_suc}
@@ -79,7 +80,8 @@ module _ (f : ℕ → ℤ) (x : ℕ → ℕ) (base : ℤ) where
       let b : base *ℤ pos 0 ≡ pos 0 = *ℤ-zero base in
       omega (arith, ints)
   moment_low low (p ∷ ps) h =
-      let ih : (total (λ q. f q -ℤ base) ps *ℤ pos low) ≤ℤ (total (λ q. f q *ℤ pos (x q)) ps -ℤ base *ℤ pos (sum_by x ps)) = moment_low low ps (λ q k. h q (inr k)) in
+      let ih : (total (λ q. f q -ℤ base) ps *ℤ pos low) ≤ℤ (total (λ q. f q *ℤ pos (x q)) ps -ℤ base *ℤ pos (sum_by x ps)) =
+      moment_low low ps (λ q k. h q (inr k)) in
       let a : (f p -ℤ base +ℤ total (λ q. f q -ℤ base) ps) *ℤ pos low ≡ (f p -ℤ base) *ℤ pos low +ℤ total (λ q. f q -ℤ base) ps *ℤ pos low =
       plus_times (f p -ℤ base) (total (λ q. f q -ℤ base) ps) low in
       let b : ((f p -ℤ base) *ℤ pos low) ≤ℤ ((f p -ℤ base) *ℤ pos (x p)) = times_le (f p -ℤ base) low (x p) (h p (inl refl)).0 (h p (inl refl)).1 in
@@ -95,7 +97,8 @@ module _ (f : ℕ → ℤ) (x : ℕ → ℕ) (base : ℤ) where
       let b : base *ℤ pos 0 ≡ pos 0 = *ℤ-zero base in
       omega (arith, ints)
   moment_high high (p ∷ ps) h =
-      let ih : (total (λ q. f q *ℤ pos (x q)) ps -ℤ base *ℤ pos (sum_by x ps)) ≤ℤ (total (λ q. f q -ℤ base) ps *ℤ pos high) = moment_high high ps (λ q k. h q (inr k)) in
+      let ih : (total (λ q. f q *ℤ pos (x q)) ps -ℤ base *ℤ pos (sum_by x ps)) ≤ℤ (total (λ q. f q -ℤ base) ps *ℤ pos high) =
+      moment_high high ps (λ q k. h q (inr k)) in
       let a : (f p -ℤ base +ℤ total (λ q. f q -ℤ base) ps) *ℤ pos high ≡ (f p -ℤ base) *ℤ pos high +ℤ total (λ q. f q -ℤ base) ps *ℤ pos high =
       plus_times (f p -ℤ base) (total (λ q. f q -ℤ base) ps) high in
       let b : ((f p -ℤ base) *ℤ pos (x p)) ≤ℤ ((f p -ℤ base) *ℤ pos high) = times_le (f p -ℤ base) (x p) high (h p (inl refl)).0 (h p (inl refl)).1 in
@@ -167,7 +170,8 @@ floor_up_to (negsuc n) d m some h =
 -- ---- the centre
 
 -- a thousand times a mean lies between a thousand times the bounds
-thousand_between : (sum area low high : ℕ) → 0 < area → low * area ≤ sum → sum ≤ high * area → (1000 * low ≤ 1000 * sum / area) × (1000 * sum / area ≤ 1000 * high)
+thousand_between : (sum area low high : ℕ) → 0 < area → low * area ≤ sum → sum ≤ high * area
+    → (1000 * low ≤ 1000 * sum / area) × (1000 * sum / area ≤ 1000 * high)
 thousand_between sum area low high some l h =
     let a : 1000 * low * area ≡ 1000 * (low * area) = mul_assoc 1000 low area in
     let b : 1000 * high * area ≡ 1000 * (high * area) = mul_assoc 1000 high area in
@@ -183,7 +187,8 @@ without_flux sum area low high some l h =
     let t = thousand_between sum area low high some l h in
     record { above = omega (arith, ints, t.0, pos-*ℤ-pos 1000 low); below = omega (arith, ints, t.1, pos-*ℤ-pos 1000 high) }
 
-with_flux : (moment flux : ℤ) (low high : ℕ) → (flux ≡ pos 0 → ⊥) → pos 0 ≤ℤ flux → (flux *ℤ pos low) ≤ℤ moment → moment ≤ℤ (flux *ℤ pos high) → IsCentre (floor_of (pos 1000 *ℤ moment) flux) low high
+with_flux : (moment flux : ℤ) (low high : ℕ) → (flux ≡ pos 0 → ⊥) → pos 0 ≤ℤ flux → (flux *ℤ pos low) ≤ℤ moment → moment ≤ℤ (flux *ℤ pos high)
+    → IsCentre (floor_of (pos 1000 *ℤ moment) flux) low high
 with_flux moment (negsuc f) low high some h l u = absurd (omega (arith, ints))
 with_flux (negsuc m) (pos f) low high some h l u = absurd (let e : pos f *ℤ pos low ≡ pos (f * low) = pos-*ℤ-pos f low in omega (arith, ints))
 with_flux (pos m) (pos f) low high some h l u =
@@ -215,11 +220,14 @@ widest moment sum flux area low high k = record {
   ordered = omega arith;
   high_small = omega arith;
   sum_low = omega arith;
-  sum_high = let a : high * area ≤ 65535 * area = mul-le high area 65535 area k.high_small (omega arith) in let b : sum ≤ high * area = k.sum_high in omega arith;
+  sum_high = let a : high * area ≤ 65535 * area = mul-le high area 65535 area k.high_small (omega arith) in let b : sum ≤ high * area = k.sum_high in omega
+      arith;
   not_negative = k.not_negative;
   small = k.small;
-  moment_low = (let a : (flux *ℤ pos 0) ≤ℤ (flux *ℤ pos low) = times_le flux 0 low k.not_negative (omega arith) in let b : (flux *ℤ pos low) ≤ℤ moment = k.moment_low in omega (arith, ints));
-  moment_high = (let a : (flux *ℤ pos high) ≤ℤ (flux *ℤ pos 65535) = times_le flux high 65535 k.not_negative k.high_small in let b : moment ≤ℤ (flux *ℤ pos high) = k.moment_high in omega (arith, ints));
+  moment_low = (let a : (flux *ℤ pos 0) ≤ℤ (flux *ℤ pos low) = times_le flux 0 low k.not_negative
+      (omega arith) in let b : (flux *ℤ pos low) ≤ℤ moment = k.moment_low in omega (arith, ints));
+  moment_high = (let a : (flux *ℤ pos high) ≤ℤ (flux *ℤ pos 65535) = times_le flux high 65535 k.not_negative
+      k.high_small in let b : moment ≤ℤ (flux *ℤ pos high) = k.moment_high in omega (arith, ints));
 }
 
 -- ---- as the code computes them
@@ -228,10 +236,12 @@ wide : (z : ℤ) → SFits w64 z → to_z w128 (of_z w128 (to_z w64 (of_z w64 z)
 wide z f = rw (to_z-of_z w64 z f) (to_z-of_z w128 z (record { sfits = omega (arith, f.sfits) }))
 
 pub weighted-read : (moment base : ℤ) (sum : ℕ) → IsMoment moment base sum → SFits w64 base
-    → to_z w128 (of_z w128 (to_z w128 (of_z w128 moment) -ℤ to_z w128 (of_z w128 (to_z w128 (of_z w128 (to_z w64 (of_z w64 base))) *ℤ to_z w128 sum)))) ≡ moment -ℤ base *ℤ pos sum
+    → to_z w128 (of_z w128 (to_z w128 (of_z w128 moment) -ℤ to_z w128 (of_z w128 (to_z w128 (of_z w128 (to_z w64 (of_z w64 base))) *ℤ to_z w128 sum))))
+    ≡ moment -ℤ base *ℤ pos sum
 weighted-read moment base sum k f =
     rw (wide base f, to_z_pos w128 sum (omega (arith, k.sum_small)), to_z-of_z w128 moment moment_fits, to_z-of_z w128 (base *ℤ pos sum) product_fits)
-    (to_z-of_z w128 (moment -ℤ base *ℤ pos sum) (fits w128 (2 ^ 77 + 2 ^ 77) (moment -ℤ base *ℤ pos sum) (up_to-minus (2 ^ 77) (2 ^ 77) moment (base *ℤ pos sum) k.moment_small product) (lit< tt)))
+    (to_z-of_z w128 (moment -ℤ base *ℤ pos sum) (fits w128 (2 ^ 77 + 2 ^ 77) (moment -ℤ base *ℤ pos sum)
+    (up_to-minus (2 ^ 77) (2 ^ 77) moment (base *ℤ pos sum) k.moment_small product) (lit< tt)))
   where
     product : IsUpTo (2 ^ 77) (base *ℤ pos sum)
     product = up_to-times (2 ^ 37) (2 ^ 40) sum base k.base_small k.sum_small
@@ -297,11 +307,13 @@ spread_fits area products first second k = record {
 
     thousand : IsUpTo (1000 * 2 ^ 32 * (area * area)) (pos 1000 *ℤ (pos (area * products) -ℤ pos (first * second)))
     thousand =
-        subst (λ (m : ℕ). IsUpTo m (pos 1000 *ℤ (pos (area * products) -ℤ pos (first * second)))) (let e : 1000 * (2 ^ 32 * (area * area)) ≡ 1000 * 2 ^ 32 * (area * area) = omega arith in e)
+        subst (λ (m : ℕ). IsUpTo m (pos 1000 *ℤ (pos (area * products) -ℤ pos (first * second))))
+        (let e : 1000 * (2 ^ 32 * (area * area)) ≡ 1000 * 2 ^ 32 * (area * area) = omega arith in e)
         (times_thousand (2 ^ 32 * (area * area)) (pos (area * products) -ℤ pos (first * second)) above)
 
 pub spread-result : (area products first second : ℕ) (got : ℤ) → IsSpread area products first second
-    → got ≡ int_div_euclid (to_z w128 (of_z w128 (pos 1000 *ℤ to_z w128 (of_z w128 (to_z w128 (area * products) -ℤ to_z w128 (first * second)))))) (to_z w128 (area * area))
+    → got ≡ int_div_euclid (to_z w128 (of_z w128 (pos 1000 *ℤ to_z w128 (of_z w128 (to_z w128 (area * products) -ℤ to_z w128 (first * second))))))
+    (to_z w128 (area * area))
     → got ≡ spread_of area products first second
 unfolding spread_of
 spread-result area products first second got k e =
@@ -312,9 +324,14 @@ spread-result area products first second got k e =
     e ∙ ap (λ (z : ℤ). int_div_euclid (to_z w128 (of_z w128 (pos 1000 *ℤ to_z w128 (of_z w128 (z -ℤ to_z w128 (first * second)))))) (to_z w128 (area * area))) w
     ∙ ap (λ (z : ℤ). int_div_euclid (to_z w128 (of_z w128 (pos 1000 *ℤ to_z w128 (of_z w128 (pos (area * products) -ℤ z))))) (to_z w128 (area * area))) a
     ∙ ap (λ (z : ℤ). int_div_euclid (to_z w128 (of_z w128 (pos 1000 *ℤ z))) (to_z w128 (area * area)))
-    (to_z-of_z w128 (pos (area * products) -ℤ pos (first * second)) (fits w128 (2 ^ 80) (pos (area * products) -ℤ pos (first * second)) (up_to_more (2 ^ 32 * (area * area)) (2 ^ 80) (pos (area * products) -ℤ pos (first * second)) s.above (square_bound area k.few)) (lit< tt)))
+    (to_z-of_z w128 (pos (area * products) -ℤ pos (first * second))
+    (fits w128 (2 ^ 80) (pos (area * products) -ℤ pos (first * second))
+    (up_to_more (2 ^ 32 * (area * area)) (2 ^ 80) (pos (area * products) -ℤ pos (first * second)) s.above (square_bound area k.few)) (lit< tt)))
     ∙ ap (λ (z : ℤ). int_div_euclid z (to_z w128 (area * area)))
-    (to_z-of_z w128 (pos 1000 *ℤ (pos (area * products) -ℤ pos (first * second))) (fits w128 (2 ^ 90) (pos 1000 *ℤ (pos (area * products) -ℤ pos (first * second))) (up_to_more (1000 * 2 ^ 32 * (area * area)) (2 ^ 90) (pos 1000 *ℤ (pos (area * products) -ℤ pos (first * second))) s.thousand (thousand_bound area k.few)) (lit< tt)))
+    (to_z-of_z w128 (pos 1000 *ℤ (pos (area * products) -ℤ pos (first * second)))
+    (fits w128 (2 ^ 90) (pos 1000 *ℤ (pos (area * products) -ℤ pos (first * second)))
+    (up_to_more (1000 * 2 ^ 32 * (area * area)) (2 ^ 90) (pos 1000 *ℤ (pos (area * products) -ℤ pos (first * second))) s.thousand (thousand_bound area k.few))
+    (lit< tt)))
     ∙ ap (int_div_euclid (pos 1000 *ℤ (pos (area * products) -ℤ pos (first * second)))) d
   where
     square_bound : (area : ℕ) → area ≤ 2 ^ 24 → 2 ^ 32 * (area * area) ≤ 2 ^ 80
@@ -325,14 +342,17 @@ spread-result area products first second got k e =
 
 pub spread-fits : (area products first second : ℕ) (got : ℤ) → IsSpread area products first second → got ≡ spread_of area products first second → SFits w64 got
 spread-fits area products first second got k e =
-    subst (λ (z : ℤ). SFits w64 z) (sym e) (fits w64 (1000 * 2 ^ 32) (spread_of area products first second) (spread_fits area products first second k).spread (lit< tt))
+    subst (λ (z : ℤ). SFits w64 z) (sym e) (fits w64 (1000 * 2 ^ 32) (spread_of area products first second) (spread_fits area products first second k).spread
+    (lit< tt))
 
-pub difference_fits : (area products first second : ℕ) → IsSpread area products first second → SFits w128 (to_z w128 (area * products) -ℤ to_z w128 (first * second))
+pub difference_fits : (area products first second : ℕ) → IsSpread area products first second
+    → SFits w128 (to_z w128 (area * products) -ℤ to_z w128 (first * second))
 difference_fits area products first second k =
     let s : SpreadFits area products first second = spread_fits area products first second k in
     rw (to_z_pos w128 (area * products) s.whole, to_z_pos w128 (first * second) s.apart)
     (fits w128 (2 ^ 80) (pos (area * products) -ℤ pos (first * second))
-    (up_to_more (2 ^ 32 * (area * area)) (2 ^ 80) (pos (area * products) -ℤ pos (first * second)) s.above (let l : area * area ≤ 2 ^ 48 = mul-le area area (2 ^ 24) (2 ^ 24) k.few k.few in omega arith)) (lit< tt))
+    (up_to_more (2 ^ 32 * (area * area)) (2 ^ 80) (pos (area * products) -ℤ pos (first * second)) s.above
+    (let l : area * area ≤ 2 ^ 48 = mul-le area area (2 ^ 24) (2 ^ 24) k.few k.few in omega arith)) (lit< tt))
 
 -- ---- the centre as it is computed
 
@@ -342,18 +362,21 @@ centre_up_to z low high k h =
     let b : pos 1000 *ℤ pos high ≡ pos (1000 * high) = pos-*ℤ-pos 1000 high in
     record { low = omega (arith, ints, k.above); high = omega (arith, ints, k.below) }
 
-pub centre-small : (moment : ℤ) (sum : ℕ) (flux : ℤ) (area low high : ℕ) → IsMean moment sum flux area low high → IsUpTo 65535000 (centre_of moment sum flux area)
+pub centre-small : (moment : ℤ) (sum : ℕ) (flux : ℤ) (area low high : ℕ) → IsMean moment sum flux area low high
+    → IsUpTo 65535000 (centre_of moment sum flux area)
 centre-small moment sum flux area low high k = centre_up_to (centre_of moment sum flux area) low high (centred moment sum flux area low high k) k.high_small
 
 zero_flux : (flux : ℤ) → pos 0 ≤ℤ flux → of_z w64 flux ≡ 0 → flux ≡ pos 0
 zero_flux (pos n) h e = ap pos e
 zero_flux (negsuc n) h e = absurd (omega (arith, ints))
 
-pub centre-without : (moment : ℤ) (sum : ℕ) (flux : ℤ) (area : ℕ) → IsMean moment sum flux area 0 65535 → of_z w64 flux ≡ 0 → to_z w64 (1000 * sum / area) ≡ centre_of moment sum flux area
+pub centre-without : (moment : ℤ) (sum : ℕ) (flux : ℤ) (area : ℕ) → IsMean moment sum flux area 0 65535 → of_z w64 flux ≡ 0
+    → to_z w64 (1000 * sum / area) ≡ centre_of moment sum flux area
 unfolding centre_of
 centre-without moment sum flux area k e =
     rw (int_eq-from flux (pos 0) (zero_flux flux k.not_negative e))
-    (to_z_pos w64 (1000 * sum / area) (let t : 1000 * sum / area ≤ 1000 * 65535 = (thousand_between sum area 0 65535 k.some k.sum_low k.sum_high).1 in omega arith))
+    (to_z_pos w64 (1000 * sum / area) (let t : 1000 * sum / area ≤ 1000 * 65535 = (thousand_between sum area 0 65535 k.some k.sum_low k.sum_high).1 in omega
+    arith))
 
 moment_up_to : (moment flux : ℤ) → pos 0 ≤ℤ flux → flux ≤ℤ pos (2 ^ 62) → (flux *ℤ pos 0) ≤ℤ moment → moment ≤ℤ (flux *ℤ pos 65535) → IsUpTo (2 ^ 78) moment
 moment_up_to moment (pos f) h s l u =
@@ -362,13 +385,16 @@ moment_up_to moment (pos f) h s l u =
     record { low = omega (arith, ints); high = omega (arith, ints) }
 moment_up_to moment (negsuc f) h s l u = absurd (omega (arith, ints))
 
-pub centre-with : (moment : ℤ) (sum : ℕ) (flux : ℤ) (area : ℕ) (got : ℤ) → IsMean moment sum flux area 0 65535 → (of_z w64 flux ≡ 0 → ⊥) → SFits w64 flux → SFits w128 moment
-    → got ≡ int_div_euclid (to_z w128 (of_z w128 (pos 1000 *ℤ to_z w128 (of_z w128 moment)))) (to_z w128 (of_z w128 (to_z w64 (of_z w64 flux)))) → got ≡ centre_of moment sum flux area
+pub centre-with : (moment : ℤ) (sum : ℕ) (flux : ℤ) (area : ℕ) (got : ℤ) → IsMean moment sum flux area 0 65535 → (of_z w64 flux ≡ 0 → ⊥) → SFits w64 flux
+    → SFits w128 moment
+    → got ≡ int_div_euclid (to_z w128 (of_z w128 (pos 1000 *ℤ to_z w128 (of_z w128 moment)))) (to_z w128 (of_z w128 (to_z w64 (of_z w64 flux))))
+    → got ≡ centre_of moment sum flux area
 unfolding centre_of
 centre-with moment sum flux area got k some f m e =
     e ∙ ap (λ (z : ℤ). int_div_euclid (to_z w128 (of_z w128 (pos 1000 *ℤ z))) (to_z w128 (of_z w128 (to_z w64 (of_z w64 flux))))) (to_z-of_z w128 moment m)
     ∙ ap (λ (z : ℤ). int_div_euclid z (to_z w128 (of_z w128 (to_z w64 (of_z w64 flux)))))
-    (to_z-of_z w128 (pos 1000 *ℤ moment) (fits w128 (1000 * 2 ^ 78) (pos 1000 *ℤ moment) (times_thousand (2 ^ 78) moment (moment_up_to moment flux k.not_negative k.small k.moment_low k.moment_high)) (lit< tt)))
+    (to_z-of_z w128 (pos 1000 *ℤ moment) (fits w128 (1000 * 2 ^ 78) (pos 1000 *ℤ moment)
+    (times_thousand (2 ^ 78) moment (moment_up_to moment flux k.not_negative k.small k.moment_low k.moment_high)) (lit< tt)))
     ∙ ap (int_div_euclid (pos 1000 *ℤ moment)) (wide flux f)
     ∙ ap (λ (b : Bool). cond b (floor_of (pos (1000 * sum)) (pos area)) (floor_of (pos 1000 *ℤ moment) flux)) (sym other)
   where
@@ -389,7 +415,8 @@ spread-read area products first second got k e =
     let b : SFits w64 got = spread-fits area products first second got k e in
     ap (λ (z : ℤ). to_z w64 (of_z w64 z)) (to_z-of_z w128 got (record { sfits = omega (arith, b.sfits) })) ∙ to_z-of_z w64 got b ∙ e
 
-pub spread-cast : (area products first second : ℕ) (got : ℤ) → IsSpread area products first second → got ≡ spread_of area products first second → SFits w64 (to_z w128 (of_z w128 got))
+pub spread-cast : (area products first second : ℕ) (got : ℤ) → IsSpread area products first second → got ≡ spread_of area products first second
+    → SFits w64 (to_z w128 (of_z w128 got))
 spread-cast area products first second got k e =
     let b : SFits w64 got = spread-fits area products first second got k e in
     subst (λ (z : ℤ). SFits w64 z) (sym (to_z-of_z w128 got (record { sfits = omega (arith, b.sfits) }))) b

@@ -1,6 +1,7 @@
 -- Marks on the pixels near those of at least the threshold, and the plane without the others.
-use Rattle.std.proofs.Common.{◌≡◌, ℕ, ◌+◌, ◌-◌, ◌*◌, ◌/◌, ◌<◌, ◌≤◌, Bool, true, false, cond, List, [], ◌∷◌, length, map, replicate, refl, sym, ◌∙◌, ap, subst, arith, ◌⊎◌, inl, inr, set}
-use Rattle.std.specs.Prelude.{IsTrue, ℤ, Option, Some, None, filter, slice_set, slice_index_or, is_some}
+use Rattle.std.proofs.Common.{◌≡◌, ℕ, ◌+◌, ◌-◌, ◌*◌, ◌/◌, ◌<◌, ◌≤◌, Bool, true, false, cond, List, [], ◌∷◌, length, map, replicate, refl, sym, ◌∙◌, ap}
+use Rattle.std.proofs.Common.{subst, arith, ◌⊎◌, inl, inr, set}
+use Rattle.std.specs.Prelude.{IsTrue, ℤ, Option, Some, None, filter, slice_index_or, is_some}
 use Rattle.std.specs.List.{range_with_len, list_any}
 use Rattle.std.proofs.lemmas.Bool.{true≢false, or_cases, cases_eq, cases_lt}
 use Rattle.std.proofs.lemmas.List.{length-map, length-set, get_or-set_same, get_or-set_other, get_or-replicate, get_or_past, length-replicate, ext_get_or}
@@ -29,7 +30,8 @@ between_none start first end low old e = record {
   ];
 }
 
-pub between_more : (start first end p : ℕ) (old new : List Bool) → AreSetBetween start first end p old new → first ≤ p → p < end → start ≤ p → p - start < length old
+pub between_more : (start first end p : ℕ) (old new : List Bool) → AreSetBetween start first end p old new → first ≤ p → p < end → start ≤ p
+    → p - start < length old
     → AreSetBetween start first end (p + 1) old (set new (p - start) true)
 between_more start first end p old new s low high from inside = record {
   one_each = length-set new (p - start) true ∙ s.one_each;
@@ -53,7 +55,8 @@ between_more start first end p old new s low high from inside = record {
     sound k m (inl e) = inr (omega arith, omega arith)
     sound k m (inr d) = s.sound k (sym (get_or-set_other new (p - start) k true false d) ∙ m)
 
-    complete : (k : ℕ) → k < length old → first ≤ start + k → start + k < p + 1 → (k ≡ p - start) ⊎ (k ≡ p - start → ⊥) → slice_index_or (set new (p - start) true) k false ≡ true
+    complete : (k : ℕ) → k < length old → first ≤ start + k → start + k < p + 1 → (k ≡ p - start) ⊎ (k ≡ p - start → ⊥)
+        → slice_index_or (set new (p - start) true) k false ≡ true
     complete k l a b (inl e) = at k e
     complete k l a b (inr d) = after k (inr d) (s.complete k l a (before (cases_eq (start + k) p)))
       where
@@ -65,7 +68,8 @@ between_more start first end p old new s low high from inside = record {
             go (inl c) = c
             go (inr c) = absurd (f (omega arith))
 
-pub between_all : (start first end p : ℕ) (old new : List Bool) → AreSetBetween start first end p old new → (end ≤ p) ⊎ (start + length old ≤ p) → AreSetBetween start first end end old new
+pub between_all : (start first end p : ℕ) (old new : List Bool) → AreSetBetween start first end p old new → (end ≤ p) ⊎ (start + length old ≤ p)
+    → AreSetBetween start first end end old new
 between_all start first end p old new s all = record {
   one_each = s.one_each;
   sound = s.sound;
@@ -78,7 +82,8 @@ between_all start first end p old new s all = record {
 
 -- ---- marks around a pixel
 
-pub around_none : (connect : Connect) (width x y start first : ℕ) (old : List Bool) → x < width → first ≡ y - 1 → AreSetAround connect width (y * width + x) start (first * width) old old
+pub around_none : (connect : Connect) (width x y start first : ℕ) (old : List Bool) → x < width → first ≡ y - 1
+    → AreSetAround connect width (y * width + x) start (first * width) old old
 around_none connect width x y start first old inside e = record {
   one_each = refl;
   sound = λ k m. inl m;
@@ -101,7 +106,8 @@ around_more connect width x y start v first end old before after inside low high
     sound k (inl m) = s.sound k m
     sound k (inr (c, d)) = inr (part_around connect width x y v first end (start + k) inside low high part c d)
 
-    complete : (k : ℕ) → k < length old → start + k < (v + 1) * width → IsAround connect width (y * width + x) (start + k) → (start + k < v * width) ⊎ (v * width ≤ start + k)
+    complete : (k : ℕ) → k < length old → start + k < (v + 1) * width → IsAround connect width (y * width + x) (start + k)
+        → (start + k < v * width) ⊎ (v * width ≤ start + k)
         → slice_index_or after k false ≡ true
     complete k l u a (inl c) = b.kept k (s.complete k l c a)
     complete k l u a (inr c) =
@@ -119,7 +125,8 @@ around_all connect width height x y start row old new inside end s = record {
 
 -- ---- marks near the pixels of at least h
 
-pub near_none : (r : Raster) (connect : Connect) (h : ℤ) (start first : ℕ) (marks : List Bool) → ((k : ℕ) → slice_index_or marks k false ≡ false) → AreMarkedNear r connect h start first first marks
+pub near_none : (r : Raster) (connect : Connect) (h : ℤ) (start first : ℕ) (marks : List Bool) → ((k : ℕ) → slice_index_or marks k false ≡ false)
+    → AreMarkedNear r connect h start first first marks
 near_none r connect h start first marks blank = record {
   sound = λ k m. absurd (true≢false (sym m ∙ blank k));
   complete = λ p k a b hi l n. absurd (omega arith);
@@ -133,7 +140,8 @@ step_back p count l d = go (cases_lt p count)
     go (inr k) = absurd (d (omega arith))
 
 -- a count may be written otherwise
-pub near_at_count : (r : Raster) (connect : Connect) (h : ℤ) (start first count other : ℕ) (marks : List Bool) → AreMarkedNear r connect h start first count marks → other ≡ count
+pub near_at_count : (r : Raster) (connect : Connect) (h : ℤ) (start first count other : ℕ) (marks : List Bool)
+    → AreMarkedNear r connect h start first count marks → other ≡ count
     → AreMarkedNear r connect h start first other marks
 near_at_count r connect h start first count other marks m e = subst (λ (n : ℕ). AreMarkedNear r connect h start first n marks) (sym e) m
 
@@ -144,7 +152,8 @@ near_skip r connect h start first count marks low m = record {
   complete = λ p k a b hi l n. m.complete p k a (step_back p count b (λ e. absurd (true≢false (sym hi ∙ ap (is_at_least r h) e ∙ low)))) hi l n;
 }
 
-pub near_more : (r : Raster) (connect : Connect) (h : ℤ) (start first count limit : ℕ) (before after : List Bool) → is_at_least r h count ≡ true → start + length before ≤ limit
+pub near_more : (r : Raster) (connect : Connect) (h : ℤ) (start first count limit : ℕ) (before after : List Bool) → is_at_least r h count ≡ true
+    → start + length before ≤ limit
     → AreMarkedNear r connect h start first count before → AreSetAround connect r.shape.width count start limit before after
     → AreMarkedNear r connect h start first (count + 1) after
 near_more r connect h start first count limit before after high inside m s = record {
@@ -157,7 +166,8 @@ near_more r connect h start first count limit before after high inside m s = rec
     sound k (inr (inl e)) = near_from_own r connect h (start + k) (ap (is_at_least r h) e ∙ high)
     sound k (inr (inr n)) = near_from_neighbour r connect h (start + k) count high n
 
-    complete : (p k : ℕ) → first ≤ p → p < count + 1 → IsTrue (is_at_least r h p) → k < length before → IsAround connect r.shape.width p (start + k) → (p ≡ count) ⊎ (p ≡ count → ⊥)
+    complete : (p k : ℕ) → first ≤ p → p < count + 1 → IsTrue (is_at_least r h p) → k < length before → IsAround connect r.shape.width p (start + k)
+        → (p ≡ count) ⊎ (p ≡ count → ⊥)
         → slice_index_or after k false ≡ true
     complete p k a b hi l n (inl e) = s.complete k l (omega arith) (subst (λ (x : ℕ). IsAround connect r.shape.width x (start + k)) e n)
     complete p k a b hi l n (inr d) = s.kept k (m.complete p k a (step_back p count b d) hi l n)
@@ -172,19 +182,24 @@ high_around : (r : Raster) (connect : Connect) (h : ℤ) (q : ℕ) → is_near_h
 unfolding is_near_high is_beside_high
 high_around r connect h q k = go (or_cases (is_at_least r h q) (list_any (is_at_least r h) (filter (are_neighbours connect r.shape.width q) (pixels r))) k)
   where
-    go : (is_at_least r h q ≡ true) ⊎ (list_any (is_at_least r h) (filter (are_neighbours connect r.shape.width q) (pixels r)) ≡ true) → HasHighAround r connect h q
+    go : (is_at_least r h q ≡ true) ⊎ (list_any (is_at_least r h) (filter (are_neighbours connect r.shape.width q) (pixels r)) ≡ true)
+        → HasHighAround r connect h q
     go (inl x) = record { it = q; high = x; around = inl refl }
     go (inr x) =
-        let w : IsWitness (is_at_least r h) (filter (are_neighbours connect r.shape.width q) (pixels r)) = witness_from_any (is_at_least r h) (filter (are_neighbours connect r.shape.width q) (pixels r)) x in
+        let w : IsWitness (is_at_least r h) (filter (are_neighbours connect r.shape.width q) (pixels r)) =
+        witness_from_any (is_at_least r h) (filter (are_neighbours connect r.shape.width q) (pixels r)) x in
         record {
           it = w.it;
           high = w.passes;
-          around = inr (are_neighbours_comm connect r.shape.width w.it q ∙ (among_from_filter (are_neighbours connect r.shape.width q) w.it (pixels r) w.among).1);
+          around = inr (are_neighbours_comm connect r.shape.width w.it
+              q ∙ (among_from_filter (are_neighbours connect r.shape.width q) w.it (pixels r) w.among).1);
         }
 
 -- the rows of a band and those beside it are enough for its marks
-pub near_band : (r : Raster) (connect : Connect) (h : ℤ) (start first row size : ℕ) (marks : List Bool) → IsPlane r → 0 < r.shape.width → first ≡ start / r.shape.width - 1
-    → ((start + size - 1) / r.shape.width + 2 ≤ row) ⊎ (r.shape.height ≤ row) → length marks ≡ size → AreMarkedNear r connect h start (first * r.shape.width) (row * r.shape.width) marks
+pub near_band : (r : Raster) (connect : Connect) (h : ℤ) (start first row size : ℕ) (marks : List Bool) → IsPlane r → 0 < r.shape.width
+    → first ≡ start / r.shape.width - 1
+    → ((start + size - 1) / r.shape.width + 2 ≤ row) ⊎ (r.shape.height ≤ row) → length marks ≡ size
+    → AreMarkedNear r connect h start (first * r.shape.width) (row * r.shape.width) marks
     → (k : ℕ) → k < size → slice_index_or marks k false ≡ is_near_high r connect h (start + k)
 near_band r connect h start first row size marks plane some begin end l m k inside =
     same_bool (slice_index_or marks k false) (is_near_high r connect h (start + k)) (m.sound k) (λ n. back (high_around r connect h (start + k) n))
@@ -193,7 +208,8 @@ near_band r connect h start first row size marks plane some begin end l m k insi
     back w =
         let pixel : w.it < length r.values = below_from_defined r w.it (defined_from_at_least r h w.it w.high) in
         let low : first * r.shape.width ≤ w.it = first_row connect r.shape.width start first w.it (start + k) some begin (omega arith) w.around in
-        let high : w.it < row * r.shape.width = last_row connect r.shape.width r.shape.height (start + size - 1) row w.it (start + k) some end (omega arith) (omega (arith, plane)) w.around in
+        let high : w.it < row * r.shape.width =
+        last_row connect r.shape.width r.shape.height (start + size - 1) row w.it (start + k) some end (omega arith) (omega (arith, plane)) w.around in
         m.complete w.it k low high w.high (omega arith) w.around
 
 -- what is said of each mark is said of the list
@@ -207,9 +223,12 @@ near_list r connect h marks l each =
     each q b ∙ sym (get_or-map-range_with_len (is_near_high r connect h) 0 (length r.values) q q false b (omega arith)))
 
 -- a mark of a band is that of its pixel
-pub marked_there : (r : Raster) (connect : Connect) (h other : ℤ) (band marks : List Bool) (start k q : ℕ) → slice_index_or band k false ≡ slice_index_or marks q false
-    → slice_index_or band k false ≡ is_near_high r connect h (start + k) → start + k ≡ q → h ≡ other → slice_index_or marks q false ≡ is_near_high r connect other q
-marked_there r connect h other band marks start k q same near e u = sym same ∙ near ∙ ap (is_near_high r connect h) e ∙ ap (λ (z : ℤ). is_near_high r connect z q) u
+pub marked_there : (r : Raster) (connect : Connect) (h other : ℤ) (band marks : List Bool) (start k q : ℕ)
+    → slice_index_or band k false ≡ slice_index_or marks q false
+    → slice_index_or band k false ≡ is_near_high r connect h (start + k) → start + k ≡ q → h ≡ other
+    → slice_index_or marks q false ≡ is_near_high r connect other q
+marked_there r connect h other band marks start k q same near e u =
+    sym same ∙ near ∙ ap (is_near_high r connect h) e ∙ ap (λ (z : ℤ). is_near_high r connect z q) u
 
 pub blank_marks : (count : ℕ) (marks : List Bool) → marks ≡ replicate count false → (k : ℕ) → slice_index_or marks k false ≡ false
 blank_marks count marks e k = ap (λ (xs : List Bool). slice_index_or xs k false) e ∙ go (cases_lt k count)
@@ -218,7 +237,8 @@ blank_marks count marks e k = ap (λ (xs : List Bool). slice_index_or xs k false
     go (inl l) = get_or-replicate count k false false l
     go (inr l) = get_or_past (replicate count false) k false (omega (arith, length-replicate count false))
 
-pub blank_part : (count : ℕ) (marks part : List Bool) (start : ℕ) → marks ≡ replicate count false → ((k : ℕ) → k < length part → slice_index_or part k false ≡ slice_index_or marks (start + k) false)
+pub blank_part : (count : ℕ) (marks part : List Bool) (start : ℕ) → marks ≡ replicate count false
+    → ((k : ℕ) → k < length part → slice_index_or part k false ≡ slice_index_or marks (start + k) false)
     → (k : ℕ) → slice_index_or part k false ≡ false
 blank_part count marks part start e each k = go (cases_lt k (length part))
   where
@@ -228,7 +248,8 @@ blank_part count marks part start e each k = go (cases_lt k (length part))
 
 -- ---- the plane without the others
 
-pub cleared_all : (r plane : Raster) (marks : List Bool) (count : ℕ) → IsClearedUpTo r marks count plane → length r.values ≤ count → plane ≡ without_unmarked r marks
+pub cleared_all : (r plane : Raster) (marks : List Bool) (count : ℕ) → IsClearedUpTo r marks count plane → length r.values ≤ count
+    → plane ≡ without_unmarked r marks
 unfolding without_unmarked pixels
 cleared_all r plane marks count h all = ap (λ (s : Shape). let x : Raster = record { shape = s; values = plane.values } in x) h.same_shape
     ∙ ap (λ (vs : List (Option ℤ)). let x : Raster = record { shape = r.shape; values = vs } in x) same
@@ -238,13 +259,15 @@ cleared_all r plane marks count h all = ap (λ (s : Shape). let x : Raster = rec
 
     same : plane.values ≡ map (λ p. cond (slice_index_or marks p false) (value_at r.values p) None) (range_with_len 0 (length r.values))
     same = ext_get_or None plane.values (map (λ p. cond (slice_index_or marks p false) (value_at r.values p) None) (range_with_len 0 (length r.values)))
-        (h.one_each ∙ sym (length-map (range_with_len 0 (length r.values)) (λ p. cond (slice_index_or marks p false) (value_at r.values p) None) ∙ length-range_with_len 0 (length r.values)))
+        (h.one_each ∙ sym (length-map (range_with_len 0 (length r.values))
+        (λ p. cond (slice_index_or marks p false) (value_at r.values p) None) ∙ length-range_with_len 0 (length r.values)))
         (λ q l. let b : q < length r.values = omega (arith, h.one_each) in
         h.done q (omega arith)
         ∙ sym (get_or-map-range_with_len (λ p. cond (slice_index_or marks p false) (value_at r.values p) None) 0 (length r.values) q q None b (omega arith)))
 
 -- with the marks near the pixels of at least h it is the plane that is kept
-pub without-kept : (r : Raster) (connect : Connect) (h : ℤ) (marks : List Bool) → marks ≡ map (is_near_high r connect h) (pixels r) → without_unmarked r marks ≡ kept r connect h
+pub without-kept : (r : Raster) (connect : Connect) (h : ℤ) (marks : List Bool) → marks ≡ map (is_near_high r connect h) (pixels r)
+    → without_unmarked r marks ≡ kept r connect h
 unfolding without_unmarked kept pixels
 without-kept r connect h marks e = ap (λ (vs : List (Option ℤ)). let x : Raster = record { shape = r.shape; values = vs } in x)
     (map_alike (range_with_len 0 (length r.values)) (λ p k. ap (λ (b : Bool). cond b (value_at r.values p) None) (at p (below p k))))
@@ -253,18 +276,25 @@ without-kept r connect h marks e = ap (λ (vs : List (Option ℤ)). let x : Rast
     below p k = let l : (0 ≤ p) × (p < 0 + length r.values) = among_from_range 0 (length r.values) p k in omega arith
 
     at : (p : ℕ) → p < length r.values → slice_index_or marks p false ≡ is_near_high r connect h p
-    at p l = ap (λ (xs : List Bool). slice_index_or xs p false) e ∙ get_or-map-range_with_len (is_near_high r connect h) 0 (length r.values) p p false l (omega arith)
+    at p l =
+        ap (λ (xs : List Bool). slice_index_or xs p false) e
+        ∙ get_or-map-range_with_len (is_near_high r connect h) 0 (length r.values) p p false l (omega arith)
 
-    map_alike : (ps : List ℕ) → ((p : ℕ) → IsAmong p ps → cond (slice_index_or marks p false) (value_at r.values p) None ≡ cond (is_near_high r connect h p) (value_at r.values p) None)
-        → map (λ p. cond (slice_index_or marks p false) (value_at r.values p) None) ps ≡ map (λ p. cond (is_near_high r connect h p) (value_at r.values p) None) ps
+    map_alike : (ps : List ℕ)
+        → ((p : ℕ) → IsAmong p ps → cond (slice_index_or marks p false) (value_at r.values p) None
+        ≡ cond (is_near_high r connect h p) (value_at r.values p) None)
+        → map (λ p. cond (slice_index_or marks p false) (value_at r.values p) None) ps
+        ≡ map (λ p. cond (is_near_high r connect h p) (value_at r.values p) None) ps
     map_alike [] f = refl
     map_alike (p ∷ ps) f =
         ap (λ (v : Option ℤ). v ∷ map (λ p. cond (slice_index_or marks p false) (value_at r.values p) None) ps) (f p (inl refl))
         ∙ ap (λ (vs : List (Option ℤ)). cond (is_near_high r connect h p) (value_at r.values p) None ∷ vs) (map_alike ps (λ q k. f q (inr k)))
 
-pub length_of_marks : (r : Raster) (connect : Connect) (h : ℤ) (marks : List Bool) → marks ≡ map (is_near_high r connect h) (pixels r) → length marks ≡ length r.values
+pub length_of_marks : (r : Raster) (connect : Connect) (h : ℤ) (marks : List Bool) → marks ≡ map (is_near_high r connect h) (pixels r)
+    → length marks ≡ length r.values
 unfolding pixels
-length_of_marks r connect h marks e = ap length e ∙ length-map (range_with_len 0 (length r.values)) (is_near_high r connect h) ∙ length-range_with_len 0 (length r.values)
+length_of_marks r connect h marks e =
+    ap length e ∙ length-map (range_with_len 0 (length r.values)) (is_near_high r connect h) ∙ length-range_with_len 0 (length r.values)
 
 -- ---- a plane in which nothing is far
 
@@ -286,7 +316,8 @@ pub kept_whole : (r : Raster) (connect : Connect) (h : ℤ) → HasNoneBelow r h
 unfolding kept pixels
 kept_whole r connect h none = ap (λ (vs : List (Option ℤ)). let x : Raster = record { shape = r.shape; values = vs } in x) same
   where
-    stays : (q : ℕ) → q < length r.values → (v : Option ℤ) → value_at r.values q ≡ v → value_at r.values q ≡ cond (is_near_high r connect h q) (value_at r.values q) None
+    stays : (q : ℕ) → q < length r.values → (v : Option ℤ) → value_at r.values q ≡ v
+        → value_at r.values q ≡ cond (is_near_high r connect h q) (value_at r.values q) None
     stays q l None e = e ∙ go (is_near_high r connect h q)
       where
         go : (b : Bool) → None ≡ cond b (value_at r.values q) None
@@ -298,6 +329,7 @@ kept_whole r connect h none = ap (λ (vs : List (Option ℤ)). let x : Raster = 
 
     same : r.values ≡ map (λ p. cond (is_near_high r connect h p) (value_at r.values p) None) (range_with_len 0 (length r.values))
     same = ext_get_or None r.values (map (λ p. cond (is_near_high r connect h p) (value_at r.values p) None) (range_with_len 0 (length r.values)))
-        (sym (length-map (range_with_len 0 (length r.values)) (λ p. cond (is_near_high r connect h p) (value_at r.values p) None) ∙ length-range_with_len 0 (length r.values)))
+        (sym (length-map (range_with_len 0 (length r.values)) (λ p. cond (is_near_high r connect h p) (value_at r.values p) None) ∙ length-range_with_len 0
+        (length r.values)))
         (λ q l. stays q l (value_at r.values q) refl
         ∙ sym (get_or-map-range_with_len (λ p. cond (is_near_high r connect h p) (value_at r.values p) None) 0 (length r.values) q q None l (omega arith)))

@@ -1,6 +1,6 @@
 -- The sources of a plane as a list that rises by their least pixels, so that the sources of two planes can be paired.
-use Rattle.std.proofs.Common.{◌≡◌, ℕ, ◌<◌, zero, suc, List, [], ◌∷◌, length, get_or, refl, ap, arith, inl, inr}
-use Rattle.std.specs.Prelude.{IsTrue, Contains, Some, slice_get}
+use Rattle.std.proofs.Common.{◌≡◌, ℕ, ◌<◌, suc, List, [], ◌∷◌, refl, arith}
+use Rattle.std.specs.Prelude.{IsTrue, Some, slice_get}
 use Rattle.lemmas.proofs.Exported.{IsAmong, IsRisingBy, among_get, among_of, contains_from_among}
 use Rattle.comp_tree.specs.declared.shape.Connect.{Connect}
 use Rattle.comp_tree.specs.Raster.{Raster, IsPlane}

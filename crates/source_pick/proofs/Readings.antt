@@ -12,11 +12,10 @@ use lib.Signed.{le_z, lt_z}
 use Rattle.comp_tree.specs.declared.shape.Shape.{Shape}
 use Rattle.comp_tree.specs.declared.shape.Connect.{Connect}
 use Rattle.comp_tree.specs.declared.tree.NodeRow.{NodeRow}
-use Rattle.comp_tree.specs.Raster.{Raster, IsPlane, pixels}
+use Rattle.comp_tree.specs.Raster.{Raster, IsPlane}
 use Rattle.comp_tree.specs.ComponentTree.{ComponentTree, parent_in}
-use Rattle.comp_tree.specs.Components.{nodes, node_of, tree_of}
+use Rattle.comp_tree.specs.Components.{nodes, tree_of}
 use Rattle.comp_tree.specs.Laws.{parent_of_node}
-use Rattle.comp_tree.proofs.Exported.{length-rows, length-pixels}
 use Rattle.node_sums.specs.declared.entry.Sums.{Sums}
 use Rattle.node_sums.specs.Sums.{sums_of, sums_in, AreTheTrees}
 use Rattle.comp_tree.specs.Nesting.{level_in, level_of_node}
@@ -45,22 +44,26 @@ pub tree-shape : (r : Raster) (connect : Connect) (tree : ComponentTree) → tre
 tree-shape r connect tree e = ap (λ (t : ComponentTree). t.shape) e ∙ shape-is r connect
 
 -- a well-formed tree is a plane's alone
-pub plane_from_tree : (r : Raster) (connect : Connect) (tree : ComponentTree) → tree ≡ tree_of r connect → length tree.node_of ≡ tree.shape.width * tree.shape.height → IsPlane r
+pub plane_from_tree : (r : Raster) (connect : Connect) (tree : ComponentTree) → tree ≡ tree_of r connect
+    → length tree.node_of ≡ tree.shape.width * tree.shape.height → IsPlane r
 plane_from_tree r connect tree e w =
     sym (numbers-length r connect tree e) ∙ w ∙ ap (λ (s : Shape). s.width * s.height) (tree-shape r connect tree e)
 
 -- ---- rows
 
-pub node_inside : (r : Raster) (connect : Connect) (tree : ComponentTree) (n : ℕ) → tree ≡ tree_of r connect → n < length tree.rows → n < length (nodes r connect)
+pub node_inside : (r : Raster) (connect : Connect) (tree : ComponentTree) (n : ℕ) → tree ≡ tree_of r connect → n < length tree.rows
+    → n < length (nodes r connect)
 node_inside r connect tree n e h = let l : length tree.rows ≡ length (nodes r connect) = rows_are r connect tree e in omega arith
 
-pub level-read : (r : Raster) (connect : Connect) (tree : ComponentTree) (rows : List NodeRow) (n : ℕ) (d : NodeRow) → tree ≡ tree_of r connect → rows ≡ tree.rows
+pub level-read : (r : Raster) (connect : Connect) (tree : ComponentTree) (rows : List NodeRow) (n : ℕ) (d : NodeRow) → tree ≡ tree_of r connect
+    → rows ≡ tree.rows
     → n < length tree.rows → (slice_index_or rows n d).level ≡ level_of_node r connect n
 level-read r connect tree rows n d e f h =
     row_level rows n d (let l : length rows ≡ length tree.rows = ap length f in omega arith)
     ∙ ap (λ (xs : List NodeRow). level_in xs n) f ∙ ap (λ (t : ComponentTree). level_in t.rows n) e
 
-pub parent-read : (r : Raster) (connect : Connect) (tree : ComponentTree) (rows : List NodeRow) (n : ℕ) (d : NodeRow) → tree ≡ tree_of r connect → rows ≡ tree.rows
+pub parent-read : (r : Raster) (connect : Connect) (tree : ComponentTree) (rows : List NodeRow) (n : ℕ) (d : NodeRow) → tree ≡ tree_of r connect
+    → rows ≡ tree.rows
     → n < length tree.rows → (slice_index_or rows n d).parent ≡ parent_of_node r connect n
 parent-read r connect tree rows n d e f h =
     row-parent rows n d (let l : length rows ≡ length tree.rows = ap length f in omega arith)
@@ -68,18 +71,21 @@ parent-read r connect tree rows n d e f h =
 
 -- ---- sums
 
-pub sums-length : (r : Raster) (connect : Connect) (tree : ComponentTree) (sums : List Sums) → HasTreeAndSums r connect tree sums → length sums ≡ length (nodes r connect)
+pub sums-length : (r : Raster) (connect : Connect) (tree : ComponentTree) (sums : List Sums) → HasTreeAndSums r connect tree sums
+    → length sums ≡ length (nodes r connect)
 unfolding sums_in
 sums-length r connect tree sums o =
     ap length o.sums_are ∙ length-map (range_with_len 0 (length (nodes r connect))) (sums_of r connect) ∙ length-range_with_len 0 (length (nodes r connect))
 
-pub sums_inside : (r : Raster) (connect : Connect) (tree : ComponentTree) (sums : List Sums) (n : ℕ) → HasTreeAndSums r connect tree sums → n < length tree.rows → n < length sums
+pub sums_inside : (r : Raster) (connect : Connect) (tree : ComponentTree) (sums : List Sums) (n : ℕ) → HasTreeAndSums r connect tree sums
+    → n < length tree.rows → n < length sums
 sums_inside r connect tree sums n o h =
     let a : length sums ≡ length (nodes r connect) = sums-length r connect tree sums o in
     let b : length tree.rows ≡ length (nodes r connect) = rows_are r connect tree o.tree_is in
     omega arith
 
-pub sums-read : (r : Raster) (connect : Connect) (tree : ComponentTree) (sums : List Sums) (n : ℕ) (d : Sums) → HasTreeAndSums r connect tree sums → n < length tree.rows
+pub sums-read : (r : Raster) (connect : Connect) (tree : ComponentTree) (sums : List Sums) (n : ℕ) (d : Sums) → HasTreeAndSums r connect tree sums
+    → n < length tree.rows
     → slice_index_or sums n d ≡ sums_of r connect n
 unfolding sums_in
 sums-read r connect tree sums n d o h =

@@ -1,5 +1,5 @@
 -- A catalogue row from the sums of a node.
-use Rattle.std.proofs.Common.{◌≡◌, ℕ, ◌+◌, ◌*◌, ◌/◌, ◌%◌, ◌^◌, ◌<◌, ◌≤◌, true, List, [], ◌∷◌, length, refl, sym, ◌∙◌, ap, subst, arith, lit<}
+use Rattle.std.proofs.Common.{◌≡◌, ℕ, ◌+◌, ◌*◌, ◌/◌, ◌%◌, ◌^◌, ◌<◌, ◌≤◌, true, length, refl, sym, ◌∙◌, ap, subst, arith, lit<}
 use Rattle.std.specs.Prelude.{ℤ, pos, ◌-ℤ◌, ◌*ℤ◌, ◌≤ℤ◌}
 use Rattle.std.proofs.lemmas.Int.{ints, to_z-of_z}
 use Rattle.std.proofs.lemmas.Nat.{mod_below}
@@ -16,7 +16,8 @@ use Rattle.node_sums.specs.Sums.{total, least, greatest, x_of, y_of, sums_over, 
 use Rattle.comp_tree.specs.Nesting.{pixels_of, level_of_node}
 use Rattle.node_sums.specs.Flux.{base_of, flux_of}
 use Rattle.node_sums.specs.Sizes.{IsUpTo, HasSizes}
-use Rattle.node_sums.proofs.Exported.{level_at_least, never_negative, BaseCase, at_root, at_child, base-case, base_up_to, fits, sizes, filtered_pixels, level_up_to, total-up_to, up_to_more, up_to-minus, x_small, y_small}
+use Rattle.node_sums.proofs.Exported.{level_at_least, never_negative, BaseCase, at_root, at_child, base-case, base_up_to, fits, sizes, filtered_pixels}
+use Rattle.node_sums.proofs.Exported.{level_up_to, total-up_to, up_to_more, up_to-minus, x_small, y_small}
 use Rattle.source_pick.specs.declared.catalogue.CatRow.{CatRow}
 use Rattle.source_pick.specs.Catalogue.{centre_of, measured_row, catalogue_row, FitsColumn, FitsColumns, IsCentred}
 use Rattle.source_pick.specs.Numbers.{IsMoment, IsMean, IsMeasured}
@@ -31,7 +32,8 @@ small_column n h = record { low = omega (arith, ints); high = omega (arith, ints
 centre_column : (z : ℤ) → IsUpTo 65535000 z → FitsColumn z
 centre_column z h = record { low = omega (arith, ints, h.low); high = omega (arith, ints, h.high) }
 
-pub row_columns : (number : ℕ) (level base flux : ℤ) (width : ℕ) (s : Sums) → IsMeasured number base flux width s → FitsColumns (measured_row number level base flux width s)
+pub row_columns : (number : ℕ) (level base flux : ℤ) (width : ℕ) (s : Sums) → IsMeasured number base flux width s
+    → FitsColumns (measured_row number level base flux width s)
 unfolding measured_row
 row_columns number level base flux width s k = record {
   number = small_column number k.few;
@@ -46,7 +48,8 @@ row_columns number level base flux width s k = record {
   ycen = centre_column (centre_of (s.ry -ℤ base *ℤ pos s.y) s.y flux s.area) (centre-small (s.ry -ℤ base *ℤ pos s.y) s.y flux s.area s.ymin s.ymax k.along);
 }
 
-pub row_centred : (number : ℕ) (level base flux : ℤ) (width : ℕ) (s : Sums) → IsMeasured number base flux width s → IsCentred (measured_row number level base flux width s)
+pub row_centred : (number : ℕ) (level base flux : ℤ) (width : ℕ) (s : Sums) → IsMeasured number base flux width s
+    → IsCentred (measured_row number level base flux width s)
 unfolding measured_row
 row_centred number level base flux width s k = record {
   left = across.above;
@@ -63,7 +66,8 @@ row_centred number level base flux width s k = record {
 
 -- ---- as the code reads the numbers
 
-pub moment-read : (moment base : ℤ) (sum : ℕ) → IsMoment moment base sum → SFits w128 moment → SFits w64 base → IsMoment (to_z w128 (of_z w128 moment)) (to_z w64 (of_z w64 base)) sum
+pub moment-read : (moment base : ℤ) (sum : ℕ) → IsMoment moment base sum → SFits w128 moment → SFits w64 base
+    → IsMoment (to_z w128 (of_z w128 moment)) (to_z w64 (of_z w64 base)) sum
 moment-read moment base sum k f g = rw (to_z-of_z w128 moment f, to_z-of_z w64 base g) k
 
 pub moment_of : (base : ℤ) (s : Sums) → IsUpTo (2 ^ 37) base → HasSizes s → IsMoment s.rx base s.x
@@ -80,18 +84,23 @@ moment_along base s b h = record {
   sum_small = omega (arith, h.y, h.area);
 }
 
-pub weighted-read : (got moment base : ℤ) (sum : ℕ) → SFits w128 got → SFits w128 moment → SFits w64 base → got ≡ to_z w128 (of_z w128 moment) -ℤ to_z w64 (of_z w64 base) *ℤ pos sum
+pub weighted-read : (got moment base : ℤ) (sum : ℕ) → SFits w128 got → SFits w128 moment → SFits w64 base
+    → got ≡ to_z w128 (of_z w128 moment) -ℤ to_z w64 (of_z w64 base) *ℤ pos sum
     → to_z w128 (of_z w128 got) ≡ moment -ℤ base *ℤ pos sum
 weighted-read got moment base sum f g h e =
-    to_z-of_z w128 got f ∙ e ∙ ap (λ (z : ℤ). z -ℤ to_z w64 (of_z w64 base) *ℤ pos sum) (to_z-of_z w128 moment g) ∙ ap (λ (z : ℤ). moment -ℤ z *ℤ pos sum) (to_z-of_z w64 base h)
+    to_z-of_z w128 got f ∙ e ∙ ap (λ (z : ℤ). z -ℤ to_z w64 (of_z w64 base) *ℤ pos sum) (to_z-of_z w128 moment g)
+    ∙ ap (λ (z : ℤ). moment -ℤ z *ℤ pos sum) (to_z-of_z w64 base h)
 
-pub mean-read : (got weight : ℤ) (sum : ℕ) (flux : ℤ) (area low high : ℕ) → IsMean weight sum flux area low high → got ≡ weight → SFits w64 flux → IsMean got sum (to_z w64 (of_z w64 flux)) area low high
+pub mean-read : (got weight : ℤ) (sum : ℕ) (flux : ℤ) (area low high : ℕ) → IsMean weight sum flux area low high → got ≡ weight → SFits w64 flux
+    → IsMean got sum (to_z w64 (of_z w64 flux)) area low high
 mean-read got weight sum flux area low high k e f = rw (e, to_z-of_z w64 flux f) k
 
-pub centre_is : (got weighed weight : ℤ) (sum : ℕ) (flux : ℤ) (area : ℕ) → SFits w64 got → SFits w64 flux → weighed ≡ weight → got ≡ centre_of weighed sum (to_z w64 (of_z w64 flux)) area
+pub centre_is : (got weighed weight : ℤ) (sum : ℕ) (flux : ℤ) (area : ℕ) → SFits w64 got → SFits w64 flux → weighed ≡ weight
+    → got ≡ centre_of weighed sum (to_z w64 (of_z w64 flux)) area
     → to_z w64 (of_z w64 got) ≡ centre_of weight sum flux area
 centre_is got weighed weight sum flux area f g e h =
-    to_z-of_z w64 got f ∙ h ∙ ap (λ (z : ℤ). centre_of z sum (to_z w64 (of_z w64 flux)) area) e ∙ ap (λ (z : ℤ). centre_of weight sum z area) (to_z-of_z w64 flux g)
+    to_z-of_z w64 got f ∙ h ∙ ap (λ (z : ℤ). centre_of z sum (to_z w64 (of_z w64 flux)) area) e
+    ∙ ap (λ (z : ℤ). centre_of weight sum z area) (to_z-of_z w64 flux g)
 
 pub moment_fits : (base : ℤ) (s : Sums) → IsUpTo (2 ^ 37) base → HasSizes s → SFits w128 s.rx
 moment_fits base s b h = fits w128 (2 ^ 77) s.rx (moment_of base s b h).moment_small (lit< tt)
@@ -99,8 +108,10 @@ moment_fits base s b h = fits w128 (2 ^ 77) s.rx (moment_of base s b h).moment_s
 pub moment_fits_along : (base : ℤ) (s : Sums) → IsUpTo (2 ^ 37) base → HasSizes s → SFits w128 s.ry
 moment_fits_along base s b h = fits w128 (2 ^ 77) s.ry (moment_along base s b h).moment_small (lit< tt)
 
-pub same_row : (a b : CatRow) → a.number ≡ b.number → a.level ≡ b.level → a.base ≡ b.base → a.area ≡ b.area → a.flux ≡ b.flux → a.peak ≡ b.peak → a.xmin ≡ b.xmin → a.xmax ≡ b.xmax
-    → a.ymin ≡ b.ymin → a.ymax ≡ b.ymax → a.xfirst ≡ b.xfirst → a.yfirst ≡ b.yfirst → a.xcen ≡ b.xcen → a.ycen ≡ b.ycen → a.xvar ≡ b.xvar → a.yvar ≡ b.yvar → a.xycov ≡ b.xycov → a ≡ b
+pub same_row : (a b : CatRow) → a.number ≡ b.number → a.level ≡ b.level → a.base ≡ b.base → a.area ≡ b.area → a.flux ≡ b.flux → a.peak ≡ b.peak
+    → a.xmin ≡ b.xmin → a.xmax ≡ b.xmax
+    → a.ymin ≡ b.ymin → a.ymax ≡ b.ymax → a.xfirst ≡ b.xfirst → a.yfirst ≡ b.yfirst → a.xcen ≡ b.xcen → a.ycen ≡ b.ycen → a.xvar ≡ b.xvar → a.yvar ≡ b.yvar
+    → a.xycov ≡ b.xycov → a ≡ b
 same_row a b number level base area flux peak xmin xmax ymin ymax xfirst yfirst xcen ycen xvar yvar xycov = λ i. record {
   number = number i;
   level = level i;
@@ -126,7 +137,8 @@ same_row a b number level base area flux peak xmin xmax ymin ymax xfirst yfirst 
 module _ (r : Raster) (connect : Connect) (n : ℕ) (plane : IsPlane r) (range : HasValuesInRange r.values) (hn : n < length (nodes r connect)) where
   node_sizes : HasSizes (sums_of r connect n)
   unfolding sums_of pixels_of pixels
-  node_sizes = sizes r (pixels_of r connect n) plane (filtered_pixels r (is_in_node r connect n) (length r.values) plane (omega arith) (λ q _. level_up_to r q range))
+  node_sizes =
+      sizes r (pixels_of r connect n) plane (filtered_pixels r (is_in_node r connect n) (length r.values) plane (omega arith) (λ q _. level_up_to r q range))
 
   inside : (p : ℕ) → IsAmong p (pixels_of r connect n) → is_in_node r connect n p ≡ true
   unfolding pixels_of
@@ -165,20 +177,30 @@ module _ (r : Raster) (connect : Connect) (n : ℕ) (plane : IsPlane r) (range :
       let each : IsUpTo (2 ^ 38 * length (pixels_of r connect n)) (total (λ p. level r p -ℤ base_of (tree_of r connect) n) (pixels_of r connect n)) =
       total-up_to (λ p. level r p -ℤ base_of (tree_of r connect) n) (2 ^ 38) (pixels_of r connect n)
       (λ p k. up_to-minus (2 ^ 37) (2 ^ 37) (level r p) (base_of (tree_of r connect) n) (level_up_to r p range) (base_up_to r connect n plane range hn)) in
-      omega (arith, ints, (up_to_more (2 ^ 38 * length (pixels_of r connect n)) (2 ^ 62) (total (λ p. level r p -ℤ base_of (tree_of r connect) n) (pixels_of r connect n)) each (omega arith)).high)
+      omega (
+        arith,
+        ints,
+        (up_to_more (2 ^ 38 * length (pixels_of r connect n)) (2 ^ 62)
+            (total (λ p. level r p -ℤ base_of (tree_of r connect) n) (pixels_of r connect n)) each (omega arith)).high,
+      )
 
-  across : IsMean ((sums_of r connect n).rx -ℤ base_of (tree_of r connect) n *ℤ pos (sums_of r connect n).x) (sums_of r connect n).x (flux_of r connect n) (sums_of r connect n).area
+  across : IsMean ((sums_of r connect n).rx -ℤ base_of (tree_of r connect) n *ℤ pos (sums_of r connect n).x) (sums_of r connect n).x (flux_of r connect n)
+      (sums_of r connect n).area
       (sums_of r connect n).xmin (sums_of r connect n).xmax
   unfolding sums_of sums_over flux_of
   across = record {
     some = some;
     few = node_sizes.area;
-    ordered = (let a : least (x_of r) (pixels_of r connect n) ≤ x_of r (top_of r connect n) = least_low (x_of r) (pixels_of r connect n) (top_of r connect n) top_among in
-        let b : x_of r (top_of r connect n) ≤ greatest (x_of r) (pixels_of r connect n) = greatest_high (x_of r) (pixels_of r connect n) (top_of r connect n) top_among in
+    ordered =
+        (let a : least (x_of r) (pixels_of r connect n) ≤ x_of r (top_of r connect n) = least_low (x_of r) (pixels_of r connect n) (top_of r connect n)
+        top_among in
+        let b : x_of r (top_of r connect n) ≤ greatest (x_of r) (pixels_of r connect n) =
+        greatest_high (x_of r) (pixels_of r connect n) (top_of r connect n) top_among in
         omega arith);
     high_small = greatest_small (x_of r) 65535 (pixels_of r connect n) (λ p k. x_small r p);
     sum_low = sum_low (x_of r) (least (x_of r) (pixels_of r connect n)) (pixels_of r connect n) (λ p k. least_low (x_of r) (pixels_of r connect n) p k);
-    sum_high = sum_high (x_of r) (greatest (x_of r) (pixels_of r connect n)) (pixels_of r connect n) (λ p k. greatest_high (x_of r) (pixels_of r connect n) p k);
+    sum_high = sum_high (x_of r) (greatest (x_of r) (pixels_of r connect n)) (pixels_of r connect n)
+        (λ p k. greatest_high (x_of r) (pixels_of r connect n) p k);
     not_negative = never_negative r connect n plane hn;
     small = flux_small;
     moment_low = moment_low (level r) (x_of r) (base_of (tree_of r connect) n) (least (x_of r) (pixels_of r connect n)) (pixels_of r connect n)
@@ -187,18 +209,23 @@ module _ (r : Raster) (connect : Connect) (n : ℕ) (plane : IsPlane r) (range :
         (λ p k. (above_base p k, greatest_high (x_of r) (pixels_of r connect n) p k));
   }
 
-  along : IsMean ((sums_of r connect n).ry -ℤ base_of (tree_of r connect) n *ℤ pos (sums_of r connect n).y) (sums_of r connect n).y (flux_of r connect n) (sums_of r connect n).area
+  along : IsMean ((sums_of r connect n).ry -ℤ base_of (tree_of r connect) n *ℤ pos (sums_of r connect n).y) (sums_of r connect n).y (flux_of r connect n)
+      (sums_of r connect n).area
       (sums_of r connect n).ymin (sums_of r connect n).ymax
   unfolding sums_of sums_over flux_of
   along = record {
     some = some;
     few = node_sizes.area;
-    ordered = (let a : least (y_of r) (pixels_of r connect n) ≤ y_of r (top_of r connect n) = least_low (y_of r) (pixels_of r connect n) (top_of r connect n) top_among in
-        let b : y_of r (top_of r connect n) ≤ greatest (y_of r) (pixels_of r connect n) = greatest_high (y_of r) (pixels_of r connect n) (top_of r connect n) top_among in
+    ordered =
+        (let a : least (y_of r) (pixels_of r connect n) ≤ y_of r (top_of r connect n) = least_low (y_of r) (pixels_of r connect n) (top_of r connect n)
+        top_among in
+        let b : y_of r (top_of r connect n) ≤ greatest (y_of r) (pixels_of r connect n) =
+        greatest_high (y_of r) (pixels_of r connect n) (top_of r connect n) top_among in
         omega arith);
     high_small = greatest_small (y_of r) 65535 (pixels_of r connect n) (λ p k. y_small r p plane (below p k));
     sum_low = sum_low (y_of r) (least (y_of r) (pixels_of r connect n)) (pixels_of r connect n) (λ p k. least_low (y_of r) (pixels_of r connect n) p k);
-    sum_high = sum_high (y_of r) (greatest (y_of r) (pixels_of r connect n)) (pixels_of r connect n) (λ p k. greatest_high (y_of r) (pixels_of r connect n) p k);
+    sum_high = sum_high (y_of r) (greatest (y_of r) (pixels_of r connect n)) (pixels_of r connect n)
+        (λ p k. greatest_high (y_of r) (pixels_of r connect n) p k);
     not_negative = never_negative r connect n plane hn;
     small = flux_small;
     moment_low = moment_low (level r) (y_of r) (base_of (tree_of r connect) n) (least (y_of r) (pixels_of r connect n)) (pixels_of r connect n)
@@ -221,12 +248,15 @@ module _ (r : Raster) (connect : Connect) (n : ℕ) (plane : IsPlane r) (range :
 
 -- ---- the row as it is read
 
-pub row-same : (number : ℕ) (a b c x y z : ℤ) (v w : ℕ) (s t : Sums) → a ≡ x → b ≡ y → c ≡ z → v ≡ w → s ≡ t → measured_row number a b c v s ≡ measured_row number x y z w t
+pub row-same : (number : ℕ) (a b c x y z : ℤ) (v w : ℕ) (s t : Sums) → a ≡ x → b ≡ y → c ≡ z → v ≡ w → s ≡ t
+    → measured_row number a b c v s ≡ measured_row number x y z w t
 row-same number a b c x y z v w s t e f g h k =
-    ap (λ (q : ℤ). measured_row number q b c v s) e ∙ ap (λ (q : ℤ). measured_row number x q c v s) f ∙ ap (λ (q : ℤ). measured_row number x y q v s) g ∙ ap (λ (q : ℕ). measured_row number x y z q s) h
+    ap (λ (q : ℤ). measured_row number q b c v s) e ∙ ap (λ (q : ℤ). measured_row number x q c v s) f ∙ ap (λ (q : ℤ). measured_row number x y q v s) g
+    ∙ ap (λ (q : ℕ). measured_row number x y z q s) h
     ∙ ap (λ (q : Sums). measured_row number x y z w q) k
 
-pub row-is : (r : Raster) (connect : Connect) (number n : ℕ) → measured_row number (level_of_node r connect n) (base_of (tree_of r connect) n) (flux_of r connect n) r.shape.width (sums_of r connect n)
+pub row-is : (r : Raster) (connect : Connect) (number n : ℕ)
+    → measured_row number (level_of_node r connect n) (base_of (tree_of r connect) n) (flux_of r connect n) r.shape.width (sums_of r connect n)
     ≡ catalogue_row r connect number n
 unfolding catalogue_row
 row-is r connect number n = refl

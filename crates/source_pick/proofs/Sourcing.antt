@@ -14,7 +14,8 @@ use Rattle.source_pick.specs.Laws.{SourcesAreDisjoint, EachEntryHoldsASource}
 use Rattle.source_pick.proofs.Within.{within_from_way, way_from_shared, way_from_within, way_trans, way_smaller, HasParent, way_up}
 use Rattle.comp_tree.proofs.Exported.{within_from_test, test_from_within}
 use Rattle.source_pick.proofs.Entries.{row_from_node, IsEntryOf, entry_of-parts, entry_same}
-use Rattle.source_pick.proofs.Splits.{AreTwins, IsSplitNode, split_parts, HasEntry, strong_entry, HasSibling, sibling_parts, sibling_from_twins, ContainsSplit, contains_parts, contains_from}
+use Rattle.source_pick.proofs.Splits.{AreTwins, IsSplitNode, split_parts, HasEntry, strong_entry, HasSibling, sibling_parts, sibling_from_twins}
+use Rattle.source_pick.proofs.Splits.{ContainsSplit, contains_parts, contains_from}
 
 -- the parts of the definition
 pub record SourceParts (r : Raster) (connect : Connect) (choice : Choice) (n : ℕ) : Type 0 where
@@ -25,7 +26,10 @@ pub source_parts : (r : Raster) (connect : Connect) (choice : Choice) (n : ℕ) 
 unfolding is_source
 source_parts r connect choice n h =
     let parts = and_parts (is_entry r connect choice n || has_strong_sibling r connect choice n) (not (contains_split r connect choice n)) h in
-    record { stands = or_cases (is_entry r connect choice n) (has_strong_sibling r connect choice n) parts.0; whole = not-true (contains_split r connect choice n) parts.1 }
+    record {
+      stands = or_cases (is_entry r connect choice n) (has_strong_sibling r connect choice n) parts.0;
+      whole = not-true (contains_split r connect choice n) parts.1;
+    }
 
 pub source_from : (r : Raster) (connect : Connect) (choice : Choice) (n : ℕ) → SourceParts r connect choice n → is_source r connect choice n ≡ true
 unfolding is_source
@@ -33,7 +37,8 @@ source_from r connect choice n k =
     and_from (is_entry r connect choice n || has_strong_sibling r connect choice n) (not (contains_split r connect choice n)) (go k.stands)
     (not_from_false (contains_split r connect choice n) k.whole)
   where
-    go : (is_entry r connect choice n ≡ true) ⊎ (has_strong_sibling r connect choice n ≡ true) → (is_entry r connect choice n || has_strong_sibling r connect choice n) ≡ true
+    go : (is_entry r connect choice n ≡ true) ⊎ (has_strong_sibling r connect choice n ≡ true)
+        → (is_entry r connect choice n || has_strong_sibling r connect choice n) ≡ true
     go (inl e) = or_left (is_entry r connect choice n) (has_strong_sibling r connect choice n) e
     go (inr s) = or_right (is_entry r connect choice n) (has_strong_sibling r connect choice n) s
 
@@ -80,7 +85,8 @@ sources_not_nested r connect choice n m plane hn hm is_n is_m a = go (source_par
           is_split = k.split;
         })) ∙ (source_parts r connect choice n is_n).whole)
 
-pub sources_that_share : (r : Raster) (connect : Connect) (choice : Choice) (m n q : ℕ) → IsPlane r → m < length (nodes r connect) → n < length (nodes r connect)
+pub sources_that_share : (r : Raster) (connect : Connect) (choice : Choice) (m n q : ℕ) → IsPlane r → m < length (nodes r connect)
+    → n < length (nodes r connect)
     → is_source r connect choice m ≡ true → is_source r connect choice n ≡ true → is_in_node r connect m q ≡ true → is_in_node r connect n q ≡ true → m ≡ n
 sources_that_share r connect choice m n q plane hm hn is_m is_n in_m in_n = go (way_from_shared r connect m n q plane hm hn in_m in_n)
   where
@@ -107,7 +113,8 @@ last_passing : (test : ℕ → Bool) (count : ℕ) → IsLastPassing test count 
 last_passing test zero = inr (λ x l. absurd (omega arith))
 last_passing test (suc k) = go (test k) refl (last_passing test k)
   where
-    go : (b : Bool) → test k ≡ b → IsLastPassing test k ⊎ ((x : ℕ) → x < k → test x ≡ false) → IsLastPassing test (suc k) ⊎ ((x : ℕ) → x < suc k → test x ≡ false)
+    go : (b : Bool) → test k ≡ b → IsLastPassing test k ⊎ ((x : ℕ) → x < k → test x ≡ false)
+        → IsLastPassing test (suc k) ⊎ ((x : ℕ) → x < suc k → test x ≡ false)
     go true u ih = inl (record { it = k; below = omega arith; passes = u; last = λ x l m. absurd (omega arith) })
     go false u (inl s) = inl (record { it = s.it; below = omega (arith, s.below); passes = s.passes; last = λ x l m. at x l (cases_lt x k) m })
       where
@@ -121,11 +128,13 @@ last_passing test (suc k) = go (test k) refl (last_passing test k)
         at x (inr y) m = let e : x ≡ k = omega arith in ap test e ∙ u
 
 pub each_entry_holds_a_source : EachEntryHoldsASource
-each_entry_holds_a_source r connect choice e plane he is_e = go (last_passing (λ x. lies_within r connect x e && is_split r connect choice x) (length (nodes r connect)))
+each_entry_holds_a_source r connect choice e plane he is_e =
+    go (last_passing (λ x. lies_within r connect x e && is_split r connect choice x) (length (nodes r connect)))
   where
     inside : (x : ℕ) → x < length (nodes r connect) → IsOnWay (tree_of r connect).rows e x → is_split r connect choice x ≡ true
         → lies_within r connect x e && is_split r connect choice x ≡ true
-    inside x hx w s = and_from (lies_within r connect x e) (is_split r connect choice x) (test_from_within r connect x e (within_from_way r connect e x plane he hx w)) s
+    inside x hx w s =
+        and_from (lies_within r connect x e) (is_split r connect choice x) (test_from_within r connect x e (within_from_way r connect e x plane he hx w)) s
 
     go : IsLastPassing (λ x. lies_within r connect x e && is_split r connect choice x) (length (nodes r connect))
         ⊎ ((x : ℕ) → x < length (nodes r connect) → lies_within r connect x e && is_split r connect choice x ≡ false)
@@ -153,7 +162,9 @@ each_entry_holds_a_source r connect choice e plane he is_e = go (last_passing (�
         up = parent k.first k.twins.one_child (row_from_node r connect s.it s.below)
 
         around_first : IsOnWay (tree_of r connect).rows e k.first
-        around_first = way_trans (tree_of r connect).rows e s.it k.first (way_from_within r connect e s.it plane he s.below (within_from_test r connect s.it e parts.0)) (inr up)
+        around_first =
+            way_trans (tree_of r connect).rows e s.it k.first (way_from_within r connect e s.it plane he s.below (within_from_test r connect s.it e parts.0))
+            (inr up)
 
         parent_node : parent_of_node r connect k.first < length (nodes r connect)
         parent_node = subst (λ (x : ℕ). x < length (nodes r connect)) (sym k.twins.one_child) s.below

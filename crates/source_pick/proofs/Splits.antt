@@ -1,10 +1,10 @@
 -- Strong nodes, splits and what contains them, from node to parent.
-use Rattle.std.proofs.Common.{◌≡◌, ℕ, ◌+◌, ◌<◌, ◌≤◌, Bool, true, false, ◌&&◌, not, length, refl, sym, ◌∙◌, ap, subst, arith, ◌⊎◌, inl, inr}
+use Rattle.std.proofs.Common.{◌≡◌, ℕ, ◌<◌, Bool, true, false, ◌&&◌, not, length, refl, sym, ◌∙◌, ap, subst, arith, ◌⊎◌, inl, inr}
 use Rattle.std.specs.Prelude.{◌==◌, Option, Some, None}
 use Rattle.std.specs.List.{list_any}
 use Rattle.std.specs.Option.{option_map_or}
 use Rattle.std.proofs.lemmas.Bool.{true≢false, eqb-true, eq-eqb, ne_eqb, and_parts, and_from, not-true, not_from_false, cases_eq}
-use Rattle.lemmas.proofs.Exported.{IsAmong, IsWitness, among-range, among_from_range, any_from_among, witness_from_any}
+use Rattle.lemmas.proofs.Exported.{IsWitness, any_from_among, witness_from_any}
 use Rattle.comp_tree.specs.declared.shape.Connect.{Connect}
 use Rattle.comp_tree.specs.Raster.{Raster, IsPlane}
 use Rattle.comp_tree.specs.ComponentTree.{no_node}
@@ -13,7 +13,8 @@ use Rattle.comp_tree.specs.Laws.{IsAncestor, parent_of_node}
 use Rattle.comp_tree.proofs.Exported.{below_no_node, within_from_test, test_from_within}
 use Rattle.node_sums.proofs.Exported.{among_nodes, goes_down, node_from_among}
 use Rattle.source_pick.specs.declared.choice.Choice.{Choice}
-use Rattle.source_pick.specs.Sources.{is_large, entry_of, has_contrast, is_strong, share_entry, are_strong_children, is_split, has_strong_sibling, contains_split}
+use Rattle.source_pick.specs.Sources.{is_large, entry_of, has_contrast, is_strong, share_entry, are_strong_children, is_split, has_strong_sibling}
+use Rattle.source_pick.specs.Sources.{contains_split}
 use Rattle.comp_tree.specs.Nesting.{node_numbers, lies_within}
 use Rattle.source_pick.specs.Passes.{IsOnWay}
 use Rattle.source_pick.proofs.Within.{within_from_way, way_from_within, HasParent, way_up}
@@ -32,7 +33,8 @@ passing r connect test h =
     let w : IsWitness test (node_numbers r connect) = witness_from_any test (node_numbers r connect) h in
     record { it = w.it; node = node_from_among r connect w.it w.among; passes = w.passes }
 
-pub any_node : (r : Raster) (connect : Connect) (test : ℕ → Bool) (n : ℕ) → n < length (nodes r connect) → test n ≡ true → list_any test (node_numbers r connect) ≡ true
+pub any_node : (r : Raster) (connect : Connect) (test : ℕ → Bool) (n : ℕ) → n < length (nodes r connect) → test n ≡ true
+    → list_any test (node_numbers r connect) ≡ true
 any_node r connect test n hn h = any_from_among test n (node_numbers r connect) (among_nodes r connect n hn) h
 
 -- ---- strong nodes
@@ -121,7 +123,9 @@ not_same a b h e = true≢false (sym (eq-eqb a b e) ∙ not-true (a == b) h)
 pub twins : (r : Raster) (connect : Connect) (choice : Choice) (m a b : ℕ) → are_strong_children r connect choice m a b ≡ true → AreTwins r connect choice m a b
 unfolding are_strong_children
 twins r connect choice m a b h =
-    let k = six_parts (not (a == b)) (parent_of_node r connect a == m) (parent_of_node r connect b == m) (is_strong r connect choice a) (is_strong r connect choice b) (share_entry r connect choice a b) h in
+    let k =
+    six_parts (not (a == b)) (parent_of_node r connect a == m) (parent_of_node r connect b == m) (is_strong r connect choice a) (is_strong r connect choice b)
+    (share_entry r connect choice a b) h in
     let s : Shared r connect choice a b = shared r connect choice a b k.six in
     record {
       apart = not_same a b k.one;
@@ -134,10 +138,12 @@ twins r connect choice m a b h =
       other_entry = s.other;
     }
 
-pub from_twins : (r : Raster) (connect : Connect) (choice : Choice) (m a b : ℕ) → AreTwins r connect choice m a b → are_strong_children r connect choice m a b ≡ true
+pub from_twins : (r : Raster) (connect : Connect) (choice : Choice) (m a b : ℕ) → AreTwins r connect choice m a b
+    → are_strong_children r connect choice m a b ≡ true
 unfolding are_strong_children
 from_twins r connect choice m a b k =
-    six_from (not (a == b)) (parent_of_node r connect a == m) (parent_of_node r connect b == m) (is_strong r connect choice a) (is_strong r connect choice b) (share_entry r connect choice a b)
+    six_from (not (a == b)) (parent_of_node r connect a == m) (parent_of_node r connect b == m) (is_strong r connect choice a) (is_strong r connect choice b)
+    (share_entry r connect choice a b)
     (record {
       one = not_from_false (a == b) (ne_eqb a b k.apart);
       two = eq-eqb (parent_of_node r connect a) m k.one_child;
@@ -184,9 +190,11 @@ split_from r connect choice m a b ha hb k =
     (any_node r connect (are_strong_children r connect choice m a) b hb (from_twins r connect choice m a b k))
 
 -- a split lies in the entry of its children
-pub split_entry : (r : Raster) (connect : Connect) (choice : Choice) (m a b : ℕ) → IsPlane r → m < length (nodes r connect) → a < length (nodes r connect) → b < length (nodes r connect)
+pub split_entry : (r : Raster) (connect : Connect) (choice : Choice) (m a b : ℕ) → IsPlane r → m < length (nodes r connect) → a < length (nodes r connect)
+    → b < length (nodes r connect)
     → (k : AreTwins r connect choice m a b) → entry_of r connect choice m ≡ Some k.entry
-split_entry r connect choice m a b plane hm ha hb k = entry_of-found r connect choice m k.entry plane hm (record { node = at_a.node; entry = at_a.entry; way = up at_a.way at_b.way })
+split_entry r connect choice m a b plane hm ha hb k =
+    entry_of-found r connect choice m k.entry plane hm (record { node = at_a.node; entry = at_a.entry; way = up at_a.way at_b.way })
   where
     at_a : IsEntryOf r connect choice a k.entry
     at_a = entry_of-parts r connect choice a k.entry plane ha k.one_entry
@@ -212,7 +220,8 @@ pub parent_cases : (r : Raster) (connect : Connect) (n : ℕ) → IsPlane r → 
     → (parent_of_node r connect n ≡ no_node) ⊎ (parent_of_node r connect n < length (nodes r connect))
 parent_cases r connect n plane hn = go ((goes_down r connect plane).parents n (row_from_node r connect n hn))
   where
-    go : (parent_of_node r connect n ≡ no_node) ⊎ (parent_of_node r connect n < n) → (parent_of_node r connect n ≡ no_node) ⊎ (parent_of_node r connect n < length (nodes r connect))
+    go : (parent_of_node r connect n ≡ no_node) ⊎ (parent_of_node r connect n < n)
+        → (parent_of_node r connect n ≡ no_node) ⊎ (parent_of_node r connect n < length (nodes r connect))
     go (inl e) = inl e
     go (inr l) = inr (omega arith)
 
@@ -230,8 +239,11 @@ sibling_parts r connect choice n plane hn h = record {
   split = split_from r connect choice (parent_of_node r connect n) n b.it hn b.node k;
 }
   where
-    parts : (not (parent_of_node r connect n == no_node) ≡ true) × (list_any (are_strong_children r connect choice (parent_of_node r connect n) n) (node_numbers r connect) ≡ true)
-    parts = and_parts (not (parent_of_node r connect n == no_node)) (list_any (are_strong_children r connect choice (parent_of_node r connect n) n) (node_numbers r connect)) h
+    parts : (not (parent_of_node r connect n == no_node) ≡ true)
+        × (list_any (are_strong_children r connect choice (parent_of_node r connect n) n) (node_numbers r connect) ≡ true)
+    parts =
+        and_parts (not (parent_of_node r connect n == no_node))
+        (list_any (are_strong_children r connect choice (parent_of_node r connect n) n) (node_numbers r connect)) h
 
     b : Passing r connect (are_strong_children r connect choice (parent_of_node r connect n) n)
     b = passing r connect (are_strong_children r connect choice (parent_of_node r connect n) n) parts.1
@@ -239,17 +251,22 @@ sibling_parts r connect choice n plane hn h = record {
     k : AreTwins r connect choice (parent_of_node r connect n) n b.it
     k = twins r connect choice (parent_of_node r connect n) n b.it b.passes
 
-    inside : (parent_of_node r connect n ≡ no_node) ⊎ (parent_of_node r connect n < length (nodes r connect)) → parent_of_node r connect n < length (nodes r connect)
+    inside : (parent_of_node r connect n ≡ no_node) ⊎ (parent_of_node r connect n < length (nodes r connect))
+        → parent_of_node r connect n < length (nodes r connect)
     inside (inl e) = absurd (not_same (parent_of_node r connect n) no_node parts.0 e)
     inside (inr l) = l
 
-pub sibling_from_twins : (r : Raster) (connect : Connect) (choice : Choice) (n b : ℕ) → IsPlane r → parent_of_node r connect n < length (nodes r connect) → b < length (nodes r connect)
+pub sibling_from_twins : (r : Raster) (connect : Connect) (choice : Choice) (n b : ℕ) → IsPlane r → parent_of_node r connect n < length (nodes r connect)
+    → b < length (nodes r connect)
     → AreTwins r connect choice (parent_of_node r connect n) n b → has_strong_sibling r connect choice n ≡ true
 unfolding has_strong_sibling
 sibling_from_twins r connect choice n b plane hp hb k =
-    and_from (not (parent_of_node r connect n == no_node)) (list_any (are_strong_children r connect choice (parent_of_node r connect n) n) (node_numbers r connect))
-    (not_from_false (parent_of_node r connect n == no_node) (ne_eqb (parent_of_node r connect n) no_node (λ e. below_no_node r connect (parent_of_node r connect n) plane hp e)))
-    (any_node r connect (are_strong_children r connect choice (parent_of_node r connect n) n) b hb (from_twins r connect choice (parent_of_node r connect n) n b k))
+    and_from (not (parent_of_node r connect n == no_node))
+    (list_any (are_strong_children r connect choice (parent_of_node r connect n) n) (node_numbers r connect))
+    (not_from_false (parent_of_node r connect n == no_node)
+    (ne_eqb (parent_of_node r connect n) no_node (λ e. below_no_node r connect (parent_of_node r connect n) plane hp e)))
+    (any_node r connect (are_strong_children r connect choice (parent_of_node r connect n) n) b hb
+    (from_twins r connect choice (parent_of_node r connect n) n b k))
 
 pub sibling_from : (r : Raster) (connect : Connect) (choice : Choice) (n : ℕ) → IsPlane r → n < length (nodes r connect)
     → HasSibling r connect choice n → has_strong_sibling r connect choice n ≡ true
@@ -291,9 +308,15 @@ pub contains_parts : (r : Raster) (connect : Connect) (choice : Choice) (n : ℕ
     → contains_split r connect choice n ≡ true → ContainsSplit r connect choice n
 unfolding contains_split
 contains_parts r connect choice n plane hn h =
-    let m : Passing r connect (λ x. lies_within r connect x n && is_split r connect choice x) = passing r connect (λ x. lies_within r connect x n && is_split r connect choice x) h in
+    let m : Passing r connect (λ x. lies_within r connect x n && is_split r connect choice x) =
+    passing r connect (λ x. lies_within r connect x n && is_split r connect choice x) h in
     let parts = and_parts (lies_within r connect m.it n) (is_split r connect choice m.it) m.passes in
-    record { split = m.it; node = m.node; way = way_from_within r connect n m.it plane hn m.node (within_from_test r connect m.it n parts.0); is_split = parts.1 }
+    record {
+      split = m.it;
+      node = m.node;
+      way = way_from_within r connect n m.it plane hn m.node (within_from_test r connect m.it n parts.0);
+      is_split = parts.1;
+    }
 
 pub contains_from : (r : Raster) (connect : Connect) (choice : Choice) (n : ℕ) → IsPlane r → n < length (nodes r connect)
     → ContainsSplit r connect choice n → contains_split r connect choice n ≡ true

@@ -1,7 +1,7 @@
 -- The law of windows, and the law of tiles.
 use Rattle.std.proofs.Common.{◌≡◌, ℕ, ◌<◌, Bool, true, length, refl, sym, ◌∙◌, subst, inl}
 use Rattle.std.specs.Prelude.{IsTrue, ℤ, Option, Contains}
-use Rattle.lemmas.proofs.Exported.{int_le-from, same_bool}
+use Rattle.lemmas.proofs.Exported.{same_bool}
 use Rattle.comp_tree.specs.declared.shape.Connect.{Connect}
 use Rattle.comp_tree.specs.Raster.{Raster, IsPlane, at_least, is_at_least, level}
 use Rattle.comp_tree.specs.Joined.{here}

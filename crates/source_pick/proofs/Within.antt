@@ -44,7 +44,8 @@ way_from_within r connect m n plane hm hn w = go (cases_order m n)
     go (inl e) = inl (sym e)
     go (inr (inl l)) = inr (holders_are_nested r connect m n (top_of r connect n) plane l hn in_m in_n)
     go (inr (inr l)) =
-        let more = ((ancestors_are_the_larger_nodes r connect n m plane hn hm).1 (holders_are_nested r connect n m (top_of r connect n) plane l hm in_n in_m)).1 in
+        let more =
+        ((ancestors_are_the_larger_nodes r connect n m plane hn hm).1 (holders_are_nested r connect n m (top_of r connect n) plane l hm in_n in_m)).1 in
         absurd (true≢false (sym (w more.0 more.1) ∙ more.2))
 
 pub way_trans : (rows : List NodeRow) (a b c : ℕ) → IsOnWay rows a b → IsOnWay rows b c → IsOnWay rows a c
@@ -71,22 +72,10 @@ pub way_of_child : (rows : List NodeRow) (m n p : ℕ) → parent_in rows n ≡ 
 way_of_child rows m n p e l (inl f) = parent n (e ∙ f) (subst (λ (x : ℕ). x < length rows) f l)
 way_of_child rows m n p e l (inr a) = above p n e l a
 
--- a child of an ancestor is on the way
-pub record HasChild (rows : List NodeRow) (m n : ℕ) : Type 0 where
-  pub child : ℕ
-  pub is_child : parent_in rows child ≡ m
-  pub way : IsOnWay rows child n
-
-pub way_down : (rows : List NodeRow) (m n : ℕ) → IsAncestor rows m n → HasChild rows m n
-way_down rows m _ (parent n e l) = record { child = n; is_child = e; way = inl refl }
-way_down rows m _ (above k n e l rest) = go (way_down rows m k rest)
-  where
-    go : HasChild rows m k → HasChild rows m n
-    go c = record { child = c.child; is_child = c.is_child; way = inr (way_of_child rows c.child n k e l c.way) }
-
 pub way_smaller : (r : Raster) (connect : Connect) (m n : ℕ) → IsPlane r → n < length (nodes r connect) → IsAncestor (tree_of r connect).rows m n → m < n
 way_smaller r connect m n plane hn a =
-    ancestor_smaller (tree_of r connect).rows m n (goes_down r connect plane) (let l : length (tree_of r connect).rows ≡ length (nodes r connect) = length-rows r connect in omega arith) a
+    ancestor_smaller (tree_of r connect).rows m n (goes_down r connect plane)
+    (let l : length (tree_of r connect).rows ≡ length (nodes r connect) = length-rows r connect in omega arith) a
 
 -- levels rise on the way downwards
 pub level_on_way : (r : Raster) (connect : Connect) (m n : ℕ) → IsPlane r → m < length (nodes r connect) → n < length (nodes r connect)

@@ -1,3 +1,5 @@
+//! The catalogue row of a source.
+
 ghost use Rattle.std.specs.Prelude.{◌≡◌, ◌^◌, ◌<◌, ◌≤◌, pos, ◌-ℤ◌, ◌*ℤ◌, length};
 ghost use Rattle.node_sums.specs.Sums.{AreTheTrees, ForEachPlaneOf};
 ghost use Rattle.source_pick.specs.Catalogue.{catalogue_row, measured_row, cells_of, centre_of, spread_of, FitsColumns, IsCentred};

@@ -1,3 +1,5 @@
+//! What decides which nodes are sources.
+
 /// Which nodes are sources.
 #[derive(Clone, Copy, PartialEq, Eq, Debug)]
 pub struct Choice {

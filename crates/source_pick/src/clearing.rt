@@ -20,11 +20,11 @@ use std::alloc::Global;
 use std::thread;
 use std::thread::Threads;
 
-/// Makes each pixel undefined that is below the threshold and has no neighbour of at least the threshold. The sources of the plane stay the same, and
-/// its tree has fewer nodes.
+/// Makes each pixel undefined that is below the threshold and has no neighbour of at least the threshold. The sources
+/// of the plane stay the same, and its tree has fewer nodes.
 ///
-/// The pixels that stay are looked for in `parts` bands, each in a thread of its own where one can be made; 0 counts as 1. The one error is that
-/// memory was refused; the plane is as it was then.
+/// The pixels that stay are looked for in `parts` bands, each in a thread of its own where one can be made; 0 counts as
+/// 1. The one error is that memory was refused; the plane is as it was then.
 pub fn clear_far<R: Threads + Sync>(
     rt: &R,
     alloc: Global,
@@ -84,7 +84,8 @@ fn no_marks(alloc: Global, count: usize) -> Result<Vec<bool>, OutOfMemory>
     Ok(marks)
 }
 
-// Sets the marks in bands of `size` pixels. A band looks at its own pixels and those beside it, and writes its own marks alone.
+// Sets the marks in bands of `size` pixels. A band looks at its own pixels and those beside it, and writes its own
+// marks alone.
 fn mark_bands<R: Threads + Sync>(
     rt: &R,
     plane: &Plane,

@@ -34,8 +34,8 @@ pub fn sources_are_listed()
     ensures in_order { SourcesAreInOrder }
 {}
 
-/// Two planes that have the same values at and beside the pixels of at least the threshold have the same sources: the same least pixels in the same
-/// order, the same map and the same catalogue.
+/// Two planes that have the same values at and beside the pixels of at least the threshold have the same sources: the
+/// same least pixels in the same order, the same map and the same catalogue.
 pub fn sources_are_local()
     ensures { SourcesAreLocal }
 {}
@@ -46,15 +46,16 @@ pub fn kept_has_the_same_sources()
     ensures same { KeptHasTheSameSources }
 {}
 
-/// A source whose threshold component lies with its neighbours among pixels that a window shows is a source of the window, and each such source
-/// of the window is one of the whole, with the same pixels and the same row, but for the places.
+/// A source whose threshold component lies with its neighbours among pixels that a window shows is a source of the
+/// window, and each such source of the window is one of the whole, with the same pixels and the same row, but for the
+/// places.
 pub fn sources_of_windows()
     ensures seen { SureSourcesAreSeen }
     ensures sure { SeenSourcesAreSure }
 {}
 
-/// So the sources of an image are those of its tiles: each is an own source of a tile, each own source of a tile is one, and where the cores
-/// share no pixel it is so of one tile alone.
+/// So the sources of an image are those of its tiles: each is an own source of a tile, each own source of a tile is
+/// one, and where the cores share no pixel it is so of one tile alone.
 pub fn sources_of_tiles()
     ensures each { EachSourceIsATiles }
     ensures own { OwnSourcesAreTheWholes }

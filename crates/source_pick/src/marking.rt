@@ -14,7 +14,7 @@ use dev_io::OutOfMemory;
 use node_sums::{Sums, flux};
 use std::alloc::Global;
 
-/// The number of nodes.
+// The number of nodes.
 pub(crate) fn node_count(tree: &Tree) -> u32
     ensures all { result ≡ length tree.now.rows }
     ensures few { result ≤ 2 ^ 24 }
@@ -24,7 +24,7 @@ pub(crate) fn node_count(tree: &Tree) -> u32
     tree.rows().len() as u32
 }
 
-/// For each node the entry in which it lies, or `NONE`.
+// For each node the entry in which it lies, or `NONE`.
 pub(crate) fn entries_of_nodes(
     alloc: Global,
     tree: &Tree,
@@ -121,7 +121,7 @@ fn has_size(tree: &Tree, sums: &[Sums], choice: &Choice, n: u32) -> bool
     flux(tree, sums, n) >= choice.min_flux
 }
 
-/// For each node whether it is strong.
+// For each node whether it is strong.
 pub(crate) fn strong_nodes(
     alloc: Global,
     tree: &Tree,

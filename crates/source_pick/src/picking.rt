@@ -1,3 +1,5 @@
+//! The sources of a plane, in the order of their least pixels.
+
 ghost use Rattle.std.specs.Prelude.{◌≡◌, ◌<◌, ◌≤◌, List, IfOk, length, map, replicate};
 ghost use Rattle.comp_tree.specs.Raster.{IsPlane};
 ghost use Rattle.comp_tree.specs.ComponentTree.{ComponentTree, no_node};

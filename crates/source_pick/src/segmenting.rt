@@ -1,3 +1,5 @@
+//! The segmentation map: the number of the source that holds each pixel.
+
 ghost use Rattle.std.specs.Prelude.{◌≡◌, ◌+◌, ◌≤◌, ◌<◌, ◌^◌, ℕ, List, IfOk, length, replicate, Some, slice_get, slice_index};
 ghost use Rattle.comp_tree.specs.declared.shape.Connect.{Connect};
 ghost use Rattle.comp_tree.specs.Raster.{Raster};
@@ -28,7 +30,8 @@ pub fn segment(alloc: Global, tree: &Tree, sources: &[u32]) -> Result<Vec<u32>, 
     Ok(map)
 }
 
-/// The same numbers, with the pixels shared out in `parts` bands of rows, each in a thread of its own where one can be made; 0 counts as 1.
+/// The same numbers, with the pixels shared out in `parts` bands of rows, each in a thread of its own where one can be
+/// made; 0 counts as 1.
 pub fn segment_in_parts<R: Threads + Sync>(
     rt: &R,
     alloc: Global,

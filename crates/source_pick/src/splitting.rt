@@ -7,7 +7,7 @@ use comp_tree::{NONE, Tree};
 use dev_io::OutOfMemory;
 use std::alloc::{AllocError, Global};
 
-/// How many strong children a node has in its entry, as far as it matters.
+// How many strong children a node has in its entry, as far as it matters.
 #[derive(Clone, Copy, PartialEq, Eq, Debug)]
 pub(crate) enum StrongChildren {
     Zero,
@@ -37,7 +37,7 @@ impl StrongChildren {
     }
 }
 
-/// For each node how many strong children it has in its entry.
+// For each node how many strong children it has in its entry.
 pub(crate) fn strong_children(
     alloc: Global,
     tree: &Tree,
@@ -97,7 +97,7 @@ fn inner_parent(tree: &Tree, entries: &[u32], strong: &[bool], n: usize) -> Opti
     Some(parent)
 }
 
-/// For each node whether a split lies within it.
+// For each node whether a split lies within it.
 pub(crate) fn above_splits(
     alloc: Global,
     tree: &Tree,

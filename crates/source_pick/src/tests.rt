@@ -1,3 +1,5 @@
+//! Small planes with their sources, maps and rows, and what is left of a sky.
+
 ghost use Rattle.std.specs.Prelude.{◌<◌, ◌≤◌, ◌^◌, length};
 ghost use Rattle.node_sums.specs.Sums.{AreTheTrees};
 
@@ -137,8 +139,8 @@ fn sources_of_small_planes(rt: HostRuntime) -> Result<(), Fail> {
                 1, 5, 5, 3, 0, 5, 1, 2, 1, 2, 1, 1, 1333, 1333, 222, 222, -112,
             ]],
         },
-        // a plane, and its window from the second column and row on: the source and its neighbours lie in it, so its row is the same
-        // but for the places, which are moved by one, and the centre by 1000
+        // a plane, and its window from the second column and row on: the source and its neighbours lie in it, so its
+        // row is the same but for the places, which are moved by one, and the centre by 1000
         Case {
             width: 4,
             height: 4,
@@ -179,7 +181,8 @@ fn sources_of_small_planes(rt: HostRuntime) -> Result<(), Fail> {
         assert_eq!(rt; picked.as_slice(), case.nodes, "sources of case {number}");
         let map = segment(rt.alloc(), &tree, &picked)?;
         assert_eq!(rt; map.as_slice(), case.map, "map of case {number}");
-        let in_parts = segment_in_parts(&rt, rt.alloc(), &tree, &picked, 2)?;
+        let parts = number as u32 % 3;
+        let in_parts = segment_in_parts(&rt, rt.alloc(), &tree, &picked, parts)?;
         assert_eq!(rt; in_parts.as_slice(), case.map, "in parts, case {number}");
         let count = picked.len();
         assert_eq!(rt; count, case.rows.len(), "case {number}");
@@ -209,10 +212,11 @@ const SKY: [i64; 20] = [1, 2, 3, 0, 5, 2, 0, 9, 4, 5, 3, 4, 5, 6, 5, 0, 2, 3, 4,
 #[test]
 fn what_is_left_of_a_sky(rt: HostRuntime) -> Result<(), Fail> {
     let skies = [
+        // no parts are one
         Sky {
             connect: Connect::Four,
             threshold: 8,
-            parts: 1,
+            parts: 0,
             left: &[0, 0, 3, 0, 0, 0, 0, 9, 4, 0, 0, 0, 5, 0, 5, 0, 0, 0, 4, 8],
         },
         // the diagonal neighbours too

@@ -30,17 +30,20 @@ read_too [] commands e = absurd (cc)
 read_too (w ∷ words) commands e = e
 
 -- where no word is at fault the words behind the file are these commands
-pub with_commands : (words : List (List ℕ)) (P : Result (List Command) ℕ → Type 0) → IsOk (commands_of words) → ((commands : List Command) → read (drop (file_words words) words) ≡ Ok commands → P (Ok commands)) → P (commands_of words)
+pub with_commands : (words : List (List ℕ)) (P : Result (List Command) ℕ → Type 0) → IsOk (commands_of words)
+    → ((commands : List Command) → read (drop (file_words words) words) ≡ Ok commands → P (Ok commands)) → P (commands_of words)
 unfolding commands_of
 with_commands words P is_read h = by (some_commands (drop (file_words words) words)) refl is_read
   where
-    by : (r : Result (List Command) ℕ) → some_commands (drop (file_words words) words) ≡ r → IsOk (further (file_words words) r) → P (further (file_words words) r)
+    by : (r : Result (List Command) ℕ) → some_commands (drop (file_words words) words) ≡ r → IsOk (further (file_words words) r)
+        → P (further (file_words words) r)
     by (Ok commands) e some = h commands (read_too (drop (file_words words) words) commands e)
     by (Err at) e some = absurd (cc)
 
 module _ (words : List (List ℕ)) (bytes : List ℕ) (ts : List Table) (b : Option (List ℕ)) (m : Option (List Table)) (w u : Option (List ℕ)) (settled : Bool) (status : ℕ) where
   -- a status from 3 on comes where a command was cut short
-  pub cut_with : (end : End) → EndTells (commands_of words) bytes ts b m w u settled end → status ≡ session_status end → 3 ≤ status → IsCutWith words bytes ts b m w u status
+  pub cut_with : (end : End) → EndTells (commands_of words) bytes ts b m w u settled end → status ≡ session_status end → 3 ≤ status
+      → IsCutWith words bytes ts b m w u status
   cut_with Done tells is high = absurd (omega (arith, is, high))
   cut_with (Usage usage) tells is high = absurd (omega (arith, is, high))
   cut_with (Stopped (Refused fault)) tells is high = absurd (omega (arith, is, high))
@@ -50,7 +53,8 @@ module _ (words : List (List ℕ)) (bytes : List ℕ) (ts : List Table) (b : Opt
   cut_with (Stopped KeeperFault) tells is high = record { stop = KeeperFault; status_is = is; cut = tells }
 
   -- a lesser one is the answer's
-  pub answers_end : (end : End) → EndTells (commands_of words) bytes ts b m w u settled end → status ≡ session_status end → status < 3 → (session_answer words bytes ts).end ≡ end
+  pub answers_end : (end : End) → EndTells (commands_of words) bytes ts b m w u settled end → status ≡ session_status end → status < 3
+      → (session_answer words bytes ts).end ≡ end
   answers_end Done tells is low = tells.end_is
   answers_end (Usage usage) tells is low = tells.end_is
   answers_end (Stopped (Refused fault)) tells is low = tells.end_is
@@ -60,7 +64,8 @@ module _ (words : List (List ℕ)) (bytes : List ℕ) (ts : List Table) (b : Opt
   answers_end (Stopped KeeperFault) tells is low = absurd (omega (arith, is, low))
 
 -- the line of a word at fault
-pub word_noted : (commands : Result (List Command) ℕ) (at : ℕ) (settled : Bool) (source source' sink sink' keeper keeper' : ℕ) (end : End) → commands ≡ Err at → SessionEndCause commands settled source source' sink sink' keeper keeper' end
+pub word_noted : (commands : Result (List Command) ℕ) (at : ℕ) (settled : Bool) (source source' sink sink' keeper keeper' : ℕ) (end : End) → commands ≡ Err at
+    → SessionEndCause commands settled source source' sink sink' keeper keeper' end
     → session_note end ≡ usage_line (at + 1)
 word_noted commands at settled source source' sink sink' keeper keeper' end is cause =
     by end (subst (λ (r : Result (List Command) ℕ). SessionEndCause r settled source source' sink sink' keeper keeper' end) is cause)

@@ -8,3 +8,7 @@ pub use Rattle.survey_core.proofs.TableLemmas.{all_put, order_put, put_from, put
 pub use Rattle.survey_core.proofs.TableLemmas.{order_without, without_from, without_keeps}
 -- the cells of a field are there exactly where it is a member; tables in order with the same members are the same
 pub use Rattle.survey_core.proofs.TableLemmas.{cells_found, cells_missing, same_tables}
+-- the catalogue's columns have so many cells and bytes
+pub use Rattle.survey_core.proofs.CatalogueLemmas.{many_columns, columns_size}
+-- the test of an order of numbers
+pub use Rattle.survey_core.proofs.CatalogueLemmas.{lt_false, lt_true}

@@ -1,5 +1,6 @@
 -- A session, command by command.
-use Rattle.std.proofs.Common.{◌≡◌, ◌∙◌, ℕ, ◌+◌, ◌<◌, ◌≤◌, Bool, true, false, cond, ◌⊎◌, ◌||◌, List, [], ◌∷◌, ◌++◌, drop, Some, None, refl, sym, ap, subst, arith, Ok, Err, append_assoc, append-nil, zero-add, inl, inr}
+use Rattle.std.proofs.Common.{◌≡◌, ◌∙◌, ℕ, ◌+◌, ◌<◌, ◌≤◌, Bool, true, false, cond, ◌⊎◌, ◌||◌, List, [], ◌∷◌, ◌++◌, drop, Some, None, refl, sym, ap}
+use Rattle.std.proofs.Common.{subst, arith, Ok, Err, append_assoc, append-nil, zero-add, inl, inr}
 use Rattle.std.specs.Prelude.{Option, IsTrue, is_some}
 use Rattle.std.specs.List.{list_any}
 use Rattle.std.proofs.KnownBytes.{Appends-trans, Appends-nil}
@@ -55,19 +56,23 @@ session_app bytes ts (x ∷ xs) ys passed =
   where
     go : (e s : Outcome) → (followed_by e s).stop ≡ None
         → (s.stop ≡ None → session (drop e.taken bytes) e.tables (xs ++ ys) ≡ joined_outcomes s (session (drop s.taken (drop e.taken bytes)) s.tables ys))
-        → followed_by e (session (drop e.taken bytes) e.tables (xs ++ ys)) ≡ joined_outcomes (followed_by e s) (session (drop (followed_by e s).taken bytes) (followed_by e s).tables ys)
+        → followed_by e (session (drop e.taken bytes) e.tables (xs ++ ys))
+        ≡ joined_outcomes (followed_by e s) (session (drop (followed_by e s).taken bytes) (followed_by e s).tables ys)
     go e s passed more = by e.stop refl passed
       where
         by : (o : Option Stop) → e.stop ≡ o → (joined_unless o e s).stop ≡ None
-            → joined_unless o e (session (drop e.taken bytes) e.tables (xs ++ ys)) ≡ joined_outcomes (joined_unless o e s) (session (drop (joined_unless o e s).taken bytes) (joined_unless o e s).tables ys)
+            → joined_unless o e (session (drop e.taken bytes) e.tables (xs ++ ys))
+            ≡ joined_outcomes (joined_unless o e s) (session (drop (joined_unless o e s).taken bytes) (joined_unless o e s).tables ys)
         by (Some stop) h p = absurd (let bad : Some stop ≡ None = sym h ∙ p in cc)
-        by None h p = ap (joined_outcomes e) (more p) ∙ joined_assoc e s _ ∙ ap (λ b. joined_outcomes (joined_outcomes e s) (session b s.tables ys)) (drop-drop s.taken e.taken bytes)
+        by None h p = ap (joined_outcomes e) (more p) ∙ joined_assoc e s _
+            ∙ ap (λ b. joined_outcomes (joined_outcomes e s) (session b s.tables ys)) (drop-drop s.taken e.taken bytes)
 
 alone : (bytes : List ℕ) (ts : List Table) (x : Command) → (effect bytes ts x).stop ≡ None → session bytes ts (x ∷ []) ≡ effect bytes ts x
 unfolding session
 alone bytes ts x h = ap (λ o. joined_unless o (effect bytes ts x) (nothing (effect bytes ts x).tables)) h ∙ nothing_last (effect bytes ts x) h
 
-stopped : (bytes : List ℕ) (ts : List Table) (x : Command) (ys : List Command) (stop : Stop) → (effect bytes ts x).stop ≡ Some stop → session bytes ts (x ∷ ys) ≡ effect bytes ts x
+stopped : (bytes : List ℕ) (ts : List Table) (x : Command) (ys : List Command) (stop : Stop) → (effect bytes ts x).stop ≡ Some stop
+    → session bytes ts (x ∷ ys) ≡ effect bytes ts x
 unfolding session
 stopped bytes ts x ys stop h = ap (λ o. joined_unless o (effect bytes ts x) (session (drop (effect bytes ts x).taken bytes) (effect bytes ts x).tables ys)) h
 
@@ -76,14 +81,16 @@ pub session_more : (bytes : List ℕ) (ts : List Table) (xs : List Command) (x :
     → (effect (drop (session bytes ts xs).taken bytes) (session bytes ts xs).tables x).stop ≡ None
     → session bytes ts (xs ++ x ∷ []) ≡ joined_outcomes (session bytes ts xs) (effect (drop (session bytes ts xs).taken bytes) (session bytes ts xs).tables x)
 session_more bytes ts xs x passed here =
-    session_app bytes ts xs (x ∷ []) passed ∙ ap (joined_outcomes (session bytes ts xs)) (alone (drop (session bytes ts xs).taken bytes) (session bytes ts xs).tables x here)
+    session_app bytes ts xs (x ∷ []) passed
+    ∙ ap (joined_outcomes (session bytes ts xs)) (alone (drop (session bytes ts xs).taken bytes) (session bytes ts xs).tables x here)
 
 -- one that has a fault
 pub session_stops : (bytes : List ℕ) (ts : List Table) (xs : List Command) (x : Command) (ys : List Command) (stop : Stop) → (session bytes ts xs).stop ≡ None
     → (effect (drop (session bytes ts xs).taken bytes) (session bytes ts xs).tables x).stop ≡ Some stop
     → session bytes ts (xs ++ x ∷ ys) ≡ joined_outcomes (session bytes ts xs) (effect (drop (session bytes ts xs).taken bytes) (session bytes ts xs).tables x)
 session_stops bytes ts xs x ys stop passed here =
-    session_app bytes ts xs (x ∷ ys) passed ∙ ap (joined_outcomes (session bytes ts xs)) (stopped (drop (session bytes ts xs).taken bytes) (session bytes ts xs).tables x ys stop here)
+    session_app bytes ts xs (x ∷ ys) passed
+    ∙ ap (joined_outcomes (session bytes ts xs)) (stopped (drop (session bytes ts xs).taken bytes) (session bytes ts xs).tables x ys stop here)
 
 -- ---- so far
 
@@ -98,7 +105,8 @@ pub record Going (commands : List Command) (words : List (List ℕ)) (at : ℕ) 
   pub split : commands ≡ before ++ rest
   pub rest_is : read (drop at words) ≡ Ok rest
   pub printed : IsTrue (list_any is_printing before) → IsTrue settled'
-  pub told : (bytes : List ℕ) → left ≡ Some bytes → (ts : List Table) → tables ≡ Some ts → SoFar (session bytes ts before) bytes left' tables' written written' settled'
+  pub told : (bytes : List ℕ) → left ≡ Some bytes → (ts : List Table) → tables ≡ Some ts
+      → SoFar (session bytes ts before) bytes left' tables' written written' settled'
 
 pub begins : (commands : List Command) (words : List (List ℕ)) (left : Option (List ℕ)) (tables : Option (List Table)) (written : Option (List ℕ)) (settled : Bool) → read words ≡ Ok commands
     → Going commands words 0 left left tables tables written written settled
@@ -163,7 +171,8 @@ module _ (commands : List Command) (words : List (List ℕ)) (at : ℕ) (left a 
   next = behind_ok x (read (drop (width x) (drop at words))) going.rest (sym (read_front (drop at words) x here) ∙ going.rest_is)
 
   -- the command was done
-  pub goes_on : (bytes_do : (bytes : List ℕ) → a ≡ Some bytes → (ts : List Table) → k ≡ Some ts → Does (effect bytes ts x) bytes b m v u None) → settled' ≡ is_printing x || settled
+  pub goes_on : (bytes_do : (bytes : List ℕ) → a ≡ Some bytes → (ts : List Table) → k ≡ Some ts → Does (effect bytes ts x) bytes b m v u None)
+      → settled' ≡ is_printing x || settled
       → Going commands words (at + width x) left b tables m w u settled'
   goes_on bytes_do settles = record {
     before = going.before ++ x ∷ [];
@@ -174,7 +183,8 @@ module _ (commands : List Command) (words : List (List ℕ)) (at : ℕ) (left a 
     told = told;
   }
     where
-      told : (bytes : List ℕ) → left ≡ Some bytes → (ts : List Table) → tables ≡ Some ts → SoFar (session bytes ts (going.before ++ x ∷ [])) bytes b m w u settled'
+      told : (bytes : List ℕ) → left ≡ Some bytes → (ts : List Table) → tables ≡ Some ts
+          → SoFar (session bytes ts (going.before ++ x ∷ [])) bytes b m w u settled'
       told bytes e ts t =
           let far = going.told bytes e ts t in
           let s = session bytes ts going.before in
@@ -195,7 +205,8 @@ module _ (commands : List Command) (words : List (List ℕ)) (at : ℕ) (left a 
 
   -- it has a fault
   pub faulty : (fault : Fault) (bytes : List ℕ) → left ≡ Some bytes → (ts : List Table) → tables ≡ Some ts
-      → ((bytes : List ℕ) → a ≡ Some bytes → (ts : List Table) → k ≡ Some ts → Does (effect bytes ts x) bytes b m v u (Some (Refused fault))) → settled' ≡ settled
+      → ((bytes : List ℕ) → a ≡ Some bytes → (ts : List Table) → k ≡ Some ts → Does (effect bytes ts x) bytes b m v u (Some (Refused fault)))
+      → settled' ≡ settled
       → SessionAnswers (answer_to_outcome (session bytes ts commands)) bytes b m w u settled' (Stopped (Refused fault))
   faulty fault bytes e ts t bytes_do settles =
       let far = going.told bytes e ts t in
@@ -213,7 +224,8 @@ module _ (commands : List Command) (words : List (List ℕ)) (at : ℕ) (left a 
 
   -- it was cut short
   pub cut_here : (stop : Stop) (bytes : List ℕ) → left ≡ Some bytes → (ts : List Table) → tables ≡ Some ts
-      → ((bytes : List ℕ) → a ≡ Some bytes → (ts : List Table) → k ≡ Some ts → IsCutCommand (effect bytes ts x) x bytes ts b m v u stop) → IsCutIn commands bytes ts b m w u stop
+      → ((bytes : List ℕ) → a ≡ Some bytes → (ts : List Table) → k ≡ Some ts → IsCutCommand (effect bytes ts x) x bytes ts b m v u stop)
+      → IsCutIn commands bytes ts b m w u stop
   cut_here stop bytes e ts t bytes_cut =
       let far = going.told bytes e ts t in
       let s = session bytes ts going.before in
@@ -238,12 +250,14 @@ module _ (commands : List Command) (words : List (List ℕ)) (at : ℕ) (left a 
         };
       }
 
-  pub stops_here : (source source' sink sink' keeper keeper' : ℕ) (stop : Stop) → Cause x source source' sink sink' keeper keeper' stop → StopsIn commands source source' sink sink' keeper keeper' stop
+  pub stops_here : (source source' sink sink' keeper keeper' : ℕ) (stop : Stop) → Cause x source source' sink sink' keeper keeper' stop
+      → StopsIn commands source source' sink sink' keeper keeper' stop
   stops_here source source' sink sink' keeper keeper' stop cause = record { before = going.before; command = x; after = next.0; commands_are = commands_are; cause = cause }
 
   -- what any stop tells
   pub stop_tells : (stop : Stop) (bytes : List ℕ) → left ≡ Some bytes → (ts : List Table) → tables ≡ Some ts
-      → ((bytes : List ℕ) → a ≡ Some bytes → (ts : List Table) → k ≡ Some ts → Step (effect bytes ts x) x bytes ts b m v u (Err stop)) → SettledBy x settled settled' (Err stop)
+      → ((bytes : List ℕ) → a ≡ Some bytes → (ts : List Table) → k ≡ Some ts → Step (effect bytes ts x) x bytes ts b m v u (Err stop))
+      → SettledBy x settled settled' (Err stop)
       → StopTells (Ok commands) bytes ts b m w u settled' stop
   stop_tells (Refused fault) bytes e ts t steps settles = faulty fault bytes e ts t steps settles
   stop_tells ReadFault bytes e ts t steps settles = cut_here ReadFault bytes e ts t steps
@@ -256,7 +270,8 @@ module _ (commands : List Command) (words : List (List ℕ)) (at : ℕ) (left a 
   all_before : commands ≡ going.before
   all_before = going.split ∙ ap (λ l. going.before ++ l) (no_front (drop at words) at_fault going.rest none going.rest_is) ∙ append-nil going.before
 
-  pub finished : (bytes : List ℕ) → left ≡ Some bytes → (ts : List Table) → tables ≡ Some ts → SessionAnswers (answer_to_outcome (session bytes ts commands)) bytes a k w v settled Done
+  pub finished : (bytes : List ℕ) → left ≡ Some bytes → (ts : List Table) → tables ≡ Some ts
+      → SessionAnswers (answer_to_outcome (session bytes ts commands)) bytes a k w v settled Done
   finished bytes e ts t =
       let far = going.told bytes e ts t in
       subst (λ (l : List Command). SessionAnswers (answer_to_outcome (session bytes ts l)) bytes a k w v settled Done) (sym all_before) (record {
@@ -280,7 +295,8 @@ some_width (Brightest count) = omega arith
 rose_since : (a b d : ℕ) → a ≤ b → Rose b d → Rose a d
 rose_since a b d h rose = omega (arith, h, rose)
 
-pub cause_since : (x : Command) (source source' source'' sink sink' sink'' keeper keeper' keeper'' : ℕ) (stop : Stop) → source ≤ source' → sink ≤ sink' → keeper ≤ keeper' → Cause x source' source'' sink' sink'' keeper' keeper'' stop
+pub cause_since : (x : Command) (source source' source'' sink sink' sink'' keeper keeper' keeper'' : ℕ) (stop : Stop) → source ≤ source' → sink ≤ sink'
+    → keeper ≤ keeper' → Cause x source' source'' sink' sink'' keeper' keeper'' stop
     → Cause x source source'' sink sink'' keeper keeper'' stop
 cause_since x a b d e f h i j l (Refused fault) p q r cause = tt
 cause_since x a b d e f h i j l ReadFault p q r cause = (cause.0, rose_since a b d p cause.1)

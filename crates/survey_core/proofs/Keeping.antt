@@ -1,5 +1,6 @@
 -- Tables that are told, and their fields one after the other.
-use Rattle.std.proofs.Common.{◌≡◌, ◌∙◌, ℕ, zero, suc, ◌+◌, ◌<◌, List, [], ◌∷◌, ◌++◌, append_assoc, append-nil, length, map, get_or, take, Some, None, refl, sym, ap, ap₂, subst, arith, ℤ, inl, inr}
+use Rattle.std.proofs.Common.{◌≡◌, ◌∙◌, ℕ, zero, suc, ◌+◌, ◌<◌, List, [], ◌∷◌, ◌++◌, append_assoc, append-nil, length, map, get_or, take, Some, None}
+use Rattle.std.proofs.Common.{refl, sym, ap, ap₂, subst, arith, ℤ, inl, inr}
 use Rattle.std.specs.Prelude.{Option, IfSome, unwrap_or}
 use Rattle.std.specs.Option.{ForSome}
 use Rattle.std.specs.List.{flat_map}
@@ -39,24 +40,29 @@ among_at [] i d h = absurd (omega arith)
 among_at (x ∷ xs) zero d h = inl refl
 among_at (x ∷ xs) (suc i) d h = inr (among_at xs i d (omega arith))
 
-pub table_at : (ts : List Table) (i : ℕ) (d name : List ℕ) (cells : List ℤ) (t : Table) → AreInOrder ts → i < length ts → name ≡ get_or (names_of ts) i d → cells ≡ unwrap_or (cells_of_field name ts) [] → (name, cells) ≡ get_or ts i t
+pub table_at : (ts : List Table) (i : ℕ) (d name : List ℕ) (cells : List ℤ) (t : Table) → AreInOrder ts → i < length ts → name ≡ get_or (names_of ts) i d
+    → cells ≡ unwrap_or (cells_of_field name ts) [] → (name, cells) ≡ get_or ts i t
 table_at ts i d name cells t up h named is =
     let name_is : name ≡ (get_or ts i t).0 = named ∙ get_or-map (λ (u : Table). u.0) ts i t d h in
-    let cells_are : cells ≡ (get_or ts i t).1 = is ∙ ap (λ f. unwrap_or (cells_of_field f ts) []) name_is ∙ ap (λ o. unwrap_or o []) (cells_found ts (get_or ts i t) up (among_at ts i t h)) in
+    let cells_are : cells ≡ (get_or ts i t).1 = is ∙ ap (λ f. unwrap_or (cells_of_field f ts) []) name_is
+    ∙ ap (λ o. unwrap_or o []) (cells_found ts (get_or ts i t) up (among_at ts i t h)) in
     ap₂ (λ a b. (a, b)) name_is cells_are
 
 pub names_long : (ts : List Table) → length (names_of ts) ≡ length ts
 names_long ts = length-map ts (λ (u : Table). u.0)
 
-pub name_at : (ts : List Table) (names got : List (List ℕ)) (i : ℕ) (name copy : List ℕ) → name ≡ get_or got i name → got ≡ names → names ≡ names_of ts → copy ≡ name → copy ≡ get_or (names_of ts) i name
+pub name_at : (ts : List Table) (names got : List (List ℕ)) (i : ℕ) (name copy : List ℕ) → name ≡ get_or got i name → got ≡ names → names ≡ names_of ts
+    → copy ≡ name → copy ≡ get_or (names_of ts) i name
 name_at ts names got i name copy is same are copied = copied ∙ is ∙ ap (λ l. get_or l i name) (same ∙ are)
 
 -- ---- one field more
 
-pub summaries_more : (ts : List Table) (i : ℕ) (t : Table) (items items' : List Summary) (s : Summary) → i < length ts → items ≡ map table_summary (take i ts) → items' ≡ items ++ s ∷ [] → s ≡ table_summary (get_or ts i t)
+pub summaries_more : (ts : List Table) (i : ℕ) (t : Table) (items items' : List Summary) (s : Summary) → i < length ts → items ≡ map table_summary (take i ts)
+    → items' ≡ items ++ s ∷ [] → s ≡ table_summary (get_or ts i t)
     → items' ≡ map table_summary (take (i + 1) ts)
 summaries_more ts i t items items' s h so_far more is =
-    more ∙ ap₂ (λ a b. a ++ b ∷ []) so_far is ∙ sym (map-append table_summary (take i ts) (get_or ts i t ∷ [])) ∙ sym (ap (map table_summary) (take_more ts i t h))
+    more ∙ ap₂ (λ a b. a ++ b ∷ []) so_far is ∙ sym (map-append table_summary (take i ts) (get_or ts i t ∷ []))
+    ∙ sym (ap (map table_summary) (take_more ts i t h))
 
 flat_map-append : {X A : Type 0} (f : X → List A) (xs ys : List X) → flat_map f (xs ++ ys) ≡ flat_map f xs ++ flat_map f ys
 flat_map-append f [] ys = refl
@@ -65,4 +71,5 @@ flat_map-append f (x ∷ xs) ys = ap (λ l. f x ++ l) (flat_map-append f xs ys) 
 pub rows_more : (ts : List Table) (i : ℕ) (t : Table) → i < length ts → all_rows (take (i + 1) ts) ≡ all_rows (take i ts) ++ rows_of (get_or ts i t)
 unfolding all_rows
 rows_more ts i t h =
-    ap (flat_map rows_of) (take_more ts i t h) ∙ flat_map-append rows_of (take i ts) (get_or ts i t ∷ []) ∙ ap (λ l. flat_map rows_of (take i ts) ++ l) (append-nil (rows_of (get_or ts i t)))
+    ap (flat_map rows_of) (take_more ts i t h) ∙ flat_map-append rows_of (take i ts) (get_or ts i t ∷ [])
+    ∙ ap (λ l. flat_map rows_of (take i ts) ++ l) (append-nil (rows_of (get_or ts i t)))

@@ -11,4 +11,5 @@ mod Stepping
 mod Going
 mod Ending
 mod TableLaws
+mod Adding
 pub mod Exported

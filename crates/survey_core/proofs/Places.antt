@@ -1,5 +1,7 @@
 -- The place of each row is the number of rows that come before it.
-use Rattle.std.proofs.Common.{◌≡◌, ◌≢◌, ◌∙◌, ℕ, zero, suc, ◌+◌, ◌*◌, ◌<◌, ◌≤◌, ◌==◌, ◌⊎◌, inl, inr, Bool, true, false, cond, List, [], ◌∷◌, ◌++◌, length, map, filter, take, drop, get_or, Some, None, refl, sym, ap, ap₂, subst, arith, Ordering, Less, Equal, Greater, ℤ, pos}
+use Rattle.std.proofs.Common.{◌≡◌, ◌≢◌, ◌∙◌, ℕ, zero, suc, ◌+◌, ◌*◌, ◌<◌, ◌≤◌, ◌==◌, ◌⊎◌, inl, inr, Bool, true, false, cond, List, [], ◌∷◌, ◌++◌}
+use Rattle.std.proofs.Common.{length, map, filter, take, drop, get_or, Some, None, refl, sym, ap, ap₂, subst, arith, Ordering, Less, Equal, Greater}
+use Rattle.std.proofs.Common.{ℤ, pos}
 use Rattle.std.specs.Prelude.{Option, find, slice_get, unwrap_or, unsigned_abs}
 use Rattle.std.specs.Option.{option_to_list}
 use Rattle.std.specs.List.{AllByRecursion, range_with_len, flat_map}
@@ -43,7 +45,8 @@ other_way a b differs h = by (row_cmp a b) refl
 differs_back : (a b : Row) → Differs a b → Differs b a
 differs_back a b differs e = differs (order.antisymm a b ∙ ap ordering_reverse e)
 
-before_all : (r x : Row) (xs : List Row) → ranks_before r x ≡ true → AllByRecursion (λ y. ranks_before x y ≡ true) xs → AllByRecursion (λ y. ranks_before r y ≡ true) xs
+before_all : (r x : Row) (xs : List Row) → ranks_before r x ≡ true → AllByRecursion (λ y. ranks_before x y ≡ true) xs
+    → AllByRecursion (λ y. ranks_before r y ≡ true) xs
 before_all r x [] h all = tt
 before_all r x (y ∷ ys) h all = (before_later r x y h (not_both x y all.0), before_all r x ys h all.1)
 
@@ -90,7 +93,8 @@ count_with : (test : Row → Bool) (r : Row) (xs : List Row) → length (filter 
 count_with test r [] = count_first test r []
 count_with test r (x ∷ xs) = by (ranks_before r x) (count_with test r xs)
   where
-    by : (b : Bool) → length (filter test (with_row r xs)) ≡ one_if (test r) + length (filter test xs) → length (filter test (cond b (r ∷ x ∷ xs) (x ∷ with_row r xs))) ≡ one_if (test r) + length (filter test (x ∷ xs))
+    by : (b : Bool) → length (filter test (with_row r xs)) ≡ one_if (test r) + length (filter test xs)
+        → length (filter test (cond b (r ∷ x ∷ xs) (x ∷ with_row r xs))) ≡ one_if (test r) + length (filter test (x ∷ xs))
     by true more = count_first test r (x ∷ xs)
     by false more = omega (arith, count_first test x (with_row r xs), count_first test x xs, more)
 
@@ -177,7 +181,8 @@ find_gives : (test : Row → Bool) (xs : List Row) (x : Row) → find test xs �
 find_gives test [] x e = absurd (cc)
 find_gives test (y ∷ ys) x e = by (test y) refl e (find_gives test ys x)
   where
-    by : (b : Bool) → test y ≡ b → cond b (Some y) (find test ys) ≡ Some x → (find test ys ≡ Some x → Among ys x × (test x ≡ true)) → Among (y ∷ ys) x × (test x ≡ true)
+    by : (b : Bool) → test y ≡ b → cond b (Some y) (find test ys) ≡ Some x → (find test ys ≡ Some x → Among ys x × (test x ≡ true))
+        → Among (y ∷ ys) x × (test x ≡ true)
     by true h e more = let same : y ≡ x = ap (λ o. unwrap_or o y) e in (inl (sym same), ap test (sym same) ∙ h)
     by false h e more = let m = more e in (inr m.0, m.1)
 
@@ -241,9 +246,11 @@ module _ (rows : List Row) (distinct : Distinct rows) where
       step [] zero = take_nil k
       step [] (suc a) = ap (take k) (drop_nil (suc a + 1)) ∙ take_nil k
       step (x ∷ xs) zero = refl
-      step (x ∷ xs) (suc a) = let next : suc a + 1 ≡ suc (a + 1) = omega arith in ap (λ n. option_to_list (slice_get xs a) ++ take k (drop n (x ∷ xs))) next ∙ step xs a
+      step (x ∷ xs) (suc a) = let next : suc a + 1 ≡ suc (a + 1) = omega arith in ap (λ n. option_to_list (slice_get xs a) ++ take k (drop n (x ∷ xs))) next
+          ∙ step xs a
 
-  all_places : (a k : ℕ) → flat_map (λ p. option_to_list (at_place rows p)) (range_with_len a k) ≡ flat_map (λ p. option_to_list (slice_get sorted p)) (range_with_len a k)
+  all_places : (a k : ℕ) → flat_map (λ p. option_to_list (at_place rows p)) (range_with_len a k)
+      ≡ flat_map (λ p. option_to_list (slice_get sorted p)) (range_with_len a k)
   all_places a zero = refl
   all_places a (suc k) = ap₂ (λ o l. option_to_list o ++ l) (here a) (all_places (a + 1) k)
 
@@ -272,10 +279,13 @@ number_at field cells i numbered h =
     ap (λ k. get_or cells k (pos 0)) place ∙ get_or_from_slice_get cells (cells_in_row * i) (pos (i + 1)) (pos 0) (numbered.numbers i (omega (arith, h)))
 
 module _ (field : List ℕ) (cells : List ℤ) (numbered : IsNumbered cells) where
-  later_differ : (i a n : ℕ) → i < a → a + n ≤ rows_in cells → AllByRecursion (Differs (ranking_row field cells i)) (map (ranking_row field cells) (range_with_len a n))
+  later_differ : (i a n : ℕ) → i < a → a + n ≤ rows_in cells
+      → AllByRecursion (Differs (ranking_row field cells i)) (map (ranking_row field cells) (range_with_len a n))
   later_differ i a zero less fits = tt
   later_differ i a (suc n) less fits = (
-    λ e. let same = sym (number_at field cells i numbered (omega (arith, less, fits))) ∙ (equal_parts (ranking_row field cells i) (ranking_row field cells a) e).1 ∙ number_at field cells a numbered (omega (arith, fits)) in absurd (let bad = pos_same (i + 1) (a + 1) same in omega (arith, bad, less)),
+    λ e. let same = sym (number_at field cells i numbered (omega (arith, less, fits)))
+        ∙ (equal_parts (ranking_row field cells i) (ranking_row field cells a) e).1
+        ∙ number_at field cells a numbered (omega (arith, fits)) in absurd (let bad = pos_same (i + 1) (a + 1) same in omega (arith, bad, less)),
     later_differ i (a + 1) n (omega (arith, less)) (omega (arith, fits)),
   )
 
@@ -295,7 +305,8 @@ distinct_append : (xs ys : List Row) → Distinct xs → Distinct ys → Apart x
 distinct_append [] ys a b apart = b
 distinct_append (x ∷ xs) ys a b apart = (all_append (Differs x) xs ys a.0 apart.0, distinct_append xs ys a.1 b apart.1)
 
-fields_from : (P : List ℕ → Type 0) (field : List ℕ) (cells : List ℤ) (a n : ℕ) → P field → AllByRecursion (λ r. P r.field) (map (ranking_row field cells) (range_with_len a n))
+fields_from : (P : List ℕ → Type 0) (field : List ℕ) (cells : List ℤ) (a n : ℕ) → P field
+    → AllByRecursion (λ r. P r.field) (map (ranking_row field cells) (range_with_len a n))
 unfolding ranking_row
 fields_from P field cells a zero h = tt
 fields_from P field cells a (suc n) h = (h, fields_from P field cells (a + 1) n h)
@@ -309,12 +320,14 @@ unfolding all_rows
 all_fields P [] all = tt
 all_fields P (t ∷ ts) all = all_append (λ r. P r.field) (rows_of t) (all_rows ts) (fields_of P t all.0) (all_fields P ts all.1)
 
-one_apart : (field : List ℕ) (r : Row) (ys : List Row) → r.field ≡ field → AllByRecursion (λ y. name_cmp field y.field ≡ Less) ys → AllByRecursion (Differs r) ys
+one_apart : (field : List ℕ) (r : Row) (ys : List Row) → r.field ≡ field → AllByRecursion (λ y. name_cmp field y.field ≡ Less) ys
+    → AllByRecursion (Differs r) ys
 one_apart field r [] is all = tt
 one_apart field r (y ∷ ys) is all =
     (λ e. never_before field y.field (sym is ∙ same_name r.field y.field (equal_parts r y e).0) all.0, one_apart field r ys is all.1)
 
-fields_apart : (field : List ℕ) (xs ys : List Row) → AllByRecursion (λ r. r.field ≡ field) xs → AllByRecursion (λ y. name_cmp field y.field ≡ Less) ys → Apart xs ys
+fields_apart : (field : List ℕ) (xs ys : List Row) → AllByRecursion (λ r. r.field ≡ field) xs → AllByRecursion (λ y. name_cmp field y.field ≡ Less) ys
+    → Apart xs ys
 fields_apart field [] ys a b = tt
 fields_apart field (x ∷ xs) ys a b = (one_apart field x ys a.0 b, fields_apart field xs ys a.1 b)
 

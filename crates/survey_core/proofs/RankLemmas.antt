@@ -1,5 +1,6 @@
 -- Rows in their order, one put in after the other.
-use Rattle.std.proofs.Common.{◌≡◌, ◌∙◌, ℕ, zero, suc, ◌+◌, ◌-◌, ◌<◌, ◌≤◌, Bool, true, false, cond, List, [], ◌∷◌, ◌++◌, length, take, drop, get_or, refl, sym, ap, subst, arith, Ordering, Less, Equal, Greater, take_all, length-take-le, zero-add, ℤ}
+use Rattle.std.proofs.Common.{◌≡◌, ◌∙◌, ℕ, zero, suc, ◌+◌, ◌-◌, ◌<◌, ◌≤◌, Bool, true, false, cond, List, [], ◌∷◌, ◌++◌, length, take, drop, get_or}
+use Rattle.std.proofs.Common.{refl, sym, ap, subst, arith, Ordering, Less, Equal, Greater, take_all, length-take-le, zero-add, ℤ}
 use Rattle.std.specs.List.{AllByRecursion}
 use Rattle.std.specs.Ordering.{ordering_reverse, is_lt}
 use Rattle.std.proofs.Common.{rules, inl, inr}
@@ -77,7 +78,8 @@ all_with P r (x ∷ xs) h all = by (ranks_before r x) (all_with P r xs h all.1)
     by true more = (h, all)
     by false more = (all.0, more)
 
-later_all : (r x : Row) (xs : List Row) → ranks_before r x ≡ true → AllByRecursion (λ y. ranks_before y x ≡ false) xs → AllByRecursion (λ y. ranks_before y r ≡ false) xs
+later_all : (r x : Row) (xs : List Row) → ranks_before r x ≡ true → AllByRecursion (λ y. ranks_before y x ≡ false) xs
+    → AllByRecursion (λ y. ranks_before y r ≡ false) xs
 later_all r x [] h all = tt
 later_all r x (y ∷ ys) h all = (not_both r y (before_later r x y h all.0), later_all r x ys h all.1)
 
@@ -94,7 +96,8 @@ ranked_with_rows [] xs h = h
 ranked_with_rows (r ∷ rs) xs h = ranked_with_rows rs (with_row r xs) (ranked_with r xs h)
 
 -- the row stands behind those that it doesn't come before
-pub with_at : (r : Row) (xs : List Row) (p : ℕ) → p ≤ length xs → ((i : ℕ) (d : Row) → i < p → ranks_before r (get_or xs i d) ≡ false) → ((d : Row) → p < length xs → ranks_before r (get_or xs p d) ≡ true)
+pub with_at : (r : Row) (xs : List Row) (p : ℕ) → p ≤ length xs → ((i : ℕ) (d : Row) → i < p → ranks_before r (get_or xs i d) ≡ false)
+    → ((d : Row) → p < length xs → ranks_before r (get_or xs p d) ≡ true)
     → with_row r xs ≡ take p xs ++ r ∷ drop p xs
 with_at r [] zero h front here = refl
 with_at r [] (suc p) h front here = absurd (omega arith)
@@ -118,7 +121,8 @@ best_with zero r xs = refl
 best_with (suc m) r [] = refl
 best_with (suc m) r (x ∷ xs) = by (ranks_before r x) (best_with m r xs)
   where
-    by : (b : Bool) → take m (with_row r xs) ≡ take m (with_row r (take m xs)) → take (suc m) (cond b (r ∷ x ∷ xs) (x ∷ with_row r xs)) ≡ take (suc m) (cond b (r ∷ x ∷ take m xs) (x ∷ with_row r (take m xs)))
+    by : (b : Bool) → take m (with_row r xs) ≡ take m (with_row r (take m xs))
+        → take (suc m) (cond b (r ∷ x ∷ xs) (x ∷ with_row r xs)) ≡ take (suc m) (cond b (r ∷ x ∷ take m xs) (x ∷ with_row r (take m xs)))
     by true more = ap (λ l. r ∷ l) (take_again m x xs)
     by false more = ap (λ l. x ∷ l) more
 
@@ -146,7 +150,9 @@ length-take_below zero xs = omega arith
 length-take_below (suc m) [] = omega arith
 length-take_below (suc m) (x ∷ xs) = omega (arith, length-take_below m xs)
 
-module _ (most : ℕ) (r : Row) (rows best : List Row) (p : ℕ) (ranked : AreRanked rows) (best_is : best ≡ take most rows) (within : p ≤ length best) (behind : 0 < p → (d : Row) → ranks_before r (get_or best (p - 1) d) ≡ false) (before : (i : ℕ) (d : Row) → p ≤ i → i < length best → ranks_before r (get_or best i d) ≡ true) where
+module _ (most : ℕ) (r : Row) (rows best : List Row) (p : ℕ) (ranked : AreRanked rows) (best_is : best
+    ≡ take most rows) (within : p ≤ length best) (behind : 0 < p → (d : Row) → ranks_before r (get_or best (p - 1) d) ≡ false) (before : (i : ℕ) (d : Row)
+    → p ≤ i → i < length best → ranks_before r (get_or best i d) ≡ true) where
   best_ranked : AreRanked best
   best_ranked = subst AreRanked (sym best_is) (ranked_take rows most ranked)
 
@@ -172,7 +178,8 @@ module _ (most : ℕ) (r : Row) (rows best : List Row) (p : ℕ) (ranked : AreRa
   pub too_late : most ≤ p → best ≡ take most (with_row r rows)
   too_late late =
       let long : length best ≤ most = rw best_is (length-take_below most rows) in
-      sym (all_placed ∙ take_front most (take p best) (r ∷ drop p best) (omega (arith, late, within, length-take-le p best within)) ∙ ap (take most) (take_all p best (omega (arith, late, long))) ∙ take_all most best long)
+      sym (all_placed ∙ take_front most (take p best) (r ∷ drop p best) (omega (arith, late, within, length-take-le p best within))
+      ∙ ap (take most) (take_all p best (omega (arith, late, long))) ∙ take_all most best long)
 
   pub put_in : p < most → take p (take (most - 1) best) ++ r ∷ drop p (take (most - 1) best) ≡ take most (with_row r rows)
   put_in early =
@@ -185,7 +192,8 @@ with_rows-append : (xs1 xs2 xs : List Row) → with_rows (xs1 ++ xs2) xs ≡ wit
 with_rows-append [] xs2 xs = refl
 with_rows-append (a ∷ xs1) xs2 xs = with_rows-append xs1 xs2 (with_row a xs)
 
-pub with_more : (rs : List Row) (i : ℕ) (d : Row) (xs : List Row) → i < length rs → with_rows (take (i + 1) rs) xs ≡ with_row (get_or rs i d) (with_rows (take i rs) xs)
+pub with_more : (rs : List Row) (i : ℕ) (d : Row) (xs : List Row) → i < length rs
+    → with_rows (take (i + 1) rs) xs ≡ with_row (get_or rs i d) (with_rows (take i rs) xs)
 with_more rs i d xs h = ap (λ l. with_rows l xs) (take_more rs i d h) ∙ with_rows-append (take i rs) (get_or rs i d ∷ []) xs
 
 pub with_all : (xs1 xs2 xs : List Row) → with_rows xs2 (with_rows xs1 xs) ≡ with_rows (xs1 ++ xs2) xs

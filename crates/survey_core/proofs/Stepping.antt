@@ -1,5 +1,6 @@
 -- What each command does, by how it ended.
-use Rattle.std.proofs.Common.{◌≡◌, ◌∙◌, ℕ, Bool, false, cond, List, [], ◌∷◌, Some, None, refl, sym, ap, subst, arith, Err, ℤ, not, Ordering, Less, Equal, Greater}
+use Rattle.std.proofs.Common.{◌≡◌, ◌∙◌, ℕ, Bool, false, cond, List, [], ◌∷◌, Some, None, refl, sym, ap, subst, arith, Err, ℤ, not, Ordering, Less}
+use Rattle.std.proofs.Common.{Equal, Greater}
 use Rattle.std.specs.Prelude.{Option, is_some, unwrap_or}
 use Rattle.std.specs.Ordering.{is_eq}
 use Rattle.std.proofs.KnownBytes.{Appends-nil}
@@ -55,7 +56,8 @@ module _ (field : List ℕ) (bytes : List ℕ) (ts : List Table) (reading : Read
       record { may_come = added_wants field ts reading out.0; lost = cut NoMemory is out.1; tables_are = is; front = []; back = []; split = added_output field ts reading; appended = Appends-nil w; is_front = refl }
   rejects KeeperFault out is = absurd out
 
-  pub refuses : (cells : List ℤ) (refused : Why) (stop : Stop) → stop ≡ stop_at_keeper refused → IsAccepted reading bytes left cells → k ≡ Some ts → Step (added field ts reading) (Add field) bytes ts left k w w (Err stop)
+  pub refuses : (cells : List ℤ) (refused : Why) (stop : Stop) → stop ≡ stop_at_keeper refused → IsAccepted reading bytes left cells → k ≡ Some ts
+      → Step (added field ts reading) (Add field) bytes ts left k w w (Err stop)
   refuses cells refused stop stop_is read is = subst (λ s. Step (added field ts reading) (Add field) bytes ts left k w w (Err s)) (sym stop_is) (by refused)
     where
       lost : TakesAtMost bytes left (taken_of reading)
@@ -75,12 +77,15 @@ absent : (field : List ℕ) (ts : List Table) → is_some (cells_of_field field 
 absent field [] h = refl
 absent field (t ∷ ts) h = by (name_cmp t.0 field) h (absent field ts)
   where
-    by : (o : Ordering) → is_some (cond (is_eq o) (Some t.1) (cells_of_field field ts)) ≡ false → (is_some (cells_of_field field ts) ≡ false → without_field field ts ≡ ts) → cond (not (is_eq o)) (t ∷ without_field field ts) (without_field field ts) ≡ t ∷ ts
+    by : (o : Ordering) → is_some (cond (is_eq o) (Some t.1) (cells_of_field field ts)) ≡ false
+        → (is_some (cells_of_field field ts) ≡ false → without_field field ts ≡ ts)
+        → cond (not (is_eq o)) (t ∷ without_field field ts) (without_field field ts) ≡ t ∷ ts
     by Less h more = ap (λ l. t ∷ l) (more h)
     by Equal h more = absurd (cc)
     by Greater h more = ap (λ l. t ∷ l) (more h)
 
-pub not_there : (field bytes : List ℕ) (ts : List Table) (k : Option (List Table)) (w : Option (List ℕ)) (found : Bool) → found ≡ false → found ≡ is_some (cells_of_field field ts) → k ≡ Some (without_field field ts)
+pub not_there : (field bytes : List ℕ) (ts : List Table) (k : Option (List Table)) (w : Option (List ℕ)) (found : Bool) → found ≡ false
+    → found ≡ is_some (cells_of_field field ts) → k ≡ Some (without_field field ts)
     → Does (cond (is_some (cells_of_field field ts)) (changes 0 (without_field field ts)) (fails (Refused NoSuchField) 0 ts)) bytes (Some bytes) k w w (Some (Refused NoSuchField))
 not_there field bytes ts k w found no_it is removed =
     let missing : is_some (cells_of_field field ts) ≡ false = sym is ∙ no_it in

@@ -1,5 +1,6 @@
 -- The sum of the fluxes, row by row.
-use Rattle.std.proofs.Common.{◌≡◌, ◌∙◌, ℕ, ◌+◌, ◌*◌, ◌^◌, ◌<◌, ◌≤◌, List, refl, sym, ap₂, subst, arith, add-one, ℤ, pos, negsuc, neg_ℤ, ◌+ℤ◌, ◌≤ℤ◌, to_z, of_z, w64, SFits}
+use Rattle.std.proofs.Common.{◌≡◌, ◌∙◌, ℕ, ◌+◌, ◌*◌, ◌^◌, ◌<◌, ◌≤◌, List, refl, sym, ap₂, subst, arith, add-one, ℤ, pos, negsuc, neg_ℤ, ◌+ℤ◌, ◌≤ℤ◌}
+use Rattle.std.proofs.Common.{to_z, of_z, w64, SFits}
 use mir.Syntax.{w128}
 use Rattle.std.proofs.lemmas.Int.{ints, to_z-of_z, fits_signed_from_abs}
 use Rattle.std.specs.Prelude.{unsigned_abs}
@@ -22,7 +23,8 @@ bounds (pos n) fits = (omega (arith, ints), let small = fits.sfits in omega (ari
 bounds (negsuc n) fits = (let small = fits.sfits in omega (arith, ints, small), omega (arith, ints))
 
 -- a flux more, and how far the sum can be from 0
-pub total_next : (cells : List ℤ) (n : ℕ) (total x y z : ℤ) → total ≡ flux_total cells n → neg_ℤ (pos (n * 2 ^ 63)) ≤ℤ total → total ≤ℤ pos (n * 2 ^ 63) → n < 2 ^ 62 → SFits w64 y → y ≡ flux_at cells n
+pub total_next : (cells : List ℤ) (n : ℕ) (total x y z : ℤ) → total ≡ flux_total cells n → neg_ℤ (pos (n * 2 ^ 63)) ≤ℤ total → total ≤ℤ pos (n * 2 ^ 63)
+    → n < 2 ^ 62 → SFits w64 y → y ≡ flux_at cells n
     → x ≡ y → z ≡ to_z w128 (of_z w128 (total +ℤ to_z w128 (of_z w128 x)))
     → (z ≡ flux_total cells (n + 1)) × (neg_ℤ (pos ((n + 1) * 2 ^ 63)) ≤ℤ z) × (z ≤ℤ pos ((n + 1) * 2 ^ 63))
 total_next cells n total x y z so_far low high few small here same is =

@@ -1,5 +1,6 @@
 -- A field after some commands, by the last of them that names it.
-use Rattle.std.proofs.Common.{◌≡◌, ◌≢◌, ◌∙◌, ℕ, Bool, true, false, not, cond, ◌||◌, List, [], ◌∷◌, ◌++◌, drop, Some, None, refl, rules, sym, ap, subst, ℤ, Ordering, Less, Equal, Greater, is_eq}
+use Rattle.std.proofs.Common.{◌≡◌, ◌≢◌, ◌∙◌, ℕ, Bool, true, false, not, cond, ◌||◌, List, [], ◌∷◌, ◌++◌, drop, Some, None, refl, rules, sym, ap}
+use Rattle.std.proofs.Common.{subst, ℤ, Ordering, Less, Equal, Greater, is_eq}
 use Rattle.std.specs.Prelude.{Option, is_some}
 use Rattle.std.specs.List.{list_any}
 use Rattle.std.specs.Ordering.{match_ordering}
@@ -54,7 +55,8 @@ gone : (field : List ℕ) (ts : List Table) → cells_of_field field (without_fi
 gone field [] = refl
 gone field (t ∷ ts) = by (name_cmp t.0 field) refl (gone field ts)
   where
-    by : (o : Ordering) → name_cmp t.0 field ≡ o → cells_of_field field (without_field field ts) ≡ None → cells_of_field field (cond (not (is_eq o)) (t ∷ without_field field ts) (without_field field ts)) ≡ None
+    by : (o : Ordering) → name_cmp t.0 field ≡ o → cells_of_field field (without_field field ts) ≡ None
+        → cells_of_field field (cond (not (is_eq o)) (t ∷ without_field field ts) (without_field field ts)) ≡ None
     by Less e more = rw e more
     by Equal e more = more
     by Greater e more = rw e more
@@ -63,7 +65,8 @@ without_other : (field other : List ℕ) (ts : List Table) → field ≢ other �
 without_other field other [] differs = refl
 without_other field other (t ∷ ts) differs = by (name_cmp t.0 field) refl (without_other field other ts differs)
   where
-    by : (o : Ordering) → name_cmp t.0 field ≡ o → cells_of_field other (without_field field ts) ≡ cells_of_field other ts → cells_of_field other (cond (not (is_eq o)) (t ∷ without_field field ts) (without_field field ts)) ≡ cells_of_field other (t ∷ ts)
+    by : (o : Ordering) → name_cmp t.0 field ≡ o → cells_of_field other (without_field field ts) ≡ cells_of_field other ts
+        → cells_of_field other (cond (not (is_eq o)) (t ∷ without_field field ts) (without_field field ts)) ≡ cells_of_field other (t ∷ ts)
     by Less e more = ap (λ o. cond (is_eq (name_cmp t.0 other)) (Some t.1) o) more
     by Equal e more =
         let same = same_name t.0 field e in
@@ -79,7 +82,8 @@ itself a = search rules
 other_name : (a b : List ℕ) → bytes_eq a b ≡ false → a ≢ b
 other_name a b h e = let bad : bytes_eq b b ≡ false = subst (λ x. bytes_eq x b ≡ false) e h in let good = itself b in absurd (cc)
 
-unnamed : (bytes : List ℕ) (ts : List Table) (x : Command) (field : List ℕ) → is_on field x ≡ false → cells_of_field field (effect bytes ts x).tables ≡ cells_of_field field ts
+unnamed : (bytes : List ℕ) (ts : List Table) (x : Command) (field : List ℕ) → is_on field x ≡ false
+    → cells_of_field field (effect bytes ts x).tables ≡ cells_of_field field ts
 unnamed bytes ts (Add other) field h = by (catalogue_in bytes)
   where
     by : (reading : Reading) → cells_of_field field (added other ts reading).tables ≡ cells_of_field field ts
@@ -127,20 +131,24 @@ front_passed bytes ts (x ∷ xs) ys passed =
     let more = front_passed (drop e.taken bytes) e.tables xs ys (ap (λ (o : Outcome). o.stop) (sym stop.1) ∙ passed) in
     ap (λ o. (joined_unless o e (session (drop e.taken bytes) e.tables xs)).stop) stop.0 ∙ more
 
-first_then : (b : List ℕ) (t : List Table) (x : Command) (ys : List Command) (field : List ℕ) → NoneIsOn field ys → (session b t (x ∷ ys)).stop ≡ None → cells_of_field field (session b t (x ∷ ys)).tables ≡ cells_of_field field (effect b t x).tables
+first_then : (b : List ℕ) (t : List Table) (x : Command) (ys : List Command) (field : List ℕ) → NoneIsOn field ys → (session b t (x ∷ ys)).stop ≡ None
+    → cells_of_field field (session b t (x ∷ ys)).tables ≡ cells_of_field field (effect b t x).tables
 unfolding session
 first_then b t x ys field none rest =
     let e = effect b t x in
     let stop = stop_parts e (session (drop e.taken b) e.tables ys) rest in
-    ap (λ (o : Outcome). cells_of_field field o.tables) stop.1 ∙ unnamed_stay (drop e.taken b) e.tables ys field none (ap (λ (o : Outcome). o.stop) (sym stop.1) ∙ rest)
+    ap (λ (o : Outcome). cells_of_field field o.tables) stop.1
+    ∙ unnamed_stay (drop e.taken b) e.tables ys field none (ap (λ (o : Outcome). o.stop) (sym stop.1) ∙ rest)
 
 nothing_there : (o : Option (List ℤ)) → is_some o ≡ false → o ≡ None
 nothing_there None h = refl
 nothing_there (Some x) h = absurd (cc)
 
 -- what the commands after a prefix give
-after_front : (bytes : List ℕ) (ts : List Table) (xs : List Command) (x : Command) (ys : List Command) (field : List ℕ) → NoneIsOn field ys → (session bytes ts (xs ++ x ∷ ys)).stop ≡ None
-    → cells_of_field field (session bytes ts (xs ++ x ∷ ys)).tables ≡ cells_of_field field (effect (drop (session bytes ts xs).taken bytes) (session bytes ts xs).tables x).tables
+after_front : (bytes : List ℕ) (ts : List Table) (xs : List Command) (x : Command) (ys : List Command) (field : List ℕ) → NoneIsOn field ys
+    → (session bytes ts (xs ++ x ∷ ys)).stop ≡ None
+    → cells_of_field field (session bytes ts (xs ++ x ∷ ys)).tables
+    ≡ cells_of_field field (effect (drop (session bytes ts xs).taken bytes) (session bytes ts xs).tables x).tables
 after_front bytes ts xs x ys field none passed =
     let front = front_passed bytes ts xs (x ∷ ys) passed in
     let all = session_app bytes ts xs (x ∷ ys) front in
@@ -152,7 +160,8 @@ after_front bytes ts xs x ys field none passed =
 pub last_add : LastAddIsKept
 last_add bytes ts before after field cells taken none passed is =
     after_front bytes ts before (Add field) after field none passed
-    ∙ ap (λ (r : Reading). cells_of_field field (added field (session bytes ts before).tables r).tables) is ∙ put_here field cells (session bytes ts before).tables
+    ∙ ap (λ (r : Reading). cells_of_field field (added field (session bytes ts before).tables r).tables) is
+    ∙ put_here field cells (session bytes ts before).tables
 
 pub last_drop : LastDropIsKept
 last_drop bytes ts before after field none passed =
@@ -161,6 +170,7 @@ last_drop bytes ts before after field none passed =
     t : List Table
     t = (session bytes ts before).tables
 
-    by : (b : Bool) → is_some (cells_of_field field t) ≡ b → cells_of_field field (cond b (changes 0 (without_field field t)) (fails (Refused NoSuchField) 0 t)).tables ≡ None
+    by : (b : Bool) → is_some (cells_of_field field t) ≡ b
+        → cells_of_field field (cond b (changes 0 (without_field field t)) (fails (Refused NoSuchField) 0 t)).tables ≡ None
     by true e = gone field t
     by false e = nothing_there (cells_of_field field t) e

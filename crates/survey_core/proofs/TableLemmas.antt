@@ -1,5 +1,6 @@
 -- Lists of tables in the order of their fields.
-use Rattle.std.proofs.Common.{◌≡◌, ◌≢◌, ◌⊎◌, inl, inr, ℕ, ℤ, Bool, true, not, List, [], ◌∷◌, filter, Some, None, refl, sym, ap, ap₂, subst, ◌∙◌, arith, Ordering, Less, Equal, Greater, nat_cmp, is_eq, Result, Ok, Err, OnOk, OnErr}
+use Rattle.std.proofs.Common.{◌≡◌, ◌≢◌, ◌⊎◌, inl, inr, ℕ, ℤ, Bool, true, not, List, [], ◌∷◌, filter, Some, None, refl, sym, ap, ap₂, subst, ◌∙◌}
+use Rattle.std.proofs.Common.{arith, Ordering, Less, Equal, Greater, nat_cmp, is_eq, Result, Ok, Err, OnOk, OnErr}
 use Rattle.std.specs.List.{AllByRecursion}
 use Rattle.std.specs.Ordering.{ordering_reverse, ordering_then, match_ordering}
 use Rattle.std.proofs.lemmas.Cmp.{tied_itself, nat_list_cmp_total}
@@ -39,7 +40,8 @@ pub after_is : (a b : List ℕ) → name_cmp a b ≡ Greater → name_cmp b a �
 after_is a b h = nat_list_cmp_total.antisymm b a ∙ ap ordering_reverse h
 
 pub never_before : (a b : List ℕ) → a ≡ b → name_cmp a b ≡ Less → ⊥
-never_before a b e h = let itself = name_itself b in let less : name_cmp b b ≡ Less = subst (λ x. name_cmp x b ≡ Less) e h in let bad : Less ≡ Equal = sym less ∙ itself in cc
+never_before a b e h = let itself = name_itself b in let less : name_cmp b b ≡ Less = subst (λ x. name_cmp x b ≡ Less) e h in let bad : Less
+    ≡ Equal = sym less ∙ itself in cc
 
 pub never_both : (a b : List ℕ) → name_cmp a b ≡ Less → name_cmp b a ≡ Less → ⊥
 never_both a b p q = never_before a a refl (before_trans a b a p q)
@@ -79,7 +81,8 @@ pub above_first : (t : Table) (ts : List Table) (u : Table) → AreInOrder (t �
 above_first t ts u up m = all_among (λ v. name_cmp t.0 v.0 ≡ Less) ts u up.0 m
 
 -- lists in order with the same elements are the same
-pub same_tables : (ts us : List Table) → AreInOrder ts → AreInOrder us → ((t : Table) → Among ts t → Among us t) → ((t : Table) → Among us t → Among ts t) → ts ≡ us
+pub same_tables : (ts us : List Table) → AreInOrder ts → AreInOrder us → ((t : Table) → Among ts t → Among us t) → ((t : Table) → Among us t → Among ts t)
+    → ts ≡ us
 same_tables [] [] a b to from = refl
 same_tables [] (u ∷ us) a b to from = absurd (from u (inl refl))
 same_tables (t ∷ ts) [] a b to from = absurd (to t (inl refl))
@@ -135,7 +138,8 @@ module _ (field : List ℕ) (cells : List ℤ) where
   put_there [] = inl refl
   put_there (t ∷ ts) = go (put_there ts) (name_cmp t.0 field)
     where
-      go : Among (put field cells ts) (field, cells) → (o : Ordering) → Among (match_ordering o (t ∷ put field cells ts) ((field, cells) ∷ ts) ((field, cells) ∷ t ∷ ts)) (field, cells)
+      go : Among (put field cells ts) (field, cells) → (o : Ordering)
+          → Among (match_ordering o (t ∷ put field cells ts) ((field, cells) ∷ ts) ((field, cells) ∷ t ∷ ts)) (field, cells)
       go more Less = inr more
       go more Equal = inl refl
       go more Greater = inl refl
@@ -165,7 +169,8 @@ module _ (field : List ℕ) (cells : List ℤ) where
       later u r (inr n) same = never_before field u.0 (sym same) (before_trans field t.0 u.0 r (above_first t ts u up n))
 
       go : (Among (put field cells ts) x → (x ≡ (field, cells)) ⊎ (Among ts x × (x.0 ≢ field))) → (o : Ordering) → name_cmp t.0 field ≡ o
-          → Among (match_ordering o (t ∷ put field cells ts) ((field, cells) ∷ ts) ((field, cells) ∷ t ∷ ts)) x → (x ≡ (field, cells)) ⊎ (Among (t ∷ ts) x × (x.0 ≢ field))
+          → Among (match_ordering o (t ∷ put field cells ts) ((field, cells) ∷ ts) ((field, cells) ∷ t ∷ ts)) x
+          → (x ≡ (field, cells)) ⊎ (Among (t ∷ ts) x × (x.0 ≢ field))
       go more Less r (inl e) = inr (inl e, λ same. below r (ap (λ (v : Table). v.0) (sym e) ∙ same))
       go more Less r (inr n) = elim (more n) [ inl e ↦ inl e | inr k ↦ inr (inr k.0, k.1) ]
       go more Equal r (inl e) = inl e
@@ -177,7 +182,8 @@ module _ (field : List ℕ) (cells : List ℤ) where
   all_put P [] h all = (h, tt)
   all_put P (t ∷ ts) h all = go (all_put P ts h all.1) (name_cmp t.0 field)
     where
-      go : AllByRecursion P (put field cells ts) → (o : Ordering) → AllByRecursion P (match_ordering o (t ∷ put field cells ts) ((field, cells) ∷ ts) ((field, cells) ∷ t ∷ ts))
+      go : AllByRecursion P (put field cells ts) → (o : Ordering)
+          → AllByRecursion P (match_ordering o (t ∷ put field cells ts) ((field, cells) ∷ ts) ((field, cells) ∷ t ∷ ts))
       go more Less = (all.0, more)
       go more Equal = (h, all.1)
       go more Greater = (h, all)
@@ -186,7 +192,8 @@ module _ (field : List ℕ) (cells : List ℤ) where
   order_put [] up = (tt, tt)
   order_put (t ∷ ts) up = go (order_put ts up.1) (name_cmp t.0 field) refl
     where
-      go : AreInOrder (put field cells ts) → (o : Ordering) → name_cmp t.0 field ≡ o → AreInOrder (match_ordering o (t ∷ put field cells ts) ((field, cells) ∷ ts) ((field, cells) ∷ t ∷ ts))
+      go : AreInOrder (put field cells ts) → (o : Ordering) → name_cmp t.0 field ≡ o
+          → AreInOrder (match_ordering o (t ∷ put field cells ts) ((field, cells) ∷ ts) ((field, cells) ∷ t ∷ ts))
       go more Less r = (all_put (λ u. name_cmp t.0 u.0 ≡ Less) ts r up.0, more)
       go more Equal r = (all_from _ ts (λ u n. subst (λ f. name_cmp f u.0 ≡ Less) (same_name t.0 field r) (above_first t ts u up n)), up.1)
       go more Greater r = let first = after_is t.0 field r in ((first, all_from _ ts (λ u n. before_trans field t.0 u.0 first (above_first t ts u up n))), up)
@@ -225,13 +232,15 @@ all_without P field ts all = all_from P _ (λ x m. all_among P ts x all (without
 
 -- ---- tables stay tables
 
-pub put_are : (field : List ℕ) (cells : List ℤ) (ts us : List Table) → us ≡ put field cells ts → AreTables ts → is_name field ≡ true → IsNumbered cells → AreTables us
+pub put_are : (field : List ℕ) (cells : List ℤ) (ts us : List Table) → us ≡ put field cells ts → AreTables ts → is_name field ≡ true → IsNumbered cells
+    → AreTables us
 put_are field cells ts us is are named numbered = subst AreTables (sym is) (order_put field cells ts are.0, all_put field cells IsFieldTable ts (named, numbered) are.1)
 
 pub without_are : (field : List ℕ) (ts us : List Table) → us ≡ without_field field ts → AreTables ts → AreTables us
 without_are field ts us is are = subst AreTables (sym is) (order_without field ts are.0, all_without IsFieldTable field ts are.1)
 
-pub put_are_if : {X E : Type 0} (field : List ℕ) (cells : List ℤ) (ts us : List Table) (r : Result X E) → OnOk r (us ≡ put field cells ts) → OnErr r (us ≡ ts) → AreTables ts → is_name field ≡ true → IsNumbered cells → AreTables us
+pub put_are_if : {X E : Type 0} (field : List ℕ) (cells : List ℤ) (ts us : List Table) (r : Result X E) → OnOk r (us ≡ put field cells ts) → OnErr r (us ≡ ts)
+    → AreTables ts → is_name field ≡ true → IsNumbered cells → AreTables us
 put_are_if field cells ts us (Ok x) done kept are named numbered = put_are field cells ts us done are named numbered
 put_are_if field cells ts us (Err e) done kept are named numbered = subst AreTables (sym kept) are
 

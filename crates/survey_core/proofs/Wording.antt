@@ -1,5 +1,6 @@
 -- The words of a session, command by command.
-use Rattle.std.proofs.Common.{◌≡◌, ◌∙◌, inl, inr, ℕ, zero, suc, ◌+◌, ◌-◌, ◌≤◌, ◌<◌, ◌==◌, cond, List, [], ◌∷◌, ◌++◌, length, drop, length-drop, Some, None, Result, Ok, Err, IfOk, refl, sym, ap, ap₂, get_or, arith, append_assoc}
+use Rattle.std.proofs.Common.{◌≡◌, ◌∙◌, inl, inr, ℕ, zero, suc, ◌+◌, ◌-◌, ◌≤◌, ◌<◌, ◌==◌, cond, List, [], ◌∷◌, ◌++◌, length, drop, length-drop, Some}
+use Rattle.std.proofs.Common.{None, Result, Ok, Err, IfOk, refl, sym, ap, ap₂, get_or, arith, append_assoc}
 use Rattle.std.specs.Prelude.{Option, slice_get, IsOk, codes}
 use Rattle.std.proofs.lemmas.List.{drop-drop, drop_all, drop-map, get_or-map, length-map}
 use Rattle.std.proofs.lemmas.Bool.{cases_Bool}
@@ -25,7 +26,8 @@ by_width (Drop f) w = refl
 by_width Listing w = refl
 by_width (Brightest n) w = refl
 
-by_widths : (c : Command) (w v : List ℕ) (rest : List (List ℕ)) → behind c (cond (width c == 1) (read (v ∷ rest)) (read rest)) ≡ behind c (read (drop (width c) (w ∷ v ∷ rest)))
+by_widths : (c : Command) (w v : List ℕ) (rest : List (List ℕ))
+    → behind c (cond (width c == 1) (read (v ∷ rest)) (read rest)) ≡ behind c (read (drop (width c) (w ∷ v ∷ rest)))
 by_widths (Add f) w v rest = refl
 by_widths (Drop f) w v rest = refl
 by_widths Listing w v rest = refl
@@ -43,43 +45,51 @@ read_fault [] k some e = absurd (omega arith)
 read_fault (w ∷ []) k some e = rw e refl
 read_fault (w ∷ v ∷ rest) k some e = rw e refl
 
-onward_behind : (before : List Command) (at : ℕ) (c : Command) (r : Result (List Command) ℕ) → onward before at (behind c r) ≡ onward (before ++ c ∷ []) (at + width c) r
+onward_behind : (before : List Command) (at : ℕ) (c : Command) (r : Result (List Command) ℕ)
+    → onward before at (behind c r) ≡ onward (before ++ c ∷ []) (at + width c) r
 onward_behind before at c (Ok rest) = ap Ok (sym (append_assoc before (c ∷ []) rest))
 onward_behind before at c (Err k) = ap Err (omega arith)
 
-pub onward_next : (words : List (List ℕ)) (before : List Command) (at : ℕ) (c : Command) → front (drop at words) ≡ Ok c → read words ≡ onward before at (read (drop at words))
+pub onward_next : (words : List (List ℕ)) (before : List Command) (at : ℕ) (c : Command) → front (drop at words) ≡ Ok c
+    → read words ≡ onward before at (read (drop at words))
     → read words ≡ onward (before ++ c ∷ []) (at + width c) (read (drop (at + width c) words))
 onward_next words before at c e so_far =
-    so_far ∙ ap (onward before at) (read_front (drop at words) c e ∙ ap (λ ws. behind c (read ws)) (drop-drop (width c) at words)) ∙ onward_behind before at c (read (drop (at + width c) words))
+    so_far ∙ ap (onward before at) (read_front (drop at words) c e ∙ ap (λ ws. behind c (read ws)) (drop-drop (width c) at words))
+    ∙ onward_behind before at c (read (drop (at + width c) words))
 
 -- the first word at fault
-pub fault_at : (words : List (List ℕ)) (before : List Command) (at k n : ℕ) → at < length words → front (drop at words) ≡ Err k → read words ≡ onward before at (read (drop at words))
+pub fault_at : (words : List (List ℕ)) (before : List Command) (at k n : ℕ) → at < length words → front (drop at words) ≡ Err k
+    → read words ≡ onward before at (read (drop at words))
     → n ≡ at + k + 1 → (some_commands words ≡ Err (n - 1)) × (0 < n)
 fault_at [] before at k n h e so_far is = absurd (omega arith)
 fault_at (w ∷ words) before at k n h e so_far is =
     (so_far ∙ ap (onward before at) (read_fault (drop at (w ∷ words)) k (omega (arith, length-drop at (w ∷ words))) e) ∙ ap Err (omega arith), omega arith)
 
 -- none is at fault
-pub all_read : (words : List (List ℕ)) (before : List Command) (at : ℕ) → 0 < length words → length words ≤ at → read words ≡ onward before at (read (drop at words)) → IsOk (some_commands words)
+pub all_read : (words : List (List ℕ)) (before : List Command) (at : ℕ) → 0 < length words → length words ≤ at
+    → read words ≡ onward before at (read (drop at words)) → IsOk (some_commands words)
 unfolding read
 all_read [] before at some h so_far = absurd (omega arith)
 all_read (w ∷ words) before at some h so_far = rw (so_far ∙ ap (λ ws. onward before at (read ws)) (drop_all at (w ∷ words) h)) refl
 
 -- the command at a place
-front_here : (words : List (List ℕ)) (at : ℕ) (d : List ℕ) → at < length words → front (drop at words) ≡ session_command (get_or words at d) (slice_get words (at + 1))
+front_here : (words : List (List ℕ)) (at : ℕ) (d : List ℕ) → at < length words
+    → front (drop at words) ≡ session_command (get_or words at d) (slice_get words (at + 1))
 front_here [] at d h = absurd (omega arith)
 front_here (v ∷ []) zero d h = refl
 front_here (v ∷ u ∷ rest) zero d h = refl
 front_here (v ∷ rest) (suc at) d h = let here = simp unary_clauses at (front_here rest at d (omega arith)) in simp unary_clauses here
 
-pub front_at : (words : List (Bor (List ℕ))) (at : ℕ) (d : Bor (List ℕ)) (next : Option (List ℕ)) (r : Result Command ℕ) → at < length words → next ≡ slice_get (texts words) (at + 1)
+pub front_at : (words : List (Bor (List ℕ))) (at : ℕ) (d : Bor (List ℕ)) (next : Option (List ℕ)) (r : Result Command ℕ) → at < length words
+    → next ≡ slice_get (texts words) (at + 1)
     → r ≡ session_command (get_or words at d).now next → r ≡ front (drop at (texts words))
 front_at words at d next r h next_is is =
     is ∙ ap₂ session_command (sym (get_or-map (λ (word : Bor (List ℕ)). word.now) words at d [] h)) next_is
     ∙ sym (front_here (texts words) at [] (omega (arith, length-map words (λ (word : Bor (List ℕ)). word.now))))
 
 -- a command has as many words as there are
-pub has_words : (words : List (Bor (List ℕ))) (at : ℕ) (next : Option (List ℕ)) (r : Result Command ℕ) → at < length words → next ≡ slice_get (texts words) (at + 1)
+pub has_words : (words : List (Bor (List ℕ))) (at : ℕ) (next : Option (List ℕ)) (r : Result Command ℕ) → at < length words
+    → next ≡ slice_get (texts words) (at + 1)
     → IfOk r (λ command. width command ≤ 1 + length (option_to_list next)) → IfOk r (λ command. at + width command ≤ length words)
 has_words words at next (Err k) h is few = tt
 has_words words at None (Ok c) h is few = omega (arith, few)
@@ -101,7 +111,8 @@ no_front [] k [] e is = refl
 no_front [] k (x ∷ rest) e is = absurd (cc)
 no_front (w ∷ words) k rest e is = let bad = sym (read_fault (w ∷ words) k (omega arith) e) ∙ is in absurd (cc)
 
-pub behind_ok : (c : Command) (r : Result (List Command) ℕ) (rest : List Command) → behind c r ≡ Ok rest → (more : List Command) × (r ≡ Ok more) × (rest ≡ c ∷ more)
+pub behind_ok : (c : Command) (r : Result (List Command) ℕ) (rest : List Command) → behind c r ≡ Ok rest
+    → (more : List Command) × (r ≡ Ok more) × (rest ≡ c ∷ more)
 behind_ok c (Ok more) rest e = (more, refl, cc)
 behind_ok c (Err k) rest e = absurd (cc)
 
@@ -118,7 +129,8 @@ file_within (word ∷ rest) = elim (cases_Bool (bytes_eq word (codes "--file")))
 ]
 
 -- a word at fault behind the file
-pub fault_behind : (words : List (List ℕ)) (n : ℕ) → some_commands (drop (file_words words) words) ≡ Err (n - 1) → 0 < n → (commands_of words ≡ Err (file_words words + n - 1)) × (0 < file_words words + n)
+pub fault_behind : (words : List (List ℕ)) (n : ℕ) → some_commands (drop (file_words words) words) ≡ Err (n - 1) → 0 < n
+    → (commands_of words ≡ Err (file_words words + n - 1)) × (0 < file_words words + n)
 unfolding commands_of
 fault_behind words n e some = (ap (further (file_words words)) e ∙ ap Err (omega (arith, some)), omega (arith, some))
 
@@ -131,5 +143,6 @@ none_behind words is = by (some_commands (drop (file_words words) words)) is
     by (Err at) some = absurd (cc)
 
 -- what the words behind the file mean
-pub read_behind : (words rest : List (Bor (List ℕ))) (commands : List Command) → rest ≡ drop (file_words (texts words)) words → read (drop (file_words (texts words)) (texts words)) ≡ Ok commands → read (texts rest) ≡ Ok commands
+pub read_behind : (words rest : List (Bor (List ℕ))) (commands : List Command) → rest ≡ drop (file_words (texts words)) words
+    → read (drop (file_words (texts words)) (texts words)) ≡ Ok commands → read (texts rest) ≡ Ok commands
 read_behind words rest commands e is = ap read (ap texts e ∙ texts_behind words (file_words (texts words))) ∙ is

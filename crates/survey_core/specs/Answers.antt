@@ -4,26 +4,31 @@ use Rattle.std.specs.List.{concat}
 use Rattle.command_line.specs.Notes.{usage_line}
 use Rattle.survey_core.specs.declared.words.Command.{Command}
 use Rattle.survey_core.specs.declared.fault.Fault.{Fault}
-use Rattle.survey_core.specs.declared.fault.Fault.TheVariants.{BadKeyword, RowNumber}
+use Rattle.survey_core.specs.declared.fault.FaultPlace.{FaultPlace}
+use Rattle.survey_core.specs.declared.fault.FaultPlace.TheVariants.{Card, Row}
 use Rattle.survey_core.specs.declared.fault.Stop.{Stop}
 use Rattle.survey_core.specs.declared.fault.Stop.TheVariants.{Refused, ReadFault, WriteFault, NoMemory, KeeperFault}
 use Rattle.survey_core.specs.declared.top.End.{End}
 use Rattle.survey_core.specs.declared.top.End.TheVariants.{Done, Usage, Stopped}
 use Rattle.survey_core.specs.Tables.{Table}
-use Rattle.survey_core.specs.Faults.{survey_fault_number, survey_fault_name}
+use Rattle.survey_core.specs.Faults.{survey_fault_number, survey_fault_name, survey_fault_place}
 use Rattle.survey_core.specs.Sessions.{Outcome, nothing, session}
 use Rattle.survey_core.specs.Commands.{commands_of}
 
 -- ---- the notes
 
--- the number and the name of a fault, and the places that it names
+-- the line of a fault with this number and this name, as they are written, and with this place
+abbrev pub line_with_place : (number name : List ℕ) → FaultPlace → List ℕ
+line_with_place number name (Card place) =
+    concat (codes "refused: " ∷ number ∷ codes " " ∷ name ∷ codes " hdu " ∷ decimal place.hdu ∷ codes " card " ∷ decimal place.card ∷ codes "\n" ∷ [])
+line_with_place number name (Row row) = concat (codes "refused: " ∷ number ∷ codes " " ∷ name ∷ codes " row " ∷ decimal row ∷ codes "\n" ∷ [])
+
+abbrev pub line_of_fault : (number name : List ℕ) → Option FaultPlace → List ℕ
+line_of_fault number name None = concat (codes "refused: " ∷ number ∷ codes " " ∷ name ∷ codes "\n" ∷ [])
+line_of_fault number name (Some place) = line_with_place number name place
+
 abbrev pub survey_refusal_line : Fault → List ℕ
-survey_refusal_line (BadKeyword hdu card) =
-    concat (codes "refused: " ∷ decimal (survey_fault_number (BadKeyword hdu card)) ∷ codes " " ∷ survey_fault_name (BadKeyword hdu card) ∷ codes " hdu " ∷ decimal hdu
-    ∷ codes " card " ∷ decimal card ∷ codes "\n" ∷ [])
-survey_refusal_line (RowNumber row) =
-    concat (codes "refused: " ∷ decimal (survey_fault_number (RowNumber row)) ∷ codes " " ∷ survey_fault_name (RowNumber row) ∷ codes " row " ∷ decimal row ∷ codes "\n" ∷ [])
-survey_refusal_line fault = concat (codes "refused: " ∷ decimal (survey_fault_number fault) ∷ codes " " ∷ survey_fault_name fault ∷ codes "\n" ∷ [])
+survey_refusal_line fault = line_of_fault (decimal (survey_fault_number fault)) (survey_fault_name fault) (survey_fault_place fault)
 
 abbrev pub stop_line : Stop → List ℕ
 stop_line (Refused fault) = survey_refusal_line fault

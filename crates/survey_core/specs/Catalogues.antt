@@ -10,8 +10,8 @@ use Rattle.fits_hdu.specs.Headers.{Found, found, refused, is_other}
 use Rattle.fits_hdu.specs.Finding.{find_of, padded}
 use Rattle.survey_core.specs.declared.fault.Stop.{Stop}
 use Rattle.survey_core.specs.declared.fault.Stop.TheVariants.{Refused}
+use Rattle.survey_core.specs.declared.fault.Fault.TheVariants as at_hdu
 use Rattle.survey_core.specs.declared.fault.Fault.TheVariants.{NotCatalogue, TooManyRows, TruncatedTable, RowNumber}
-use Rattle.survey_core.specs.Faults.{survey_stop_at_hdu}
 use Rattle.survey_core.specs.Listings.{table_cell}
 
 -- ---- the rows
@@ -56,12 +56,16 @@ abbrev pub beyond : ℕ → Reading → Reading
 beyond head (accepted cells taken) = accepted cells (head + taken)
 beyond head (rejected stop taken) = rejected stop (head + taken)
 
+-- more rows than a survey takes
+abbrev pub too_many_rows : ℕ → Reading
+too_many_rows head = rejected (Refused TooManyRows) head
+
 -- by what HDU 2 is
 unfoldable pub reading_by : List ℕ → Found → Reading
-reading_by bytes (refused fault taken) = rejected (survey_stop_at_hdu fault) taken
+reading_by bytes (refused fault taken) = rejected (Refused (at_hdu.Hdu fault)) taken
 reading_by bytes (found hdu head) =
     if is_catalogue hdu
-    then (if nat_lt most_rows hdu.height then rejected (Refused TooManyRows) head else beyond head (table_of (drop head bytes) hdu.height))
+    then (if nat_lt most_rows hdu.height then too_many_rows head else beyond head (table_of (drop head bytes) hdu.height))
     else rejected (Refused NotCatalogue) head
 
 -- the catalogue at the front of these bytes

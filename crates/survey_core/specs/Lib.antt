@@ -22,3 +22,4 @@ pub mod KeeperCalls
 pub mod Ranks
 pub mod Headline
 pub mod Laws
+pub mod Additions

@@ -1,4 +1,4 @@
-// Reading one catalogue.
+//! Reading one catalogue.
 ghost use Rattle.std.specs.Prelude.{◌≡◌, ◌==◌, ◌≤◌, ◌+◌, ◌*◌, ◌^◌, ◌<◌, ◌↔◌, ℕ, true, false, length, min, IsTrue, IfOk, IfErr, IfSome, IfNone, MatchResult};
 ghost use Rattle.std.specs.Option.{ForSome};
 ghost use Rattle.dev_io.specs.Causes.{HasCause};
@@ -190,7 +190,7 @@ pub(crate) fn read_catalogue<S: Source>(alloc: Global, src: &mut S) -> Result<Ve
 {
     let hdu = match find_hdu(src, TABLE) {
         Ok(hdu) => hdu,
-        Err(fault) => return Err(Stop::at_hdu(fault)),
+        Err(stop) => return Err(Stop::at_hdu(stop)),
     };
     if !is_catalogue(&hdu) {
         return Err(Stop::Refused(Fault::NotCatalogue));

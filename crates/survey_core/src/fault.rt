@@ -1,32 +1,17 @@
-// Why a command stops.
+//! Why a command stops.
 ghost use Rattle.std.specs.Prelude.{◌≡◌, ◌≤◌, length};
-ghost use Rattle.survey_core.specs.Faults.{survey_fault_number, survey_fault_name, survey_stop_at_hdu};
-ghost use Rattle.survey_core.specs.Stops.{stop_at_keeper};
+ghost use Rattle.survey_core.specs.Faults.{survey_fault_number, survey_fault_name, survey_fault_place};
+ghost use Rattle.survey_core.specs.Stops.{survey_stop_at_hdu, stop_at_keeper};
 
 use crate::Refused;
-use fits_hdu::HduFault;
+use fits_hdu::{CardPlace, HduFault, HduStop};
 
 /// The first fault of a session. Each has a number and a name, by which the notes call it.
 #[derive(Clone, Copy, Debug, PartialEq, Eq)]
 pub enum Fault {
-    /// There are fewer than 8 bytes where a catalogue is to begin, or they don't begin with `SIMPLE` and two spaces.
-    NotFits,
-    /// The bytes end inside a header.
-    TruncatedHeader,
-    /// This card of this HDU isn't the mandatory card of its place with a permitted value, or is a PCOUNT or GCOUNT that
-    /// isn't an integer from 0. Cards are numbered from 1 and HDUs from 0.
-    BadKeyword { hdu: u16, card: u32 },
-    /// The first 36,000 cards of a header have no END.
-    HeaderTooLong,
-    /// The primary HDU holds random groups.
-    Groups,
-    /// An HDU has more than 2^40 bytes of data.
-    DataTooLong,
     /// There is no HDU 2.
-    NoSuchHdu,
-    /// The bytes end inside the data of an HDU before the table.
-    TruncatedSkip,
-    /// HDU 2 isn't a table with rows of 96 bytes and nothing behind them.
+    Hdu(HduFault),
+    /// HDU 2 isn't a table with rows of the catalogue's size and nothing behind them.
     NotCatalogue,
     /// There are more than 2^20 rows.
     TooManyRows,
@@ -44,14 +29,7 @@ impl Fault {
         ensures { result ≡ survey_fault_number self }
     {
         match self {
-            Fault::NotFits => 1,
-            Fault::TruncatedHeader => 2,
-            Fault::BadKeyword { .. } => 3,
-            Fault::HeaderTooLong => 4,
-            Fault::Groups => 5,
-            Fault::DataTooLong => 6,
-            Fault::NoSuchHdu => 7,
-            Fault::TruncatedSkip => 8,
+            Fault::Hdu(fault) => fault.number(),
             Fault::NotCatalogue => 20,
             Fault::TooManyRows => 21,
             Fault::TruncatedTable => 22,
@@ -60,19 +38,13 @@ impl Fault {
         }
     }
 
+    /// Its name.
     pub fn name(self) -> &'static str
         ensures name { result.now ≡ survey_fault_name self }
         ensures short { length result.now ≤ 15 }
     {
         match self {
-            Fault::NotFits => "NotFits",
-            Fault::TruncatedHeader => "TruncatedHeader",
-            Fault::BadKeyword { .. } => "BadKeyword",
-            Fault::HeaderTooLong => "HeaderTooLong",
-            Fault::Groups => "Groups",
-            Fault::DataTooLong => "DataTooLong",
-            Fault::NoSuchHdu => "NoSuchHdu",
-            Fault::TruncatedSkip => "TruncatedSkip",
+            Fault::Hdu(fault) => fault.name(),
             Fault::NotCatalogue => "NotCatalogue",
             Fault::TooManyRows => "TooManyRows",
             Fault::TruncatedTable => "TruncatedTable",
@@ -80,6 +52,25 @@ impl Fault {
             Fault::NoSuchField => "NoSuchField",
         }
     }
+
+    /// The card or the row at fault, if it is one's fault.
+    pub(crate) fn place(self) -> Option<FaultPlace>
+        ensures { result ≡ survey_fault_place self }
+    {
+        match self {
+            Fault::Hdu(fault) => fault.place().map(FaultPlace::Card),
+            Fault::RowNumber { row } => Some(FaultPlace::Row(row)),
+            _ => None,
+        }
+    }
+}
+
+/// What a fault names besides itself.
+#[derive(Clone, Copy, Debug, PartialEq, Eq)]
+pub(crate) enum FaultPlace {
+    Card(CardPlace),
+    /// The number of the row, from 1.
+    Row(u32),
 }
 
 /// What stops a command.
@@ -94,19 +85,12 @@ pub(crate) enum Stop {
 
 impl Stop {
     /// The HDU of a table isn't found.
-    pub(crate) fn at_hdu(fault: HduFault) -> Stop
-        ensures { result ≡ survey_stop_at_hdu fault }
+    pub(crate) fn at_hdu(stop: HduStop) -> Stop
+        ensures { result ≡ survey_stop_at_hdu stop }
     {
-        match fault {
-            HduFault::NotFits => Stop::Refused(Fault::NotFits),
-            HduFault::TruncatedHeader => Stop::Refused(Fault::TruncatedHeader),
-            HduFault::BadKeyword { hdu, card } => Stop::Refused(Fault::BadKeyword { hdu, card }),
-            HduFault::HeaderTooLong => Stop::Refused(Fault::HeaderTooLong),
-            HduFault::Groups => Stop::Refused(Fault::Groups),
-            HduFault::DataTooLong => Stop::Refused(Fault::DataTooLong),
-            HduFault::NoSuchHdu => Stop::Refused(Fault::NoSuchHdu),
-            HduFault::TruncatedSkip => Stop::Refused(Fault::TruncatedSkip),
-            HduFault::ReadFault => Stop::ReadFault,
+        match stop {
+            HduStop::Fault(fault) => Stop::Refused(Fault::Hdu(fault)),
+            HduStop::ReadFault => Stop::ReadFault,
         }
     }
 

@@ -30,26 +30,33 @@ pub trait Keeper {
     fn replace(&mut self, alloc: Global, field: Field, cells: &[i64]) -> Result<(), Refused>
         requires numbered { IsNumbered cells.now }
         requires few { length cells.now ≤ cells_in_row * most_rows }
-        ensures done { OnOk result (Becomes (tables self.old) (tables self.new) (put field cells.now)) }
+        ensures done { OnOk result
+            (Becomes (tables self.old) (tables self.new) (put field cells.now)) }
         ensures kept { OnErr result (Stays (tables self.old) (tables self.new)) }
         ensures cause { HasFault (faults self.old) (faults self.new) result };
 
     /// Takes the field out, and answers whether it was there.
     fn remove(&mut self, alloc: Global, field: Field) -> Result<bool, Refused>
-        ensures done { OnOk result (Becomes (tables self.old) (tables self.new) (without_field field)) }
-        ensures found { IfOk result (λ found. IfSome (tables self.old) (λ tables. found ≡ is_some (cells_of_field field tables))) }
+        ensures done { OnOk result
+            (Becomes (tables self.old) (tables self.new) (without_field field)) }
+        ensures found { IfOk result
+            (λ found. IfSome (tables self.old)
+            (λ tables. found ≡ is_some (cells_of_field field tables))) }
         ensures kept { OnErr result (Stays (tables self.old) (tables self.new)) }
         ensures cause { HasFault (faults self.old) (faults self.new) result };
 
     /// The fields, in order.
     fn names(&mut self, alloc: Global) -> Result<Vec<Field>, Refused>
-        ensures names { IfOk result (λ fields. IfSome (tables self.old) (λ tables. fields.items ≡ names_of tables)) }
+        ensures names { IfOk result
+            (λ fields. IfSome (tables self.old) (λ tables. fields.items ≡ names_of tables)) }
         ensures kept { Stays (tables self.old) (tables self.new) }
         ensures cause { HasFault (faults self.old) (faults self.new) result };
 
     /// The cells of the field, if it is there.
     fn rows(&mut self, alloc: Global, field: Field) -> Result<Option<Vec<i64>>, Refused>
-        ensures rows { IfOk result (λ rows. IfSome (tables self.old) (λ tables. option_map (λ cells. cells.items) rows ≡ cells_of_field field tables)) }
+        ensures rows { IfOk result
+            (λ rows. IfSome (tables self.old)
+            (λ tables. option_map (λ cells. cells.items) rows ≡ cells_of_field field tables)) }
         ensures kept { Stays (tables self.old) (tables self.new) }
         ensures cause { HasFault (faults self.old) (faults self.new) result };
 

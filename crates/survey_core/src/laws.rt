@@ -1,4 +1,5 @@
-//! The law of the tables. Its parts are the contract of a function that does nothing, and speak of the definitions alone.
+//! The laws of the tables. The parts of each are the contract of a function that does nothing, and speak of the definitions alone.
+ghost use Rattle.survey_core.specs.Additions.{EachAddTakesItsCatalogue};
 ghost use Rattle.survey_core.specs.Laws.{UnnamedFieldsStay, LastAddIsKept, LastDropIsKept};
 
 /// After a session each field has the cells of the last catalogue that was added to it, isn't there where it was dropped since, and has what it had
@@ -7,4 +8,9 @@ pub fn last_command_counts()
     ensures unnamed { UnnamedFieldsStay }
     ensures added { LastAddIsKept }
     ensures dropped { LastDropIsKept }
+{}
+
+/// Where catalogues stand one behind the other, as many `add` take one each.
+pub fn each_add_takes_its_catalogue()
+    ensures { EachAddTakesItsCatalogue }
 {}

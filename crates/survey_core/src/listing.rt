@@ -1,4 +1,4 @@
-// The fields with the number of their rows and the sum of their fluxes.
+//! The fields with the number of their rows and the sum of their fluxes.
 ghost use Rattle.std.specs.Prelude.{◌≡◌, ◌≤◌, ◌++◌, ℕ, List, [], map, Some, IfOk, IfErr, IfSome, OnOk, OnErr, unwrap_or};
 ghost use Rattle.std.specs.Option.{ForSome};
 ghost use Rattle.std.specs.List.{concat};

@@ -128,7 +128,8 @@ impl<'a> MemKeeper<'a> {
         ensures later { self.old.faults ≤ self.new.faults }
         ensures rose { IsTrue result → Rose self.old.faults self.new.faults }
         ensures told { result ≡ fails_next self.old.fails.now self.old.calls }
-        ensures faults { self.new.faults ≡ (if result then one_more self.old.faults else self.old.faults) }
+        ensures faults { self.new.faults ≡
+            (if result then one_more self.old.faults else self.old.faults) }
         ensures calls { self.new.calls ≡ one_more self.old.calls }
         ensures same_fails { self.new.fails ≡ self.old.fails }
     {
@@ -158,8 +159,11 @@ impl Keeper for MemKeeper<'_> {
     fn replace(&mut self, alloc: Global, field: Field, cells: &[i64]) -> Result<(), Refused>
         requires numbered { IsNumbered cells.now }
         requires few { length cells.now ≤ cells_in_row * most_rows }
-        ensures done { OnOk result (Becomes (Some (kept_tables self.old)) (Some (kept_tables self.new)) (put field cells.now)) }
-        ensures kept { OnErr result (Stays (Some (kept_tables self.old)) (Some (kept_tables self.new))) }
+        ensures done { OnOk result
+            (Becomes (Some (kept_tables self.old)) (Some (kept_tables self.new))
+            (put field cells.now)) }
+        ensures kept { OnErr result
+            (Stays (Some (kept_tables self.old)) (Some (kept_tables self.new))) }
         ensures cause { HasFault (keeper_faults self.old) (keeper_faults self.new) result }
         // It fails where its number is one of those, and at no other call.
         ensures counted { IsKeeperCall self.old self.new result }
@@ -178,9 +182,14 @@ impl Keeper for MemKeeper<'_> {
     }
 
     fn remove(&mut self, _alloc: Global, field: Field) -> Result<bool, Refused>
-        ensures done { OnOk result (Becomes (Some (kept_tables self.old)) (Some (kept_tables self.new)) (without_field field)) }
-        ensures found { IfOk result (λ found. IfSome (Some (kept_tables self.old)) (λ tables. found ≡ is_some (cells_of_field field tables))) }
-        ensures kept { OnErr result (Stays (Some (kept_tables self.old)) (Some (kept_tables self.new))) }
+        ensures done { OnOk result
+            (Becomes (Some (kept_tables self.old)) (Some (kept_tables self.new))
+            (without_field field)) }
+        ensures found { IfOk result
+            (λ found. IfSome (Some (kept_tables self.old))
+            (λ tables. found ≡ is_some (cells_of_field field tables))) }
+        ensures kept { OnErr result
+            (Stays (Some (kept_tables self.old)) (Some (kept_tables self.new))) }
         ensures cause { HasFault (keeper_faults self.old) (keeper_faults self.new) result }
         // It fails where its number is one of those, and at no other call.
         ensures counted { IsKeeperCall self.old self.new result }
@@ -192,7 +201,9 @@ impl Keeper for MemKeeper<'_> {
     }
 
     fn names(&mut self, alloc: Global) -> Result<Vec<Field>, Refused>
-        ensures names { IfOk result (λ fields. IfSome (Some (kept_tables self.old)) (λ tables. fields.items ≡ names_of tables)) }
+        ensures names { IfOk result
+            (λ fields. IfSome (Some (kept_tables self.old))
+            (λ tables. fields.items ≡ names_of tables)) }
         ensures kept { Stays (Some (kept_tables self.old)) (Some (kept_tables self.new)) }
         ensures cause { HasFault (keeper_faults self.old) (keeper_faults self.new) result }
         // It fails where its number is one of those, and at no other call.
@@ -211,7 +222,9 @@ impl Keeper for MemKeeper<'_> {
     }
 
     fn rows(&mut self, alloc: Global, field: Field) -> Result<Option<Vec<i64>>, Refused>
-        ensures rows { IfOk result (λ rows. IfSome (Some (kept_tables self.old)) (λ tables. option_map (λ cells. cells.items) rows ≡ cells_of_field field tables)) }
+        ensures rows { IfOk result
+            (λ rows. IfSome (Some (kept_tables self.old))
+            (λ tables. option_map (λ cells. cells.items) rows ≡ cells_of_field field tables)) }
         ensures kept { Stays (Some (kept_tables self.old)) (Some (kept_tables self.new)) }
         ensures cause { HasFault (keeper_faults self.old) (keeper_faults self.new) result }
         // It fails where its number is one of those, and at no other call.

@@ -1,30 +1,34 @@
-// The line on the notes.
+//! The line on the notes.
 ghost use Rattle.std.specs.Prelude.{◌≡◌, ◌≤◌, length};
 ghost use Rattle.dev_io.specs.Causes.{HasCause};
 ghost use Rattle.dev_io.specs.Streams.{PutAppends};
-ghost use Rattle.survey_core.specs.Answers.{session_note, stop_line, survey_refusal_line};
+ghost use Rattle.survey_core.specs.Answers.{session_note, stop_line, line_with_place, survey_refusal_line};
 ghost use Rattle.command_line.specs.Notes.{Noted};
 
 use crate::Fault;
-use crate::fault::Stop;
+use crate::fault::{FaultPlace, Stop};
 use crate::top::End;
 use command_line::lines::put_line;
 use command_line::notes::put_usage;
 use dev_io::{Failed, Sink};
 use itoa::Buffer;
 
-// The places that the fault names, of which there are at most two, stand behind its number and its name.
-fn put_refusal<N: Sink>(notes: &mut N, fault: Fault) -> Result<(), Failed>
-    ensures bytes { PutAppends (N.written notes.old) (N.written notes.new) result (survey_refusal_line fault) }
+// The card or the row at fault stands behind the number and the name.
+fn put_place<N: Sink>(
+    notes: &mut N,
+    number: &[u8],
+    name: &[u8],
+    place: FaultPlace,
+) -> Result<(), Failed>
+    requires short_number { length number.now ≤ 40 }
+    requires short_name { length name.now ≤ 15 }
+    ensures bytes { PutAppends (N.written notes.old) (N.written notes.new) result (line_with_place number.now name.now place) }
     ensures cause { HasCause (N.faults notes.old) (N.faults notes.new) result }
 {
-    let mut number = Buffer::new();
     let mut first = Buffer::new();
     let mut second = Buffer::new();
-    let number = number.format(fault.number()).as_bytes();
-    let name = fault.name().as_bytes();
-    match fault {
-        Fault::BadKeyword { hdu, card } => put_line(
+    match place {
+        FaultPlace::Card(place) => put_line(
             notes,
             &[
                 b"refused: ",
@@ -32,13 +36,13 @@ fn put_refusal<N: Sink>(notes: &mut N, fault: Fault) -> Result<(), Failed>
                 b" ",
                 name,
                 b" hdu ",
-                first.format(hdu).as_bytes(),
+                first.format(place.hdu).as_bytes(),
                 b" card ",
-                second.format(card).as_bytes(),
+                second.format(place.card).as_bytes(),
                 b"\n",
             ],
         ),
-        Fault::RowNumber { row } => put_line(
+        FaultPlace::Row(row) => put_line(
             notes,
             &[
                 b"refused: ",
@@ -50,7 +54,19 @@ fn put_refusal<N: Sink>(notes: &mut N, fault: Fault) -> Result<(), Failed>
                 b"\n",
             ],
         ),
-        _ => put_line(notes, &[b"refused: ", number, b" ", name, b"\n"]),
+    }
+}
+
+fn put_refusal<N: Sink>(notes: &mut N, fault: Fault) -> Result<(), Failed>
+    ensures bytes { PutAppends (N.written notes.old) (N.written notes.new) result (survey_refusal_line fault) }
+    ensures cause { HasCause (N.faults notes.old) (N.faults notes.new) result }
+{
+    let mut number = Buffer::new();
+    let number = number.format(fault.number()).as_bytes();
+    let name = fault.name().as_bytes();
+    match fault.place() {
+        Some(place) => put_place(notes, number, name, place),
+        None => put_line(notes, &[b"refused: ", number, b" ", name, b"\n"]),
     }
 }
 

@@ -1,4 +1,4 @@
-// The rows of all fields with the greatest fluxes.
+//! The rows of all fields with the greatest fluxes.
 ghost use Rattle.std.specs.Prelude.{◌≡◌, ◌≤◌, ◌<◌, ◌+◌, ◌-◌, ◌*◌, ◌++◌, ℕ, List, length, map, take, false, true, slice_index_or, get_or, Some, IfOk, IfErr, IfSome, OnOk, OnErr};
 ghost use Rattle.std.specs.Option.{ForSome};
 ghost use Rattle.std.specs.List.{concat};

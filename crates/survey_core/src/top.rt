@@ -1,4 +1,4 @@
-// A session as a whole.
+//! A session as a whole.
 ghost use Rattle.std.specs.Prelude.{◌≡◌, ◌+◌, ◌<◌, ◌≤◌, ◌↔◌, ℕ, Bool, List, Option, Ok, Err, Some, IfErr, IsErr, IsTrue};
 ghost use Rattle.std.specs.Option.{ForSome};
 ghost use Rattle.std.specs.List.{list_any};
@@ -188,44 +188,53 @@ pub fn run_survey<S: Source, K: Keeper, O: Sink, N: Sink>(
     notes: &mut N,
 ) -> u8
     // The status is the answer's, or a fault of a device or want of memory came between.
-    ensures status { ForAnswer (texts words.now) (S.left input.old) (K.tables keeper.old) (IsSessionStatus result) }
+    ensures status { ForAnswer (texts words.now) (S.left input.old) (K.tables keeper.old)
+        (IsSessionStatus result) }
 
     // At the answer's own status all of it was done, up to the first fault.
-    ensures writes { result < 3 → ForAnswer (texts words.now) (S.left input.old) (K.tables keeper.old) (λ answer.
-        Appends (O.written output.old) (O.written output.new) answer.does.output) }
+    ensures writes { result < 3 → ForAnswer (texts words.now) (S.left input.old) (K.tables keeper.old)
+        (λ answer. Appends (O.written output.old) (O.written output.new) answer.does.output) }
     ensures takes { result < 3 → ForSome (S.left input.old) (λ bytes. ForSome (K.tables keeper.old) (λ tables.
         Takes bytes (S.left input.new) (session_answer (texts words.now) bytes tables).does.taken)) }
-    ensures tables { result < 3 → ForAnswer (texts words.now) (S.left input.old) (K.tables keeper.old) (λ answer.
-        K.tables keeper.new ≡ Some answer.does.tables) }
-    ensures settled { result < 3 → ForAnswer (texts words.now) (S.left input.old) (K.tables keeper.old) (λ answer.
-        IsTrue answer.does.printed → IsTrue (O.settled output.new)) }
+    ensures tables { result < 3 → ForAnswer (texts words.now) (S.left input.old) (K.tables keeper.old)
+        (λ answer. K.tables keeper.new ≡ Some answer.does.tables) }
+    ensures settled { result < 3 → ForAnswer (texts words.now) (S.left input.old) (K.tables keeper.old)
+        (λ answer. IsTrue answer.does.printed → IsTrue (O.settled output.new)) }
 
     // Else it was cut short in a command: what those before it did stands, the tables are theirs, and of its own bytes and output a front is gone.
     ensures cut { 3 ≤ result → ForSome (S.left input.old) (λ bytes. ForSome (K.tables keeper.old) (λ tables.
-        IsCutWith (texts words.now) bytes tables (S.left input.new) (K.tables keeper.new) (O.written output.old) (O.written output.new) result)) }
+        IsCutWith (texts words.now) bytes tables (S.left input.new) (K.tables keeper.new)
+        (O.written output.old) (O.written output.new) result)) }
     // A read fault comes only in an `add`, a write fault only where something is printed, and each, as a keeper's, only where a count rose.
     ensures stops { 3 ≤ result → StopsWith (texts words.now) (S.faults input.old) (S.faults input.new)
         (O.faults output.old) (O.faults output.new) (K.faults keeper.old) (K.faults keeper.new) result }
-    ensures printed { result ≡ 0 → (commands : List Command) → commands_of (texts words.now) ≡ Ok commands →
-        IsTrue (list_any is_printing commands) → IsTrue (O.settled output.new) }
+    ensures printed { result ≡ 0 → (commands : List Command) → commands_of (texts words.now) ≡ Ok commands
+        → IsTrue (list_any is_printing commands) → IsTrue (O.settled output.new) }
 
     // The notes get one line, and change nothing.
-    ensures noted { (end : End) × TellsSessionEnd result (N.written notes.old) (N.written notes.new) (N.settled notes.new)
-        (N.faults notes.old) (N.faults notes.new) end }
-    ensures notes { result < 3 → ForAnswer (texts words.now) (S.left input.old) (K.tables keeper.old) (λ answer.
-        Noted (N.written notes.old) (N.written notes.new) (N.settled notes.new) (N.faults notes.old) (N.faults notes.new) (session_note answer.end)) }
+    ensures noted { (end : End) × TellsSessionEnd result (N.written notes.old) (N.written notes.new)
+        (N.settled notes.new) (N.faults notes.old) (N.faults notes.new) end }
+    ensures notes { result < 3 → ForAnswer (texts words.now) (S.left input.old) (K.tables keeper.old)
+        (λ answer. Noted (N.written notes.old) (N.written notes.new) (N.settled notes.new)
+        (N.faults notes.old) (N.faults notes.new) (session_note answer.end)) }
 
     // A word at fault, and nothing else, gives status 1; then nothing is asked of the input, the keeper and the output.
     ensures usage { IsErr (commands_of (texts words.now)) ↔ (result ≡ 1) }
     ensures word { (at : ℕ) → commands_of (texts words.now) ≡ Err at →
-        Noted (N.written notes.old) (N.written notes.new) (N.settled notes.new) (N.faults notes.old) (N.faults notes.new) (usage_line (at + 1)) }
-    ensures input_stays { IsErr (commands_of (texts words.now)) → SourceStays S.left S.ended S.faults input.old input.new }
-    ensures keeper_stays { IsErr (commands_of (texts words.now)) → KeeperStays K.tables K.faults keeper.old keeper.new }
-    ensures output_stays { IsErr (commands_of (texts words.now)) → SinkStays O.written O.settled O.faults output.old output.new }
+        Noted (N.written notes.old) (N.written notes.new) (N.settled notes.new)
+        (N.faults notes.old) (N.faults notes.new) (usage_line (at + 1)) }
+    ensures input_stays { IsErr (commands_of (texts words.now)) →
+        SourceStays S.left S.ended S.faults input.old input.new }
+    ensures keeper_stays { IsErr (commands_of (texts words.now)) →
+        KeeperStays K.tables K.faults keeper.old keeper.new }
+    ensures output_stays { IsErr (commands_of (texts words.now)) →
+        SinkStays O.written O.settled O.faults output.old output.new }
 
     // Where no count rose the status is the answer's, or memory is wanted.
-    ensures complete { (Rose (S.faults input.old) (S.faults input.new) → ⊥) → (Rose (O.faults output.old) (O.faults output.new) → ⊥) →
-        (Rose (K.faults keeper.old) (K.faults keeper.new) → ⊥) → ForAnswer (texts words.now) (S.left input.old) (K.tables keeper.old) (IsSessionAnswered result) }
+    ensures complete { (Rose (S.faults input.old) (S.faults input.new) → ⊥)
+        → (Rose (O.faults output.old) (O.faults output.new) → ⊥)
+        → (Rose (K.faults keeper.old) (K.faults keeper.new) → ⊥)
+        → ForAnswer (texts words.now) (S.left input.old) (K.tables keeper.old) (IsSessionAnswered result) }
 {
     let end = work(alloc, words, input, keeper, output);
     tell(notes, end);

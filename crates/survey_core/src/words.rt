@@ -1,4 +1,4 @@
-// The words of a session.
+//! The words of a session.
 ghost use Rattle.std.specs.Prelude.{◌≡◌, ◌+◌, ◌-◌, ◌≤◌, ◌<◌, drop, length, slice_get, codes, Err, IfOk, IfErr, IfSome, MatchOption, IsOk};
 ghost use Rattle.std.specs.Str.{bytes_eq};
 ghost use Rattle.std.specs.Option.{option_map, option_to_list};

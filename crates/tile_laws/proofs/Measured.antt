@@ -1,7 +1,7 @@
 -- The measures of an image's sources in a second image, from its pieces.
 use Rattle.std.proofs.Common.{◌≡◌, ℕ, ◌*◌, ◌<◌, true, not, List, length, map, refl, sym, ◌∙◌, ap, subst, arith}
-use Rattle.std.specs.Prelude.{IsTrue, ℤ, pos, ◌+ℤ◌, ◌↔◌, Contains, Option, is_some, unwrap_or}
-use Rattle.lemmas.proofs.Exported.{ArePaired, HasPartnerIn, IsAmong, IsRising, at_end, at_more, paired_filter, paired_from_rising, paired_map, rising-pixels}
+use Rattle.std.specs.Prelude.{IsTrue, ℤ, pos, ◌↔◌, Contains, Option, is_some, unwrap_or}
+use Rattle.lemmas.proofs.Exported.{ArePaired, HasPartnerIn, IsAmong, IsRising, paired_filter, paired_from_rising, paired_map, rising-pixels}
 use Rattle.comp_tree.specs.declared.shape.Connect.{Connect}
 use Rattle.comp_tree.specs.declared.shape.Shape.{Shape}
 use Rattle.comp_tree.specs.Raster.{Raster, IsPlane, pixels, value_at, is_defined, level}

@@ -1,17 +1,14 @@
 -- The pixels of a piece's own source all lie in its window.
-use Rattle.std.proofs.Common.{◌≡◌, ℕ, ◌-◌, ◌*◌, ◌^◌, ◌<◌, ◌≤◌, true, min, List, [], ◌∷◌, length, refl, subst, arith, ◌⊎◌, inl, inr}
-use Rattle.std.specs.Prelude.{IsTrue, filter}
-use Rattle.std.proofs.lemmas.Bool.{cases_lt}
-use Rattle.lemmas.proofs.Exported.{IsAmong, among-filter, among_from_filter}
+use Rattle.std.proofs.Common.{◌≡◌, ℕ, ◌<◌, true, length, subst}
+use Rattle.std.specs.Prelude.{IsTrue}
 use Rattle.comp_tree.specs.declared.shape.Connect.{Connect}
-use Rattle.comp_tree.specs.Raster.{Raster, IsPlane, pixels, is_at_least}
-use Rattle.comp_tree.specs.Components.{IsReached, nodes, is_in_node}
-use Rattle.comp_tree.specs.Nesting.{pixels_of}
+use Rattle.comp_tree.specs.Raster.{Raster, IsPlane, is_at_least}
+use Rattle.comp_tree.specs.Components.{IsReached, is_in_node}
 use Rattle.comp_tree.specs.Laws.{IsNode, top_of}
 use Rattle.comp_tree.specs.Windows.{in_whole, IsShown, SureComponentsAreTheSame}
-use Rattle.comp_tree.proofs.Exported.{among_from_defined, below_from_defined, in_node-defined, joined_sym}
-use Rattle.comp_tree.proofs.Exported.{joined_trans, reaches-is_IsReached, reaches_end, top_inside}
-use Rattle.node_sums.specs.Sums.{least, sums_over, sums_of}
+use Rattle.comp_tree.proofs.Exported.{below_from_defined, in_node-defined, joined_sym}
+use Rattle.comp_tree.proofs.Exported.{joined_trans, reaches-is_IsReached, reaches_end}
+use Rattle.node_sums.specs.Sums.{sums_of}
 use Rattle.source_pick.specs.declared.choice.Choice.{Choice}
 use Rattle.source_pick.specs.Sources.{is_source}
 use Rattle.source_pick.proofs.Exported.{first_inside, in_node_reached, top_high}

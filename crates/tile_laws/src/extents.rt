@@ -21,9 +21,10 @@ pub struct Extent {
     pub rows: Interval,
 }
 
-/// The box of an image of shape `whole` in which the background is the image's own in the window of shape `window` whose first pixel stands in
-/// column `left` of row `top`, as far as each cell that is needed has a pixel with a value. `mesh` is the size of the mesh, 0 for none; `left`
-/// and `top` are to be multiples of it. The box may be empty: then `from` isn't below `to`.
+/// The box of an image of shape `whole` in which the background is the image's own in the window of shape `window`
+/// whose first pixel stands in column `left` of row `top`, as far as each cell that is needed has a pixel with a value.
+/// `mesh` is the size of the mesh, 0 for none; `left` and `top` are to be multiples of it. The box may be empty: then
+/// `from` isn't below `to`.
 pub fn clear_extent(
     flat: bool,
     mesh: u32,
@@ -84,8 +85,9 @@ fn end_of_clear(flat: bool, mesh: u32, whole: u32, end: u32) -> u32
     }
 }
 
-/// Each pixel of the first box lies so deep in the second one that its neighbours lie there too, of which there are none beyond the edges of
-/// an image of shape `whole`. So a component in this box is the same in the window and in the image, if the second box is sure.
+/// Each pixel of the first box lies so deep in the second one that its neighbours lie there too, of which there are
+/// none beyond the edges of an image of shape `whole`. So a component in this box is the same in the window and in the
+/// image, if the second box is sure.
 pub fn lies_deep(component: &Extent, sure: &Extent, whole: Shape) -> bool
     requires some_columns { component.now.columns.from < component.now.columns.to }
     requires some_rows { component.now.rows.from < component.now.rows.to }

@@ -1,5 +1,5 @@
-//! The law of an image in pieces. Each part is the contract of a function that does nothing but name the laws from which it follows, and
-//! speaks of the definitions alone.
+//! The law of an image in pieces. Each part is the contract of a function that does nothing but name the laws from
+//! which it follows, and speaks of the definitions alone.
 
 ghost use Rattle.tile_laws.specs.Laws.{
   PiecesGiveTheCatalogue,
@@ -17,11 +17,11 @@ use comp_tree::laws::sure_components_are_the_same;
 use mesh_background::laws::{no_mesh_leaves_the_plane, residual_is_a_plane, residual_is_seen};
 use source_pick::laws::{sources_are_disjoint, sources_are_listed, sources_of_tiles};
 
-/// Where the cores of an image's pieces cover it, and each piece answers for its core, the catalogue of the image is that of the pieces: of each
-/// the rows whose first pixels lie in its core, moved to the image, in the order of these pixels, and numbered. A pixel has the number of
-/// such a row in the image's segmentation map exactly where a piece's own map gives it this row. In a second image, seen through the same
-/// windows, a source has the measure that the piece gives it. Where no two cores share a pixel the rows can be put together so, and each is
-/// one row of one piece.
+/// Where the cores of an image's pieces cover it, and each piece answers for its core, the catalogue of the image is
+/// that of the pieces: of each the rows whose first pixels lie in its core, moved to the image, in the order of these
+/// pixels, and numbered. A pixel has the number of such a row in the image's segmentation map exactly where a piece's
+/// own map gives it this row. In a second image, seen through the same windows, a source has the measure that the piece
+/// gives it. Where no two cores share a pixel the rows can be put together so, and each is one row of one piece.
 pub fn pieces_give_the_catalogue()
     ensures catalogue { PiecesGiveTheCatalogue }
     ensures map { PiecesGiveTheMap }

@@ -1,3 +1,5 @@
+//! Boxes and components of a window, and the sources of two windows.
+
 ghost use Rattle.std.specs.Prelude.{◌≡◌};
 
 use super::*;

@@ -1,12 +1,12 @@
 use Rattle.std.proofs.Common.{subst, sym}
-use Rattle.pixel_plane.specs.Verdicts.{verdict}
+use Rattle.pixel_plane.specs.Verdicts.{verdict_on}
 use Rattle.detect_top.specs.Streams.{ImageStopped}
 use Rattle.detect_top.proofs.Images.{image_told, search_stopped}
 use Rattle.detect_top.proofs.image.read_image.Goals as goal
 
 pub returns-in-Err-clause-told : goal.returns-in-Err-clause-told
 returns-in-Err-clause-told g c = λ x e.
-    subst (ImageStopped (verdict x c.args.number) x _) (sym c.at_hdu.ensures) (search_stopped x c.args.number _ _ (c.in-Err.ensures.told x e))
+    subst (ImageStopped (verdict_on x c.args.number) x _) (sym c.at_hdu.ensures) (search_stopped x c.args.number _ _ (c.in-Err.ensures.told x e))
 
 pub returns-clause-told : goal.returns-clause-told
 returns-clause-told g c = λ x e.

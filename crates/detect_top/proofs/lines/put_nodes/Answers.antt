@@ -18,12 +18,14 @@ loop-number-preserved g c =
     let h = c.loop-number-test.true in
     record {
       moved = waiting _ _ _ _ (lines_of c.args.rows.now c.args.areas.now) _ _ c.loop-number.number _ (line_in c.args.rows.now c.args.areas.now _ h)
-          (line_is c.args.rows.now c.args.areas.now c.loop-number.number _ _ h (get_or_default _ _ _ _ h) refl) c.loop-number.invariant.moved c.in_default.ensures.ok;
+          (line_is c.args.rows.now c.args.areas.now c.loop-number.number _ _ h (get_or_default _ _ _ _ h) refl) c.loop-number.invariant.moved
+          c.in_default.ensures.ok;
       later = search rules;
     }
 
 pub returns-clause-bytes : goal.returns-clause-bytes
 unfolding tree_lines
 returns-clause-bytes g c =
-    line_flushed _ _ _ _ _ _ _ _ c.new-block.ensures (all_lines _ _ _ c.args.rows.now c.args.areas.now _ c.loop-number.number c.loop-number-test.false c.loop-number.invariant.moved)
+    line_flushed _ _ _ _ _ _ _ _ c.new-block.ensures
+    (all_lines _ _ _ c.args.rows.now c.args.areas.now _ c.loop-number.number c.loop-number-test.false c.loop-number.invariant.moved)
     c.flush.ensures.ok c.flush.ensures.empty c.flush.ensures.err

@@ -2,13 +2,14 @@ use Rattle.std.proofs.Common.{subst, sym}
 use Rattle.comp_tree.specs.Raster.{Raster}
 use Rattle.mesh_background.specs.Residuals.{residual_of}
 use Rattle.comp_tree.specs.Raster.{HasValuesInHalfRange}
-use Rattle.detect_top.specs.Products.{SuitsJob}
+use Rattle.detect_top.specs.Writables.{SuitsJob}
 use Rattle.detect_top.proofs.Products.{suits_made}
 use Rattle.detect_top.proofs.Trials.{trial_is_storable}
 use Rattle.detect_top.proofs.product.make_trial.Goals as goal
 
 pub make-requires-clause-storable : goal.make-requires-clause-storable
-make-requires-clause-storable g c κs within = subst (λ (r : Raster). HasValuesInHalfRange r.values) (sym c.in-Ok.ensures) (trial_is_storable c.args.seed c.args.shape)
+make-requires-clause-storable g c κs within =
+    subst (λ (r : Raster). HasValuesInHalfRange r.values) (sym c.in-Ok.ensures) (trial_is_storable c.args.seed c.args.shape)
 
 pub make-requires-clause-suits : goal.make-requires-clause-suits
 make-requires-clause-suits g c κs within =

@@ -5,7 +5,7 @@ use mir.Val.{SFits}
 use Rattle.std.proofs.lemmas.Int.{to_z-of_z}
 use Rattle.node_sums.specs.Flux.{flux_of}
 use Rattle.node_sums.proofs.Exported.{trees_rows}
-use Rattle.detect_top.specs.Trials.{flux_bound}
+use Rattle.detect_top.specs.TrialSizes.{flux_bound}
 use Rattle.detect_top.proofs.Summaries.{sum_range_more, flux_at_most, total_flux-all}
 use Rattle.detect_top.proofs.trial.sum_fluxes.Goals as goal
 
@@ -24,12 +24,14 @@ loop-n-preserved c =
       so_far = λ plane connect is sums_are.
           let before = c.loop-n.invariant.so_far plane connect is sums_are in
           let more = sum_range_more (λ m. unsigned_abs (flux_of plane connect m)) c.loop-n.n in
-          let here : c.unsigned_abs-fluxes.result ≡ unsigned_abs (flux_of plane connect c.loop-n.n) = read c ∙ ap unsigned_abs (c.flux.ensures.exact plane connect is sums_are) in
+          let here : c.unsigned_abs-fluxes.result ≡ unsigned_abs (flux_of plane connect c.loop-n.n) =
+          read c ∙ ap unsigned_abs (c.flux.ensures.exact plane connect is sums_are) in
           omega (arith, before, more, here);
       small = omega (arith, one, read c, c.loop-n.invariant.small);
     }
 
 pub returns : goal.returns
 returns c = λ plane connect is sums_are.
-    total_flux-all plane connect c.args.tree.now c.loop-n.n c.loop-n.fluxes is (omega (arith, c.loop-n-test.false, c.loop-n.auto.n-end, c.node_count-n-end.ensures.all))
+    total_flux-all plane connect c.args.tree.now c.loop-n.n c.loop-n.fluxes is
+    (omega (arith, c.loop-n-test.false, c.loop-n.auto.n-end, c.node_count-n-end.ensures.all))
     (c.loop-n.invariant.so_far plane connect is sums_are)

@@ -6,7 +6,7 @@ use Rattle.comp_tree.specs.Raster.{Raster}
 use Rattle.comp_tree.specs.Components.{tree_of}
 use Rattle.node_sums.specs.Sums.{sums_in}
 use Rattle.node_sums.specs.Flux.{flux_of}
-use Rattle.detect_top.specs.Trials.{flux_bound}
+use Rattle.detect_top.specs.TrialSizes.{flux_bound}
 use Rattle.detect_top.proofs.trial.sum_fluxes.Given as goal
 
 abbrev pub invariant-loop-n : goal.invariant-loop-n

@@ -7,7 +7,8 @@ use Rattle.node_sums.specs.declared.entry.Sums.{Sums}
 use Rattle.node_sums.proofs.Exported.{trees_rows}
 use Rattle.source_pick.specs.Segmentation.{segmentation_of}
 use Rattle.source_pick.proofs.Exported.{few_marked, few_rows}
-use Rattle.detect_top.specs.Trials.{is_root_row, is_mapped, HasSmallFluxes}
+use Rattle.detect_top.specs.Trials.{is_root_row, is_mapped}
+use Rattle.detect_top.specs.TrialSizes.{HasSmallFluxes}
 use Rattle.detect_top.proofs.Trials.{small_fluxes}
 use Rattle.detect_top.proofs.Summaries.{few-numbers, summary_is}
 use Rattle.detect_top.proofs.trial.summarize.Goals as goal
@@ -17,7 +18,8 @@ is_plane r shape same long = long ∙ ap (λ (s : Shape). s.width * s.height) sa
 
 pub sum_areas-requires : goal.sum_areas-requires
 sum_areas-requires g c =
-    let rows : length c.in_ok-sums.sums.items ≡ length c.args.tree.now.rows = trees_rows c.args.tree.now c.in_ok-sums.sums.items c.in_ok-sums.ensures.the_trees in
+    let rows : length c.in_ok-sums.sums.items ≡ length c.args.tree.now.rows =
+    trees_rows c.args.tree.now c.in_ok-sums.sums.items c.in_ok-sums.ensures.the_trees in
     omega (arith, rows, ap length c.deref-3.ensures.value, c.node_count.ensures.all, c.node_count.ensures.few)
 
 pub sum_fluxes-requires-clause-small : goal.sum_fluxes-requires-clause-small

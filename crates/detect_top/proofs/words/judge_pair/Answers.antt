@@ -27,7 +27,8 @@ returns-in_default c =
     let n = c.args.pair in
     let more = text_in c.args.words.now _ c.requires.more in
     let at = text_of c.args.words.now (2 * (n + 1)) (2 * n + 2 - 1) _ (omega (arith, c.requires.more)) (omega arith) in
-    name_at_fault c.args.command words n _ c.requires.read more (unnamed c.args.command words n more (ap (option_named c.args.command) (sym at) ∙ sym c.in_default.ensures)) refl
+    name_at_fault c.args.command words n _ c.requires.read more
+    (unnamed c.args.command words n more (ap (option_named c.args.command) (sym at) ∙ sym c.in_default.ensures)) refl
 
 pub returns-then-is_some : goal.returns-then-is_some
 returns-then-is_some c =
@@ -49,7 +50,12 @@ returns-in_default-get c =
     let known = ap is_some (sym c.naming.ensures) ∙ sym c.is_some.ensures ∙ c.if-is_some.false in
     let good = named_by c.args.command words n c.in-Some.setting false more named known in
     value_at_fault c.args.command words n _ c.requires.read more good
-    (value_missing c.args.command words n (omega (arith, past (2 * n + 2) _ c.in_default-get.ensures.lookup.0, length-map c.args.words.now (λ (w : Bor (List ℕ)). w.now)))) (omega arith)
+    (value_missing c.args.command words n (omega (
+      arith,
+      past (2 * n + 2) _ c.in_default-get.ensures.lookup.0,
+      length-map c.args.words.now
+          (λ (w : Bor (List ℕ)). w.now),
+    ))) (omega arith)
 
 pub returns-then-accepts : goal.returns-then-accepts
 returns-then-accepts c =
@@ -62,9 +68,12 @@ returns-then-accepts c =
     let good = named_by c.args.command words n c.in-Some.setting false more named known in
     let found = c.in-Some-get.ensures.lookup in
     let long = text_in c.args.words.now _ found.3.0 in
-    let value = ap (λ (w : Bor (List ℕ)). w.now) (found.3.1 c.in-Some-get.text.now) ∙ text_of c.args.words.now (2 * (n + 1) + 1) (2 * n + 2) c.in-Some-get.text.now found.3.0 (omega arith) in
+    let value =
+    ap (λ (w : Bor (List ℕ)). w.now) (found.3.1 c.in-Some-get.text.now)
+    ∙ text_of c.args.words.now (2 * (n + 1) + 1) (2 * n + 2) c.in-Some-get.text.now found.3.0 (omega arith) in
     pair_read c.args.command words n c.requires.read (omega (arith, long)) good
-    (value_by c.args.command words n c.in-Some.setting false (omega (arith, long)) named (ap (is_value c.in-Some.setting) (sym value) ∙ sym c.accepts.ensures ∙ c.if-accepts.true))
+    (value_by c.args.command words n c.in-Some.setting false (omega (arith, long)) named
+    (ap (is_value c.in-Some.setting) (sym value) ∙ sym c.accepts.ensures ∙ c.if-accepts.true))
 
 pub returns-else-accepts : goal.returns-else-accepts
 returns-else-accepts c =
@@ -77,6 +86,9 @@ returns-else-accepts c =
     let good = named_by c.args.command words n c.in-Some.setting false more named known in
     let found = c.in-Some-get.ensures.lookup in
     let long = text_in c.args.words.now _ found.3.0 in
-    let value = ap (λ (w : Bor (List ℕ)). w.now) (found.3.1 c.in-Some-get.text.now) ∙ text_of c.args.words.now (2 * (n + 1) + 1) (2 * n + 2) c.in-Some-get.text.now found.3.0 (omega arith) in
+    let value =
+    ap (λ (w : Bor (List ℕ)). w.now) (found.3.1 c.in-Some-get.text.now)
+    ∙ text_of c.args.words.now (2 * (n + 1) + 1) (2 * n + 2) c.in-Some-get.text.now found.3.0 (omega arith) in
     value_at_fault c.args.command words n _ c.requires.read more good
-    (value_by c.args.command words n c.in-Some.setting true (omega (arith, long)) named (ap (is_value c.in-Some.setting) (sym value) ∙ sym c.accepts.ensures ∙ c.if-accepts.false)) (omega arith)
+    (value_by c.args.command words n c.in-Some.setting true (omega (arith, long)) named
+    (ap (is_value c.in-Some.setting) (sym value) ∙ sym c.accepts.ensures ∙ c.if-accepts.false)) (omega arith)

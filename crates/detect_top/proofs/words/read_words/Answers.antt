@@ -31,11 +31,13 @@ returns-in-Err-clause-order c = sym (refused_at c.in-Some.command (texts c.args.
 pub returns-in-Some-job_for-clause-order : goal.returns-in-Some-job_for-clause-order
 returns-in-Some-job_for-clause-order c =
     ap Ok c.order_of_job.ensures
-    ∙ sym (ordered c.in-Some.command (texts c.args.words.now) c.in-Ok.pairs (Some c.in-Some-job_for.job) (sym c.in-Some.ensures) c.in-Ok.ensures (sym c.in-Some-job_for.ensures))
+    ∙ sym (ordered c.in-Some.command (texts c.args.words.now) c.in-Ok.pairs (Some c.in-Some-job_for.job) (sym c.in-Some.ensures) c.in-Ok.ensures
+    (sym c.in-Some-job_for.ensures))
 
 pub returns-in-Some-job_for-clause-limits : goal.returns-in-Some-job_for-clause-limits
 returns-in-Some-job_for-clause-limits c =
-    subst HasLimits (sym c.order_of_job.ensures) (given_limits c.in-Some.command (texts c.args.words.now) c.in-Ok.pairs c.in-Some-job_for.job (sym c.in-Some-job_for.ensures))
+    subst HasLimits (sym c.order_of_job.ensures) (given_limits c.in-Some.command (texts c.args.words.now) c.in-Ok.pairs c.in-Some-job_for.job
+    (sym c.in-Some-job_for.ensures))
 
 pub returns-in-None-clause-order : goal.returns-in-None-clause-order
 returns-in-None-clause-order c =

@@ -1,6 +1,7 @@
 use Rattle.std.proofs.Common.{◌∙◌, length, ap, arith, rules}
 use Rattle.dual_measure.proofs.Passing.{parent_read}
-use Rattle.dual_measure.proofs.Backs.{one_for_each, back_at_root, parent_read_from_code, parent_entry, difference, difference_fits, difference_sum, back_from_code}
+use Rattle.dual_measure.proofs.Backs.{one_for_each, back_at_root, parent_read_from_code, parent_entry, difference, difference_fits, difference_sum}
+use Rattle.dual_measure.proofs.Backs.{back_from_code}
 use Rattle.dual_measure.proofs.around.back.Goals as goal
 
 pub returns-then-parent : goal.returns-then-parent

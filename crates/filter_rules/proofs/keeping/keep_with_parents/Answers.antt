@@ -5,7 +5,8 @@ use Rattle.comp_tree.specs.ComponentTree.{parent_in, no_node}
 use Rattle.node_sums.proofs.Exported.{row-parent}
 use Rattle.filter_rules.specs.Passes.{AreWithParents, flag}
 use Rattle.filter_rules.proofs.Flags.{parent_less, parent_refuses, parent_allows}
-use Rattle.filter_rules.proofs.keeping.keep_with_parents.Goals.{then-parent+then-not-kept-parent, else-parent, else-parent-via-then-parent+else-not-kept-parent, else-parent-via-else-parent}
+use Rattle.filter_rules.proofs.keeping.keep_with_parents.Goals.{then-parent+then-not-kept-parent, else-parent}
+use Rattle.filter_rules.proofs.keeping.keep_with_parents.Goals.{else-parent-via-then-parent+else-not-kept-parent, else-parent-via-else-parent}
 use Rattle.filter_rules.proofs.keeping.keep_with_parents.Goals as goal
 
 pub bounds-kept-parent : goal.bounds-kept-parent

@@ -1,5 +1,5 @@
 use Rattle.std.proofs.Common.{◌∙◌, ap, sym, drop}
-use Rattle.fits_card.specs.Values.{token_in}
+use Rattle.fits_card.specs.Tokens.{token_in}
 use Rattle.fits_card.specs.Pieces.{closed}
 use Rattle.fits_card.proofs.Fields.{content-empty, content-comment, content-string, content-token, no-token-in_string}
 use Rattle.fits_card.proofs.field.token_of.Goals as goal

@@ -1,7 +1,7 @@
 use Rattle.std.proofs.Common.{◌≡◌, ◌∙◌, ap, sym, length, Option, Some, List, ℕ, arith, drop, []}
 use Rattle.std.specs.Option.{option_map}
 use Rattle.std.proofs.lemmas.List.{take_rest}
-use Rattle.fits_card.specs.Pieces.{Closed, closed}
+use Rattle.fits_card.specs.Pieces.{ClosedString, closed}
 use Rattle.fits_card.proofs.Cutting.{with_front, with_none_in_front, plain-kept, doubled-kept, room-kept, closing-quote, last-quote, ends-with}
 use Rattle.fits_card.proofs.field.unquoted.Goals as goal
 
@@ -31,7 +31,7 @@ returns-else-rest-eq39 c =
     ap (λ (xs : List ℕ). goal-result c.loop-rest.text.items xs) (take_rest c.loop-rest.rest.now 1)
     ∙ ends-with c.args.bytes.now c.loop-rest.text.items c.loop-rest.rest.now (drop 1 c.loop-rest.rest.now) c.loop-rest.invariant.string step
   where
-    goal-result : List ℕ → List ℕ → Option Closed
+    goal-result : List ℕ → List ℕ → Option ClosedString
     goal-result text rest = Some (record { text = text; rest = rest })
 
 pub returns-then-last-eq39 : goal.returns-then-last-eq39

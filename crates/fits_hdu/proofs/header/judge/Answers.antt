@@ -9,7 +9,8 @@ returns-then-is_groups-clause-told c = λ axes after count is from.
 
 pub returns-then-data_bytes-gt-MOST_DATA-clause-told : goal.returns-then-data_bytes-gt-MOST_DATA-clause-told
 returns-then-data_bytes-gt-MOST_DATA-clause-told c = λ axes after count is from.
-    judged_long _ _ _ axes after _ _ from (groups_is _ axes after _ _ _ count is from ∙ sym c.is_groups.ensures ∙ c.if-is_groups.false) (c.size_of-data_bytes.ensures axes count is) c.if-data_bytes-gt-MOST_DATA.true
+    judged_long _ _ _ axes after _ _ from (groups_is _ axes after _ _ _ count is from ∙ sym c.is_groups.ensures ∙ c.if-is_groups.false)
+    (c.size_of-data_bytes.ensures axes count is) c.if-data_bytes-gt-MOST_DATA.true
 
 pub returns-clause-told : goal.returns-clause-told
 returns-clause-told c = λ axes after count is from.

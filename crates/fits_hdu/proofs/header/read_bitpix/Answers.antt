@@ -10,7 +10,9 @@ returns-in-Err-clause-told g c = λ bytes start reached. stop_missing bytes _ st
 pub returns-in-Some-clause-told : goal.returns-in-Some-clause-told
 returns-in-Some-clause-told g c = λ bytes start reached.
     let fits : SFits w32 c.in-Some.bitpix = search rules in
-    rw (to_z-of_z w32 c.in-Some.bitpix fits) (bitpix_read bytes _ start _ _ _ _ _ reached (c.in-Ok.ensures.told bytes _ reached.takes) c.bitpix.ensures c.in-Some.is)
+    rw (to_z-of_z w32 c.in-Some.bitpix fits) (bitpix_read bytes _ start _ _ _ _ _ reached (c.in-Ok.ensures.told bytes _ reached.takes) c.bitpix.ensures
+    c.in-Some.is)
 
 pub returns-in-None-clause-told : goal.returns-in-None-clause-told
-returns-in-None-clause-told g c = λ bytes start reached. bitpix_bad bytes _ start _ _ _ _ reached (c.in-Ok.ensures.told bytes _ reached.takes) c.bitpix.ensures c.in-None.is
+returns-in-None-clause-told g c =
+    λ bytes start reached. bitpix_bad bytes _ start _ _ _ _ reached (c.in-Ok.ensures.told bytes _ reached.takes) c.bitpix.ensures c.in-None.is

@@ -17,18 +17,21 @@ returns-in-Err-clause-told g c = λ bytes start first count.
 pub returns-then-is_bad-clause-told : goal.returns-then-is_bad-clause-told
 returns-then-is_bad-clause-told g c = λ bytes start first count.
     let before = c.loop-number.invariant.told bytes start first count in
-    others_refused bytes _ start _ _ _ _ _ _ _ before count (omega arith) (omega arith) (c.in-Ok.ensures.told bytes _ before.reached.takes) c.is_bad.ensures c.if-is_bad.true
+    others_refused bytes _ start _ _ _ _ _ _ _ before count (omega arith) (omega arith) (c.in-Ok.ensures.told bytes _ before.reached.takes) c.is_bad.ensures
+    c.if-is_bad.true
 
 pub returns-then-is_end-clause-told : goal.returns-then-is_end-clause-told
 returns-then-is_end-clause-told g c = λ bytes start first count.
     let before = c.loop-number.invariant.told bytes start first count in
-    others_ended bytes _ start _ _ _ _ _ _ _ _ before count (omega arith) (omega arith) (c.in-Ok.ensures.told bytes _ before.reached.takes) c.is_bad.ensures c.if-is_bad.false c.is_end.ensures c.if-is_end.true
+    others_ended bytes _ start _ _ _ _ _ _ _ _ before count (omega arith) (omega arith) (c.in-Ok.ensures.told bytes _ before.reached.takes) c.is_bad.ensures
+    c.if-is_bad.false c.is_end.ensures c.if-is_end.true
 
 pub loop-number-preserved : goal.loop-number-preserved
 loop-number-preserved g c = record {
   told = λ bytes start first count.
       let before = c.loop-number.invariant.told bytes start first count in
-      others_step bytes _ start _ _ _ _ _ _ _ _ _ _ before count (omega arith) refl (c.in-Ok.ensures.told bytes _ before.reached.takes) c.is_bad.ensures c.if-is_bad.false c.is_end.ensures c.if-is_end.false c.with-others.ensures;
+      others_step bytes _ start _ _ _ _ _ _ _ _ _ _ before count (omega arith) refl (c.in-Ok.ensures.told bytes _ before.reached.takes) c.is_bad.ensures
+      c.if-is_bad.false c.is_end.ensures c.if-is_end.false c.with-others.ensures;
   later = omega (arith, c.in-Ok.ensures.later);
 }
 

@@ -5,7 +5,8 @@ use Rattle.fits_hdu.proofs.others.is_bad_count.Goals as goal
 
 pub returns-then-is_none : goal.returns-then-is_none
 returns-then-is_none c = λ cards is.
-    sym (bad_count _ cards _ _ true true _ is (sym c.if-is_valued.ensures) c.if-is_none.ensures (ap is_some (sym c.natural.ensures) ∙ c.is_none-then-is_none.ensures))
+    sym (bad_count _ cards _ _ true true _ is (sym c.if-is_valued.ensures) c.if-is_none.ensures
+    (ap is_some (sym c.natural.ensures) ∙ c.is_none-then-is_none.ensures))
 
 pub returns-else-is_none : goal.returns-else-is_none
 returns-else-is_none c = λ cards is. c.if-is_none.false ∙ sym (good_kept _ cards _ _ is (sym c.if-is_valued.ensures) c.if-is_none.ensures)

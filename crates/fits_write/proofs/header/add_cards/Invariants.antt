@@ -1,7 +1,7 @@
 -- The cards so far stand in the sink or wait.
 use Rattle.std.proofs.Common.{◌≤◌, ◌++◌, take}
 use Rattle.std.specs.List.{concat}
-use Rattle.fits_write.specs.Blocks.{Waits}
+use Rattle.fits_write.specs.Waiting.{Waits}
 use Rattle.fits_write.proofs.header.add_cards.Given as goal
 
 abbrev pub invariant-loop-card : goal.invariant-loop-card

@@ -1,7 +1,7 @@
 use Rattle.std.proofs.Common.{List, ℕ, subst}
 use Rattle.std.specs.Prelude.{OnOk, OnErr}
 use Rattle.dev_io.specs.Streams.{AppendsPrefix}
-use Rattle.fits_write.specs.Blocks.{Waits}
+use Rattle.fits_write.specs.Waiting.{Waits}
 use Rattle.fits_write.proofs.Pieces.{bytes_are}
 use Rattle.fits_write.proofs.map.add_numbers.Goals as goal
 

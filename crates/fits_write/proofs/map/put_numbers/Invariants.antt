@@ -1,6 +1,6 @@
 -- The numbers so far stand in the sink or wait.
 use Rattle.std.proofs.Common.{◌≤◌, ◌-◌, take, length}
-use Rattle.fits_write.specs.Blocks.{Waits}
+use Rattle.fits_write.specs.Waiting.{Waits}
 use Rattle.fits_write.specs.Hdus.{map_bytes}
 use Rattle.fits_write.proofs.map.put_numbers.Given as goal
 

@@ -9,4 +9,5 @@ returns-in-Err-clause-bytes g c = header_cut _ _ _ _ _ (c.plane_cards.ensures �
 
 pub returns-clause-bytes : goal.returns-clause-bytes
 unfolding plane_hdu
-returns-clause-bytes g c = header_and_data _ _ _ _ _ _ _ (c.plane_cards.ensures ∙ ap plane_cards c.shape.ensures.same) c.in_default.ensures.bytes c.put_pixels.ensures.bytes
+returns-clause-bytes g c =
+    header_and_data _ _ _ _ _ _ _ (c.plane_cards.ensures ∙ ap plane_cards c.shape.ensures.same) c.in_default.ensures.bytes c.put_pixels.ensures.bytes

@@ -9,7 +9,8 @@ returns-in-Err-clause-bytes g c =
     let values = c.args.plane.now.values in
     let inside : c.loop-p.p < length values = search rules in
     cut_filled _ _ _ 0
-    (waits_cut _ _ _ [] _ _ c.loop-p.p _ (piece_in pixel_bytes values _ inside) (piece_is pixel_bytes values _ _ None _ inside c.pixel_bytes.ensures c.get.ensures.value)
+    (waits_cut _ _ _ [] _ _ c.loop-p.p _ (piece_in pixel_bytes values _ inside)
+    (piece_is pixel_bytes values _ _ None _ inside c.pixel_bytes.ensures c.get.ensures.value)
     c.loop-p.invariant.waiting c.in-Err.ensures.err)
 
 pub loop-p-preserved : goal.loop-p-preserved
@@ -17,7 +18,9 @@ loop-p-preserved g c =
     let values = c.args.plane.now.values in
     let inside : c.loop-p.p < length values = search rules in
     record {
-      waiting = waits_more _ _ _ [] _ _ _ c.loop-p.p _ (piece_in pixel_bytes values _ inside) (piece_is pixel_bytes values _ _ None _ inside c.pixel_bytes.ensures c.get.ensures.value)
+      waiting =
+          waits_more _ _ _ [] _ _ _ c.loop-p.p _ (piece_in pixel_bytes values _ inside)
+          (piece_is pixel_bytes values _ _ None _ inside c.pixel_bytes.ensures c.get.ensures.value)
           c.loop-p.invariant.waiting c.in_default.ensures.ok;
       later = search rules;
     }

@@ -1,7 +1,7 @@
 -- The pixels so far stand in the sink or wait.
 use Rattle.std.proofs.Common.{◌≤◌, take, map}
 use Rattle.std.specs.List.{concat}
-use Rattle.fits_write.specs.Blocks.{Waits}
+use Rattle.fits_write.specs.Waiting.{Waits}
 use Rattle.fits_write.specs.Hdus.{pixel_bytes}
 use Rattle.fits_write.proofs.plane.put_pixels.Given as goal
 

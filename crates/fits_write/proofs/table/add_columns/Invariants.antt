@@ -1,7 +1,7 @@
 -- The cards of the columns so far stand in the sink or wait.
 use Rattle.std.proofs.Common.{◌≤◌, ◌++◌, take}
 use Rattle.std.specs.List.{concat}
-use Rattle.fits_write.specs.Blocks.{Waits}
+use Rattle.fits_write.specs.Waiting.{Waits}
 use Rattle.fits_write.specs.Columns.{column_cards}
 use Rattle.fits_write.proofs.table.add_columns.Given as goal
 

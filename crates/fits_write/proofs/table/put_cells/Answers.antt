@@ -13,7 +13,8 @@ returns-in-Err-clause-bytes g c =
     let h = c.loop-place-test.true in
     let fits : SFits w64 (get_or cells c.loop-place.place (pos 0)) = search rules in
     cut_filled _ _ _ 0
-    (waits_cut _ _ _ [] (cell_pieces columns cells) _ c.loop-place.place _ (cell_in columns cells _ h) (cell_is columns cells c.loop-place.place _ _ h refl (to_z-of_z w64 _ fits))
+    (waits_cut _ _ _ [] (cell_pieces columns cells) _ c.loop-place.place _ (cell_in columns cells _ h)
+    (cell_is columns cells c.loop-place.place _ _ h refl (to_z-of_z w64 _ fits))
     c.loop-place.invariant.waiting c.in-Err.ensures.err)
 
 pub loop-place-preserved : goal.loop-place-preserved
@@ -23,7 +24,9 @@ loop-place-preserved g c =
     let h = c.loop-place-test.true in
     let fits : SFits w64 (get_or cells c.loop-place.place (pos 0)) = search rules in
     record {
-      waiting = waits_more _ _ _ [] (cell_pieces columns cells) _ _ c.loop-place.place _ (cell_in columns cells _ h) (cell_is columns cells c.loop-place.place _ _ h refl (to_z-of_z w64 _ fits))
+      waiting =
+          waits_more _ _ _ [] (cell_pieces columns cells) _ _ c.loop-place.place _ (cell_in columns cells _ h)
+          (cell_is columns cells c.loop-place.place _ _ h refl (to_z-of_z w64 _ fits))
           c.loop-place.invariant.waiting c.in_default.ensures.ok;
       later = search rules;
     }
@@ -33,5 +36,6 @@ unfolding table_bytes
 returns-clause-bytes g c =
     let columns = c.args.columns.now in
     let cells = c.args.cells.now in
-    waits_filled _ _ _ _ _ _ 0 (waits_all _ _ [] (cell_pieces columns cells) _ c.loop-place.place (cells_over columns cells _ c.loop-place-test.false) c.loop-place.invariant.waiting)
+    waits_filled _ _ _ _ _ _ 0 (waits_all _ _ [] (cell_pieces columns cells) _ c.loop-place.place (cells_over columns cells _ c.loop-place-test.false)
+    c.loop-place.invariant.waiting)
     c.fill.ensures.bytes

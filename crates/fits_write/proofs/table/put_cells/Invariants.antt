@@ -1,7 +1,7 @@
 -- The cells so far stand in the sink or wait.
 use Rattle.std.proofs.Common.{◌≤◌, take}
 use Rattle.std.specs.List.{concat}
-use Rattle.fits_write.specs.Blocks.{Waits}
+use Rattle.fits_write.specs.Waiting.{Waits}
 use Rattle.fits_write.proofs.TableParts.{cell_pieces}
 use Rattle.fits_write.proofs.table.put_cells.Given as goal
 

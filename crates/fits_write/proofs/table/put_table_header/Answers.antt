@@ -11,11 +11,13 @@ returns-in-Err-add_columns-clause-bytes g c =
 pub returns-in-Err-add_cards-clause-bytes : goal.returns-in-Err-add_cards-clause-bytes
 returns-in-Err-add_cards-clause-bytes g c =
     back_cut _ _ _ c.args.columns.now c.args.rows _ _ c.table_back.ensures
-    (middle_waits _ _ _ _ c.args.columns.now c.args.rows _ _ _ c.new-blocks.ensures c.table_front.ensures c.in_default.ensures.ok c.in_default-add_columns.ensures.ok)
+    (middle_waits _ _ _ _ c.args.columns.now c.args.rows _ _ _ c.new-blocks.ensures c.table_front.ensures c.in_default.ensures.ok
+    c.in_default-add_columns.ensures.ok)
     c.in-Err-add_cards.ensures.err
 
 pub returns-clause-bytes : goal.returns-clause-bytes
 returns-clause-bytes g c =
     header_filled _ _ _ _ _ c.args.columns.now c.args.rows _ _ _ c.table_back.ensures
-    (middle_waits _ _ _ _ c.args.columns.now c.args.rows _ _ _ c.new-blocks.ensures c.table_front.ensures c.in_default.ensures.ok c.in_default-add_columns.ensures.ok)
+    (middle_waits _ _ _ _ c.args.columns.now c.args.rows _ _ _ c.new-blocks.ensures c.table_front.ensures c.in_default.ensures.ok
+    c.in_default-add_columns.ensures.ok)
     c.in_default-add_cards.ensures.ok c.fill.ensures.bytes

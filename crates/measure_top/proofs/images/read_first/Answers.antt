@@ -1,5 +1,5 @@
 use Rattle.std.proofs.Common.{subst, sym}
-use Rattle.pixel_plane.specs.Verdicts.{verdict}
+use Rattle.pixel_plane.specs.Verdicts.{verdict_on}
 use Rattle.detect_top.specs.Streams.{ImageStopped}
 use Rattle.detect_top.proofs.Exported.{verdict_is, search_stopped}
 use Rattle.measure_top.proofs.Firsts.{first_read}
@@ -7,7 +7,7 @@ use Rattle.measure_top.proofs.images.read_first.Goals as goal
 
 pub returns-in-Err-clause-told : goal.returns-in-Err-clause-told
 returns-in-Err-clause-told g c = λ x e.
-    subst (ImageStopped (verdict x c.args.number) x _) (sym c.at_hdu.ensures) (search_stopped x c.args.number _ _ (c.in-Err.ensures.told x e))
+    subst (ImageStopped (verdict_on x c.args.number) x _) (sym c.at_hdu.ensures) (search_stopped x c.args.number _ _ (c.in-Err.ensures.told x e))
 
 pub returns-in-Ok-read_found-clause-told : goal.returns-in-Ok-read_found-clause-told
 returns-in-Ok-read_found-clause-told g c = λ x e.
@@ -17,4 +17,5 @@ returns-in-Ok-read_found-clause-told g c = λ x e.
 pub returns-in-Err-read_found-clause-told : goal.returns-in-Err-read_found-clause-told
 returns-in-Err-read_found-clause-told g c = λ x e.
     let place = c.in-Ok.ensures.told x e in
-    subst (λ v. ImageStopped v x (g.S.Source.left c.read_found.new.src) c.in-Err-read_found.stop) (sym (verdict_is x c.args.number _ place.1)) (c.in-Err-read_found.ensures.told x place.0 place.2)
+    subst (λ v. ImageStopped v x (g.S.Source.left c.read_found.new.src) c.in-Err-read_found.stop) (sym (verdict_is x c.args.number _ place.1))
+    (c.in-Err-read_found.ensures.told x place.0 place.2)

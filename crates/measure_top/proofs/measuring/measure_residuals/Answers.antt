@@ -9,7 +9,8 @@ use Rattle.measure_top.proofs.measuring.measure_residuals.Goals as goal
 
 pub cells_in_tree-requires-clause-shape : goal.cells_in_tree-requires-clause-shape
 cells_in_tree-requires-clause-shape g c =
-    cut_tree_shape c.args.plane c.cut_below.new.plane c.args.values.now c.args.order.connect _ c.in_ok-tree.tree c.cut_below.ensures c.in_ok-tree.ensures c.requires.shape
+    cut_tree_shape c.args.plane c.cut_below.new.plane c.args.values.now c.args.order.connect _ c.in_ok-tree.tree c.cut_below.ensures c.in_ok-tree.ensures
+    c.requires.shape
 
 pub cells_in_tree-requires-clause-tree : goal.cells_in_tree-requires-clause-tree
 cells_in_tree-requires-clause-tree g c =
@@ -24,7 +25,8 @@ cells_in_tree-requires-clause-there g c =
     subst (λ (h : ℤ). c.cut_below.new.plane ≡ cut c.args.plane h) (to_z-of_z w64 c.lowest_base.result level) c.cut_below.ensures in
     let low = subst (HaveBasesFrom c.lowest_base.result) c.deref.ensures.value c.lowest_base.ensures.bases in
     subst (StandIn c.in_ok-tree.tree) (sym c.deref-2.ensures.value)
-    (sources_stand c.args.plane c.cut_below.new.plane c.args.order.connect c.args.choice.now c.lowest_base.result c.in_ok-tree.tree c.in_ok-picked.picked.nodes.items one is
+    (sources_stand c.args.plane c.cut_below.new.plane c.args.order.connect c.args.choice.now c.lowest_base.result c.in_ok-tree.tree
+    c.in_ok-picked.picked.nodes.items one is
     c.in_ok-tree.ensures c.in_ok-picked.ensures.exact.nodes_are low)
 
 pub cells_in_tree-requires-clause-fits : goal.cells_in_tree-requires-clause-fits
@@ -32,7 +34,8 @@ cells_in_tree-requires-clause-fits g c = subst HaveFittingRows (sym c.deref-2.en
 
 pub returns-clause-writable : goal.returns-clause-writable
 returns-clause-writable g c =
-    can_be_put c.args.plane c.shape-shape.result _ c.in_ok-picked.picked.nodes.items _ c.shape-shape.ensures.same c.in_ok-picked.ensures.listed c.in_ok-cells.ensures.table
+    can_be_put c.args.plane c.shape-shape.result _ c.in_ok-picked.picked.nodes.items _ c.shape-shape.ensures.same c.in_ok-picked.ensures.listed
+    c.in_ok-cells.ensures.table
 
 pub returns-clause-bytes : goal.returns-clause-bytes
 returns-clause-bytes g c =
@@ -43,5 +46,6 @@ returns-clause-bytes g c =
     let low = subst (HaveBasesFrom c.lowest_base.result) c.deref.ensures.value c.lowest_base.ensures.bases in
     are_sources c.args.plane c.cut_below.new.plane c.args.values.now c.args.order.connect c.args.choice.now c.shape-shape.result c.lowest_base.result _
     c.in_ok-picked.picked.nodes.items _ one c.shape-shape.ensures.same c.in_ok-picked.ensures.exact is low
-    (c.in_ok-cells.ensures.exact c.cut_below.new.plane c.args.order.connect (plane-cut c.args.plane c.cut_below.new.plane c.lowest_base.result one is) c.in_ok-tree.ensures
+    (c.in_ok-cells.ensures.exact c.cut_below.new.plane c.args.order.connect (plane-cut c.args.plane c.cut_below.new.plane c.lowest_base.result one is)
+    c.in_ok-tree.ensures
     ∙ ap (all_cells c.cut_below.new.plane c.args.values.now c.args.order.connect) c.deref-2.ensures.value)

@@ -3,9 +3,10 @@ use Rattle.std.specs.Prelude.{pos}
 use Rattle.std.proofs.lemmas.Int.{to_z-of_z}
 use Rattle.fits_write.specs.Columns.{IsTable}
 use Rattle.dual_measure.specs.declared.values.Measure.{Measure}
-use Rattle.measure_top.specs.MeasuredCatalogues.{measured_columns}
+use Rattle.catalogue_form.specs.Columns.{measured_columns}
 use Rattle.measure_top.proofs.MeasuredTables.{row_table}
-use Rattle.measure_top.proofs.MeasuredRows.{one_measure_each, measure_read, size_read, cells_are}
+use Rattle.measure_top.proofs.MeasuredRows.{measure_read, size_read, cells_are}
+use Rattle.dual_measure.proofs.Exported.{one_for_each}
 use Rattle.measure_top.proofs.measuring.row_cells.Goals as goal
 
 -- what is read behind the end of a list
@@ -19,16 +20,18 @@ nothing = record {
 }
 
 pub bounds-measures-n : goal.bounds-measures-n
-bounds-measures-n c = omega (arith, c.requires.node, one_measure_each c.args.tree.now c.args.measures.now c.requires.measures)
+bounds-measures-n c = omega (arith, c.requires.node, one_for_each c.args.tree.now c.args.measures.now c.requires.measures)
 
 pub measured_cells-requires : goal.measured_cells-requires
-measured_cells-requires c = let size = size_read c.args.tree.now c.args.measures.now c.args.n nothing c.requires.measures c.requires.small c.requires.node in size.sum
+measured_cells-requires c =
+    let size = size_read c.args.tree.now c.args.measures.now c.args.n nothing c.requires.measures c.requires.small c.requires.node in size.sum
 
 pub returns-clause-exact : goal.returns-clause-exact
 returns-clause-exact c = λ plane values connect one tree_is measures_are.
     let fits : SFits w64 c.back-around.result = search rules in
     c.measured_cells.ensures
-    ∙ cells_are c.args.row.now _ _ _ _ (measure_read values plane connect c.args.tree.now c.args.measures.now c.args.n nothing tree_is measures_are c.requires.node)
+    ∙ cells_are c.args.row.now _ _ _ _ (measure_read values plane connect c.args.tree.now c.args.measures.now c.args.n nothing tree_is measures_are
+    c.requires.node)
     (to_z-of_z w64 c.back-around.result fits ∙ c.back-around.ensures values plane connect one tree_is measures_are)
 
 pub returns-clause-table : goal.returns-clause-table

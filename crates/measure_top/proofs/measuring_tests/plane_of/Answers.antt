@@ -14,7 +14,8 @@ each_after (x ∷ xs) zero v before small (suc q) w h = before (suc q) w h
 each_after (x ∷ xs) (suc p) v before small zero w h = before zero w h
 each_after (x ∷ xs) (suc p) v before small (suc q) w h = each_after xs p v (λ j u k. before (suc j) u k) small q w h
 
-set_in_half : (old new : Raster) (p : ℕ) (v : ℤ) → HasValuesInHalfRange old.values → IsInHalfRange v → new ≡ record old { values = slice_set old.values p (Some v) }
+set_in_half : (old new : Raster) (p : ℕ) (v : ℤ) → HasValuesInHalfRange old.values → IsInHalfRange v → new
+    ≡ record old { values = slice_set old.values p (Some v) }
     → HasValuesInHalfRange new.values
 set_in_half old new p v before small is =
     let after : HasValuesInHalfRange (slice_set old.values p (Some v)) = record { each = each_after old.values p v before.each small } in
@@ -24,7 +25,8 @@ pub loop-p-preserved : goal.loop-p-preserved
 loop-p-preserved c = elim c.if-value-gtminus99.branch [
   | then-value-gtminus99+then-value-lt99+then-p-pixels w ↦ record {
     shape = ap (λ (r : Raster). r.shape) (w.plane-is ∙ w.set.ensures) ∙ c.loop-p.invariant.shape;
-    storable = set_in_half c.loop-p.plane c.if-value-gtminus99.plane _ _ c.loop-p.invariant.storable (record { low = omega (arith, ints); high = omega (arith, ints) }) (w.plane-is ∙ w.set.ensures);
+    storable = set_in_half c.loop-p.plane c.if-value-gtminus99.plane _ _ c.loop-p.invariant.storable
+        (record { low = omega (arith, ints); high = omega (arith, ints) }) (w.plane-is ∙ w.set.ensures);
   }
   | else-value-gtminus99 w ↦ record {
     shape = ap (λ (r : Raster). r.shape) w.plane-is ∙ c.loop-p.invariant.shape;

@@ -1,7 +1,8 @@
 use Rattle.std.proofs.Common.{subst, sym, arith, rules, w64, SFits, to_z, of_z, ℤ, ◌≡◌}
 use Rattle.std.specs.Prelude.{◌≤ℤ◌}
 use Rattle.std.proofs.lemmas.Int.{ints, to_z-of_z}
-use Rattle.measure_top.proofs.PickedRows.{nobody, no_bases, base_more, all_bases, le_trans}
+use Rattle.measure_top.proofs.PickedRows.{nobody, no_bases, base_more, all_bases}
+use Rattle.lemmas.proofs.Exported.{le_trans}
 use Rattle.measure_top.proofs.picking_near.lowest_base.Goals as goal
 
 pub loop-node-init : goal.loop-node-init
@@ -19,14 +20,17 @@ loop-node-preserved c =
     let before = c.loop-node.invariant.level in
     record {
       level = subst (λ (z : ℤ). z ≤ℤ to_z w64 (of_z w64 c.args.level)) (sym same) (le_trans _ _ _ a before);
-      bases = base_more (to_z w64 c.loop-node.lowest-bits) (to_z w64 (of_z w64 c.min-lowest.result)) c.args.nodes.now c.loop-node.node-index nobody c.loop-node.invariant.bases
+      bases =
+          base_more (to_z w64 c.loop-node.lowest-bits) (to_z w64 (of_z w64 c.min-lowest.result)) c.args.nodes.now c.loop-node.node-index nobody
+          c.loop-node.invariant.bases
           c.loop-node-test.true (subst (λ (z : ℤ). z ≤ℤ to_z w64 c.loop-node.lowest-bits) (sym same) a)
           (subst (λ (z : ℤ). to_z w64 (of_z w64 c.min-lowest.result) ≤ℤ z) base_is
           (subst (λ (z : ℤ). z ≤ℤ c.base-low.result) (sym same) (subst (λ (z : ℤ). c.min-lowest.result ≤ℤ z) base_same b)));
     }
 
 pub returns-clause-level : goal.returns-clause-level
-returns-clause-level c = let l = c.loop-node.invariant.level in subst (λ (z : ℤ). to_z w64 c.loop-node.lowest-bits ≤ℤ z) (to_z-of_z w64 c.args.level c.ranges.level) l
+returns-clause-level c =
+    let l = c.loop-node.invariant.level in subst (λ (z : ℤ). to_z w64 c.loop-node.lowest-bits ≤ℤ z) (to_z-of_z w64 c.args.level c.ranges.level) l
 
 pub returns-clause-bases : goal.returns-clause-bases
 returns-clause-bases c = all_bases _ c.args.nodes.now c.loop-node.node-index c.loop-node.invariant.bases c.loop-node-test.false

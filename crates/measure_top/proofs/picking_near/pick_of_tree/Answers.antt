@@ -13,5 +13,6 @@ returns-clause-exact g c = λ connect is.
 
 pub returns-clause-listed : goal.returns-clause-listed
 returns-clause-listed g c =
-    can_be_listed c.args.plane.now c.args.tree.now _ _ c.requires.of_plane (c.shape-shape.ensures.pixels ∙ ap (λ (s : Shape). s.width * s.height) c.shape-shape.ensures.same)
+    can_be_listed c.args.plane.now c.args.tree.now _ _ c.requires.of_plane
+    (c.shape-shape.ensures.pixels ∙ ap (λ (s : Shape). s.width * s.height) c.shape-shape.ensures.same)
     c.in_ok-map.ensures.one_each c.in_ok-map.ensures.few c.in_ok-nodes.ensures.few c.in_ok-nodes.ensures.fits

@@ -1,13 +1,16 @@
 use Rattle.std.proofs.Common.{arith}
 use Rattle.std.proofs.lemmas.Option.{slice_get-get_or}
-use Rattle.measure_top.proofs.PickedRows.{few_sources, no_nodes, node_more, all_nodes}
+use Rattle.measure_top.proofs.PickedRows.{no_nodes, node_more, all_nodes}
+use Rattle.detect_top.proofs.Exported.{few_picked}
 use Rattle.measure_top.proofs.picking_near.picked_nodes.Goals as goal
 
 pub overflow_cast-place : goal.overflow_cast-place
-overflow_cast-place c = let few = few_sources c.args.tree.now c.args.picked.now c.requires.disjoint in record { fits = omega (arith, few, c.loop-place-test.true) }
+overflow_cast-place c =
+    let few = few_picked c.args.tree.now c.args.picked.now c.requires.disjoint in record { fits = omega (arith, few, c.loop-place-test.true) }
 
 pub overflow_add-place : goal.overflow_add-place
-overflow_add-place c = let few = few_sources c.args.tree.now c.args.picked.now c.requires.disjoint in record { fits = omega (arith, few, c.loop-place-test.true) }
+overflow_add-place c =
+    let few = few_picked c.args.tree.now c.args.picked.now c.requires.disjoint in record { fits = omega (arith, few, c.loop-place-test.true) }
 
 pub loop-place-init : goal.loop-place-init
 loop-place-init c = no_nodes c.args.tree.now c.args.sums.now c.args.picked.now c.in-Ok.nodes.items c.in-Ok.ensures.items
@@ -17,11 +20,13 @@ picked_node-node-requires-clause-node c =
     c.requires.disjoint.nodes c.loop-place.place _ (slice_get-get_or c.args.picked.now c.loop-place.place 0 c.loop-place-test.true)
 
 pub picked_node-node-requires-clause-few : goal.picked_node-node-requires-clause-few
-picked_node-node-requires-clause-few c = let few = few_sources c.args.tree.now c.args.picked.now c.requires.disjoint in omega (arith, few, c.loop-place-test.true)
+picked_node-node-requires-clause-few c =
+    let few = few_picked c.args.tree.now c.args.picked.now c.requires.disjoint in omega (arith, few, c.loop-place-test.true)
 
 pub loop-place-preserved : goal.loop-place-preserved
 loop-place-preserved c =
-    node_more c.args.tree.now c.args.sums.now c.args.picked.now c.loop-place.place c.loop-place.nodes.items c.push.new.self.items c.picked_node-node.result c.loop-place.invariant
+    node_more c.args.tree.now c.args.sums.now c.args.picked.now c.loop-place.place c.loop-place.nodes.items c.push.new.self.items c.picked_node-node.result
+    c.loop-place.invariant
     c.loop-place-test.true c.in-Ok-push.ensures.items c.picked_node-node.ensures.columns c.picked_node-node.ensures.row c.picked_node-node.ensures.rep
 
 pub returns-clause-exact : goal.returns-clause-exact
@@ -30,7 +35,7 @@ returns-clause-exact c =
 
 pub returns-clause-few : goal.returns-clause-few
 returns-clause-few c =
-    let few = few_sources c.args.tree.now c.args.picked.now c.requires.disjoint in
+    let few = few_picked c.args.tree.now c.args.picked.now c.requires.disjoint in
     let many = c.loop-place.invariant.many in
     omega (arith, few, many, c.loop-place.auto.place-end)
 

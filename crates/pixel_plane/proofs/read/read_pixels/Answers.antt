@@ -22,7 +22,15 @@ loop-first-preserved g c =
 
 pub returns-clause-told : goal.returns-clause-told
 returns-clause-told g c = λ x e.
-    let all : c.loop-first.first ≡ length c.loop-first.plane.values = omega (arith, c.loop-first-test.false, c.loop-first.invariant.within, c.loop-first.invariant.values, c.shape.ensures.pixels, c.pixels-count.ensures.product) in
+    let all : c.loop-first.first ≡ length c.loop-first.plane.values =
+    omega (
+      arith,
+      c.loop-first-test.false,
+      c.loop-first.invariant.within,
+      c.loop-first.invariant.values,
+      c.shape.ensures.pixels,
+      c.pixels-count.ensures.product,
+    ) in
     subst (ReadSoFar c.args.encoding.now x _ c.loop-first.plane.values) all (c.loop-first.invariant.told x e)
 
 pub returns-in-Err-clause-told : goal.returns-in-Err-clause-told
@@ -44,14 +52,14 @@ returns-in-Err-decode-clause-told g c = λ x e.
     let taken = taken_to c.args.encoding.now x _ _ _ _ _ order size before.takes fills in
     let far = c.in-Err-decode.ensures.decoded in
     let near = c.in-Err-decode.ensures.half_range in
-    let stopped = c.range_fault.ensures.told _ taken.rest in
-    subst (λ n. PixelsStopped c.args.encoding.now n x (g.S.Source.left c.range_fault.new.src) c.range_fault.result) count
+    let stopped = c.stop_at_range.ensures.told _ taken.rest in
+    subst (λ n. PixelsStopped c.args.encoding.now n x (g.S.Source.left c.stop_at_range.new.src) c.stop_at_range.result) count
     (far_stopped c.args.encoding.now x _ _ _ _ _ _ _ _ _ _ _ _ order within size before fills far near stopped)
 
 pub returns-in-Err-clause-range : goal.returns-in-Err-clause-range
-returns-in-Err-clause-range g c = none_far_named c.args.encoding.now (length c.args.plane.now.values) c.in-Err.fault c.in-Err.ensures.range
+returns-in-Err-clause-range g c = none_far_named c.args.encoding.now (length c.args.plane.now.values) c.in-Err.stop c.in-Err.ensures.range
 
 pub returns-in-Err-decode-clause-range : goal.returns-in-Err-decode-clause-range
 returns-in-Err-decode-clause-range g c =
     let within : c.min-end.result ≤ length c.args.plane.now.values = search rules in
-    far_named c.args.encoding.now _ _ _ _ _ _ _ _ c.range_fault.result within c.in-Err-decode.ensures.decoded c.range_fault.ensures.range
+    far_named c.args.encoding.now _ _ _ _ _ _ _ _ c.stop_at_range.result within c.in-Err-decode.ensures.decoded c.stop_at_range.ensures.range

@@ -31,7 +31,8 @@ returns-in-Err-clause-told g c = λ x e.
       blank = c.of-encoding.ensures.blank;
     } in
     let blank : length c.in-Ok.plane.values ≡ c.args.shape.width * c.args.shape.height = ap length c.in-Ok.ensures.undefined ∙ length-replicate _ _ in
-    plane_stopped c.args.hdu.now c.args.shape c.of-encoding.result x _ _ c.in-Err.fault encoding (shape_without_fault c.args.hdu.now c.args.shape c.requires) blank
+    plane_stopped c.args.hdu.now c.args.shape c.of-encoding.result x _ _ c.in-Err.stop encoding (shape_without_fault c.args.hdu.now c.args.shape c.requires)
+    blank
     (c.in-Err.ensures.told x e)
 
 pub returns-in-Err-clause-range : goal.returns-in-Err-clause-range
@@ -42,4 +43,5 @@ returns-in-Err-clause-range g c =
       blank = c.of-encoding.ensures.blank;
     } in
     let blank : length c.in-Ok.plane.values ≡ c.args.shape.width * c.args.shape.height = ap length c.in-Ok.ensures.undefined ∙ length-replicate _ _ in
-    pixel_named c.args.hdu.now c.args.shape c.of-encoding.result _ c.in-Err.fault encoding (shape_without_fault c.args.hdu.now c.args.shape c.requires) blank c.in-Err.ensures.range
+    pixel_named c.args.hdu.now c.args.shape c.of-encoding.result _ c.in-Err.stop encoding (shape_without_fault c.args.hdu.now c.args.shape c.requires) blank
+    c.in-Err.ensures.range

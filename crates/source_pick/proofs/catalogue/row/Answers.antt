@@ -13,7 +13,8 @@ use Rattle.source_pick.proofs.catalogue.row.Goals as goal
 
 pub bounds-sums-n : goal.bounds-sums-n
 bounds-sums-n c =
-    sums_inside c.requires.sums.plane c.requires.sums.of_plane.connect c.args.tree.now c.args.sums.now c.args.n (of_trees c.args.tree.now c.args.sums.now c.requires.sums) c.requires.node
+    sums_inside c.requires.sums.plane c.requires.sums.of_plane.connect c.args.tree.now c.args.sums.now c.args.n
+    (of_trees c.args.tree.now c.args.sums.now c.requires.sums) c.requires.node
 
 pub row_from-requires : goal.row_from-requires
 row_from-requires c =
@@ -26,7 +27,8 @@ row_from-requires c =
     (to_z-of_z w64 c.flux-flux.result flux ∙ c.flux-flux.ensures.exact t.plane t.of_plane.connect o.tree_is o.sums_are)
     (ap (λ (s : Shape). s.width) (c.shape-width.ensures.same ∙ tree-shape t.plane t.of_plane.connect c.args.tree.now o.tree_is))
     (sums-read t.plane t.of_plane.connect c.args.tree.now c.args.sums.now c.args.n _ o c.requires.node)
-    (measured t.plane t.of_plane.connect c.args.n o.plane t.in_range (node_inside t.plane t.of_plane.connect c.args.tree.now c.args.n o.tree_is c.requires.node) c.args.number c.requires.few)
+    (measured t.plane t.of_plane.connect c.args.n o.plane t.in_range (node_inside t.plane t.of_plane.connect c.args.tree.now c.args.n o.tree_is c.requires.node)
+    c.args.number c.requires.few)
 
 pub returns-clause-exact : goal.returns-clause-exact
 returns-clause-exact c = λ r connect e f.
@@ -55,7 +57,8 @@ returns-clause-columns c =
     (to_z-of_z w64 c.flux-flux.result flux ∙ c.flux-flux.ensures.exact t.plane t.of_plane.connect o.tree_is o.sums_are)
     (ap (λ (s : Shape). s.width) (c.shape-width.ensures.same ∙ tree-shape t.plane t.of_plane.connect c.args.tree.now o.tree_is))
     (sums-read t.plane t.of_plane.connect c.args.tree.now c.args.sums.now c.args.n _ o c.requires.node)
-    (measured t.plane t.of_plane.connect c.args.n o.plane t.in_range (node_inside t.plane t.of_plane.connect c.args.tree.now c.args.n o.tree_is c.requires.node) c.args.number c.requires.few)))
+    (measured t.plane t.of_plane.connect c.args.n o.plane t.in_range (node_inside t.plane t.of_plane.connect c.args.tree.now c.args.n o.tree_is c.requires.node)
+    c.args.number c.requires.few)))
 
 pub returns-clause-centred : goal.returns-clause-centred
 returns-clause-centred c =
@@ -70,4 +73,5 @@ returns-clause-centred c =
     (to_z-of_z w64 c.flux-flux.result flux ∙ c.flux-flux.ensures.exact t.plane t.of_plane.connect o.tree_is o.sums_are)
     (ap (λ (s : Shape). s.width) (c.shape-width.ensures.same ∙ tree-shape t.plane t.of_plane.connect c.args.tree.now o.tree_is))
     (sums-read t.plane t.of_plane.connect c.args.tree.now c.args.sums.now c.args.n _ o c.requires.node)
-    (measured t.plane t.of_plane.connect c.args.n o.plane t.in_range (node_inside t.plane t.of_plane.connect c.args.tree.now c.args.n o.tree_is c.requires.node) c.args.number c.requires.few)))
+    (measured t.plane t.of_plane.connect c.args.n o.plane t.in_range (node_inside t.plane t.of_plane.connect c.args.tree.now c.args.n o.tree_is c.requires.node)
+    c.args.number c.requires.few)))

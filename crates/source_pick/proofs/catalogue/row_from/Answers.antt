@@ -18,7 +18,8 @@ centre-requires c =
     let got : SFits w128 c.weighted.result = search rules in
     widest _ c.args.s.now.x _ c.args.s.now.area c.args.s.now.xmin c.args.s.now.xmax
     (mean-read _ _ c.args.s.now.x c.args.flux c.args.s.now.area c.args.s.now.xmin c.args.s.now.xmax c.requires.across
-    (weighted-read c.weighted.result c.args.s.now.rx c.args.base c.args.s.now.x got (moment_fits c.args.base c.args.s.now c.requires.base_up_to c.requires.sizes) c.ranges.base c.weighted.ensures) c.ranges.flux)
+    (weighted-read c.weighted.result c.args.s.now.rx c.args.base c.args.s.now.x got
+    (moment_fits c.args.base c.args.s.now c.requires.base_up_to c.requires.sizes) c.ranges.base c.weighted.ensures) c.ranges.flux)
 
 pub weighted-requires-2 : goal.weighted-requires-2
 weighted-requires-2 c =
@@ -30,7 +31,8 @@ centre-requires-2 c =
     let got : SFits w128 c.weighted-2.result = search rules in
     widest _ c.args.s.now.y _ c.args.s.now.area c.args.s.now.ymin c.args.s.now.ymax
     (mean-read _ _ c.args.s.now.y c.args.flux c.args.s.now.area c.args.s.now.ymin c.args.s.now.ymax c.requires.along
-    (weighted-read c.weighted-2.result c.args.s.now.ry c.args.base c.args.s.now.y got (moment_fits_along c.args.base c.args.s.now c.requires.base_up_to c.requires.sizes) c.ranges.base c.weighted-2.ensures) c.ranges.flux)
+    (weighted-read c.weighted-2.result c.args.s.now.ry c.args.base c.args.s.now.y got
+    (moment_fits_along c.args.base c.args.s.now c.requires.base_up_to c.requires.sizes) c.ranges.base c.weighted-2.ensures) c.ranges.flux)
 
 pub returns : goal.returns
 unfolding measured_row
@@ -54,12 +56,15 @@ returns c =
     (to_z_pos w64 c.args.s.now.xmax (omega (arith, c.requires.across.high_small)))
     (to_z_pos w64 c.args.s.now.ymin (omega (arith, c.requires.along.ordered, c.requires.along.high_small)))
     (to_z_pos w64 c.args.s.now.ymax (omega (arith, c.requires.along.high_small)))
-    (to_z_pos w64 (c.args.s.now.first % c.args.width + 1) (omega (arith, mod_below c.args.s.now.first c.args.width c.requires.some_columns, c.requires.few_columns)))
+    (to_z_pos w64 (c.args.s.now.first % c.args.width + 1)
+    (omega (arith, mod_below c.args.s.now.first c.args.width c.requires.some_columns, c.requires.few_columns)))
     (to_z_pos w64 (c.args.s.now.first / c.args.width + 1) (omega (arith, c.requires.few_rows)))
     (centre_is c.centre.result _ _ c.args.s.now.x c.args.flux c.args.s.now.area across c.ranges.flux
-    (weighted-read c.weighted.result c.args.s.now.rx c.args.base c.args.s.now.x weighed (moment_fits c.args.base c.args.s.now c.requires.base_up_to c.requires.sizes) c.ranges.base c.weighted.ensures) c.centre.ensures)
+    (weighted-read c.weighted.result c.args.s.now.rx c.args.base c.args.s.now.x weighed
+    (moment_fits c.args.base c.args.s.now c.requires.base_up_to c.requires.sizes) c.ranges.base c.weighted.ensures) c.centre.ensures)
     (centre_is c.centre-2.result _ _ c.args.s.now.y c.args.flux c.args.s.now.area along c.ranges.flux
-    (weighted-read c.weighted-2.result c.args.s.now.ry c.args.base c.args.s.now.y weighed_along (moment_fits_along c.args.base c.args.s.now c.requires.base_up_to c.requires.sizes) c.ranges.base c.weighted-2.ensures) c.centre-2.ensures)
+    (weighted-read c.weighted-2.result c.args.s.now.ry c.args.base c.args.s.now.y weighed_along
+    (moment_fits_along c.args.base c.args.s.now c.requires.base_up_to c.requires.sizes) c.ranges.base c.weighted-2.ensures) c.centre-2.ensures)
     (to_z-of_z w64 c.spread.result spread ∙ c.spread.ensures)
     (to_z-of_z w64 c.spread-2.result spread_along ∙ c.spread-2.ensures)
     (to_z-of_z w64 c.spread-3.result both ∙ c.spread-3.ensures)

@@ -14,13 +14,15 @@ clear_unmarked-requires g c = length_of_marks _ _ _ c.deref.result.now (c.deref.
 pub returns-then-not-has_below-clause-kept : goal.returns-then-not-has_below-clause-kept
 returns-then-not-has_below-clause-kept g c =
     kept_whole c.args.plane.now c.args.connect c.args.threshold
-    (subst (λ (h : ℤ). HasNoneBelow c.args.plane.now h (length c.args.plane.now.values)) (to_z-of_z w64 c.args.threshold c.ranges.threshold) (c.has_below.ensures c.if-not-has_below.true))
+    (subst (λ (h : ℤ). HasNoneBelow c.args.plane.now h (length c.args.plane.now.values)) (to_z-of_z w64 c.args.threshold c.ranges.threshold)
+    (c.has_below.ensures c.if-not-has_below.true))
 
 pub returns-clause-kept : goal.returns-clause-kept
 returns-clause-kept g c =
     c.clear_unmarked.ensures
     ∙ without-kept c.args.plane.now c.args.connect c.args.threshold c.deref.result.now
-    (subst (λ (h : ℤ). c.deref.result.now ≡ map (is_near_high c.args.plane.now c.args.connect h) (pixels c.args.plane.now)) (to_z-of_z w64 c.args.threshold c.ranges.threshold)
+    (subst (λ (h : ℤ). c.deref.result.now ≡ map (is_near_high c.args.plane.now c.args.connect h) (pixels c.args.plane.now))
+    (to_z-of_z w64 c.args.threshold c.ranges.threshold)
     (c.deref.ensures.value ∙ c.in_ok-marks.ensures))
 
 pub returns-clause-same : goal.returns-clause-same

@@ -17,7 +17,9 @@ loop-p-preserved c =
     (omega (arith, c.min-p-end.ensures, c.loop-p-test.true, c.max-p.ensures, c.loop-p.auto.p))
 
 pub returns : goal.returns
-returns c = between_all c.args.start c.args.first c.args.end c.loop-p.p c.args.marks.now c.loop-p.marks c.loop-p.invariant (go (cases_lt c.args.end (c.args.start + length c.args.marks.now)))
+returns c =
+    between_all c.args.start c.args.first c.args.end c.loop-p.p c.args.marks.now c.loop-p.marks c.loop-p.invariant
+    (go (cases_lt c.args.end (c.args.start + length c.args.marks.now)))
   where
     go : (c.args.end < c.args.start + length c.args.marks.now) ⊎ (c.args.start + length c.args.marks.now ≤ c.args.end)
         → (c.args.end ≤ c.loop-p.p) ⊎ (c.args.start + length c.args.marks.now ≤ c.loop-p.p)

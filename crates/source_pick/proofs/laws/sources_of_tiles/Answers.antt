@@ -3,4 +3,5 @@ use Rattle.source_pick.proofs.Tiling.{tiles_give_the_catalogue}
 use Rattle.source_pick.proofs.laws.sources_of_tiles.Goals as goal
 
 pub returns : goal.returns
-returns c = record { each = each_source_is_a_tiles; own = own_sources_are_the_wholes; distinct = own_sources_are_distinct; catalogue = tiles_give_the_catalogue }
+returns c =
+    record { each = each_source_is_a_tiles; own = own_sources_are_the_wholes; distinct = own_sources_are_distinct; catalogue = tiles_give_the_catalogue }

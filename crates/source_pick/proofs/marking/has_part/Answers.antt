@@ -9,7 +9,8 @@ pub overflow_mul-result-2 : goal.overflow_mul-result-2
 overflow_mul-result-2 c =
     let whole : SFits w64 c.flux-whole.result = search rules in
     let few : c.args.choice.now.contrast < 2 ^ 32 = search rules in
-    subst (λ (z : ℤ). SFits w128 z) (sym (product-read c.args.choice.now.contrast c.flux-whole.result few whole)) (part_fits c.args.choice.now.contrast c.flux-whole.result few whole)
+    subst (λ (z : ℤ). SFits w128 z) (sym (product-read c.args.choice.now.contrast c.flux-whole.result few whole))
+    (part_fits c.args.choice.now.contrast c.flux-whole.result few whole)
 
 pub returns : goal.returns
 returns c = λ r connect of_tree of_sums is_plane.

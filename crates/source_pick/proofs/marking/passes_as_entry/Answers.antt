@@ -13,7 +13,8 @@ returns-then-rows-n c = λ r connect of_tree of_sums is_plane.
     (level-read r connect c.args.tree.now c.rows.result.now c.args.n _ of_tree c.rows.ensures c.requires.node) refl) ∙ c.if-rows-n.true)
 
 pub returns-then-not-lies_lowest : goal.returns-then-not-lies_lowest
-returns-then-not-lies_lowest c = λ r connect of_tree of_sums is_plane. entry_not_lowest r connect c.args.choice.now c.args.n (c.if-not-lies_lowest.ensures r connect of_tree)
+returns-then-not-lies_lowest c =
+    λ r connect of_tree of_sums is_plane. entry_not_lowest r connect c.args.choice.now c.args.n (c.if-not-lies_lowest.ensures r connect of_tree)
 
 pub returns : goal.returns
 returns c = λ r connect of_tree of_sums is_plane.

@@ -15,14 +15,17 @@ pub returns-then-not-has_size : goal.returns-then-not-has_size
 returns-then-not-has_size c = λ r connect of_tree of_sums is_plane.
     weak_small r connect c.args.choice.now c.args.n _
     (entry_from_number r connect c.args.choice.now c.args.n _ is_plane (node_inside r connect c.args.tree.now c.args.n of_tree c.requires.node)
-    (c.requires.entries.each r connect of_tree of_sums is_plane c.args.n c.requires.node) c.if-entry.false) (c.if-not-has_size.ensures r connect of_tree of_sums is_plane)
+    (c.requires.entries.each r connect of_tree of_sums is_plane c.args.n c.requires.node) c.if-entry.false) (c.if-not-has_size.ensures r connect of_tree of_sums
+    is_plane)
 
 pub has_part-requires-clause-entry : goal.has_part-requires-clause-entry
 has_part-requires-clause-entry c =
     let t = c.requires.sums in
     let o = of_trees c.args.tree.now c.args.sums.now t in
     let inside = node_inside t.plane t.of_plane.connect c.args.tree.now c.args.n o.tree_is c.requires.node in
-    let entry = entry_from_number t.plane t.of_plane.connect c.args.choice.now c.args.n _ o.plane inside (c.requires.entries.each t.plane t.of_plane.connect o.tree_is o.sums_are o.plane c.args.n c.requires.node) c.if-entry.false in
+    let entry =
+    entry_from_number t.plane t.of_plane.connect c.args.choice.now c.args.n _ o.plane inside
+    (c.requires.entries.each t.plane t.of_plane.connect o.tree_is o.sums_are o.plane c.args.n c.requires.node) c.if-entry.false in
     let parts = entry_of-parts t.plane t.of_plane.connect c.args.choice.now c.args.n _ o.plane inside entry in
     omega (arith, parts.node, rows_are t.plane t.of_plane.connect c.args.tree.now o.tree_is)
 
@@ -30,4 +33,5 @@ pub returns : goal.returns
 returns c = λ r connect of_tree of_sums is_plane.
     strong_if r connect c.args.choice.now c.args.n _ _
     (entry_from_number r connect c.args.choice.now c.args.n _ is_plane (node_inside r connect c.args.tree.now c.args.n of_tree c.requires.node)
-    (c.requires.entries.each r connect of_tree of_sums is_plane c.args.n c.requires.node) c.if-entry.false) (c.if-not-has_size.ensures r connect of_tree of_sums is_plane) (c.has_part.ensures r connect of_tree of_sums is_plane)
+    (c.requires.entries.each r connect of_tree of_sums is_plane c.args.n c.requires.node) c.if-entry.false) (c.if-not-has_size.ensures r connect of_tree of_sums
+    is_plane) (c.has_part.ensures r connect of_tree of_sums is_plane)

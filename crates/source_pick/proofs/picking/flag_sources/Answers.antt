@@ -7,7 +7,8 @@ loop-n-init c = λ choice sums known_entries known_strong. sources_none choice c
 
 pub loop-n-preserved : goal.loop-n-preserved
 loop-n-preserved c = λ choice sums known_entries known_strong.
-    sources_more choice c.args.tree.now sums c.loop-n.n c.passes_as_source-is_flagged.result c.loop-n.flags (c.loop-n.invariant choice sums known_entries known_strong)
+    sources_more choice c.args.tree.now sums c.loop-n.n c.passes_as_source-is_flagged.result c.loop-n.flags
+    (c.loop-n.invariant choice sums known_entries known_strong)
     (omega (arith, c.loop-n-test.true, c.node_count-n-end.ensures.all))
     (c.passes_as_source-is_flagged.ensures choice sums known_entries known_strong)
 

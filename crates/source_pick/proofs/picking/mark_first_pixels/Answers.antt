@@ -13,7 +13,8 @@ loop-n-init c = λ choice known. stand_none choice c.args.tree.now c.args.sums.n
 
 pub bounds-sums-n : goal.bounds-sums-n
 bounds-sums-n c =
-    sums_inside c.requires.sums.plane c.requires.sums.of_plane.connect c.args.tree.now c.args.sums.now c.loop-n.n (of_trees c.args.tree.now c.args.sums.now c.requires.sums)
+    sums_inside c.requires.sums.plane c.requires.sums.of_plane.connect c.args.tree.now c.args.sums.now c.loop-n.n
+    (of_trees c.args.tree.now c.args.sums.now c.requires.sums)
     (omega (arith, c.loop-n-test.true, c.node_count-n-end.ensures.all))
 
 pub bounds-marks-first : goal.bounds-marks-first
@@ -21,7 +22,8 @@ bounds-marks-first c =
     let t = c.requires.sums in
     let o = of_trees c.args.tree.now c.args.sums.now t in
     let n : c.loop-n.n < length c.args.tree.now.rows = omega (arith, c.loop-n-test.true, c.node_count-n-end.ensures.all) in
-    let marks : length c.loop-n.marks ≡ length c.args.tree.now.node_of = c.loop-n.auto.marks ∙ ap length c.requires.none ∙ length-replicate (length c.args.tree.now.node_of) no_node in
+    let marks : length c.loop-n.marks ≡ length c.args.tree.now.node_of =
+    c.loop-n.auto.marks ∙ ap length c.requires.none ∙ length-replicate (length c.args.tree.now.node_of) no_node in
     first_place t.plane t.of_plane.connect c.args.tree.now c.args.sums.now c.loop-n.n _ c.loop-n.marks o n
     (sums-read t.plane t.of_plane.connect c.args.tree.now c.args.sums.now c.loop-n.n _ o n) marks
 
@@ -30,13 +32,16 @@ loop-n-preserved c = elim c.if-flags-n.branch [
   | then-flags-n w ↦ λ choice known.
       subst (λ (xs : List ℕ). StandAtFirst choice c.args.tree.now c.args.sums.now (c.loop-n.n + 1) xs) (sym w.marks-is)
       (stand_source choice c.args.tree.now c.args.sums.now c.loop-n.n _ c.loop-n.marks (c.loop-n.invariant choice known)
-      (λ r connect of_tree of_sums is_plane. sym (known.each r connect of_tree of_sums is_plane c.loop-n.n (omega (arith, c.loop-n-test.true, c.node_count-n-end.ensures.all))) ∙ w.if-flags-n.true)
+      (λ r connect of_tree of_sums is_plane. sym (known.each r connect of_tree of_sums is_plane c.loop-n.n
+      (omega (arith, c.loop-n-test.true, c.node_count-n-end.ensures.all))) ∙ w.if-flags-n.true)
       (λ r connect of_tree of_sums is_plane. ap (λ (s : Sums). s.first)
-      (sums-read r connect c.args.tree.now c.args.sums.now c.loop-n.n _ (record { plane = is_plane; tree_is = of_tree; sums_are = of_sums }) (omega (arith, c.loop-n-test.true, c.node_count-n-end.ensures.all)))))
+      (sums-read r connect c.args.tree.now c.args.sums.now c.loop-n.n _ (record { plane = is_plane; tree_is = of_tree; sums_are = of_sums })
+      (omega (arith, c.loop-n-test.true, c.node_count-n-end.ensures.all)))))
   | else-flags-n w ↦ λ choice known.
       subst (λ (xs : List ℕ). StandAtFirst choice c.args.tree.now c.args.sums.now (c.loop-n.n + 1) xs) (sym w.marks-is)
       (stand_other choice c.args.tree.now c.args.sums.now c.loop-n.n c.loop-n.marks (c.loop-n.invariant choice known)
-      (λ r connect of_tree of_sums is_plane. sym (known.each r connect of_tree of_sums is_plane c.loop-n.n (omega (arith, c.loop-n-test.true, c.node_count-n-end.ensures.all))) ∙ w.if-flags-n.false))
+      (λ r connect of_tree of_sums is_plane. sym (known.each r connect of_tree of_sums is_plane c.loop-n.n
+      (omega (arith, c.loop-n-test.true, c.node_count-n-end.ensures.all))) ∙ w.if-flags-n.false))
 ]
 
 pub returns : goal.returns

@@ -11,7 +11,8 @@ loop-n-init c = λ choice tree sums stand. picked_none choice tree sums c.new-pi
 pub loop-n-preserved : goal.loop-n-preserved
 loop-n-preserved c = elim c.if-n.branch [
   | then-n+in-Ok w ↦ λ choice tree sums stand.
-      subst (λ (xs : List ℕ). ArePicked choice tree sums (c.loop-n.n-index + 1) xs) (sym (ap (λ (v : Vec ℕ Global). v.items) w.picked-is ∙ w.in-Ok.ensures.items))
+      subst (λ (xs : List ℕ). ArePicked choice tree sums (c.loop-n.n-index + 1) xs)
+      (sym (ap (λ (v : Vec ℕ Global). v.items) w.picked-is ∙ w.in-Ok.ensures.items))
       (picked_more choice tree sums c.loop-n.n-index _ c.args.marks.now c.loop-n.picked.items stand
       (slice_get-get_or c.args.marks.now c.loop-n.n-index 0 c.loop-n-test.true) w.if-n.true (c.loop-n.invariant choice tree sums stand))
   | else-n w ↦ λ choice tree sums stand.
@@ -22,4 +23,5 @@ loop-n-preserved c = elim c.if-n.branch [
 
 pub returns : goal.returns
 returns c = λ choice tree sums stand.
-    picked_up_to choice tree sums _ c.loop-n.n-index c.loop-n.picked.items (c.loop-n.invariant choice tree sums stand) (omega (arith, c.loop-n-test.false, c.loop-n.auto.n-index-end))
+    picked_up_to choice tree sums _ c.loop-n.n-index c.loop-n.picked.items (c.loop-n.invariant choice tree sums stand)
+    (omega (arith, c.loop-n-test.false, c.loop-n.auto.n-index-end))

@@ -7,40 +7,73 @@ use Rattle.source_pick.proofs.picking.passes_as_source.Goals as goal
 pub returns-then-above-n : goal.returns-then-above-n
 returns-then-above-n c = λ choice sums known_entries known_strong r connect of_tree of_sums is_plane.
     exit_above r connect choice c.args.tree.now sums c.args.entries.now c.args.strong.now c.args.children.now c.args.above.now
-    (record { of = record { plane = is_plane; tree_is = of_tree; sums_are = of_sums }; entries_are = known_entries; strong_are = known_strong; children_are = c.requires.children; above_are = c.requires.above })
+    (record {
+      of = record { plane = is_plane; tree_is = of_tree; sums_are = of_sums };
+      entries_are = known_entries;
+      strong_are = known_strong;
+      children_are = c.requires.children;
+      above_are = c.requires.above;
+    })
     c.args.n c.requires.node c.if-above-n.true
 
 pub returns-then-entries-n : goal.returns-then-entries-n
 returns-then-entries-n c = λ choice sums known_entries known_strong r connect of_tree of_sums is_plane.
     exit_entry r connect choice c.args.tree.now sums c.args.entries.now c.args.strong.now c.args.children.now c.args.above.now
-    (record { of = record { plane = is_plane; tree_is = of_tree; sums_are = of_sums }; entries_are = known_entries; strong_are = known_strong; children_are = c.requires.children; above_are = c.requires.above })
+    (record {
+      of = record { plane = is_plane; tree_is = of_tree; sums_are = of_sums };
+      entries_are = known_entries;
+      strong_are = known_strong;
+      children_are = c.requires.children;
+      above_are = c.requires.above;
+    })
     c.args.n c.requires.node c.if-above-n.false c.if-entries-n.true
 
 pub returns-then-not-strong-n : goal.returns-then-not-strong-n
 returns-then-not-strong-n c = λ choice sums known_entries known_strong r connect of_tree of_sums is_plane.
     exit_weak r connect choice c.args.tree.now sums c.args.entries.now c.args.strong.now c.args.children.now c.args.above.now
-    (record { of = record { plane = is_plane; tree_is = of_tree; sums_are = of_sums }; entries_are = known_entries; strong_are = known_strong; children_are = c.requires.children; above_are = c.requires.above })
+    (record {
+      of = record { plane = is_plane; tree_is = of_tree; sums_are = of_sums };
+      entries_are = known_entries;
+      strong_are = known_strong;
+      children_are = c.requires.children;
+      above_are = c.requires.above;
+    })
     c.args.n c.requires.node c.if-above-n.false c.if-entries-n.false c.if-not-strong-n.true
 
 pub returns-then-parent : goal.returns-then-parent
 returns-then-parent c = λ choice sums known_entries known_strong r connect of_tree of_sums is_plane.
     exit_root r connect choice c.args.tree.now sums c.args.entries.now c.args.strong.now c.args.children.now c.args.above.now
-    (record { of = record { plane = is_plane; tree_is = of_tree; sums_are = of_sums }; entries_are = known_entries; strong_are = known_strong; children_are = c.requires.children; above_are = c.requires.above })
+    (record {
+      of = record { plane = is_plane; tree_is = of_tree; sums_are = of_sums };
+      entries_are = known_entries;
+      strong_are = known_strong;
+      children_are = c.requires.children;
+      above_are = c.requires.above;
+    })
     c.args.n _ c.requires.node c.if-above-n.false c.if-entries-n.false
     (parent-read r connect c.args.tree.now c.rows.result.now c.args.n _ of_tree c.rows.ensures c.requires.node) c.if-parent.true
 
 pub bounds-children-parent : goal.bounds-children-parent
 bounds-children-parent c =
-    let smaller = read_parent_smaller c.args.tree.now c.rows.result.now c.args.n _ c.shape-shape.ensures.well_formed c.rows.ensures c.requires.node c.if-parent.false in
+    let smaller =
+    read_parent_smaller c.args.tree.now c.rows.result.now c.args.n _ c.shape-shape.ensures.well_formed c.rows.ensures c.requires.node c.if-parent.false in
     omega (arith, smaller, c.requires.node, c.requires.children.one_each)
 
 pub returns : goal.returns
 returns c = λ choice sums known_entries known_strong r connect of_tree of_sums is_plane.
-    let smaller = read_parent_smaller c.args.tree.now c.rows.result.now c.args.n _ c.shape-shape.ensures.well_formed c.rows.ensures c.requires.node c.if-parent.false in
+    let smaller =
+    read_parent_smaller c.args.tree.now c.rows.result.now c.args.n _ c.shape-shape.ensures.well_formed c.rows.ensures c.requires.node c.if-parent.false in
     let known : IsKnown r connect choice c.args.tree.now sums c.args.entries.now c.args.strong.now c.args.children.now c.args.above.now =
-    record { of = record { plane = is_plane; tree_is = of_tree; sums_are = of_sums }; entries_are = known_entries; strong_are = known_strong; children_are = c.requires.children; above_are = c.requires.above } in
+    record {
+      of = record { plane = is_plane; tree_is = of_tree; sums_are = of_sums };
+      entries_are = known_entries;
+      strong_are = known_strong;
+      children_are = c.requires.children;
+      above_are = c.requires.above;
+    } in
     exit_child r connect choice c.args.tree.now sums c.args.entries.now c.args.strong.now c.args.children.now c.args.above.now known
     c.args.n _ _ c.requires.node c.if-above-n.false c.if-entries-n.false c.if-not-strong-n.false
     (parent-read r connect c.args.tree.now c.rows.result.now c.args.n _ of_tree c.rows.ensures c.requires.node) smaller
     (c.are_several.ensures
-    ∙ several_read r connect choice c.args.tree.now sums c.args.entries.now c.args.strong.now c.args.children.now c.args.above.now known _ _ (omega (arith, smaller, c.requires.node)))
+    ∙ several_read r connect choice c.args.tree.now sums c.args.entries.now c.args.strong.now c.args.children.now c.args.above.now known _ _
+    (omega (arith, smaller, c.requires.node)))

@@ -9,7 +9,8 @@ first_pixels-requires-clause-flags c = ap length c.deref.ensures.value ∙ c.in_
 pub returns-clause-exact : goal.returns-clause-exact
 returns-clause-exact c =
     let known : AreSources c.args.choice.now c.args.tree.now c.args.sums.now (length c.args.tree.now.rows) c.deref.result.now =
-    subst (λ (xs : List Bool). AreSources c.args.choice.now c.args.tree.now c.args.sums.now (length c.args.tree.now.rows) xs) (sym c.deref.ensures.value) c.in_ok-flags.ensures in
+    subst (λ (xs : List Bool). AreSources c.args.choice.now c.args.tree.now c.args.sums.now (length c.args.tree.now.rows) xs) (sym c.deref.ensures.value)
+    c.in_ok-flags.ensures in
     let stand : StandAtFirst c.args.choice.now c.args.tree.now c.args.sums.now (length c.args.tree.now.rows) c.deref-2.result.now =
     subst (λ (xs : List ℕ). StandAtFirst c.args.choice.now c.args.tree.now c.args.sums.now (length c.args.tree.now.rows) xs) (sym c.deref-2.ensures.value)
     (c.in_ok-marks.ensures c.args.choice.now known) in
@@ -18,7 +19,8 @@ returns-clause-exact c =
 pub returns-clause-disjoint : goal.returns-clause-disjoint
 returns-clause-disjoint c =
     let known : AreSources c.args.choice.now c.args.tree.now c.args.sums.now (length c.args.tree.now.rows) c.deref.result.now =
-    subst (λ (xs : List Bool). AreSources c.args.choice.now c.args.tree.now c.args.sums.now (length c.args.tree.now.rows) xs) (sym c.deref.ensures.value) c.in_ok-flags.ensures in
+    subst (λ (xs : List Bool). AreSources c.args.choice.now c.args.tree.now c.args.sums.now (length c.args.tree.now.rows) xs) (sym c.deref.ensures.value)
+    c.in_ok-flags.ensures in
     let stand : StandAtFirst c.args.choice.now c.args.tree.now c.args.sums.now (length c.args.tree.now.rows) c.deref-2.result.now =
     subst (λ (xs : List ℕ). StandAtFirst c.args.choice.now c.args.tree.now c.args.sums.now (length c.args.tree.now.rows) xs) (sym c.deref-2.ensures.value)
     (c.in_ok-marks.ensures c.args.choice.now known) in

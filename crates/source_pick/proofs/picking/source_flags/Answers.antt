@@ -6,4 +6,5 @@ use Rattle.source_pick.proofs.picking.source_flags.Goals as goal
 pub returns-in-Ok : goal.returns-in-Ok
 returns-in-Ok c = λ choice sums known_entries known_strong.
     subst (λ (xs : List Bool). AreSources choice c.args.tree.now sums (length c.args.tree.now.rows) xs)
-    (sym (take_front c.flag_sources.new.flags _ _ (c.flag_sources.auto.flags ∙ c.deref_mut.ensures.len))) (c.flag_sources.ensures choice sums known_entries known_strong)
+    (sym (take_front c.flag_sources.new.flags _ _ (c.flag_sources.auto.flags ∙ c.deref_mut.ensures.len)))
+    (c.flag_sources.ensures choice sums known_entries known_strong)

@@ -20,4 +20,5 @@ loop-i-preserved c =
 
 pub returns : goal.returns
 returns c =
-    marked_up_to (length c.args.numbers.now) c.args.sources.now c.loop-i.numbers _ c.loop-i.i c.loop-i.invariant (omega (arith, c.loop-i-test.false, c.loop-i.auto.i-end))
+    marked_up_to (length c.args.numbers.now) c.args.sources.now c.loop-i.numbers _ c.loop-i.i c.loop-i.invariant
+    (omega (arith, c.loop-i-test.false, c.loop-i.auto.i-end))

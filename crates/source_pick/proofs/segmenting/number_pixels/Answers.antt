@@ -21,7 +21,8 @@ loop-k-preserved c =
               let both = number_of_defined r connect c.args.tree.now marked plane same d (c.args.start + c.loop-k.k) _ inside
               (ap (λ (xs : List ℕ). slice_index xs (c.args.start + c.loop-k.k)) c.node_of-node_of.ensures) w.if-n.true in
               ap (λ (xs : List ℕ). slice_index xs q) w.map-is
-              ∙ filled c.loop-k.map c.loop-k.k _ 0 (λ k. source_number_at r connect marked (c.args.start + k)) place (c.loop-k.invariant.done.each marked r connect d known same)
+              ∙ filled c.loop-k.map c.loop-k.k _ 0 (λ k. source_number_at r connect marked (c.args.start + k)) place
+              (c.loop-k.invariant.done.each marked r connect d known same)
               (known.each r connect plane same _ both.0 ∙ both.1) q l;
         };
         rest = λ q l. ap (λ (xs : List ℕ). slice_index xs q) w.map-is ∙ zeros_after c.loop-k.map c.loop-k.k _ c.loop-k.invariant.rest q l;
@@ -31,7 +32,8 @@ loop-k-preserved c =
           each = λ marked r connect d known same q l.
               let plane = plane_from_tree r connect c.args.tree.now same c.shape-shape.ensures.well_formed.one_each in
               ap (λ (xs : List ℕ). slice_index xs q) w.map-is
-              ∙ filled_still c.loop-k.map c.loop-k.k (λ k. source_number_at r connect marked (c.args.start + k)) (c.loop-k.invariant.done.each marked r connect d known same)
+              ∙ filled_still c.loop-k.map c.loop-k.k (λ k. source_number_at r connect marked (c.args.start + k))
+              (c.loop-k.invariant.done.each marked r connect d known same)
               (c.loop-k.invariant.rest c.loop-k.k (omega arith)
               ∙ sym (number_of_undefined r connect c.args.tree.now marked plane same d (c.args.start + c.loop-k.k) _ inside
               (ap (λ (xs : List ℕ). slice_index xs (c.args.start + c.loop-k.k)) c.node_of-node_of.ensures) w.if-n.false)) q l;
@@ -42,5 +44,6 @@ loop-k-preserved c =
 
 pub returns : goal.returns
 returns c = record {
-  each = λ marked r connect d known same k l. c.loop-k.invariant.done.each marked r connect d known same k (omega (arith, l, c.loop-k-test.false, c.loop-k.auto.map));
+  each = λ marked r connect d known same k l. c.loop-k.invariant.done.each marked r connect d known same k
+      (omega (arith, l, c.loop-k-test.false, c.loop-k.auto.map));
 }

@@ -24,7 +24,8 @@ pub pass_down-requires : goal.pass_down-requires
 pass_down-requires c =
     let size : length c.deref_mut.result.now ≡ length c.args.tree.now.rows =
     ap length (c.deref_mut.ensures.value ∙ c.in_ok-numbers.ensures) ∙ length-replicate (length c.rows.result.now) 0 ∙ ap length c.rows.ensures in
-    ap length (c.deref_mut-2.ensures.value ∙ take_front c.mark_sources.new.numbers _ _ (c.mark_sources.auto.numbers ∙ c.deref_mut.ensures.len)) ∙ c.mark_sources.auto.numbers ∙ size
+    ap length (c.deref_mut-2.ensures.value ∙ take_front c.mark_sources.new.numbers _ _ (c.mark_sources.auto.numbers ∙ c.deref_mut.ensures.len))
+    ∙ c.mark_sources.auto.numbers ∙ size
 
 pub returns : goal.returns
 returns c =

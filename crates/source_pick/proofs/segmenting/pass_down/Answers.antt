@@ -4,7 +4,8 @@ use Rattle.source_pick.specs.Passes.{AreNumbered}
 use Rattle.node_sums.proofs.Exported.{read_parent_smaller}
 use Rattle.source_pick.proofs.Counts.{row_parent}
 use Rattle.source_pick.proofs.Marks.{numbered_none, numbered_child, numbered_marked, numbered_root, numbered_up_to, untouched, untouched_yet}
-use Rattle.source_pick.proofs.segmenting.pass_down.Goals.{then-numbers-n-eq0+then-parent, else-numbers-n-eq0, else-numbers-n-eq0-via-then-numbers-n-eq0+else-parent, else-numbers-n-eq0-via-else-numbers-n-eq0}
+use Rattle.source_pick.proofs.segmenting.pass_down.Goals.{then-numbers-n-eq0+then-parent, else-numbers-n-eq0}
+use Rattle.source_pick.proofs.segmenting.pass_down.Goals.{else-numbers-n-eq0-via-then-numbers-n-eq0+else-parent, else-numbers-n-eq0-via-else-numbers-n-eq0}
 use Rattle.source_pick.proofs.segmenting.pass_down.Goals as goal
 
 pub loop-n-init : goal.loop-n-init
@@ -25,8 +26,10 @@ loop-n-preserved c =
         done = λ marked d known. subst (λ (xs : List ℕ). AreNumbered c.args.tree.now marked (c.loop-n.n + 1) xs) (sym w.numbers-is)
             (numbered_child c.args.tree.now marked c.args.numbers.now c.loop-n.numbers c.loop-n.n _ _ d known (c.loop-n.invariant.done marked d known) inside
             (sym still ∙ w.if-numbers-n-eq0.true) (row_parent c.args.tree.now c.rows-rows.result.now c.loop-n.n _ c.rows-rows.ensures inside)
-            (read_parent_smaller c.args.tree.now c.rows-rows.result.now c.loop-n.n _ c.shape-shape.ensures.well_formed c.rows-rows.ensures inside w.if-parent.true) refl);
-        rest = λ m l. ap (λ (xs : List ℕ). slice_index xs m) w.numbers-is ∙ untouched c.args.numbers.now c.loop-n.numbers c.loop-n.n _ c.loop-n.invariant.rest m l;
+            (read_parent_smaller c.args.tree.now c.rows-rows.result.now c.loop-n.n _ c.shape-shape.ensures.well_formed c.rows-rows.ensures inside
+            w.if-parent.true) refl);
+        rest = λ m l. ap (λ (xs : List ℕ). slice_index xs m) w.numbers-is
+            ∙ untouched c.args.numbers.now c.loop-n.numbers c.loop-n.n _ c.loop-n.invariant.rest m l;
       }
       | else-numbers-n-eq0 w ↦ record {
         done = λ marked d known. subst (λ (xs : List ℕ). AreNumbered c.args.tree.now marked (c.loop-n.n + 1) xs) (sym w.numbers-is)
@@ -38,10 +41,12 @@ loop-n-preserved c =
                   numbered_marked c.args.tree.now marked c.args.numbers.now c.loop-n.numbers c.loop-n.n d known (c.loop-n.invariant.done marked d known) inside
                   still v.if-numbers-n-eq0.false
             ]);
-        rest = λ m l. ap (λ (xs : List ℕ). slice_index xs m) w.numbers-is ∙ untouched_yet c.args.numbers.now c.loop-n.numbers c.loop-n.n c.loop-n.invariant.rest m l;
+        rest = λ m l. ap (λ (xs : List ℕ). slice_index xs m) w.numbers-is
+            ∙ untouched_yet c.args.numbers.now c.loop-n.numbers c.loop-n.n c.loop-n.invariant.rest m l;
       }
     ]
 
 pub returns : goal.returns
 returns c = λ marked d known.
-    numbered_up_to c.args.tree.now marked c.loop-n.numbers _ c.loop-n.n (c.loop-n.invariant.done marked d known) (omega (arith, c.loop-n-test.false, ap length c.rows-rows.ensures))
+    numbered_up_to c.args.tree.now marked c.loop-n.numbers _ c.loop-n.n (c.loop-n.invariant.done marked d known)
+    (omega (arith, c.loop-n-test.false, ap length c.rows-rows.ensures))

@@ -8,10 +8,13 @@ use Rattle.source_pick.proofs.splitting.count_children.Goals as goal
 
 pub loop-n-preserved : goal.loop-n-preserved
 loop-n-preserved c = elim c.match-inner_parent.branch [
-  | in-Some w ↦ subst (λ (xs : List StrongChildren). AreStrongChildCounts c.args.tree.now.rows c.args.entries.now c.args.strong.now (c.loop-n.n + 1) xs) (sym w.children-is)
+  | in-Some w ↦ subst (λ (xs : List StrongChildren). AreStrongChildCounts c.args.tree.now.rows c.args.entries.now c.args.strong.now (c.loop-n.n + 1) xs)
+      (sym w.children-is)
       (counted_with c.args.tree.now.rows c.args.entries.now c.args.strong.now c.loop-n.n _ _ _ c.loop-n.children c.loop-n.invariant
-      (slice_get-get_or c.loop-n.children _ _ (omega (arith, w.in-Some.ensures.inside, c.loop-n.invariant.one_each))) w.in-Some.ensures.found w.and_one-more.ensures)
-  | in_default w ↦ subst (λ (xs : List StrongChildren). AreStrongChildCounts c.args.tree.now.rows c.args.entries.now c.args.strong.now (c.loop-n.n + 1) xs) (sym w.children-is)
+      (slice_get-get_or c.loop-n.children _ _ (omega (arith, w.in-Some.ensures.inside, c.loop-n.invariant.one_each))) w.in-Some.ensures.found
+      w.and_one-more.ensures)
+  | in_default w ↦ subst (λ (xs : List StrongChildren). AreStrongChildCounts c.args.tree.now.rows c.args.entries.now c.args.strong.now (c.loop-n.n + 1) xs)
+      (sym w.children-is)
       (counted_without c.args.tree.now.rows c.args.entries.now c.args.strong.now c.loop-n.n c.loop-n.children c.loop-n.invariant w.in_default.ensures.none)
 ]
 

@@ -8,7 +8,8 @@ use Rattle.source_pick.proofs.splitting.pass_up.Goals as goal
 
 pub loop-n-init : goal.loop-n-init
 loop-n-init c =
-    subst (λ (n : ℕ). ArePassed c.args.tree.now.rows c.args.flags.now n c.args.flags.now) (sym (ap length c.rows-rows.ensures)) (passed_none c.args.tree.now.rows c.args.flags.now c.requires)
+    subst (λ (n : ℕ). ArePassed c.args.tree.now.rows c.args.flags.now n c.args.flags.now) (sym (ap length c.rows-rows.ensures))
+    (passed_none c.args.tree.now.rows c.args.flags.now c.requires)
 
 pub bounds-flags-parent : goal.bounds-flags-parent
 bounds-flags-parent c =
@@ -20,7 +21,8 @@ pub loop-n-preserved-then-parent : goal.loop-n-preserved-then-parent
 loop-n-preserved-then-parent c =
     passed_with c.args.tree.now.rows c.args.flags.now c.loop-n.n _ _ c.loop-n.flags c.loop-n.invariant (omega (arith, c.loop-n-test.true))
     (omega (arith, c.loop-n-test.true, c.loop-n.auto.n, ap length c.rows-rows.ensures)) c.if-flags-n.true
-    (row_parent c.args.tree.now c.rows-rows.result.now _ _ c.rows-rows.ensures (omega (arith, c.loop-n-test.true, c.loop-n.auto.n, ap length c.rows-rows.ensures)))
+    (row_parent c.args.tree.now c.rows-rows.result.now _ _ c.rows-rows.ensures
+    (omega (arith, c.loop-n-test.true, c.loop-n.auto.n, ap length c.rows-rows.ensures)))
     (read_parent_smaller c.args.tree.now c.rows-rows.result.now _ _ c.shape-shape.ensures.well_formed c.rows-rows.ensures
     (omega (arith, c.loop-n-test.true, c.loop-n.auto.n, ap length c.rows-rows.ensures)) c.if-parent.true)
 
@@ -29,7 +31,8 @@ loop-n-preserved c = elim c.else-flags-n.branch [
   | else-flags-n-via-then-flags-n+else-parent w ↦
       passed_without c.args.tree.now.rows c.args.flags.now c.loop-n.n _ c.loop-n.flags c.loop-n.invariant (omega (arith, c.loop-n-test.true))
       (λ m e l f. none_outside c.args.tree.now _ m _ c.shape-shape.ensures.well_formed
-      (row_parent c.args.tree.now c.rows-rows.result.now _ _ c.rows-rows.ensures (omega (arith, c.loop-n-test.true, c.loop-n.auto.n, ap length c.rows-rows.ensures)))
+      (row_parent c.args.tree.now c.rows-rows.result.now _ _ c.rows-rows.ensures
+      (omega (arith, c.loop-n-test.true, c.loop-n.auto.n, ap length c.rows-rows.ensures)))
       w.if-parent.false e l)
   | else-flags-n-via-else-flags-n w ↦
       passed_without c.args.tree.now.rows c.args.flags.now c.loop-n.n _ c.loop-n.flags c.loop-n.invariant (omega (arith, c.loop-n-test.true))

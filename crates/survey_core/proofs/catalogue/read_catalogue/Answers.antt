@@ -3,7 +3,7 @@ use Rattle.survey_core.proofs.CatalogueLemmas.{no_hdu, no_table, too_many, behin
 use Rattle.survey_core.proofs.catalogue.read_catalogue.Goals as goal
 
 pub returns-in-Err-clause-told : goal.returns-in-Err-clause-told
-returns-in-Err-clause-told g c = λ bytes told. no_hdu bytes _ c.in-Err.fault c.at_hdu.result c.at_hdu.ensures (c.in-Err.ensures.told bytes told)
+returns-in-Err-clause-told g c = λ bytes told. no_hdu bytes _ c.in-Err.stop c.at_hdu.result c.at_hdu.ensures (c.in-Err.ensures.told bytes told)
 
 pub returns-then-not-is_catalogue-clause-told : goal.returns-then-not-is_catalogue-clause-told
 returns-then-not-is_catalogue-clause-told g c = λ bytes told.

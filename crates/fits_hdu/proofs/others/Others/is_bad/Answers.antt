@@ -6,4 +6,5 @@ returns-then-is_bad_count c = λ cards is. rw c.if-primary.false (or_first _ _ _
 
 pub returns-else-is_bad_count : goal.returns-else-is_bad_count
 returns-else-is_bad_count c = λ cards is. rw c.if-primary.false
-    (or_second _ _ _ _ c.if-is_bad_count.false (c.is_bad_count.ensures cards (pcount_kept cards _ is)) (c.is_bad_count-else-is_bad_count.ensures cards (gcount_kept cards _ is)))
+    (or_second _ _ _ _ c.if-is_bad_count.false (c.is_bad_count.ensures cards (pcount_kept cards _ is))
+    (c.is_bad_count-else-is_bad_count.ensures cards (gcount_kept cards _ is)))

@@ -1,7 +1,7 @@
 -- So many bytes were taken as are no longer left to take.
 use Rattle.std.proofs.Common.{◌≡◌, ℕ, ◌+◌, ◌-◌, ◌≤◌, List, length}
 use Rattle.dev_io.specs.Streams.{Takes}
-use Rattle.fits_hdu.proofs.stream.skip.Given as goal
+use Rattle.dev_io.proofs.source.skip.Given as goal
 
 abbrev pub invariant-loop-left : goal.invariant-loop-left
 invariant-loop-left g l = record {

@@ -1,7 +1,6 @@
 -- A piece more is passed over.
 use Rattle.std.proofs.Common.{◌≡◌, ℕ, ◌+◌, ◌-◌, ◌<◌, ◌≤◌, Bool, true, false, List, length, drop, Option, subst, arith, length-drop}
-use Rattle.dev_io.specs.Streams.{Takes, TakesAtMost, Fills}
-use Rattle.fits_hdu.specs.Reading.{Skipped}
+use Rattle.dev_io.specs.Streams.{Takes, TakesAtMost, Fills, Skipped}
 use Rattle.dev_io.specs.Laws.{Takes-after, TakesAtMost-after}
 
 pub skip_cut : (bytes : List ℕ) (at count left piece n : ℕ) (a b : Option (List ℕ)) (buf : List ℕ) → Takes bytes a (at + (count - left)) → Fills (drop (at + (count - left)) bytes) b n buf → length buf ≡ piece → piece ≤ left → left ≤ count → n < piece

@@ -1,7 +1,7 @@
 use Rattle.std.proofs.Common.{arith, drop, length-append}
 use Rattle.std.proofs.lemmas.List.{length-take, length-drop}
-use Rattle.fits_hdu.proofs.Skipping.{skip_cut, skip_more, skip_lost}
-use Rattle.fits_hdu.proofs.stream.skip.Goals as goal
+use Rattle.dev_io.proofs.Skipping.{skip_cut, skip_more, skip_lost}
+use Rattle.dev_io.proofs.source.skip.Goals as goal
 
 pub returns-in-Ok-clause-told : goal.returns-in-Ok-clause-told
 returns-in-Ok-clause-told g c = λ bytes at takes.

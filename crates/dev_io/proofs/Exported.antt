@@ -1,0 +1,4 @@
+-- The lemmas of this crate that crates above use. Its other modules of lemmas are its own.
+
+-- what an answer of `skip` says of the bytes, by the answer
+pub use Rattle.dev_io.proofs.Skipping.{skipped_all, skipped_cut}

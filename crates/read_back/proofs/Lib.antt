@@ -1,0 +1,7 @@
+mod Cards
+mod Headers
+mod WrittenCards
+mod Extensions
+mod WrittenHeaders
+mod Places
+pub mod Exported

@@ -1,0 +1,4 @@
+mod CatalogueRows
+mod Accepting
+mod Answering
+mod Adding

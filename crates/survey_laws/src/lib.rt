@@ -1,0 +1,4 @@
+//! What a survey keeps is what the images' threshold components define. No program stands on this crate.
+#![tactic(auto)]
+
+pub mod laws;
