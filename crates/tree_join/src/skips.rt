@@ -29,8 +29,8 @@ pub(crate) enum Reach {
 // The skip at a place leads from its pixel in `from` to its pixel in `to`; where `from` has none, the place is empty.
 #[derive(Drop)]
 pub(crate) struct Skips {
-    pub(crate) from: [u32; PLACES],
-    pub(crate) to: [u32; PLACES],
+    from: [u32; PLACES],
+    to: [u32; PLACES],
 }
 
 // A number that reads like a random one for each pixel.

@@ -1,6 +1,7 @@
 ghost use Rattle.std.specs.Prelude.{◌≡◌, ◌<◌};
 
 use super::*;
+use crate::links::Links;
 use crate::skips::Reach;
 use crate::walk::link_past;
 use comp_tree::{NONE, Shape, Tree, is_forest, plain_tree};
@@ -300,7 +301,8 @@ fn link_by<M: Ledger>(blank: Blank, parents: &mut [u32], plane: &Plane, p: u32) 
     if p >= shape.pixels() || !plane.is_defined(p) {
         return None;
     }
-    link_past(parents, plane, 0, p, &mut reads)
+    let mut links = Links::over(parents);
+    link_past(&mut links, plane, 0, p, &mut reads)
 }
 
 // Links `p` past its link, if the links are a forest and `p` is defined.
