@@ -13,12 +13,13 @@
 //!
 //! For one adjacency the reads of links and skips are at most five for each defined pixel. A step of a climb has at most four
 //! and goes to an earlier pixel. Where a climb ends there are four, and one more at the move, which leaves the pixel behind.
+//! Links and skips lie behind types whose only reading methods count (`links`, `skips`), so no line reads them uncounted.
 #![tactic(auto)]
 
-ghost use Rattle.std.specs.Prelude.{◌^◌, ◌≡◌, ℕ, ◌+◌, ◌*◌, ◌<◌, ◌≤◌, length, slice_index, List};
+ghost use Rattle.std.specs.Prelude.{◌^◌, ◌≡◌, ℕ, ◌+◌, ◌*◌, ◌<◌, ◌≤◌, length, List};
 ghost use Rattle.comp_tree.specs.Joined.{Or, Has};
 ghost use Rattle.comp_tree.specs.Counts.{count_defined};
-ghost use Rattle.comp_tree.specs.Forest.{no_node, StandsFor, IsForest, IsLink, JoinSame, IsWithin};
+ghost use Rattle.comp_tree.specs.Forest.{StandsFor, IsForest, IsLink, JoinSame, IsWithin};
 ghost use Rattle.tree_join.specs.Moves.{IsSpan, span_size};
 ghost use Rattle.tree_join.specs.Walks.{HaveTrueSkips};
 ghost use Rattle.tree_join.specs.Boundary.{row_start, IsBoundary, boundary_size};
@@ -36,13 +37,12 @@ use dev_io::Steps;
 use links::Links;
 use skips::Skips;
 use std::sync::ledger::Ledger;
-use walk::join_pair;
+use walk::{Rows, join_pair};
 
 // Joins `p` with each pixel from `low` up to `high`, where both are defined.
 fn join_span<L: Ledger, M: Ledger>(
     links: &mut Links<'_>,
-    plane: &Plane,
-    first: u32,
+    rows: &Rows<'_>,
     skips: &mut Skips,
     low: u32,
     high: u32,
@@ -50,30 +50,31 @@ fn join_span<L: Ledger, M: Ledger>(
     moves: &mut Steps<L>,
     reads: &mut Steps<M>,
 )
-    requires ready { HaveTrueSkips plane.now.values first links.old.places.now skips.old.from skips.old.to }
-    requires low { first ≤ low }
+    requires ready { HaveTrueSkips rows.now.plane.now.values rows.now.first links.old.places.now skips.old.from skips.old.to }
+    requires low { rows.now.first ≤ low }
     requires span { low ≤ high }
-    requires high { high ≤ first + length links.old.places.now }
-    requires p_in { IsWithin first (length links.old.places.now) p }
+    requires high { high ≤ rows.now.first + length links.old.places.now }
+    requires p_in { IsWithin rows.now.first (length links.old.places.now) p }
     ensures same_reference { links.new.places.ghost_name ≡ links.old.places.ghost_name }
     ensures same_length { length links.new.places.now ≡ length links.old.places.now }
-    ensures ready { HaveTrueSkips plane.now.values first links.new.places.now skips.new.from skips.new.to }
-    ensures joined { JoinSame plane.now.values first (length links.old.places.now)
-        (IsLink first links.new.places.now)
-        (Or (IsLink first links.old.places.now) (IsSpan plane.now.values low high p)) }
+    ensures ready { HaveTrueSkips rows.now.plane.now.values rows.now.first links.new.places.now skips.new.from skips.new.to }
+    ensures joined { JoinSame rows.now.plane.now.values rows.now.first (length links.old.places.now)
+        (IsLink rows.now.first links.new.places.now)
+        (Or (IsLink rows.now.first links.old.places.now) (IsSpan rows.now.plane.now.values low high p)) }
     ensures cost { moves.new ≤ moves.old
-        + span_size plane.now.values low high p * count_defined plane.now.values first (length links.old.places.now) }
+        + span_size rows.now.plane.now.values low high p
+        * count_defined rows.now.plane.now.values rows.now.first (length links.old.places.now) }
     ensures each { moves.new + reads.old ≤ moves.old + reads.new }
     ensures reads { reads.new ≤ reads.old
-        + span_size plane.now.values low high p
-        * (5 * count_defined plane.now.values first (length links.old.places.now)) }
+        + span_size rows.now.plane.now.values low high p
+        * (5 * count_defined rows.now.plane.now.values rows.now.first (length links.old.places.now)) }
 {
-    if plane.get(p).is_none() {
+    if rows.plane.get(p).is_none() {
         return;
     }
     for u in low..high {
-        if plane.get(u).is_some() {
-            join_pair(links, plane, first, skips, u, p, moves, reads);
+        if rows.plane.get(u).is_some() {
+            join_pair(links, rows, skips, u, p, moves, reads);
         }
     }
 }
@@ -126,7 +127,10 @@ fn join_rows<L: Ledger, M: Ledger>(
         + boundary_size plane.now.values width connect row
         * (5 * count_defined plane.now.values (first_row * width) (length links.old.places.now)) }
 {
-    let first = first_row * width;
+    let rows = Rows {
+        plane,
+        first: first_row * width,
+    };
     let start = row * width;
     let above = start - width;
     let mut skips = Skips::empty();
@@ -134,8 +138,7 @@ fn join_rows<L: Ledger, M: Ledger>(
         let (low, high) = columns(connect, width, x);
         join_span(
             links,
-            plane,
-            first,
+            &rows,
             &mut skips,
             above + low,
             above + high,

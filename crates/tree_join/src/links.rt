@@ -1,7 +1,7 @@
-//! The links of some rows, behind a type that counts each look.
+//! The links of some rows, behind a type that counts each read.
 //!
-//! No other module can reach the slice: a line elsewhere that reads a link without a tick of the counter doesn't compile. A
-//! read here that isn't counted is refused by the contract of `read`.
+//! Once a slice is lent to `Links`, no other module can reach it: a line elsewhere that reads a link without a tick of the
+//! counter doesn't compile. A read here that isn't counted is refused by the contract of `read`.
 
 ghost use Rattle.std.specs.Prelude.{◌≡◌, ◌+◌, ◌<◌, length, set, slice_index};
 

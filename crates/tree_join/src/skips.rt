@@ -69,7 +69,7 @@ impl Skips {
         }
     }
 
-    // The pixel that is put down for `at`, if one is. Each place that is read is read here, so none is read uncounted.
+    // The pixel that is put down for `at`, if one is. No other function reads a place, and none outside this module can.
     pub(crate) fn told<M: Ledger>(&self, reach: Reach, at: u32, reads: &mut Steps<M>) -> Option<u32>
         ensures told { IfSome result (λ there. IsPutDown self.now.from self.now.to at there) }
         ensures read { reads.new ≡ reads.old + 1 }
