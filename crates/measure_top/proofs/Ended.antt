@@ -16,12 +16,6 @@ use Rattle.measure_top.specs.TwoImages.{TwoVerdict, two_images, earlier_fault, l
 use Rattle.measure_top.specs.TwoReads.{TwoRead}
 use Rattle.measure_top.specs.MeasureAnswers.{measured_of_two, measure_output, measure_answer_to_verdict, verdict_for, asked_to_measure, asked_of_all}
 
--- memory may be wanted after both were read
-pub memory_after_two : (found : TwoVerdict) (bytes : List ℕ) (left : Option (List ℕ)) (planes : TwoPlanes) → TwoRead found bytes left planes
-    → TakesOneOf (memory_at_two found) bytes left
-memory_after_two found bytes left planes read =
-    subst (λ v. TakesOneOf (memory_at_two v) bytes left) (sym read.are_images) (inr (inr (inr (inl read.takes))))
-
 -- both were read, and what is made of them is the answer's output
 pub both_read : (order : MeasureOrder) (found : TwoVerdict) (bytes : List ℕ) (left : Option (List ℕ)) (planes : TwoPlanes) (output : List ℕ)
     → TwoRead found bytes left planes → found ≡ verdict_for order bytes → output ≡ measured_of_two order planes.first planes.second

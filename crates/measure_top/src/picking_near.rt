@@ -116,7 +116,8 @@ pub(crate) fn pick_near<R: Threads + Sync, G: Gate>(
 ) -> Result<Picked, OutOfMemory>
     requires limits { HasLimits order }
     requires contrast { choice.now.contrast ≤ 1000 }
-    ensures exact { IfOk result (λ picked. AreSourcesOf plane.now order.connect choice.now picked.map.items picked.nodes.items) }
+    ensures exact { IfOk result (λ picked.
+        AreSourcesOf plane.now order.connect choice.now picked.map.items picked.nodes.items) }
     ensures listed { IfOk result
         (λ picked. CanBeListed plane.now.shape picked.map.items picked.nodes.items) }
 {

@@ -116,7 +116,8 @@ fn carry_out<R: Threads + Sync, S: Source, O: Sink, G: Gate>(
     gate: &G,
 ) -> End
     requires order { IsMeasureOrder order }
-    ensures bytes { (bytes : List ℕ) → Tells (asked_to_measure (Ok order)) (S.left input.old) bytes →
+    ensures bytes { (bytes : List ℕ) →
+        Tells (asked_to_measure (Ok order)) (S.left input.old) bytes →
         EndBytes (asked_to_measure (Ok order)) bytes
         (use_of_input S.left S.ended S.faults input.old input.new)
         (use_of_output O.written O.settled O.faults output.old output.new) result }
