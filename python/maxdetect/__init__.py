@@ -7,9 +7,10 @@ the command `maxcat`, which goes from any image to a catalogue. `survey` opens w
 """
 from .adding import add
 from .arrays import catalogue
+from .columns import DESCRIPTIONS
 from .errors import Mistake
 from .images import save
-from .kernel import DESCRIPTIONS, FAULTS, NoProgram, Refusal, detect, filter, find_program, load, measure, read, tree
+from .kernel import FAULTS, NoProgram, Refusal, detect, filter, find_program, load, measure, read, tree
 from .matching import match
 from .noise import noise, noise_map
 from .surveys import Survey, survey

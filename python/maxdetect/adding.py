@@ -14,13 +14,12 @@ from astropy.io import fits
 from astropy.table import Table
 
 from . import surveys
+from .columns import CATALOGUE
 from .errors import Mistake
 from .kernel import NoProgram
 
 __all__ = ["add", "find_survey_program", "survey_file"]
 
-# The kinds of the catalogue's columns: 32 bits, or 64.
-WIDE = {"LEVEL", "BASE", "FLUX", "PEAK", "XVAR", "YVAR", "XYCOV"}
 GREATEST = 2.0**62
 # What a database may have that keeps maxsurvey out.
 STRANGE = """
@@ -70,13 +69,13 @@ def survey_file(table: Table, unit: float = 1.0) -> bytes:
     them. Rows are numbered anew, from 1.
     """
     columns = []
-    for name in surveys.COLUMNS:
+    for name, column in CATALOGUE.items():
         if name == "NUMBER":
             values = numpy.arange(1, len(table) + 1)
         else:
             values = _whole_fluxes(table, unit) if name == "FLUX" else numpy.asarray(table[name])
-        kind = "K" if name in WIDE else "J"
-        columns.append(fits.Column(name, kind, array=values.astype("i8" if kind == "K" else "i4")))
+        wide = "i8" if column.form == "K" else "i4"
+        columns.append(fits.Column(name, column.form, array=values.astype(wide)))
     catalogue = fits.BinTableHDU.from_columns(columns, nrows=len(table), name="SOURCES")
     written = io.BytesIO()
     fits.HDUList([fits.PrimaryHDU(), fits.ImageHDU(numpy.zeros((1, 1), "i4")), catalogue]).writeto(written)

@@ -34,6 +34,7 @@ import numpy
 from astropy.io import fits
 from astropy.table import Table
 
+from .columns import DESCRIPTIONS
 from .errors import Mistake
 
 __all__ = ["NoProgram", "Refusal", "detect", "filter", "find_program", "load", "measure", "read", "tree"]
@@ -61,33 +62,6 @@ FAULTS = {
     17: "the input ends within the image",
     18: "a value of 64 bits lies outside -2^36 to 2^36",
     19: "the two images differ in width or height",
-}
-
-DESCRIPTIONS = {
-    "NUMBER": "number of the source, its number in the segmentation map",
-    "LEVEL": "level of its node",
-    "BASE": "level of the node's parent",
-    "AREA": "pixels",
-    "FLUX": "sum of value less base",
-    "PEAK": "greatest value",
-    "XMIN": "least column, from 1",
-    "XMAX": "greatest column, from 1",
-    "YMIN": "least row, from 1",
-    "YMAX": "greatest row, from 1",
-    "XFIRST": "column of the least pixel, from 1",
-    "YFIRST": "row of the least pixel, from 1",
-    "XCEN": "mean column weighted by value less base, in thousandths of a pixel",
-    "YCEN": "mean row weighted by value less base, in thousandths of a pixel",
-    "XVAR": "variance of the columns, in thousandths of a square pixel",
-    "YVAR": "variance of the rows, in thousandths of a square pixel",
-    "XYCOV": "covariance of columns and rows, in thousandths of a square pixel",
-    "SEEN": "pixels with a value in the second image",
-    "MISSING": "pixels without one",
-    "VSUM": "sum of the values in the second image",
-    "VLOW": "least value there",
-    "VPEAK": "greatest value there",
-    "VMEAN": "mean of the values there, in thousandths",
-    "VBACK": "mean of the values around the source there, in thousandths",
 }
 
 
@@ -366,7 +340,7 @@ def detect(
     pixels; `flat` takes the background in steps. `strips` and `workers` change nothing but the time. The defaults are
     the command's; for noisy images docs/GUIDE.md has better ones.
 
-    The catalogue is an astropy `Table` with a row for each source and the 17 columns of the command, all of them
+    The catalogue is an astropy `Table` with a row for each source and the columns of the command, all of them
     whole numbers: positions count pixels from 1, XCEN and YCEN in thousandths of a pixel, XVAR, YVAR and XYCOV in
     thousandths of a square pixel. The map is an array of 32-bit numbers of the image's shape, with the source's
     number, or 0.

@@ -1,8 +1,8 @@
 """The file of a survey, as `maxsurvey --file` keeps it: read-only, as a mapping from fields to catalogues.
 
-The file is an SQLite database with a strict table `source`: for each field its name and the bytes of its rows, 17
-whole numbers of 64 bits each, the most significant byte first. Nothing is written but by `Survey.seal`, which puts a
-sum of each field's bytes into a table of its own beside it; the program goes on to work with such a file.
+The file is an SQLite database with a strict table `source`: for each field its name and the bytes of its rows: a
+whole number of 64 bits for each column, the most significant byte first. Nothing is written but by `Survey.seal`,
+which puts a sum of each field's bytes into a table of its own beside it; the program goes on to work with such a file.
 """
 import collections.abc
 import hashlib
@@ -20,13 +20,13 @@ from astropy.table import Table
 from astropy.wcs import WCS
 
 from . import tables
+from .columns import CATALOGUE
 from .errors import Mistake
-from .kernel import DESCRIPTIONS
 
 __all__ = ["COLUMNS", "Survey", "survey"]
 
 # The cells of a row, in their order: the columns of `detect`, which those of `measure` stand behind.
-COLUMNS = list(DESCRIPTIONS)[: list(DESCRIPTIONS).index("SEEN")]
+COLUMNS = list(CATALOGUE)
 ROW, FLUX = 8 * len(COLUMNS), COLUMNS.index("FLUX")
 SUMS = "CREATE TABLE IF NOT EXISTS source_sum (field TEXT NOT NULL PRIMARY KEY, sum TEXT NOT NULL) STRICT"
 NAME = re.compile(r"[A-Za-z0-9_-]{1,16}")
@@ -37,7 +37,7 @@ Skies = Mapping[str, Union[fits.Header, WCS]]
 class Survey(collections.abc.Mapping):
     """The catalogues of a survey's fields, by their names: `survey["NORTH"]` is an astropy `Table`.
 
-    A catalogue has a row for each source, the 17 columns of `maxdetect detect`, all of them 64-bit whole numbers, and
+    A catalogue has a row for each source, the columns of `maxdetect detect`, all of them 64-bit whole numbers, and
     X and Y, the centre in pixels from 1; each column has its unit and a description. Iteration gives the names in
     their order. The file is opened read-only at each look, so what another process adds is seen at the next one, and
     no look makes a file, or locks one for longer than it takes. Raises Mistake where the file isn't a survey's, or a

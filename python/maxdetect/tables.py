@@ -24,6 +24,7 @@ from astropy.table import Table
 from astropy.wcs import WCS, FITSFixedWarning
 from astropy.wcs.utils import wcs_to_celestial_frame
 
+from .columns import CATALOGUE, MEASURES, Column
 from .errors import Mistake
 from .photometry import FLAGS
 
@@ -52,33 +53,17 @@ FORMATS = {
 }
 # The fluxes that `measured` gives, and what each is the sum over.
 SUMS = {"ISO": "the source's pixels", "KRON": "the Kron ellipse", "APER": "a circle"}
+
+
+def _as_seen(column: Column) -> str:
+    """What a column of the program is in a catalogue whose image was scaled for it."""
+    return column.text + ("" if column.unit or column.form == "J" else ", in the whole numbers that the program saw")
+
+
 # A unit and a description for each column. FLUX stands for the unit of the image, BAND for that of a second one.
 COLUMNS = {
     "EXTENSION": (None, "name or number of the image's HDU"),
-    "NUMBER": (None, "number of the source, its number in the segmentation map"),
-    "LEVEL": (None, "level of the source's node, in the whole numbers that the program saw"),
-    "BASE": (None, "level of the node's parent, in the same numbers"),
-    "AREA": ("pix", "pixels of the source"),
-    "FLUX": (None, "sum of value less base, in the same numbers"),
-    "PEAK": (None, "greatest value, in the same numbers"),
-    "XMIN": ("pix", "least column, from 1"),
-    "XMAX": ("pix", "greatest column, from 1"),
-    "YMIN": ("pix", "least row, from 1"),
-    "YMAX": ("pix", "greatest row, from 1"),
-    "XFIRST": ("pix", "column of the least pixel, from 1"),
-    "YFIRST": ("pix", "row of the least pixel, from 1"),
-    "XCEN": ("0.001 pix", "mean column weighted by value less base, in thousandths of a pixel, from 1000"),
-    "YCEN": ("0.001 pix", "mean row weighted by value less base, in thousandths of a pixel, from 1000"),
-    "XVAR": ("0.001 pix2", "variance of the columns, in thousandths of a square pixel"),
-    "YVAR": ("0.001 pix2", "variance of the rows, in thousandths of a square pixel"),
-    "XYCOV": ("0.001 pix2", "covariance of columns and rows, in thousandths of a square pixel"),
-    "SEEN": ("pix", "pixels with a value in the second image"),
-    "MISSING": ("pix", "pixels without one"),
-    "VSUM": (None, "sum of the values in the second image, in the whole numbers that the program saw"),
-    "VLOW": (None, "least value there"),
-    "VPEAK": (None, "greatest value there"),
-    "VMEAN": (None, "mean of the values there, in thousandths"),
-    "VBACK": (None, "mean of the values around the source there, in thousandths"),
+    **{name: (column.unit, _as_seen(column)) for name, column in {**CATALOGUE, **MEASURES}.items()},
     "X": ("pix", "column of the centre in pixels, from 1"),
     "Y": ("pix", "row of the centre in pixels, from 1"),
     "FLUX_ISO": ("FLUX", "sum above the background over the source's pixels"),

@@ -13,6 +13,7 @@ import pytest
 import maxdetect
 from conftest import TOP
 from maxdetect import kernel
+from maxdetect.columns import CATALOGUE
 
 SMALL = numpy.arange(6).reshape(2, 3)
 WORDS = {"min_area": 5, "mesh": 64, "connect": 8}
@@ -98,7 +99,7 @@ def test_refusals_say_why():
 
 def test_images_without_sources_and_without_pixels():
     table, segments = maxdetect.detect(SMALL, 100)
-    assert len(table) == 0 and len(table.colnames) == 17 and not segments.any()
+    assert len(table) == 0 and table.colnames == list(CATALOGUE) and not segments.any()
     assert len(maxdetect.tree(numpy.ma.masked_all((2, 2), dtype="i4"))) == 0
 
 

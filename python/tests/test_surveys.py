@@ -347,4 +347,4 @@ def test_mistakes_of_the_export(two, monkeypatch, capsys, words, cause):
 
 
 def test_the_columns_are_the_programs():
-    assert len(surveys.COLUMNS) == 17 and surveys.COLUMNS[0] == "NUMBER" and surveys.COLUMNS[-1] == "XYCOV"
+    assert surveys.COLUMNS[0] == "NUMBER" and "SEEN" not in surveys.COLUMNS

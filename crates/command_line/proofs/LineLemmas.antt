@@ -1,5 +1,6 @@
 -- Pieces that are written one behind the other: those before a place, the one there, and those after it.
-use Rattle.std.proofs.Common.{◌≡◌, ◌∙◌, ℕ, ◌+◌, ◌<◌, ◌≤◌, List, [], ◌++◌, get_or, length, map, take, take_all, drop, ap, sym, subst, append_assoc, length-append, arith, Result, OnOk, OnErr}
+use Rattle.std.proofs.Common.{◌≡◌, ◌∙◌, ℕ, ◌+◌, ◌%◌, ◌<◌, ◌≤◌, List, [], ◌++◌, get_or, length, map, take, take_all}
+use Rattle.std.proofs.Common.{drop, ap, sym, subst, append_assoc, length-append, arith, Result, OnOk, OnErr}
 use Rattle.std.specs.List.{concat}
 use Rattle.std.proofs.lemmas.List.{get_or-map, length-map}
 use Rattle.std.specs.declared.option.Option.{Option}
@@ -12,7 +13,13 @@ use Rattle.lemmas.proofs.Exported.{concat-more, concat-split}
 
 pub piece_short : (xss : List (List ℕ)) (i most : ℕ) (x : List ℕ) → i < length xss → x ≡ get_or xss i [] → length (concat xss) ≤ most → length x ≤ most
 piece_short xss i most x h is few =
-    omega (arith, ap length is, ap length (concat-split xss i h), length-append (concat (take i xss)) (get_or xss i [] ++ concat (drop (i + 1) xss)), length-append (get_or xss i []) (concat (drop (i + 1) xss)))
+    omega (
+      arith,
+      ap length is,
+      ap length (concat-split xss i h),
+      length-append (concat (take i xss)) (get_or xss i [] ++ concat (drop (i + 1) xss)),
+      length-append (get_or xss i []) (concat (drop (i + 1) xss)),
+    )
 
 pub waiting : (a b c : Option (List ℕ)) (start : List ℕ) (xss : List (List ℕ)) (v w : List ℕ) (i : ℕ) (x : List ℕ) → i < length xss → x ≡ get_or xss i []
     → Moves a b (start ++ concat (take i xss)) v → Moves b c (v ++ x) w → Moves a c (start ++ concat (take (i + 1) xss)) w
@@ -28,7 +35,20 @@ waiting_cut a b c start xss v i x h is before here =
     let all : ((start ++ concat (take i xss)) ++ x) ++ rest ≡ start ++ concat xss =
     append_assoc (start ++ concat (take i xss)) x rest ∙ append_assoc start (concat (take i xss)) (x ++ rest)
     ∙ ap (λ l. start ++ (concat (take i xss) ++ (l ++ rest))) is ∙ ap (λ l. start ++ l) (sym (concat-split xss i h)) in
-    subst (AppendsPrefix a c) all (AppendsPrefix-more a c ((start ++ concat (take i xss)) ++ x) rest (Moves-cut a b c (start ++ concat (take i xss)) x v before here))
+    subst (AppendsPrefix a c) all
+    (AppendsPrefix-more a c ((start ++ concat (take i xss)) ++ x) rest (Moves-cut a b c (start ++ concat (take i xss)) x v before here))
+
+-- what wasn't put is what whole blocks leave over
+left_over : (v s x w : ℕ) → v % 2880 ≡ s % 2880 → w ≡ (v + x) % 2880 → w % 2880 ≡ (s + x) % 2880
+left_over v s x w before here = omega arith
+
+pub whole_more : (start : ℕ) (xss : List (List ℕ)) (v w i : ℕ) (x : List ℕ) → i < length xss → x ≡ get_or xss i []
+    → v % 2880 ≡ (start + length (concat (take i xss))) % 2880 → w ≡ (v + length x) % 2880
+    → w % 2880 ≡ (start + length (concat (take (i + 1) xss))) % 2880
+whole_more start xss v w i x h is before here =
+    let more : start + length (concat (take (i + 1) xss)) ≡ start + length (concat (take i xss)) + length x =
+    omega (arith, ap length (concat-more xss i h), length-append (concat (take i xss)) (get_or xss i []), ap length is) in
+    left_over v (start + length (concat (take i xss))) (length x) w before here ∙ ap (λ n. n % 2880) (sym more)
 
 pub line_flushed : {T E : Type 0} (a b c : Option (List ℕ)) (r : Result T E) (start xs v w : List ℕ) → start ≡ [] → Moves a b (start ++ xs) v
     → OnOk r (Moves b c v w) → OnOk r (w ≡ []) → OnErr r (AppendsPrefix b c v) → PutAppends a c r xs

@@ -1,5 +1,6 @@
 -- What is read as a number.
-use Rattle.std.proofs.Common.{◌≡◌, ◌∙◌, ℕ, ◌<◌, ◌==◌, ◌&&◌, Bool, true, false, cond, List, [], ◌∷◌, length, drop, refl, sym, ap, subst, arith, rules, ℤ, to_z, of_z, w64, SFits}
+use Rattle.std.proofs.Common.{◌≡◌, ◌∙◌, ℕ, ◌<◌, ◌==◌, ◌&&◌, Bool, true, false, cond, List, [], ◌∷◌, length}
+use Rattle.std.proofs.Common.{drop, refl, sym, ap, subst, arith, rules, ℤ, to_z, of_z, w64, SFits}
 use Rattle.std.specs.Prelude.{Some, None, int_le}
 use Rattle.std.specs.List.{list_all}
 use Rattle.std.specs.Char.{is_ascii_digit}
@@ -32,7 +33,8 @@ sign_cut : (text : List ℕ) → is_short_numeral (without_minus text) ≡ true 
 sign_cut [] h = refl
 sign_cut (first ∷ rest) h = by (first == 45) h
   where
-    by : (b : Bool) → is_short_numeral (cond b rest (first ∷ rest)) ≡ true → cond b rest (drop (cond (first == 43) 1 0) (first ∷ rest)) ≡ cond b rest (first ∷ rest)
+    by : (b : Bool) → is_short_numeral (cond b rest (first ∷ rest)) ≡ true
+        → cond b rest (drop (cond (first == 43) 1 0) (first ∷ rest)) ≡ cond b rest (first ∷ rest)
     by true h = refl
     by false h = ap (λ t. drop (cond t 1 0) (first ∷ rest)) (no_plus first rest h)
 

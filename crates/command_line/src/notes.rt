@@ -9,7 +9,8 @@ use itoa::Buffer;
 
 /// Writes the line that names the word at fault, counted from 1. A word that is missing stands behind the last.
 pub fn put_usage<N: Sink>(notes: &mut N, word: usize) -> Result<(), Failed>
-    ensures bytes { PutAppends (N.written notes.old) (N.written notes.new) result (usage_line word) }
+    ensures bytes { PutAppends (N.written notes.old) (N.written notes.new) result
+        (usage_line word) }
     ensures cause { HasCause (N.faults notes.old) (N.faults notes.new) result }
 {
     let mut buffer = Buffer::new();

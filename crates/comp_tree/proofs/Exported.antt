@@ -31,7 +31,7 @@ pub use Rattle.comp_tree.proofs.Adjacent.{adjacent_ends, adjacent_from, adjacent
 pub use Rattle.comp_tree.proofs.Nodes.{IsCandidate, IsPlace, IsRepresentative, ParentCase, candidate-from, candidate-parts, child, is_representative-parts}
 pub use Rattle.comp_tree.proofs.Nodes.{node-unique, node_of-is, parent-case, parent-is, representative-is, representative-same, root}
 -- components of nodes: each component of a threshold set is that of a node; the pixel that represents a node; nested components by their pixels
-pub use Rattle.comp_tree.proofs.Components.{each_component_is_a_node, top-defined, top-representative}
+pub use Rattle.comp_tree.proofs.Components.{each_component_is_a_node, node_of_top, top-defined, top-representative}
 pub use Rattle.comp_tree.proofs.Nesting.{all_from, all_gives, among_pixels, in_node-defined, in_node_from_among, test_from_within, top_inside, within_from_test}
 -- the rows of a plane's tree: how many, what each holds, its parent, and that the nodes on the way upwards are the larger ones
 pub use Rattle.comp_tree.proofs.Ancestors.{IsParent, ancestors_are_the_larger_nodes, below_no_node, length-rows, parent-candidate, parent-of_node}
@@ -39,6 +39,8 @@ pub use Rattle.comp_tree.proofs.Ancestors.{pixels_belong_to_their_ancestors, row
 -- `tree_of` has the properties of a tree, and what has them is `tree_of`; its numbers are those of pixels and rows
 pub use Rattle.comp_tree.proofs.OneTree.{IsImage, get-map, get-pixels, get_from_map, get_is, make_tree, ordered-equal, read-node_of, tree_of-is}
 pub use Rattle.comp_tree.proofs.WellFormed.{tree_of-well_formed}
+-- its shape is the plane's, and it has a number for each pixel
+pub use Rattle.comp_tree.proofs.WellFormed.{shape-of, length-numbers}
 -- walks along links: each has a last pixel; a link leads to a pixel with fewer earlier ones
 pub use Rattle.comp_tree.proofs.CountsBelow.{count_below_up}
 pub use Rattle.comp_tree.proofs.Walks.{earlier_count_below, earlier_count_less, high_up, last_there}
@@ -50,8 +52,8 @@ pub use Rattle.comp_tree.proofs.Hanging.{forest_hung, link_hung, link_set_other,
 pub use Rattle.comp_tree.proofs.Representatives.{before_level, last_earlier, last_start}
 -- representatives and parents, read off a forest that stands for a plane's adjacencies
 pub use Rattle.comp_tree.proofs.Canonical.{last_is, last_own, level-value, link_from_representative, parent_from_link, representative_from_link, value-level}
--- a shape is that of its sides; a plane that is written pixel by pixel
-pub use Rattle.comp_tree.proofs.Shapes.{shape_of_sides}
+-- a shape is that of its sides, and a plane that of its shape and values; a plane that is written pixel by pixel
+pub use Rattle.comp_tree.proofs.Shapes.{raster_is, shape_of_sides}
 pub use Rattle.comp_tree.proofs.Writing.{written_all, written_itself, written_next, written_none}
 -- two planes whose pixels of at least a level stand in pairs: partners have one level, reach the same partners, and their representatives are
 -- partners; nodes that partners represent are counterparts, of one level and with paired pixels

@@ -1,9 +1,10 @@
--- A shape is known by its sides.
+-- A shape is known by its sides, and a plane by its shape and its values.
 use Rattle.std.proofs.Common.{◌≡◌, ℕ, Bool, true, false, Some, refl, sym, ap, subst, arith}
 use Rattle.std.proofs.lemmas.Bool.Decides.{nat_tests}
 use Rattle.std.specs.Coded.{le_prop}
 use Rattle.comp_tree.specs.declared.shape.Shape.{Shape}
 use Rattle.comp_tree.specs.Limits.{IsWithinLimits}
+use Rattle.comp_tree.specs.Raster.{Raster}
 use Rattle.comp_tree.specs.Shapes.{fits_limits, shape_if, shape_of}
 
 abbrev sided : (width height : ℕ) → IsWithinLimits width height → Shape
@@ -46,3 +47,7 @@ unfolding shape_of
 shape_of_sides width height s p q =
     shape_if-true width height (fits_limits width height) _ s
     (within_from width height (subst (λ x. IsWithinLimits x height) p (subst (λ y. IsWithinLimits s.width y) q s.within_limits))) p q
+
+-- two planes of one shape with the same values are one
+pub raster_is : (a b : Raster) → a.shape ≡ b.shape → a.values ≡ b.values → a ≡ b
+raster_is a b shape values = λ i. record { shape = shape i; values = values i }

@@ -1,5 +1,6 @@
 -- Values of a plane stay within their range, and are read as they were kept.
-use Rattle.std.proofs.Common.{◌≡◌, ◌∙◌, ℕ, zero, suc, ◌+◌, ◌*◌, ◌^◌, ◌==◌, ◌≢◌, ◌<◌, Bool, true, false, cond, ◌&&◌, List, [], ◌∷◌, ◌++◌, length, map, take, get_or, set, refl, sym, ap, subst, eq-eqb, arith}
+use Rattle.std.proofs.Common.{◌≡◌, ◌∙◌, ℕ, zero, suc, ◌+◌, ◌*◌, ◌^◌, ◌==◌, ◌≢◌, ◌<◌, Bool, true, false, cond, ◌&&◌, List}
+use Rattle.std.proofs.Common.{[], ◌∷◌, ◌++◌, length, map, take, get_or, set, refl, sym, ap, subst, eq-eqb, arith}
 use Rattle.std.specs.Prelude.{ℤ, pos, neg_ℤ, int_le, if◌then◌else◌, Option, Some, None, IfSome, replicate, slice_get, slice_set}
 use Rattle.std.specs.Ordering.{int_eq}
 use Rattle.std.proofs.lemmas.Int.{ints}
@@ -85,7 +86,8 @@ pub kept_more : (numbers : List ℤ) (values : List (Option ℤ)) (i : ℕ) (num
     → pixel_of number ≡ get_or values i d → is_pixel_value (get_or values i d) ≡ true
     → (map pixel_of (numbers ++ number ∷ []) ≡ take (i + 1) values) × (list_all is_pixel_value (take (i + 1) values) ≡ true)
 kept_more numbers values i number d within before here may = (
-  map-append pixel_of numbers (number ∷ []) ∙ ap (λ l. l ++ pixel_of number ∷ []) before.0 ∙ ap (λ v. take i values ++ v ∷ []) here ∙ sym (take_more values i d within),
+  map-append pixel_of numbers (number ∷ []) ∙ ap (λ l. l ++ pixel_of number ∷ []) before.0 ∙ ap (λ v. take i values ++ v ∷ []) here
+      ∙ sym (take_more values i d within),
   list_all_more is_pixel_value values i d within ∙ ap (λ b. b && is_pixel_value (get_or values i d)) before.1 ∙ may,
 )
 
@@ -99,7 +101,8 @@ pub of_other_values : (shape : Shape) (values : List (Option ℤ)) → list_all 
 unfolding raster_of
 of_other_values shape values other = go (length values == shape.width * shape.height)
   where
-    go : (b : Bool) → (if b && list_all is_pixel_value values then Some (record { shape = shape; values = values }) else (let o : Option Raster = None in o)) ≡ None
+    go : (b : Bool)
+        → (if b && list_all is_pixel_value values then Some (record { shape = shape; values = values }) else (let o : Option Raster = None in o)) ≡ None
     go true = rw other refl
     go false = refl
 

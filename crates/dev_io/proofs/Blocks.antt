@@ -5,7 +5,8 @@ use Rattle.dev_io.specs.Streams.{AppendsPrefix}
 use Rattle.dev_io.specs.Laws.{AppendsPrefix-more}
 
 -- a front of those up to the cut is a front of all
-pub cut_before_rest : {T E : Type 0} (r : Result T E) (a b : Option (List ℕ)) (waiting bytes front rest : List ℕ) (n : ℕ) → front ≡ take n bytes → rest ≡ drop n bytes
+pub cut_before_rest : {T E : Type 0} (r : Result T E) (a b : Option (List ℕ)) (waiting bytes front rest : List ℕ) (n : ℕ) → front ≡ take n bytes
+    → rest ≡ drop n bytes
     → AppendsPrefix a b (waiting ++ front) → OnErr r (AppendsPrefix a b (waiting ++ bytes))
 cut_before_rest (Ok x) a b waiting bytes front rest n before after p = tt
 cut_before_rest (Err e) a b waiting bytes front rest n before after p =

@@ -41,10 +41,13 @@ impl Block {
     /// Lets these bytes wait behind those that do, and puts a full block.
     pub fn add<O: Sink>(&mut self, sink: &mut O, bytes: &[u8]) -> Result<(), Failed>
         requires { length bytes.now ≤ 2880 }
-        ensures ok { OnOk result (Moves (O.written sink.old) (O.written sink.new) (self.old ++ bytes.now) self.new) }
+        ensures ok { OnOk result (Moves (O.written sink.old) (O.written sink.new)
+            (self.old ++ bytes.now) self.new) }
         // Nothing is put but whole blocks.
-        ensures whole { OnOk result (length self.new ≡ (length self.old + length bytes.now) % 2880) }
-        ensures err { OnErr result (AppendsPrefix (O.written sink.old) (O.written sink.new) (self.old ++ bytes.now)) }
+        ensures whole { OnOk result
+            (length self.new ≡ (length self.old + length bytes.now) % 2880) }
+        ensures err { OnErr result (AppendsPrefix (O.written sink.old) (O.written sink.new)
+            (self.old ++ bytes.now)) }
         ensures kept { OnErr result (self.new ≡ self.old) }
         ensures cause { HasCause (O.faults sink.old) (O.faults sink.new) result }
     {
@@ -61,9 +64,11 @@ impl Block {
 
     /// Puts what waits, if anything does: the last piece, which may be short.
     pub fn flush<O: Sink>(&mut self, sink: &mut O) -> Result<(), Failed>
-        ensures ok { OnOk result (Moves (O.written sink.old) (O.written sink.new) self.old self.new) }
+        ensures ok { OnOk result
+            (Moves (O.written sink.old) (O.written sink.new) self.old self.new) }
         ensures empty { OnOk result (self.new ≡ []) }
-        ensures err { OnErr result (AppendsPrefix (O.written sink.old) (O.written sink.new) self.old) }
+        ensures err { OnErr result
+            (AppendsPrefix (O.written sink.old) (O.written sink.new) self.old) }
         ensures kept { OnErr result (self.new ≡ self.old) }
         ensures cause { HasCause (O.faults sink.old) (O.faults sink.new) result }
     {
@@ -78,9 +83,11 @@ impl Block {
     // Puts the block filled up by `front`.
     fn put_filled<O: Sink>(&mut self, sink: &mut O, front: &[u8]) -> Result<(), Failed>
         requires { length self.old + length front.now ≡ 2880 }
-        ensures ok { OnOk result (Moves (O.written sink.old) (O.written sink.new) (self.old ++ front.now) self.new) }
+        ensures ok { OnOk result (Moves (O.written sink.old) (O.written sink.new)
+            (self.old ++ front.now) self.new) }
         ensures empty { OnOk result (self.new ≡ []) }
-        ensures err { OnErr result (AppendsPrefix (O.written sink.old) (O.written sink.new) (self.old ++ front.now)) }
+        ensures err { OnErr result (AppendsPrefix (O.written sink.old) (O.written sink.new)
+            (self.old ++ front.now)) }
         ensures kept { OnErr result (self.new ≡ self.old) }
         ensures cause { HasCause (O.faults sink.old) (O.faults sink.new) result }
     {

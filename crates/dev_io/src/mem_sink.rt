@@ -81,16 +81,19 @@ impl Sink for MemSink<'_> {
     fn put(&mut self, piece: &[u8]) -> Result<(), Failed>
         requires some { 0 < length piece.now }
         requires small { length piece.now ≤ 2880 }
-        ensures bytes { PutAppends (Some (sink_bytes self.old)) (Some (sink_bytes self.new)) result piece.now }
+        ensures bytes { PutAppends (Some (sink_bytes self.old)) (Some (sink_bytes self.new)) result
+            piece.now }
         ensures unsettled { sink_settled self.new ≡ false }
         ensures cause { HasCause (sink_faults self.old) (sink_faults self.new) result }
 
         // What fits is appended, or at one of these calls at most what is kept then.
-        ensures appended { sink_bytes self.new ≡ sink_bytes self.old ++ take (appended_count self.old (length piece.now)) piece.now }
+        ensures appended { sink_bytes self.new ≡ sink_bytes self.old
+            ++ take (appended_count self.old (length piece.now)) piece.now }
         // It fails at these calls, and where the piece doesn't fit.
         ensures fails { is_err result ≡ (fails_next (sink_fails self.old) (sink_calls self.old)
             || nat_lt (sink_room self.old) (length (sink_bytes self.old) + length piece.now)) }
-        ensures faults { sink_faults self.new ≡ (if is_err result then one_more (sink_faults self.old) else sink_faults self.old) }
+        ensures faults { sink_faults self.new
+            ≡ (if is_err result then one_more (sink_faults self.old) else sink_faults self.old) }
         ensures calls { sink_calls self.new ≡ one_more (sink_calls self.old) }
         ensures same_room { sink_room self.new ≡ sink_room self.old }
         ensures same_fails { sink_fails self.new ≡ sink_fails self.old }
@@ -120,7 +123,8 @@ impl Sink for MemSink<'_> {
 
         // It fails at these calls and at no other.
         ensures fails { is_err result ≡ fails_next (sink_fails self.old) (sink_calls self.old) }
-        ensures faults { sink_faults self.new ≡ (if is_err result then one_more (sink_faults self.old) else sink_faults self.old) }
+        ensures faults { sink_faults self.new
+            ≡ (if is_err result then one_more (sink_faults self.old) else sink_faults self.old) }
         ensures calls { sink_calls self.new ≡ one_more (sink_calls self.old) }
         ensures same_room { sink_room self.new ≡ sink_room self.old }
         ensures same_fails { sink_fails self.new ≡ sink_fails self.old }

@@ -66,17 +66,21 @@ impl Source for MemSource<'_> {
     fn take(&mut self, buf: &mut [u8]) -> Result<usize, Failed>
         requires { 0 < length buf.old }
         ensures bound { ReadsAtMost result buf.new }
-        ensures moved { IfOk result (λ n. Consumes (Some (source_rest self.old)) (Some (source_rest self.new)) (take n buf.new)) }
+        ensures moved { IfOk result (λ n.
+            Consumes (Some (source_rest self.old)) (Some (source_rest self.new)) (take n buf.new)) }
         ensures end { IfOk result (λ n. n ≡ 0 → IsAtEnd (Some (source_rest self.new))) }
         ensures ended { source_ended self.new ≡ (source_ended self.old || gives_nothing result) }
-        ensures kept { OnErr result (Keeps (Some (source_rest self.old)) (Some (source_rest self.new))) }
+        ensures kept { OnErr result
+            (Keeps (Some (source_rest self.old)) (Some (source_rest self.new))) }
         ensures cause { HasCause (source_faults self.old) (source_faults self.new) result }
 
         // As many bytes come as the piece, the buffer and the source have.
-        ensures count { IfOk result (λ n. n ≡ min (source_piece self.old) (min (length buf.old) (length (source_rest self.old)))) }
+        ensures count { IfOk result (λ n. n ≡ min (source_piece self.old)
+            (min (length buf.old) (length (source_rest self.old)))) }
         // It fails at these calls and at no other.
         ensures fails { is_err result ≡ fails_next (source_fails self.old) (source_calls self.old) }
-        ensures faults { source_faults self.new ≡ (if is_err result then one_more (source_faults self.old) else source_faults self.old) }
+        ensures faults { source_faults self.new ≡ (if is_err result
+            then one_more (source_faults self.old) else source_faults self.old) }
         ensures calls { source_calls self.new ≡ one_more (source_calls self.old) }
         ensures same_piece { source_piece self.new ≡ source_piece self.old }
         ensures same_fails { source_fails self.new ≡ source_fails self.old }

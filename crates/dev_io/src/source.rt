@@ -45,7 +45,8 @@ pub trait Source {
     fn take(&mut self, buf: &mut [u8]) -> Result<usize, Failed>
         requires { 0 < length buf.old }
         ensures bound { ReadsAtMost result buf.new }
-        ensures moved { IfOk result (λ n. Consumes (left self.old) (left self.new) (take n buf.new)) }
+        ensures moved { IfOk result
+            (λ n. Consumes (left self.old) (left self.new) (take n buf.new)) }
         ensures end { IfOk result (λ n. n ≡ 0 → IsAtEnd (left self.new)) }
         ensures ended { ended self.new ≡ (ended self.old || gives_nothing result) }
         ensures kept { OnErr result (Keeps (left self.old) (left self.new)) }
@@ -59,10 +60,12 @@ pub trait Source {
 /// failure are gone.
 pub fn fill<S: Source>(src: &mut S, buf: &mut [u8]) -> Result<usize, Failed>
     ensures bound { ReadsAtMost result buf.new }
-    ensures moved { IfOk result (λ n. ForSome (S.left src.old) (λ bytes. Fills bytes (S.left src.new) n buf.new)) }
+    ensures moved { IfOk result (λ n. ForSome (S.left src.old)
+        (λ bytes. Fills bytes (S.left src.new) n buf.new)) }
     ensures short { IfOk result (λ n. n < length buf.new → IsTrue (S.ended src.new)) }
     ensures ended { S.ended src.new ≡ (S.ended src.old || falls_short result (length buf.new)) }
-    ensures lost { OnErr result (ForSome (S.left src.old) (λ bytes. TakesAtMost bytes (S.left src.new) (length buf.new))) }
+    ensures lost { OnErr result (ForSome (S.left src.old)
+        (λ bytes. TakesAtMost bytes (S.left src.new) (length buf.new))) }
     ensures cause { HasCause (S.faults src.old) (S.faults src.new) result }
 {
     let mut at = 0;

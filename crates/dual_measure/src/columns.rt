@@ -6,18 +6,21 @@ ghost use Rattle.dual_measure.specs.Columns.{measured_cells_of};
 
 use crate::around::mean;
 use crate::values::Measure;
-use source_pick::{CatRow, cells};
+use source_pick::{CELLS_IN_ROW, CatRow, cells};
 
-/// The 17 numbers of a row of the catalogue, and after them SEEN, MISSING, VSUM, VLOW, VPEAK, VMEAN and VBACK. VMEAN is the
+/// How many numbers there are, seven of them from the second image.
+pub const MEASURED_CELLS: usize = CELLS_IN_ROW + 7;
+
+/// The numbers of a row of the catalogue, and after them SEEN, MISSING, VSUM, VLOW, VPEAK, VMEAN and VBACK. VMEAN is the
 /// mean of the values seen and VBACK, which is `back`, that of the values around the node, both in thousandths and rounded
 /// towards minus infinity. SEEN and MISSING of a measure from [`measures`](crate::measures) are at most 2^24.
-pub fn measured_cells(row: &CatRow, measure: &Measure, back: i64) -> [i64; 24]
+pub fn measured_cells(row: &CatRow, measure: &Measure, back: i64) -> [i64; MEASURED_CELLS]
     requires { IsSumOf measure.now.seen measure.now.v }
     ensures { result ≡ measured_cells_of row.now measure.now back }
 {
-    let mut all = [0; 24];
-    all[..17].copy_from_slice(&cells(row));
-    all[17..].copy_from_slice(&[
+    let mut all = [0; MEASURED_CELLS];
+    all[..CELLS_IN_ROW].copy_from_slice(&cells(row));
+    all[CELLS_IN_ROW..].copy_from_slice(&[
         measure.seen as i64,
         measure.missing as i64,
         measure.v,

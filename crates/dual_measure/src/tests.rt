@@ -4,7 +4,8 @@ ghost use Rattle.std.specs.Prelude.{◌≡◌, IfOk};
 
 use super::*;
 use comp_tree::{Connect, Plane, Shape, plain_tree};
-use source_pick::CatRow;
+use node_sums::sums;
+use source_pick::{CELLS_IN_ROW, CatRow, cells, row};
 use std::alloc::Global;
 use std::test::Fail;
 
@@ -104,27 +105,21 @@ fn nodes_are_measured(rt: HostRuntime) -> Result<(), Fail> {
     Ok(())
 }
 
+// The row of the only node of a plane of one pixel.
+fn only_row(alloc: Global) -> Result<CatRow, Fail> {
+    let shape = Shape::of(1, 1).ok_or("a shape")?;
+    let plane = Plane::of(alloc, shape, &[Some(7)])?.ok_or("a plane")?;
+    let tree = plain_tree(alloc, &plane, Connect::Four)?;
+    let found = sums(alloc, &plane, &tree)?;
+    if tree.rows().is_empty() {
+        return Err(Fail::from("no node"));
+    }
+    Ok(row(&tree, &found, 1, 0))
+}
+
 #[test]
-fn a_row_gets_seven_columns(rt: HostRuntime) {
-    let row = CatRow {
-        number: 1,
-        level: 2,
-        base: 1,
-        area: 3,
-        flux: 10,
-        peak: 6,
-        xmin: 2,
-        xmax: 4,
-        ymin: 1,
-        ymax: 1,
-        xfirst: 2,
-        yfirst: 1,
-        xcen: 2900,
-        ycen: 1000,
-        xvar: 666,
-        yvar: 0,
-        xycov: -1,
-    };
+fn a_row_gets_seven_columns(rt: HostRuntime) -> Result<(), Fail> {
+    let row = only_row(rt.alloc())?;
     let measure = Measure {
         seen: 3,
         missing: 1,
@@ -132,12 +127,8 @@ fn a_row_gets_seven_columns(rt: HostRuntime) {
         low: -3,
         peak: 2,
     };
-    let cells = measured_cells(&row, &measure, 8500);
-    assert_eq!(rt;
-        cells,
-        [
-            1, 2, 1, 3, 10, 6, 2, 4, 1, 1, 2, 1, 2900, 1000, 666, 0, -1, 3, 1, -1, -3, 2, -334,
-            8500
-        ]
-    );
+    let found = measured_cells(&row, &measure, 8500);
+    assert_eq!(rt; &found[..CELLS_IN_ROW], cells(&row).as_slice());
+    assert_eq!(rt; &found[CELLS_IN_ROW..], [3, 1, -1, -3, 2, -334, 8500].as_slice());
+    Ok(())
 }

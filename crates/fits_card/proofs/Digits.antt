@@ -1,5 +1,6 @@
 -- Digits, and the numbers that they write.
-use Rattle.std.proofs.Common.{◌≡◌, ℕ, zero, suc, ◌+◌, ◌-◌, ◌*◌, ◌/◌, ◌%◌, ◌^◌, ◌<◌, ◌≤◌, true, false, List, [], ◌∷◌, ◌++◌, length, take, drop, min, get_or, refl, sym, ap, ◌∙◌, inl, inr, arith, length-drop, take-append-drop}
+use Rattle.std.proofs.Common.{◌≡◌, ℕ, zero, suc, ◌+◌, ◌-◌, ◌*◌, ◌/◌, ◌%◌, ◌^◌, ◌<◌, ◌≤◌, true, false, List, [], ◌∷◌, ◌++◌, length}
+use Rattle.std.proofs.Common.{take, drop, min, get_or, refl, sym, ap, ◌∙◌, inl, inr, arith, length-drop, take-append-drop}
 use Rattle.std.specs.Char.{digit_value, is_ascii_digit}
 use Rattle.std.specs.Str.{all_ascii_digits}
 use Rattle.std.specs.Str.Parse.{AllDigits, digits_value, digits_value_after}
@@ -42,8 +43,10 @@ shifted-sum n d p q v a b e f g = rw g (omega arith)
 value-after : (n : ℕ) (ds : List ℕ) → digits_value_after 10 n ds ≡ n * 10 ^ length ds + digits_value_after 10 0 ds
 value-after n [] = omega arith
 value-after n (d ∷ ds) =
-    let here : digits_value_after 10 (n * 10 + digit_value d) ds ≡ (n * 10 + digit_value d) * 10 ^ length ds + digits_value_after 10 0 ds = value-after (n * 10 + digit_value d) ds in
-    let first : digits_value_after 10 (0 * 10 + digit_value d) ds ≡ (0 * 10 + digit_value d) * 10 ^ length ds + digits_value_after 10 0 ds = value-after (0 * 10 + digit_value d) ds in
+    let here : digits_value_after 10 (n * 10 + digit_value d) ds ≡ (n * 10 + digit_value d) * 10 ^ length ds + digits_value_after 10 0 ds =
+    value-after (n * 10 + digit_value d) ds in
+    let first : digits_value_after 10 (0 * 10 + digit_value d) ds ≡ (0 * 10 + digit_value d) * 10 ^ length ds + digits_value_after 10 0 ds =
+    value-after (0 * 10 + digit_value d) ds in
     shifted-sum n (digit_value d) (10 ^ length ds) (10 ^ suc (length ds)) (digits_value_after 10 0 ds) _ _ here first (pow-suc 10 (length ds))
 
 after-append : (n : ℕ) (xs ys : List ℕ) → digits_value_after 10 n (xs ++ ys) ≡ digits_value_after 10 (digits_value_after 10 n xs) ys
@@ -64,7 +67,8 @@ pub record Cut (ds : List ℕ) (k : ℕ) (front back : ℕ) : Type 0 where
 cut-by : (n p front back : ℕ) → n ≡ front * p + back → back < p → (n % p ≡ back) × (n / p ≡ front)
 cut-by n p front back e h = rw e (mod-mul-add front p back h, div-mul-add front p back h)
 
-cut-within : (ds : List ℕ) (k : ℕ) → all_ascii_digits ds ≡ true → k ≤ length ds → Cut ds k (digits_value 10 (take (length ds - k) ds)) (digits_value 10 (drop (length ds - k) ds))
+cut-within : (ds : List ℕ) (k : ℕ) → all_ascii_digits ds ≡ true → k ≤ length ds
+    → Cut ds k (digits_value 10 (take (length ds - k) ds)) (digits_value 10 (drop (length ds - k) ds))
 cut-within ds k t h =
     let front : List ℕ = take (length ds - k) ds in
     let back : List ℕ = drop (length ds - k) ds in
@@ -88,7 +92,8 @@ cut-beyond ds k t h =
     cut-by (digits_value 10 ds) (10 ^ k) 0 (digits_value 10 ds) (omega arith) (below-power ds k t h) in
     record { back_is = parts.0; front_is = parts.1 }
 
-pub cut-digits : (ds : List ℕ) (k cut : ℕ) → all_ascii_digits ds ≡ true → cut ≡ min (length ds) k → Cut ds k (digits_value 10 (take (length ds - cut) ds)) (digits_value 10 (drop (length ds - cut) ds))
+pub cut-digits : (ds : List ℕ) (k cut : ℕ) → all_ascii_digits ds ≡ true → cut ≡ min (length ds) k
+    → Cut ds k (digits_value 10 (take (length ds - cut) ds)) (digits_value 10 (drop (length ds - cut) ds))
 cut-digits ds k cut t e =
     elim (cases_lt k (length ds)) [
       | inl within ↦ let same : cut ≡ k = omega arith in rw same (cut-within ds k t (omega arith))
@@ -100,7 +105,8 @@ pub front-le : (ds : List ℕ) (i : ℕ) → digits_value 10 (take i ds) ≤ dig
 front-le ds i = digits_value-take-le 10 ds i (omega arith)
 
 -- one digit more
-pub digits-more : (ds : List ℕ) (i : ℕ) → all_ascii_digits ds ≡ true → i < length ds → digits_value 10 (take (i + 1) ds) ≡ digits_value 10 (take i ds) * 10 + (get_or ds i 0 - 48)
+pub digits-more : (ds : List ℕ) (i : ℕ) → all_ascii_digits ds ≡ true → i < length ds
+    → digits_value 10 (take (i + 1) ds) ≡ digits_value 10 (take i ds) * 10 + (get_or ds i 0 - 48)
 digits-more ds i t h =
     let range : IsInRange 48 57 (get_or ds i 0) = digit-in_range ds i t h in
     digits_value_more 10 ds i h ∙ ap (λ v. digits_value 10 (take i ds) * 10 + v) (digit_value-of (get_or ds i 0) range.0 range.1)

@@ -1,5 +1,6 @@
 -- The exponent of a real, clamped.
-use Rattle.std.proofs.Common.{◌≡◌, ℕ, zero, suc, ◌^◌, ◌<◌, ◌≤◌, Bool, true, false, cond, List, [], ◌∷◌, length, drop, min, Option, Some, None, ℤ, pos, refl, sym, ap, ◌∙◌, inl, inr, arith}
+use Rattle.std.proofs.Common.{◌≡◌, ℕ, zero, suc, ◌^◌, ◌<◌, ◌≤◌, Bool, true, false, cond, List, [], ◌∷◌, length}
+use Rattle.std.proofs.Common.{drop, min, Option, Some, None, ℤ, pos, refl, sym, ap, ◌∙◌, inl, inr, arith}
 use Rattle.std.specs.Prelude.{SomeIff}
 use Rattle.std.specs.Option.{option_map, unwrap_or}
 use Rattle.std.proofs.lemmas.Bool.{cases_lt, lt-ltb}
@@ -18,7 +19,8 @@ exponent-bad [] h n = absurd (omega arith)
 exponent-bad (letter ∷ digits) h n =
     sym (ap (λ t. option_map clamped (cond t (Some (signed (is_negative digits) (number_of (unsigned digits)))) None)) n)
 
-exponent-good : (bytes : List ℕ) → 1 ≤ length bytes → is_numeral (unsigned (drop 1 bytes)) ≡ true → exponent_of bytes ≡ Some (signed (is_negative (drop 1 bytes)) (number_of (unsigned (drop 1 bytes))))
+exponent-good : (bytes : List ℕ) → 1 ≤ length bytes → is_numeral (unsigned (drop 1 bytes)) ≡ true
+    → exponent_of bytes ≡ Some (signed (is_negative (drop 1 bytes)) (number_of (unsigned (drop 1 bytes))))
 unfolding exponent_of
 exponent-good [] h n = absurd (omega arith)
 exponent-good (letter ∷ digits) h n = ap (λ t. cond t (Some (signed (is_negative digits) (number_of (unsigned digits)))) None) n
@@ -33,12 +35,16 @@ small-fits true zero h = refl
 small-fits true (suc n) h = lt-ltb n (2 ^ 63) (omega arith)
 small-fits false n h = lt-ltb n (2 ^ 63) (omega arith)
 
-some-of : (negative : Bool) (n : ℕ) (r : Option ℤ) → n ≤ 1000 → SomeIff r (fits_i64 (signed negative n) ≡ true) (signed negative n) → r ≡ Some (signed negative n)
+some-of : (negative : Bool) (n : ℕ) (r : Option ℤ) → n ≤ 1000 → SomeIff r (fits_i64 (signed negative n) ≡ true) (signed negative n)
+    → r ≡ Some (signed negative n)
 some-of negative n None h s = absurd (s (small-fits negative n h))
 some-of negative n (Some z) h s = ap (λ x. Some x) s.1
 
 -- what the code makes of the exponent's sign and digits
-pub exponent-clamped : (bytes after digits : List ℕ) (negative : Bool) (m : Option ℕ) (size : ℕ) (r : Option ℤ) → 1 ≤ length bytes → after ≡ drop 1 bytes → digits ≡ unsigned after → negative ≡ is_negative after → is_numeral digits ≡ true → SomeIff m (number_of digits < 2 ^ 64) (number_of digits) → size ≡ min (unwrap_or m 1000) 1000 → SomeIff r (fits_i64 (signed negative size) ≡ true) (signed negative size) → r ≡ option_map clamped (exponent_of bytes)
+pub exponent-clamped : (bytes after digits : List ℕ) (negative : Bool) (m : Option ℕ) (size : ℕ) (r : Option ℤ) → 1 ≤ length bytes → after ≡ drop 1 bytes
+    → digits ≡ unsigned after → negative ≡ is_negative after → is_numeral digits ≡ true → SomeIff m (number_of digits < 2 ^ 64) (number_of digits)
+    → size ≡ min (unwrap_or m 1000) 1000 → SomeIff r (fits_i64 (signed negative size) ≡ true) (signed negative size)
+    → r ≡ option_map clamped (exponent_of bytes)
 exponent-clamped bytes after digits negative m size r h a d b n s e f =
     let same : digits ≡ unsigned (drop 1 bytes) = d ∙ ap unsigned a in
     let sign : negative ≡ is_negative (drop 1 bytes) = b ∙ ap is_negative a in

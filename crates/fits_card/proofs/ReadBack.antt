@@ -1,5 +1,6 @@
 -- Written cards are read back.
-use Rattle.std.proofs.Common.{◌&&◌, nat_le, ◌≡◌, inl, inr, eq-eqb, ℕ, zero, suc, ◌-◌, ◌^◌, ◌<◌, ◌≤◌, ◌≢◌, Bool, true, false, not, cond, eqb, List, [], ◌∷◌, ◌++◌, length, get_or, drop, Some, ℤ, pos, negsuc, refl, sym, ap, ◌∙◌, arith, append_assoc, length-append}
+use Rattle.std.proofs.Common.{◌&&◌, nat_le, ◌≡◌, inl, inr, eq-eqb, ℕ, zero, suc, ◌-◌, ◌^◌, ◌<◌, ◌≤◌, ◌≢◌, Bool, true, false, not, cond, eqb, List}
+use Rattle.std.proofs.Common.{[], ◌∷◌, ◌++◌, length, get_or, drop, Some, ℤ, pos, negsuc, refl, sym, ap, ◌∙◌, arith, append_assoc, length-append}
 use Rattle.std.specs.Prelude.{codes, FitsSigned}
 use Rattle.std.specs.Int.{w64}
 use Rattle.std.specs.Str.{all_ascii_digits}
@@ -10,8 +11,10 @@ use Rattle.std.proofs.lemmas.Bool.{cases_eq, ne_eqb, and_parts, and_from, or_fro
 use Rattle.std.proofs.lemmas.List.{get_or_at, get_or_append_left, drop_at}
 use Rattle.std.proofs.lemmas.Fmt.{digits_decimal, digits_value-decimal, decimal_nonempty}
 use Rattle.fits_card.specs.declared.number.Whole.TheVariants.{Is, Beyond}
-use Rattle.fits_card.specs.Pieces.{is_among, before_any, from_any, is_over, is_comment, closed, with_first, without_leading_spaces, without_trailing_spaces, before_kept}
-use Rattle.fits_card.specs.Values.{Integer, Text, Token, Quoted, Broken, value_field, content_value, token_content, quoted_content, token_value, number_value, is_negative, unsigned, number_of, signed, value_of, whole_of}
+use Rattle.fits_card.specs.Pieces.{is_among, before_any, from_any, is_over, is_comment, closed, with_first}
+use Rattle.fits_card.specs.Pieces.{without_leading_spaces, without_trailing_spaces, before_kept}
+use Rattle.fits_card.specs.Values.{Integer, Text, Token, Quoted, Broken, value_field, content_value, token_content, quoted_content}
+use Rattle.fits_card.specs.Values.{token_value, number_value, is_negative, unsigned, number_of, signed, value_of, whole_of}
 use Rattle.fits_card.specs.Written.{is_plain, spaces, left_justified, right_justified, written_value, written_logical, written_integer, written_text}
 use Rattle.fits_card.specs.Laws.{LogicalIsReadBack, IntegerIsReadBack, IntegerIsWhole, TextIsReadBack, doubled, DoubledQuotesAreRead}
 use Rattle.fits_card.proofs.Digits.{digit-in_range}
@@ -24,7 +27,8 @@ use Rattle.std.specs.Int.{IsInRange}
 
 -- the value field of a written card
 
-field-at : (front value pad : List ℕ) → length front ≡ 10 → get_or front 8 0 ≡ 61 → get_or front 9 0 ≡ 32 → value_field ((front ++ value) ++ pad) ≡ without_leading_spaces (value ++ pad)
+field-at : (front value pad : List ℕ) → length front ≡ 10 → get_or front 8 0 ≡ 61 → get_or front 9 0 ≡ 32
+    → value_field ((front ++ value) ++ pad) ≡ without_leading_spaces (value ++ pad)
 field-at front value pad l e f =
     let card : List ℕ = (front ++ value) ++ pad in
     let apart : card ≡ front ++ (value ++ pad) = append_assoc front value pad in
@@ -33,7 +37,8 @@ field-at front value pad l e f =
     let rest : drop 10 card ≡ value ++ pad = ap (drop 10) apart ∙ drop_at front (value ++ pad) 10 l in
     sym (field-there card eight nine) ∙ ap without_leading_spaces rest
 
-written-field : (name value : List ℕ) → length name ≡ 8 → value_field (written_value name value) ≡ without_leading_spaces (value ++ spaces (80 - length (name ++ codes "= " ++ value)))
+written-field : (name value : List ℕ) → length name ≡ 8
+    → value_field (written_value name value) ≡ without_leading_spaces (value ++ spaces (80 - length (name ++ codes "= " ++ value)))
 written-field name value l =
     let front : List ℕ = name ++ codes "= " in
     let ten : length front ≡ 10 = omega (arith, length-append name (codes "= ")) in
@@ -90,7 +95,8 @@ first-kept : (b : ℕ) (rest : List ℕ) → b ≢ 32 → without_leading_spaces
 first-kept b rest n = ap (λ t. cond t (without_leading_spaces rest) (b ∷ rest)) (ne_eqb b 32 n)
 
 -- the value of a card whose value is a right-justified token
-right-value : (name : List ℕ) (b : ℕ) (more : List ℕ) → length name ≡ 8 → list_all is_bare (b ∷ more) ≡ true → b ≢ 32 → b ≢ 47 → b ≢ 39 → value_of (written_value name (right_justified 20 (b ∷ more))) ≡ token_value (b ∷ more)
+right-value : (name : List ℕ) (b : ℕ) (more : List ℕ) → length name ≡ 8 → list_all is_bare (b ∷ more) ≡ true → b ≢ 32 → b ≢ 47 → b ≢ 39
+    → value_of (written_value name (right_justified 20 (b ∷ more))) ≡ token_value (b ∷ more)
 right-value name b more l t n₁ n₂ n₃ =
     let token : List ℕ = b ∷ more in
     let pad : ℕ = 80 - length (name ++ codes "= " ++ right_justified 20 token) in
@@ -110,7 +116,8 @@ logical-read_back name false l =
 -- integers
 
 digit-plain : (d : ℕ) → 48 ≤ d → is_bare d ≡ true
-digit-plain d h = not_from_false (is_among (codes " /") d) (or_from (eqb 32 d) _ (ne_eqb 32 d (omega arith)) (or_from (eqb 47 d) false (ne_eqb 47 d (omega arith)) refl))
+digit-plain d h =
+    not_from_false (is_among (codes " /") d) (or_from (eqb 32 d) _ (ne_eqb 32 d (omega arith)) (or_from (eqb 47 d) false (ne_eqb 47 d (omega arith)) refl))
 
 digits-plain : (ds : List ℕ) → all_ascii_digits ds ≡ true → list_all is_bare ds ≡ true
 digits-plain [] t = refl
@@ -141,7 +148,8 @@ negative-token : (ds : List ℕ) → all_ascii_digits ds ≡ true → 0 < length
 negative-token [] t h = absurd (omega arith)
 negative-token (d ∷ ds) t h = token-long 45 d ds ∙ number-integer true (d ∷ ds) t
 
-right-digits : (name ds : List ℕ) → length name ≡ 8 → all_ascii_digits ds ≡ true → 0 < length ds → value_of (written_value name (right_justified 20 ds)) ≡ token_value ds
+right-digits : (name ds : List ℕ) → length name ≡ 8 → all_ascii_digits ds ≡ true → 0 < length ds
+    → value_of (written_value name (right_justified 20 ds)) ≡ token_value ds
 right-digits name [] l t h = absurd (omega arith)
 right-digits name (d ∷ ds) l t h =
     let range : IsInRange 48 57 d = digit-in_range (d ∷ ds) 0 t (omega arith) in
@@ -180,9 +188,14 @@ closed-there : (n : ℕ) → closed (39 ∷ spaces n) ≡ Some (record { text = 
 closed-there zero = refl
 closed-there (suc n) = refl
 
-closed-further : (b : ℕ) (text : List ℕ) (n : ℕ) → eqb b 39 ≡ false → closed (b ∷ (text ++ 39 ∷ spaces n)) ≡ option_map (with_first b) (closed (text ++ 39 ∷ spaces n))
-closed-further b [] n h = ap (λ t. cond t (cond (eqb 39 39) (option_map (with_first 39) (closed (spaces n))) (Some (record { text = []; rest = 39 ∷ spaces n }))) (option_map (with_first b) (closed (39 ∷ spaces n)))) h
-closed-further b (c ∷ text) n h = ap (λ t. cond t (cond (eqb c 39) (option_map (with_first 39) (closed (text ++ 39 ∷ spaces n))) (Some (record { text = []; rest = c ∷ (text ++ 39 ∷ spaces n) }))) (option_map (with_first b) (closed (c ∷ (text ++ 39 ∷ spaces n))))) h
+closed-further : (b : ℕ) (text : List ℕ) (n : ℕ) → eqb b 39 ≡ false
+    → closed (b ∷ (text ++ 39 ∷ spaces n)) ≡ option_map (with_first b) (closed (text ++ 39 ∷ spaces n))
+closed-further b [] n h =
+    ap (λ t. cond t (cond (eqb 39 39) (option_map (with_first 39) (closed (spaces n))) (Some (record { text = []; rest = 39 ∷ spaces n })))
+    (option_map (with_first b) (closed (39 ∷ spaces n)))) h
+closed-further b (c ∷ text) n h =
+    ap (λ t. cond t (cond (eqb c 39) (option_map (with_first 39) (closed (text ++ 39 ∷ spaces n)))
+    (Some (record { text = []; rest = c ∷ (text ++ 39 ∷ spaces n) }))) (option_map (with_first b) (closed (c ∷ (text ++ 39 ∷ spaces n))))) h
 
 closed-text : (text : List ℕ) (n : ℕ) → list_all is_no_quote text ≡ true → closed (text ++ 39 ∷ spaces n) ≡ Some (record { text = text; rest = spaces n })
 closed-text [] n t = closed-there n
@@ -223,7 +236,8 @@ text-read_back name text l short plain =
     let field : List ℕ = 39 ∷ (inside ++ 39 ∷ spaces pad) in
     let apart : value ++ spaces pad ≡ field = append_assoc (39 ∷ inside) (39 ∷ []) (spaces pad) in
     let field_is : field ≡ value_field (written_value name value) = sym (written-field name value l ∙ ap without_leading_spaces apart) in
-    let no_quote : list_all is_no_quote inside ≡ true = both-no_quote text (spaces (8 - length text)) (plain-no_quote text plain) (spaces-no_quote (8 - length text)) in
+    let no_quote : list_all is_no_quote inside ≡ true =
+    both-no_quote text (spaces (8 - length text)) (plain-no_quote text plain) (spaces-no_quote (8 - length text)) in
     value-is (written_value name value) field field_is
     ∙ ap content_value
     (content-string field (omega arith) refl

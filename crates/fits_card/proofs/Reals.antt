@@ -1,16 +1,20 @@
 -- Reals, from the pieces that the code cuts.
-use Rattle.std.proofs.Common.{◌≡◌, ℕ, ◌^◌, ◌<◌, ◌≤◌, Bool, true, false, cond, List, ◌++◌, length, drop, Option, Some, None, ℤ, pos, ◌-ℤ◌, refl, sym, ap, ◌∙◌, arith, length-append}
+use Rattle.std.proofs.Common.{◌≡◌, ℕ, ◌^◌, ◌<◌, ◌≤◌, Bool, true, false, cond, List, ◌++◌, length, drop}
+use Rattle.std.proofs.Common.{Option, Some, None, ℤ, pos, ◌-ℤ◌, refl, sym, ap, ◌∙◌, arith, length-append}
 use Rattle.std.specs.Prelude.{codes}
 use Rattle.std.specs.Option.{option_map}
 use Rattle.fits_card.specs.declared.number.Whole.{Whole}
 use Rattle.fits_card.specs.declared.number.Whole.TheVariants.{Unreadable}
 use Rattle.fits_card.specs.Pieces.{before_any, from_any}
-use Rattle.fits_card.specs.Values.{Malformed, Real, Integer, signed, is_numeral, number_of, exponent_of, real_of, real_value, number_value, whole_of, whole_real}
+use Rattle.fits_card.specs.Values.{Malformed, Real, Integer, signed, is_numeral, number_of, exponent_of}
+use Rattle.fits_card.specs.Values.{real_of, real_value, number_value, whole_of, whole_real}
 use Rattle.fits_card.specs.Clamped.{clamped}
 use Rattle.fits_card.proofs.Digits.{digits-below, digits-from_numeral}
 use Rattle.fits_card.proofs.Wholes.{clamped-is-enough}
 
-real-is : (negative : Bool) (bytes mantissa scale whole rest fraction : List ℕ) → mantissa ≡ before_any (codes "EDed") bytes → scale ≡ from_any (codes "EDed") bytes → whole ≡ before_any (codes ".") mantissa → rest ≡ from_any (codes ".") mantissa → fraction ≡ drop 1 rest → real_value negative bytes ≡ real_of negative whole fraction (exponent_of scale)
+real-is : (negative : Bool) (bytes mantissa scale whole rest fraction : List ℕ) → mantissa ≡ before_any (codes "EDed") bytes
+    → scale ≡ from_any (codes "EDed") bytes → whole ≡ before_any (codes ".") mantissa → rest ≡ from_any (codes ".") mantissa → fraction ≡ drop 1 rest
+    → real_value negative bytes ≡ real_of negative whole fraction (exponent_of scale)
 unfolding real_value
 real-is negative bytes mantissa scale whole rest fraction m s w r f =
     let whole_is : before_any (codes ".") (before_any (codes "EDed") bytes) ≡ whole = ap (before_any (codes ".")) (sym m) ∙ sym w in
@@ -45,11 +49,13 @@ pub record Pieces (bytes mantissa scale whole rest fraction : List ℕ) : Type 0
   pub rest_is : rest ≡ from_any (codes ".") mantissa
   pub fraction_is : fraction ≡ drop 1 rest
 
-from-pieces : (negative : Bool) {bytes mantissa scale whole rest fraction : List ℕ} → Pieces bytes mantissa scale whole rest fraction → real_value negative bytes ≡ real_of negative whole fraction (exponent_of scale)
+from-pieces : (negative : Bool) {bytes mantissa scale whole rest fraction : List ℕ} → Pieces bytes mantissa scale whole rest fraction
+    → real_value negative bytes ≡ real_of negative whole fraction (exponent_of scale)
 from-pieces negative {bytes} {mantissa} {scale} {whole} {rest} {fraction} p =
     real-is negative bytes mantissa scale whole rest fraction p.mantissa_is p.scale_is p.whole_is p.rest_is p.fraction_is
 
-pub real-without_exponent : (negative : Bool) {bytes mantissa scale whole rest fraction : List ℕ} → Pieces bytes mantissa scale whole rest fraction → None ≡ option_map clamped (exponent_of scale) → Unreadable ≡ whole_of (real_value negative bytes)
+pub real-without_exponent : (negative : Bool) {bytes mantissa scale whole rest fraction : List ℕ} → Pieces bytes mantissa scale whole rest fraction
+    → None ≡ option_map clamped (exponent_of scale) → Unreadable ≡ whole_of (real_value negative bytes)
 real-without_exponent negative {bytes} {mantissa} {scale} {whole} {rest} {fraction} p n =
     sym (ap whole_of (from-pieces negative p ∙ ap (real_of negative whole fraction) (map-none (exponent_of scale) n)))
 
@@ -58,15 +64,21 @@ no-digits negative whole fraction None n = refl
 no-digits negative whole fraction (Some e) n =
     ap (λ t. cond t (Real (signed negative (number_of (whole ++ fraction))) (e -ℤ pos (length fraction))) Malformed) n
 
-pub real-without_digits : (negative : Bool) {bytes mantissa scale whole rest fraction : List ℕ} (digits : List ℕ) → Pieces bytes mantissa scale whole rest fraction → digits ≡ whole ++ fraction → is_numeral digits ≡ false → Unreadable ≡ whole_of (real_value negative bytes)
+pub real-without_digits : (negative : Bool) {bytes mantissa scale whole rest fraction : List ℕ} (digits : List ℕ)
+    → Pieces bytes mantissa scale whole rest fraction → digits ≡ whole ++ fraction → is_numeral digits ≡ false
+    → Unreadable ≡ whole_of (real_value negative bytes)
 real-without_digits negative {bytes} {mantissa} {scale} {whole} {rest} {fraction} digits p d n =
     sym (ap whole_of (from-pieces negative p ∙ no-digits negative whole fraction (exponent_of scale) (sym (ap is_numeral d) ∙ n)))
 
-with-digits : (negative : Bool) (whole fraction : List ℕ) (e : ℤ) → is_numeral (whole ++ fraction) ≡ true → real_of negative whole fraction (Some e) ≡ Real (signed negative (number_of (whole ++ fraction))) (e -ℤ pos (length fraction))
+with-digits : (negative : Bool) (whole fraction : List ℕ) (e : ℤ) → is_numeral (whole ++ fraction) ≡ true
+    → real_of negative whole fraction (Some e) ≡ Real (signed negative (number_of (whole ++ fraction))) (e -ℤ pos (length fraction))
 with-digits negative whole fraction e n =
     ap (λ t. cond t (Real (signed negative (number_of (whole ++ fraction))) (e -ℤ pos (length fraction))) Malformed) n
 
-pub real-whole : (negative : Bool) {bytes mantissa scale whole rest fraction : List ℕ} (digits : List ℕ) (exponent shift : ℤ) (result : Whole) → Pieces bytes mantissa scale whole rest fraction → digits ≡ whole ++ fraction → is_numeral digits ≡ true → length digits ≤ 70 → Some exponent ≡ option_map clamped (exponent_of scale) → shift ≡ exponent -ℤ pos (length fraction) → result ≡ whole_real (signed negative (number_of digits)) shift → result ≡ whole_of (real_value negative bytes)
+pub real-whole : (negative : Bool) {bytes mantissa scale whole rest fraction : List ℕ} (digits : List ℕ) (exponent shift : ℤ) (result : Whole)
+    → Pieces bytes mantissa scale whole rest fraction → digits ≡ whole ++ fraction → is_numeral digits ≡ true → length digits ≤ 70
+    → Some exponent ≡ option_map clamped (exponent_of scale) → shift ≡ exponent -ℤ pos (length fraction)
+    → result ≡ whole_real (signed negative (number_of digits)) shift → result ≡ whole_of (real_value negative bytes)
 real-whole negative {bytes} {mantissa} {scale} {whole} {rest} {fraction} digits exponent shift result p d n short e s r =
     let found : (z : ℤ) × (exponent_of scale ≡ Some z) × (exponent ≡ clamped z) = map-some (exponent_of scale) exponent e in
     let z : ℤ = found.0 in

@@ -1,10 +1,13 @@
 -- Which values a content and a token can have.
-use Rattle.std.proofs.Common.{◌≡◌, ℕ, zero, suc, ◌^◌, ◌<◌, ◌≤◌, ◌≢◌, Bool, true, false, not, cond, eqb, List, [], ◌∷◌, ◌++◌, length, get_or, Option, Some, None, ℤ, refl, sym, ap, ◌∙◌, inl, inr, arith, eq-eqb, drop}
+use Rattle.std.proofs.Common.{◌≡◌, ℕ, zero, suc, ◌^◌, ◌<◌, ◌≤◌, ◌≢◌, Bool, true, false, not, cond, eqb, List, [], ◌∷◌, ◌++◌}
+use Rattle.std.proofs.Common.{length, get_or, Option, Some, None, ℤ, refl, sym, ap, ◌∙◌, inl, inr, arith, eq-eqb, drop}
 use Rattle.std.specs.Prelude.{codes, SomeIff}
 use Rattle.std.proofs.lemmas.Bool.{ne_eqb, cases_eq, cases_Bool, cases_lt, le-ltb}
 use Rattle.fits_card.specs.Pieces.{is_over, before_any, from_any, ClosedString, closed, without_trailing_spaces}
 use Rattle.fits_card.specs.declared.number.Whole.{Whole}
-use Rattle.fits_card.specs.Values.{Value, NoValue, Malformed, Logical, Integer, Real, Text, Content, Nothing, Broken, Quoted, Token, is_numeral, is_negative, unsigned, signed, number_of, exponent_of, real_of, real_value, number_value, token_value, token_content, quoted_content, content_of, content_value, value_field, value_of, is_present, logical_of, integer_of, text_of, whole_of, fits_i64}
+use Rattle.fits_card.specs.Values.{Value, NoValue, Malformed, Logical, Integer, Real, Text, Content, Nothing, Broken, Quoted, Token, is_numeral, is_negative}
+use Rattle.fits_card.specs.Values.{unsigned, signed, number_of, exponent_of, real_of, real_value, number_value, token_value, token_content, quoted_content}
+use Rattle.fits_card.specs.Values.{content_of, content_value, value_field, value_of, is_present, logical_of, integer_of, text_of, whole_of, fits_i64}
 use Rattle.fits_card.specs.Tokens.{token_in}
 use Rattle.fits_card.proofs.Fields.{content-empty, content-comment, content-string, content-token}
 use Rattle.fits_card.proofs.Reals.{number-integer, number-real}
@@ -13,15 +16,19 @@ choice : {X : Type 0} (P : X → Type 0) (b : Bool) (x y : X) → P x → P y �
 choice P true x y p q = p
 choice P false x y p q = q
 
-real_of-kind : (P : Value → Type 0) (negative : Bool) (whole fraction : List ℕ) (o : Option ℤ) → P Malformed → ((m e : ℤ) → P (Real m e)) → P (real_of negative whole fraction o)
+real_of-kind : (P : Value → Type 0) (negative : Bool) (whole fraction : List ℕ) (o : Option ℤ) → P Malformed → ((m e : ℤ) → P (Real m e))
+    → P (real_of negative whole fraction o)
 real_of-kind P negative whole fraction None m r = m
 real_of-kind P negative whole fraction (Some e) m r = choice P (is_numeral (whole ++ fraction)) _ _ (r _ _) m
 
 pub real-kind : (P : Value → Type 0) (negative : Bool) (bytes : List ℕ) → P Malformed → ((m e : ℤ) → P (Real m e)) → P (real_value negative bytes)
 unfolding real_value
-real-kind P negative bytes m r = real_of-kind P negative (before_any (codes ".") (before_any (codes "EDed") bytes)) (drop 1 (from_any (codes ".") (before_any (codes "EDed") bytes))) (exponent_of (from_any (codes "EDed") bytes)) m r
+real-kind P negative bytes m r =
+    real_of-kind P negative (before_any (codes ".") (before_any (codes "EDed") bytes)) (drop 1 (from_any (codes ".") (before_any (codes "EDed") bytes)))
+    (exponent_of (from_any (codes "EDed") bytes)) m r
 
-pub number-kind : (P : Value → Type 0) (negative : Bool) (bytes : List ℕ) → P Malformed → ((n : ℤ) → P (Integer n)) → ((m e : ℤ) → P (Real m e)) → P (number_value negative bytes)
+pub number-kind : (P : Value → Type 0) (negative : Bool) (bytes : List ℕ) → P Malformed → ((n : ℤ) → P (Integer n)) → ((m e : ℤ) → P (Real m e))
+    → P (number_value negative bytes)
 unfolding number_value
 number-kind P negative bytes m n r = choice P (is_numeral bytes) _ _ (n _) (real-kind P negative bytes m r)
 
@@ -94,7 +101,8 @@ pub no-integer : (negative : Bool) (bytes : List ℕ) → is_numeral bytes ≡ f
 no-integer negative bytes n =
     ap integer_of (number-real negative bytes n) ∙ real-kind (λ v. integer_of v ≡ None) negative bytes refl (λ m e. refl)
 
-pub an-integer : (negative : Bool) (bytes : List ℕ) → is_numeral bytes ≡ true → integer_of (number_value negative bytes) ≡ cond (fits_i64 (signed negative (number_of bytes))) (Some (signed negative (number_of bytes))) None
+pub an-integer : (negative : Bool) (bytes : List ℕ) → is_numeral bytes ≡ true
+    → integer_of (number_value negative bytes) ≡ cond (fits_i64 (signed negative (number_of bytes))) (Some (signed negative (number_of bytes))) None
 an-integer negative bytes n = ap integer_of (number-integer negative bytes n)
 
 no-logical-number : (negative : Bool) (bytes : List ℕ) → logical_of (number_value negative bytes) ≡ None
@@ -140,11 +148,13 @@ quoted-present (Some string) = choice (λ c. is_present (content_value c) ≡ tr
 
 content-present : (field : List ℕ) → is_present (content_value (token_content field)) ≡ true
 content-present field =
-    choice (λ c. is_present (content_value c) ≡ true) (is_over (from_any (codes " /") field)) (Token (before_any (codes " /") field)) Broken (token-present (before_any (codes " /") field)) refl
+    choice (λ c. is_present (content_value c) ≡ true) (is_over (from_any (codes " /") field)) (Token (before_any (codes " /") field)) Broken
+    (token-present (before_any (codes " /") field)) refl
 
 content-no_text : (field : List ℕ) → text_of (content_value (token_content field)) ≡ None
 content-no_text field =
-    choice (λ c. text_of (content_value c) ≡ None) (is_over (from_any (codes " /") field)) (Token (before_any (codes " /") field)) Broken (token-no_text (before_any (codes " /") field)) refl
+    choice (λ c. text_of (content_value c) ≡ None) (is_over (from_any (codes " /") field)) (Token (before_any (codes " /") field)) Broken
+    (token-no_text (before_any (codes " /") field)) refl
 
 pub value-is : (card field : List ℕ) → field ≡ value_field card → value_of card ≡ content_value (content_of field)
 unfolding value_of
@@ -156,11 +166,13 @@ absent-empty card field f h = sym (ap is_present (value-is card field f ∙ ap c
 pub present-first : (card field : List ℕ) → field ≡ value_field card → 1 ≤ length field → not (eqb (get_or field 0 0) 47) ≡ is_present (value_of card)
 present-first card field f h =
     elim (cases_eq (get_or field 0 0) 47) [
-      | inl comment ↦ ap not (eq-eqb (get_or field 0 0) 47 comment) ∙ sym (ap is_present (value-is card field f ∙ ap content_value (content-comment field h comment)))
+      | inl comment ↦ ap not (eq-eqb (get_or field 0 0) 47 comment)
+          ∙ sym (ap is_present (value-is card field f ∙ ap content_value (content-comment field h comment)))
       | inr no_comment ↦
           ap not (ne_eqb (get_or field 0 0) 47 no_comment)
           ∙ elim (cases_eq (get_or field 0 0) 39) [
-            | inl string ↦ sym (ap is_present (value-is card field f ∙ ap content_value (content-string field h string)) ∙ quoted-present (closed (drop 1 field)))
+            | inl string ↦ sym (ap is_present (value-is card field f ∙ ap content_value (content-string field h string))
+                ∙ quoted-present (closed (drop 1 field)))
             | inr token ↦ sym (ap is_present (value-is card field f ∙ ap content_value (content-token field h no_comment token)) ∙ content-present field)
           ]
     ]
@@ -175,17 +187,21 @@ text-no_quote card field f h n =
       | inr no_comment ↦ sym (ap text_of (value-is card field f ∙ ap content_value (content-token field h no_comment n)) ∙ content-no_text field)
     ]
 
-quoted-value : (card field : List ℕ) → field ≡ value_field card → 1 ≤ length field → get_or field 0 0 ≡ 39 → value_of card ≡ content_value (quoted_content (closed (drop 1 field)))
+quoted-value : (card field : List ℕ) → field ≡ value_field card → 1 ≤ length field → get_or field 0 0 ≡ 39
+    → value_of card ≡ content_value (quoted_content (closed (drop 1 field)))
 quoted-value card field f h q = value-is card field f ∙ ap content_value (content-string field h q)
 
-pub text-not_closed : (card field : List ℕ) → field ≡ value_field card → 1 ≤ length field → get_or field 0 0 ≡ 39 → closed (drop 1 field) ≡ None → None ≡ text_of (value_of card)
+pub text-not_closed : (card field : List ℕ) → field ≡ value_field card → 1 ≤ length field → get_or field 0 0 ≡ 39 → closed (drop 1 field) ≡ None
+    → None ≡ text_of (value_of card)
 text-not_closed card field f h q c = sym (ap text_of (quoted-value card field f h q ∙ ap (λ o. content_value (quoted_content o)) c))
 
-pub text-not_over : (card field text rest : List ℕ) → field ≡ value_field card → 1 ≤ length field → get_or field 0 0 ≡ 39 → closed (drop 1 field) ≡ Some (record { text = text; rest = rest }) → is_over rest ≡ false → None ≡ text_of (value_of card)
+pub text-not_over : (card field text rest : List ℕ) → field ≡ value_field card → 1 ≤ length field → get_or field 0 0 ≡ 39
+    → closed (drop 1 field) ≡ Some (record { text = text; rest = rest }) → is_over rest ≡ false → None ≡ text_of (value_of card)
 text-not_over card field text rest f h q c n =
     sym (ap text_of (quoted-value card field f h q ∙ ap (λ o. content_value (quoted_content o)) c ∙ ap (λ t. content_value (cond t (Quoted text) Broken)) n))
 
-pub text-whole : (card field text rest : List ℕ) → field ≡ value_field card → 1 ≤ length field → get_or field 0 0 ≡ 39 → closed (drop 1 field) ≡ Some (record { text = text; rest = rest }) → is_over rest ≡ true → Some (without_trailing_spaces text) ≡ text_of (value_of card)
+pub text-whole : (card field text rest : List ℕ) → field ≡ value_field card → 1 ≤ length field → get_or field 0 0 ≡ 39
+    → closed (drop 1 field) ≡ Some (record { text = text; rest = rest }) → is_over rest ≡ true → Some (without_trailing_spaces text) ≡ text_of (value_of card)
 text-whole card field text rest f h q c o =
     sym (ap text_of (quoted-value card field f h q ∙ ap (λ o. content_value (quoted_content o)) c ∙ ap (λ t. content_value (cond t (Quoted text) Broken)) o))
 
@@ -220,7 +236,8 @@ no-token-found P (Token bytes) h n m t = absurd (mixed bytes h)
 pub value-of_token : (card token : List ℕ) → Some token ≡ token_in (content_of (value_field card)) → value_of card ≡ token_value token
 value-of_token card token h = value-is card (value_field card) refl ∙ ap content_value (token-found (content_of (value_field card)) token h)
 
-pub value-without_token : (P : Value → Type 0) (card : List ℕ) → None ≡ token_in (content_of (value_field card)) → P NoValue → P Malformed → ((bytes : List ℕ) → P (Text bytes)) → P (value_of card)
+pub value-without_token : (P : Value → Type 0) (card : List ℕ) → None ≡ token_in (content_of (value_field card)) → P NoValue → P Malformed
+    → ((bytes : List ℕ) → P (Text bytes)) → P (value_of card)
 unfolding value_of
 value-without_token P card h n m t = no-token-found P (content_of (value_field card)) h n m t
 
@@ -234,7 +251,8 @@ some-where_fits z None h = elim (cases_Bool (fits_i64 z)) [ inl fits ↦ absurd 
 some-where_fits z (Some x) h = ap (λ y. Some y) h.1 ∙ sym (ap (λ t. cond t (Some z) None) h.0)
 
 -- the integer, from the sign and the digits that the code splits off
-pub integer-read : (token bytes : List ℕ) (negative : Bool) (m : ℕ) (r : Option ℤ) → negative ≡ is_negative token → bytes ≡ unsigned token → is_numeral bytes ≡ true → m ≡ number_of bytes → SomeIff r (fits_i64 (signed negative m) ≡ true) (signed negative m) → r ≡ integer_of (token_value token)
+pub integer-read : (token bytes : List ℕ) (negative : Bool) (m : ℕ) (r : Option ℤ) → negative ≡ is_negative token → bytes ≡ unsigned token
+    → is_numeral bytes ≡ true → m ≡ number_of bytes → SomeIff r (fits_i64 (signed negative m) ≡ true) (signed negative m) → r ≡ integer_of (token_value token)
 integer-read token bytes negative m r s b n e h =
     some-where_fits (signed negative m) r h
     ∙ ap (λ k. cond (fits_i64 (signed negative k)) (Some (signed negative k)) None) e
@@ -243,7 +261,8 @@ integer-read token bytes negative m r s b n e h =
     ∙ ap (λ xs. integer_of (number_value (is_negative token) xs)) b
     ∙ sym (integer-token token)
 
-pub integer-too_large : (token bytes : List ℕ) (negative : Bool) → negative ≡ is_negative token → bytes ≡ unsigned token → is_numeral bytes ≡ true → (number_of bytes < 2 ^ 64 → ⊥) → None ≡ integer_of (token_value token)
+pub integer-too_large : (token bytes : List ℕ) (negative : Bool) → negative ≡ is_negative token → bytes ≡ unsigned token → is_numeral bytes ≡ true
+    → (number_of bytes < 2 ^ 64 → ⊥) → None ≡ integer_of (token_value token)
 integer-too_large token bytes negative s b n h =
     sym (ap (λ t. cond t (Some (signed negative (number_of bytes))) None) (too-large negative (number_of bytes) h))
     ∙ sym (an-integer negative bytes n)
@@ -254,7 +273,8 @@ integer-too_large token bytes negative s b n h =
 pub integer-none : (token bytes : List ℕ) → bytes ≡ unsigned token → is_numeral bytes ≡ false → None ≡ integer_of (token_value token)
 integer-none token bytes b n = sym (integer-token token ∙ no-integer (is_negative token) (unsigned token) (sym (ap is_numeral b) ∙ n))
 
-pub whole-read : (token bytes : List ℕ) (negative : Bool) (result : Whole) → negative ≡ is_negative token → bytes ≡ unsigned token → result ≡ whole_of (number_value negative bytes) → result ≡ whole_of (token_value token)
+pub whole-read : (token bytes : List ℕ) (negative : Bool) (result : Whole) → negative ≡ is_negative token → bytes ≡ unsigned token
+    → result ≡ whole_of (number_value negative bytes) → result ≡ whole_of (token_value token)
 whole-read token bytes negative result s b r =
     r ∙ ap (λ v. whole_of (number_value v bytes)) s
     ∙ ap (λ xs. whole_of (number_value (is_negative token) xs)) b

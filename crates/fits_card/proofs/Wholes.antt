@@ -1,5 +1,6 @@
 -- Whole numbers of signed digits and powers of ten.
-use Rattle.std.proofs.Common.{◌≡◌, ℕ, zero, suc, ◌+◌, ◌-◌, ◌*◌, ◌/◌, ◌%◌, ◌^◌, ◌<◌, ◌≤◌, Bool, true, false, cond, eqb, ℤ, pos, negsuc, neg_ℤ, ◌*ℤ◌, ◌-ℤ◌, refl, sym, ap, ◌∙◌, inl, inr, arith, min, List, length, take, drop, eq-eqb}
+use Rattle.std.proofs.Common.{◌≡◌, ℕ, zero, suc, ◌+◌, ◌-◌, ◌*◌, ◌/◌, ◌%◌, ◌^◌, ◌<◌, ◌≤◌, Bool, true, false, cond, eqb, ℤ, pos, negsuc}
+use Rattle.std.proofs.Common.{neg_ℤ, ◌*ℤ◌, ◌-ℤ◌, refl, sym, ap, ◌∙◌, inl, inr, arith, min, List, length, take, drop, eq-eqb}
 use Rattle.std.specs.Prelude.{unsigned_abs, int_le, int_div}
 use Rattle.std.proofs.lemmas.Bool.{ne_eqb, cases_lt, cases_eq, true≢false, le-ltb}
 use Rattle.std.proofs.lemmas.Nat.{div-mul-add, mod-mul-add}
@@ -33,12 +34,14 @@ signed-over false n d h = refl
 power-positive : (k : ℕ) → 0 < 10 ^ k
 power-positive k = one-le-pow k 10 (omega arith)
 
-pub whole-up : (negative : Bool) (n : ℕ) (z : ℤ) → int_le (pos 0) z ≡ true → fitted (signed negative (n * 10 ^ unsigned_abs z)) ≡ whole_real (signed negative n) z
+pub whole-up : (negative : Bool) (n : ℕ) (z : ℤ) → int_le (pos 0) z ≡ true
+    → fitted (signed negative (n * 10 ^ unsigned_abs z)) ≡ whole_real (signed negative n) z
 unfolding whole_real
 whole-up negative n (pos e) h = ap fitted (sym (signed-times negative n (10 ^ e)))
 whole-up negative n (negsuc e) h = absurd (true≢false (sym h))
 
-pub whole-down_yes : (negative : Bool) (n k front back : ℕ) → n % 10 ^ suc k ≡ back → n / 10 ^ suc k ≡ front → back ≡ 0 → fitted (signed negative front) ≡ whole_real (signed negative n) (negsuc k)
+pub whole-down_yes : (negative : Bool) (n k front back : ℕ) → n % 10 ^ suc k ≡ back → n / 10 ^ suc k ≡ front → back ≡ 0
+    → fitted (signed negative front) ≡ whole_real (signed negative n) (negsuc k)
 unfolding whole_real
 whole-down_yes negative n k front back b f z =
     let rest : eqb (unsigned_abs (signed negative n) % 10 ^ suc k) 0 ≡ true = eq-eqb _ _ (ap (λ m. m % 10 ^ suc k) (abs-signed negative n) ∙ b ∙ z) in
@@ -92,7 +95,8 @@ down-small negative n k h =
     (ap (λ m. m % 10 ^ suc k) e ∙ mod-mul-add 0 (10 ^ suc k) n h, ap (λ m. m / 10 ^ suc k) e ∙ div-mul-add 0 (10 ^ suc k) n h)
 
 -- all exponents so far below 0 give one answer
-pub far-down : (negative : Bool) (n j k : ℕ) → n < 10 ^ suc j → n < 10 ^ suc k → whole_real (signed negative n) (negsuc j) ≡ whole_real (signed negative n) (negsuc k)
+pub far-down : (negative : Bool) (n j k : ℕ) → n < 10 ^ suc j → n < 10 ^ suc k
+    → whole_real (signed negative n) (negsuc j) ≡ whole_real (signed negative n) (negsuc k)
 far-down negative n j k a b =
     let p = down-small negative n j a in
     let q = down-small negative n k b in
@@ -117,7 +121,8 @@ below-far : (n k j : ℕ) → n < 10 ^ k → k ≤ j → n < 10 ^ j
 below-far n k j h l = let more : 10 ^ k ≤ 10 ^ j = pow-le-pow_right (omega arith) l in omega arith
 
 -- a real with at most 70 digits is the same whole number where its exponent is clamped
-pub clamped-is-enough : (negative : Bool) (n k f : ℕ) (e : ℤ) → n < 10 ^ k → k ≤ 70 → f ≤ 70 → whole_real (signed negative n) (clamped e -ℤ pos f) ≡ whole_real (signed negative n) (e -ℤ pos f)
+pub clamped-is-enough : (negative : Bool) (n k f : ℕ) (e : ℤ) → n < 10 ^ k → k ≤ 70 → f ≤ 70
+    → whole_real (signed negative n) (clamped e -ℤ pos f) ≡ whole_real (signed negative n) (e -ℤ pos f)
 clamped-is-enough negative n k f (pos m) small few decimals =
     elim (cases_lt m 1000) [
       | inl low ↦ ap (λ c. whole_real (signed negative n) (pos c -ℤ pos f)) (min-low m 1000 (omega arith))
@@ -159,17 +164,22 @@ raised-beyond n z h far =
     omega arith
 
 -- the code's cut of the last digits, where all of them are zeros
-pub shifted-yes : (negative : Bool) (ds front back : List ℕ) (z : ℤ) (places cut : ℕ) → all_ascii_digits ds ≡ true → int_le (pos 0) z ≡ false → places ≡ unsigned_abs z → cut ≡ min (length ds) places → front ≡ take (length ds - cut) ds → back ≡ drop (length ds - cut) ds → number_of back ≡ 0 → fitted (signed negative (number_of front)) ≡ whole_real (signed negative (number_of ds)) z
+pub shifted-yes : (negative : Bool) (ds front back : List ℕ) (z : ℤ) (places cut : ℕ) → all_ascii_digits ds ≡ true → int_le (pos 0) z ≡ false
+    → places ≡ unsigned_abs z → cut ≡ min (length ds) places → front ≡ take (length ds - cut) ds → back ≡ drop (length ds - cut) ds → number_of back ≡ 0
+    → fitted (signed negative (number_of front)) ≡ whole_real (signed negative (number_of ds)) z
 shifted-yes negative ds front back z places cut t h p c f b zeros =
     let below : (k : ℕ) × (z ≡ negsuc k) × (unsigned_abs z ≡ suc k) = below-zero z h in
     let k : ℕ = below.0 in
     let same : cut ≡ min (length ds) (suc k) = c ∙ ap (λ n. min (length ds) n) (p ∙ below.2) in
     let parts : Cut ds (suc k) (number_of (take (length ds - cut) ds)) (number_of (drop (length ds - cut) ds)) = cut-digits ds (suc k) cut t same in
-    whole-down_yes negative (number_of ds) k (number_of front) (number_of back) (parts.back_is ∙ ap number_of (sym b)) (parts.front_is ∙ ap number_of (sym f)) zeros
+    whole-down_yes negative (number_of ds) k (number_of front) (number_of back) (parts.back_is ∙ ap number_of (sym b))
+    (parts.front_is ∙ ap number_of (sym f)) zeros
     ∙ ap (whole_real (signed negative (number_of ds))) (sym below.1)
 
 -- the same, where they are not
-pub shifted-no : (negative : Bool) (ds back : List ℕ) (z : ℤ) (places cut : ℕ) → all_ascii_digits ds ≡ true → int_le (pos 0) z ≡ false → places ≡ unsigned_abs z → cut ≡ min (length ds) places → back ≡ drop (length ds - cut) ds → (number_of back ≡ 0 → ⊥) → NotWhole ≡ whole_real (signed negative (number_of ds)) z
+pub shifted-no : (negative : Bool) (ds back : List ℕ) (z : ℤ) (places cut : ℕ) → all_ascii_digits ds ≡ true → int_le (pos 0) z ≡ false
+    → places ≡ unsigned_abs z → cut ≡ min (length ds) places → back ≡ drop (length ds - cut) ds → (number_of back ≡ 0 → ⊥)
+    → NotWhole ≡ whole_real (signed negative (number_of ds)) z
 shifted-no negative ds back z places cut t h p c b some =
     let below : (k : ℕ) × (z ≡ negsuc k) × (unsigned_abs z ≡ suc k) = below-zero z h in
     let k : ℕ = below.0 in

@@ -1,19 +1,8 @@
 -- The least number that passes a test.
-use Rattle.std.proofs.Common.{◌≡◌, ℕ, zero, suc, ◌+◌, ◌<◌, ◌≤◌, inl, inr, Bool, true, false, cond, refl, sym, ◌∙◌, ap, arith}
+use Rattle.std.proofs.Common.{◌≡◌, ℕ, zero, suc, ◌+◌, ◌<◌, ◌≤◌, inl, inr, Bool, true, false, cond, refl, ◌∙◌, arith}
 use Rattle.std.proofs.lemmas.Bool.{cases_lt}
+use Rattle.lemmas.proofs.Exported.{found_here, found_later}
 use Rattle.fits_hdu.specs.Headers.{first_passing}
-
-found_here : (test : ℕ → Bool) (first k : ℕ) → first ≤ k → test first ≡ true → ((j : ℕ) → first ≤ j → j < k → test j ≡ false) → first ≡ k
-found_here test first k low passes none =
-    elim (cases_lt first k) [ inl less ↦ let fails : test first ≡ false = none first (omega arith) less in absurd (cc) | inr more ↦ omega arith ]
-
-further : (test : ℕ → Bool) (first k : ℕ) → first ≤ k → test first ≡ false → test k ≡ true → first + 1 ≤ k
-further test first k low fails passes =
-    elim (cases_lt first k) [
-      | inl less ↦ omega arith
-      | inr more ↦ let same : first ≡ k = omega arith in let other : test k ≡ false = sym
-          (ap test same) ∙ fails in absurd (cc)
-    ]
 
 -- it is the first one that passes
 pub first_passing_is : (test : ℕ → Bool) (n first k : ℕ) → first ≤ k → k < first + n → test k ≡ true → ((j : ℕ) → first ≤ j → j < k → test j ≡ false)
@@ -25,7 +14,7 @@ first_passing_is test (suc n) first k low high passes none =
   where
     by : (b : Bool) → test first ≡ b → (first + 1 ≤ k → first_passing test (first + 1) n ≡ k) → cond b first (first_passing test (first + 1) n) ≡ k
     by true is rest = found_here test first k low is none
-    by false is rest = rest (further test first k low is passes)
+    by false is rest = rest (found_later test first k low is passes)
 
 -- where none passes it is the number after them
 pub first_passing_past : (test : ℕ → Bool) (n first : ℕ) → ((j : ℕ) → first ≤ j → j < first + n → test j ≡ false) → first_passing test first n ≡ first + n

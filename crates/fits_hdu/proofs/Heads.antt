@@ -2,10 +2,9 @@
 use Rattle.std.proofs.Common.{◌≡◌, ℕ, ◌+◌, ◌-◌, ◌*◌, ◌/◌, ◌%◌, ◌<◌, ◌≤◌, inl, inr, Bool, true, false, cond, min, nat_lt, List, length, Option, Some}
 use Rattle.std.proofs.Common.{Result, Ok, Err, refl, sym, ◌∙◌, subst, ap, arith, eqb, ℤ}
 use Rattle.std.specs.Prelude.{IfErr}
-use Rattle.std.proofs.lemmas.Bool.Decides.{nat_tests}
+use Rattle.std.proofs.lemmas.Bool.{le-ltb, lt-ltb}
 use Rattle.dev_io.specs.Streams.{Takes, TakesAtMost}
 use Rattle.fits_hdu.specs.declared.answer.Hdu.{Hdu}
-use Rattle.fits_hdu.specs.declared.fault.HduFault.{HduFault}
 use Rattle.fits_hdu.specs.declared.fault.HduFault.TheVariants.{NotFits, TruncatedHeader, BadKeyword, HeaderTooLong, Groups, DataTooLong, NoSuchHdu}
 use Rattle.fits_hdu.specs.declared.fault.HduFault.TheVariants.{TruncatedSkip}
 use Rattle.fits_hdu.specs.declared.fault.HduStop.{HduStop}
@@ -21,7 +20,7 @@ use Rattle.fits_hdu.specs.Streams.{Stopped, Finds}
 use Rattle.fits_hdu.specs.Reading.{stops_at_fault}
 use Rattle.fits_hdu.specs.Reading.{MandatoryRead, EndRead, Caused, IsOfWholeHeader}
 use Rattle.fits_hdu.proofs.Places.{axes_all, length-axes_to}
-use Rattle.fits_hdu.proofs.Reaching.{lost_within, header_takes_first}
+use Rattle.fits_hdu.proofs.Reaching.{found_takes, lost_within, header_takes_first}
 
 -- The end of the header.
 
@@ -32,23 +31,13 @@ whole_is : (bytes : List ℕ) (hdu start number : ℕ) → head_after start numb
     → whole_header bytes hdu start number ≡ found_by (head_after start number) (header_of (eqb hdu 0) (card_at bytes start) number)
 unfolding whole_header
 whole_is bytes hdu start number within =
-    let is : nat_lt (length bytes) (head_after start number) ≡ false = tested (length bytes) (head_after start number) within in rw is refl
-  where
-    tested : (n m : ℕ) → m ≤ n → nat_lt n m ≡ false
-    tested n m h = grind (arith, nat_tests)
+    let is : nat_lt (length bytes) (head_after start number) ≡ false = le-ltb (length bytes) (head_after start number) within in rw is refl
 
 whole_cut : (bytes : List ℕ) (hdu start number : ℕ) → length bytes < head_after start number
     → whole_header bytes hdu start number ≡ refused TruncatedHeader (length bytes)
 unfolding whole_header
 whole_cut bytes hdu start number short =
-    let is : nat_lt (length bytes) (head_after start number) ≡ true = tested (length bytes) (head_after start number) short in rw is refl
-  where
-    tested : (n m : ℕ) → n < m → nat_lt n m ≡ true
-    tested n m h = grind (arith, nat_tests)
-
-found_takes : (head : ℕ) (result : Result Hdu HduFault) → taken_by (found_by head result) ≡ head
-found_takes head (Ok hdu) = refl
-found_takes head (Err fault) = refl
+    let is : nat_lt (length bytes) (head_after start number) ≡ true = lt-ltb (length bytes) (head_after start number) short in rw is refl
 
 whole_takes : (bytes : List ℕ) (hdu start number : ℕ) → min (head_after start number) (length bytes) ≤ taken_by (whole_header bytes hdu start number)
 unfolding whole_header
@@ -116,20 +105,14 @@ header_lost bytes hdu start b d ended rest padding last lost =
 pub pads_to : (start size : ℕ) → start + (2880 - size % 2880) % 2880 ≡ start + padding size
 pads_to start size = omega arith
 
-lt_false : (n m : ℕ) → m ≤ n → nat_lt n m ≡ false
-lt_false n m h = grind (arith, nat_tests)
-
-lt_true : (n m : ℕ) → n < m → nat_lt n m ≡ true
-lt_true n m h = grind (arith, nat_tests)
-
 padded_at : (bytes : List ℕ) (hdu size start : ℕ) → start + padding size ≤ length bytes
     → past_padding bytes hdu size start ≡ header_at bytes hdu (start + padding size)
 unfolding past_padding
-padded_at bytes hdu size start whole = let is = lt_false (length bytes) (start + padding size) whole in rw is refl
+padded_at bytes hdu size start whole = let is = le-ltb (length bytes) (start + padding size) whole in rw is refl
 
 padding_cut : (bytes : List ℕ) (hdu size start : ℕ) → length bytes < start + padding size → past_padding bytes hdu size start ≡ refused NoSuchHdu (length bytes)
 unfolding past_padding
-padding_cut bytes hdu size start short = let is = lt_true (length bytes) (start + padding size) short in rw is refl
+padding_cut bytes hdu size start short = let is = lt-ltb (length bytes) (start + padding size) short in rw is refl
 
 pub past_padding_takes : (bytes : List ℕ) (hdu size start : ℕ) → min (start + padding size) (length bytes) ≤ taken_by (past_padding bytes hdu size start)
 unfolding past_padding
@@ -158,13 +141,13 @@ pad_lost bytes hdu size start d lost = lost_within bytes d _ _ lost (omega (arit
 
 follows_cut : (bytes : List ℕ) (hdu size head : ℕ) → length bytes < head + size → following bytes hdu size head ≡ refused TruncatedSkip (length bytes)
 unfolding following
-follows_cut bytes hdu size head short = let is = lt_true (length bytes) (head + size) short in rw is refl
+follows_cut bytes hdu size head short = let is = lt-ltb (length bytes) (head + size) short in rw is refl
 
 -- behind whole data stands their padding
 pub follows_data : (bytes : List ℕ) (hdu size head : ℕ) → head + size ≤ length bytes → following bytes hdu size head ≡ past_padding bytes hdu size (head + size)
 unfolding following past_padding
 follows_data bytes hdu size head long =
-    let all = lt_false (length bytes) (head + size) long in
+    let all = le-ltb (length bytes) (head + size) long in
     let place : head + padded size ≡ head + size + padding size = omega arith in
     rw (all, place) refl
 

@@ -1,36 +1,31 @@
 -- Which cards are where: the mandatory ones, the axes and the others.
 use Rattle.std.proofs.Common.{◌≡◌, ℕ, zero, suc, ◌+◌, ◌-◌, ◌<◌, ◌≤◌, Bool, true, false, not, ◌&&◌, ◌||◌, cond, nat_lt, List, [], ◌∷◌, ◌++◌, map, length, Some}
 use Rattle.std.proofs.Common.{None, codes, is_some, refl, sym, ◌∙◌, ap, arith, eqb}
+use Rattle.std.proofs.lemmas.Bool.{le-ltb, lt-ltb}
 use Rattle.std.proofs.lemmas.Bool.Decides.{nat_tests}
 use Rattle.std.specs.Prelude.{unwrap_or}
 use Rattle.fits_hdu.specs.Cards.{is_end, is_first, bitpix_of, naxis_of, axis_of, natural, is_mandatory, has_keyword}
 use Rattle.fits_hdu.specs.Headers.{cards_from, axis_count, natural_or_zero, axes_of, others_before, is_bad_count, is_bad, ends_header}
 
-low : (m j : ℕ) → j ≤ m → nat_lt m j ≡ false
-low m j h = grind (arith, nat_tests)
-
-high : (m j : ℕ) → m < j → nat_lt m j ≡ true
-high m j h = grind (arith, nat_tests)
-
 -- a card in a mandatory place
 pub bad_mandatory : (primary : Bool) (card : ℕ → List ℕ) (j : ℕ) → j ≤ 3 + axis_count card → is_bad primary card j ≡ not (is_mandatory primary j (card j))
 unfolding is_bad
-bad_mandatory primary card j h = let is : nat_lt (3 + axis_count card) j ≡ false = low (3 + axis_count card) j h in rw is refl
+bad_mandatory primary card j h = let is : nat_lt (3 + axis_count card) j ≡ false = le-ltb (3 + axis_count card) j h in rw is refl
 
 pub not_last : (card : ℕ → List ℕ) (j : ℕ) → j ≤ 3 + axis_count card → ends_header card j ≡ false
 unfolding ends_header
-not_last card j h = let is : nat_lt (3 + axis_count card) j ≡ false = low (3 + axis_count card) j h in rw is refl
+not_last card j h = let is : nat_lt (3 + axis_count card) j ≡ false = le-ltb (3 + axis_count card) j h in rw is refl
 
 -- a card above the mandatory ones
 pub bad_other : (primary : Bool) (card : ℕ → List ℕ) (j : ℕ) → 3 + axis_count card < j
     → is_bad primary card j
     ≡ (not primary && (is_bad_count (codes "PCOUNT  ") (others_before card j) (card j) || is_bad_count (codes "GCOUNT  ") (others_before card j) (card j)))
 unfolding is_bad
-bad_other primary card j h = let is : nat_lt (3 + axis_count card) j ≡ true = high (3 + axis_count card) j h in rw is refl
+bad_other primary card j h = let is : nat_lt (3 + axis_count card) j ≡ true = lt-ltb (3 + axis_count card) j h in rw is refl
 
 pub last_other : (card : ℕ → List ℕ) (j : ℕ) → 3 + axis_count card < j → ends_header card j ≡ is_end (card j)
 unfolding ends_header
-last_other card j h = let is : nat_lt (3 + axis_count card) j ≡ true = high (3 + axis_count card) j h in rw is refl
+last_other card j h = let is : nat_lt (3 + axis_count card) j ≡ true = lt-ltb (3 + axis_count card) j h in rw is refl
 
 pub bad_first : (primary : Bool) (card : ℕ → List ℕ) → is_bad primary card 1 ≡ not (is_first primary (card 1))
 bad_first primary card = bad_mandatory primary card 1 (omega arith)

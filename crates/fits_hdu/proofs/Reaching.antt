@@ -82,7 +82,7 @@ read_to_long bytes hdu start j many = let is : nat_lt most_cards j ≡ true = gr
 
 -- what a header takes
 
-found_takes : (head : ℕ) (result : Result Hdu HduFault) → taken_by (found_by head result) ≡ head
+pub found_takes : (head : ℕ) (result : Result Hdu HduFault) → taken_by (found_by head result) ≡ head
 found_takes head (Ok hdu) = refl
 found_takes head (Err fault) = refl
 

@@ -26,6 +26,8 @@ pub use Rattle.lemmas.proofs.Lists.{contains_from_among, among_at_place, among_o
 pub use Rattle.lemmas.proofs.Lists.{filter_same_among}
 -- lists that are written one behind the other: those before a place, the one there, and the rest
 pub use Rattle.lemmas.proofs.Lists.{concat-more, concat-split}
+-- the first number that passes a test: it is this one, or a later one
+pub use Rattle.lemmas.proofs.Searches.{found_here, found_later}
 -- the first number of a range that passes a test, and of a range that is longer by one
 pub use Rattle.lemmas.proofs.Searches.{find_first, find_nothing, find_in_range, last_tried, find_more}
 -- lists whose members stand in pairs, one after the other: so are what `++` and `filter` make of them, and `map`, `flat_map`, enumerations and

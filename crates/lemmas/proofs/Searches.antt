@@ -5,10 +5,10 @@ use Rattle.std.specs.List.{range_with_len}
 use Rattle.std.specs.Option.{option_or}
 use Rattle.std.proofs.lemmas.Bool.{cases_lt}
 
-found_here : (test : ℕ → Bool) (a k : ℕ) → a ≤ k → test a ≡ true → ((j : ℕ) → a ≤ j → j < k → test j ≡ false) → a ≡ k
+pub found_here : (test : ℕ → Bool) (a k : ℕ) → a ≤ k → test a ≡ true → ((j : ℕ) → a ≤ j → j < k → test j ≡ false) → a ≡ k
 found_here test a k low is none = elim (cases_lt a k) [ inl less ↦ let fails : test a ≡ false = none a (omega arith) less in absurd (cc) | inr more ↦ omega arith ]
 
-found_later : (test : ℕ → Bool) (a k : ℕ) → a ≤ k → test a ≡ false → test k ≡ true → a + 1 ≤ k
+pub found_later : (test : ℕ → Bool) (a k : ℕ) → a ≤ k → test a ≡ false → test k ≡ true → a + 1 ≤ k
 found_later test a k low fails is = elim (cases_lt a k) [ inl less ↦ omega arith | inr more ↦ let same : a ≡ k = omega arith in let other : test k ≡ false = sym (ap test same) ∙ fails in absurd (cc) ]
 
 pub find_first : (test : ℕ → Bool) (a n k : ℕ) → a ≤ k → k < a + n → test k ≡ true → ((j : ℕ) → a ≤ j → j < k → test j ≡ false) → find test (range_with_len a n) ≡ Some k

@@ -110,8 +110,11 @@ fn spread(area: u32, products: u64, first: u64, second: u64) -> i64
     (1000 * above).div_euclid(squared as i128) as i64
 }
 
+/// How many numbers a row has.
+pub const CELLS_IN_ROW: usize = 17;
+
 /// The numbers of a row, in the order of the columns.
-pub fn cells(row: &CatRow) -> [i64; 17]
+pub fn cells(row: &CatRow) -> [i64; CELLS_IN_ROW]
     ensures { result ≡ cells_of row.now }
 {
     [

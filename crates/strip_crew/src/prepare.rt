@@ -80,7 +80,8 @@ pub fn prepare_all<R: Threads + Sync>(
 ) -> Result<Vec<StripJob>, OutOfMemory>
     requires cut { IsCut plane.now.shape.height cut.now }
     requires workers { 0 < workers }
-    ensures { IfOk result (λ jobs. AreReady (plan_of plane.now connect cut.now) 0 (length cut.now) jobs.items) }
+    ensures { IfOk result
+        (λ jobs. AreReady (plan_of plane.now connect cut.now) 0 (length cut.now) jobs.items) }
 {
     let size = cut.len().div_ceil(workers as usize);
     let groups = cut.len().div_ceil(size);

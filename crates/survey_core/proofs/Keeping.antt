@@ -1,9 +1,10 @@
 -- Tables that are told, and their fields one after the other.
-use Rattle.std.proofs.Common.{◌≡◌, ◌∙◌, ℕ, zero, suc, ◌+◌, ◌<◌, List, [], ◌∷◌, ◌++◌, append_assoc, append-nil, length, map, get_or, take, Some, None}
+use Rattle.std.proofs.Common.{◌≡◌, ◌∙◌, ℕ, zero, suc, ◌+◌, ◌<◌, List, [], ◌∷◌, ◌++◌, append-nil, length, map, get_or, take, Some, None}
 use Rattle.std.proofs.Common.{refl, sym, ap, ap₂, subst, arith, ℤ, inl, inr}
 use Rattle.std.specs.Prelude.{Option, IfSome, unwrap_or}
 use Rattle.std.specs.Option.{ForSome}
 use Rattle.std.specs.List.{flat_map}
+use Rattle.std.proofs.lemmas.Grind.{flat_map-append}
 use Rattle.std.proofs.lemmas.List.{take_more, map-append, get_or-map, length-map}
 use Rattle.survey_core.specs.declared.listing.Summary.{Summary}
 use Rattle.survey_core.specs.Tables.{Table, AreInOrder, cells_of_field, names_of}
@@ -63,10 +64,6 @@ pub summaries_more : (ts : List Table) (i : ℕ) (t : Table) (items items' : Lis
 summaries_more ts i t items items' s h so_far more is =
     more ∙ ap₂ (λ a b. a ++ b ∷ []) so_far is ∙ sym (map-append table_summary (take i ts) (get_or ts i t ∷ []))
     ∙ sym (ap (map table_summary) (take_more ts i t h))
-
-flat_map-append : {X A : Type 0} (f : X → List A) (xs ys : List X) → flat_map f (xs ++ ys) ≡ flat_map f xs ++ flat_map f ys
-flat_map-append f [] ys = refl
-flat_map-append f (x ∷ xs) ys = ap (λ l. f x ++ l) (flat_map-append f xs ys) ∙ sym (append_assoc (f x) (flat_map f xs) (flat_map f ys))
 
 pub rows_more : (ts : List Table) (i : ℕ) (t : Table) → i < length ts → all_rows (take (i + 1) ts) ≡ all_rows (take i ts) ++ rows_of (get_or ts i t)
 unfolding all_rows

@@ -7,6 +7,8 @@ mod Keeping
 mod Printing
 mod RankLemmas
 mod Places
+mod BestRows
+mod PartLemmas
 mod Stepping
 mod Going
 mod Ending

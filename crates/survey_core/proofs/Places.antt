@@ -4,37 +4,38 @@ use Rattle.std.proofs.Common.{length, map, filter, take, drop, get_or, Some, Non
 use Rattle.std.proofs.Common.{ℤ, pos}
 use Rattle.std.specs.Prelude.{Option, find, slice_get, unwrap_or, unsigned_abs}
 use Rattle.std.specs.Option.{option_to_list}
-use Rattle.std.specs.List.{AllByRecursion, range_with_len, flat_map}
-use Rattle.std.specs.Ordering.{ordering_then, ordering_reverse, is_lt, int_cmp}
+use Rattle.std.specs.List.{AllByRecursion, IsDistinct, range_with_len, flat_map}
+use Rattle.std.specs.Ordering.{ordering_then, ordering_reverse, is_eq, is_lt, int_cmp}
 use Rattle.std.proofs.lemmas.Bool.Decides.{nat_tests}
 use Rattle.std.proofs.lemmas.Cmp.{int_ranked}
+use Rattle.std.proofs.lemmas.Map.Keys.{IsDistinct-head, IsDistinct-tail}
 use Rattle.std.proofs.lemmas.Option.{get_or_from_slice_get}
 use Rattle.catalogue_form.specs.Columns.{cells_in_row}
 use Rattle.survey_core.specs.declared.ranking.Row.{Row}
 use Rattle.survey_core.specs.Fields.{name_cmp}
-use Rattle.survey_core.specs.Tables.{Table, AreTables, IsNumbered}
+use Rattle.survey_core.specs.Tables.{Table, AreInOrder, AreTables, IsFieldTable, IsNumbered}
 use Rattle.survey_core.specs.Listings.{rows_in}
 use Rattle.survey_core.specs.Ranking.{row_cmp, ranks_before, place_in, at_place, ranked, ranking_row, rows_of, all_rows}
 use Rattle.survey_core.specs.Ranks.{with_row, with_rows}
-use Rattle.survey_core.proofs.TableLemmas.{then_equal, Among, same_name, never_before}
+use Rattle.survey_core.proofs.TableLemmas.{then_equal, Among, all_among}
 use Rattle.survey_core.proofs.RankLemmas.{all_with, order, never_itself, not_both, before_later}
 
 -- ---- rows that differ
 
 -- neither is the other's equal
-abbrev Differs : Row → Row → Type 0
+abbrev pub Differs : Row → Row → Type 0
 Differs a b = row_cmp a b ≢ Equal
 
-abbrev Distinct : List Row → Type 0
+abbrev pub Distinct : List Row → Type 0
 Distinct [] = Unit {0}
 Distinct (r ∷ rows) = AllByRecursion (Differs r) rows × Distinct rows
 
 -- each comes before all behind it
-abbrev Strict : List Row → Type 0
+abbrev pub Strict : List Row → Type 0
 Strict [] = Unit {0}
 Strict (r ∷ rows) = AllByRecursion (λ later. ranks_before r later ≡ true) rows × Strict rows
 
-other_way : (a b : Row) → Differs a b → ranks_before a b ≡ false → ranks_before b a ≡ true
+pub other_way : (a b : Row) → Differs a b → ranks_before a b ≡ false → ranks_before b a ≡ true
 other_way a b differs h = by (row_cmp a b) refl
   where
     by : (o : Ordering) → row_cmp a b ≡ o → ranks_before b a ≡ true
@@ -42,7 +43,7 @@ other_way a b differs h = by (row_cmp a b) refl
     by Equal e = absurd (differs e)
     by Greater e = ap is_lt (order.antisymm b a ∙ ap ordering_reverse e)
 
-differs_back : (a b : Row) → Differs a b → Differs b a
+pub differs_back : (a b : Row) → Differs a b → Differs b a
 differs_back a b differs e = differs (order.antisymm a b ∙ ap ordering_reverse e)
 
 before_all : (r x : Row) (xs : List Row) → ranks_before r x ≡ true → AllByRecursion (λ y. ranks_before x y ≡ true) xs
@@ -50,7 +51,7 @@ before_all : (r x : Row) (xs : List Row) → ranks_before r x ≡ true → AllBy
 before_all r x [] h all = tt
 before_all r x (y ∷ ys) h all = (before_later r x y h (not_both x y all.0), before_all r x ys h all.1)
 
-strict_with : (r : Row) (xs : List Row) → AllByRecursion (Differs r) xs → Strict xs → Strict (with_row r xs)
+pub strict_with : (r : Row) (xs : List Row) → AllByRecursion (Differs r) xs → Strict xs → Strict (with_row r xs)
 strict_with r [] differs h = (tt, tt)
 strict_with r (x ∷ xs) differs h = by (ranks_before r x) refl (strict_with r xs differs.1 h.1)
   where
@@ -59,20 +60,20 @@ strict_with r (x ∷ xs) differs h = by (ranks_before r x) refl (strict_with r x
     by false e more = (all_with (λ y. ranks_before x y ≡ true) r xs (other_way r x differs.0 e) h.0, more)
 
 -- all of the one list differ from all of the other
-abbrev Apart : List Row → List Row → Type 0
+abbrev pub Apart : List Row → List Row → Type 0
 Apart [] xs = Unit {0}
 Apart (r ∷ rows) xs = AllByRecursion (Differs r) xs × Apart rows xs
 
-apart_with : (rows : List Row) (r : Row) (xs : List Row) → AllByRecursion (Differs r) rows → Apart rows xs → Apart rows (with_row r xs)
+pub apart_with : (rows : List Row) (r : Row) (xs : List Row) → AllByRecursion (Differs r) rows → Apart rows xs → Apart rows (with_row r xs)
 apart_with [] r xs differs apart = tt
 apart_with (q ∷ rows) r xs differs apart = (all_with (Differs q) r xs (differs_back r q differs.0) apart.0, apart_with rows r xs differs.1 apart.1)
 
-strict_with_rows : (rows xs : List Row) → Distinct rows → Apart rows xs → Strict xs → Strict (with_rows rows xs)
+pub strict_with_rows : (rows xs : List Row) → Distinct rows → Apart rows xs → Strict xs → Strict (with_rows rows xs)
 strict_with_rows [] xs distinct apart h = h
 strict_with_rows (r ∷ rows) xs distinct apart h =
     strict_with_rows rows (with_row r xs) distinct.1 (apart_with rows r xs distinct.0 apart.1) (strict_with r xs apart.0 h)
 
-apart_none : (rows : List Row) → Apart rows []
+pub apart_none : (rows : List Row) → Apart rows []
 apart_none [] = tt
 apart_none (r ∷ rows) = (tt, apart_none rows)
 
@@ -151,19 +152,62 @@ with_among r (y ∷ ys) x m = by (ranks_before r y) m (with_among r ys x)
     by false (inl e) more = inr (inl e)
     by false (inr k) more = elim (more k) [ inl e ↦ inl e | inr n ↦ inr (inr n) ]
 
-among_rows : (rows xs : List Row) (x : Row) → Among rows x ⊎ Among xs x → Among (with_rows rows xs) x
+pub among_rows : (rows xs : List Row) (x : Row) → Among rows x ⊎ Among xs x → Among (with_rows rows xs) x
 among_rows [] xs x (inl m) = absurd m
 among_rows [] xs x (inr m) = m
 among_rows (r ∷ rows) xs x (inl (inl e)) = among_rows rows (with_row r xs) x (inr (among_with r xs x (inl e)))
 among_rows (r ∷ rows) xs x (inl (inr m)) = among_rows rows (with_row r xs) x (inl m)
 among_rows (r ∷ rows) xs x (inr m) = among_rows rows (with_row r xs) x (inr (among_with r xs x (inr m)))
 
-rows_among : (rows xs : List Row) (x : Row) → Among (with_rows rows xs) x → Among rows x ⊎ Among xs x
+pub rows_among : (rows xs : List Row) (x : Row) → Among (with_rows rows xs) x → Among rows x ⊎ Among xs x
 rows_among [] xs x m = inr m
 rows_among (r ∷ rows) xs x m = elim (rows_among rows (with_row r xs) x m) [
   | inl k ↦ inl (inr k)
   | inr k ↦ elim (with_among r xs x k) [ inl e ↦ inl (inl e) | inr n ↦ inr n ]
 ]
+
+pub among_left : (xs ys : List Row) (x : Row) → Among xs x → Among (xs ++ ys) x
+among_left [] ys x m = absurd m
+among_left (z ∷ xs) ys x (inl e) = inl e
+among_left (z ∷ xs) ys x (inr m) = inr (among_left xs ys x m)
+
+pub among_right : (xs ys : List Row) (x : Row) → Among ys x → Among (xs ++ ys) x
+among_right [] ys x m = m
+among_right (z ∷ xs) ys x m = inr (among_right xs ys x m)
+
+pub among_parts : (xs ys : List Row) (x : Row) → Among (xs ++ ys) x → Among xs x ⊎ Among ys x
+among_parts [] ys x m = inr m
+among_parts (z ∷ xs) ys x (inl e) = inl (inl e)
+among_parts (z ∷ xs) ys x (inr m) = elim (among_parts xs ys x m) [ inl k ↦ inl (inr k) | inr k ↦ inr k ]
+
+pub apart_at : (xs ys : List Row) (x : Row) → Apart xs ys → Among xs x → AllByRecursion (Differs x) ys
+apart_at [] ys x apart m = absurd m
+apart_at (z ∷ xs) ys x apart (inl e) = subst (λ r. AllByRecursion (Differs r) ys) (sym e) apart.0
+apart_at (z ∷ xs) ys x apart (inr m) = apart_at xs ys x apart.1 m
+
+-- ---- a list in its order is told by its members
+
+no_loop : (x y : Row) → ranks_before x y ≡ true → ranks_before y x ≡ true → ⊥
+no_loop x y there back = let never = not_both x y there in cc
+
+head_same : (x y : Row) (xs ys : List Row) → Strict (x ∷ xs) → Strict (y ∷ ys) → Among (y ∷ ys) x → Among (x ∷ xs) y → x ≡ y
+head_same x y xs ys up up' (inl e) k = e
+head_same x y xs ys up up' (inr m) (inl e) = sym e
+head_same x y xs ys up up' (inr m) (inr k) =
+    absurd (no_loop x y (all_among (λ z. ranks_before x z ≡ true) xs y up.0 k) (all_among (λ z. ranks_before y z ≡ true) ys x up'.0 m))
+
+not_again : (x : Row) (xs : List Row) → Strict (x ∷ xs) → Among xs x → ⊥
+not_again x xs up m = no_loop x x (all_among (λ z. ranks_before x z ≡ true) xs x up.0 m) (all_among (λ z. ranks_before x z ≡ true) xs x up.0 m)
+
+pub strict_unique : (xs ys : List Row) → Strict xs → Strict ys → ((x : Row) → Among xs x → Among ys x) → ((x : Row) → Among ys x → Among xs x) → xs ≡ ys
+strict_unique [] [] up up' there back = refl
+strict_unique [] (y ∷ ys) up up' there back = absurd (back y (inl refl))
+strict_unique (x ∷ xs) [] up up' there back = absurd (there x (inl refl))
+strict_unique (x ∷ xs) (y ∷ ys) up up' there back =
+    let same = head_same x y xs ys up up' (there x (inl refl)) (back y (inl refl)) in
+    ap₂ ◌∷◌ same (strict_unique xs ys up.1 up'.1
+    (λ z m. elim (there z (inr m)) [ inl e ↦ absurd (not_again x xs up (subst (Among xs) (e ∙ sym same) m)) | inr k ↦ k ])
+    (λ z m. elim (back z (inr m)) [ inl e ↦ absurd (not_again y ys up' (subst (Among ys) (e ∙ same) m)) | inr k ↦ k ]))
 
 place_among : (xs : List Row) (x : Row) → Among xs x → (i : ℕ) × (slice_get xs i ≡ Some x)
 place_among [] x m = absurd m
@@ -254,7 +298,7 @@ module _ (rows : List Row) (distinct : Distinct rows) where
   all_places a zero = refl
   all_places a (suc k) = ap₂ (λ o l. option_to_list o ++ l) (here a) (all_places (a + 1) k)
 
-  best_are : (k : ℕ) → take k (with_rows rows []) ≡ ranked rows k
+  pub best_are : (k : ℕ) → take k (with_rows rows []) ≡ ranked rows k
   unfolding ranked
   best_are k = sym (all_places 0 k ∙ somes sorted 0 k)
 
@@ -301,7 +345,7 @@ all_append : (P : Row → Type 0) (xs ys : List Row) → AllByRecursion P xs →
 all_append P [] ys a b = b
 all_append P (x ∷ xs) ys a b = (a.0, all_append P xs ys a.1 b)
 
-distinct_append : (xs ys : List Row) → Distinct xs → Distinct ys → Apart xs ys → Distinct (xs ++ ys)
+pub distinct_append : (xs ys : List Row) → Distinct xs → Distinct ys → Apart xs ys → Distinct (xs ++ ys)
 distinct_append [] ys a b apart = b
 distinct_append (x ∷ xs) ys a b apart = (all_append (Differs x) xs ys a.0 apart.0, distinct_append xs ys a.1 b apart.1)
 
@@ -320,23 +364,46 @@ unfolding all_rows
 all_fields P [] all = tt
 all_fields P (t ∷ ts) all = all_append (λ r. P r.field) (rows_of t) (all_rows ts) (fields_of P t all.0) (all_fields P ts all.1)
 
-one_apart : (field : List ℕ) (r : Row) (ys : List Row) → r.field ≡ field → AllByRecursion (λ y. name_cmp field y.field ≡ Less) ys
+one_apart : (field : List ℕ) (r : Row) (ys : List Row) → r.field ≡ field → AllByRecursion (λ y. is_eq (name_cmp field y.field) ≡ false) ys
     → AllByRecursion (Differs r) ys
 one_apart field r [] is all = tt
-one_apart field r (y ∷ ys) is all =
-    (λ e. never_before field y.field (sym is ∙ same_name r.field y.field (equal_parts r y e).0) all.0, one_apart field r ys is all.1)
+one_apart field r (y ∷ ys) is all = (
+  λ e.
+      let same : is_eq (name_cmp field y.field) ≡ true = ap is_eq (subst (λ f. name_cmp f y.field ≡ Equal) is (equal_parts r y e).0) in
+      let other = all.0 in cc,
+  one_apart field r ys is all.1,
+)
 
-fields_apart : (field : List ℕ) (xs ys : List Row) → AllByRecursion (λ r. r.field ≡ field) xs → AllByRecursion (λ y. name_cmp field y.field ≡ Less) ys
+fields_apart : (field : List ℕ) (xs ys : List Row) → AllByRecursion (λ r. r.field ≡ field) xs
+    → AllByRecursion (λ y. is_eq (name_cmp field y.field) ≡ false) ys
     → Apart xs ys
 fields_apart field [] ys a b = tt
 fields_apart field (x ∷ xs) ys a b = (one_apart field x ys a.0 b, fields_apart field xs ys a.1 b)
 
-rows_differ : (ts : List Table) → AreTables ts → Distinct (all_rows ts)
+-- of two tables of one field
+abbrev pub same_field : Table → Table → Bool
+same_field t u = is_eq (name_cmp t.0 u.0)
+
+later_fields : (t : Table) (ts : List Table) → AllByRecursion (λ u. name_cmp t.0 u.0 ≡ Less) ts → AllByRecursion (λ u. same_field t u ≡ false) ts
+later_fields t [] all = tt
+later_fields t (u ∷ ts) all = (ap is_eq all.0, later_fields t ts all.1)
+
+pub fields_differ : (ts : List Table) → AreInOrder ts → IsDistinct same_field ts
+unfolding IsDistinct
+fields_differ [] up = tt
+fields_differ (t ∷ ts) up = (later_fields t ts up.0, fields_differ ts up.1)
+
+pub all_rows_differ : (ts : List Table) → IsDistinct same_field ts → AllByRecursion IsFieldTable ts → Distinct (flat_map rows_of ts)
 unfolding all_rows
-rows_differ [] are = tt
-rows_differ (t ∷ ts) are =
-    distinct_append (rows_of t) (all_rows ts) (table_rows t.0 t.1 are.1.0.1) (rows_differ ts (are.0.1, are.1.1))
-    (fields_apart t.0 (rows_of t) (all_rows ts) (fields_of (λ f. f ≡ t.0) t refl) (all_fields (λ f. name_cmp t.0 f ≡ Less) ts are.0.0))
+all_rows_differ [] differ are = tt
+all_rows_differ (t ∷ ts) differ are =
+    distinct_append (rows_of t) (all_rows ts) (table_rows t.0 t.1 are.0.1) (all_rows_differ ts (IsDistinct-tail same_field t ts differ) are.1)
+    (fields_apart t.0 (rows_of t) (all_rows ts) (fields_of (λ f. f ≡ t.0) t refl)
+    (all_fields (λ f. is_eq (name_cmp t.0 f) ≡ false) ts (IsDistinct-head same_field t ts differ)))
+
+pub rows_differ : (ts : List Table) → AreTables ts → Distinct (all_rows ts)
+unfolding all_rows
+rows_differ ts are = all_rows_differ ts (fields_differ ts are.0) are.1
 
 pub places_are : (ts : List Table) (k : ℕ) → AreTables ts → take k (with_rows (all_rows ts) []) ≡ ranked (all_rows ts) k
 places_are ts k are = best_are (all_rows ts) (rows_differ ts are) k

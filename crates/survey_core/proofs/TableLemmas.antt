@@ -30,6 +30,14 @@ same_name (x ∷ a) (y ∷ b) h =
     let first : x ≡ y = let e = both.0 in grind (arith, nat_tests) in
     ap₂ ◌∷◌ first (same_name a b both.1)
 
+pub name_turned : (a b : List ℕ) → is_eq (name_cmp a b) ≡ is_eq (name_cmp b a)
+name_turned a b = ap is_eq (nat_list_cmp_total.antisymm a b) ∙ by (name_cmp b a)
+  where
+    by : (o : Ordering) → is_eq (ordering_reverse o) ≡ is_eq o
+    by Less = refl
+    by Equal = refl
+    by Greater = refl
+
 pub name_itself : (a : List ℕ) → name_cmp a a ≡ Equal
 name_itself = tied_itself nat_list_cmp_total
 

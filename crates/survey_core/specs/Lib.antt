@@ -20,6 +20,7 @@ pub mod Runs
 pub mod Ends
 pub mod KeeperCalls
 pub mod Ranks
+pub mod Parts
 pub mod Headline
 pub mod Laws
 pub mod Additions

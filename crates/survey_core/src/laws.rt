@@ -1,6 +1,7 @@
 //! The laws of the tables. The parts of each are the contract of a function that does nothing, and speak of the definitions alone.
 ghost use Rattle.survey_core.specs.Additions.{EachAddTakesItsCatalogue};
 ghost use Rattle.survey_core.specs.Laws.{UnnamedFieldsStay, LastAddIsKept, LastDropIsKept};
+ghost use Rattle.survey_core.specs.Parts.{BestOfPartsAreBest};
 
 /// After a session each field has the cells of the last catalogue that was added to it, isn't there where it was dropped since, and has what it had
 /// where no command names it.
@@ -13,4 +14,9 @@ pub fn last_command_counts()
 /// Where catalogues stand one behind the other, as many `add` take one each.
 pub fn each_add_takes_its_catalogue()
     ensures { EachAddTakesItsCatalogue }
+{}
+
+/// The brightest rows of a survey whose fields are split over several are the brightest of what `brightest` prints of each.
+pub fn brightest_of_parts()
+    ensures { BestOfPartsAreBest }
 {}

@@ -1,7 +1,11 @@
 //! The rows of all fields with the greatest fluxes.
-ghost use Rattle.std.specs.Prelude.{◌≡◌, ◌≤◌, ◌<◌, ◌+◌, ◌-◌, ◌*◌, ◌++◌, ℕ, List, length, map, take, false, true, slice_index_or, get_or, Some, IfOk, IfErr, IfSome, OnOk, OnErr};
+ghost use Rattle.std.specs.Prelude.{◌≡◌, ◌≤◌, ◌<◌, ◌+◌, ◌*◌, ◌++◌, ◌∷◌, [], ℕ, List, length, map, false, true, refl, get_or, Some, IfOk, IfErr, IfSome, OnOk, OnErr};
+ghost use Rattle.std.specs.BinaryHeap.{heap_items, heap_len, IsHeap, KeepsHeap};
+ghost use Rattle.std.specs.Cmp.{eq_by_cmp_equiv, partial_equiv_from_equiv, partial_order_from_total};
+ghost use Rattle.std.specs.List.{concat, AllByRecursion};
+ghost use Rattle.std.specs.List.Sorted.{IsPermutation};
 ghost use Rattle.std.specs.Option.{ForSome};
-ghost use Rattle.std.specs.List.{concat};
+ghost use Rattle.std.specs.Ordering.{as_partial_cmp, eq_by_cmp};
 ghost use Rattle.dev_io.specs.Causes.{HasCause};
 ghost use Rattle.dev_io.specs.Streams.{PutAppends, AppendsPrefix};
 ghost use Rattle.dev_io.specs.Blocks.{Moves};
@@ -9,8 +13,8 @@ ghost use Rattle.catalogue_form.specs.Columns.{cells_in_row};
 ghost use Rattle.survey_core.specs.Tables.{Table};
 ghost use Rattle.survey_core.specs.Clauses.{Stays};
 ghost use Rattle.survey_core.specs.KeeperCalls.{KeeperCause};
-ghost use Rattle.survey_core.specs.Ranking.{ranking_row, rows_of, all_rows, ranks_before, ranked, row_line};
-ghost use Rattle.survey_core.specs.Ranks.{AreRanked, with_row, with_rows};
+ghost use Rattle.survey_core.specs.Ranking.{ranking_row, rows_of, all_rows, row_cmp, ranks_before, ranked, row_line};
+ghost use Rattle.survey_core.specs.Ranks.{AreBest, row_order};
 ghost use Rattle.survey_core.specs.Sessions.{effect};
 ghost use Rattle.survey_core.specs.Steps.{Cause};
 ghost use Rattle.survey_core.specs.Carrying.{Step, SettledBy};
@@ -26,6 +30,7 @@ use dev_io::{Block, Failed, OutOfMemory, Sink};
 use itoa::Buffer;
 use std::alloc::Global;
 use std::cmp::Ordering;
+use std::collections::BinaryHeap;
 
 /// What is printed of a row of a catalogue.
 #[derive(Drop)]
@@ -37,16 +42,47 @@ pub(crate) struct Row {
     pub(crate) ycen: i64,
 }
 
+impl PartialEq for Row {
+    ghost eq = { eq_by_cmp row_cmp };
+
+    ghost laws = { partial_equiv_from_equiv (eq_by_cmp_equiv row_order) };
+
+    fn eq(&self, other: &Row) -> bool {
+        self.cmp(other).is_eq()
+    }
+}
+
+impl Eq for Row {
+    ghost laws = { eq_by_cmp_equiv row_order };
+}
+
+impl PartialOrd for Row {
+    ghost partial_cmp = { as_partial_cmp row_cmp };
+
+    ghost laws = { partial_order_from_total row_order };
+
+    fn partial_cmp(&self, other: &Row) -> Option<Ordering> {
+        Some(self.cmp(other))
+    }
+}
+
 // By the greater flux, then by the lesser field, then by the lesser number.
-fn ranks_before(a: &Row, b: &Row) -> bool
-    ensures { result ≡ ranks_before a.now b.now }
-{
-    let order = b
-        .flux
-        .cmp(&a.flux)
-        .then(a.field.cmp(&b.field))
-        .then(a.number.cmp(&b.number));
-    order == Ordering::Less
+impl Ord for Row {
+    ghost cmp = { row_cmp };
+
+    ghost total = { row_order };
+
+    ghost matches_partial_cmp = { λ x y. refl };
+
+    ghost matches_eq = { λ x y. refl };
+
+    fn cmp(&self, other: &Row) -> Ordering {
+        other
+            .flux
+            .cmp(&self.flux)
+            .then(self.field.cmp(&other.field))
+            .then(self.number.cmp(&other.number))
+    }
 }
 
 #[tactic(auto, unfolding(crate::specs::Ranking::ranking_row))]
@@ -63,45 +99,54 @@ fn ranking_row(field: &Field, cells: &[i64], row: usize) -> Row
     }
 }
 
-// The place of the row among the best: behind those that it doesn't come before.
-fn place_of(best: &[Row], row: &Row) -> usize
-    ensures within { result ≤ length best.now }
-    ensures behind { 0 < result → (d : Row) → ranks_before row.now (get_or best.now (result - 1) d) ≡ false }
-    ensures before { (i : ℕ) (d : Row) → result ≤ i → i < length best.now → ranks_before row.now (get_or best.now i d) ≡ true }
+// Whether so many rows that the last of them may stay come before this one.
+fn is_late(best: &BinaryHeap<Row>, row: &Row) -> bool
+    requires { 0 < heap_len best.now }
+    ensures early { result ≡ false → (d : Row) → ranks_before row.now (get_or (heap_items best.now) 0 d) ≡ true }
+    ensures late { result ≡ true → IsHeap row_cmp (heap_items best.now) → AllByRecursion (λ r. ranks_before row.now r ≡ false) (heap_items best.now) }
 {
-    let mut place = best.len();
-    while place > 0 && ranks_before(row, &best[place - 1]) {
-        place -= 1;
+    match best.peek() {
+        Some(last) => row.cmp(last) != Ordering::Less,
+        None => false,
     }
-    place
 }
 
-// Puts the row into its place, and keeps the `most` best.
-fn rank(best: &mut Vec<Row>, most: usize, row: Row) -> Result<(), OutOfMemory>
-    requires { 0 < most }
-    ensures { (rows : List Row) → AreRanked rows → best.old.items ≡ take most rows → OnOk result (best.new.items ≡ take most (with_row row rows)) }
+fn keep(best: &mut BinaryHeap<Row>, row: Row) -> Result<(), OutOfMemory>
+    ensures permutation { OnOk result (IsPermutation (row ∷ heap_items best.old) (heap_items best.new)) }
+    ensures len { OnOk result (heap_len best.new ≡ heap_len best.old + 1) }
+    ensures heap { OnOk result (KeepsHeap row_cmp (heap_items best.old) (heap_items best.new)) }
 {
-    let place = place_of(best, &row);
-    if place >= most {
-        return Ok(());
-    }
-    best.truncate(most - 1);
-    match best.insert(place, row) {
+    match best.push(row) {
         Ok(()) => Ok(()),
         Err(_) => Err(OutOfMemory),
     }
 }
 
+// Takes a row in among the `most` best: in place of the last of them, where there are so many.
+fn rank(best: &mut BinaryHeap<Row>, most: usize, row: Row) -> Result<(), OutOfMemory>
+    requires { 0 < most }
+    ensures { (rows : List Row) → AreBest most rows (heap_items best.old) → OnOk result (AreBest most (rows ++ row ∷ []) (heap_items best.new)) }
+{
+    if best.len() < most {
+        return keep(best, row);
+    }
+    if is_late(best, &row) {
+        return Ok(());
+    }
+    let _ = best.pop();
+    keep(best, row)
+}
+
 // Ranks all rows of a field.
 fn rank_all(
-    best: &mut Vec<Row>,
+    best: &mut BinaryHeap<Row>,
     most: usize,
     field: &Field,
     cells: &[i64],
 ) -> Result<(), OutOfMemory>
     requires { 0 < most }
-    ensures { (rows : List Row) → AreRanked rows → best.old.items ≡ take most rows →
-        OnOk result (best.new.items ≡ take most (with_rows (rows_of (field.now, cells.now)) rows)) }
+    ensures { (rows : List Row) → AreBest most rows (heap_items best.old) →
+        OnOk result (AreBest most (rows ++ rows_of (field.now, cells.now)) (heap_items best.new)) }
 {
     for row in 0..cells.len() / CELLS_IN_ROW {
         if let Err(wanted) = rank(best, most, ranking_row(field, cells, row)) {
@@ -122,7 +167,7 @@ fn best_rows<K: Keeper>(alloc: Global, keeper: &mut K, most: usize) -> Result<Ve
         Ok(names) => names,
         Err(stop) => return Err(stop),
     };
-    let mut best = Vec::new(alloc);
+    let mut best = BinaryHeap::new(alloc);
     for name in &names {
         let cells = match cells_kept(alloc, keeper, name.copy()) {
             Ok(cells) => cells,
@@ -132,7 +177,7 @@ fn best_rows<K: Keeper>(alloc: Global, keeper: &mut K, most: usize) -> Result<Ve
             return Err(Stop::NoMemory);
         }
     }
-    Ok(best)
+    Ok(best.into_sorted_vec())
 }
 
 // Lets the line of a row wait.

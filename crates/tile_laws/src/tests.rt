@@ -5,7 +5,7 @@ ghost use Rattle.std.specs.Prelude.{◌≡◌};
 use super::*;
 use comp_tree::{Connect, Plane, Shape, plain_tree};
 use node_sums::sums;
-use source_pick::{Choice, cells, pick, row};
+use source_pick::{CatRow, Choice, pick, row};
 use std::alloc::Global;
 use std::test::Fail;
 
@@ -65,8 +65,8 @@ fn components_of_a_window(rt: HostRuntime) -> Result<(), Fail> {
     Ok(())
 }
 
-// The catalogue's numbers of source `number` of a plane of one row, which has six sources at most.
-fn numbers_of(alloc: Global, width: u32, values: &[i64], number: u32) -> Result<[i64; 17], Fail> {
+// The catalogue's row of source `number` of a plane of one row, which has six sources at most.
+fn row_of(alloc: Global, width: u32, values: &[i64], number: u32) -> Result<CatRow, Fail> {
     let shape = Shape::of(width, 1).ok_or("a shape")?;
     let plane = plane_of(alloc, shape, values)?;
     let choice = Choice {
@@ -85,7 +85,7 @@ fn numbers_of(alloc: Global, width: u32, values: &[i64], number: u32) -> Result<
     if n as usize >= tree.rows().len() {
         return Err(Fail::from("no such node"));
     }
-    Ok(cells(&row(&tree, &found, number, n)))
+    Ok(row(&tree, &found, number, n))
 }
 
 // A plane of these values, of which 0 stands for an undefined pixel.
@@ -101,13 +101,20 @@ fn plane_of(alloc: Global, shape: Shape, values: &[i64]) -> Result<Plane, Fail> 
 #[test]
 fn sources_of_two_windows(rt: HostRuntime) -> Result<(), Fail> {
     let whole = [1, 6, 1, 1, 5, 1];
-    let first = [1, 6, 1, 1, 5, 6, 2, 2, 1, 1, 2, 1, 2000, 1000, 0, 0, 0];
-    let second = [2, 5, 1, 1, 4, 5, 5, 5, 1, 1, 5, 1, 5000, 1000, 0, 0, 0];
-    assert_eq!(rt; numbers_of(rt.alloc(), 6, &whole, 1)?, first);
-    assert_eq!(rt; numbers_of(rt.alloc(), 6, &whole, 2)?, second);
-    assert_eq!(rt; numbers_of(rt.alloc(), 4, &whole[..4], 1)?, first);
+    let left = row_of(rt.alloc(), 6, &whole, 1)?;
+    assert_eq!(rt; (left.level, left.xmin, left.xfirst, left.xcen), (6, 2, 2, 2000));
+    assert_eq!(rt; row_of(rt.alloc(), 4, &whole[..4], 1)?, left);
+    let right = row_of(rt.alloc(), 6, &whole, 2)?;
+    assert_eq!(rt; (right.level, right.xmin, right.xfirst, right.xcen), (5, 5, 5, 5000));
     // the same row, two columns further left, and with the number that it has in its window
-    let seen = [1, 5, 1, 1, 4, 5, 3, 3, 1, 1, 3, 1, 3000, 1000, 0, 0, 0];
-    assert_eq!(rt; numbers_of(rt.alloc(), 4, &whole[2..], 1)?, seen);
+    let seen = CatRow {
+        number: 1,
+        xmin: 3,
+        xmax: 3,
+        xfirst: 3,
+        xcen: 3000,
+        ..right
+    };
+    assert_eq!(rt; row_of(rt.alloc(), 4, &whole[2..], 1)?, seen);
     Ok(())
 }

@@ -13,18 +13,20 @@
 //!
 //! For one adjacency the reads of links and skips are at most five for each defined pixel. A step of a climb has at most four
 //! and goes to an earlier pixel. Where a climb ends there are four, and one more at the move, which leaves the pixel behind.
+//! Links and skips lie behind types whose only reading methods count (`links`, `skips`), so no line reads them uncounted.
 #![tactic(auto)]
 
-ghost use Rattle.std.specs.Prelude.{◌^◌, ◌≡◌, ℕ, ◌+◌, ◌*◌, ◌<◌, ◌≤◌, length, slice_index, List};
+ghost use Rattle.std.specs.Prelude.{◌^◌, ◌≡◌, ℕ, ◌+◌, ◌*◌, ◌<◌, ◌≤◌, length, List};
 ghost use Rattle.comp_tree.specs.Joined.{Or, Has};
 ghost use Rattle.comp_tree.specs.Counts.{count_defined};
-ghost use Rattle.comp_tree.specs.Forest.{no_node, StandsFor, IsForest, IsLink, JoinSame, IsWithin};
+ghost use Rattle.comp_tree.specs.Forest.{StandsFor, IsForest, IsLink, JoinSame, IsWithin};
 ghost use Rattle.tree_join.specs.Moves.{IsSpan, span_size};
 ghost use Rattle.tree_join.specs.Walks.{HaveTrueSkips};
 ghost use Rattle.tree_join.specs.Boundary.{row_start, IsBoundary, boundary_size};
 ghost use Rattle.tree_join.specs.Columns.{first_column, end_column};
 
 pub mod laws;
+mod links;
 mod skips;
 #[cfg(test)]
 mod tests;
@@ -32,15 +34,15 @@ mod walk;
 
 use comp_tree::{Connect, Plane};
 use dev_io::Steps;
+use links::Links;
 use skips::Skips;
 use std::sync::ledger::Ledger;
-use walk::join_pair;
+use walk::{Rows, join_pair};
 
 // Joins `p` with each pixel from `low` up to `high`, where both are defined.
 fn join_span<L: Ledger, M: Ledger>(
-    parents: &mut [u32],
-    plane: &Plane,
-    first: u32,
+    links: &mut Links<'_>,
+    rows: &Rows<'_>,
     skips: &mut Skips,
     low: u32,
     high: u32,
@@ -48,28 +50,31 @@ fn join_span<L: Ledger, M: Ledger>(
     moves: &mut Steps<L>,
     reads: &mut Steps<M>,
 )
-    requires ready { HaveTrueSkips plane.now.values first parents.old skips.old.from skips.old.to }
-    requires low { first ≤ low }
+    requires ready { HaveTrueSkips rows.now.plane.now.values rows.now.first links.old.places.now skips.old.from skips.old.to }
+    requires low { rows.now.first ≤ low }
     requires span { low ≤ high }
-    requires high { high ≤ first + length parents.old }
-    requires p_in { IsWithin first (length parents.old) p }
-    ensures ready { HaveTrueSkips plane.now.values first parents.new skips.new.from skips.new.to }
-    ensures joined { JoinSame plane.now.values first (length parents.old)
-        (IsLink first parents.new)
-        (Or (IsLink first parents.old) (IsSpan plane.now.values low high p)) }
+    requires high { high ≤ rows.now.first + length links.old.places.now }
+    requires p_in { IsWithin rows.now.first (length links.old.places.now) p }
+    ensures same_reference { links.new.places.ghost_name ≡ links.old.places.ghost_name }
+    ensures same_length { length links.new.places.now ≡ length links.old.places.now }
+    ensures ready { HaveTrueSkips rows.now.plane.now.values rows.now.first links.new.places.now skips.new.from skips.new.to }
+    ensures joined { JoinSame rows.now.plane.now.values rows.now.first (length links.old.places.now)
+        (IsLink rows.now.first links.new.places.now)
+        (Or (IsLink rows.now.first links.old.places.now) (IsSpan rows.now.plane.now.values low high p)) }
     ensures cost { moves.new ≤ moves.old
-        + span_size plane.now.values low high p * count_defined plane.now.values first (length parents.old) }
+        + span_size rows.now.plane.now.values low high p
+        * count_defined rows.now.plane.now.values rows.now.first (length links.old.places.now) }
     ensures each { moves.new + reads.old ≤ moves.old + reads.new }
     ensures reads { reads.new ≤ reads.old
-        + span_size plane.now.values low high p
-        * (5 * count_defined plane.now.values first (length parents.old)) }
+        + span_size rows.now.plane.now.values low high p
+        * (5 * count_defined rows.now.plane.now.values rows.now.first (length links.old.places.now)) }
 {
-    if plane.get(p).is_none() {
+    if rows.plane.get(p).is_none() {
         return;
     }
     for u in low..high {
-        if plane.get(u).is_some() {
-            join_pair(parents, plane, first, skips, u, p, moves, reads);
+        if rows.plane.get(u).is_some() {
+            join_pair(links, rows, skips, u, p, moves, reads);
         }
     }
 }
@@ -89,49 +94,52 @@ fn columns(connect: Connect, width: u32, x: u32) -> (u32, u32)
 
 // `join_row` in a plane of this width.
 fn join_rows<L: Ledger, M: Ledger>(
-    parents: &mut [u32],
+    links: &mut Links<'_>,
     plane: &Plane,
     width: u32,
     connect: Connect,
     first_row: u32,
     row: u32,
-    skips: &mut Skips,
     moves: &mut Steps<L>,
     reads: &mut Steps<M>,
 )
     requires width { 0 < width }
-    requires rows { first_row * width + length parents.old ≤ length plane.now.values }
+    requires rows { first_row * width + length links.old.places.now ≤ length plane.now.values }
     requires small { length plane.now.values ≤ 2 ^ 24 }
     requires below { first_row < row }
-    requires inside { (row + 1) * width ≤ first_row * width + length parents.old }
-    requires forest { IsForest plane.now.values (first_row * width) parents.old }
-    requires blank { (i : ℕ) → i < length skips.old.from → slice_index skips.old.from i ≡ no_node }
-    ensures forest { IsForest plane.now.values (first_row * width) parents.new }
-    ensures joined { JoinSame plane.now.values (first_row * width) (length parents.old)
-        (IsLink (first_row * width) parents.new)
-        (Or (IsLink (first_row * width) parents.old) (IsBoundary plane.now.values width connect row)) }
+    requires inside { (row + 1) * width ≤ first_row * width + length links.old.places.now }
+    requires forest { IsForest plane.now.values (first_row * width) links.old.places.now }
+    ensures same_reference { links.new.places.ghost_name ≡ links.old.places.ghost_name }
+    ensures same_length { length links.new.places.now ≡ length links.old.places.now }
+    ensures forest { IsForest plane.now.values (first_row * width) links.new.places.now }
+    ensures joined { JoinSame plane.now.values (first_row * width) (length links.old.places.now)
+        (IsLink (first_row * width) links.new.places.now)
+        (Or (IsLink (first_row * width) links.old.places.now) (IsBoundary plane.now.values width connect row)) }
     ensures stands { (E : List (ℕ × ℕ))
-        → StandsFor plane.now.values (first_row * width) parents.old (Has E)
-        → StandsFor plane.now.values (first_row * width) parents.new
+        → StandsFor plane.now.values (first_row * width) links.old.places.now (Has E)
+        → StandsFor plane.now.values (first_row * width) links.new.places.now
         (Or (Has E) (IsBoundary plane.now.values width connect row)) }
     ensures cost { moves.new ≤ moves.old
         + boundary_size plane.now.values width connect row
-        * count_defined plane.now.values (first_row * width) (length parents.old) }
+        * count_defined plane.now.values (first_row * width) (length links.old.places.now) }
     ensures each { moves.new + reads.old ≤ moves.old + reads.new }
     ensures reads { reads.new ≤ reads.old
         + boundary_size plane.now.values width connect row
-        * (5 * count_defined plane.now.values (first_row * width) (length parents.old)) }
+        * (5 * count_defined plane.now.values (first_row * width) (length links.old.places.now)) }
 {
-    let first = first_row * width;
+    let rows = Rows {
+        plane,
+        first: first_row * width,
+    };
     let start = row * width;
     let above = start - width;
+    let mut skips = Skips::empty();
     for x in 0..width {
         let (low, high) = columns(connect, width, x);
         join_span(
-            parents,
-            plane,
-            first,
-            skips,
+            links,
+            &rows,
+            &mut skips,
             above + low,
             above + high,
             start + x,
@@ -183,15 +191,14 @@ pub fn join_row<L: Ledger, M: Ledger>(
         (length parents.old)) }
 {
     let shape = plane.shape();
-    let mut skips = Skips::empty();
+    let mut links = Links::over(parents);
     join_rows(
-        parents,
+        &mut links,
         plane,
         shape.width,
         connect,
         first_row,
         row,
-        &mut skips,
         moves,
         reads,
     );

@@ -29,8 +29,8 @@ pub(crate) enum Reach {
 // The skip at a place leads from its pixel in `from` to its pixel in `to`; where `from` has none, the place is empty.
 #[derive(Drop)]
 pub(crate) struct Skips {
-    pub(crate) from: [u32; PLACES],
-    pub(crate) to: [u32; PLACES],
+    from: [u32; PLACES],
+    to: [u32; PLACES],
 }
 
 // A number that reads like a random one for each pixel.
@@ -69,7 +69,7 @@ impl Skips {
         }
     }
 
-    // The pixel that is put down for `at`, if one is. Each place that is read is read here, so none is read uncounted.
+    // The pixel that is put down for `at`, if one is. No other function reads a place, and none outside this module can.
     pub(crate) fn told<M: Ledger>(&self, reach: Reach, at: u32, reads: &mut Steps<M>) -> Option<u32>
         ensures told { IfSome result (λ there. IsPutDown self.now.from self.now.to at there) }
         ensures read { reads.new ≡ reads.old + 1 }

@@ -1,6 +1,6 @@
 //! The walk of one adjacency, up from both its pixels.
 
-ghost use Rattle.std.specs.Prelude.{◌≡◌, ℕ, ◌+◌, ◌*◌, ◌<◌, ◌≤◌, length, slice_index, MatchOption, IfSome};
+ghost use Rattle.std.specs.Prelude.{◌≡◌, ℕ, ◌+◌, ◌*◌, ◌<◌, ◌≤◌, length, MatchOption, IfSome};
 ghost use Rattle.comp_tree.specs.Joined.{Or, Only};
 ghost use Rattle.comp_tree.specs.Counts.{count_defined};
 ghost use Rattle.comp_tree.specs.EarlierCounts.{earlier_count};
@@ -9,68 +9,67 @@ ghost use Rattle.tree_join.specs.Skips.{IsPixel, IsSkip};
 ghost use Rattle.tree_join.specs.Moves.{IsEnded, IsMoved, IsLastAbove, IsSpent};
 ghost use Rattle.tree_join.specs.Walks.{AreLinks, AreLike, HaveTrueSkips, IsLaterPair, IsWalk, IsUp};
 
+use crate::links::Links;
 use crate::skips::{Reach, Skips};
 use comp_tree::{NONE, Plane};
 use dev_io::Steps;
 use std::sync::ledger::Ledger;
 
-// The link at a place. Each link that is read is read here, so none is read uncounted.
-fn read_link<M: Ledger>(parents: &[u32], place: usize, reads: &mut Steps<M>) -> u32
-    requires { place < length parents.now }
-    ensures link { result ≡ slice_index parents.now place }
-    ensures read { reads.new ≡ reads.old + 1 }
-{
-    reads.tick();
-    parents[place]
+// The rows whose links are at hand: those of this plane from the pixel `first` on.
+#[derive(Drop)]
+pub(crate) struct Rows<'a> {
+    pub(crate) plane: &'a Plane,
+    pub(crate) first: u32,
 }
 
 // The link of `p`, if it has one. Where it leads to a pixel that is linked within its own value, `p` is first linked past
 // that: straight to that pixel's link. The two pixels lie in the same threshold sets, so nothing comes apart.
 pub(crate) fn link_past<M: Ledger>(
-    parents: &mut [u32],
-    plane: &Plane,
-    first: u32,
+    links: &mut Links<'_>,
+    rows: &Rows<'_>,
     p: u32,
     reads: &mut Steps<M>,
 ) -> Option<u32>
-    requires links { AreLinks plane.now.values first parents.old }
-    requires p_in { IsPixel plane.now.values first (length parents.old) p }
-    ensures like { AreLike plane.now.values first parents.old parents.new }
+    requires links { AreLinks rows.now.plane.now.values rows.now.first links.old.places.now }
+    requires p_in { IsPixel rows.now.plane.now.values rows.now.first (length links.old.places.now) p }
+    ensures same_reference { links.new.places.ghost_name ≡ links.old.places.ghost_name }
+    ensures same_length { length links.new.places.now ≡ length links.old.places.now }
+    ensures like { AreLike rows.now.plane.now.values rows.now.first links.old.places.now links.new.places.now }
     ensures link { MatchOption result
-        (link_of first parents.new p ≡ no_node)
-        (λ next. link_of first parents.new p ≡ next) }
-    ensures skip { IfSome result (λ next. IsSkip plane.now.values first (length parents.old) (IsLink first parents.old) p next) }
-    ensures earlier { IfSome result (λ next. ComesEarlier plane.now.values next p) }
+        (link_of rows.now.first links.new.places.now p ≡ no_node)
+        (λ next. link_of rows.now.first links.new.places.now p ≡ next) }
+    ensures skip { IfSome result (λ next. IsSkip rows.now.plane.now.values rows.now.first (length links.old.places.now)
+        (IsLink rows.now.first links.old.places.now) p next) }
+    ensures earlier { IfSome result (λ next. ComesEarlier rows.now.plane.now.values next p) }
     ensures more { reads.old + 1 ≤ reads.new }
     ensures reads { reads.new ≤ reads.old + 2 }
 {
-    let place = (p - first) as usize;
-    let link = read_link(parents, place, reads);
+    let place = (p - rows.first) as usize;
+    let link = links.read(place, reads);
     if link == NONE {
         return None;
     }
-    let next = read_link(parents, (link - first) as usize, reads);
-    if next == NONE || !plane.is_at_least(plane.level(link), next) {
+    let next = links.read((link - rows.first) as usize, reads);
+    if next == NONE || !rows.plane.is_at_least(rows.plane.level(link), next) {
         return Some(link);
     }
-    parents[place] = next;
+    links.write(place, next);
     Some(next)
 }
 
 // The skip of this reach from `at`, if one is kept that leads to an earlier pixel, and to one of a higher value than `b`:
 // then the links alone join what it leads to, though `at` and `b` are still to be joined. The links are named for this alone.
 fn skip_up<M: Ledger>(
-    _parents: &[u32],
-    plane: &Plane,
-    first: u32,
+    _links: &Links<'_>,
+    rows: &Rows<'_>,
     skips: &Skips,
     reach: Reach,
     at: u32,
     b: u32,
     reads: &mut Steps<M>,
 ) -> Option<u32>
-    requires walk { IsWalk plane.now.values first _parents.now skips.now.from skips.now.to at b }
-    ensures up { IfSome result (λ next. IsUp plane.now.values first _parents.now at b next) }
+    requires walk { IsWalk rows.now.plane.now.values rows.now.first _links.now.places.now skips.now.from skips.now.to at b }
+    ensures up { IfSome result (λ next. IsUp rows.now.plane.now.values rows.now.first _links.now.places.now at b next) }
     ensures more { reads.old ≤ reads.new }
     ensures some { IfSome result (λ next. reads.old + 1 ≤ reads.new) }
     ensures reads { reads.new ≤ reads.old + 1 }
@@ -81,7 +80,7 @@ fn skip_up<M: Ledger>(
     let Some(there) = skips.told(reach, at, reads) else {
         return None;
     };
-    if !plane.is_earlier(there, at) || plane.is_at_least(plane.level(there), b) {
+    if !rows.plane.is_earlier(there, at) || rows.plane.is_at_least(rows.plane.level(there), b) {
         return None;
     }
     Some(there)
@@ -89,26 +88,27 @@ fn skip_up<M: Ledger>(
 
 // The link of `at`, once it is linked past it where it can be, unless it is earlier than `b`.
 fn link_up<M: Ledger>(
-    parents: &mut [u32],
-    plane: &Plane,
-    first: u32,
+    links: &mut Links<'_>,
+    rows: &Rows<'_>,
     at: u32,
     b: u32,
     reads: &mut Steps<M>,
 ) -> Option<u32>
-    requires links { AreLinks plane.now.values first parents.old }
-    requires pair { IsLaterPair plane.now.values first (length parents.old) at b }
-    ensures like { AreLike plane.now.values first parents.old parents.new }
+    requires links { AreLinks rows.now.plane.now.values rows.now.first links.old.places.now }
+    requires pair { IsLaterPair rows.now.plane.now.values rows.now.first (length links.old.places.now) at b }
+    ensures same_reference { links.new.places.ghost_name ≡ links.old.places.ghost_name }
+    ensures same_length { length links.new.places.now ≡ length links.old.places.now }
+    ensures like { AreLike rows.now.plane.now.values rows.now.first links.old.places.now links.new.places.now }
     ensures up { MatchOption result
-        (IsLastAbove plane.now.values first parents.new at b)
-        (λ next. IsUp plane.now.values first parents.old at b next) }
+        (IsLastAbove rows.now.plane.now.values rows.now.first links.new.places.now at b)
+        (λ next. IsUp rows.now.plane.now.values rows.now.first links.old.places.now at b next) }
     ensures more { reads.old + 1 ≤ reads.new }
     ensures reads { reads.new ≤ reads.old + 2 }
 {
-    let Some(link) = link_past(parents, plane, first, at, reads) else {
+    let Some(link) = link_past(links, rows, at, reads) else {
         return None;
     };
-    if plane.is_earlier(link, b) {
+    if rows.plane.is_earlier(link, b) {
         return None;
     }
     Some(link)
@@ -116,58 +116,61 @@ fn link_up<M: Ledger>(
 
 // The next pixel up from `at` that is not earlier than `b`: the one that a skip leads to, else its link.
 fn next_up<M: Ledger>(
-    parents: &mut [u32],
-    plane: &Plane,
-    first: u32,
+    links: &mut Links<'_>,
+    rows: &Rows<'_>,
     skips: &Skips,
     at: u32,
     b: u32,
     reads: &mut Steps<M>,
 ) -> Option<u32>
-    requires walk { IsWalk plane.now.values first parents.old skips.now.from skips.now.to at b }
-    ensures like { AreLike plane.now.values first parents.old parents.new }
+    requires walk { IsWalk rows.now.plane.now.values rows.now.first links.old.places.now skips.now.from skips.now.to at b }
+    ensures same_reference { links.new.places.ghost_name ≡ links.old.places.ghost_name }
+    ensures same_length { length links.new.places.now ≡ length links.old.places.now }
+    ensures like { AreLike rows.now.plane.now.values rows.now.first links.old.places.now links.new.places.now }
     ensures up { MatchOption result
-        (IsLastAbove plane.now.values first parents.new at b)
-        (λ next. IsUp plane.now.values first parents.old at b next) }
+        (IsLastAbove rows.now.plane.now.values rows.now.first links.new.places.now at b)
+        (λ next. IsUp rows.now.plane.now.values rows.now.first links.old.places.now at b next) }
     ensures more { reads.old + 1 ≤ reads.new }
     ensures reads { reads.new ≤ reads.old + 4 }
 {
-    if let Some(there) = skip_up(parents, plane, first, skips, Reach::Far, at, b, reads) {
+    if let Some(there) = skip_up(links, rows, skips, Reach::Far, at, b, reads) {
         return Some(there);
     }
-    if let Some(there) = skip_up(parents, plane, first, skips, Reach::Near, at, b, reads) {
+    if let Some(there) = skip_up(links, rows, skips, Reach::Near, at, b, reads) {
         return Some(there);
     }
-    link_up(parents, plane, first, at, b, reads)
+    link_up(links, rows, at, b, reads)
 }
 
 // Climbs from `p` to the last pixel that is not earlier than `b`. The pair that is still to be joined climbs too.
 fn climb<L: Ledger, M: Ledger>(
-    parents: &mut [u32],
-    plane: &Plane,
-    first: u32,
+    links: &mut Links<'_>,
+    rows: &Rows<'_>,
     skips: &mut Skips,
     p: u32,
     b: u32,
     moves: &mut Steps<L>,
     reads: &mut Steps<M>,
 ) -> u32
-    requires walk { IsWalk plane.now.values first parents.old skips.old.from skips.old.to p b }
-    ensures like { AreLike plane.now.values first parents.old parents.new }
-    ensures skip { IsSkip plane.now.values first (length parents.old) (IsLink first parents.old) p result }
-    ensures last { IsLastAbove plane.now.values first parents.new result b }
-    ensures walk { IsWalk plane.now.values first parents.new skips.new.from skips.new.to result b }
+    requires walk { IsWalk rows.now.plane.now.values rows.now.first links.old.places.now skips.old.from skips.old.to p b }
+    ensures same_reference { links.new.places.ghost_name ≡ links.old.places.ghost_name }
+    ensures same_length { length links.new.places.now ≡ length links.old.places.now }
+    ensures like { AreLike rows.now.plane.now.values rows.now.first links.old.places.now links.new.places.now }
+    ensures skip { IsSkip rows.now.plane.now.values rows.now.first (length links.old.places.now)
+        (IsLink rows.now.first links.old.places.now) p result }
+    ensures last { IsLastAbove rows.now.plane.now.values rows.now.first links.new.places.now result b }
+    ensures walk { IsWalk rows.now.plane.now.values rows.now.first links.new.places.now skips.new.from skips.new.to result b }
     ensures later { moves.old ≤ moves.new }
-    ensures cost { moves.new + earlier_count plane.now.values first (length parents.old) result
-        ≤ moves.old + earlier_count plane.now.values first (length parents.old) p }
+    ensures cost { moves.new + earlier_count rows.now.plane.now.values rows.now.first (length links.old.places.now) result
+        ≤ moves.old + earlier_count rows.now.plane.now.values rows.now.first (length links.old.places.now) p }
     ensures each { moves.new + reads.old ≤ moves.old + reads.new }
-    ensures reads { reads.new + 4 * earlier_count plane.now.values first (length parents.old) result
-        ≤ reads.old + 4 * earlier_count plane.now.values first (length parents.old) p + 4 }
+    ensures reads { reads.new + 4 * earlier_count rows.now.plane.now.values rows.now.first (length links.old.places.now) result
+        ≤ reads.old + 4 * earlier_count rows.now.plane.now.values rows.now.first (length links.old.places.now) p + 4 }
 {
     let mut at = p;
     let mut near = p;
     let mut far = p;
-    while let Some(next) = next_up(parents, plane, first, skips, at, b, reads) {
+    while let Some(next) = next_up(links, rows, skips, at, b, reads) {
         moves.tick();
         near = skips.pass(Reach::Near, near, next);
         far = skips.pass(Reach::Far, far, next);
@@ -178,27 +181,29 @@ fn climb<L: Ledger, M: Ledger>(
 
 // Hangs `a` under the earlier pixel `b`, where its link is earlier still, or none. So `b` and that link are left to join.
 fn hang<M: Ledger>(
-    parents: &mut [u32],
-    plane: &Plane,
-    first: u32,
+    links: &mut Links<'_>,
+    rows: &Rows<'_>,
     a: u32,
     b: u32,
     reads: &mut Steps<M>,
 ) -> Option<(u32, u32)>
-    requires links { AreLinks plane.now.values first parents.old }
-    requires pair { IsLaterPair plane.now.values first (length parents.old) a b }
-    requires order { ComesEarlier plane.now.values b a }
-    requires last { IsLastAbove plane.now.values first parents.old a b }
-    ensures forest { IsForest plane.now.values first parents.new }
+    requires links { AreLinks rows.now.plane.now.values rows.now.first links.old.places.now }
+    requires pair { IsLaterPair rows.now.plane.now.values rows.now.first (length links.old.places.now) a b }
+    requires order { ComesEarlier rows.now.plane.now.values b a }
+    requires last { IsLastAbove rows.now.plane.now.values rows.now.first links.old.places.now a b }
+    ensures same_reference { links.new.places.ghost_name ≡ links.old.places.ghost_name }
+    ensures same_length { length links.new.places.now ≡ length links.old.places.now }
+    ensures forest { IsForest rows.now.plane.now.values rows.now.first links.new.places.now }
     ensures moved { MatchOption result
-        (IsEnded plane.now.values first parents.old parents.new a b)
-        (λ rest. IsMoved plane.now.values first parents.old parents.new a b rest) }
-    ensures pair { IfSome result (λ rest. IsLaterPair plane.now.values first (length parents.old) rest.0 rest.1) }
+        (IsEnded rows.now.plane.now.values rows.now.first links.old.places.now links.new.places.now a b)
+        (λ rest. IsMoved rows.now.plane.now.values rows.now.first links.old.places.now links.new.places.now a b rest) }
+    ensures pair { IfSome result (λ rest.
+        IsLaterPair rows.now.plane.now.values rows.now.first (length links.old.places.now) rest.0 rest.1) }
     ensures read { reads.new ≡ reads.old + 1 }
 {
-    let place = (a - first) as usize;
-    let link = read_link(parents, place, reads);
-    parents[place] = b;
+    let place = (a - rows.first) as usize;
+    let link = links.read(place, reads);
+    links.write(place, b);
     if link == NONE {
         return None;
     }
@@ -208,59 +213,61 @@ fn hang<M: Ledger>(
 // One turn of a walk, where `a` is not earlier than `b`: the climb of `a`, and its move. It gives the two pixels that are left
 // to join, if any, the later one first.
 fn turn<L: Ledger, M: Ledger>(
-    parents: &mut [u32],
-    plane: &Plane,
-    first: u32,
+    links: &mut Links<'_>,
+    rows: &Rows<'_>,
     skips: &mut Skips,
     a: u32,
     b: u32,
     moves: &mut Steps<L>,
     reads: &mut Steps<M>,
 ) -> Option<(u32, u32)>
-    requires walk { IsWalk plane.now.values first parents.old skips.old.from skips.old.to a b }
+    requires walk { IsWalk rows.now.plane.now.values rows.now.first links.old.places.now skips.old.from skips.old.to a b }
+    ensures same_reference { links.new.places.ghost_name ≡ links.old.places.ghost_name }
+    ensures same_length { length links.new.places.now ≡ length links.old.places.now }
     ensures moved { MatchOption result
-        (IsEnded plane.now.values first parents.old parents.new a b)
-        (λ rest. IsMoved plane.now.values first parents.old parents.new a b rest) }
+        (IsEnded rows.now.plane.now.values rows.now.first links.old.places.now links.new.places.now a b)
+        (λ rest. IsMoved rows.now.plane.now.values rows.now.first links.old.places.now links.new.places.now a b rest) }
     ensures walk { MatchOption result
-        (HaveTrueSkips plane.now.values first parents.new skips.new.from skips.new.to)
-        (λ rest. IsWalk plane.now.values first parents.new skips.new.from skips.new.to rest.0 rest.1) }
-    ensures cost { IsSpent plane.now.values first (length parents.old) a b 1 moves.old moves.new result }
+        (HaveTrueSkips rows.now.plane.now.values rows.now.first links.new.places.now skips.new.from skips.new.to)
+        (λ rest. IsWalk rows.now.plane.now.values rows.now.first links.new.places.now skips.new.from skips.new.to rest.0 rest.1) }
+    ensures cost { IsSpent rows.now.plane.now.values rows.now.first (length links.old.places.now) a b 1 moves.old moves.new result }
     ensures each { moves.new + reads.old ≤ moves.old + reads.new }
-    ensures reads { IsSpent plane.now.values first (length parents.old) a b 5 reads.old reads.new result }
+    ensures reads { IsSpent rows.now.plane.now.values rows.now.first (length links.old.places.now) a b 5 reads.old reads.new result }
 {
-    let last = climb(parents, plane, first, skips, a, b, moves, reads);
+    let last = climb(links, rows, skips, a, b, moves, reads);
     if last == b {
         return None;
     }
     moves.tick();
-    hang(parents, plane, first, last, b, reads)
+    hang(links, rows, last, b, reads)
 }
 
 // `join_pair`, where `p` is not earlier than `q`. Between two turns one pair is still to be joined: together with it the
 // links always join what they joined before and `p` with `q`.
 fn join_later<L: Ledger, M: Ledger>(
-    parents: &mut [u32],
-    plane: &Plane,
-    first: u32,
+    links: &mut Links<'_>,
+    rows: &Rows<'_>,
     skips: &mut Skips,
     p: u32,
     q: u32,
     moves: &mut Steps<L>,
     reads: &mut Steps<M>,
 )
-    requires ready { HaveTrueSkips plane.now.values first parents.old skips.old.from skips.old.to }
-    requires pair { IsLaterPair plane.now.values first (length parents.old) p q }
-    ensures ready { HaveTrueSkips plane.now.values first parents.new skips.new.from skips.new.to }
-    ensures joined { JoinSame plane.now.values first (length parents.old)
-        (IsLink first parents.new)
-        (Or (IsLink first parents.old) (Only p q)) }
-    ensures cost { moves.new ≤ moves.old + count_defined plane.now.values first (length parents.old) }
+    requires ready { HaveTrueSkips rows.now.plane.now.values rows.now.first links.old.places.now skips.old.from skips.old.to }
+    requires pair { IsLaterPair rows.now.plane.now.values rows.now.first (length links.old.places.now) p q }
+    ensures same_reference { links.new.places.ghost_name ≡ links.old.places.ghost_name }
+    ensures same_length { length links.new.places.now ≡ length links.old.places.now }
+    ensures ready { HaveTrueSkips rows.now.plane.now.values rows.now.first links.new.places.now skips.new.from skips.new.to }
+    ensures joined { JoinSame rows.now.plane.now.values rows.now.first (length links.old.places.now)
+        (IsLink rows.now.first links.new.places.now)
+        (Or (IsLink rows.now.first links.old.places.now) (Only p q)) }
+    ensures cost { moves.new ≤ moves.old + count_defined rows.now.plane.now.values rows.now.first (length links.old.places.now) }
     ensures each { moves.new + reads.old ≤ moves.old + reads.new }
-    ensures reads { reads.new ≤ reads.old + 5 * count_defined plane.now.values first (length parents.old) }
+    ensures reads { reads.new ≤ reads.old + 5 * count_defined rows.now.plane.now.values rows.now.first (length links.old.places.now) }
 {
     let mut a = p;
     let mut b = q;
-    while let Some((one, other)) = turn(parents, plane, first, skips, a, b, moves, reads) {
+    while let Some((one, other)) = turn(links, rows, skips, a, b, moves, reads) {
         a = one;
         b = other;
     }
@@ -268,29 +275,30 @@ fn join_later<L: Ledger, M: Ledger>(
 
 // Joins the pair of `p` and `q`.
 pub(crate) fn join_pair<L: Ledger, M: Ledger>(
-    parents: &mut [u32],
-    plane: &Plane,
-    first: u32,
+    links: &mut Links<'_>,
+    rows: &Rows<'_>,
     skips: &mut Skips,
     p: u32,
     q: u32,
     moves: &mut Steps<L>,
     reads: &mut Steps<M>,
 )
-    requires ready { HaveTrueSkips plane.now.values first parents.old skips.old.from skips.old.to }
-    requires p_in { IsPixel plane.now.values first (length parents.old) p }
-    requires q_in { IsPixel plane.now.values first (length parents.old) q }
-    ensures ready { HaveTrueSkips plane.now.values first parents.new skips.new.from skips.new.to }
-    ensures joined { JoinSame plane.now.values first (length parents.old)
-        (IsLink first parents.new)
-        (Or (IsLink first parents.old) (Only p q)) }
-    ensures cost { moves.new ≤ moves.old + count_defined plane.now.values first (length parents.old) }
+    requires ready { HaveTrueSkips rows.now.plane.now.values rows.now.first links.old.places.now skips.old.from skips.old.to }
+    requires p_in { IsPixel rows.now.plane.now.values rows.now.first (length links.old.places.now) p }
+    requires q_in { IsPixel rows.now.plane.now.values rows.now.first (length links.old.places.now) q }
+    ensures same_reference { links.new.places.ghost_name ≡ links.old.places.ghost_name }
+    ensures same_length { length links.new.places.now ≡ length links.old.places.now }
+    ensures ready { HaveTrueSkips rows.now.plane.now.values rows.now.first links.new.places.now skips.new.from skips.new.to }
+    ensures joined { JoinSame rows.now.plane.now.values rows.now.first (length links.old.places.now)
+        (IsLink rows.now.first links.new.places.now)
+        (Or (IsLink rows.now.first links.old.places.now) (Only p q)) }
+    ensures cost { moves.new ≤ moves.old + count_defined rows.now.plane.now.values rows.now.first (length links.old.places.now) }
     ensures each { moves.new + reads.old ≤ moves.old + reads.new }
-    ensures reads { reads.new ≤ reads.old + 5 * count_defined plane.now.values first (length parents.old) }
+    ensures reads { reads.new ≤ reads.old + 5 * count_defined rows.now.plane.now.values rows.now.first (length links.old.places.now) }
 {
-    if plane.is_earlier(p, q) {
-        join_later(parents, plane, first, skips, q, p, moves, reads);
+    if rows.plane.is_earlier(p, q) {
+        join_later(links, rows, skips, q, p, moves, reads);
     } else {
-        join_later(parents, plane, first, skips, p, q, moves, reads);
+        join_later(links, rows, skips, p, q, moves, reads);
     }
 }

@@ -11,7 +11,9 @@ returns-then-not-is_short_numeral-clause-number c =
 pub returns-in-Ok-clause-number : goal.returns-in-Ok-clause-number
 returns-in-Ok-clause-number c =
     let same = c.is_short_numeral.ensures ∙ ap is_short_numeral (c.without_minus.ensures ∙ ap without_minus c.as_bytes.ensures.value) in
-    c.within.ensures.found ∙ number_read c.args.text.now c.args.least c.args.most c.in-Ok.number (sym same ∙ c.if-not-is_short_numeral.false) c.ranges.least c.ranges.most (c.in-Ok.ensures.value.0.0.0, c.in-Ok.ensures.value.0.0.1, c.in-Ok.ensures.value.0.1)
+    c.within.ensures.found ∙ number_read c.args.text.now c.args.least c.args.most c.in-Ok.number
+    (sym same ∙ c.if-not-is_short_numeral.false) c.ranges.least c.ranges.most
+    (c.in-Ok.ensures.value.0.0.0, c.in-Ok.ensures.value.0.0.1, c.in-Ok.ensures.value.0.1)
 
 pub returns-in-Err-clause-number : goal.returns-in-Err-clause-number
 returns-in-Err-clause-number c =

@@ -14,7 +14,9 @@ loop-value-preserved c =
     let fits : SFits w64 c.number_of.result = search rules in
     let pushed : c.push.new.self.items ≡ c.loop-value.numbers.items ++ c.number_of.result ∷ [] =
     c.in_ok-push.ensures.items ∙ ap (λ z. c.loop-value.numbers.items ++ z ∷ []) (to_z-of_z w64 c.number_of.result fits) in
-    let more : _ = kept_more c.loop-value.numbers.items c.args.values.now c.loop-value.value-index c.number_of.result _ c.loop-value-test.true c.loop-value.invariant c.number_of.ensures (sym c.if-not-is_pixel_value.ensures.test) in
+    let more : _ =
+    kept_more c.loop-value.numbers.items c.args.values.now c.loop-value.value-index c.number_of.result _ c.loop-value-test.true c.loop-value.invariant
+    c.number_of.ensures (sym c.if-not-is_pixel_value.ensures.test) in
     (ap (map pixel_kept_as) pushed ∙ more.0, more.1)
 
 pub returns-clause-there : goal.returns-clause-there

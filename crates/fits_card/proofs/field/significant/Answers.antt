@@ -11,7 +11,8 @@ loop-kept-preserved c = record {
 
 pub returns-then-bytes-kept-ne32 : goal.returns-then-bytes-kept-ne32
 returns-then-bytes-kept-ne32 c =
-    sym (c.loop-kept.invariant.same ∙ no-space-at_end c.args.bytes.now c.loop-kept.kept c.loop-kept-test.true c.loop-kept.invariant.within c.if-bytes-kept-ne32.true)
+    sym (c.loop-kept.invariant.same
+    ∙ no-space-at_end c.args.bytes.now c.loop-kept.kept c.loop-kept-test.true c.loop-kept.invariant.within c.if-bytes-kept-ne32.true)
 
 pub returns : goal.returns
 returns c =

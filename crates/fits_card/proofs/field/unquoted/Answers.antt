@@ -15,14 +15,22 @@ loop-rest-init c =
 
 pub loop-rest-preserved-then-rest-ne39 : goal.loop-rest-preserved-then-rest-ne39
 loop-rest-preserved-then-rest-ne39 c = record {
-  string = plain-kept c.args.bytes.now c.loop-rest.text.items c.push.new.self.items c.loop-rest.rest.now _ c.loop-rest.invariant.string c.loop-rest-test.true c.if-rest-ne39.true c.push.ensures.items (take_rest c.loop-rest.rest.now 1);
-  room = room-kept c.loop-rest.text.items c.push.new.self.items c.loop-rest.rest.now _ _ 1 c.loop-rest.invariant.room c.loop-rest-test.true (omega arith) c.push.ensures.items (take_rest c.loop-rest.rest.now 1);
+  string =
+      plain-kept c.args.bytes.now c.loop-rest.text.items c.push.new.self.items c.loop-rest.rest.now _ c.loop-rest.invariant.string c.loop-rest-test.true
+      c.if-rest-ne39.true c.push.ensures.items (take_rest c.loop-rest.rest.now 1);
+  room =
+      room-kept c.loop-rest.text.items c.push.new.self.items c.loop-rest.rest.now _ _ 1 c.loop-rest.invariant.room c.loop-rest-test.true
+      (omega arith) c.push.ensures.items (take_rest c.loop-rest.rest.now 1);
 }
 
 pub loop-rest-preserved : goal.loop-rest-preserved
 loop-rest-preserved c = record {
-  string = doubled-kept c.args.bytes.now c.loop-rest.text.items c.push-then-rest-eq39.new.self.items c.loop-rest.rest.now _ c.loop-rest.invariant.string c.loop-rest-test.true c.if-rest-ne39.false c.if-rest-eq39.true c.push-then-rest-eq39.ensures.items (take_rest c.loop-rest.rest.now 2);
-  room = room-kept c.loop-rest.text.items c.push-then-rest-eq39.new.self.items c.loop-rest.rest.now _ _ 2 c.loop-rest.invariant.room c.loop-rest-test.true (omega arith) c.push-then-rest-eq39.ensures.items (take_rest c.loop-rest.rest.now 2);
+  string =
+      doubled-kept c.args.bytes.now c.loop-rest.text.items c.push-then-rest-eq39.new.self.items c.loop-rest.rest.now _ c.loop-rest.invariant.string
+      c.loop-rest-test.true c.if-rest-ne39.false c.if-rest-eq39.true c.push-then-rest-eq39.ensures.items (take_rest c.loop-rest.rest.now 2);
+  room =
+      room-kept c.loop-rest.text.items c.push-then-rest-eq39.new.self.items c.loop-rest.rest.now _ _ 2 c.loop-rest.invariant.room c.loop-rest-test.true
+      (omega arith) c.push-then-rest-eq39.ensures.items (take_rest c.loop-rest.rest.now 2);
 }
 
 pub returns-else-rest-eq39 : goal.returns-else-rest-eq39
@@ -36,4 +44,5 @@ returns-else-rest-eq39 c =
 
 pub returns-then-last-eq39 : goal.returns-then-last-eq39
 returns-then-last-eq39 c =
-    ends-with c.args.bytes.now c.loop-rest.text.items c.loop-rest.rest.now [] c.loop-rest.invariant.string (last-quote c.loop-rest.rest.now (omega arith) c.if-last-eq39.true)
+    ends-with c.args.bytes.now c.loop-rest.text.items c.loop-rest.rest.now [] c.loop-rest.invariant.string
+    (last-quote c.loop-rest.rest.now (omega arith) c.if-last-eq39.true)

@@ -8,7 +8,8 @@ use Rattle.fits_card.proofs.field.value_field.Goals.{else-card-eq61-via-then-car
 pub returns-then-card-eq32-clause-field : goal.returns-then-card-eq32-clause-field
 returns-then-card-eq32-clause-field c =
     let short : length (drop 10 c.args.card.now) ≤ 70 = omega (arith, length-drop 10 c.args.card.now, c.told-card) in
-    c.skip_spaces.ensures.rest ∙ ap without_leading_spaces (take_all 70 (drop 10 c.args.card.now) short) ∙ field-there c.args.card.now c.if-card-eq61.true c.if-card-eq32.true
+    c.skip_spaces.ensures.rest ∙ ap without_leading_spaces (take_all 70 (drop 10 c.args.card.now) short)
+    ∙ field-there c.args.card.now c.if-card-eq61.true c.if-card-eq32.true
 
 pub returns-else-card-eq61-clause-field : goal.returns-else-card-eq61-clause-field
 returns-else-card-eq61-clause-field c =

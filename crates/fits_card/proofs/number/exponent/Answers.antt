@@ -14,7 +14,8 @@ returns-in_default-clause-value c = exponent-none c.args.bytes.now c.in_default.
 pub returns-then-not-is_numeral-clause-value : goal.returns-then-not-is_numeral-clause-value
 returns-then-not-is_numeral-clause-value c =
     exponent-bad c.args.bytes.now c.in-len1-up.len_at_least
-    (ap (λ xs. is_numeral (unsigned xs)) (sym (take_rest c.args.bytes.now 1)) ∙ ap is_numeral (sym c.split_sign-negative.ensures.rest) ∙ sym c.is_numeral.ensures ∙ c.if-not-is_numeral.true)
+    (ap (λ xs. is_numeral (unsigned xs)) (sym (take_rest c.args.bytes.now 1)) ∙ ap is_numeral (sym c.split_sign-negative.ensures.rest)
+    ∙ sym c.is_numeral.ensures ∙ c.if-not-is_numeral.true)
 
 pub returns-clause-value : goal.returns-clause-value
 returns-clause-value c =

@@ -25,9 +25,11 @@ loop-digit-preserved c =
 pub returns-in_default : goal.returns-in_default
 returns-in_default c small =
     let so_far : c.loop-digit.sum ≡ number_of (take c.loop-digit.digit-index c.args.digits.now) = c.loop-digit.invariant.value in
-    let next : number_of (take (c.loop-digit.digit-index + 1) c.args.digits.now) ≡ number_of (take c.loop-digit.digit-index c.args.digits.now) * 10 + (get_or c.args.digits.now c.loop-digit.digit-index 0 - 48) =
+    let next : number_of (take (c.loop-digit.digit-index + 1) c.args.digits.now)
+    ≡ number_of (take c.loop-digit.digit-index c.args.digits.now) * 10 + (get_or c.args.digits.now c.loop-digit.digit-index 0 - 48) =
     digits-more c.args.digits.now c.loop-digit.digit-index c.requires c.loop-digit-test.true in
-    let front : number_of (take (c.loop-digit.digit-index + 1) c.args.digits.now) ≤ number_of c.args.digits.now = front-le c.args.digits.now (c.loop-digit.digit-index + 1) in
+    let front : number_of (take (c.loop-digit.digit-index + 1) c.args.digits.now) ≤ number_of c.args.digits.now =
+    front-le c.args.digits.now (c.loop-digit.digit-index + 1) in
     c.in_default.ensures (omega arith)
 
 pub returns : goal.returns

@@ -19,5 +19,6 @@ returns-in_default c small =
 pub returns-then-zeros-gt19 : goal.returns-then-zeros-gt19
 returns-then-zeros-gt19 c small =
     let same : c.in-Some.number ≡ number_of c.args.digits.now = c.in-Some.ensures.1 in
-    let far : 2 ^ 64 ≤ number_of c.args.digits.now * 10 ^ c.args.zeros = raised-beyond (number_of c.args.digits.now) c.args.zeros (omega arith) c.if-zeros-gt19.true in
+    let far : 2 ^ 64 ≤ number_of c.args.digits.now * 10 ^ c.args.zeros =
+    raised-beyond (number_of c.args.digits.now) c.args.zeros (omega arith) c.if-zeros-gt19.true in
     absurd (omega arith)

@@ -8,14 +8,28 @@ use Rattle.fits_card.proofs.number.real.Goals as goal
 
 pub returns-in_default : goal.returns-in_default
 returns-in_default c =
-    let pieces : Pieces c.args.bytes.now c.split_before.result.0.now c.split_before.result.1.now c.split_before-2.result.0.now c.split_before-2.result.1.now c.after_first-fraction.result.now =
-    record { mantissa_is = c.split_before.ensures.front; scale_is = c.split_before.ensures.rest; whole_is = c.split_before-2.ensures.front; rest_is = c.split_before-2.ensures.rest; fraction_is = c.after_first-fraction.ensures.rest } in
+    let pieces : Pieces c.args.bytes.now c.split_before.result.0.now c.split_before.result.1.now c.split_before-2.result.0.now c.split_before-2.result.1.now
+    c.after_first-fraction.result.now =
+    record {
+      mantissa_is = c.split_before.ensures.front;
+      scale_is = c.split_before.ensures.rest;
+      whole_is = c.split_before-2.ensures.front;
+      rest_is = c.split_before-2.ensures.rest;
+      fraction_is = c.after_first-fraction.ensures.rest;
+    } in
     real-without_exponent c.args.negative pieces c.in_default.ensures.value
 
 pub returns-then-is_numeral : goal.returns-then-is_numeral
 returns-then-is_numeral c =
-    let pieces : Pieces c.args.bytes.now c.split_before.result.0.now c.split_before.result.1.now c.split_before-2.result.0.now c.split_before-2.result.1.now c.after_first-fraction.result.now =
-    record { mantissa_is = c.split_before.ensures.front; scale_is = c.split_before.ensures.rest; whole_is = c.split_before-2.ensures.front; rest_is = c.split_before-2.ensures.rest; fraction_is = c.after_first-fraction.ensures.rest } in
+    let pieces : Pieces c.args.bytes.now c.split_before.result.0.now c.split_before.result.1.now c.split_before-2.result.0.now c.split_before-2.result.1.now
+    c.after_first-fraction.result.now =
+    record {
+      mantissa_is = c.split_before.ensures.front;
+      scale_is = c.split_before.ensures.rest;
+      whole_is = c.split_before-2.ensures.front;
+      rest_is = c.split_before-2.ensures.rest;
+      fraction_is = c.after_first-fraction.ensures.rest;
+    } in
     let short : length c.joined-digits.result.items ≤ 70 = omega (arith, ap (length {A = ℕ}) c.as_slice.ensures.value, c.as_slice.ensures.fits) in
     let near : SFits w64 c.in-Some.exponent = search rules in
     let fits : SFits w64 c.less.result = search rules in
@@ -30,7 +44,14 @@ returns-then-is_numeral c =
 
 pub returns-else-is_numeral : goal.returns-else-is_numeral
 returns-else-is_numeral c =
-    let pieces : Pieces c.args.bytes.now c.split_before.result.0.now c.split_before.result.1.now c.split_before-2.result.0.now c.split_before-2.result.1.now c.after_first-fraction.result.now =
-    record { mantissa_is = c.split_before.ensures.front; scale_is = c.split_before.ensures.rest; whole_is = c.split_before-2.ensures.front; rest_is = c.split_before-2.ensures.rest; fraction_is = c.after_first-fraction.ensures.rest } in
+    let pieces : Pieces c.args.bytes.now c.split_before.result.0.now c.split_before.result.1.now c.split_before-2.result.0.now c.split_before-2.result.1.now
+    c.after_first-fraction.result.now =
+    record {
+      mantissa_is = c.split_before.ensures.front;
+      scale_is = c.split_before.ensures.rest;
+      whole_is = c.split_before-2.ensures.front;
+      rest_is = c.split_before-2.ensures.rest;
+      fraction_is = c.after_first-fraction.ensures.rest;
+    } in
     real-without_digits c.args.negative c.joined-digits.result.items pieces c.joined-digits.ensures
     (ap is_numeral (sym c.as_slice.ensures.value) ∙ sym c.is_numeral.ensures ∙ c.if-is_numeral.false)

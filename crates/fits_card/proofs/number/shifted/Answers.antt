@@ -20,26 +20,31 @@ pub magnitude-requires : goal.magnitude-requires
 magnitude-requires c = ap all_ascii_digits c.split_at.ensures.back ∙ all_digits-drop (length c.args.digits.now - c.min-cut.result) c.args.digits.now c.requires
 
 pub magnitude-requires-2 : goal.magnitude-requires-2
-magnitude-requires-2 c = ap all_ascii_digits c.split_at.ensures.front ∙ all_digits-take (length c.args.digits.now - c.min-cut.result) c.args.digits.now c.requires
+magnitude-requires-2 c =
+    ap all_ascii_digits c.split_at.ensures.front ∙ all_digits-take (length c.args.digits.now - c.min-cut.result) c.args.digits.now c.requires
 
 pub returns-in_default : goal.returns-in_default
 returns-in_default c =
     let plain : to_z w64 (of_z w64 c.args.shift) ≡ c.args.shift = to_z-of_z w64 c.args.shift c.ranges.shift in
     shifted-no c.args.negative c.args.digits.now c.split_at.result.1.now c.args.shift c.unsigned_abs-places.result c.min-cut.result c.requires
-    (ap (int_le (pos 0)) (sym plain) ∙ c.if-shift-ge0.false) (c.unsigned_abs-places.ensures.value ∙ ap unsigned_abs plain) c.min-cut.ensures c.split_at.ensures.back
+    (ap (int_le (pos 0)) (sym plain) ∙ c.if-shift-ge0.false)
+    (c.unsigned_abs-places.ensures.value ∙ ap unsigned_abs plain) c.min-cut.ensures c.split_at.ensures.back
     (number-not_zero (number_of c.split_at.result.1.now) c.in_default.ensures)
 
 pub returns-then-cut_off-ne0 : goal.returns-then-cut_off-ne0
 returns-then-cut_off-ne0 c =
     let plain : to_z w64 (of_z w64 c.args.shift) ≡ c.args.shift = to_z-of_z w64 c.args.shift c.ranges.shift in
     shifted-no c.args.negative c.args.digits.now c.split_at.result.1.now c.args.shift c.unsigned_abs-places.result c.min-cut.result c.requires
-    (ap (int_le (pos 0)) (sym plain) ∙ c.if-shift-ge0.false) (c.unsigned_abs-places.ensures.value ∙ ap unsigned_abs plain) c.min-cut.ensures c.split_at.ensures.back
+    (ap (int_le (pos 0)) (sym plain) ∙ c.if-shift-ge0.false)
+    (c.unsigned_abs-places.ensures.value ∙ ap unsigned_abs plain) c.min-cut.ensures c.split_at.ensures.back
     (λ zero. c.if-cut_off-ne0.true (c.in-Some.ensures.1 ∙ zero))
 
 pub returns : goal.returns
 returns c =
     let plain : to_z w64 (of_z w64 c.args.shift) ≡ c.args.shift = to_z-of_z w64 c.args.shift c.ranges.shift in
     c.fitted-2.ensures (number_of c.split_at.result.0.now) c.magnitude-2.ensures
-    ∙ shifted-yes c.args.negative c.args.digits.now c.split_at.result.0.now c.split_at.result.1.now c.args.shift c.unsigned_abs-places.result c.min-cut.result c.requires
-    (ap (int_le (pos 0)) (sym plain) ∙ c.if-shift-ge0.false) (c.unsigned_abs-places.ensures.value ∙ ap unsigned_abs plain) c.min-cut.ensures c.split_at.ensures.front c.split_at.ensures.back
+    ∙ shifted-yes c.args.negative c.args.digits.now c.split_at.result.0.now c.split_at.result.1.now c.args.shift c.unsigned_abs-places.result c.min-cut.result
+    c.requires
+    (ap (int_le (pos 0)) (sym plain) ∙ c.if-shift-ge0.false)
+    (c.unsigned_abs-places.ensures.value ∙ ap unsigned_abs plain) c.min-cut.ensures c.split_at.ensures.front c.split_at.ensures.back
     (sym c.in-Some.ensures.1 ∙ c.if-cut_off-ne0.false)

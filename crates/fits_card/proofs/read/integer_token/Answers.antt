@@ -8,10 +8,12 @@ returns-then-not-is_numeral c =
 
 pub returns-in_default : goal.returns-in_default
 returns-in_default c =
-    integer-too_large c.args.token.now c.split_sign-negative.result.1.now c.split_sign-negative.result.0 c.split_sign-negative.ensures.negative c.split_sign-negative.ensures.rest
+    integer-too_large c.args.token.now c.split_sign-negative.result.1.now c.split_sign-negative.result.0 c.split_sign-negative.ensures.negative
+    c.split_sign-negative.ensures.rest
     (sym c.is_numeral.ensures ∙ c.if-not-is_numeral.false) c.in_default.ensures
 
 pub returns : goal.returns
 returns c =
-    integer-read c.args.token.now c.split_sign-negative.result.1.now c.split_sign-negative.result.0 c.in-Some.magnitude c.signed.result c.split_sign-negative.ensures.negative c.split_sign-negative.ensures.rest
+    integer-read c.args.token.now c.split_sign-negative.result.1.now c.split_sign-negative.result.0 c.in-Some.magnitude c.signed.result
+    c.split_sign-negative.ensures.negative c.split_sign-negative.ensures.rest
     (sym c.is_numeral.ensures ∙ c.if-not-is_numeral.false) c.in-Some.ensures.1 c.signed.ensures

@@ -17,11 +17,14 @@ returns-in_default-unquoted c =
 
 pub returns-then-not-is_over : goal.returns-then-not-is_over
 returns-then-not-is_over c =
-    text-not_over c.args.card.now c.value_field.result.now c.in-Some.text.items c.in-Some.rest.now c.value_field.ensures.field c.in-len1-up.len_at_least c.if-first-ne39.false
+    text-not_over c.args.card.now c.value_field.result.now c.in-Some.text.items c.in-Some.rest.now c.value_field.ensures.field c.in-len1-up.len_at_least
+    c.if-first-ne39.false
     (ap closed (sym (take_rest c.value_field.result.now 1)) ∙ sym c.in-Some.ensures) (sym c.is_over.ensures ∙ c.if-not-is_over.true)
 
 pub returns : goal.returns
 returns c =
-    ap (λ xs. Some xs) (c.truncate.ensures.items ∙ ap (take c.significant-kept.result) (sym c.as_slice.ensures.value) ∙ c.significant-kept.ensures ∙ ap without_trailing_spaces c.as_slice.ensures.value)
-    ∙ text-whole c.args.card.now c.value_field.result.now c.in-Some.text.items c.in-Some.rest.now c.value_field.ensures.field c.in-len1-up.len_at_least c.if-first-ne39.false
+    ap (λ xs. Some xs) (c.truncate.ensures.items ∙ ap (take c.significant-kept.result) (sym c.as_slice.ensures.value) ∙ c.significant-kept.ensures
+    ∙ ap without_trailing_spaces c.as_slice.ensures.value)
+    ∙ text-whole c.args.card.now c.value_field.result.now c.in-Some.text.items c.in-Some.rest.now c.value_field.ensures.field c.in-len1-up.len_at_least
+    c.if-first-ne39.false
     (ap closed (sym (take_rest c.value_field.result.now 1)) ∙ sym c.in-Some.ensures) (sym c.is_over.ensures ∙ c.if-not-is_over.false)

@@ -1,4 +1,4 @@
-use Rattle.std.proofs.Common.{◌<◌, length, arith}
+use Rattle.std.proofs.Common.{refl, ◌∙◌, ◌<◌, length, arith}
 use Rattle.comp_tree.specs.Counts.{count_defined}
 use Rattle.tree_join.specs.Moves.{furthest}
 use Rattle.tree_join.proofs.walk.join_later.Goals as goal
@@ -6,11 +6,14 @@ use Rattle.tree_join.proofs.Turns.{walk_none, walk_more, walk_ended, furthest_be
 
 pub loop-one-init : goal.loop-one-init
 loop-one-init g c =
-    let below : furthest c.args.plane.now.values c.args.first (length c.args.parents.now) c.args.p c.args.q
-    < count_defined c.args.plane.now.values c.args.first (length c.args.parents.now)
-    = furthest_below c.args.plane.now.values c.args.first c.args.parents.now c.args.p c.args.q c.requires.pair in
+    let below : furthest c.args.rows.now.plane.now.values c.args.rows.now.first (length c.args.links.now.places.now) c.args.p c.args.q
+    < count_defined c.args.rows.now.plane.now.values c.args.rows.now.first (length c.args.links.now.places.now)
+    = furthest_below c.args.rows.now.plane.now.values c.args.rows.now.first c.args.links.now.places.now c.args.p c.args.q c.requires.pair in
     record {
-      walking = walk_none c.args.plane.now.values c.args.first c.args.parents.now c.args.p c.args.q c.args.skips.now.from c.args.skips.now.to
+      same_reference = refl;
+      walking =
+          walk_none c.args.rows.now.plane.now.values c.args.rows.now.first c.args.links.now.places.now c.args.p c.args.q c.args.skips.now.from
+          c.args.skips.now.to
           c.requires.ready c.requires.pair;
       cost = omega (arith, below);
       each = omega arith;
@@ -19,9 +22,12 @@ loop-one-init g c =
 
 pub loop-one-preserved : goal.loop-one-preserved
 loop-one-preserved g c = record {
-  walking = walk_more c.args.plane.now.values c.args.first c.args.parents.now c.args.p c.args.q c.loop-one.parents c.loop-one.skips.from c.loop-one.skips.to
-      c.turn.new.parents c.loop-one.a c.loop-one.b c.loop-one.invariant.walking
-      c.turn.new.skips.from c.turn.new.skips.to (c.in-Some.one, c.in-Some.other) c.turn.auto.parents c.in-Some.ensures.moved c.in-Some.ensures.walk;
+  same_reference = c.turn.ensures.same_reference ∙ c.loop-one.invariant.same_reference;
+  walking =
+      walk_more c.args.rows.now.plane.now.values c.args.rows.now.first c.args.links.now.places.now c.args.p c.args.q c.loop-one.links.places.now
+      c.loop-one.skips.from c.loop-one.skips.to
+      c.turn.new.links.places.now c.loop-one.a c.loop-one.b c.loop-one.invariant.walking
+      c.turn.new.skips.from c.turn.new.skips.to (c.in-Some.one, c.in-Some.other) c.turn.ensures.same_length c.in-Some.ensures.moved c.in-Some.ensures.walk;
   cost = omega (arith, c.loop-one.invariant.cost, rw c.loop-one.invariant.walking.same_length at c.in-Some.ensures.cost);
   each = omega (arith, c.loop-one.invariant.each, c.turn.ensures.each);
   reads = omega (arith, c.loop-one.invariant.reads, rw c.loop-one.invariant.walking.same_length at c.in-Some.ensures.reads);
@@ -29,5 +35,6 @@ loop-one-preserved g c = record {
 
 pub returns-clause-joined : goal.returns-clause-joined
 returns-clause-joined g c =
-    walk_ended c.args.plane.now.values c.args.first c.args.parents.now c.args.p c.args.q c.loop-one.parents c.loop-one.skips.from c.loop-one.skips.to
-    c.turn.new.parents c.loop-one.a c.loop-one.b c.loop-one.invariant.walking c.in_default.ensures.moved
+    walk_ended c.args.rows.now.plane.now.values c.args.rows.now.first c.args.links.now.places.now c.args.p c.args.q c.loop-one.links.places.now
+    c.loop-one.skips.from c.loop-one.skips.to
+    c.turn.new.links.places.now c.loop-one.a c.loop-one.b c.loop-one.invariant.walking c.in_default.ensures.moved

@@ -13,18 +13,21 @@ use Rattle.tree_join.proofs.Climbing.{skip_told, skip_alone, above_late}
 pub returns-clause-up : goal.returns-clause-up
 returns-clause-up g c =
     let fits : SFits w64 c.level.result = search rules in
-    let low : ReachesLevel (unwrap_or (value_at c.args.plane.now.values c.in-Some.there) (pos 0)) (value_at c.args.plane.now.values c.args.b) → ⊥
+    let low : ReachesLevel (unwrap_or (value_at c.args.rows.now.plane.now.values c.in-Some.there) (pos 0)) (value_at c.args.rows.now.plane.now.values c.args.b)
+    → ⊥
     = λ e. true≢false
-    (sym (low_read c.args.plane.now _ (to_z w64 (of_z w64 c.level.result)) (value_at c.args.plane.now.values c.args.b)
+    (sym (low_read c.args.rows.now.plane.now _ (to_z w64 (of_z w64 c.level.result)) (value_at c.args.rows.now.plane.now.values c.args.b)
     (to_z-of_z w64 c.level.result fits ∙ c.level.ensures) e) ∙ (sym c.is_at_least.ensures ∙ c.if-is_at_least.false)) in
-    let told : IsSkip c.args.plane.now.values c.args.first (length c.args._parents.now)
-    (Or (IsLink c.args.first c.args._parents.now) (Only c.args.at c.args.b)) c.args.at c.in-Some.there
-    = skip_told c.args.plane.now.values c.args.first (length c.args._parents.now)
-    (Or (IsLink c.args.first c.args._parents.now) (Only c.args.at c.args.b)) c.args.skips.now.from c.args.skips.now.to c.args.at _
+    let told : IsSkip c.args.rows.now.plane.now.values c.args.rows.now.first (length c.args._links.now.places.now)
+    (Or (IsLink c.args.rows.now.first c.args._links.now.places.now) (Only c.args.at c.args.b)) c.args.at c.in-Some.there
+    = skip_told c.args.rows.now.plane.now.values c.args.rows.now.first (length c.args._links.now.places.now)
+    (Or (IsLink c.args.rows.now.first c.args._links.now.places.now) (Only c.args.at c.args.b)) c.args.skips.now.from c.args.skips.now.to c.args.at _
     c.requires.walk.skips (omega (arith, c.requires.walk.kept.inside, c.requires.walk.kept.small)) c.requires.walk.pair.one c.in-Some.ensures.told in
     record {
-      skip = skip_alone c.args.plane.now.values c.args.first (length c.args._parents.now)
-          (IsLink c.args.first c.args._parents.now) c.args.at c.args.b c.args.at _ low told;
+      skip = skip_alone c.args.rows.now.plane.now.values c.args.rows.now.first (length c.args._links.now.places.now)
+          (IsLink c.args.rows.now.first c.args._links.now.places.now) c.args.at c.args.b c.args.at _ low told;
       earlier = search rules;
-      late = above_late c.args.plane.now.values c.args.first (length c.args._parents.now) c.args.b c.in-Some.there c.requires.walk.pair.other told.pixel low;
+      late =
+          above_late c.args.rows.now.plane.now.values c.args.rows.now.first
+          (length c.args._links.now.places.now) c.args.b c.in-Some.there c.requires.walk.pair.other told.pixel low;
     }

@@ -7,47 +7,56 @@ use Rattle.tree_join.proofs.Turns.{turn_met, turn_moved, walk_met, walk_moved, m
 
 pub returns-then-last-b-clause-moved : goal.returns-then-last-b-clause-moved
 returns-then-last-b-clause-moved g c =
-    turn_met c.args.plane.now.values c.args.first c.args.parents.now c.climb-last.new.parents c.args.a c.args.b c.climb-last.result
-    c.climb-last.auto.parents c.climb-last.ensures.like.same c.climb-last.ensures.skip c.climb-last.ensures.walk.pair.late c.requires.walk.pair.other
+    turn_met c.args.rows.now.plane.now.values c.args.rows.now.first c.args.links.now.places.now c.climb-last.new.links.places.now c.args.a c.args.b
+    c.climb-last.result
+    c.climb-last.ensures.same_length c.climb-last.ensures.like.same c.climb-last.ensures.skip c.climb-last.ensures.walk.pair.late c.requires.walk.pair.other
     (omega (arith, c.climb-last.ensures.later, c.climb-last.ensures.cost)) c.if-last-b.true
 
 pub hang-requires-clause-order : goal.hang-requires-clause-order
 hang-requires-clause-order g c =
-    before_other (value_at c.args.plane.now.values c.climb-last.result)
-    (value_at c.args.plane.now.values c.args.b) c.climb-last.result c.args.b c.climb-last.ensures.skip.pixel.value c.requires.walk.pair.other.value
+    before_other (value_at c.args.rows.now.plane.now.values c.climb-last.result)
+    (value_at c.args.rows.now.plane.now.values c.args.b) c.climb-last.result c.args.b c.climb-last.ensures.skip.pixel.value c.requires.walk.pair.other.value
     c.if-last-b.false c.climb-last.ensures.walk.pair.late
 
 pub returns-clause-moved : goal.returns-clause-moved
-returns-clause-moved g c = turn_moved c.args.plane.now.values c.args.first c.args.parents.now c.climb-last.new.parents c.args.a c.args.b c.climb-last.result
-    c.climb-last.auto.parents c.climb-last.ensures.like.same c.climb-last.ensures.skip c.climb-last.ensures.walk.pair.late c.requires.walk.pair.other
+returns-clause-moved g c =
+    turn_moved c.args.rows.now.plane.now.values c.args.rows.now.first c.args.links.now.places.now c.climb-last.new.links.places.now c.args.a c.args.b
+    c.climb-last.result
+    c.climb-last.ensures.same_length c.climb-last.ensures.like.same c.climb-last.ensures.skip c.climb-last.ensures.walk.pair.late c.requires.walk.pair.other
     (omega (arith, c.climb-last.ensures.later, c.climb-last.ensures.cost))
-    c.hang.new.parents c.hang.result c.hang.ensures.moved
+    c.hang.new.links.places.now c.hang.result c.hang.ensures.moved
 
 pub returns-clause-cost : goal.returns-clause-cost
 returns-clause-cost g c =
-    subst (λ n. IsSpent c.args.plane.now.values c.args.first (length c.args.parents.now) c.args.a c.args.b 1 c.args.moves.now n c.hang.result)
+    subst (λ n. IsSpent c.args.rows.now.plane.now.values c.args.rows.now.first
+    (length c.args.links.now.places.now) c.args.a c.args.b 1 c.args.moves.now n c.hang.result)
     (sym c.tick.ensures)
-    (moves_moved c.args.plane.now.values c.args.first c.args.parents.now c.climb-last.new.parents c.args.a c.args.b c.climb-last.result
-    c.climb-last.auto.parents c.climb-last.ensures.like.same c.climb-last.ensures.skip c.climb-last.ensures.walk.pair.late c.requires.walk.pair.other
+    (moves_moved c.args.rows.now.plane.now.values c.args.rows.now.first c.args.links.now.places.now
+    c.climb-last.new.links.places.now c.args.a c.args.b c.climb-last.result
+    c.climb-last.ensures.same_length c.climb-last.ensures.like.same c.climb-last.ensures.skip c.climb-last.ensures.walk.pair.late c.requires.walk.pair.other
     (omega (arith, c.climb-last.ensures.later, c.climb-last.ensures.cost))
-    c.hang.new.parents c.hang.result c.args.moves.now c.climb-last.new.moves c.hang.ensures.moved c.climb-last.ensures.cost)
+    c.hang.new.links.places.now c.hang.result c.args.moves.now c.climb-last.new.moves c.hang.ensures.moved c.climb-last.ensures.cost)
 
 pub returns-clause-reads : goal.returns-clause-reads
 returns-clause-reads g c =
-    subst (λ n. IsSpent c.args.plane.now.values c.args.first (length c.args.parents.now) c.args.a c.args.b 5 c.args.reads.now n c.hang.result)
+    subst (λ n. IsSpent c.args.rows.now.plane.now.values c.args.rows.now.first
+    (length c.args.links.now.places.now) c.args.a c.args.b 5 c.args.reads.now n c.hang.result)
     (sym c.hang.ensures.read)
-    (reads_moved c.args.plane.now.values c.args.first c.args.parents.now c.climb-last.new.parents c.args.a c.args.b c.climb-last.result
-    c.climb-last.auto.parents c.climb-last.ensures.like.same c.climb-last.ensures.skip c.climb-last.ensures.walk.pair.late c.requires.walk.pair.other
+    (reads_moved c.args.rows.now.plane.now.values c.args.rows.now.first c.args.links.now.places.now
+    c.climb-last.new.links.places.now c.args.a c.args.b c.climb-last.result
+    c.climb-last.ensures.same_length c.climb-last.ensures.like.same c.climb-last.ensures.skip c.climb-last.ensures.walk.pair.late c.requires.walk.pair.other
     (omega (arith, c.climb-last.ensures.later, c.climb-last.ensures.cost))
-    c.hang.new.parents c.hang.result c.args.reads.now c.climb-last.new.reads c.hang.ensures.moved c.climb-last.ensures.reads)
+    c.hang.new.links.places.now c.hang.result c.args.reads.now c.climb-last.new.reads c.hang.ensures.moved c.climb-last.ensures.reads)
 
 pub returns-clause-walk : goal.returns-clause-walk
 returns-clause-walk g c =
-    walk_moved c.args.plane.now.values c.args.first c.climb-last.new.parents c.hang.new.parents c.climb-last.new.skips.from c.climb-last.new.skips.to
+    walk_moved c.args.rows.now.plane.now.values c.args.rows.now.first c.climb-last.new.links.places.now c.hang.new.links.places.now c.climb-last.new.skips.from
+    c.climb-last.new.skips.to
     c.climb-last.result c.args.b
-    c.hang.auto.parents c.climb-last.ensures.walk c.hang.ensures.forest c.hang.result c.hang.ensures.moved c.hang.ensures.pair
+    c.hang.ensures.same_length c.climb-last.ensures.walk c.hang.ensures.forest c.hang.result c.hang.ensures.moved c.hang.ensures.pair
 
 pub returns-then-last-b-clause-walk : goal.returns-then-last-b-clause-walk
 returns-then-last-b-clause-walk g c =
-    walk_met c.args.plane.now.values c.args.first c.climb-last.new.parents c.climb-last.new.skips.from c.climb-last.new.skips.to c.climb-last.result c.args.b
+    walk_met c.args.rows.now.plane.now.values c.args.rows.now.first c.climb-last.new.links.places.now c.climb-last.new.skips.from c.climb-last.new.skips.to
+    c.climb-last.result c.args.b
     c.if-last-b.true c.climb-last.ensures.walk
