@@ -17,7 +17,8 @@ use Rattle.detect_top.specs.Lines.{tree_lines, node_list}
 use Rattle.detect_top.specs.Products.{output_of, image_made}
 use Rattle.detect_top.specs.Streams.{ImageRead, memory_at_verdict, stop_of, TakesOneOf}
 use Rattle.detect_top.specs.Answers.{end_status, note_of, end_of}
-use Rattle.detect_top.specs.Headline.{Answer, Asked, output_on, answer_to_verdict, asked_for, asked_by, Tells, Took, TookOneOf, InputUse, OutputUse, IsUnused, Follows, IsRunOf}
+use Rattle.detect_top.specs.Headline.{Answer, Asked, output_on, answer_to_verdict, asked_for, asked_by, Tells}
+use Rattle.detect_top.specs.Headline.{Took, TookOneOf, InputUse, OutputUse, IsUnused, Follows, IsRunOf}
 use Rattle.detect_top.specs.RunEnds.{AllRead, GivesAnswer, CutsAnswer, EndsBy, EndBytes, EndCause}
 
 -- ---- what is taken of the bytes that are told

@@ -190,15 +190,7 @@ fn values_stand_in_the_earlier_hdu(rt: HostRuntime) -> Result<(), Fail> {
 // The pixels below the parent's level are left out of the tree that the values are measured over.
 #[test]
 fn a_parent_lies_below_the_threshold(rt: HostRuntime) -> Result<(), Fail> {
-    let words = [
-        "measure",
-        "--hdu",
-        "1",
-        "--values",
-        "0",
-        "--threshold",
-        "2",
-    ];
+    let words = ["measure", "--hdu", "1", "--values", "0", "--threshold", "2"];
     let map = b"\0\0\0\0\0\0\0\0\0\0\0\0\0\0\0\x01\0\0\0\0";
     try_rows(
         &rt,

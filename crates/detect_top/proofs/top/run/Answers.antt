@@ -2,4 +2,6 @@ use Rattle.detect_top.proofs.Ends.{run_of_end}
 use Rattle.detect_top.proofs.top.run.Goals as goal
 
 pub returns : goal.returns
-returns g c = rw c.status.ensures (run_of_end _ _ _ _ c.work-end.result c.work-end.ensures.bytes c.work-end.ensures.cause c.work-end.ensures.untouched c.tell.ensures)
+returns g c =
+    let end = c.work-end in
+    rw c.status.ensures (run_of_end _ _ _ _ end.result end.ensures.bytes end.ensures.cause end.ensures.untouched c.tell.ensures)
