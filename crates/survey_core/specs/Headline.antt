@@ -67,14 +67,14 @@ pub record SinkSeen : Type 0 where
   pub settled : Bool
   pub faults : ℕ
 
-abbrev pub source_seen : {S : Type 0} → (S → Option (List ℕ)) → (S → Bool) → (S → ℕ) → S → SourceSeen
-source_seen left ended faults s = record { left = left s; ended = ended s; faults = faults s }
+abbrev pub seen_of_source : {S : Type 0} → (S → Option (List ℕ)) → (S → Bool) → (S → ℕ) → S → SourceSeen
+seen_of_source left ended faults s = record { left = left s; ended = ended s; faults = faults s }
 
-abbrev pub keeper_seen : {K : Type 0} → (K → Option (List Table)) → (K → ℕ) → K → KeeperSeen
-keeper_seen tables faults k = record { tables = tables k; faults = faults k }
+abbrev pub seen_of_keeper : {K : Type 0} → (K → Option (List Table)) → (K → ℕ) → K → KeeperSeen
+seen_of_keeper tables faults k = record { tables = tables k; faults = faults k }
 
-abbrev pub sink_seen : {O : Type 0} → (O → Option (List ℕ)) → (O → Bool) → (O → ℕ) → O → SinkSeen
-sink_seen written settled faults o = record { written = written o; settled = settled o; faults = faults o }
+abbrev pub seen_of_sink : {O : Type 0} → (O → Option (List ℕ)) → (O → Bool) → (O → ℕ) → O → SinkSeen
+seen_of_sink written settled faults o = record { written = written o; settled = settled o; faults = faults o }
 
 -- ---- the session
 

@@ -8,7 +8,7 @@ ghost use Rattle.survey_core.specs.Steps.{Cause};
 ghost use Rattle.survey_core.specs.Carrying.{Step, SettledBy, HasCount};
 ghost use Rattle.survey_core.specs.Answers.{session_status};
 ghost use Rattle.survey_core.specs.Ends.{EndTells, SessionEndCause};
-ghost use Rattle.survey_core.specs.Headline.{IsSurveyRunOf, source_seen, keeper_seen, sink_seen};
+ghost use Rattle.survey_core.specs.Headline.{IsSurveyRunOf, seen_of_source, seen_of_keeper, seen_of_sink};
 
 use crate::catalogue::read_catalogue;
 use crate::fault::{Fault, Stop};
@@ -154,10 +154,10 @@ fn work<S: Source, K: Keeper, O: Sink>(
     ensures cause { SessionEndCause (commands_of (texts words.now)) (O.settled output.new) (S.faults input.old) (S.faults input.new)
         (O.faults output.old) (O.faults output.new) (K.faults keeper.old) (K.faults keeper.new) result }
     ensures input_stays { IsErr (commands_of (texts words.now)) →
-        source_seen S.left S.ended S.faults input.new ≡ source_seen S.left S.ended S.faults input.old }
-    ensures keeper_stays { IsErr (commands_of (texts words.now)) → keeper_seen K.tables K.faults keeper.new ≡ keeper_seen K.tables K.faults keeper.old }
+        seen_of_source S.left S.ended S.faults input.new ≡ seen_of_source S.left S.ended S.faults input.old }
+    ensures keeper_stays { IsErr (commands_of (texts words.now)) → seen_of_keeper K.tables K.faults keeper.new ≡ seen_of_keeper K.tables K.faults keeper.old }
     ensures output_stays { IsErr (commands_of (texts words.now)) →
-        sink_seen O.written O.settled O.faults output.new ≡ sink_seen O.written O.settled O.faults output.old }
+        seen_of_sink O.written O.settled O.faults output.new ≡ seen_of_sink O.written O.settled O.faults output.old }
     ensures read_later { S.faults input.old ≤ S.faults input.new }
     ensures write_later { O.faults output.old ≤ O.faults output.new }
     ensures keep_later { K.faults keeper.old ≤ K.faults keeper.new }
@@ -184,14 +184,14 @@ pub fn run_survey<S: Source, K: Keeper, O: Sink, N: Sink>(
     notes: &mut N,
 ) -> u8
     ensures { IsSurveyRunOf (texts words.now) result
-        (source_seen S.left S.ended S.faults input.old)
-        (source_seen S.left S.ended S.faults input.new)
-        (keeper_seen K.tables K.faults keeper.old)
-        (keeper_seen K.tables K.faults keeper.new)
-        (sink_seen O.written O.settled O.faults output.old)
-        (sink_seen O.written O.settled O.faults output.new)
-        (sink_seen N.written N.settled N.faults notes.old)
-        (sink_seen N.written N.settled N.faults notes.new) }
+        (seen_of_source S.left S.ended S.faults input.old)
+        (seen_of_source S.left S.ended S.faults input.new)
+        (seen_of_keeper K.tables K.faults keeper.old)
+        (seen_of_keeper K.tables K.faults keeper.new)
+        (seen_of_sink O.written O.settled O.faults output.old)
+        (seen_of_sink O.written O.settled O.faults output.new)
+        (seen_of_sink N.written N.settled N.faults notes.old)
+        (seen_of_sink N.written N.settled N.faults notes.new) }
 {
     let end = work(alloc, words, input, keeper, output);
     tell(notes, end);
