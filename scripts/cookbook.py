@@ -34,14 +34,21 @@ def wanted(code):
     return first.split(":", 1)[1].split() if first.startswith("# wants:") else []
 
 
+def survey_program(program):
+    """Beside the program, or where the repository has it."""
+    places = [pathlib.Path(program).with_name("maxsurvey"), TOP / "crates" / "maxsurvey" / "out" / "maxsurvey"]
+    return next((it for it in places if it.exists()), places[1])
+
+
 def surroundings(folder, program):
-    """The environment of the blocks: `maxcat` on the PATH, and the package for Python."""
+    """The environment of the blocks: `maxcat` and `maxsurvey` on the PATH, and the package for Python."""
     tools = folder / "tools"
     tools.mkdir()
     command = tools / "maxcat"
     command.write_text(f'#!/bin/sh\nexec "{sys.executable}" -m maxdetect.cli "$@"\n')
     command.chmod(0o755)
     (tools / "python3").symlink_to(sys.executable)
+    (tools / "maxsurvey").symlink_to(survey_program(program))
     paths = {"PATH": f"{tools}:{os.environ['PATH']}", "PYTHONPATH": os.fspath(TOP / "python")}
     return {**os.environ, **paths, "MAXDETECT": program, "MAXDETECT_HOME": os.fspath(TOP)}
 
@@ -50,11 +57,8 @@ def furnished(folder, program):
     """A folder in which a block finds what stands at the top of the repository under the same names."""
     kitchen = folder / "kitchen"
     kitchen.mkdir()
-    survey = [pathlib.Path(program).with_name("maxsurvey"), TOP / "crates" / "maxsurvey" / "out" / "maxsurvey"]
     links = {"examples": TOP / "examples", "python": TOP / "python", "maxcat": folder / "tools" / "maxcat"}
-    links.update(
-        {"maxdetect": pathlib.Path(program), "maxsurvey": next((it for it in survey if it.exists()), survey[1])}
-    )
+    links.update({"maxdetect": pathlib.Path(program), "maxsurvey": survey_program(program)})
     for name, place in links.items():
         (kitchen / name).symlink_to(place)
     return kitchen

@@ -14,7 +14,8 @@ use Rattle.comp_tree.specs.Limits.{IsWithinRange}
 use Rattle.comp_tree.specs.Raster.{Raster, IsPlane, HasValuesInRange, is_defined, level, value_at}
 use Rattle.node_sums.specs.Sums.{total, highest}
 use Rattle.node_sums.specs.Sizes.{IsUpTo}
-use Rattle.node_sums.proofs.Exported.{total-up_to, value_in_range, length-filter-le, level-of, fits}
+use Rattle.node_sums.proofs.Exported.{total-up_to, value_in_range, length-filter-le, fits}
+use Rattle.comp_tree.proofs.Exported.{level-value}
 use Rattle.dual_measure.specs.declared.values.Measure.{Measure}
 use Rattle.dual_measure.specs.Measures.{measure_over, seen_of, missing_of, least_or_zero, greatest_or_zero, IsSumOf, HasMeasureSizes}
 use Rattle.dual_measure.specs.Adding.{blank_measure, measure_at, combined, measured_so_far, settled_measure}
@@ -137,7 +138,7 @@ so_far_is values (p ∷ ps) = so_far-cons values p ps ∙ ap (combined (pixel_me
         rw e (same_measure _ _ (omega arith) (omega arith) (zero_plus (total (level values) (seen_of values ps)))
         (no_less _ (lowest_below (level values) (seen_of values ps))) (no_more _ (highest_above (level values) (seen_of values ps))))
     by (Some v) e =
-        let is : level values p ≡ v = level-of values p v e in
+        let is : level values p ≡ v = level-value values p v e in
         rw e (same_measure _ _ (omega arith) (omega arith) (ap (λ (z : ℤ). z +ℤ total (level values) (seen_of values ps)) (sym is))
         (ap (λ (z : ℤ). int_min z (lowest_value (level values) (seen_of values ps))) (sym is))
         (ap (λ (z : ℤ). int_max z (highest (level values) (seen_of values ps))) (sym is)))

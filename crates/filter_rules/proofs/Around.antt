@@ -27,11 +27,6 @@ ancestor_listed rows m _ (above k n e l rest) = ancestor_listed rows m k rest
 
 -- ---- the nodes around a pixel
 
-pub node_of_top : (r : Raster) (connect : Connect) (n : ℕ) → n < length (nodes r connect) → node_of r connect (top_of r connect n) ≡ n
-node_of_top r connect n h =
-    Nodes.node-unique r connect (top_of r connect n) n (top-defined r connect n h)
-    (record { below = h; it_is = sym (Nodes.is_representative-parts r connect (top_of r connect n) (top-representative r connect n h)).1 })
-
 pub above_from_in : (r : Raster) (connect : Connect) (m p : ℕ) → IsPlane r → m < length (nodes r connect) → is_in_node r connect m p ≡ true
     → IsAbove (tree_of r connect).rows m (node_of r connect p)
 above_from_in r connect m p plane hm h = go ((pixels_belong_to_their_ancestors r connect m p plane hm (in_node-defined r connect m p h)).0 h)
@@ -53,7 +48,7 @@ in_from_above r connect m p plane hm d a = (pixels_belong_to_their_ancestors r c
 pub above_from_within : (r : Raster) (connect : Connect) (n m : ℕ) → IsPlane r → n < length (nodes r connect) → m < length (nodes r connect)
     → lies_within r connect n m ≡ true → IsAbove (tree_of r connect).rows m n
 above_from_within r connect n m plane hn hm h =
-    subst (λ (k : ℕ). IsAbove (tree_of r connect).rows m k) (node_of_top r connect n hn)
+    subst (λ (k : ℕ). IsAbove (tree_of r connect).rows m k) (Nodes.node_of_top r connect n hn)
     (above_from_in r connect m (top_of r connect n) plane hm (within_from_test r connect n m h (top_of r connect n) (top_inside r connect n hn)))
 
 pub within_from_above : (r : Raster) (connect : Connect) (n m : ℕ) → IsPlane r → n < length (nodes r connect) → m < length (nodes r connect)

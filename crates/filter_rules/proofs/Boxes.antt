@@ -1,5 +1,5 @@
 -- What is known of the sums and the rows of a tree.
-use Rattle.std.proofs.Common.{◌≡◌, ℕ, ◌<◌, ◌≤◌, Bool, true, false, List, [], ◌∷◌, length, refl, sym, ◌∙◌, ap, subst, arith, inl, inr, get_or}
+use Rattle.std.proofs.Common.{◌≡◌, ℕ, ◌<◌, ◌≤◌, Bool, true, false, List, [], ◌∷◌, length, refl, sym, ◌∙◌, ap, subst, arith, get_or}
 use Rattle.std.specs.Prelude.{filter, ℤ, ◌≤ℤ◌, ◌<ℤ◌}
 use Rattle.std.proofs.lemmas.Int.{ints}
 use Rattle.std.proofs.lemmas.List.FromFn.{get_or-map-range_with_len}
@@ -12,31 +12,15 @@ use Rattle.comp_tree.specs.Components.{nodes, is_in_node, tree_of}
 use Rattle.comp_tree.specs.Laws.{top_of}
 use Rattle.comp_tree.proofs.Exported.{below_from_defined, length-rows, parent-of_node, parent-candidate, in_node-defined, among_pixels, top_inside}
 use Rattle.node_sums.specs.declared.entry.Sums.{Sums}
-use Rattle.node_sums.specs.Sums.{AreTheTrees, sums_of, sums_in, sums_over, x_of, y_of, least, greatest}
+use Rattle.node_sums.specs.Sums.{AreTheTrees, sums_of, sums_in, sums_over, x_of, y_of}
 use Rattle.comp_tree.specs.Nesting.{pixels_of, level_in}
 use Rattle.node_sums.proofs.Exported.{few-pixels_of, goes_down, level-of_node, level_up_to, x_small, y_small}
+use Rattle.node_sums.proofs.Exported.{least_at_most, greatest_at_least, greatest_up_to}
 use Rattle.node_sums.specs.Flux.{flux_of}
 use Rattle.node_sums.specs.Sizes.{IsUpTo, value_bound}
 use Rattle.filter_rules.specs.declared.rule.Criterion.{Criterion}
 use Rattle.filter_rules.specs.Criteria.{admits, satisfies}
 use Rattle.filter_rules.specs.Passes.{HasRisingLevels, HasBox}
-
-least_at_most : (f : ℕ → ℕ) (ps : List ℕ) (p : ℕ) → IsAmong p ps → least f ps ≤ f p
-least_at_most f [] p m = absurd m
-least_at_most f (q ∷ ps) p (inl e) = let g : f q ≡ f p = ap f e in omega arith
-least_at_most f (q ∷ ps) p (inr m) = let g : least f ps ≤ f p = least_at_most f ps p m in omega arith
-
-greatest_at_least : (f : ℕ → ℕ) (ps : List ℕ) (p : ℕ) → IsAmong p ps → f p ≤ greatest f ps
-greatest_at_least f [] p m = absurd m
-greatest_at_least f (q ∷ ps) p (inl e) = let g : f q ≡ f p = ap f e in omega arith
-greatest_at_least f (q ∷ ps) p (inr m) = let g : f p ≤ greatest f ps = greatest_at_least f ps p m in omega arith
-
-greatest_up_to : (f : ℕ → ℕ) (k : ℕ) (ps : List ℕ) → ((p : ℕ) → IsAmong p ps → f p ≤ k) → greatest f ps ≤ k
-greatest_up_to f k [] h = omega arith
-greatest_up_to f k (q ∷ ps) h =
-    let a : f q ≤ k = h q (inl refl) in
-    let b : greatest f ps ≤ k = greatest_up_to f k ps (λ p m. h p (inr m)) in
-    omega arith
 
 pixel_below : (r : Raster) (connect : Connect) (n p : ℕ) → IsAmong p (pixels_of r connect n) → p < length r.values
 unfolding pixels_of

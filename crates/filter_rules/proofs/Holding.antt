@@ -18,7 +18,8 @@ use Rattle.filter_rules.specs.declared.rule.Criterion.{Criterion}
 use Rattle.filter_rules.specs.Filtered.{is_kept, holders, smallest, value_from, filtered_value}
 use Rattle.comp_tree.specs.Nesting.{node_numbers, lies_within}
 use Rattle.filter_rules.proofs.Lists.{total_split, total_one}
-use Rattle.filter_rules.proofs.Around.{IsAbove, above_from_in, in_from_above, above_from_within, within_from_above, above_both, node_of_top}
+use Rattle.filter_rules.proofs.Around.{IsAbove, above_from_in, in_from_above, above_from_within, within_from_above, above_both}
+use Rattle.comp_tree.proofs.Exported.{node_of_top}
 
 -- node m is kept and holds p
 abbrev holds : Raster → Connect → Rule → Criterion → ℕ → ℕ → Bool

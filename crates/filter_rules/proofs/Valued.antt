@@ -21,7 +21,7 @@ use Rattle.filter_rules.specs.declared.rule.Criterion.{Criterion}
 use Rattle.filter_rules.specs.Filtered.{satisfies_rule, is_kept, holders, smallest, level_of_smallest, rise_in, value_from, filtered_value}
 use Rattle.filter_rules.specs.Laws.{IsSmallestHolder, EachPixelHasASmallestHolder}
 use Rattle.filter_rules.specs.Passes.{flag, value_in, value_of_kept, value_of_node, AreValues}
-use Rattle.filter_rules.proofs.Around.{node_of_top}
+use Rattle.comp_tree.proofs.Exported.{node_of_top}
 use Rattle.filter_rules.proofs.Holding.{IsChild, holders_of_dropped, smallest_of_kept, rises_of_root, rises_of_kept, same_value, same_holders, IsHolder}
 use Rattle.filter_rules.proofs.Holding.{holder_is}
 

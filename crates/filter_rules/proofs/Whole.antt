@@ -13,6 +13,7 @@ use Rattle.filter_rules.specs.declared.rule.Criterion.{Criterion}
 use Rattle.filter_rules.specs.Filtered.{satisfies_rule, filtered_value, filtered}
 use Rattle.filter_rules.specs.Passes.{flag, AreValues, filled_pixel}
 use Rattle.filter_rules.proofs.Valued.{value_of_pixel}
+use Rattle.comp_tree.proofs.Exported.{raster_is}
 use Rattle.node_sums.proofs.Exported.{numbers-are}
 
 -- what two clauses say of a result
@@ -24,14 +25,11 @@ map_twice : {X Y : Type 0} (f : ℕ → Y) (g : X → ℕ) (h : X → Y) (xs : L
 map_twice f g h [] e = refl
 map_twice f g h (x ∷ xs) e = ap (λ (y : _). y ∷ map f (map g xs)) (e x) ∙ ap (λ (ys : List _). h x ∷ ys) (map_twice f g h xs e)
 
-same_raster : (a b : Raster) → a.shape ≡ b.shape → a.values ≡ b.values → a ≡ b
-same_raster a b e f = λ i. record { shape = e i; values = f i }
-
 filtered-is : (r : Raster) (connect : Connect) (rule : Rule) (criterion : Criterion) (left : Raster) → left.shape ≡ r.shape
     → left.values ≡ map (λ p. cond (is_defined r p) (Some (filtered_value r connect rule criterion p)) None) (pixels r)
     → left ≡ filtered r connect rule criterion
 unfolding filtered
-filtered-is r connect rule criterion left e f = same_raster left (filtered r connect rule criterion) e f
+filtered-is r connect rule criterion left e f = raster_is left (filtered r connect rule criterion) e f
 
 -- the plane, and what the passes have made of it
 pub record IsMade (r left : Raster) (connect : Connect) (tree : ComponentTree) (rule : Rule) (criterion : Criterion) (kept : List Bool)

@@ -1,14 +1,15 @@
 -- The levels between the numbers of four cells.
-use Rattle.std.proofs.Common.{◌≡◌, ℕ, ◌+◌, ◌*◌, ◌/◌, ◌%◌, ◌<◌, ◌≤◌, ◌^◌, List, length, sym, subst, arith, ◌⊎◌, inl, inr}
-use Rattle.std.specs.Prelude.{ℤ, pos, neg_ℤ, ◌*ℤ◌, ◌≤ℤ◌, All}
+use Rattle.std.proofs.Common.{◌≡◌, ℕ, ◌+◌, ◌-◌, ◌*◌, ◌/◌, ◌%◌, ◌<◌, ◌≤◌, ◌^◌, List, length, sym, ap, ◌∙◌, subst, arith, ◌⊎◌, inl, inr}
+use Rattle.std.specs.Prelude.{ℤ, pos, neg_ℤ, ◌+ℤ◌, ◌*ℤ◌, ◌≤ℤ◌, All}
 use Rattle.std.specs.Int.{int_div_euclid}
 use Rattle.std.proofs.lemmas.Bool.{cases_lt}
 use Rattle.std.proofs.lemmas.Int.{ints}
 use Rattle.std.proofs.lemmas.List.{get_or_past}
 use Rattle.std.proofs.lemmas.Nat.{div-add-mod', mod_below, mul-le, mul-add-lt}
-use Rattle.lemmas.proofs.Exported.{floor-from, floor-is, floor-up_to, times-times}
+use native.Mathlib.Nat.{mul-add, add-mul}
+use Rattle.lemmas.proofs.Exported.{floor-from, floor-is, floor-up_to, times-sum, times-times}
 use Rattle.comp_tree.specs.Limits.{IsInHalfRange}
-use Rattle.mesh_background.specs.Laws.{PixelsLieBetweenCentres, LevelsStayBetween}
+use Rattle.mesh_background.specs.Laws.{PixelsLieBetweenCentres, LevelIsWeighed, WeightsComeToAll, LevelsStayBetween}
 use Rattle.mesh_background.specs.Lessened.{IsHalfRangeTimes}
 use Rattle.mesh_background.specs.Smoothing.{number_in_grid}
 use Rattle.mesh_background.specs.Interpolation.{pixel_centre, next_cell, past_centre, cell_before, cell_after, part_way, down_column, interpolated}
@@ -29,6 +30,37 @@ between_centres mesh x some =
 
 pub past-below : (mesh x : ℕ) → 0 < mesh → past_centre mesh x < 2 * mesh
 past-below mesh x some = (between_centres mesh x some).1
+
+-- ---- four weights
+
+spread : (k m n : ℕ) (a c : ℤ) → pos k *ℤ (pos m *ℤ a +ℤ pos n *ℤ c) ≡ pos (k * m) *ℤ a +ℤ pos (k * n) *ℤ c
+spread k m n a c =
+    times-sum k (pos m *ℤ a) (pos n *ℤ c) ∙ ap (λ (z : ℤ). z +ℤ pos k *ℤ (pos n *ℤ c)) (sym (times-times k m a))
+    ∙ ap (λ (z : ℤ). pos (k * m) *ℤ a +ℤ z) (sym (times-times k n c))
+
+spread_twice : (k l m n : ℕ) (a b c d : ℤ) → pos k *ℤ (pos m *ℤ a +ℤ pos n *ℤ c) +ℤ pos l *ℤ (pos m *ℤ b +ℤ pos n *ℤ d)
+    ≡ (pos (k * m) *ℤ a +ℤ pos (k * n) *ℤ c) +ℤ (pos (l * m) *ℤ b +ℤ pos (l * n) *ℤ d)
+spread_twice k l m n a b c d =
+    ap (λ (z : ℤ). z +ℤ pos l *ℤ (pos m *ℤ b +ℤ pos n *ℤ d)) (spread k m n a c)
+    ∙ ap (λ (z : ℤ). (pos (k * m) *ℤ a +ℤ pos (k * n) *ℤ c) +ℤ z) (spread l m n b d)
+
+pub level_is_weighed : LevelIsWeighed
+unfolding interpolated part_way
+level_is_weighed values columns rows mesh x y =
+    ap (λ (z : ℤ). int_div_euclid z (pos (2 * mesh * (2 * mesh))))
+    (spread_twice (2 * mesh - past_centre mesh x) (past_centre mesh x) (2 * mesh - past_centre mesh y) (past_centre mesh y) _ _ _ _)
+
+sides_come_to_square : (k l m n w : ℕ) → k + l ≡ w → m + n ≡ w → (k * m + k * n) + (l * m + l * n) ≡ w * w
+sides_come_to_square k l m n w across down =
+    ap (λ i. i + (l * m + l * n)) (sym (mul-add k m n)) ∙ ap (λ i. k * (m + n) + i) (sym (mul-add l m n)) ∙ sym (add-mul k l (m + n))
+    ∙ ap (λ i. i * (m + n)) across ∙ ap (λ i. w * i) down
+
+pub weights_come_to_all : WeightsComeToAll
+weights_come_to_all mesh x y some =
+    let across : past_centre mesh x < 2 * mesh = past-below mesh x some in
+    let down : past_centre mesh y < 2 * mesh = past-below mesh y some in
+    sides_come_to_square (2 * mesh - past_centre mesh x) (past_centre mesh x) (2 * mesh - past_centre mesh y) (past_centre mesh y) (2 * mesh)
+    (omega (arith, across)) (omega (arith, down))
 
 -- ---- part of the way
 

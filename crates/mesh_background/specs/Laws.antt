@@ -1,9 +1,11 @@
 -- Model: the laws of the lower median, of the cells, of the interpolation and of the residual.
-use Rattle.std.specs.Prelude.{◌≡◌, ◌↔◌, ℕ, ◌+◌, ◌*◌, ◌/◌, ◌%◌, ◌<◌, Bool, ℤ, ◌≤ℤ◌, List, length, Some, IsSome, All}
+use Rattle.std.specs.Prelude.{◌≡◌, ◌↔◌, ℕ, ◌+◌, ◌-◌, ◌*◌, ◌/◌, ◌%◌, ◌<◌, Bool, ℤ, pos, ◌≤ℤ◌, ◌+ℤ◌, ◌*ℤ◌, List, length, Some, IsSome, All}
+use Rattle.std.specs.Int.{int_div_euclid}
 use Rattle.comp_tree.specs.Raster.{Raster, IsPlane, HasValuesInRange, HasValuesInHalfRange}
 use Rattle.mesh_background.specs.Medians.{IsLowerMedian, lower_median}
 use Rattle.mesh_background.specs.Mesh.{mesh_cell_of}
-use Rattle.mesh_background.specs.Interpolation.{pixel_centre, cell_centre, next_cell, past_centre, interpolated}
+use Rattle.mesh_background.specs.Interpolation.{pixel_centre, cell_centre, next_cell, past_centre, cell_before, cell_after, interpolated}
+use Rattle.mesh_background.specs.Smoothing.{number_in_grid}
 use Rattle.mesh_background.specs.Residuals.{residual_of}
 
 -- the lower median of a list is the one number that is so by the counts
@@ -23,6 +25,41 @@ CellsAreSquares = (mesh width p q : ℕ) → 0 < mesh → 0 < width
 abbrev pub PixelsLieBetweenCentres : Type 0
 PixelsLieBetweenCentres = (mesh x : ℕ) → 0 < mesh
     → (cell_centre mesh (next_cell mesh x) + past_centre mesh x ≡ pixel_centre x + 2 * mesh) × (past_centre mesh x < 2 * mesh)
+
+-- the weights of the four cells around a pixel that lies t of `whole` parts across and u of `whole` parts down from the first one's centre:
+-- of the first, of the one below it, of the one beside it, and of the last
+abbrev pub weight_first : ℕ → ℕ → ℕ → ℕ
+weight_first whole t u = (whole - t) * (whole - u)
+
+abbrev pub weight_below : ℕ → ℕ → ℕ → ℕ
+weight_below whole t u = (whole - t) * u
+
+abbrev pub weight_beside : ℕ → ℕ → ℕ → ℕ
+weight_beside whole t u = t * (whole - u)
+
+abbrev pub weight_last : ℕ → ℕ → ℕ → ℕ
+weight_last whole t u = t * u
+
+-- the numbers of these four cells in column i or j and in row k or l, each times its weight
+abbrev pub weighed : ℕ → ℕ → ℕ → List ℤ → ℕ → ℕ → ℕ → ℕ → ℕ → ℤ
+weighed whole t u values columns i j k l =
+    (pos (weight_first whole t u) *ℤ number_in_grid values columns i k +ℤ pos (weight_below whole t u) *ℤ number_in_grid values columns i l)
+    +ℤ (pos (weight_beside whole t u) *ℤ number_in_grid values columns j k +ℤ pos (weight_last whole t u) *ℤ number_in_grid values columns j l)
+
+-- a level is the sum of the four numbers around it, each times its weight, over the square of the centres' distance, rounded down
+abbrev pub LevelIsWeighed : Type 0
+LevelIsWeighed = (values : List ℤ) (columns rows mesh x y : ℕ) → interpolated values columns rows mesh x y
+    ≡ int_div_euclid
+    (weighed (2 * mesh) (past_centre mesh x) (past_centre mesh y) values columns (cell_before columns mesh x) (cell_after columns mesh x)
+    (cell_before rows mesh y) (cell_after rows mesh y))
+    (pos (2 * mesh * (2 * mesh)))
+
+-- and the four weights come to this square
+abbrev pub WeightsComeToAll : Type 0
+WeightsComeToAll = (mesh x y : ℕ) → 0 < mesh
+    → (weight_first (2 * mesh) (past_centre mesh x) (past_centre mesh y) + weight_below (2 * mesh) (past_centre mesh x) (past_centre mesh y))
+    + (weight_beside (2 * mesh) (past_centre mesh x) (past_centre mesh y) + weight_last (2 * mesh) (past_centre mesh x) (past_centre mesh y))
+    ≡ 2 * mesh * (2 * mesh)
 
 -- where each number of a grid is from low to high, so is each level between them
 abbrev pub LevelsStayBetween : Type 0

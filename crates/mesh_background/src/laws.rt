@@ -2,7 +2,7 @@
 //! function that does nothing, and speaks of the definitions alone.
 
 ghost use Rattle.mesh_background.specs.Windows.{BackgroundIsSeen, ResidualIsSeen, ResidualIsShown, ClearIsToldFromTheWindow};
-ghost use Rattle.mesh_background.specs.Laws.{LowerMedianIsTheOne, SomeMemberIsLowerMedian, CellsAreSquares, PixelsLieBetweenCentres, LevelsStayBetween, NoMeshLeavesThePlane, ResidualIsPlane, ResidualIsInRange};
+ghost use Rattle.mesh_background.specs.Laws.{LowerMedianIsTheOne, SomeMemberIsLowerMedian, CellsAreSquares, PixelsLieBetweenCentres, LevelIsWeighed, WeightsComeToAll, LevelsStayBetween, NoMeshLeavesThePlane, ResidualIsPlane, ResidualIsInRange};
 
 /// A list that isn't empty has exactly one lower median.
 pub fn each_list_has_one_lower_median()
@@ -20,6 +20,13 @@ pub fn cells_are_squares()
 /// A pixel's centre lies from the centre of one cell up to that of the next one, however far the grid goes.
 pub fn pixels_lie_between_centres()
     ensures { PixelsLieBetweenCentres }
+{}
+
+/// A level is the weighted mean of the numbers of the four cells around its pixel, rounded down: each number counts by
+/// the product of the pixel's distances, across and down, from the centre of the cell on the other side.
+pub fn level_is_a_weighted_mean()
+    ensures quotient { LevelIsWeighed }
+    ensures weights { WeightsComeToAll }
 {}
 
 /// A level lies between the least and the greatest number of the grid: the interpolation makes no new extremes.

@@ -1,4 +1,11 @@
 //! The residual of a plane.
+//!
+//! A row is cut into runs, in each of which all pixels lie between the same two columns of cells, so that the level rises
+//! evenly. Where a run starts, by lengths in half pixels: the centre of pixel x is at 2x + 1, that of cell i at
+//! (2i + 1) * mesh. Cell `next` is the first whose centre lies past the pixel's exactly where 2x + 1 is at least the
+//! centre of cell `next` - 1 and below its own, so from (2 * next - 1) * mesh on. That is x >= next * mesh - (mesh + 1) / 2
+//! in whole pixels: half of (2 * next - 1) * mesh - 1, rounded up, is next * mesh less half of mesh + 1, rounded down.
+//! For `next` = 0 this would lie before the row, which starts at 0 then; and no run reaches past the row's end.
 
 ghost use Rattle.std.specs.Prelude.{◌≡◌, ℕ, ◌+◌, ◌-◌, ◌*◌, ◌^◌, ◌<◌, ◌≤◌, true, false, length, All, IfOk, IfSome, OnOk, OnErr};
 ghost use Rattle.comp_tree.specs.Limits.{IsInHalfRange};

@@ -183,3 +183,14 @@ fn background_is_subtracted_in_place(rt: HostRuntime) -> Result<(), Fail> {
     try_values(&rt, &plane, &[-1, 2, U, U, 2, 0, 1, U, U, 0]);
     Ok(())
 }
+
+// Where memory is refused the plane is as it was: `rt try --test --fail-alloc N` tries the other arm.
+#[test]
+fn background_is_subtracted_whole_or_not_at_all(rt: HostRuntime) -> Result<(), Fail> {
+    let mut plane = plane_of(rt.alloc(), 5, 2, &[1, 4, U, U, 9, 2, 3, U, U, 7])?;
+    match subtract_background(&rt, rt.alloc(), &mut plane, 2, false) {
+        Ok(()) => try_values(&rt, &plane, &[-1, 2, U, U, 6, 0, 1, U, U, 4]),
+        Err(_) => try_values(&rt, &plane, &[1, 4, U, U, 9, 2, 3, U, U, 7]),
+    }
+    Ok(())
+}

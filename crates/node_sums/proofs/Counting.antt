@@ -1,7 +1,9 @@
 -- Which nodes hold a pixel, and which pixels are in a node's entry while the nodes are added to their parents.
-use Rattle.std.proofs.Common.{◌≡◌, ℕ, ◌^◌, ◌<◌, ◌≤◌, zero, suc, Bool, true, false, ◌&&◌, not, List, length, map, refl, sym, ◌∙◌, ap, subst, arith, ◌⊎◌, inl, inr}
+use Rattle.std.proofs.Common.{◌≡◌, ℕ, ◌^◌, ◌<◌, ◌≤◌, zero, suc, Bool, true, false, ◌&&◌, not, List}
+use Rattle.std.proofs.Common.{length, map, refl, sym, ◌∙◌, ap, subst, arith, ◌⊎◌, inl, inr}
 use Rattle.std.specs.Prelude.{◌==◌, nat_lt, slice_index}
-use Rattle.std.proofs.lemmas.Bool.{true≢false, eqb-true, eq-eqb, ltb-true, lt-ltb, le-ltb, and_parts, and_from, and_left, and_right, not-true, not_from_false, false_from_ne_true, true_from_ne_false, cases_lt, cases_eq}
+use Rattle.std.proofs.lemmas.Bool.{true≢false, eqb-true, eq-eqb, ltb-true, lt-ltb, le-ltb, and_parts, and_from, and_left, and_right}
+use Rattle.std.proofs.lemmas.Bool.{not-true, not_from_false, false_from_ne_true, true_from_ne_false, cases_lt, cases_eq}
 use Rattle.lemmas.proofs.Exported.{same_bool}
 use Rattle.comp_tree.specs.declared.shape.Connect.{Connect}
 use Rattle.comp_tree.specs.declared.tree.NodeRow.{NodeRow}
@@ -9,7 +11,8 @@ use Rattle.comp_tree.specs.Raster.{Raster, IsPlane, pixels, is_defined}
 use Rattle.comp_tree.specs.ComponentTree.{parent_in, no_node}
 use Rattle.comp_tree.specs.Components.{nodes, node_of, is_in_node, tree_of}
 use Rattle.comp_tree.specs.Laws.{IsAncestor, parent, above}
-use Rattle.comp_tree.proofs.Exported.{below_from_defined, pixels_belong_to_their_ancestors, length-rows, read-node_of, length-nodes-le, in_node-defined, tree_of-well_formed}
+use Rattle.comp_tree.proofs.Exported.{below_from_defined, pixels_belong_to_their_ancestors, length-rows}
+use Rattle.comp_tree.proofs.Exported.{read-node_of, length-nodes-le, in_node-defined, tree_of-well_formed}
 use Rattle.comp_tree.proofs.Exported as Nodes
 use Rattle.node_sums.specs.Counted.{none_between, is_counted}
 

@@ -4,6 +4,8 @@
 pub use Rattle.node_sums.proofs.Sizes.{up_to-minus, up_to-times, up_to_more, total-up_to}
 -- coordinates and values of a plane's pixels are small, and so are the sums over them
 pub use Rattle.node_sums.proofs.Sizes.{x_small, y_small, value_in_range, level_up_to, filtered_pixels, sizes, length-filter-le}
+-- the least and the greatest number of some pixels
+pub use Rattle.node_sums.proofs.Sizes.{least_at_most, greatest_at_least, greatest_up_to}
 -- the numbers of a plane's nodes; the area in a node's sums is the number of its pixels, of which there are few
 pub use Rattle.node_sums.proofs.NodePixels.{among_nodes, node_from_among, sums-area, few-pixels_of}
 -- numbers fall on the way up, from a node to its parent and to its ancestors
@@ -20,8 +22,8 @@ pub use Rattle.node_sums.proofs.Reading.{fits, plus-read, peak-read}
 pub use Rattle.node_sums.proofs.Reading.{row-parent, row_level, read_parent_smaller, get-written}
 -- a range and a filtered list that get one member more; the front of a list
 pub use Rattle.node_sums.proofs.Passes.{range-push, filter_yes, filter_no, filter_same, take_front}
--- a plane's tree has a row for each node and a number for each pixel; its parents are nodes; the level of a defined pixel
-pub use Rattle.node_sums.proofs.Passes.{rows_are, numbers_for_pixels, parent_is, parent_inside, level-of}
+-- a plane's tree has a row for each node and a number for each pixel; its parents are nodes
+pub use Rattle.node_sums.proofs.Passes.{rows_are, numbers_for_pixels, parent_is, parent_inside}
 -- a node's level is that of its top pixel, and the least of its pixels; the base by cases
 pub use Rattle.node_sums.proofs.Fluxes.{level-of_node, level_at_least, BaseCase, at_root, at_child, base-case, base-root, base-child}
 -- the flux is never negative, and grows with the component

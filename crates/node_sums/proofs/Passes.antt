@@ -1,9 +1,10 @@
 -- The steps of both passes: a pixel is added to its smallest node's entry, and a node's entry to that of its parent.
-use Rattle.std.proofs.Common.{◌≡◌, ℕ, ◌+◌, ◌-◌, ◌*◌, ◌/◌, ◌%◌, ◌<◌, ◌≤◌, zero, suc, Bool, true, false, cond, List, [], ◌∷◌, ◌++◌, length, map, take, refl, sym, ◌∙◌, ap, subst, arith, ◌⊎◌, inl, inr, get_or, set, add-one, lit<}
+use Rattle.std.proofs.Common.{◌≡◌, ℕ, ◌+◌, ◌-◌, ◌*◌, ◌/◌, ◌%◌, ◌<◌, ◌≤◌, zero, suc, Bool, true, false, cond, List, [], ◌∷◌, ◌++◌}
+use Rattle.std.proofs.Common.{length, map, take, refl, sym, ◌∙◌, ap, subst, arith, ◌⊎◌, inl, inr, get_or, set, add-one, lit<}
 use Rattle.std.specs.Prelude.{IsTrue, is_some, ◌==◌, ℤ, Option, Some, None, filter, replicate, slice_get, slice_index, slice_index_or}
 use Rattle.std.specs.List.{range_with_len}
 use Rattle.std.proofs.lemmas.Bool.{eq-eqb, ne_eqb, cases_lt, and_from, and_left, and_right}
-use Rattle.std.proofs.lemmas.List.{append-nil, length-set, length-map}
+use Rattle.std.proofs.lemmas.List.{append-nil, length-set}
 use Rattle.std.proofs.lemmas.List.Elements.{filter-append}
 use Rattle.std.proofs.lemmas.Option.{slice_get-get_or, slice_get_within, get_or_from_slice_get}
 use Rattle.std.proofs.lemmas.Int.{ints, to_z-of_z}
@@ -18,7 +19,7 @@ use Rattle.comp_tree.specs.Raster.{Raster, IsPlane, HasValuesInRange, pixels, is
 use Rattle.comp_tree.specs.ComponentTree.{ComponentTree, parent_in, no_node}
 use Rattle.comp_tree.specs.Components.{nodes, node_of, is_in_node, tree_of}
 use Rattle.comp_tree.specs.Nesting.{pixels_of}
-use Rattle.comp_tree.proofs.Exported.{length-rows, below_no_node, length-pixels}
+use Rattle.comp_tree.proofs.Exported.{length-rows, below_no_node}
 use Rattle.comp_tree.proofs.Exported as Nodes
 use Rattle.node_sums.specs.declared.entry.Sums.{Sums}
 use Rattle.node_sums.specs.Sums.{sums_over, sums_of, sums_in, IsTreeOfPlane, AreOfPlane, AreTheTrees}
@@ -46,10 +47,6 @@ pub filter_same : (f g : ℕ → Bool) (ps : List ℕ) → ((q : ℕ) → f q �
 filter_same f g ps at = ap (λ (test : ℕ → Bool). filter test ps) (λ i q. at q i)
 
 -- ---- the pass over the pixels
-
-pub level-of : (r : Raster) (p : ℕ) (v : ℤ) → value_at r.values p ≡ Some v → level r p ≡ v
-unfolding level
-level-of r p v e = rw e refl
 
 own_sum : (r : Raster) (node_of ps : List ℕ) (sums : List Sums) (n p : ℕ) (s : Sums) → AreOwn r node_of ps sums → is_defined r p ≡ true
     → slice_index node_of p ≡ n
@@ -246,7 +243,7 @@ unfolding level
 level_undefined r p e = rw e (record { low = omega (arith, ints); high = omega (arith, ints) })
 
 pixel_at : (r : Raster) (p : ℕ) (v : ℤ) (pixel : Sums) → value_at r.values p ≡ Some v → pixel ≡ sums_of_pixel r.shape.width p v → pixel ≡ sums_at r p
-pixel_at r p v pixel e k = k ∙ ap (sums_of_pixel r.shape.width p) (sym (level-of r p v e))
+pixel_at r p v pixel e k = k ∙ ap (sums_of_pixel r.shape.width p) (sym (Nodes.level-value r p v e))
 
 pub turn_small : (r : Raster) (node_of : List ℕ) (sums : List Sums) (p n : ℕ) (v : ℤ) (entry pixel : Sums) → IsTurn r node_of sums p n v entry pixel
     → (q : ℕ) → q < p + 1 → IsUpTo value_bound (level r q)
@@ -257,7 +254,7 @@ turn_small r node_of sums p n v entry pixel t q l = go (cases_lt q p)
     go (inr k) =
         let e : p ≡ q = omega arith in
         subst (λ (j : ℕ). IsUpTo value_bound (level r j)) e
-        (subst (IsUpTo value_bound) (sym (level-of r p v t.value)) (record { low = t.in_range.low; high = t.in_range.high }))
+        (subst (IsUpTo value_bound) (sym (Nodes.level-value r p v t.value)) (record { low = t.in_range.low; high = t.in_range.high }))
 
 pub turn_size : (r : Raster) (node_of : List ℕ) (sums : List Sums) (p n : ℕ) (v : ℤ) (entry pixel : Sums) → IsPlane r → IsTurn r node_of sums p n v entry pixel
     → HasSizes (together entry pixel)
@@ -307,7 +304,8 @@ to_next_undefined r node_of sums p h e = record {
 pub range_from_small : (r : Raster) (n : ℕ) → length r.values ≤ n → ((q : ℕ) → q < n → IsUpTo value_bound (level r q)) → HasValuesInRange r.values
 range_from_small r n l h p v e =
     let inside : p < length r.values = slice_get_within r.values p (Some v) e in
-    let k : IsUpTo value_bound v = subst (IsUpTo value_bound) (level-of r p v (get_or_from_slice_get r.values p (Some v) None e)) (h p (omega arith)) in
+    let k : IsUpTo value_bound v =
+    subst (IsUpTo value_bound) (Nodes.level-value r p v (get_or_from_slice_get r.values p (Some v) None e)) (h p (omega arith)) in
     record { low = k.low; high = k.high }
 
 pub own_all : (r : Raster) (node_of : List ℕ) (n : ℕ) (sums : List Sums) → n ≡ length r.values → AreOwn r node_of (range_with_len 0 n) sums
@@ -412,12 +410,8 @@ own_none r node_of n sums f = record { own = λ m s g. is_none n m s (sym (ap (�
     is_none (suc k) zero s g = let x : sums_over r [] ≡ s = cc in sym x
     is_none (suc k) (suc m) s g = is_none k m s g
 
-numbers_count : (r : Raster) (connect : Connect) → length (tree_of r connect).node_of ≡ length r.values
-unfolding tree_of
-numbers_count r connect = length-map (pixels r) (node_of r connect) ∙ length-pixels r
-
 pub numbers_for_pixels : (r : Raster) (tree : ComponentTree) → IsTreeOfPlane r tree → length tree.node_of ≡ length r.values
-numbers_for_pixels r tree (connect, e) = ap (λ (t : ComponentTree). length t.node_of) e ∙ numbers_count r connect
+numbers_for_pixels r tree (connect, e) = ap (λ (t : ComponentTree). length t.node_of) e ∙ Nodes.length-numbers r connect
 
 pub number_below : (r : Raster) (tree : ComponentTree) → IsTreeOfPlane r tree → (p : ℕ) → IsTrue (is_defined r p)
     → slice_index tree.node_of p < length tree.rows

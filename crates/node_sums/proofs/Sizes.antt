@@ -1,6 +1,7 @@
 -- How large sums over pixels of a plane are.
 use Rattle.std.proofs.Common.{◌≡◌, ℕ, ◌+◌, ◌*◌, ◌/◌, ◌^◌, ◌≤◌, ◌<◌, zero, suc, Bool, List, [], ◌∷◌, length, refl, sym, ap, subst, arith, inl, inr}
-use Rattle.std.specs.Prelude.{ℤ, pos, negsuc, neg_ℤ, ◌+ℤ◌, ◌-ℤ◌, ◌*ℤ◌, ◌≤ℤ◌, filter, sum_by, Option, Some, None, slice_get, slice_index_or, unwrap_or, unsigned_abs}
+use Rattle.std.specs.Prelude.{ℤ, pos, negsuc, neg_ℤ, ◌+ℤ◌, ◌-ℤ◌, ◌*ℤ◌, ◌≤ℤ◌, filter, sum_by, Option}
+use Rattle.std.specs.Prelude.{Some, None, slice_get, slice_index_or, unwrap_or, unsigned_abs}
 use Rattle.std.proofs.lemmas.Int.{ints, unsigned_abs-mul}
 use Rattle.std.proofs.lemmas.Nat.{mul-le, mod_below}
 use Rattle.std.proofs.lemmas.List.Sums.{sum_by-le, length-filter, count_by-le-length}
@@ -10,7 +11,7 @@ use Rattle.std.proofs.Math.Nat.{mul_comm, mul-suc, div-lt_iff_lt-mul}
 use Rattle.lemmas.proofs.Exported.{IsAmong, all_from_among, among_from_filter, among_from_range}
 use Rattle.comp_tree.specs.Limits.{IsWithinRange}
 use Rattle.comp_tree.specs.Raster.{Raster, IsPlane, HasValuesInRange, level, value_at}
-use Rattle.node_sums.specs.Sums.{sums_over, x_of, y_of, total}
+use Rattle.node_sums.specs.Sums.{sums_over, x_of, y_of, total, least, greatest}
 use Rattle.node_sums.specs.Sizes.{IsUpTo, HasSizes, value_bound, moment_bound}
 
 -- ---- whole numbers between -m and m
@@ -113,6 +114,24 @@ sizes r ps plane k = record {
   ry = total-up_to (λ p. level r p *ℤ pos (y_of r p)) moment_bound ps
       (λ p m. moment_up_to (level r p) (y_of r p) (k.small p m) (y_small r p plane (k.below p m)));
 }
+
+-- the least and the greatest number of some pixels
+pub least_at_most : (f : ℕ → ℕ) (ps : List ℕ) (p : ℕ) → IsAmong p ps → least f ps ≤ f p
+least_at_most f [] p m = absurd m
+least_at_most f (q ∷ ps) p (inl e) = let g : f q ≡ f p = ap f e in omega arith
+least_at_most f (q ∷ ps) p (inr m) = let g : least f ps ≤ f p = least_at_most f ps p m in omega arith
+
+pub greatest_at_least : (f : ℕ → ℕ) (ps : List ℕ) (p : ℕ) → IsAmong p ps → f p ≤ greatest f ps
+greatest_at_least f [] p m = absurd m
+greatest_at_least f (q ∷ ps) p (inl e) = let g : f q ≡ f p = ap f e in omega arith
+greatest_at_least f (q ∷ ps) p (inr m) = let g : f p ≤ greatest f ps = greatest_at_least f ps p m in omega arith
+
+pub greatest_up_to : (f : ℕ → ℕ) (k : ℕ) (ps : List ℕ) → ((p : ℕ) → IsAmong p ps → f p ≤ k) → greatest f ps ≤ k
+greatest_up_to f k [] h = omega arith
+greatest_up_to f k (q ∷ ps) h =
+    let a : f q ≤ k = h q (inl refl) in
+    let b : greatest f ps ≤ k = greatest_up_to f k ps (λ p m. h p (inr m)) in
+    omega arith
 
 pub length-filter-le : (test : ℕ → Bool) (xs : List ℕ) → length (filter test xs) ≤ length xs
 length-filter-le test xs = rw (length-filter test xs) (count_by-le-length test xs)

@@ -7,7 +7,7 @@ use Rattle.comp_tree.specs.Raster.{Raster, IsPlane, value_at, level}
 use Rattle.comp_tree.specs.ComponentTree.{no_node}
 use Rattle.comp_tree.specs.Components.{reaches, nodes, is_candidate}
 use Rattle.comp_tree.specs.Laws.{top_of, parent_of_node}
-use Rattle.comp_tree.proofs.Exported.{top-representative, top-defined, IsParent, parent-candidate, parent-of_node, turned}
+use Rattle.comp_tree.proofs.Exported.{node_of_top, IsParent, parent-candidate, parent-of_node, turned}
 use Rattle.comp_tree.proofs.Exported.{AlikeAlong, AreCounterparts, HasLikeBeside, IsReachedThere, along_sym, along_low, along_level, along_reached}
 use Rattle.comp_tree.proofs.Exported.{along_reaches}
 use Rattle.comp_tree.proofs.Exported.{counterparts_sym, counterparts_level}
@@ -105,8 +105,7 @@ module _ (r s : Raster) (connect : Connect) (h : ℤ) (R : ℕ → ℕ → Type 
       parent-of_node s connect m c.other
       ∙ Nodes.parent-is s connect (top_of s connect m) (top_of s connect j) (Nodes.candidate-from s connect (top_of s connect m) (top_of s connect j) there)
       highest
-      ∙ Nodes.node-unique s connect (top_of s connect j) j (top-defined s connect j d.other)
-      (record { below = d.other; it_is = sym (Nodes.is_representative-parts s connect (top_of s connect j) (top-representative s connect j d.other)).1 })
+      ∙ node_of_top s connect j d.other
     where
       p : IsParent r connect k n
       p = parent-candidate r connect k n plane c.one d.one (sym (parent-of_node r connect n c.one) ∙ e)

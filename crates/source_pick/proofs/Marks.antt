@@ -14,7 +14,7 @@ use Rattle.comp_tree.specs.Raster.{Raster, IsPlane, pixels, is_defined}
 use Rattle.comp_tree.specs.ComponentTree.{ComponentTree, parent_in, no_node}
 use Rattle.comp_tree.specs.Components.{nodes, node_of, is_in_node, tree_of}
 use Rattle.comp_tree.specs.Laws.{top_of, parent_of_node}
-use Rattle.comp_tree.proofs.Exported.{top-defined, top-representative, below_no_node, pixels_belong_to_their_ancestors, length-nodes-le, read-node_of}
+use Rattle.comp_tree.proofs.Exported.{top-defined, node_of_top, below_no_node, pixels_belong_to_their_ancestors, length-nodes-le, read-node_of}
 use Rattle.comp_tree.proofs.Exported.{in_node-defined, top_inside}
 use Rattle.comp_tree.proofs.Exported as Nodes
 use Rattle.source_pick.specs.Segmentation.{source_number_at, segmentation_of, AreDisjointNodes}
@@ -56,11 +56,6 @@ place_bound test k (x ∷ xs) h = go (test x) (place_bound test (k + 1) xs (omeg
     go false ih = omega arith
 
 -- ---- which nodes hold a pixel
-
-node_of-top : (r : Raster) (connect : Connect) (m : ℕ) → m < length (nodes r connect) → node_of r connect (top_of r connect m) ≡ m
-node_of-top r connect m h =
-    Nodes.node-unique r connect (top_of r connect m) m (top-defined r connect m h)
-    (record { below = h; it_is = sym (Nodes.is_representative-parts r connect (top_of r connect m) (top-representative r connect m h)).1 })
 
 -- node s holds a defined pixel where it is on the way from the pixel's node
 holds-way : (r : Raster) (connect : Connect) (s q : ℕ) → IsPlane r → s < length (nodes r connect) → is_defined r q ≡ true
@@ -174,7 +169,7 @@ module _ (r : Raster) (connect : Connect) (tree : ComponentTree) (marked : List 
   top_way : (u m : ℕ) → u < length (nodes r connect) → m < length (nodes r connect)
       → (is_in_node r connect u (top_of r connect m) ≡ true) ↔ IsOnWay (tree_of r connect).rows u m
   top_way u m hu hm =
-      subst (λ (x : ℕ). (is_in_node r connect u (top_of r connect m) ≡ true) ↔ IsOnWay (tree_of r connect).rows u x) (node_of-top r connect m hm)
+      subst (λ (x : ℕ). (is_in_node r connect u (top_of r connect m) ≡ true) ↔ IsOnWay (tree_of r connect).rows u x) (node_of_top r connect m hm)
       (holds-way r connect u (top_of r connect m) plane hu (top-defined r connect m hm))
 
   pub number_of_marked : (i n : ℕ) → n < length tree.rows → slice_get marked i ≡ Some n → source_number_at r connect marked (top_of r connect n) ≡ i + 1

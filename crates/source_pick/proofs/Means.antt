@@ -18,6 +18,7 @@ use Rattle.node_sums.specs.Sizes.{IsUpTo}
 use Rattle.node_sums.proofs.Exported.{up_to-times, up_to-minus, up_to_more, fits}
 use Rattle.source_pick.specs.Catalogue.{floor_of, centre_of, spread_of}
 use Rattle.source_pick.specs.Numbers.{IsMoment, IsMean, IsSpread}
+use Rattle.source_pick.proofs.Readings.{wide}
 
 -- ---- products with natural numbers
 
@@ -231,9 +232,6 @@ widest moment sum flux area low high k = record {
 }
 
 -- ---- as the code computes them
-
-wide : (z : ℤ) → SFits w64 z → to_z w128 (of_z w128 (to_z w64 (of_z w64 z))) ≡ z
-wide z f = rw (to_z-of_z w64 z f) (to_z-of_z w128 z (record { sfits = omega (arith, f.sfits) }))
 
 pub weighted-read : (moment base : ℤ) (sum : ℕ) → IsMoment moment base sum → SFits w64 base
     → to_z w128 (of_z w128 (to_z w128 (of_z w128 moment) -ℤ to_z w128 (of_z w128 (to_z w128 (of_z w128 (to_z w64 (of_z w64 base))) *ℤ to_z w128 sum))))

@@ -1,12 +1,12 @@
 -- What the code reads of a tree and its sums, and signed numbers as it compares them.
-use Rattle.std.proofs.Common.{◌≡◌, ℕ, ◌+◌, ◌*◌, ◌<◌, List, length, refl, sym, ◌∙◌, ap, arith, ◌⊎◌, inl, inr, get_or, set}
+use Rattle.std.proofs.Common.{◌≡◌, ℕ, ◌+◌, ◌*◌, ◌<◌, List, length, sym, ◌∙◌, ap, arith, ◌⊎◌, inl, inr, get_or, set}
 use Rattle.std.specs.Prelude.{ℤ, int_le, int_lt, slice_index_or}
 use Rattle.std.specs.List.{range_with_len}
 use Rattle.std.proofs.lemmas.Int.{to_z-of_z}
 use Rattle.std.proofs.lemmas.Bool.{cases_eq}
 use Rattle.std.proofs.lemmas.List.{length-map, get_or-set_same, get_or-set_other}
 use Rattle.std.proofs.lemmas.List.FromFn.{length-range_with_len, get_or-map-range_with_len}
-use mir.Syntax.{w64}
+use mir.Syntax.{w64, w128}
 use mir.Val.{SFits, of_z, to_z}
 use lib.Signed.{le_z, lt_z}
 use Rattle.comp_tree.specs.declared.shape.Shape.{Shape}
@@ -16,6 +16,7 @@ use Rattle.comp_tree.specs.Raster.{Raster, IsPlane}
 use Rattle.comp_tree.specs.ComponentTree.{ComponentTree, parent_in}
 use Rattle.comp_tree.specs.Components.{nodes, tree_of}
 use Rattle.comp_tree.specs.Laws.{parent_of_node}
+use Rattle.comp_tree.proofs.Exported.{shape-of}
 use Rattle.node_sums.specs.declared.entry.Sums.{Sums}
 use Rattle.node_sums.specs.Sums.{sums_of, sums_in, AreTheTrees}
 use Rattle.comp_tree.specs.Nesting.{level_in, level_of_node}
@@ -36,12 +37,8 @@ of_trees tree sums t = record { plane = t.one_each; tree_is = t.of_plane.tree_is
 pub numbers-length : (r : Raster) (connect : Connect) (tree : ComponentTree) → tree ≡ tree_of r connect → length tree.node_of ≡ length r.values
 numbers-length r connect tree e = numbers_for_pixels r tree (connect, e)
 
-shape-is : (r : Raster) (connect : Connect) → (tree_of r connect).shape ≡ r.shape
-unfolding tree_of
-shape-is r connect = refl
-
 pub tree-shape : (r : Raster) (connect : Connect) (tree : ComponentTree) → tree ≡ tree_of r connect → tree.shape ≡ r.shape
-tree-shape r connect tree e = ap (λ (t : ComponentTree). t.shape) e ∙ shape-is r connect
+tree-shape r connect tree e = ap (λ (t : ComponentTree). t.shape) e ∙ shape-of r connect
 
 -- a well-formed tree is a plane's alone
 pub plane_from_tree : (r : Raster) (connect : Connect) (tree : ComponentTree) → tree ≡ tree_of r connect
@@ -92,13 +89,17 @@ sums-read r connect tree sums n d o h =
     ap (λ (xs : List Sums). get_or xs n d) o.sums_are
     ∙ get_or-map-range_with_len (sums_of r connect) 0 (length (nodes r connect)) n n d (node_inside r connect tree n o.tree_is h) (omega arith)
 
--- ---- comparisons
+-- ---- signed numbers
 
 pub less-read : (a b c d : ℤ) → SFits w64 a → SFits w64 b → a ≡ c → b ≡ d → lt_z (to_z w64 (of_z w64 a)) (to_z w64 (of_z w64 b)) ≡ int_lt c d
 less-read a b c d f g e h = rw (to_z-of_z w64 a f, to_z-of_z w64 b g) (ap (λ (x : ℤ). int_lt x b) e ∙ ap (int_lt c) h)
 
 pub at_most-read : (a b c d : ℤ) → SFits w64 a → SFits w64 b → a ≡ c → b ≡ d → le_z (to_z w64 (of_z w64 a)) (to_z w64 (of_z w64 b)) ≡ int_le c d
 at_most-read a b c d f g e h = rw (to_z-of_z w64 a f, to_z-of_z w64 b g) (ap (λ (x : ℤ). int_le x b) e ∙ ap (int_le c) h)
+
+-- what is read from 64 bits is the same in 128
+pub wide : (z : ℤ) → SFits w64 z → to_z w128 (of_z w128 (to_z w64 (of_z w64 z))) ≡ z
+wide z f = rw (to_z-of_z w64 z f) (to_z-of_z w128 z (record { sfits = omega (arith, f.sfits) }))
 
 -- ---- a list that is filled place by place
 

@@ -23,7 +23,7 @@ use Rattle.comp_tree.specs.Nesting.{level_of_node}
 use Rattle.source_pick.specs.Passes.{entry_number, AreEntries, AreStrong}
 use Rattle.source_pick.proofs.Entries.{entry_of-parts, entry_of-self, entry_of-root, entry_of-child}
 use Rattle.source_pick.proofs.Splits.{strong-in, strong-none}
-use Rattle.source_pick.proofs.Readings.{filled}
+use Rattle.source_pick.proofs.Readings.{filled, wide}
 
 -- ---- size
 
@@ -189,9 +189,6 @@ abs_at_most (negsuc n) f = let k : n < 2 ^ 63 = f.sfits in omega arith
 pub part_fits : (contrast : ℕ) (flux : ℤ) → contrast < 2 ^ 32 → SFits w64 flux → SFits w128 (pos contrast *ℤ flux)
 part_fits contrast flux l f =
     fits_signed_mul w128 (pos contrast) flux (2 ^ 32) (2 ^ 63) (omega arith) (abs_at_most flux f) (lit< tt)
-
-wide : (flux : ℤ) → SFits w64 flux → to_z w128 (of_z w128 (to_z w64 (of_z w64 flux))) ≡ flux
-wide flux f = rw (to_z-of_z w64 flux f) (to_z-of_z w128 flux (record { sfits = omega (arith, f.sfits) }))
 
 pub product-read : (contrast : ℕ) (flux : ℤ) → contrast < 2 ^ 32 → SFits w64 flux
     → to_z w128 contrast *ℤ to_z w128 (of_z w128 (to_z w64 (of_z w64 flux))) ≡ pos contrast *ℤ flux

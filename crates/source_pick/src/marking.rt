@@ -36,13 +36,9 @@ pub(crate) fn entries_of_nodes(
         AreEntries choice.now tree.now sums.now (length tree.now.rows) entries.items) }
 {
     let count = node_count(tree);
-    match vec![in alloc; NONE; count as usize] {
-        Ok(mut entries) => {
-            find_entries(tree, sums, choice, &mut entries);
-            Ok(entries)
-        }
-        Err(_) => Err(OutOfMemory),
-    }
+    let mut entries = vec![in alloc; NONE; count as usize]?;
+    find_entries(tree, sums, choice, &mut entries);
+    Ok(entries)
 }
 
 // One pass from the roots: parents have smaller numbers.
@@ -135,13 +131,9 @@ pub(crate) fn strong_nodes(
         AreStrong choice.now tree.now sums.now (length tree.now.rows) strong.items) }
 {
     let count = node_count(tree);
-    match vec![in alloc; false; count as usize] {
-        Ok(mut strong) => {
-            find_strong(tree, sums, choice, entries, &mut strong);
-            Ok(strong)
-        }
-        Err(_) => Err(OutOfMemory),
-    }
+    let mut strong = vec![in alloc; false; count as usize]?;
+    find_strong(tree, sums, choice, entries, &mut strong);
+    Ok(strong)
 }
 
 fn find_strong(tree: &Tree, sums: &[Sums], choice: &Choice, entries: &[u32], strong: &mut [bool])

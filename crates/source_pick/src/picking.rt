@@ -82,13 +82,9 @@ fn source_flags(
         → AreStrong choice tree.now sums (length tree.now.rows) strong.now
         → AreSources choice tree.now sums (length tree.now.rows) flags.items) }
 {
-    match vec![in alloc; false; node_count(tree) as usize] {
-        Ok(mut flags) => {
-            flag_sources(tree, entries, strong, children, above, &mut flags);
-            Ok(flags)
-        }
-        Err(_) => Err(OutOfMemory),
-    }
+    let mut flags = vec![in alloc; false; node_count(tree) as usize]?;
+    flag_sources(tree, entries, strong, children, above, &mut flags);
+    Ok(flags)
 }
 
 fn flag_sources(
@@ -165,13 +161,9 @@ fn first_pixels(
         → AreSources choice tree.now sums.now (length tree.now.rows) flags.now
         → StandAtFirst choice tree.now sums.now (length tree.now.rows) marks.items) }
 {
-    match vec![in alloc; NONE; tree.node_of().len()] {
-        Ok(mut marks) => {
-            mark_first_pixels(tree, sums, flags, &mut marks);
-            Ok(marks)
-        }
-        Err(_) => Err(OutOfMemory),
-    }
+    let mut marks = vec![in alloc; NONE; tree.node_of().len()]?;
+    mark_first_pixels(tree, sums, flags, &mut marks);
+    Ok(marks)
 }
 
 fn mark_first_pixels(tree: &Tree, sums: &[Sums], flags: &[bool], marks: &mut [u32])
@@ -198,10 +190,7 @@ fn marked_nodes(alloc: Global, marks: &[u32]) -> Result<Vec<u32>, OutOfMemory>
     let mut picked = Vec::new(alloc);
     for n in marks {
         if *n != NONE {
-            match picked.push(*n) {
-                Ok(_) => {}
-                Err(_) => return Err(OutOfMemory),
-            }
+            picked.push(*n)?;
         }
     }
     Ok(picked)

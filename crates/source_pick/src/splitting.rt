@@ -49,13 +49,9 @@ pub(crate) fn strong_children(
     ensures { IfOk result (λ children.
         AreStrongChildCounts tree.now.rows entries.now strong.now (length tree.now.rows) children.items) }
 {
-    match vec![in alloc; StrongChildren::Zero; tree.rows().len()] {
-        Ok(mut children) => {
-            count_children(tree, entries, strong, &mut children);
-            Ok(children)
-        }
-        Err(_) => Err(OutOfMemory),
-    }
+    let mut children = vec![in alloc; StrongChildren::Zero; tree.rows().len()]?;
+    count_children(tree, entries, strong, &mut children);
+    Ok(children)
 }
 
 fn count_children(tree: &Tree, entries: &[u32], strong: &[bool], children: &mut [StrongChildren])
@@ -107,13 +103,9 @@ pub(crate) fn above_splits(
     ensures { IfOk result (λ flags.
         AreAboveSplits tree.now.rows (map are_several children.now) flags.items) }
 {
-    match split_flags(alloc, children) {
-        Ok(mut flags) => {
-            pass_up(tree, &mut flags);
-            Ok(flags)
-        }
-        Err(_) => Err(OutOfMemory),
-    }
+    let mut flags = split_flags(alloc, children)?;
+    pass_up(tree, &mut flags);
+    Ok(flags)
 }
 
 // For each node whether it is a split.

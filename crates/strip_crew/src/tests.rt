@@ -1,12 +1,16 @@
-//! A small plane, cut in several ways, two workers at once, and two halves joined at once.
+//! A small plane, cut in several ways, one worker alone, two at once, and two halves joined at once.
 
 ghost use Rattle.std.specs.Prelude.{◌≡◌, ◌+◌, length, replicate};
 ghost use Rattle.std.specs.List.{range_with_len};
+ghost use Rattle.tree_join.specs.Cuts.{IsCut};
 
-use crate::{Gate, OpenGate, even_cut, flood_all, join_group};
+use crate::prepare::prepare_all;
+use crate::{ClaimTable, Gate, Key, OpenGate, even_cut, flood_all, join_group, worker};
+use atomic_table::Refused;
 use comp_tree::{Connect, NONE, Plane, Shape, is_forest};
 use std::alloc::Global;
 use std::process::Abort;
+use std::snapshot::Snapshot;
 use std::sync::atomic::Ordering::SeqCst;
 use std::sync::atomic::{AtomicBool, AtomicU64};
 use std::test::Fail;
@@ -99,6 +103,43 @@ fn strips_are_joined_at_corners_too(rt: HostRuntime) -> Result<(), Fail> {
     let cut = even_cut(rt.alloc(), plane.shape().height, 2)?;
     let forest = flood_all(&rt, rt.alloc(), &plane, Connect::Eight, &cut, 1, &OpenGate)?;
     assert_eq!(rt; last(&plane, forest.parents(), 5, 3), 0);
+    Ok(())
+}
+
+// What the claims of a table count to, where one worker makes them all.
+fn claims_of_one_worker<R: Threads + Sync>(
+    rt: &R,
+    alloc: Global,
+    plane: &Plane,
+    cut: &[u32],
+) -> Result<u64, Fail>
+    requires { IsCut plane.now.shape.height cut.now }
+{
+    // for its clauses alone: how many rows a plane has
+    let _shape = plane.shape();
+    let jobs = prepare_all(rt, alloc, plane, Connect::Four, cut, 1)?;
+    let mut rows = Vec::new(alloc);
+    rows.extend_from_slice(cut)?;
+    let key = Key {
+        plane: Snapshot::of(plane),
+        connect: Connect::Four,
+        cut: rows,
+        workers: 1,
+    };
+    let (table, seat) = match ClaimTable::new(alloc, &[0, 0], jobs, &key) {
+        Ok(made) => made,
+        Err(Refused { slots: _ }) => return Err("memory".into()),
+    };
+    worker(&table, seat, plane, &OpenGate);
+    Ok(table.shared.peek(0))
+}
+
+#[test]
+fn a_worker_claims_once_past_the_end(rt: HostRuntime) -> Result<(), Fail> {
+    let plane = two_hills(rt.alloc())?;
+    let cut = even_cut(rt.alloc(), plane.shape().height, 3)?;
+    let claims = claims_of_one_worker(&rt, rt.alloc(), &plane, &cut)?;
+    assert_eq!(rt; claims, 4);
     Ok(())
 }
 

@@ -246,7 +246,8 @@ module _ (r : Raster) (connect : Connect) (links : List ℕ) (plane : IsPlane r)
         joins =
             λ h p q hp hq. (
               λ same. joined_from h p q
-                  (Nodes.reaches_trans r connect h p same.0 q (walked h p same.0 same.1.0) (Nodes.reaches_sym r connect h q same.0 (walked h q same.0 same.1.1))),
+                  (Nodes.reaches_trans r connect h p same.0 q (walked h p same.0 same.1.0)
+                  (Nodes.reaches_sym r connect h q same.0 (walked h q same.0 same.1.1))),
               λ j. both h p q hp hq (reaches_from h p q j),
             );
       }

@@ -3,8 +3,8 @@ use Rattle.node_sums.proofs.Exported.{take_front}
 use Rattle.source_pick.specs.Passes.{AreSources}
 use Rattle.source_pick.proofs.picking.source_flags.Goals as goal
 
-pub returns-in-Ok : goal.returns-in-Ok
-returns-in-Ok c = λ choice sums known_entries known_strong.
+pub returns : goal.returns
+returns c = λ choice sums known_entries known_strong.
     subst (λ (xs : List Bool). AreSources choice c.args.tree.now sums (length c.args.tree.now.rows) xs)
     (sym (take_front c.flag_sources.new.flags _ _ (c.flag_sources.auto.flags ∙ c.deref_mut.ensures.len)))
     (c.flag_sources.ensures choice sums known_entries known_strong)
