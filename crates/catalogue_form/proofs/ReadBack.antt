@@ -153,8 +153,11 @@ fit_row : (columns : List Column) (numbers : List ℤ) → length numbers ≡ le
 fit_row [] [] many fits whole = tt
 fit_row [] (z ∷ numbers) many fits whole = absurd (omega arith)
 fit_row (column ∷ columns) [] many fits whole = absurd (omega arith)
-fit_row (column ∷ columns) (z ∷ numbers) many fits whole =
-    (fits 0 (omega arith), whole 0 (omega arith), fit_row columns numbers (omega arith) (λ j h. fits (suc j) (omega arith)) (λ j h. whole (suc j) (omega arith)))
+fit_row (column ∷ columns) (z ∷ numbers) many fits whole = (
+  fits 0 (omega arith),
+  whole 0 (omega arith),
+  fit_row columns numbers (omega arith) (λ j h. fits (suc j) (omega arith)) (λ j h. whole (suc j) (omega arith)),
+)
 
 -- the cells fit the columns in which they stand, and 64 bits
 record Fit (columns : List Column) (cells : List ℤ) : Type 0 where
@@ -178,7 +181,9 @@ others_fit columns cells enough fit =
     let m = length columns in
     let place = λ (k : ℕ) (h : k < length (drop m cells)). let e : m + k < length cells = omega (arith, h, length-drop m cells) in e in
     record {
-      column = λ k h. subst₂ (λ i z. FitsCell (get_or columns i no_column).cell z) (add-mod_left m k) (sym (get_or-drop m cells k (pos 0))) (fit.column (m + k) (place k h));
+      column =
+          λ k h. subst₂ (λ i z. FitsCell (get_or columns i no_column).cell z) (add-mod_left m k) (sym (get_or-drop m cells k (pos 0)))
+          (fit.column (m + k) (place k h));
       whole = λ k h. subst (FitsSigned w64) (sym (get_or-drop m cells k (pos 0))) (fit.whole (m + k) (place k h));
     }
 

@@ -1,6 +1,7 @@
 -- Rows of cells that fit their columns are tables that can be written.
 use Rattle.std.proofs.Common.{◌≡◌, ◌∙◌, ℕ, zero, suc, ◌+◌, ◌-◌, ◌*◌, ◌/◌, ◌%◌, ◌^◌, ◌<◌, ◌≤◌, List, [], ◌∷◌, ◌++◌, length, get_or, flat_map}
-use Rattle.std.proofs.Common.{refl, sym, ap, ap₂, subst, subst₂, arith, length-append, mod-eq_of_lt, mul-suc, mul-zero, mul-one, mul-add, ℤ, pos, IsTrue, ◌⊎◌, inl, inr}
+use Rattle.std.proofs.Common.{refl, sym, ap, ap₂, subst, subst₂, arith, length-append, mod-eq_of_lt}
+use Rattle.std.proofs.Common.{mul-suc, mul-zero, mul-one, mul-add, ℤ, pos, IsTrue, ◌⊎◌, inl, inr}
 use Rattle.std.specs.List.{list_all, AllByRecursion}
 use Rattle.std.proofs.lemmas.Bool.{cases_lt}
 use Rattle.std.proofs.lemmas.List.{get_or_append_left, get_or-append_right}

@@ -6,12 +6,18 @@ use Rattle.std.specs.Option.{option_or}
 use Rattle.std.proofs.lemmas.Bool.{cases_lt}
 
 pub found_here : (test : ℕ → Bool) (a k : ℕ) → a ≤ k → test a ≡ true → ((j : ℕ) → a ≤ j → j < k → test j ≡ false) → a ≡ k
-found_here test a k low is none = elim (cases_lt a k) [ inl less ↦ let fails : test a ≡ false = none a (omega arith) less in absurd (cc) | inr more ↦ omega arith ]
+found_here test a k low is none =
+    elim (cases_lt a k) [ inl less ↦ let fails : test a ≡ false = none a (omega arith) less in absurd (cc) | inr more ↦ omega arith ]
 
 pub found_later : (test : ℕ → Bool) (a k : ℕ) → a ≤ k → test a ≡ false → test k ≡ true → a + 1 ≤ k
-found_later test a k low fails is = elim (cases_lt a k) [ inl less ↦ omega arith | inr more ↦ let same : a ≡ k = omega arith in let other : test k ≡ false = sym (ap test same) ∙ fails in absurd (cc) ]
+found_later test a k low fails is =
+    elim (cases_lt a k) [
+      | inl less ↦ omega arith
+      | inr more ↦ let same : a ≡ k = omega arith in let other : test k ≡ false = sym (ap test same) ∙ fails in absurd (cc)
+    ]
 
-pub find_first : (test : ℕ → Bool) (a n k : ℕ) → a ≤ k → k < a + n → test k ≡ true → ((j : ℕ) → a ≤ j → j < k → test j ≡ false) → find test (range_with_len a n) ≡ Some k
+pub find_first : (test : ℕ → Bool) (a n k : ℕ) → a ≤ k → k < a + n → test k ≡ true → ((j : ℕ) → a ≤ j → j < k → test j ≡ false)
+    → find test (range_with_len a n) ≡ Some k
 find_first test a zero k low high is none = absurd (omega arith)
 find_first test a (suc n) k low high is none =
     by (test a) refl (λ (next : a + 1 ≤ k). find_first test (a + 1) n k next (omega arith) is (λ j l h. none j (omega arith) h))
@@ -30,7 +36,8 @@ pub find_in_range : (test : ℕ → Bool) (a n k : ℕ) → find test (range_wit
 find_in_range test a zero k is = absurd (cc)
 find_in_range test a (suc n) k is = by (test a) (λ (later : find test (range_with_len (a + 1) n) ≡ Some k). find_in_range test (a + 1) n k later) is
   where
-    by : (b : Bool) → (find test (range_with_len (a + 1) n) ≡ Some k → (a + 1 ≤ k) × (k < a + 1 + n)) → cond b (Some a) (find test (range_with_len (a + 1) n)) ≡ Some k
+    by : (b : Bool) → (find test (range_with_len (a + 1) n) ≡ Some k → (a + 1 ≤ k) × (k < a + 1 + n))
+        → cond b (Some a) (find test (range_with_len (a + 1) n)) ≡ Some k
         → (a ≤ k) × (k < a + suc n)
     by true rest is = let same : a ≡ k = cc in (omega arith, omega arith)
     by false rest is = let later = rest is in (omega (arith, later.0), omega (arith, later.1))
@@ -44,6 +51,7 @@ find_more test a zero = let same : a + 0 ≡ a = omega arith in rw same refl
 find_more test a (suc n) = by (test a) (find_more test (a + 1) n)
   where
     by : (b : Bool) → find test (range_with_len (a + 1) (suc n)) ≡ option_or (find test (range_with_len (a + 1) n)) (last_tried test (a + 1 + n))
-        → cond b (Some a) (find test (range_with_len (a + 1) (suc n))) ≡ option_or (cond b (Some a) (find test (range_with_len (a + 1) n))) (last_tried test (a + suc n))
+        → cond b (Some a) (find test (range_with_len (a + 1) (suc n)))
+        ≡ option_or (cond b (Some a) (find test (range_with_len (a + 1) n))) (last_tried test (a + suc n))
     by true rest = refl
     by false rest = let same : a + 1 + n ≡ a + suc n = omega arith in rest ∙ ap (λ k. option_or (find test (range_with_len (a + 1) n)) (last_tried test k)) same

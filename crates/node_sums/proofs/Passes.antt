@@ -304,7 +304,8 @@ to_next_undefined r node_of sums p h e = record {
 pub range_from_small : (r : Raster) (n : ℕ) → length r.values ≤ n → ((q : ℕ) → q < n → IsUpTo value_bound (level r q)) → HasValuesInRange r.values
 range_from_small r n l h p v e =
     let inside : p < length r.values = slice_get_within r.values p (Some v) e in
-    let k : IsUpTo value_bound v = subst (IsUpTo value_bound) (Nodes.level-value r p v (get_or_from_slice_get r.values p (Some v) None e)) (h p (omega arith)) in
+    let k : IsUpTo value_bound v =
+    subst (IsUpTo value_bound) (Nodes.level-value r p v (get_or_from_slice_get r.values p (Some v) None e)) (h p (omega arith)) in
     record { low = k.low; high = k.high }
 
 pub own_all : (r : Raster) (node_of : List ℕ) (n : ℕ) (sums : List Sums) → n ≡ length r.values → AreOwn r node_of (range_with_len 0 n) sums

@@ -7,6 +7,7 @@ use Rattle.std.proofs.lemmas.List.FromFn.{get_or-map-range_with_len, length-rang
 use Rattle.dev_io.specs.Streams.{Takes, TakesAtMost}
 use Rattle.comp_tree.specs.declared.shape.Shape.{Shape}
 use Rattle.comp_tree.specs.Raster.{Raster, value_at, HasValuesInHalfRange}
+use Rattle.comp_tree.proofs.Exported.{raster_is}
 use Rattle.fits_hdu.specs.declared.answer.Hdu.{Hdu}
 use Rattle.pixel_plane.specs.declared.encoding.Encoding.{Encoding}
 use Rattle.pixel_plane.specs.Stored.{size_of, whole_or_zero, blank_of, pixel_value, stored_number, stored_plane, is_out_of_range, first_out_of_range}
@@ -32,9 +33,6 @@ same_pixels hdu encoding bytes p e = rw (e.size, e.zero, e.blank) refl
 image_bytes_are : (hdu : Hdu) (shape : Shape) (encoding : Encoding) (n : ℕ) → IsEncodingOf hdu encoding → n ≡ shape.width * shape.height
     → n * encoding.size ≡ image_bytes hdu shape
 image_bytes_are hdu shape encoding n e count = ap (λ size. n * size) e.size ∙ ap (λ k. k * size_of hdu) count
-
-raster_is : (a b : Raster) → a.shape ≡ b.shape → a.values ≡ b.values → a ≡ b
-raster_is a b s v = rw (s, v) refl
 
 -- pixel p of the stored plane
 stored_pixel : (hdu : Hdu) (shape : Shape) (encoding : Encoding) (bytes : List ℕ) (p : ℕ) → IsEncodingOf hdu encoding → p < shape.width * shape.height

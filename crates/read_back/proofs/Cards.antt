@@ -36,7 +36,8 @@ card_here front rest cards j full low high =
 pub cards_from-same : (a b : ℕ → List ℕ) (first n : ℕ) → ((i : ℕ) → first ≤ i → i < first + n → a i ≡ b i) → cards_from a first n ≡ cards_from b first n
 cards_from-same a b first zero same = refl
 cards_from-same a b first (suc n) same =
-    ap₂ (λ (l : List (List ℕ)) (c : List ℕ). l ++ c ∷ []) (cards_from-same a b first n (λ i low high. same i low (omega arith))) (same (first + n) (omega arith) (omega arith))
+    ap₂ (λ (l : List (List ℕ)) (c : List ℕ). l ++ c ∷ []) (cards_from-same a b first n (λ i low high. same i low (omega arith)))
+    (same (first + n) (omega arith) (omega arith))
 
 get_or-append-plus : (xs ys : List (List ℕ)) (k : ℕ) → get_or (xs ++ ys) (length xs + k) [] ≡ get_or ys k []
 get_or-append-plus [] ys k = ap (λ j. get_or ys j []) (omega arith)

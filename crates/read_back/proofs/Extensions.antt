@@ -184,7 +184,8 @@ module _ (x b n w h p g : List ℕ) (tail : List (List ℕ)) (image : Bool) (bit
   late : (j : ℕ) → 6 ≤ j → j ≤ length cards → is_bad false (nth cards) j ≡ false
   late j low high =
       let here : Calm (nth cards j) =
-      subst Calm (sym (behind j low)) (all_at Calm (body ++ written_end ∷ []) (j - 6) calm (omega (arith, many, high, low, length-append body (written_end ∷ [])))) in
+      subst Calm (sym (behind j low))
+      (all_at Calm (body ++ written_end ∷ []) (j - 6) calm (omega (arith, many, high, low, length-append body (written_end ∷ [])))) in
       let more : nat_lt 5 j ≡ true = grind (arith, nat_tests) in
       let others = others_before (nth cards) j in
       bad_is false (nth cards) j

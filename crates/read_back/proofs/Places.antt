@@ -62,7 +62,9 @@ module _ (logicals : LogicalIsReadBack) (integers : IntegerIsReadBack) (texts : 
 
   first : find_of bytes 0 ≡ found (primary_said logicals integers) (length empty_primary)
   unfolding empty_primary find_of
-  first = header_found 0 [] (map_hdu shape numbers ++ (table_hdu columns cells ++ rest)) primary_cards (primary_said logicals integers) (primary_header logicals integers)
+  first =
+      header_found 0 [] (map_hdu shape numbers ++ (table_hdu columns cells ++ rest)) primary_cards (primary_said logicals integers)
+      (primary_header logicals integers)
       ∙ ap (found (primary_said logicals integers)) (zero-add (length (header primary_cards)))
 
   -- the map's header, its data, and what follows
@@ -75,12 +77,14 @@ module _ (logicals : LogicalIsReadBack) (integers : IntegerIsReadBack) (texts : 
   unfolding find_of
   second =
       let next : length empty_primary + padded 0 ≡ length empty_primary = omega arith in
-      let within : length empty_primary ≤ length bytes = omega (arith, length-append empty_primary (map_hdu shape numbers ++ (table_hdu columns cells ++ rest))) in
+      let within : length empty_primary ≤ length bytes =
+      omega (arith, length-append empty_primary (map_hdu shape numbers ++ (table_hdu columns cells ++ rest))) in
       ap (following_found bytes 1) first
       ∙ ap (λ size. following bytes 1 size (length empty_primary)) (no_data logicals integers)
       ∙ next_there bytes 1 0 (length empty_primary) (length empty_primary) next within
       ∙ ap (λ l. header_at (empty_primary ++ l) 1 (length empty_primary)) behind_map
-      ∙ header_found 1 empty_primary (filled 0 (map_bytes numbers) ++ (table_hdu columns cells ++ rest)) (map_cards shape) map_said (map_header integers texts shape)
+      ∙ header_found 1 empty_primary (filled 0 (map_bytes numbers) ++ (table_hdu columns cells ++ rest)) (map_cards shape) map_said
+      (map_header integers texts shape)
 
   abbrev front : List ℕ
   front = empty_primary ++ map_hdu shape numbers
@@ -104,7 +108,8 @@ module _ (logicals : LogicalIsReadBack) (integers : IntegerIsReadBack) (texts : 
       let head = length empty_primary + length (header (map_cards shape)) in
       let long : length front ≡ length empty_primary + length (map_hdu shape numbers) = length-append empty_primary (map_hdu shape numbers) in
       let next : head + padded size ≡ length front = omega (arith, long, map_long) in
-      let within : length front ≤ length bytes = omega (arith, ap length behind_table, length-append front (table_header columns cells ++ (filled 0 (table_bytes columns cells) ++ rest))) in
+      let within : length front ≤ length bytes =
+      omega (arith, ap length behind_table, length-append front (table_header columns cells ++ (filled 0 (table_bytes columns cells) ++ rest))) in
       let place : length front + length (table_header columns cells) ≡ table_start shape numbers columns rows =
       omega (arith, long) in
       ap (following_found bytes 2) second

@@ -183,7 +183,10 @@ module _ (integers : IntegerIsReadBack) (name : List ℕ) (eight : length name �
 pub simple_written : LogicalIsReadBack → is_first true (written_logical (codes "SIMPLE  ") true) ≡ true
 unfolding is_first
 simple_written logicals =
-    rw (has (codes "SIMPLE  ") (written_logical (codes "SIMPLE  ") true) (logical_keyword (codes "SIMPLE  ") true refl), logicals (codes "SIMPLE  ") true refl) refl
+    rw (
+      has (codes "SIMPLE  ") (written_logical (codes "SIMPLE  ") true) (logical_keyword (codes "SIMPLE  ") true refl),
+      logicals (codes "SIMPLE  ") true refl,
+    ) refl
 
 pub text_written : TextIsReadBack → (name text : List ℕ) → length name ≡ 8 → length text ≤ 68 → IsTrue (list_all is_plain text)
     → text_of (value_of (written_text name text)) ≡ Some (without_trailing_spaces text)
@@ -193,4 +196,7 @@ pub extension_written : TextIsReadBack → (text : List ℕ) → length text ≤
     → is_first false (written_text (codes "XTENSION") text) ≡ true
 unfolding is_first
 extension_written texts text few plain =
-    rw (has (codes "XTENSION") (written_text (codes "XTENSION") text) (text_keyword (codes "XTENSION") text refl), text_written texts (codes "XTENSION") text refl few plain) refl
+    rw (
+      has (codes "XTENSION") (written_text (codes "XTENSION") text) (text_keyword (codes "XTENSION") text refl),
+      text_written texts (codes "XTENSION") text refl few plain,
+    ) refl

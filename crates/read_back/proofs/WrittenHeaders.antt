@@ -57,7 +57,8 @@ module _ (logicals : LogicalIsReadBack) (integers : IntegerIsReadBack) where
   good zero low high = absurd (omega arith)
   good (suc zero) low high = mandatory 1 (omega arith) (simple_written logicals)
   good (suc (suc zero)) low high = mandatory 2 (omega arith) (ap is_some (depth_written integers (codes "BITPIX  ") refl 8 (omega arith) refl refl))
-  good (suc (suc (suc zero))) low high = mandatory 3 (omega arith) (ap is_some (naxis_written integers (codes "NAXIS   ") refl 0 (omega arith) refl (omega arith)))
+  good (suc (suc (suc zero))) low high =
+      mandatory 3 (omega arith) (ap is_some (naxis_written integers (codes "NAXIS   ") refl 0 (omega arith) refl (omega arith)))
   good (suc (suc (suc (suc zero)))) low high = bad_is true (nth cards) 4 ∙ rw axes refl
   good (suc (suc (suc (suc (suc zero))))) low high = bad_is true (nth cards) 5 ∙ rw axes refl
   good (suc (suc (suc (suc (suc (suc j)))))) low high = absurd (omega arith)
@@ -85,7 +86,12 @@ module _ (logicals : LogicalIsReadBack) (integers : IntegerIsReadBack) where
 
   said : header_of true (nth cards) 5 ≡ Ok primary_said
   unfolding header_of judged is_groups axes_of
-  said = rw (depth_written integers (codes "BITPIX  ") refl 8 (omega arith) refl refl, axes, not_below (2 ^ 40) primary_said.data_bytes (omega (arith, no_data))) refl
+  said =
+      rw (
+        depth_written integers (codes "BITPIX  ") refl 8 (omega arith) refl refl,
+        axes,
+        not_below (2 ^ 40) primary_said.data_bytes (omega (arith, no_data)),
+      ) refl
 
   pub primary_header : IsHeader true primary_cards primary_said
   unfolding primary_cards
@@ -114,7 +120,8 @@ apart_extname = record { going = refl; pcount = refl; gcount = refl; bscale = re
 
 extname_quiet : (text : List ℕ) → length text ≤ 68 → Quiet (written_text (codes "EXTNAME ") text)
 extname_quiet text few =
-    quiet (codes "EXTNAME ") (written_text (codes "EXTNAME ") text) (text_keyword (codes "EXTNAME ") text refl) (full_text (codes "EXTNAME ") text refl few) apart_extname
+    quiet (codes "EXTNAME ") (written_text (codes "EXTNAME ") text) (text_keyword (codes "EXTNAME ") text refl)
+    (full_text (codes "EXTNAME ") text refl few) apart_extname
 
 one_product : (k a b : ℕ) → k * (1 * (0 + a * (b * 1))) ≡ k * (a * b)
 one_product k a b =
@@ -221,7 +228,8 @@ pub map_header : IntegerIsReadBack → TextIsReadBack → (shape : Shape)
 unfolding map_cards
 map_header integers texts shape =
     let limits = shape.within_limits in
-    extension_header integers texts (codes "IMAGE") 32 shape.width shape.height (4 * (shape.width * shape.height)) (written_text (codes "EXTNAME ") (codes "SEGMENT") ∷ []) true
+    extension_header integers texts (codes "IMAGE") 32 shape.width shape.height (4 * (shape.width * shape.height))
+    (written_text (codes "EXTNAME ") (codes "SEGMENT") ∷ []) true
     (record {
       image_is = image_text texts;
       short = omega arith;
@@ -319,7 +327,8 @@ table_cards_are columns rows =
 pub table_header_is : IntegerIsReadBack → TextIsReadBack → (columns : List Column) (rows : ℕ) → length columns ≤ 99 → rows ≤ 2 ^ 24
     → AllByRecursion (λ column. length column.name ≤ 68) columns
     → IsHeader false (table_cards columns rows) (hdu_said false (pos 8) (row_size columns) rows (row_size columns * rows))
-table_header_is integers texts columns rows few_columns few_rows short = subst (λ l. IsHeader false l (hdu_said false (pos 8) (row_size columns) rows (row_size columns * rows)))
+table_header_is integers texts columns rows few_columns few_rows short =
+    subst (λ l. IsHeader false l (hdu_said false (pos 8) (row_size columns) rows (row_size columns * rows)))
     (table_cards_are columns rows)
     (extension_header integers texts (codes "BINTABLE") 8 (row_size columns) rows (row_size columns * rows) tail false
     (record {
@@ -336,7 +345,8 @@ table_header_is integers texts columns rows few_columns few_rows short = subst (
       others = (
         quiet (codes "TFIELDS ") fields (integer_keyword (codes "TFIELDS ") (pos (length columns)) refl)
             (full_integer (codes "TFIELDS ") (length columns) refl (omega (arith, few_columns))) apart_fields,
-        quiet_with (column_cards 1 columns) (name ∷ []) (columns_quiet 1 columns (omega (arith, few_columns)) short) (extname_quiet (codes "SOURCES") (omega arith), tt),
+        quiet_with (column_cards 1 columns) (name ∷ []) (columns_quiet 1 columns (omega (arith, few_columns)) short)
+            (extname_quiet (codes "SOURCES") (omega arith), tt),
       );
       few = omega (arith, many_column_cards 1 columns, length-append (column_cards 1 columns) (name ∷ []), few_columns);
     }))

@@ -17,5 +17,6 @@ returns c =
     ≡ column (codes "SEEN    ") J ∷ column (codes "MISSING ") J ∷ column (codes "VSUM    ") K ∷ column (codes "VLOW    ") K ∷ column (codes "VPEAK   ") K
     ∷ column (codes "VMEAN   ") K ∷ column (codes "VBACK   ") K ∷ [] =
     c.copy_from_slice-2.ensures.after
-    ∙ seven _ _ _ _ _ _ _ _ _ _ _ _ _ _ c.column.ensures c.column-2.ensures c.column-3.ensures c.column-4.ensures c.column-5.ensures c.column-6.ensures c.column-7.ensures in
+    ∙ seven _ _ _ _ _ _ _ _ _ _ _ _ _ _ c.column.ensures c.column-2.ensures c.column-3.ensures c.column-4.ensures c.column-5.ensures c.column-6.ensures
+    c.column-7.ensures in
     rw (first, last) (refl {a = measured_columns})
