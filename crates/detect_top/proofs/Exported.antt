@@ -2,7 +2,11 @@
 
 -- the verdict on an HDU is the one on what is found, and where nothing is found the reading stops by it
 pub use Rattle.detect_top.proofs.Images.{verdict_is, search_stopped}
--- what a source tells at one moment is one list of bytes
-pub use Rattle.detect_top.proofs.Ends.{same_bytes}
+-- where all was read, the end that wrote all is the answer's, and one at a write fault wrote a front of its output
+pub use Rattle.detect_top.proofs.Ends.{read_answered, read_cut}
+-- one of some counts of bytes was taken of those that are told; what a run does follows from its end
+pub use Rattle.detect_top.proofs.Ends.{took_one, run_of_end}
+-- the answer to a verdict, and to words and bytes, has the status 0, 1 or 2
+pub use Rattle.detect_top.proofs.AnswerStatus.{by_verdict, status_by_words_and_bytes}
 -- nodes that were picked are few; a number of a column of 32 bits fits it; a row that fits its columns fits those of the catalogue
 pub use Rattle.detect_top.proofs.Cells.{few_picked, column_fits, row_fits}

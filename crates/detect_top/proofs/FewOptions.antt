@@ -25,7 +25,8 @@ find_more test a zero = let same : a + 0 ≡ a = omega arith in rw same refl
 find_more test a (suc n) = by (test a) (find_more test (a + 1) n)
   where
     by : (b : Bool) → find test (range_with_len (a + 1) (suc n)) ≡ option_or (find test (range_with_len (a + 1) n)) (last_tried test (a + 1 + n))
-        → cond b (Some a) (find test (range_with_len (a + 1) (suc n))) ≡ option_or (cond b (Some a) (find test (range_with_len (a + 1) n))) (last_tried test (a + suc n))
+        → cond b (Some a) (find test (range_with_len (a + 1) (suc n)))
+        ≡ option_or (cond b (Some a) (find test (range_with_len (a + 1) n))) (last_tried test (a + suc n))
     by true rest = refl
     by false rest = let same : a + 1 + n ≡ a + suc n = omega arith in rest ∙ ap (λ k. option_or (find test (range_with_len (a + 1) n)) (last_tried test k)) same
 

@@ -30,14 +30,7 @@ made_of_image order image plane left tree (Err e) residual same is bytes = tt
 no_image : (made : Raster) → (let o : Option Raster = None in o) ≡ Some made → ⊥
 no_image made h = cc
 
--- a job that reads the input takes any plane
-pub suits_read : (job : Job) (plane : Raster) → image_made job ≡ None → SuitsJob job plane
-suits_read Tree plane is = tt
-suits_read (Filter rule criterion) plane is = tt
-suits_read (Detect choice) plane is = tt
-suits_read (Trial seed shape) plane is = absurd (no_image (trial_image seed shape) (sym is))
-
--- and a trial takes its image less the background
+-- a trial takes its image less the background
 pub suits_made : (job : Job) (seed : ℕ) (shape : Shape) (mesh : ℕ) (flat : Bool) → image_made job ≡ Some (trial_image seed shape)
     → SuitsJob job (residual_of (trial_image seed shape) mesh flat)
 suits_made Tree seed shape mesh flat is = absurd (no_image (trial_image seed shape) is)

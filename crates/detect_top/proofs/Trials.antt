@@ -58,10 +58,6 @@ value-of_state state (suc n) (suc k) lt = value-of_state (next_state state) n k 
 
 -- ---- its values
 
-pub trial_is_plane : (seed : ℕ) (shape : Shape) → IsPlane (trial_image seed shape)
-unfolding trial_image
-trial_is_plane seed shape = length-map (states_behind seed (shape.width * shape.height)) value_of_state ∙ length-states seed (shape.width * shape.height)
-
 pub trial_length : (seed : ℕ) (shape : Shape) → length (trial_image seed shape).values ≡ shape.width * shape.height
 unfolding trial_image
 trial_length seed shape = length-map (states_behind seed (shape.width * shape.height)) value_of_state ∙ length-states seed (shape.width * shape.height)
@@ -85,9 +81,6 @@ record IsByte (value : ℤ) : Type 0 where
 
 byte-of_state : (state : ℕ) → state < 2 ^ 32 → IsByte (pos (state / 2 ^ 24))
 byte-of_state state h = let l : state / 2 ^ 24 ≤ 255 = omega arith in record { low = omega (arith, ints); high = omega (arith, ints) }
-
-EachIsByte : List (Option ℤ) → Type 0
-EachIsByte values = (p : ℕ) (v : ℤ) → slice_get values p ≡ Some (Some v) → IsByte v
 
 bytes-of_states : (state n p : ℕ) (v : ℤ) → slice_get (map value_of_state (states_behind state n)) p ≡ Some (Some v) → IsByte v
 unfolding states_behind

@@ -52,12 +52,6 @@ IsCutShort (Hdu TruncatedSkip) = Unit {0}
 IsCutShort (Plane TruncatedData) = Unit {0}
 IsCutShort _ = ⊥
 
--- a fault before which memory may be wanted: that the bytes end within the image, or that a pixel is out of range, shows only
--- behind its header
-abbrev pub IsBehindHeader : Fault → Type 0
-IsBehindHeader (Plane fault) = Unit {0}
-IsBehindHeader _ = ⊥
-
 abbrev pub IsCutStop : Stop → Type 0
 IsCutStop (Refused fault) = IsCutShort fault
 IsCutStop _ = ⊥

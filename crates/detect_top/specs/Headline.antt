@@ -1,55 +1,183 @@
--- Model: the headline: what a run answers, by its status.
-use Rattle.std.specs.Prelude.{◌≡◌, ℕ, ◌≤◌, ◌⊎◌, Bool, List, IsTrue}
+-- Model: the headline: what words ask of an input, and what a run of them does.
+use Rattle.std.specs.Prelude.{◌≡◌, ℕ, ◌<◌, ◌≤◌, ◌⊎◌, ◌↔◌, Bool, true, false, List, [], ◌∷◌, Result, Ok, Err, Some, None, IsTrue}
 use Rattle.std.specs.declared.option.Option.{Option}
-use Rattle.std.specs.Io.KnownBytes.{Keeps}
+use Rattle.std.specs.Option.{ForSome}
+use Rattle.std.specs.Io.KnownBytes.{Appends, Keeps}
 use Rattle.dev_io.specs.Causes.{Rose}
-use Rattle.dev_io.specs.Streams.{AppendsPrefix}
+use Rattle.dev_io.specs.Streams.{Takes, TakesAtMost, AppendsPrefix}
 use Rattle.command_line.specs.Notes.{Noted}
+use Rattle.comp_tree.specs.Raster.{Raster}
+use Rattle.pixel_plane.specs.Verdicts.{Verdict, image, verdict_on, taken_for}
+use Rattle.detect_top.specs.declared.words.Order.{Order}
+use Rattle.detect_top.specs.declared.words.Usage.{Usage as AtFault}
 use Rattle.detect_top.specs.declared.top.End.{End}
-use Rattle.detect_top.specs.declared.top.End.TheVariants.{Done, Usage, Refused, ReadFault, WriteFault, NoMemory}
+use Rattle.detect_top.specs.declared.top.End.TheVariants.{Done, Usage, Refused}
 use Rattle.detect_top.specs.Words.{order_of}
-use Rattle.detect_top.specs.Faults.{IsCutShort, IsBehindHeader}
-use Rattle.detect_top.specs.Answers.{Answer, end_status, note_of}
-use Rattle.detect_top.specs.Runs.{Tells, ReadsInput, WantsMemory}
+use Rattle.detect_top.specs.Faults.{IsCutShort}
+use Rattle.detect_top.specs.Answers.{end_status, note_of, end_of}
+use Rattle.detect_top.specs.Streams.{stop_of, memory_at_verdict}
+use Rattle.detect_top.specs.Products.{output_of, image_made}
 
--- P holds of the bytes that the source tells. Where the words give no order that reads them, it need not tell them.
-abbrev pub ForBytes : List (List ℕ) → Option (List ℕ) → (List ℕ → Type 0) → Type 0
-ForBytes words left P = (bytes : List ℕ) → Tells (order_of words) left bytes → P bytes
+-- ---- what words ask
 
--- the answer's status, or that of a device's fault or of want of memory
-abbrev pub IsStatus : Answer → ℕ → Type 0
-IsStatus answer status = (status ≡ end_status answer.end) ⊎ ((3 ≤ status) × (status ≤ 5))
+-- how a run ends, with its status and its line on the notes; what it writes; and how many bytes it takes
+pub record Answer : Type 0 where
+  pub end : End
+  pub output : List ℕ
+  pub taken : ℕ
 
--- the answer has status 0, and a front of its output was written
-pub record CutsAnswer (answer : Answer) (old new : Option (List ℕ)) : Type 0 where
-  pub done : answer.end ≡ Done
-  pub front : AppendsPrefix old new answer.output
+-- what words ask of an input
+pub record Asked : Type 0 where
+  -- whether the words give an order
+  pub has_order : Bool
+  -- whether the input is read; where it isn't, it stays as it was
+  pub reads : Bool
+  -- what is answered to these bytes of the input
+  pub answer : List ℕ → Answer
+  -- how many of these bytes may have been taken when memory is wanted; it is never wanted where there are no such counts
+  pub memory_at : List ℕ → List ℕ
 
--- the count rose, the words give an order that reads, and nothing was written
-pub record ReadFails (words : List (List ℕ)) (faults faults' : ℕ) (written written' : Option (List ℕ)) : Type 0 where
-  pub rose : Rose faults faults'
-  pub reads : ReadsInput (order_of words)
-  pub nothing : Keeps written written'
+-- words without an order
+abbrev pub asked_nothing : AtFault → Asked
+asked_nothing usage = record {
+  has_order = false;
+  reads = false;
+  answer = λ bytes. record { end = Usage usage; output = []; taken = 0 };
+  memory_at = λ bytes. [];
+}
 
--- memory may be wanted for these, and so many bytes were taken then
-abbrev pub MayWantMemory : List (List ℕ) → List ℕ → Option (List ℕ) → Option (List ℕ) → Type 0
-MayWantMemory words bytes old new = WantsMemory (order_of words) bytes old new
+-- what is written by the verdict on the input's bytes
+abbrev pub output_on : Order → Verdict → List ℕ
+output_on order (image plane head end) = output_of order plane
+output_on order fault = []
 
--- how the run ended, and its line on the notes; a fault that only the end of the input shows comes only there
-pub record TellsEnd (status : ℕ) (ended' : Bool) (old new : Option (List ℕ)) (settled' : Bool) (faults faults' : ℕ) (end : End) : Type 0 where
+abbrev pub answer_to_verdict : Order → Verdict → Answer
+answer_to_verdict order found = record { end = end_of (stop_of found); output = output_on order found; taken = taken_for found }
+
+-- by the image that the job makes itself, which needs no bytes; without one the input is read
+abbrev pub asked_for : Order → Option Raster → Asked
+asked_for order (Some made) = record {
+  has_order = true;
+  reads = false;
+  answer = λ bytes. record { end = Done; output = output_of order made; taken = 0 };
+  memory_at = λ bytes. 0 ∷ [];
+}
+asked_for order None = record {
+  has_order = true;
+  reads = true;
+  answer = λ bytes. answer_to_verdict order (verdict_on bytes order.hdu);
+  memory_at = λ bytes. memory_at_verdict (verdict_on bytes order.hdu);
+}
+
+abbrev pub asked_by : Result Order AtFault → Asked
+asked_by (Err usage) = asked_nothing usage
+asked_by (Ok order) = asked_for order (image_made order.job)
+
+abbrev pub asked_of : List (List ℕ) → Asked
+asked_of words = asked_by (order_of words)
+
+-- what these words and bytes alone determine
+abbrev pub answer_to_words : List (List ℕ) → List ℕ → Answer
+answer_to_words words bytes = (asked_of words).answer bytes
+
+-- ---- what a run makes of its devices, as far as these tell their bytes
+
+-- of its input: the bytes that were left before and behind the run, whether their end was seen, and the count of faults
+pub record InputUse : Type 0 where
+  pub left : Option (List ℕ)
+  pub left' : Option (List ℕ)
+  pub ended : Bool
+  pub ended' : Bool
+  pub faults : ℕ
+  pub faults' : ℕ
+
+-- of its output, or of the notes: the bytes that were written before and behind it, whether they were handed on, and the count of faults
+pub record OutputUse : Type 0 where
+  pub written : Option (List ℕ)
+  pub written' : Option (List ℕ)
+  pub settled' : Bool
+  pub faults : ℕ
+  pub faults' : ℕ
+
+-- from one state of a device to another
+abbrev pub use_of_input : {S : Type 0} → (S → Option (List ℕ)) → (S → Bool) → (S → ℕ) → S → S → InputUse
+use_of_input left ended faults old new =
+    record { left = left old; left' = left new; ended = ended old; ended' = ended new; faults = faults old; faults' = faults new }
+
+abbrev pub use_of_output : {O : Type 0} → (O → Option (List ℕ)) → (O → Bool) → (O → ℕ) → O → O → OutputUse
+use_of_output written settled faults old new =
+    record { written = written old; written' = written new; settled' = settled new; faults = faults old; faults' = faults new }
+
+-- nothing was asked of the input
+pub record IsUnused (i : InputUse) : Type 0 where
+  pub same_left : i.left' ≡ i.left
+  pub same_end : i.ended' ≡ i.ended
+  pub same_faults : i.faults' ≡ i.faults
+
+-- the first n bytes were taken
+abbrev pub Took : Option (List ℕ) → Option (List ℕ) → ℕ → Type 0
+Took old new n = ForSome old (λ bytes. Takes bytes new n)
+
+-- a front of the first n bytes was taken
+abbrev pub TookAtMost : Option (List ℕ) → Option (List ℕ) → ℕ → Type 0
+TookAtMost old new n = ForSome old (λ bytes. TakesAtMost bytes new n)
+
+-- one of these counts of bytes was taken, so there is one
+abbrev pub TookOneOf : Option (List ℕ) → Option (List ℕ) → List ℕ → Type 0
+TookOneOf old new [] = ⊥
+TookOneOf old new (n ∷ counts) = Took old new n ⊎ TookOneOf old new counts
+
+-- ---- the run
+
+-- these are the bytes that the input tells; where it isn't read it need not tell them
+abbrev pub Tells : Asked → Option (List ℕ) → List ℕ → Type 0
+Tells asked left bytes = asked.reads ≡ true → left ≡ Some bytes
+
+-- what a run does with this status, by the answer, and by the counts at which memory may be wanted
+pub record Follows (answer : Answer) (memory_at : List ℕ) (i : InputUse) (o n : OutputUse) (status : ℕ) : Type 0 where
+  -- the status is the answer's, or a device's fault or want of memory came between
+  pub status_is : (status ≡ end_status answer.end) ⊎ ((3 ≤ status) × (status ≤ 5))
+  -- where nothing came between, all of the answer's output was written,
+  pub writes : status < 3 → Appends o.written o.written' answer.output
+  -- its bytes were taken,
+  pub takes : status < 3 → Took i.left i.left' answer.taken
+  -- and the notes got its line, or a front of it and a fault
+  pub notes : status < 3 → Noted n.written n.written' n.settled' n.faults n.faults' (note_of answer.end)
+  -- at a read fault no more bytes were taken than the answer takes
+  pub read_so_far : status ≡ 3 → TookAtMost i.left i.left' answer.taken
+  -- at a write fault the answer is done, a front of its output was written,
+  pub written_so_far : status ≡ 4 → (answer.end ≡ Done) × AppendsPrefix o.written o.written' answer.output
+  -- and its bytes were taken
+  pub taken_before : status ≡ 4 → Took i.left i.left' answer.taken
+  -- memory is wanted only at these counts
+  pub memory_wanted : status ≡ 5 → TookOneOf i.left i.left' memory_at
+  -- where no count of faults rose the status is the answer's, or memory was wanted
+  pub complete : (Rose i.faults i.faults' → ⊥) → (Rose o.faults o.faults' → ⊥) → (status ≡ end_status answer.end) ⊎ (status ≡ 5)
+
+-- how a run ended, and its line on the notes; a fault that only the end of the input shows comes only there
+pub record TellsEnd (i : InputUse) (n : OutputUse) (status : ℕ) (end : End) : Type 0 where
   pub status_is : status ≡ end_status end
-  pub noted : Noted old new settled' faults faults' (note_of end)
-  pub cut : (fault : _) → end ≡ Refused fault → IsCutShort fault → IsTrue ended'
+  pub noted : Noted n.written n.written' n.settled' n.faults n.faults' (note_of end)
+  pub cut : (fault : _) → end ≡ Refused fault → IsCutShort fault → IsTrue i.ended'
 
--- memory may be wanted for this answer
-abbrev pub MayLackMemory : End → Type 0
-MayLackMemory Done = Unit {0}
-MayLackMemory (Usage usage) = ⊥
-MayLackMemory (Refused fault) = IsBehindHeader fault
-MayLackMemory ReadFault = ⊥
-MayLackMemory WriteFault = ⊥
-MayLackMemory NoMemory = ⊥
-
--- the answer's status, or want of memory where it may come
-abbrev pub IsAnswered : Answer → ℕ → Type 0
-IsAnswered answer status = (status ≡ end_status answer.end) ⊎ ((status ≡ 5) × MayLackMemory answer.end)
+-- What a run of words that ask this does to its input, its output and its notes, and its status: 0 where all was written, 1 where the words give
+-- no order, 2 where the input is refused, 3 at a read fault, 4 at a write fault, and 5 where memory is wanted.
+pub record IsRunOf (asked : Asked) (i : InputUse) (o n : OutputUse) (status : ℕ) : Type 0 where
+  -- what follows from the input's bytes
+  pub told : (bytes : List ℕ) → Tells asked i.left bytes → Follows (asked.answer bytes) (asked.memory_at bytes) i o n status
+  -- words without an order give status 1, and no others do
+  pub usage : (asked.has_order ≡ false) ↔ (status ≡ 1)
+  -- at status 0 the output was handed on
+  pub settled : status ≡ 0 → IsTrue o.settled'
+  -- where the input is refused nothing was written
+  pub refused : status ≡ 2 → Keeps o.written o.written'
+  -- a read fault comes only where the input's count of faults rose and the words ask to read it, and nothing was written
+  pub read_fault : status ≡ 3 → Rose i.faults i.faults' × (asked.reads ≡ true) × Keeps o.written o.written'
+  -- a write fault comes only where the output's count rose
+  pub write_fault : status ≡ 4 → Rose o.faults o.faults'
+  -- memory is wanted before anything is written
+  pub memory : status ≡ 5 → Keeps o.written o.written'
+  -- the notes got the line of an end with this status
+  pub noted : (end : End) × TellsEnd i n status end
+  -- what isn't read is left alone
+  pub untouched : asked.reads ≡ false → IsUnused i

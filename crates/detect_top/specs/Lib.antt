@@ -8,7 +8,6 @@ pub mod Trials
 pub mod Products
 pub mod Streams
 pub mod Answers
-pub mod Runs
 pub mod Headline
 pub mod Laws
 pub mod Writables

@@ -1,5 +1,5 @@
 -- Model: what reading an image does to the bytes that are told.
-use Rattle.std.specs.Prelude.{◌≡◌, ℕ, ◌⊎◌, List, Some, None}
+use Rattle.std.specs.Prelude.{◌≡◌, ℕ, ◌⊎◌, List, [], ◌∷◌, Some, None}
 use Rattle.std.specs.declared.option.Option.{Option}
 use Rattle.dev_io.specs.Streams.{Takes, TakesAtMost}
 use Rattle.comp_tree.specs.Raster.{Raster, IsPlane}
@@ -17,13 +17,19 @@ pub record ImageRead (found : Verdict) (bytes : List ℕ) (left : Option (List �
   pub whole : IsPlane plane
   pub takes : Takes bytes left end
 
--- where memory may be wanted: behind the header of an image, also of one that is cut or has a pixel out of range, or behind the image
-abbrev pub MemoryWanted : Verdict → List ℕ → Option (List ℕ) → Type 0
-MemoryWanted (image plane head end) bytes left = Takes bytes left head ⊎ Takes bytes left end
-MemoryWanted (unfound fault taken) bytes left = ⊥
-MemoryWanted (unreadable fault head) bytes left = ⊥
-MemoryWanted (truncated head taken) bytes left = Takes bytes left head
-MemoryWanted (out_of_range head end pixel stored) bytes left = Takes bytes left head
+-- how many bytes may have been taken when memory is wanted: those to the end of the header of an image, also of one that is cut or has a pixel
+-- out of range, or those to the end of the image
+abbrev pub memory_at_verdict : Verdict → List ℕ
+memory_at_verdict (image plane head end) = head ∷ end ∷ []
+memory_at_verdict (unfound fault taken) = []
+memory_at_verdict (unreadable fault head) = []
+memory_at_verdict (truncated head taken) = head ∷ []
+memory_at_verdict (out_of_range head end pixel stored) = head ∷ []
+
+-- one of these counts of bytes was taken
+abbrev pub TakesOneOf : List ℕ → List ℕ → Option (List ℕ) → Type 0
+TakesOneOf [] bytes left = ⊥
+TakesOneOf (n ∷ counts) bytes left = Takes bytes left n ⊎ TakesOneOf counts bytes left
 
 -- the stop by which the verdict shows, where it isn't an image
 abbrev pub stop_of : Verdict → Option Stop
@@ -33,8 +39,12 @@ stop_of (unreadable fault head) = Some (Refused (Image fault))
 stop_of (truncated head taken) = Some (Refused (Plane TruncatedData))
 stop_of (out_of_range head end pixel stored) = Some (Refused (Plane (PixelRange pixel stored)))
 
--- what a stop says of the bytes: a refusal is the verdict's, and its bytes were taken
+-- what a stop says of the bytes, by the stop that a verdict shows, the bytes that are taken for it, and the counts at which memory may be wanted:
+-- a refusal is the verdict's, and its bytes were taken
+abbrev pub StoppedBy : Option Stop → ℕ → List ℕ → List ℕ → Option (List ℕ) → Stop → Type 0
+StoppedBy shown taken counts bytes left (Refused fault) = (shown ≡ Some (Refused fault)) × Takes bytes left taken
+StoppedBy shown taken counts bytes left ReadFault = TakesAtMost bytes left taken
+StoppedBy shown taken counts bytes left NoMemory = TakesOneOf counts bytes left
+
 abbrev pub ImageStopped : Verdict → List ℕ → Option (List ℕ) → Stop → Type 0
-ImageStopped found bytes left (Refused fault) = (stop_of found ≡ Some (Refused fault)) × Takes bytes left (taken_for found)
-ImageStopped found bytes left ReadFault = TakesAtMost bytes left (taken_for found)
-ImageStopped found bytes left NoMemory = MemoryWanted found bytes left
+ImageStopped found bytes left stop = StoppedBy (stop_of found) (taken_for found) (memory_at_verdict found) bytes left stop

@@ -61,9 +61,7 @@ fn table_cells(
     };
     for (place, node) in picked.iter().enumerate() {
         let row = row(tree, sums, place as u32 + 1, *node);
-        if let Err(error) = add_row(&mut table, &row) {
-            return Err(error);
-        }
+        add_row(&mut table, &row)?;
     }
     Ok(table)
 }

@@ -93,22 +93,14 @@ fn make_of<R: Threads + Sync>(
         bytes_of product ≡ output_of_job job connect plane.now) }
 {
     match job {
-        Job::Tree => match node_areas(alloc, plane, tree) {
-            Ok(nodes) => Ok(Product::Nodes(nodes)),
-            Err(error) => Err(error),
-        },
-        Job::Filter { rule, criterion } => match filtered(alloc, plane, &tree, rule, &criterion) {
-            Ok(plane) => Ok(Product::Image(plane)),
-            Err(error) => Err(error),
-        },
-        Job::Detect { choice } => match detect(rt, alloc, plane, &tree, &choice, workers) {
-            Ok(found) => Ok(Product::Sources(found)),
-            Err(error) => Err(error),
-        },
-        Job::Trial { .. } => match summarize(rt, alloc, plane, &tree, workers) {
-            Ok(summary) => Ok(Product::Told(summary)),
-            Err(error) => Err(error),
-        },
+        Job::Tree => Ok(Product::Nodes(node_areas(alloc, plane, tree)?)),
+        Job::Filter { rule, criterion } => Ok(Product::Image(filtered(
+            alloc, plane, &tree, rule, &criterion,
+        )?)),
+        Job::Detect { choice } => Ok(Product::Sources(detect(
+            rt, alloc, plane, &tree, &choice, workers,
+        )?)),
+        Job::Trial { .. } => Ok(Product::Told(summarize(rt, alloc, plane, &tree, workers)?)),
     }
 }
 
@@ -141,12 +133,11 @@ fn without_far<R: Threads + Sync>(
     choice: Choice,
     workers: u32,
 ) -> Result<Plane, OutOfMemory>
-    ensures { IfOk result (λ left. detected_hdus left connect choice ≡ detected_hdus plane connect choice) }
+    ensures { IfOk result
+        (λ left. detected_hdus left connect choice ≡ detected_hdus plane connect choice) }
 {
-    match clear_far(rt, alloc, &mut plane, connect, choice.threshold, workers) {
-        Ok(()) => Ok(plane),
-        Err(error) => Err(error),
-    }
+    clear_far(rt, alloc, &mut plane, connect, choice.threshold, workers)?;
+    Ok(plane)
 }
 
 /// What an order makes of an image. All memory for it is taken here.
@@ -163,18 +154,9 @@ pub(crate) fn make<R: Threads + Sync, G: Gate>(
     ensures writable { IfOk result (λ product. IsWritable product) }
     ensures bytes { IfOk result (λ product. bytes_of product ≡ output_of order image) }
 {
-    let plane = match residual_plane(rt, alloc, image, order.mesh, order.flat) {
-        Ok(plane) => plane,
-        Err(error) => return Err(error),
-    };
-    let plane = match working_plane(rt, alloc, plane, order) {
-        Ok(plane) => plane,
-        Err(error) => return Err(error),
-    };
-    let tree = match component_tree(rt, alloc, &plane, order, gate) {
-        Ok(tree) => tree,
-        Err(error) => return Err(error),
-    };
+    let residual = residual_plane(rt, alloc, image, order.mesh, order.flat)?;
+    let plane = working_plane(rt, alloc, residual, order)?;
+    let tree = component_tree(rt, alloc, &plane, order, gate)?;
     make_of(rt, alloc, order.job, order.workers, &plane, tree)
 }
 
@@ -193,10 +175,8 @@ pub(crate) fn make_trial<R: Threads + Sync, G: Gate>(
     ensures bytes { IfOk result
         (λ product. bytes_of product ≡ output_of order (image_of seed shape)) }
 {
-    match trial_image(alloc, seed, shape) {
-        Ok(image) => make(rt, alloc, image, order, gate),
-        Err(error) => Err(error),
-    }
+    let image = trial_image(alloc, seed, shape)?;
+    make(rt, alloc, image, order, gate)
 }
 
 fn put_product<O: Sink>(output: &mut O, product: &Product) -> Result<(), WriteFault>

@@ -1,21 +1,18 @@
 //! The run as a whole.
-ghost use Rattle.std.specs.Prelude.{◌≡◌, ◌<◌, ◌≤◌, ◌↔◌, ℕ, List, Bool, Option, length, Ok, Some, None, IfOk, IfErr, MatchResult, IsErrOf, OnOk, IsErr, IsTrue};
+ghost use Rattle.std.specs.Prelude.{◌≡◌, ℕ, List, Bool, true, false, Option, Ok, Some, None, IfOk, IfErr, MatchResult, IsErrOf, IsTrue};
 ghost use Rattle.std.specs.Option.{ForSome};
-ghost use Rattle.std.specs.Io.KnownBytes.{Appends, Keeps};
 ghost use Rattle.dev_io.specs.Causes.{Rose};
 ghost use Rattle.pixel_plane.specs.Verdicts.{verdict_on};
 ghost use Rattle.command_line.specs.Lines.{texts};
-ghost use Rattle.detect_top.specs.Words.{order_of, HasLimits};
+ghost use Rattle.detect_top.specs.Words.{HasLimits};
 ghost use Rattle.detect_top.specs.Faults.{IsCutStop};
 ghost use Rattle.detect_top.specs.Products.{image_made};
 ghost use Rattle.detect_top.specs.Writables.{bytes_of, IsWritable};
 ghost use Rattle.detect_top.specs.Trials.{trial_image as image_of};
 ghost use Rattle.detect_top.specs.Streams.{ImageStopped};
-ghost use Rattle.detect_top.specs.Answers.{answer_to_words, note_of, end_status};
-ghost use Rattle.command_line.specs.Notes.{Noted, SourceStays};
-ghost use Rattle.detect_top.specs.Runs.{Took, TookAtMost, Tells, use_of_input, use_of_output, LeavesInput};
-ghost use Rattle.detect_top.specs.RunEnds.{ProductRead, no_use, EndBytes, EndCause};
-ghost use Rattle.detect_top.specs.Headline.{ForBytes, IsAnswered, IsStatus, CutsAnswer, MayWantMemory, ReadFails, TellsEnd};
+ghost use Rattle.detect_top.specs.Answers.{end_status};
+ghost use Rattle.detect_top.specs.RunEnds.{AllRead, no_use, EndBytes, EndCause};
+ghost use Rattle.detect_top.specs.Headline.{answer_to_verdict, asked_by, asked_of, Tells, use_of_input, use_of_output, IsUnused, IsRunOf};
 
 use crate::image::{Stop, read_image};
 use crate::notes::tell;
@@ -66,12 +63,12 @@ fn read_and_make<R: Threads + Sync, S: Source, G: Gate>(
     requires limits { HasLimits order }
     requires reads { image_made order.job ≡ None }
     ensures told { ForSome (S.left input.old) (λ bytes. MatchResult result
-        (λ product. ProductRead order bytes (S.left input.new) (bytes_of product))
+        (λ product. AllRead (answer_to_verdict order (verdict_on bytes order.hdu)) bytes
+        (S.left input.new) (bytes_of product))
         (λ stop. ImageStopped (verdict_on bytes order.hdu) bytes (S.left input.new) stop)) }
     ensures writable { IfOk result (λ product. IsWritable product) }
     ensures reads { IsErrOf result Stop.ReadFault → Rose (S.faults input.old) (S.faults input.new) }
     ensures ended { IfErr result (λ stop. IsCutStop stop → IsTrue (S.ended input.new)) }
-    ensures later { S.faults input.old ≤ S.faults input.new }
 {
     let image = match read_image(alloc, input, order.hdu) {
         Ok(image) => image,
@@ -94,13 +91,14 @@ fn carry_out<R: Threads + Sync, S: Source, O: Sink, G: Gate>(
 ) -> End
     requires limits { HasLimits order }
     requires reads { image_made order.job ≡ None }
-    ensures bytes { (bytes : List ℕ) → Tells (Ok order) (S.left input.old) bytes →
-        EndBytes (Ok order) bytes (use_of_input S.left S.ended S.faults input.old input.new)
+    ensures reads { (asked_by (Ok order)).reads ≡ true }
+    ensures bytes { (bytes : List ℕ) → Tells (asked_by (Ok order)) (S.left input.old) bytes →
+        EndBytes (asked_by (Ok order)) bytes
+        (use_of_input S.left S.ended S.faults input.old input.new)
         (use_of_output O.written O.settled O.faults output.old output.new) result }
-    ensures cause { EndCause (Ok order) (use_of_input S.left S.ended S.faults input.old input.new)
+    ensures cause { EndCause (asked_by (Ok order))
+        (use_of_input S.left S.ended S.faults input.old input.new)
         (use_of_output O.written O.settled O.faults output.old output.new) result }
-    ensures read_later { S.faults input.old ≤ S.faults input.new }
-    ensures write_later { O.faults output.old ≤ O.faults output.new }
 {
     let product = match read_and_make(rt, alloc, order, input, gate) {
         Ok(product) => product,
@@ -127,10 +125,11 @@ fn try_out<R: Threads + Sync, O: Sink, G: Gate>(
     requires limits { HasLimits order }
     requires trial { image_made order.job ≡ Some (image_of seed shape) }
     ensures bytes { (bytes : List ℕ) (left : Option (List ℕ)) (ended : Bool) (faults : ℕ) →
-        EndBytes (Ok order) bytes (no_use left ended faults) (use_of_output O.written O.settled O.faults output.old output.new) result }
+        EndBytes (asked_by (Ok order)) bytes (no_use left ended faults)
+        (use_of_output O.written O.settled O.faults output.old output.new) result }
     ensures cause { (left : Option (List ℕ)) (ended : Bool) (faults : ℕ) →
-        EndCause (Ok order) (no_use left ended faults) (use_of_output O.written O.settled O.faults output.old output.new) result }
-    ensures write_later { O.faults output.old ≤ O.faults output.new }
+        EndCause (asked_by (Ok order)) (no_use left ended faults)
+        (use_of_output O.written O.settled O.faults output.old output.new) result }
 {
     let product = match make_trial(rt, alloc, order, seed, shape, gate) {
         Ok(product) => product,
@@ -150,15 +149,15 @@ fn work<R: Threads + Sync, S: Source, O: Sink, G: Gate>(
     output: &mut O,
     gate: &G,
 ) -> End
-    ensures bytes { (bytes : List ℕ) → Tells (order_of (texts words.now)) (S.left input.old) bytes →
-        EndBytes (order_of (texts words.now)) bytes (use_of_input S.left S.ended S.faults input.old input.new)
+    ensures bytes { (bytes : List ℕ) → Tells (asked_of (texts words.now)) (S.left input.old) bytes →
+        EndBytes (asked_of (texts words.now)) bytes
+        (use_of_input S.left S.ended S.faults input.old input.new)
         (use_of_output O.written O.settled O.faults output.old output.new) result }
-    ensures cause { EndCause (order_of (texts words.now)) (use_of_input S.left S.ended S.faults input.old input.new)
+    ensures cause { EndCause (asked_of (texts words.now))
+        (use_of_input S.left S.ended S.faults input.old input.new)
         (use_of_output O.written O.settled O.faults output.old output.new) result }
-    ensures read_later { S.faults input.old ≤ S.faults input.new }
-    ensures write_later { O.faults output.old ≤ O.faults output.new }
-    ensures untouched { LeavesInput (order_of (texts words.now)) →
-        SourceStays S.left S.ended S.faults input.old input.new }
+    ensures untouched { (asked_of (texts words.now)).reads ≡ false →
+        IsUnused (use_of_input S.left S.ended S.faults input.old input.new) }
 {
     let order = match read_words(words) {
         Ok(order) => order,
@@ -170,11 +169,9 @@ fn work<R: Threads + Sync, S: Source, O: Sink, G: Gate>(
     }
 }
 
-/// Does what the words say, over this input. The status is 0 where all was written, 1 where the words give no order, 2
-/// where the input is refused, 3 at a read fault, 4 at a write fault and 5 where memory is wanted.
+/// Does what the words say, over this input.
 ///
-/// All memory is taken before the first byte of output, which comes in pieces of at most 2,880 bytes. The notes get one
-/// line where the status isn't 0.
+/// All memory is taken before the first byte of output, which comes in pieces of at most 2,880 bytes.
 pub fn run<R: Threads + Sync, S: Source, O: Sink, N: Sink, G: Gate>(
     rt: &R,
     alloc: Global,
@@ -184,55 +181,10 @@ pub fn run<R: Threads + Sync, S: Source, O: Sink, N: Sink, G: Gate>(
     notes: &mut N,
     gate: &G,
 ) -> u8
-    // The status is the answer's, or a device's fault or want of memory came between.
-    ensures status { ForBytes (texts words.now) (S.left input.old) (λ bytes.
-        IsStatus (answer_to_words (texts words.now) bytes) result) }
-
-    // At the answer's own status its output was written, and its bytes were taken.
-    ensures writes { result < 3 → ForBytes (texts words.now) (S.left input.old) (λ bytes.
-        Appends (O.written output.old) (O.written output.new) (answer_to_words (texts words.now) bytes).output) }
-    ensures takes { result < 3 → ForBytes (texts words.now) (S.left input.old) (λ bytes.
-        Took (S.left input.old) (S.left input.new) (answer_to_words (texts words.now) bytes).taken) }
-    ensures settled { result ≡ 0 → IsTrue (O.settled output.new) }
-
-    // A read fault comes only where the input's count rose.
-    ensures read_fault { result ≡ 3 →
-        ReadFails (texts words.now) (S.faults input.old) (S.faults input.new)
-        (O.written output.old) (O.written output.new) }
-    ensures read_so_far { result ≡ 3 → ForBytes (texts words.now) (S.left input.old) (λ bytes.
-        TookAtMost (S.left input.old) (S.left input.new) (answer_to_words (texts words.now) bytes).taken) }
-
-    // A write fault comes only where the output's count rose.
-    ensures write_fault { result ≡ 4 → Rose (O.faults output.old) (O.faults output.new) }
-    ensures written_so_far { result ≡ 4 → ForBytes (texts words.now) (S.left input.old) (λ bytes.
-        CutsAnswer (answer_to_words (texts words.now) bytes) (O.written output.old) (O.written output.new)) }
-    ensures taken_before { result ≡ 4 → ForBytes (texts words.now) (S.left input.old) (λ bytes.
-        Took (S.left input.old) (S.left input.new) (answer_to_words (texts words.now) bytes).taken) }
-
-    // Memory is wanted only for an image or a cut one, and before anything is written.
-    ensures memory { result ≡ 5 → Keeps (O.written output.old) (O.written output.new) }
-    ensures memory_wanted { result ≡ 5 → ForBytes (texts words.now) (S.left input.old) (λ bytes.
-        MayWantMemory (texts words.now) bytes (S.left input.old) (S.left input.new)) }
-
-    // The notes get one line, and change nothing.
-    ensures noted { (end : End) × TellsEnd result (S.ended input.new) (N.written notes.old) (N.written notes.new)
-        (N.settled notes.new) (N.faults notes.old) (N.faults notes.new) end }
-    ensures notes { result < 3 → ForBytes (texts words.now) (S.left input.old) (λ bytes.
-        Noted (N.written notes.old) (N.written notes.new) (N.settled notes.new) (N.faults notes.old) (N.faults notes.new)
-        (note_of (answer_to_words (texts words.now) bytes).end)) }
-
-    // Without an order and for a trial the input is left alone.
-    ensures untouched { LeavesInput (order_of (texts words.now)) →
-        SourceStays S.left S.ended S.faults input.old input.new }
-
-    // Where no count rose the status is the answer's, or memory is wanted where it may be.
-    ensures complete { (Rose (S.faults input.old) (S.faults input.new) → ⊥) →
-        (Rose (O.faults output.old) (O.faults output.new) → ⊥) →
-        ForBytes (texts words.now) (S.left input.old)
-        (λ bytes. IsAnswered (answer_to_words (texts words.now) bytes) result) }
-
-    // Words without an order give status 1, and no others do.
-    ensures usage { IsErr (order_of (texts words.now)) ↔ (result ≡ 1) }
+    ensures { IsRunOf (asked_of (texts words.now))
+        (use_of_input S.left S.ended S.faults input.old input.new)
+        (use_of_output O.written O.settled O.faults output.old output.new)
+        (use_of_output N.written N.settled N.faults notes.old notes.new) result }
 {
     let end = work(rt, alloc, words, input, output, gate);
     tell(notes, end);

@@ -1,5 +1,5 @@
 -- The verdict on two, where the earlier HDU is an image.
-use Rattle.std.proofs.Common.{◌≡◌, ℕ, ◌+◌, ◌≤◌, Bool, true, false, ◌&&◌, not, cond, nat_lt, eqb, List, drop, length, refl, sym, ◌∙◌, subst, ap, arith, Result}
+use Rattle.std.proofs.Common.{◌≡◌, ℕ, ◌+◌, ◌≤◌, Bool, true, false, cond, nat_lt, eqb, List, drop, length, refl, sym, ◌∙◌, subst, ap, arith, Result}
 use Rattle.std.proofs.Common.{Ok, Err}
 use Rattle.std.specs.Prelude.{Some, None}
 use Rattle.std.specs.declared.option.Option.{Option}

@@ -13,9 +13,6 @@ use Rattle.measure_top.specs.Picks.{IsCutUpTo}
 raster_is : (r s : Raster) → r.shape ≡ s.shape → r.values ≡ s.values → r ≡ s
 raster_is r s same values = λ i. record { shape = same i; values = values i }
 
-pub cut_none : (r : Raster) (h : ℤ) → IsCutUpTo r h 0 r
-cut_none r h = record { same_shape = refl; one_each = refl; done = λ p l. absurd (omega arith); rest = λ p l. refl }
-
 pub cut_skip : (r plane : Raster) (h : ℤ) (p : ℕ) → IsCutUpTo r h p plane → is_at_least plane h p ≡ true → IsCutUpTo r h (p + 1) plane
 cut_skip r plane h p c k = record {
   same_shape = c.same_shape;

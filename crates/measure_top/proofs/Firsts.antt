@@ -1,5 +1,5 @@
 -- The image of the earlier HDU, and where its reading stops.
-use Rattle.std.proofs.Common.{◌≡◌, ℕ, ◌+◌, ◌<◌, ◌≤◌, ◌⊎◌, inl, inr, Bool, true, false, cond, nat_lt, List, drop, length, refl, sym, ◌∙◌, subst, ap, arith}
+use Rattle.std.proofs.Common.{◌≡◌, ℕ, ◌+◌, ◌<◌, ◌≤◌, inl, inr, Bool, true, false, cond, nat_lt, List, [], ◌∷◌, drop, length, refl, sym, ◌∙◌, subst, ap, arith}
 use Rattle.std.proofs.Common.{Result, Ok, Err}
 use Rattle.std.specs.Prelude.{Some, None, MatchResult}
 use Rattle.std.specs.declared.option.Option.{Option}
@@ -24,13 +24,13 @@ use Rattle.pixel_plane.proofs.Exported.{all_data}
 use Rattle.detect_top.specs.declared.image.Stop.{Stop}
 use Rattle.detect_top.specs.declared.image.Stop.TheVariants.{Refused, ReadFault, NoMemory}
 use Rattle.detect_top.specs.Faults.{stop_at_hdu}
-use Rattle.detect_top.specs.Streams.{ImageRead, ImageStopped}
+use Rattle.detect_top.specs.Streams.{ImageRead, ImageStopped, TakesOneOf}
 use Rattle.detect_top.proofs.Exported.{verdict_is}
 use Rattle.measure_top.specs.declared.images.FirstImage.{FirstImage}
 use Rattle.measure_top.specs.declared.images.TwoPlanes.{TwoPlanes}
 use Rattle.measure_top.specs.FirstImages.{FirstImageRead}
 use Rattle.measure_top.specs.TwoImages.{TwoVerdict, header_shape, is_other_shape, verdict_beside, combined_verdict, verdict_on_two, taken_for_two}
-use Rattle.measure_top.specs.TwoImages.{MemoryWantedForTwo}
+use Rattle.measure_top.specs.TwoImages.{memory_at_two}
 use Rattle.measure_top.specs.TwoReads.{TwoRead, TwoStopped}
 use Rattle.measure_top.proofs.Besides.{two_is, search_most, search_beside}
 
@@ -109,26 +109,23 @@ behind_first bytes at number plane head end low v = by (find_of bytes at) refl
         let there : HasData bytes at hdu head = record { is = place.is; whole = subst (λ n. n ≤ length bytes) place.end_is place.within } in
         (subst (λ n. n ≤ taken_by (find_of bytes number)) (sym place.end_is) (data_taken bytes at number hdu head there low), place.within)
 
--- where memory is wanted for the earlier image, it is for both
-first_wanted : (first : Raster) (head end : ℕ) (later : Verdict) (shape : Option Shape) (bytes : List ℕ) (left : Option (List ℕ)) (other : Bool)
-    → is_other_shape first.shape shape ≡ other
-    → Takes bytes left head ⊎ Takes bytes left end → MemoryWantedForTwo (verdict_beside first head end later shape) bytes left
-first_wanted first head end (unfound fault taken) shape bytes left other e (inl takes) = inl takes
-first_wanted first head end (unfound fault taken) shape bytes left other e (inr takes) = inr (inl takes)
-first_wanted first head end (unreadable fault head') shape bytes left other e (inl takes) = inl takes
-first_wanted first head end (unreadable fault head') shape bytes left other e (inr takes) = inr (inl takes)
-first_wanted first head end (truncated head' taken) shape bytes left true e (inl takes) = rw e (inl takes)
-first_wanted first head end (truncated head' taken) shape bytes left true e (inr takes) = rw e (inr takes)
-first_wanted first head end (truncated head' taken) shape bytes left false e (inl takes) = rw e (inl takes)
-first_wanted first head end (truncated head' taken) shape bytes left false e (inr takes) = rw e (inr (inl takes))
-first_wanted first head end (out_of_range head' end' pixel stored) shape bytes left true e (inl takes) = rw e (inl takes)
-first_wanted first head end (out_of_range head' end' pixel stored) shape bytes left true e (inr takes) = rw e (inr takes)
-first_wanted first head end (out_of_range head' end' pixel stored) shape bytes left false e (inl takes) = rw e (inl takes)
-first_wanted first head end (out_of_range head' end' pixel stored) shape bytes left false e (inr takes) = rw e (inr (inl takes))
-first_wanted first head end (image second head' end') shape bytes left true e (inl takes) = rw e (inl takes)
-first_wanted first head end (image second head' end') shape bytes left true e (inr takes) = rw e (inr takes)
-first_wanted first head end (image second head' end') shape bytes left false e (inl takes) = rw e (inl takes)
-first_wanted first head end (image second head' end') shape bytes left false e (inr takes) = rw e (inr (inl takes))
+-- behind the earlier image memory may be wanted as for that image alone, and then as it may further on
+beside_counts : (first : Raster) (head end : ℕ) (later : Verdict) (shape : Option Shape) (other : Bool) → is_other_shape first.shape shape ≡ other
+    → (more : List ℕ) × (memory_at_two (verdict_beside first head end later shape) ≡ head ∷ end ∷ more)
+beside_counts first head end (unfound fault taken) shape other e = (_, refl)
+beside_counts first head end (unreadable fault head') shape other e = (_, refl)
+beside_counts first head end (truncated head' taken) shape true e = rw e (_, refl)
+beside_counts first head end (truncated head' taken) shape false e = rw e (_, refl)
+beside_counts first head end (out_of_range head' end' pixel stored) shape true e = rw e (_, refl)
+beside_counts first head end (out_of_range head' end' pixel stored) shape false e = rw e (_, refl)
+beside_counts first head end (image second head' end') shape true e = rw e (_, refl)
+beside_counts first head end (image second head' end') shape false e = rw e (_, refl)
+
+first_wanted : (head end : ℕ) (counts bytes : List ℕ) (left : Option (List ℕ)) → (more : List ℕ) × (counts ≡ head ∷ end ∷ more)
+    → TakesOneOf (head ∷ end ∷ []) bytes left → TakesOneOf counts bytes left
+first_wanted head end counts bytes left (more, is) (inl takes) = rw is (inl takes)
+first_wanted head end counts bytes left (more, is) (inr (inl takes)) = rw is (inr (inl takes))
+first_wanted head end counts bytes left (more, is) (inr (inr none)) = absurd none
 
 stopped_by : (v later : Verdict) (shape : Option Shape) (bytes : List ℕ) (left : Option (List ℕ)) (stop : Stop)
     → ((plane : Raster) (head end : ℕ) → v ≡ image plane head end → end ≤ taken_for_two (verdict_beside plane head end later shape))
@@ -136,19 +133,12 @@ stopped_by : (v later : Verdict) (shape : Option Shape) (bytes : List ℕ) (left
 stopped_by (image plane head end) later shape bytes left (Refused fault) most (is, takes) = absurd (cc)
 stopped_by (image plane head end) later shape bytes left ReadFault most lost =
     record { count = lost.count; few = omega (arith, lost.few, most plane head end refl); takes = lost.takes }
-stopped_by (image plane head end) later shape bytes left NoMemory most wanted = first_wanted plane head end later shape bytes left _ refl wanted
-stopped_by (unfound of taken) later shape bytes left (Refused fault) most (is, takes) = (is, takes)
-stopped_by (unfound of taken) later shape bytes left ReadFault most lost = lost
-stopped_by (unfound of taken) later shape bytes left NoMemory most wanted = wanted
-stopped_by (unreadable of head) later shape bytes left (Refused fault) most (is, takes) = (is, takes)
-stopped_by (unreadable of head) later shape bytes left ReadFault most lost = lost
-stopped_by (unreadable of head) later shape bytes left NoMemory most wanted = wanted
-stopped_by (truncated head taken) later shape bytes left (Refused fault) most (is, takes) = (is, takes)
-stopped_by (truncated head taken) later shape bytes left ReadFault most lost = lost
-stopped_by (truncated head taken) later shape bytes left NoMemory most wanted = wanted
-stopped_by (out_of_range head end pixel stored) later shape bytes left (Refused fault) most (is, takes) = (is, takes)
-stopped_by (out_of_range head end pixel stored) later shape bytes left ReadFault most lost = lost
-stopped_by (out_of_range head end pixel stored) later shape bytes left NoMemory most wanted = wanted
+stopped_by (image plane head end) later shape bytes left NoMemory most wanted =
+    first_wanted head end _ bytes left (beside_counts plane head end later shape _ refl) wanted
+stopped_by (unfound of taken) later shape bytes left stop most stopped = stopped
+stopped_by (unreadable of head) later shape bytes left stop most stopped = stopped
+stopped_by (truncated head taken) later shape bytes left stop most stopped = stopped
+stopped_by (out_of_range head end pixel stored) later shape bytes left stop most stopped = stopped
 
 -- the reading of the earlier image stops
 pub first_stopped : (bytes : List ℕ) (at number : ℕ) (left : Option (List ℕ)) (stop : Stop) → at < number → ImageStopped (verdict_on bytes at) bytes left stop

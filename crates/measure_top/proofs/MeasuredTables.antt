@@ -1,10 +1,8 @@
 -- Cells that fit the columns of a catalogue with measures.
-use Rattle.std.proofs.Common.{◌≡◌, ◌∙◌, ap, sym, subst, refl, arith, ℕ, zero, suc, ◌+◌, ◌-◌, ◌*◌, ◌/◌, ◌%◌, ◌^◌, ◌<◌, ◌≤◌, List, [], ◌∷◌, ◌++◌, length}
-use Rattle.std.proofs.Common.{length-append, ℤ, pos, negsuc, w32, ◌⊎◌, inl, inr}
-use Rattle.std.specs.Prelude.{FitsSigned, slice_index_or, ⊤}
-use Rattle.std.proofs.lemmas.Bool.{cases_lt}
+use Rattle.std.proofs.Common.{◌≡◌, refl, arith, ℕ, ◌^◌, ◌≤◌, length}
+use Rattle.std.proofs.Common.{ℤ, pos, w32}
+use Rattle.std.specs.Prelude.{FitsSigned}
 use Rattle.std.proofs.lemmas.Int.{ints}
-use Rattle.std.proofs.lemmas.List.{get_or_append_left, get_or-append_right}
 use Rattle.fits_write.specs.Columns.{IsTable}
 use Rattle.source_pick.specs.declared.catalogue.CatRow.{CatRow}
 use Rattle.source_pick.specs.Catalogue.{FitsColumns}

@@ -1,5 +1,5 @@
 -- The nodes that were picked, put one behind the other.
-use Rattle.std.proofs.Common.{◌≡◌, ◌∙◌, ap, sym, subst, refl, arith, ℕ, zero, suc, ◌+◌, ◌^◌, ◌<◌, ◌≤◌, List, [], ◌∷◌, ◌++◌, length, map, take, get_or}
+use Rattle.std.proofs.Common.{◌≡◌, ◌∙◌, ap, sym, subst, refl, arith, ℕ, zero, suc, ◌+◌, ◌<◌, ◌≤◌, List, [], ◌∷◌, ◌++◌, length, map, take, get_or}
 use Rattle.std.proofs.Common.{length-append, ℤ}
 use Rattle.std.specs.Prelude.{Some, slice_get, pos, ◌≤ℤ◌}
 use Rattle.std.specs.List.{enumerate_from}
@@ -18,7 +18,6 @@ use Rattle.node_sums.specs.Sums.{sums_in}
 use Rattle.node_sums.proofs.Exported.{rows_are}
 use Rattle.source_pick.specs.declared.catalogue.CatRow.{CatRow}
 use Rattle.source_pick.specs.Catalogue.{catalogue_row, catalogue_of, FitsColumns}
-use Rattle.source_pick.specs.Segmentation.{AreDisjointNodes}
 use Rattle.measure_top.specs.declared.picking_near.PickedNode.{PickedNode}
 use Rattle.measure_top.specs.Picks.{AreNodesOf, HaveFittingRows, HaveBasesFrom}
 

@@ -1,23 +1,16 @@
--- Model: what is answered to words that ask for measuring, and to these bytes.
-use Rattle.std.specs.Prelude.{ℕ, List, [], min, max, nat_lt, Result, Ok, Err, Option, Some, None, codes, if◌then◌else◌}
+-- Model: what words that ask for measuring ask of an input, and what any words ask.
+use Rattle.std.specs.Prelude.{ℕ, true, List, [], min, max, nat_lt, Result, Ok, Err, if◌then◌else◌}
 use Rattle.comp_tree.specs.Raster.{Raster}
-use Rattle.detect_top.specs.declared.image.Stop.{Stop}
-use Rattle.detect_top.specs.declared.top.End.{End}
-use Rattle.detect_top.specs.declared.top.End.TheVariants.{Done, Usage}
 use Rattle.detect_top.specs.declared.words.Order.{Order}
 use Rattle.detect_top.specs.declared.words.Job.{Job}
 use Rattle.detect_top.specs.declared.words.Job.TheVariants.{Detect}
 use Rattle.detect_top.specs.declared.words.MeasureOrder.{MeasureOrder}
 use Rattle.detect_top.specs.declared.words.Usage.{Usage as AtFault}
-use Rattle.detect_top.specs.Words.{measure_order_of}
-use Rattle.detect_top.specs.Answers.{Answer, end_at}
-use Rattle.measure_top.specs.TwoImages.{TwoVerdict, two_images, verdict_on_two, taken_for_two, stop_of_two}
+use Rattle.detect_top.specs.Words.{asks_measure, measure_order_of}
+use Rattle.detect_top.specs.Answers.{end_of}
+use Rattle.detect_top.specs.Headline.{Answer, Asked, asked_nothing, asked_of}
+use Rattle.measure_top.specs.TwoImages.{TwoVerdict, two_images, verdict_on_two, taken_for_two, stop_of_two, memory_at_two}
 use Rattle.measure_top.specs.MeasuredCatalogues.{measured_output}
-
--- how a run ends whose reading stops, and one whose reading doesn't
-abbrev pub measure_end : Option Stop → End
-measure_end None = Done
-measure_end (Some stop) = end_at stop
 
 -- what is written of an image and of the values; the job of an order to measure is to detect
 abbrev pub measured_by : Order → Job → (image values : Raster) → List ℕ
@@ -37,15 +30,21 @@ measure_output order fault = []
 -- to the verdict on both HDUs
 abbrev pub measure_answer_to_verdict : MeasureOrder → TwoVerdict → Answer
 measure_answer_to_verdict order found =
-    record { end = measure_end (stop_of_two found); output = measure_output order found; taken = taken_for_two found }
+    record { end = end_of (stop_of_two found); output = measure_output order found; taken = taken_for_two found }
 
 -- the verdict on the two HDUs that an order names
 abbrev pub verdict_for : MeasureOrder → List ℕ → TwoVerdict
 verdict_for order bytes = verdict_on_two bytes (min order.order.hdu order.values) (max order.order.hdu order.values)
 
-abbrev pub measure_answer_to_read_words : Result MeasureOrder AtFault → List ℕ → Answer
-measure_answer_to_read_words (Err usage) bytes = record { end = Usage usage; output = []; taken = 0 }
-measure_answer_to_read_words (Ok order) bytes = measure_answer_to_verdict order (verdict_for order bytes)
+abbrev pub asked_to_measure : Result MeasureOrder AtFault → Asked
+asked_to_measure (Err usage) = asked_nothing usage
+asked_to_measure (Ok order) = record {
+  has_order = true;
+  reads = true;
+  answer = λ bytes. measure_answer_to_verdict order (verdict_for order bytes);
+  memory_at = λ bytes. memory_at_two (verdict_for order bytes);
+}
 
-abbrev pub measure_answer_to_words : List (List ℕ) → List ℕ → Answer
-measure_answer_to_words words bytes = measure_answer_to_read_words (measure_order_of words) bytes
+-- what words ask: to measure, where the first one asks for it, and else what all other words ask
+abbrev pub asked_of_all : List (List ℕ) → Asked
+asked_of_all words = if asks_measure words then asked_to_measure (measure_order_of words) else asked_of words

@@ -1,7 +1,6 @@
 -- Model: the verdict on two HDUs of one input, and by which stop it shows.
-use Rattle.std.specs.Prelude.{ℕ, Bool, false, not, ◌&&◌, ◌==◌, ◌⊎◌, List, Option, Some, None, if◌then◌else◌}
+use Rattle.std.specs.Prelude.{ℕ, Bool, false, not, ◌&&◌, ◌==◌, List, [], ◌∷◌, Option, Some, None, if◌then◌else◌}
 use Rattle.std.specs.Result.{result_ok}
-use Rattle.dev_io.specs.Streams.{Takes}
 use Rattle.comp_tree.specs.declared.shape.Shape.{Shape}
 use Rattle.comp_tree.specs.Raster.{Raster}
 use Rattle.fits_hdu.specs.Headers as at_header
@@ -11,7 +10,7 @@ use Rattle.pixel_plane.specs.Verdicts.{Verdict, image, unfound, unreadable, trun
 use Rattle.detect_top.specs.declared.fault.Fault.TheVariants.{ShapeDiffers}
 use Rattle.detect_top.specs.declared.image.Stop.{Stop}
 use Rattle.detect_top.specs.declared.image.Stop.TheVariants.{Refused}
-use Rattle.detect_top.specs.Streams.{MemoryWanted, stop_of}
+use Rattle.detect_top.specs.Streams.{memory_at_verdict, stop_of}
 
 -- The numbers `head` and `end` are those of the earlier HDU: the end of its header, and the place after its last data byte.
 -- With a prime they are those of the later one.
@@ -67,14 +66,13 @@ taken_for_two (earlier_fault found) = taken_for found
 taken_for_two (later_fault head end found) = taken_for found
 taken_for_two (shapes_differ head end head') = head'
 
--- where memory may be wanted, and what was taken then: behind the header of each image or behind the image itself; none is wanted for the later
--- HDU where it isn't found or isn't an image that can be read, and where the shapes differ
-abbrev pub MemoryWantedForTwo : TwoVerdict → List ℕ → Option (List ℕ) → Type 0
-MemoryWantedForTwo (two_images first head end second head' end') bytes left =
-    Takes bytes left head ⊎ (Takes bytes left end ⊎ (Takes bytes left head' ⊎ Takes bytes left end'))
-MemoryWantedForTwo (earlier_fault found) bytes left = MemoryWanted found bytes left
-MemoryWantedForTwo (later_fault head end found) bytes left = Takes bytes left head ⊎ (Takes bytes left end ⊎ MemoryWanted found bytes left)
-MemoryWantedForTwo (shapes_differ head end head') bytes left = Takes bytes left head ⊎ Takes bytes left end
+-- how many bytes may have been taken when memory is wanted: those to the end of the header of each image, or to the end of the image; none is
+-- wanted for the later HDU where it isn't found or isn't an image that can be read, and where the shapes differ
+abbrev pub memory_at_two : TwoVerdict → List ℕ
+memory_at_two (two_images first head end second head' end') = head ∷ end ∷ head' ∷ end' ∷ []
+memory_at_two (earlier_fault found) = memory_at_verdict found
+memory_at_two (later_fault head end found) = head ∷ end ∷ memory_at_verdict found
+memory_at_two (shapes_differ head end head') = head ∷ end ∷ []
 
 -- the stop by which the verdict shows, where it isn't two images
 abbrev pub stop_of_two : TwoVerdict → Option Stop

@@ -1,16 +1,16 @@
 -- Bookkeeping: what the reading of two HDUs does to the bytes that are told, and what then stands ready to be written.
-use Rattle.std.specs.Prelude.{◌≡◌, ℕ, ◌*◌, ◌^◌, ◌≤◌, List, length, ℤ, Some}
+use Rattle.std.specs.Prelude.{◌≡◌, ℕ, ◌*◌, ◌^◌, ◌≤◌, List, length, ℤ}
 use Rattle.std.specs.declared.option.Option.{Option}
 use Rattle.std.specs.List.{All}
-use Rattle.dev_io.specs.Streams.{Takes, TakesAtMost}
+use Rattle.dev_io.specs.Streams.{Takes}
 use Rattle.comp_tree.specs.declared.shape.Shape.{Shape}
 use Rattle.comp_tree.specs.Raster.{IsPlane}
 use Rattle.fits_write.specs.Columns.{IsTable}
 use Rattle.catalogue_form.specs.Columns.{measured_columns}
 use Rattle.detect_top.specs.declared.image.Stop.{Stop}
-use Rattle.detect_top.specs.declared.image.Stop.TheVariants.{Refused, ReadFault, NoMemory}
+use Rattle.detect_top.specs.Streams.{StoppedBy}
 use Rattle.measure_top.specs.declared.images.TwoPlanes.{TwoPlanes}
-use Rattle.measure_top.specs.TwoImages.{TwoVerdict, two_images, taken_for_two, stop_of_two, MemoryWantedForTwo}
+use Rattle.measure_top.specs.TwoImages.{TwoVerdict, two_images, taken_for_two, stop_of_two, memory_at_two}
 
 -- the verdict is these two images, and their bytes were taken
 pub record TwoRead (found : TwoVerdict) (bytes : List ℕ) (left : Option (List ℕ)) (planes : TwoPlanes) : Type 0 where
@@ -23,11 +23,9 @@ pub record TwoRead (found : TwoVerdict) (bytes : List ℕ) (left : Option (List 
   pub second_whole : IsPlane planes.second
   pub takes : Takes bytes left end'
 
--- what a stop says of the bytes: a refusal is the verdict's, and its bytes were taken
+-- what a stop says of the bytes
 abbrev pub TwoStopped : TwoVerdict → List ℕ → Option (List ℕ) → Stop → Type 0
-TwoStopped found bytes left (Refused fault) = (stop_of_two found ≡ Some (Refused fault)) × Takes bytes left (taken_for_two found)
-TwoStopped found bytes left ReadFault = TakesAtMost bytes left (taken_for_two found)
-TwoStopped found bytes left NoMemory = MemoryWantedForTwo found bytes left
+TwoStopped found bytes left stop = StoppedBy (stop_of_two found) (taken_for_two found) (memory_at_two found) bytes left stop
 
 -- a map and cells that can be written
 pub record IsMeasuredDetection (shape : Shape) (numbers : List ℕ) (cells : List ℤ) : Type 0 where

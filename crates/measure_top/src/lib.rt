@@ -3,6 +3,7 @@
 
 mod cutting;
 mod images;
+pub mod laws;
 mod measuring;
 mod picking_near;
 mod top;

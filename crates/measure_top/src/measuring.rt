@@ -95,9 +95,7 @@ fn table_cells(
     let node_of = tree.node_of();
     for node in nodes {
         let cells = row_cells(tree, measures, &node.row, node_of[node.rep as usize]);
-        if let Err(error) = add_row(&mut table, &cells) {
-            return Err(error);
-        }
+        add_row(&mut table, &cells)?;
     }
     Ok(table)
 }
@@ -179,14 +177,8 @@ pub(crate) fn measure_sources<R: Threads + Sync, G: Gate>(
         (λ found. measured_hdus found.shape found.map.items found.cells.items ≡
         measured_output order choice image values) }
 {
-    let plane = match residual_plane(rt, alloc, image, order.mesh, order.flat) {
-        Ok(plane) => plane,
-        Err(error) => return Err(error),
-    };
-    let values = match residual_plane(rt, alloc, values, order.mesh, order.flat) {
-        Ok(values) => values,
-        Err(error) => return Err(error),
-    };
+    let plane = residual_plane(rt, alloc, image, order.mesh, order.flat)?;
+    let values = residual_plane(rt, alloc, values, order.mesh, order.flat)?;
     measure_residuals(rt, alloc, plane, &values, order, &choice, gate)
 }
 

@@ -1,4 +1,5 @@
-//! The sources of a plane, found in the tree of its pixels near those of at least the threshold: this tree is small.
+//! The sources of a plane, found in the tree of its pixels near those of at least the threshold: this tree is small. Why it serves, and why the
+//! measures need another one, stands in `cutting`.
 ghost use Rattle.std.specs.Prelude.{◌≡◌, ◌^◌, ◌<◌, ◌≤◌, ℕ, Some, length, slice_get, IfOk, ◌≤ℤ◌};
 ghost use Rattle.comp_tree.specs.declared.shape.Connect.{Connect};
 ghost use Rattle.comp_tree.specs.Raster.{Raster};
@@ -115,7 +116,8 @@ pub(crate) fn pick_near<R: Threads + Sync, G: Gate>(
 ) -> Result<Picked, OutOfMemory>
     requires limits { HasLimits order }
     requires contrast { choice.now.contrast ≤ 1000 }
-    ensures exact { IfOk result (λ picked. AreSourcesOf plane.now order.connect choice.now picked.map.items picked.nodes.items) }
+    ensures exact { IfOk result (λ picked.
+        AreSourcesOf plane.now order.connect choice.now picked.map.items picked.nodes.items) }
     ensures listed { IfOk result
         (λ picked. CanBeListed plane.now.shape picked.map.items picked.nodes.items) }
 {

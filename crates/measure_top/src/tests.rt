@@ -82,15 +82,42 @@ const RIGHT_PART: &[u8] = b"\0\0\0\x02\
     \0\0\0\0\0\0\x0b\xb8\
     \0\0\0\0\0\0\0\0";
 
-// Compares a run of these words with a map and with the rows of a catalogue.
+// One bright pixel of the extension, whose parent lies below the threshold and has two pixels more: one is far from the bright one.
+const ABOVE_A_FAINT_PARENT: &[u8] = b"\0\0\0\x01\
+    \0\0\0\0\0\0\0\x06\
+    \0\0\0\0\0\0\0\x01\
+    \0\0\0\x01\
+    \0\0\0\0\0\0\0\x05\
+    \0\0\0\0\0\0\0\x06\
+    \0\0\0\x04\
+    \0\0\0\x04\
+    \0\0\0\x01\
+    \0\0\0\x01\
+    \0\0\0\x04\
+    \0\0\0\x01\
+    \0\0\x0f\xa0\
+    \0\0\x03\xe8\
+    \0\0\0\0\0\0\0\0\
+    \0\0\0\0\0\0\0\0\
+    \0\0\0\0\0\0\0\0\
+    \0\0\0\x01\
+    \0\0\0\0\
+    \0\0\0\0\0\0\0\x05\
+    \0\0\0\0\0\0\0\x05\
+    \0\0\0\0\0\0\0\x05\
+    \0\0\0\0\0\0\x13\x88\
+    \0\0\0\0\0\0\x0f\xa0";
+
+// Compares a run of these words, over an extension with these data, with a map and with the rows of a catalogue.
 fn try_rows<R: Threads + Sync + Abort>(
     rt: &R,
     alloc: Global,
     words: &[&str],
+    data: &[u8],
     map: &[u8],
     rows: &[u8],
 ) -> Result<(), Fail> {
-    let bytes = file(alloc, EXTENSION, &[10, 20, 255, 40, 7])?;
+    let bytes = file(alloc, EXTENSION, data)?;
     let found = run_in_memory(rt, alloc, words, &bytes, 17_280, 0, 0)?;
     assert_eq!(rt; found.status, 0);
     assert_eq!(rt; found.output.len(), 17_280);
@@ -130,7 +157,14 @@ fn values_stand_in_the_later_hdu(rt: HostRuntime) -> Result<(), Fail> {
         "301",
     ];
     let map = b"\0\0\0\0\0\0\0\x01\0\0\0\x01\0\0\0\x01\0\0\0\0";
-    try_rows(&rt, rt.alloc(), &words, map, BOTH_HILLS)
+    try_rows(
+        &rt,
+        rt.alloc(),
+        &words,
+        &[10, 20, 255, 40, 7],
+        map,
+        BOTH_HILLS,
+    )
 }
 
 #[test]
@@ -150,7 +184,22 @@ fn values_stand_in_the_earlier_hdu(rt: HostRuntime) -> Result<(), Fail> {
     let map = b"\0\0\0\x01\0\0\0\x01\0\0\0\0\0\0\0\x02\0\0\0\x02";
     let mut rows = LEFT_PART.to_vec(alloc)?;
     rows.extend_from_slice(RIGHT_PART)?;
-    try_rows(&rt, alloc, &words, map, &rows)
+    try_rows(&rt, alloc, &words, &[10, 20, 255, 40, 7], map, &rows)
+}
+
+// The pixels below the parent's level are left out of the tree that the values are measured over.
+#[test]
+fn a_parent_lies_below_the_threshold(rt: HostRuntime) -> Result<(), Fail> {
+    let words = ["measure", "--hdu", "1", "--values", "0", "--threshold", "2"];
+    let map = b"\0\0\0\0\0\0\0\0\0\0\0\0\0\0\0\x01\0\0\0\0";
+    try_rows(
+        &rt,
+        rt.alloc(),
+        &words,
+        &[0, 1, 1, 6, 0],
+        map,
+        ABOVE_A_FAINT_PARENT,
+    )
 }
 
 // Compares a run that writes nothing with its status, its notes and the bytes that it takes.

@@ -1,23 +1,17 @@
 //! The run as a whole.
-ghost use Rattle.std.specs.Prelude.{◌≡◌, ◌<◌, ◌≤◌, ◌↔◌, ℕ, List, Bool, true, false, Option, length, Ok, Some, IfOk, IfErr, MatchResult, IsErrOf, IsErr, IsTrue};
+ghost use Rattle.std.specs.Prelude.{◌≡◌, ℕ, List, true, false, Ok, IfOk, IfErr, MatchResult, IsErrOf, IsTrue};
 ghost use Rattle.std.specs.Option.{ForSome};
-ghost use Rattle.std.specs.Io.KnownBytes.{Appends, Keeps};
 ghost use Rattle.dev_io.specs.Causes.{Rose};
 ghost use Rattle.comp_tree.specs.Raster.{HasValuesInHalfRange};
 ghost use Rattle.source_pick.specs.declared.choice.Choice.{Choice};
 ghost use Rattle.command_line.specs.Lines.{texts};
-ghost use Rattle.command_line.specs.Notes.{Noted, SourceStays};
-ghost use Rattle.detect_top.specs.Words.{order_of, asks_measure, measure_order_of, IsMeasureOrder, HasLimits};
-ghost use Rattle.detect_top.specs.Answers.{note_of};
+ghost use Rattle.detect_top.specs.Words.{asks_measure, measure_order_of, IsMeasureOrder, HasLimits};
 ghost use Rattle.detect_top.specs.Faults.{IsCutStop};
-ghost use Rattle.detect_top.specs.Headline.{IsStatus, CutsAnswer, TellsEnd};
-ghost use Rattle.detect_top.specs.Runs.{Took, TookAtMost, use_of_input, use_of_output, LeavesInput};
-ghost use Rattle.measure_top.specs.TwoReads.{TwoStopped};
+ghost use Rattle.detect_top.specs.Headline.{Tells, use_of_input, use_of_output, IsUnused, IsRunOf};
+ghost use Rattle.detect_top.specs.RunEnds.{AllRead, EndBytes, EndCause};
+ghost use Rattle.measure_top.specs.TwoReads.{TwoStopped, IsMeasuredDetection};
 ghost use Rattle.measure_top.specs.MeasuredCatalogues.{measured_hdus};
-ghost use Rattle.measure_top.specs.TwoReads.{IsMeasuredDetection};
-ghost use Rattle.measure_top.specs.MeasureAnswers.{measure_answer_to_words, verdict_for, measured_by, measured_of_two};
-ghost use Rattle.measure_top.specs.MeasureRuns.{IsRun, IsMeasureRun, MeasureTells, ForMeasured, MeasureReadFails, MeasureWantsMemory, IsMeasureAnswered};
-ghost use Rattle.measure_top.specs.MeasureEnds.{BothRead, MeasureEndBytes, MeasureEndCause};
+ghost use Rattle.measure_top.specs.MeasureAnswers.{measured_by, measured_of_two, measure_answer_to_verdict, verdict_for, asked_to_measure, asked_of_all};
 
 use crate::images::{TwoPlanes, read_two};
 use crate::measuring::{Measured, measure_sources, put_measured};
@@ -90,14 +84,13 @@ fn read_and_make<R: Threads + Sync, S: Source, G: Gate>(
 ) -> Result<Measured, Stop>
     requires order { IsMeasureOrder order }
     ensures told { ForSome (S.left input.old) (λ bytes. MatchResult result
-        (λ found. BothRead order bytes (S.left input.new)
-        (measured_hdus found.shape found.map.items found.cells.items))
+        (λ found. AllRead (measure_answer_to_verdict order (verdict_for order bytes)) bytes
+        (S.left input.new) (measured_hdus found.shape found.map.items found.cells.items))
         (λ stop. TwoStopped (verdict_for order bytes) bytes (S.left input.new) stop)) }
     ensures writable { IfOk result
         (λ found. IsMeasuredDetection found.shape found.map.items found.cells.items) }
     ensures reads { IsErrOf result Stop.ReadFault → Rose (S.faults input.old) (S.faults input.new) }
     ensures ended { IfErr result (λ stop. IsCutStop stop → IsTrue (S.ended input.new)) }
-    ensures later { S.faults input.old ≤ S.faults input.new }
 {
     let (first, second) = (
         order.order.hdu.min(order.values),
@@ -123,13 +116,14 @@ fn carry_out<R: Threads + Sync, S: Source, O: Sink, G: Gate>(
     gate: &G,
 ) -> End
     requires order { IsMeasureOrder order }
-    ensures bytes { (bytes : List ℕ) → MeasureTells (Ok order) (S.left input.old) bytes →
-        MeasureEndBytes (Ok order) bytes (use_of_input S.left S.ended S.faults input.old input.new)
+    ensures bytes { (bytes : List ℕ) →
+        Tells (asked_to_measure (Ok order)) (S.left input.old) bytes →
+        EndBytes (asked_to_measure (Ok order)) bytes
+        (use_of_input S.left S.ended S.faults input.old input.new)
         (use_of_output O.written O.settled O.faults output.old output.new) result }
-    ensures cause { MeasureEndCause (Ok order) (use_of_input S.left S.ended S.faults input.old input.new)
+    ensures cause { EndCause (asked_to_measure (Ok order))
+        (use_of_input S.left S.ended S.faults input.old input.new)
         (use_of_output O.written O.settled O.faults output.old output.new) result }
-    ensures read_later { S.faults input.old ≤ S.faults input.new }
-    ensures write_later { O.faults output.old ≤ O.faults output.new }
 {
     let found = match read_and_make(rt, alloc, order, input, gate) {
         Ok(found) => found,
@@ -153,15 +147,15 @@ fn work<R: Threads + Sync, S: Source, O: Sink, G: Gate>(
 ) -> End
     requires { asks_measure (texts words.now) ≡ true }
     ensures bytes { (bytes : List ℕ) →
-        MeasureTells (measure_order_of (texts words.now)) (S.left input.old) bytes →
-        MeasureEndBytes (measure_order_of (texts words.now)) bytes (use_of_input S.left S.ended S.faults input.old input.new)
+        Tells (asked_to_measure (measure_order_of (texts words.now))) (S.left input.old) bytes →
+        EndBytes (asked_to_measure (measure_order_of (texts words.now))) bytes
+        (use_of_input S.left S.ended S.faults input.old input.new)
         (use_of_output O.written O.settled O.faults output.old output.new) result }
-    ensures cause { MeasureEndCause (measure_order_of (texts words.now)) (use_of_input S.left S.ended S.faults input.old input.new)
+    ensures cause { EndCause (asked_to_measure (measure_order_of (texts words.now)))
+        (use_of_input S.left S.ended S.faults input.old input.new)
         (use_of_output O.written O.settled O.faults output.old output.new) result }
-    ensures read_later { S.faults input.old ≤ S.faults input.new }
-    ensures write_later { O.faults output.old ≤ O.faults output.new }
-    ensures untouched { IsErr (measure_order_of (texts words.now)) →
-        SourceStays S.left S.ended S.faults input.old input.new }
+    ensures untouched { (asked_to_measure (measure_order_of (texts words.now))).reads ≡ false →
+        IsUnused (use_of_input S.left S.ended S.faults input.old input.new) }
 {
     match read_measure(words) {
         Ok(order) => carry_out(rt, alloc, order, input, output, gate),
@@ -180,38 +174,10 @@ fn run_measure<R: Threads + Sync, S: Source, O: Sink, N: Sink, G: Gate>(
     gate: &G,
 ) -> u8
     requires { asks_measure (texts words.now) ≡ true }
-    ensures status { ForMeasured (texts words.now) (S.left input.old)
-        (λ bytes. IsStatus (measure_answer_to_words (texts words.now) bytes) result) }
-    ensures writes { result < 3 → ForMeasured (texts words.now) (S.left input.old) (λ bytes.
-        Appends (O.written output.old) (O.written output.new) (measure_answer_to_words (texts words.now) bytes).output) }
-    ensures takes { result < 3 → ForMeasured (texts words.now) (S.left input.old) (λ bytes.
-        Took (S.left input.old) (S.left input.new) (measure_answer_to_words (texts words.now) bytes).taken) }
-    ensures settled { result ≡ 0 → IsTrue (O.settled output.new) }
-    ensures read_fault { result ≡ 3 →
-        MeasureReadFails (texts words.now) (S.faults input.old) (S.faults input.new)
-        (O.written output.old) (O.written output.new) }
-    ensures read_so_far { result ≡ 3 → ForMeasured (texts words.now) (S.left input.old) (λ bytes.
-        TookAtMost (S.left input.old) (S.left input.new) (measure_answer_to_words (texts words.now) bytes).taken) }
-    ensures write_fault { result ≡ 4 → Rose (O.faults output.old) (O.faults output.new) }
-    ensures written_so_far { result ≡ 4 → ForMeasured (texts words.now) (S.left input.old) (λ bytes.
-        CutsAnswer (measure_answer_to_words (texts words.now) bytes) (O.written output.old) (O.written output.new)) }
-    ensures taken_before { result ≡ 4 → ForMeasured (texts words.now) (S.left input.old) (λ bytes.
-        Took (S.left input.old) (S.left input.new) (measure_answer_to_words (texts words.now) bytes).taken) }
-    ensures memory { result ≡ 5 → Keeps (O.written output.old) (O.written output.new) }
-    ensures memory_wanted { result ≡ 5 → ForMeasured (texts words.now) (S.left input.old) (λ bytes.
-        MeasureWantsMemory (measure_order_of (texts words.now)) bytes (S.left input.old) (S.left input.new)) }
-    ensures noted { (end : End) × TellsEnd result (S.ended input.new) (N.written notes.old) (N.written notes.new)
-        (N.settled notes.new) (N.faults notes.old) (N.faults notes.new) end }
-    ensures notes { result < 3 → ForMeasured (texts words.now) (S.left input.old) (λ bytes.
-        Noted (N.written notes.old) (N.written notes.new) (N.settled notes.new) (N.faults notes.old) (N.faults notes.new)
-        (note_of (measure_answer_to_words (texts words.now) bytes).end)) }
-    ensures complete { (Rose (S.faults input.old) (S.faults input.new) → ⊥) →
-        (Rose (O.faults output.old) (O.faults output.new) → ⊥) →
-        ForMeasured (texts words.now) (S.left input.old)
-        (λ bytes. IsMeasureAnswered (texts words.now) bytes result) }
-    ensures usage { IsErr (measure_order_of (texts words.now)) ↔ (result ≡ 1) }
-    ensures untouched { IsErr (measure_order_of (texts words.now)) →
-        SourceStays S.left S.ended S.faults input.old input.new }
+    ensures { IsRunOf (asked_to_measure (measure_order_of (texts words.now)))
+        (use_of_input S.left S.ended S.faults input.old input.new)
+        (use_of_output O.written O.settled O.faults output.old output.new)
+        (use_of_output N.written N.settled N.faults notes.old notes.new) result }
 {
     let end = work(rt, alloc, words, input, output, gate);
     tell(notes, end);
@@ -219,10 +185,9 @@ fn run_measure<R: Threads + Sync, S: Source, O: Sink, N: Sink, G: Gate>(
 }
 
 /// Does what the words say, over this input: with `measure` as the first word, sources are detected in one image and measured in another of the
-/// same file; all other words are those of [`run`]. The statuses are the same.
+/// same file; all other words are those of [`run`].
 ///
-/// All memory is taken before the first byte of output, which comes in pieces of at most 2,880 bytes. The notes get one line where the status
-/// isn't 0.
+/// All memory is taken before the first byte of output, which comes in pieces of at most 2,880 bytes.
 pub fn run_all<R: Threads + Sync, S: Source, O: Sink, N: Sink, G: Gate>(
     rt: &R,
     alloc: Global,
@@ -232,21 +197,10 @@ pub fn run_all<R: Threads + Sync, S: Source, O: Sink, N: Sink, G: Gate>(
     notes: &mut N,
     gate: &G,
 ) -> u8
-    // Other words are those of `run`.
-    ensures other { asks_measure (texts words.now) ≡ false →
-        IsRun (texts words.now) (use_of_input S.left S.ended S.faults input.old input.new)
-        (use_of_output O.written O.settled O.faults output.old output.new) (use_of_output N.written N.settled N.faults notes.old notes.new) result }
-    ensures other_untouched { asks_measure (texts words.now) ≡ false →
-        LeavesInput (order_of (texts words.now))
-        → SourceStays S.left S.ended S.faults input.old input.new }
-
-    // Where the first word is `measure` the run is by the verdict on both images.
-    ensures measure { asks_measure (texts words.now) ≡ true →
-        IsMeasureRun (texts words.now) (use_of_input S.left S.ended S.faults input.old input.new)
-        (use_of_output O.written O.settled O.faults output.old output.new) (use_of_output N.written N.settled N.faults notes.old notes.new) result }
-    ensures measure_untouched { asks_measure (texts words.now) ≡ true →
-        IsErr (measure_order_of (texts words.now))
-        → SourceStays S.left S.ended S.faults input.old input.new }
+    ensures { IsRunOf (asked_of_all (texts words.now))
+        (use_of_input S.left S.ended S.faults input.old input.new)
+        (use_of_output O.written O.settled O.faults output.old output.new)
+        (use_of_output N.written N.settled N.faults notes.old notes.new) result }
 {
     if is_measure(words) {
         run_measure(rt, alloc, words, input, output, notes, gate)

@@ -10,7 +10,7 @@ use Rattle.survey_core.specs.declared.ranking.Row.{Row}
 use Rattle.survey_core.specs.Tables.{Table, AreTables, IsFieldTable}
 use Rattle.survey_core.specs.Ranking.{ranks_before, ranked, rows_of, all_rows}
 use Rattle.survey_core.specs.Ranks.{with_row, with_rows}
-use Rattle.survey_core.specs.Parts.{BestOfPartsAreBest, together}
+use Rattle.survey_core.specs.Parts.{BestOfPartsAreBest, joined_parts}
 use Rattle.survey_core.proofs.TableLemmas.{Among, all_among, all_from, name_turned}
 use Rattle.survey_core.proofs.RankLemmas.{best_with, with_rows-append}
 use Rattle.survey_core.proofs.Places.{Differs, Distinct, Apart, Strict, strict_with_rows, apart_none, rows_among, among_rows, strict_unique, best_are}
@@ -162,10 +162,10 @@ rows_moved ts us moved x m = let there = from_rows us x m in to_rows ts there.0 
 field_turned : (t u : Table) → same_field t u ≡ same_field u t
 field_turned t u = name_turned t.0 u.0
 
-rows_of_parts : (parts : List (List Table)) → flat_map rows_of (together parts) ≡ flat_map all_rows parts
+rows_of_parts : (parts : List (List Table)) → flat_map rows_of (joined_parts parts) ≡ flat_map all_rows parts
 unfolding all_rows
 rows_of_parts [] = refl
-rows_of_parts (p ∷ parts) = flat_map-append rows_of p (together parts) ∙ ap (λ l. flat_map rows_of p ++ l) (rows_of_parts parts)
+rows_of_parts (p ∷ parts) = flat_map-append rows_of p (joined_parts parts) ∙ ap (λ l. flat_map rows_of p ++ l) (rows_of_parts parts)
 
 each_ranked : (k : ℕ) (parts : List (List Table)) → Distinct (flat_map all_rows parts)
     → flat_map (λ p. best k (all_rows p)) parts ≡ flat_map (λ p. ranked (all_rows p) k) parts
@@ -174,20 +174,20 @@ each_ranked k (p ∷ parts) distinct =
     let d = distinct_parts (all_rows p) (flat_map all_rows parts) distinct in
     ap₂ ◌++◌ (best_are (all_rows p) d.0 k) (each_ranked k parts d.1)
 
-module _ (survey : List Table) (parts : List (List Table)) (k : ℕ) (are : AreTables survey) (moved : IsPermutation survey (together parts)) where
-  all_distinct : Distinct (flat_map rows_of (together parts))
-  all_distinct = all_rows_differ (together parts)
-      (IsDistinct-IsPermutation same_field field_turned survey (together parts) moved (fields_differ survey are.0))
-      (all_moved IsFieldTable survey (together parts) moved are.1)
+module _ (survey : List Table) (parts : List (List Table)) (k : ℕ) (are : AreTables survey) (moved : IsPermutation survey (joined_parts parts)) where
+  all_distinct : Distinct (flat_map rows_of (joined_parts parts))
+  all_distinct = all_rows_differ (joined_parts parts)
+      (IsDistinct-IsPermutation same_field field_turned survey (joined_parts parts) moved (fields_differ survey are.0))
+      (all_moved IsFieldTable survey (joined_parts parts) moved are.1)
 
   distinct : Distinct (flat_map all_rows parts)
   distinct = subst Distinct (rows_of_parts parts) all_distinct
 
-  same_rows : sorted (all_rows survey) ≡ sorted (flat_map rows_of (together parts))
+  same_rows : sorted (all_rows survey) ≡ sorted (flat_map rows_of (joined_parts parts))
   unfolding all_rows
   same_rows =
-      same_sorted (all_rows survey) (flat_map rows_of (together parts)) (rows_differ survey are) all_distinct
-      (rows_moved (together parts) survey (IsPermutation-sym survey (together parts) moved)) (rows_moved survey (together parts) moved)
+      same_sorted (all_rows survey) (flat_map rows_of (joined_parts parts)) (rows_differ survey are) all_distinct
+      (rows_moved (joined_parts parts) survey (IsPermutation-sym survey (joined_parts parts) moved)) (rows_moved survey (joined_parts parts) moved)
 
   best_of_parts : ranked (all_rows survey) k ≡ ranked (flat_map (λ part. ranked (all_rows part) k) parts) k
   best_of_parts =

@@ -6,11 +6,11 @@ use Rattle.survey_core.specs.Tables.{Table, AreTables}
 use Rattle.survey_core.specs.Ranking.{ranked, all_rows}
 
 -- all their fields
-abbrev pub together : List (List Table) → List Table
-together parts = flat_map (λ part. part) parts
+abbrev pub joined_parts : List (List Table) → List Table
+joined_parts parts = flat_map (λ part. part) parts
 
 -- Where the parts together have the fields of the survey, none of them twice, its k brightest rows are the k brightest of the k brightest of each part.
 abbrev pub BestOfPartsAreBest : Type 0
 BestOfPartsAreBest =
-    (survey : List Table) (parts : List (List Table)) (k : ℕ) → AreTables survey → IsPermutation survey (together parts)
+    (survey : List Table) (parts : List (List Table)) (k : ℕ) → AreTables survey → IsPermutation survey (joined_parts parts)
     → ranked (all_rows survey) k ≡ ranked (flat_map (λ part. ranked (all_rows part) k) parts) k

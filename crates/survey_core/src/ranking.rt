@@ -10,7 +10,6 @@ ghost use Rattle.dev_io.specs.Causes.{HasCause};
 ghost use Rattle.dev_io.specs.Streams.{PutAppends, AppendsPrefix};
 ghost use Rattle.dev_io.specs.Blocks.{Moves};
 ghost use Rattle.catalogue_form.specs.Columns.{cells_in_row};
-ghost use Rattle.survey_core.specs.Tables.{Table};
 ghost use Rattle.survey_core.specs.Clauses.{Stays};
 ghost use Rattle.survey_core.specs.KeeperCalls.{KeeperCause};
 ghost use Rattle.survey_core.specs.Ranking.{ranking_row, rows_of, all_rows, row_cmp, ranks_before, ranked, row_line};

@@ -1,7 +1,10 @@
 //! Sessions over catalogues of five pixels in a row.
 
 use crate::{Field, Keeper, MemKeeper, run_survey};
+use catalogue_form::{BYTES_IN_ROW, CELLS_IN_ROW, FLUX, NUMBER, XCEN, YCEN, catalogue_columns};
 use dev_io::{MemSink, MemSource};
+use fits_write::Cell;
+use itoa::Buffer;
 use std::alloc::Global;
 use std::test::Fail;
 
@@ -25,6 +28,17 @@ const MAP: [&[u8]; 9] = [
     b"GCOUNT  =                    1",
     b"EXTNAME = 'SEGMENT '",
     b"END",
+];
+
+const TABLE: [&[u8]; 3] = [
+    b"XTENSION= 'BINTABLE'",
+    b"BITPIX  =                    8",
+    b"NAXIS   =                    2",
+];
+
+const TABLE_SIZES: [&[u8]; 2] = [
+    b"PCOUNT  =                    0",
+    b"GCOUNT  =                    1",
 ];
 
 // NUMBER, FLUX and XCEN of a row.
@@ -52,44 +66,60 @@ fn add_cards(bytes: &mut Vec<u8>, cards: &[&[u8]]) -> Result<(), Fail> {
     Ok(())
 }
 
-fn add_row(bytes: &mut Vec<u8>, source: Source) -> Result<(), Fail> {
+// A card with this number, which ends in column 30.
+fn number_card(keyword: &[u8], number: usize) -> [u8; 80] {
+    let mut text = Buffer::new();
+    let digits = text.format(number).as_bytes();
+    let mut all = card(keyword);
+    all[8] = b'=';
+    let count = digits.len().min(20);
+    all[30 - count..30].copy_from_slice(&digits[..count]);
+    all
+}
+
+// The cell of a source in the column at this place.
+fn cell_of(source: Source, place: usize) -> i64 {
     let (number, flux, xcen) = source;
-    bytes.extend_from_slice(&number.to_be_bytes())?;
-    bytes.extend_from_slice(&[0; 20])?;
-    bytes.extend_from_slice(&flux.to_be_bytes())?;
-    bytes.extend_from_slice(&[0; 32])?;
-    bytes.extend_from_slice(&xcen.to_be_bytes())?;
-    bytes.extend_from_slice(&1000_i32.to_be_bytes())?;
-    bytes.extend_from_slice(&[0; 24])?;
+    if place == NUMBER {
+        i64::from(number)
+    } else if place == FLUX {
+        flux
+    } else if place == XCEN {
+        i64::from(xcen)
+    } else if place == YCEN {
+        1000
+    } else {
+        0
+    }
+}
+
+fn add_row(bytes: &mut Vec<u8>, source: Source) -> Result<(), Fail> {
+    let columns = catalogue_columns();
+    for place in 0..CELLS_IN_ROW {
+        let cell = cell_of(source, place).to_be_bytes();
+        match columns[place].cell {
+            Cell::J => bytes.extend_from_slice(&cell[4..])?,
+            Cell::K => bytes.extend_from_slice(&cell)?,
+        }
+    }
     Ok(())
 }
 
-// A catalogue whose rows are said to have this width, and whose number of them is written so.
-fn catalogue(
-    alloc: Global,
-    width: &[u8],
-    count: &[u8],
-    sources: &[Source],
-) -> Result<Vec<u8>, Fail> {
-    let table: [&[u8]; 8] = [
-        b"XTENSION= 'BINTABLE'",
-        b"BITPIX  =                    8",
-        b"NAXIS   =                    2",
-        width,
-        count,
-        b"PCOUNT  =                    0",
-        b"GCOUNT  =                    1",
-        b"TFIELDS =                   17",
-    ];
+// A catalogue whose rows are said to have this width.
+fn catalogue(alloc: Global, width: usize, sources: &[Source]) -> Result<Vec<u8>, Fail> {
     let mut bytes = Vec::new(alloc);
     add_cards(&mut bytes, &PRIMARY)?;
     fill_block(&mut bytes, b' ')?;
     add_cards(&mut bytes, &MAP)?;
     fill_block(&mut bytes, b' ')?;
     bytes.extend_from_slice(&[0; BLOCK])?;
-    add_cards(&mut bytes, &table)?;
-    // so many cards name the columns
-    for _ in 0..35 {
+    add_cards(&mut bytes, &TABLE)?;
+    bytes.extend_from_slice(&number_card(b"NAXIS1", width))?;
+    bytes.extend_from_slice(&number_card(b"NAXIS2", sources.len()))?;
+    add_cards(&mut bytes, &TABLE_SIZES)?;
+    bytes.extend_from_slice(&number_card(b"TFIELDS", CELLS_IN_ROW))?;
+    // the name of the table, and two cards for each column
+    for _ in 0..2 * CELLS_IN_ROW + 1 {
         bytes.extend_from_slice(&card(b"COMMENT"))?;
     }
     bytes.extend_from_slice(&card(b"END"))?;
@@ -108,21 +138,14 @@ fn front(bytes: &[u8], count: usize) -> &[u8] {
 #[test]
 fn sessions_answer_as_they_should(rt: HostRuntime) -> Result<(), Fail> {
     let alloc = rt.alloc();
-    let width = b"NAXIS1  =                   96";
-    let one = b"NAXIS2  =                    1";
-    let two = b"NAXIS2  =                    2";
-    let first = catalogue(alloc, width, two, &[(1, 4, 2000), (2, 3, 4000)])?;
-    let second = catalogue(alloc, width, one, &[(1, 10, 2900)])?;
+    let width = BYTES_IN_ROW;
+    let first = catalogue(alloc, width, &[(1, 4, 2000), (2, 3, 4000)])?;
+    let second = catalogue(alloc, width, &[(1, 10, 2900)])?;
     let mut both = Vec::from_slice(alloc, &first)?;
     both.extend_from_slice(&second)?;
-    let none = catalogue(alloc, width, b"NAXIS2  =                    0", &[])?;
-    let other = catalogue(
-        alloc,
-        b"NAXIS1  =                   88",
-        one,
-        &[(1, 10, 2900)],
-    )?;
-    let moved = catalogue(alloc, width, two, &[(1, 4, 2000), (1, 3, 4000)])?;
+    let none = catalogue(alloc, width, &[])?;
+    let other = catalogue(alloc, width - 8, &[(1, 10, 2900)])?;
+    let moved = catalogue(alloc, width, &[(1, 4, 2000), (1, 3, 4000)])?;
     // the words, the input, the keeper's calls that fail; the status, how many bytes are taken, the output and the notes
     let cases: [(&[&str], &[u8], &[u32], u8, usize, &[u8], &[u8]); 9] = [
         (
@@ -196,7 +219,7 @@ fn sessions_answer_as_they_should(rt: HostRuntime) -> Result<(), Fail> {
             &moved,
             &[],
             2,
-            14592,
+            14400 + 2 * BYTES_IN_ROW,
             b"",
             b"refused: 23 RowNumber row 2\n",
         ),
@@ -236,12 +259,8 @@ fn sessions_answer_as_they_should(rt: HostRuntime) -> Result<(), Fail> {
 #[test]
 fn sums_are_exact_and_ties_go_by_field(rt: HostRuntime) -> Result<(), Fail> {
     let alloc = rt.alloc();
-    let great = catalogue(
-        alloc,
-        b"NAXIS1  =                   96",
-        b"NAXIS2  =                    2",
-        &[(1, i64::MAX, 2900), (2, 1, 4000)],
-    )?;
+    let sources = [(1, i64::MAX, 2900), (2, 1, 4000)];
+    let great = catalogue(alloc, BYTES_IN_ROW, &sources)?;
     let mut twice = Vec::from_slice(alloc, &great)?;
     twice.extend_from_slice(&great)?;
     let words = ["add", "B", "list", "add", "A", "brightest", "2"];
@@ -275,11 +294,34 @@ fn an_add_replaces(rt: HostRuntime) -> Result<(), Fail> {
     let Some(field) = Field::of(name) else {
         return Ok(());
     };
-    let first: [i64; 17] = [1, 2, 3, 4, 5, 6, 7, 8, 9, 10, 11, 12, 13, 14, 15, 16, 17];
+    let mut first = [5; CELLS_IN_ROW];
+    first[NUMBER] = 1;
     assert!(rt; keeper.replace(alloc, field.copy(), &first).is_ok());
     assert!(rt; keeper.replace(alloc, field.copy(), &[]).is_ok());
     assert!(rt; matches!(keeper.rows(alloc, field.copy()), Ok(Some(cells)) if cells.is_empty()));
     assert!(rt; matches!(keeper.remove(alloc, field.copy()), Ok(true)));
     assert!(rt; matches!(keeper.rows(alloc, field), Ok(None)));
+    Ok(())
+}
+
+#[test]
+fn a_fault_leaves_what_was_done(rt: HostRuntime) -> Result<(), Fail> {
+    let alloc = rt.alloc();
+    let first = catalogue(alloc, BYTES_IN_ROW, &[(1, 4, 2000)])?;
+    let mut input = MemSource::new(&first, 1000, &[]);
+    let mut keeper = MemKeeper::new(alloc, &[]);
+    let mut output = MemSink::new(vec![in alloc; 0; 9]?, &[], 0);
+    let mut notes = MemSink::new(vec![in alloc; 0; 99]?, &[], 0);
+    let words = ["add", "A", "drop", "B"];
+    let status = run_survey(
+        alloc,
+        &words,
+        &mut input,
+        &mut keeper,
+        &mut output,
+        &mut notes,
+    );
+    assert_eq!(rt; status, 2);
+    assert!(rt; matches!(keeper.names(alloc), Ok(names) if names.len() == 1));
     Ok(())
 }

@@ -1,20 +1,14 @@
 //! A session as a whole.
-ghost use Rattle.std.specs.Prelude.{◌≡◌, ◌+◌, ◌<◌, ◌≤◌, ◌↔◌, ℕ, Bool, List, Option, Ok, Err, Some, IfErr, IsErr, IsTrue};
+ghost use Rattle.std.specs.Prelude.{◌≡◌, ◌+◌, ◌<◌, ◌≤◌, ℕ, Bool, List, Option, Ok, Err, Some, IfErr, IsErr};
 ghost use Rattle.std.specs.Option.{ForSome};
-ghost use Rattle.std.specs.List.{list_any};
-ghost use Rattle.std.specs.Io.KnownBytes.{Appends};
-ghost use Rattle.dev_io.specs.Causes.{Rose};
-ghost use Rattle.dev_io.specs.Streams.{Takes};
 ghost use Rattle.command_line.specs.Lines.{texts};
 ghost use Rattle.survey_core.specs.Commands.{read, commands_of};
 ghost use Rattle.survey_core.specs.Sessions.{effect};
-ghost use Rattle.survey_core.specs.Steps.{Cause, is_printing};
+ghost use Rattle.survey_core.specs.Steps.{Cause};
 ghost use Rattle.survey_core.specs.Carrying.{Step, SettledBy, HasCount};
-ghost use Rattle.command_line.specs.Notes.{usage_line};
-ghost use Rattle.survey_core.specs.Answers.{session_answer, session_status, session_note};
+ghost use Rattle.survey_core.specs.Answers.{session_status};
 ghost use Rattle.survey_core.specs.Ends.{EndTells, SessionEndCause};
-ghost use Rattle.command_line.specs.Notes.{Noted, SourceStays};
-ghost use Rattle.survey_core.specs.Headline.{ForAnswer, IsSessionStatus, IsSessionAnswered, IsCutWith, StopsWith, TellsSessionEnd, KeeperStays, SinkStays};
+ghost use Rattle.survey_core.specs.Headline.{IsSurveyRunOf, seen_of_source, seen_of_keeper, seen_of_sink};
 
 use crate::catalogue::read_catalogue;
 use crate::fault::{Fault, Stop};
@@ -159,9 +153,11 @@ fn work<S: Source, K: Keeper, O: Sink>(
         (O.written output.old) (O.written output.new) (O.settled output.new) result)) }
     ensures cause { SessionEndCause (commands_of (texts words.now)) (O.settled output.new) (S.faults input.old) (S.faults input.new)
         (O.faults output.old) (O.faults output.new) (K.faults keeper.old) (K.faults keeper.new) result }
-    ensures input_stays { IsErr (commands_of (texts words.now)) → SourceStays S.left S.ended S.faults input.old input.new }
-    ensures keeper_stays { IsErr (commands_of (texts words.now)) → KeeperStays K.tables K.faults keeper.old keeper.new }
-    ensures output_stays { IsErr (commands_of (texts words.now)) → SinkStays O.written O.settled O.faults output.old output.new }
+    ensures input_stays { IsErr (commands_of (texts words.now)) →
+        seen_of_source S.left S.ended S.faults input.new ≡ seen_of_source S.left S.ended S.faults input.old }
+    ensures keeper_stays { IsErr (commands_of (texts words.now)) → seen_of_keeper K.tables K.faults keeper.new ≡ seen_of_keeper K.tables K.faults keeper.old }
+    ensures output_stays { IsErr (commands_of (texts words.now)) →
+        seen_of_sink O.written O.settled O.faults output.new ≡ seen_of_sink O.written O.settled O.faults output.old }
     ensures read_later { S.faults input.old ≤ S.faults input.new }
     ensures write_later { O.faults output.old ≤ O.faults output.new }
     ensures keep_later { K.faults keeper.old ≤ K.faults keeper.new }
@@ -187,54 +183,15 @@ pub fn run_survey<S: Source, K: Keeper, O: Sink, N: Sink>(
     output: &mut O,
     notes: &mut N,
 ) -> u8
-    // The status is the answer's, or a fault of a device or want of memory came between.
-    ensures status { ForAnswer (texts words.now) (S.left input.old) (K.tables keeper.old)
-        (IsSessionStatus result) }
-
-    // At the answer's own status all of it was done, up to the first fault.
-    ensures writes { result < 3 → ForAnswer (texts words.now) (S.left input.old) (K.tables keeper.old)
-        (λ answer. Appends (O.written output.old) (O.written output.new) answer.does.output) }
-    ensures takes { result < 3 → ForSome (S.left input.old) (λ bytes. ForSome (K.tables keeper.old) (λ tables.
-        Takes bytes (S.left input.new) (session_answer (texts words.now) bytes tables).does.taken)) }
-    ensures tables { result < 3 → ForAnswer (texts words.now) (S.left input.old) (K.tables keeper.old)
-        (λ answer. K.tables keeper.new ≡ Some answer.does.tables) }
-    ensures settled { result < 3 → ForAnswer (texts words.now) (S.left input.old) (K.tables keeper.old)
-        (λ answer. IsTrue answer.does.printed → IsTrue (O.settled output.new)) }
-
-    // Else it was cut short in a command: what those before it did stands, the tables are theirs, and of its own bytes and output a front is gone.
-    ensures cut { 3 ≤ result → ForSome (S.left input.old) (λ bytes. ForSome (K.tables keeper.old) (λ tables.
-        IsCutWith (texts words.now) bytes tables (S.left input.new) (K.tables keeper.new)
-        (O.written output.old) (O.written output.new) result)) }
-    // A read fault comes only in an `add`, a write fault only where something is printed, and each, as a keeper's, only where a count rose.
-    ensures stops { 3 ≤ result → StopsWith (texts words.now) (S.faults input.old) (S.faults input.new)
-        (O.faults output.old) (O.faults output.new) (K.faults keeper.old) (K.faults keeper.new) result }
-    ensures printed { result ≡ 0 → (commands : List Command) → commands_of (texts words.now) ≡ Ok commands
-        → IsTrue (list_any is_printing commands) → IsTrue (O.settled output.new) }
-
-    // The notes get one line, and change nothing.
-    ensures noted { (end : End) × TellsSessionEnd result (N.written notes.old) (N.written notes.new)
-        (N.settled notes.new) (N.faults notes.old) (N.faults notes.new) end }
-    ensures notes { result < 3 → ForAnswer (texts words.now) (S.left input.old) (K.tables keeper.old)
-        (λ answer. Noted (N.written notes.old) (N.written notes.new) (N.settled notes.new)
-        (N.faults notes.old) (N.faults notes.new) (session_note answer.end)) }
-
-    // A word at fault, and nothing else, gives status 1; then nothing is asked of the input, the keeper and the output.
-    ensures usage { IsErr (commands_of (texts words.now)) ↔ (result ≡ 1) }
-    ensures word { (at : ℕ) → commands_of (texts words.now) ≡ Err at →
-        Noted (N.written notes.old) (N.written notes.new) (N.settled notes.new)
-        (N.faults notes.old) (N.faults notes.new) (usage_line (at + 1)) }
-    ensures input_stays { IsErr (commands_of (texts words.now)) →
-        SourceStays S.left S.ended S.faults input.old input.new }
-    ensures keeper_stays { IsErr (commands_of (texts words.now)) →
-        KeeperStays K.tables K.faults keeper.old keeper.new }
-    ensures output_stays { IsErr (commands_of (texts words.now)) →
-        SinkStays O.written O.settled O.faults output.old output.new }
-
-    // Where no count rose the status is the answer's, or memory is wanted.
-    ensures complete { (Rose (S.faults input.old) (S.faults input.new) → ⊥)
-        → (Rose (O.faults output.old) (O.faults output.new) → ⊥)
-        → (Rose (K.faults keeper.old) (K.faults keeper.new) → ⊥)
-        → ForAnswer (texts words.now) (S.left input.old) (K.tables keeper.old) (IsSessionAnswered result) }
+    ensures { IsSurveyRunOf (texts words.now) result
+        (seen_of_source S.left S.ended S.faults input.old)
+        (seen_of_source S.left S.ended S.faults input.new)
+        (seen_of_keeper K.tables K.faults keeper.old)
+        (seen_of_keeper K.tables K.faults keeper.new)
+        (seen_of_sink O.written O.settled O.faults output.old)
+        (seen_of_sink O.written O.settled O.faults output.new)
+        (seen_of_sink N.written N.settled N.faults notes.old)
+        (seen_of_sink N.written N.settled N.faults notes.new) }
 {
     let end = work(alloc, words, input, keeper, output);
     tell(notes, end);

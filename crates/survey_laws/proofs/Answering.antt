@@ -21,7 +21,8 @@ use Rattle.detect_top.specs.declared.words.Order.{Order}
 use Rattle.detect_top.specs.declared.words.Job.TheVariants.{Detect}
 use Rattle.detect_top.specs.Words.{order_of}
 use Rattle.detect_top.specs.Products.{output_of_job, output_of, image_made}
-use Rattle.detect_top.specs.Answers.{Answer, end_status, answer_to_verdict, answer_to_order, answer_to_read_words, answer_to_words}
+use Rattle.detect_top.specs.Answers.{end_status}
+use Rattle.detect_top.specs.Headline.{Answer, answer_to_verdict, asked_for, asked_by, answer_to_words}
 use Rattle.detect_top.specs.Catalogues.{detected_hdus, catalogue_cells}
 use Rattle.survey_core.specs.Catalogues.{accepted, catalogue_in}
 use Rattle.survey_laws.specs.Laws.{IsRunsPlane, DetectionIsAccepted, AnswerIsAccepted}
@@ -67,7 +68,8 @@ module _ (words : List (List ℕ)) (bytes : List ℕ) (order : Order) (choice : 
     (order_is : order_of words ≡ Ok order) (job_is : order.job ≡ Detect choice) (image_is : verdict_on bytes order.hdu ≡ image plane head end) where
   answer_is : answer_to_words words bytes ≡ answer_to_verdict order (image plane head end)
   answer_is =
-      ap (λ o. answer_to_read_words o bytes) order_is ∙ ap (λ j. answer_to_order order bytes (image_made j)) job_is ∙ ap (answer_to_verdict order) image_is
+      ap (λ o. (asked_by o).answer bytes) order_is ∙ ap (λ j. (asked_for order (image_made j)).answer bytes) job_is
+      ∙ ap (answer_to_verdict order) image_is
 
   output_is : output_of order plane ≡ detected_hdus (residual_of plane order.mesh order.flat) order.connect choice
   unfolding output_of

@@ -13,7 +13,8 @@ use Rattle.pixel_plane.specs.Verdicts.{image, verdict_on}
 use Rattle.detect_top.specs.declared.words.Order.{Order}
 use Rattle.detect_top.specs.declared.words.Job.TheVariants.{Detect}
 use Rattle.detect_top.specs.Words.{order_of}
-use Rattle.detect_top.specs.Answers.{end_status, answer_to_words}
+use Rattle.detect_top.specs.Answers.{end_status}
+use Rattle.detect_top.specs.Headline.{answer_to_words}
 use Rattle.detect_top.specs.Catalogues.{catalogue_cells, detected_hdus}
 use Rattle.survey_core.specs.Fields.{is_name}
 use Rattle.survey_core.specs.Tables.{Table}

@@ -37,7 +37,8 @@ fn whole_cells(alloc: Global, blob: &[u8]) -> Result<Option<Vec<i64>>, OutOfMemo
 
 /// The cells of the bytes, where these are whole rows, each with the number of its place. Only another program writes others.
 pub fn cells_in_blob(alloc: Global, blob: &[u8]) -> Result<Option<Vec<i64>>, OutOfMemory>
-    ensures { IfOk result (λ some. MatchOption some (IsBlob blob.now → ⊥) (λ cells. IsBlob blob.now × (cells.items ≡ blob_cells blob.now))) }
+    ensures { IfOk result (λ some. MatchOption some (IsBlob blob.now → ⊥)
+        (λ cells. IsBlob blob.now × (cells.items ≡ blob_cells blob.now))) }
 {
     let Some(cells) = whole_cells(alloc, blob)? else {
         return Ok(None);

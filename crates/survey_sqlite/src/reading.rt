@@ -25,10 +25,12 @@ pub enum Unread {
 
 /// The cells of the one row, if there is one: its blob holds whole rows, each with the number of its place.
 pub fn read_cells(alloc: Global, rows: &[Row]) -> Result<Option<Vec<i64>>, Unread>
-    ensures cells { (tables : List Table) (field : List ℕ) → IsCellsOf tables field rows.now → IfOk result (λ cells. option_map (λ c. c.items) cells ≡ cells_of_field field tables) }
+    ensures cells { (tables : List Table) (field : List ℕ) → IsCellsOf tables field rows.now →
+        IfOk result (λ cells. option_map (λ c. c.items) cells ≡ cells_of_field field tables) }
     ensures numbered { IfOk result (λ cells. IfSome cells (λ cells. IsNumbered cells.items)) }
     ensures said { IfOk result (λ cells. SayCells rows.now (option_map (λ c. c.items) cells)) }
-    ensures malformed { result ≡ Err Unread.Malformed → (said : Option (List ℤ)) → ¬ SayCells rows.now said }
+    ensures malformed { result ≡ Err Unread.Malformed →
+        (said : Option (List ℤ)) → ¬ SayCells rows.now said }
 {
     if rows.is_empty() {
         return Ok(None);

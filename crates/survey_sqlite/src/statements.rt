@@ -1,14 +1,12 @@
 //! The statements on the table `source`, over any store.
-ghost use Rattle.std.specs.Prelude.{◌≡◌, true, List, OnOk, OnErr, IfOk, IfSome, IsOk, IsErr, is_some, []};
+ghost use Rattle.std.specs.Prelude.{◌≡◌, true, List, OnOk, OnErr, IfOk, IfSome, IsOk, IsErr, is_some};
 ghost use Rattle.std.specs.Option.{option_map};
 ghost use Rattle.survey_core.specs.Tables.{IsNumbered, put, without_field, cells_of_field};
 ghost use Rattle.sqlite.specs.Held.{state};
-ghost use Rattle.sqlite.specs.State.{HasCleanDisk, Opens};
-ghost use Rattle.survey_sqlite.specs.Schemas.{no_schema};
-ghost use Rattle.survey_sqlite.specs.Source.{IsAtRest};
+ghost use Rattle.sqlite.specs.State.{HasCleanDisk};
 ghost use Rattle.survey_sqlite.specs.Tables.{HasSource, LacksSource};
 ghost use Rattle.survey_sqlite.specs.Blobs.{blob_cells};
-ghost use Rattle.survey_sqlite.specs.Steps.{tables_of};
+ghost use Rattle.survey_sqlite.specs.Steps.{MakesTable};
 ghost use Rattle.survey_sqlite.specs.Calls.{Turns, StaysOpen, AnswersCells, CountsFound, AnswersNames};
 
 use crate::schema::{has_source, lacks_source};
@@ -22,10 +20,12 @@ const FOREIGN: Error = Error::SqliteFailure(ErrorCode::NameTaken);
 /// Makes the table `source`, where nothing has its name: a text and a blob in each row, by the text, and strict. A table of that form
 /// stays as it is, and anything else of that name is refused.
 pub fn make_table<S: Alter>(conn: &mut Connection<S>) -> Result<(), Error>
-    ensures made { HasCleanDisk (state S.Store conn.new) → OnOk result (Opens (state S.Store conn.old) → (state S.Store conn.old).now.schema ≡ no_schema → IsAtRest (state S.Store conn.new) × (tables_of (state S.Store conn.new) ≡ [])) }
+    ensures made { HasCleanDisk (state S.Store conn.new) →
+        OnOk result (MakesTable (state S.Store conn.old) (state S.Store conn.new)) }
     ensures has { OnOk result (HasSource conn.new.schema) }
     ensures stays { HasSource conn.old.schema → IsOk result × (conn.new ≡ conn.old) }
-    ensures foreign { ¬ HasSource conn.old.schema → ¬ LacksSource conn.old.schema → IsErr result × (conn.new ≡ conn.old) }
+    ensures foreign { ¬ HasSource conn.old.schema → ¬ LacksSource conn.old.schema →
+        IsErr result × (conn.new ≡ conn.old) }
 {
     if has_source(conn.schema()) {
         return Ok(());
@@ -37,7 +37,8 @@ pub fn make_table<S: Alter>(conn: &mut Connection<S>) -> Result<(), Error>
 }
 
 fn create<S: Alter>(conn: &mut Connection<S>) -> Result<(), Error>
-    ensures made { HasCleanDisk (state S.Store conn.new) → OnOk result (Opens (state S.Store conn.old) → (state S.Store conn.old).now.schema ≡ no_schema → IsAtRest (state S.Store conn.new) × (tables_of (state S.Store conn.new) ≡ [])) }
+    ensures made { HasCleanDisk (state S.Store conn.new) →
+        OnOk result (MakesTable (state S.Store conn.old) (state S.Store conn.new)) }
     ensures has { OnOk result (HasSource conn.new.schema) }
 {
     match conn.execute(

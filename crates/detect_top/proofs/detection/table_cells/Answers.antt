@@ -26,7 +26,7 @@ row-row-requires-clause-few c = let few = few_picked c.args.tree.now c.args.pick
 pub loop-place-preserved : goal.loop-place-preserved
 loop-place-preserved c =
     cells_more c.args.tree.now c.args.sums.now c.args.picked.now c.loop-place.place _ _ c.row-row.result c.loop-place.invariant c.loop-place-test.true
-    c.in_default.ensures c.row-row.ensures.columns
+    c.in_ok-add_row.ensures c.row-row.ensures.columns
     c.row-row.ensures.exact
 
 pub returns-clause-exact : goal.returns-clause-exact

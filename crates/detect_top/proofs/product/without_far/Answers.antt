@@ -5,9 +5,9 @@ use Rattle.source_pick.proofs.Exported.{shape-kept}
 use Rattle.detect_top.proofs.NearPixels.{detection_same}
 use Rattle.detect_top.proofs.product.without_far.Goals as goal
 
-pub returns-in-Ok : goal.returns-in-Ok
-returns-in-Ok g c =
+pub returns : goal.returns
+returns g c =
     let fits : SFits w64 c.args.choice.threshold = search rules in
     sym (detection_same c.args.plane c.clear_far.new.plane c.args.connect c.args.choice
-    (sym (ap (λ (r : Raster). r.shape) c.in-Ok.ensures.kept ∙ shape-kept c.args.plane c.args.connect _))
-    (c.in-Ok.ensures.same c.args.choice (sym (to_z-of_z w64 c.args.choice.threshold fits))))
+    (sym (ap (λ (r : Raster). r.shape) c.in_ok-clear_far.ensures.kept ∙ shape-kept c.args.plane c.args.connect _))
+    (c.in_ok-clear_far.ensures.same c.args.choice (sym (to_z-of_z w64 c.args.choice.threshold fits))))

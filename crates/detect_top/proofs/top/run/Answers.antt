@@ -1,6 +1,7 @@
-use Rattle.detect_top.proofs.Ends.{completes}
+use Rattle.detect_top.proofs.Ends.{run_of_end}
 use Rattle.detect_top.proofs.top.run.Goals as goal
 
-pub returns-clause-complete : goal.returns-clause-complete
-returns-clause-complete g c = λ read write bytes told.
-    rw c.status.ensures (completes _ _ _ bytes c.work-end.result (c.work-end.ensures.bytes bytes told) c.work-end.ensures.cause read write told)
+pub returns : goal.returns
+returns g c =
+    let end = c.work-end in
+    rw c.status.ensures (run_of_end _ _ _ _ end.result end.ensures.bytes end.ensures.cause end.ensures.untouched c.tell.ensures)

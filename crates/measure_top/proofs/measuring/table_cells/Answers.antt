@@ -33,7 +33,7 @@ loop-node-preserved c =
     let there = c.requires.there c.loop-node.node-index _ (slice_get-get_or c.args.nodes.now c.loop-node.node-index nobody c.loop-node-test.true) in
     rows_more c.args.tree.now c.args.measures.now c.args.nodes.now c.loop-node.node-index nobody _ _ c.row_cells-cells.result c.loop-node.invariant
     c.requires.few
-    c.loop-node-test.true c.in_default.ensures many c.row_cells-cells.ensures.table
+    c.loop-node-test.true c.in_ok-add_row.ensures many c.row_cells-cells.ensures.table
     (λ plane values connect one tree_is measures_are.
     node_read plane values connect c.args.tree.now c.node_of-node_of.result.now (get_or c.args.nodes.now c.loop-node.node-index nobody) c.row_cells-cells.result
     tree_is
