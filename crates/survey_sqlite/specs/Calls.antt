@@ -1,10 +1,10 @@
 -- Bookkeeping: what a call on a connection does to the rows of `source`, and what its answer says of them.
-use Rattle.std.specs.Prelude.{◌≡◌, ◌⊎◌, ◌==◌, ℕ, List, [], ◌∷◌, is_some, map, IsTrue}
+use Rattle.std.specs.Prelude.{◌≡◌, ◌⊎◌, ◌==◌, ℕ, ℤ, List, [], ◌∷◌, Option, is_some, map, IsTrue}
 use Rattle.sqlite.specs.declared.types.Value.TheVariants.{Text}
 use Rattle.sqlite.specs.Order.{Row}
 use Rattle.sqlite.specs.Disk.{MoreFaults}
 use Rattle.sqlite.specs.State.{State, HasCleanDisk}
-use Rattle.survey_core.specs.Tables.{Table, cells_of_field}
+use Rattle.survey_core.specs.Tables.{Table, cells_of_field, names_of}
 use Rattle.survey_sqlite.specs.Source.{IsAtRest}
 use Rattle.survey_sqlite.specs.Rows.{IsCellsOf}
 use Rattle.survey_sqlite.specs.Steps.{tables_of}
@@ -30,3 +30,11 @@ are_names = map (λ t. Text t.0 ∷ [])
 
 abbrev pub AnswersNames : State → State → List Row → Type 0
 AnswersNames old new rows = HasCleanDisk new → IsAtRest old → rows ≡ are_names (tables_of old)
+
+-- the cells of the field are those that it was at rest with
+abbrev pub ShowsCells : State → State → List ℕ → Option (List ℤ) → Type 0
+ShowsCells old new field cells = HasCleanDisk new → IsAtRest old → cells ≡ cells_of_field field (tables_of old)
+
+-- and these its fields
+abbrev pub ShowsNames : State → State → List (List ℕ) → Type 0
+ShowsNames old new fields = HasCleanDisk new → IsAtRest old → fields ≡ names_of (tables_of old)

@@ -7,8 +7,9 @@ ghost use Rattle.survey_sqlite.specs.Steps.{AreRising};
 ghost use Rattle.dev_io.specs.Causes.{Rose};
 
 use crate::blob::blob_of;
-use crate::reading::{Unread, read_cells, read_names};
-use crate::statements::{find_blob, list_names, make_table, put_row, remove_row};
+use crate::reading::Unread;
+use crate::shown::{Unshown, cells_shown, names_shown};
+use crate::statements::{make_table, put_row, remove_row};
 use sqlite::{Connection, Error, ErrorCode, File, FileStore};
 use std::alloc::Global;
 use std::rt::HostRuntime;
@@ -78,13 +79,14 @@ impl<'a> FileKeeper<'a> {
         }
     }
 
-    fn unread(&mut self, unread: Unread) -> Refused
+    fn unshown(&mut self, why: Unshown) -> Refused
         ensures later { self.old.faults ≤ self.new.faults }
         ensures rose { result ≡ Refused.Fault → Rose self.old.faults self.new.faults }
     {
-        match unread {
-            Unread::OutOfMemory => Refused::OutOfMemory,
-            Unread::Malformed => self.fault(),
+        match why {
+            Unshown::Refused(error) => self.refused(error),
+            Unshown::Unread(Unread::OutOfMemory) => Refused::OutOfMemory,
+            Unshown::Unread(Unread::Malformed) => self.fault(),
         }
     }
 
@@ -145,15 +147,11 @@ impl Keeper for FileKeeper<'_> {
             Ok(conn) => conn,
             Err(refused) => return Err(refused),
         };
-        let found = list_names(&mut conn);
+        let shown = names_shown(alloc, &mut conn);
         self.conn = Some(conn);
-        let rows = match found {
-            Ok(rows) => rows,
-            Err(error) => return Err(self.refused(error)),
-        };
-        match read_names(alloc, &rows) {
+        match shown {
             Ok(fields) => Ok(fields),
-            Err(unread) => Err(self.unread(unread)),
+            Err(why) => Err(self.unshown(why)),
         }
     }
 
@@ -168,15 +166,11 @@ impl Keeper for FileKeeper<'_> {
             Ok(conn) => conn,
             Err(refused) => return Err(refused),
         };
-        let found = find_blob(&mut conn, &field);
+        let shown = cells_shown(alloc, &mut conn, &field);
         self.conn = Some(conn);
-        let rows = match found {
-            Ok(rows) => rows,
-            Err(error) => return Err(self.refused(error)),
-        };
-        match read_cells(alloc, &rows) {
+        match shown {
             Ok(cells) => Ok(cells),
-            Err(unread) => Err(self.unread(unread)),
+            Err(why) => Err(self.unshown(why)),
         }
     }
 

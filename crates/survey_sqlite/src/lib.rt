@@ -6,6 +6,7 @@ mod file_keeper;
 mod in_memory;
 mod reading;
 mod schema;
+mod shown;
 mod sql_keeper;
 mod statements;
 

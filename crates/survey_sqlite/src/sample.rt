@@ -1,5 +1,8 @@
 //! Catalogues for the tests: five pixels in a row, and a table of their sources.
 
+use catalogue_form::{CELLS_IN_ROW, FLUX, NUMBER, XCEN, YCEN, catalogue_columns};
+use fits_write::Cell;
+use itoa::Buffer;
 use std::alloc::Global;
 use std::test::Fail;
 
@@ -24,8 +27,16 @@ const MAP: [&[u8]; 8] = [
     b"END",
 ];
 
-/// How wide a row of a catalogue is.
-pub(crate) const WIDTH: &[u8] = b"NAXIS1  =                   96";
+const TABLE: [&[u8]; 3] = [
+    b"XTENSION= 'BINTABLE'",
+    b"BITPIX  =                    8",
+    b"NAXIS   =                    2",
+];
+
+const TABLE_SIZES: [&[u8]; 2] = [
+    b"PCOUNT  =                    0",
+    b"GCOUNT  =                    1",
+];
 
 /// NUMBER, FLUX and XCEN of a row.
 pub(crate) type Source = (i32, i64, i32);
@@ -37,57 +48,78 @@ fn fill_block(bytes: &mut Vec<u8>, byte: u8) -> Result<(), Fail> {
     Ok(())
 }
 
+// A card of this text.
+fn card(text: &[u8]) -> [u8; 80] {
+    let mut card = [b' '; 80];
+    let count = text.len().min(80);
+    card[..count].copy_from_slice(&text[..count]);
+    card
+}
+
 fn add_cards(bytes: &mut Vec<u8>, cards: &[&[u8]]) -> Result<(), Fail> {
     for text in cards {
-        let mut card = [b' '; 80];
-        let count = text.len().min(80);
-        card[..count].copy_from_slice(&text[..count]);
-        bytes.extend_from_slice(&card)?;
+        bytes.extend_from_slice(&card(text))?;
     }
     Ok(())
 }
 
-fn add_row(bytes: &mut Vec<u8>, source: Source) -> Result<(), Fail> {
+// A card with this number, which ends in column 30.
+fn number_card(keyword: &[u8], number: usize) -> [u8; 80] {
+    let mut text = Buffer::new();
+    let digits = text.format(number).as_bytes();
+    let mut all = card(keyword);
+    all[8] = b'=';
+    let count = digits.len().min(20);
+    all[30 - count..30].copy_from_slice(&digits[..count]);
+    all
+}
+
+// The cell of a source in the column at this place.
+fn cell_of(source: Source, place: usize) -> i64 {
     let (number, flux, xcen) = source;
-    bytes.extend_from_slice(&number.to_be_bytes())?;
-    bytes.extend_from_slice(&[0; 20])?;
-    bytes.extend_from_slice(&flux.to_be_bytes())?;
-    bytes.extend_from_slice(&[0; 32])?;
-    bytes.extend_from_slice(&xcen.to_be_bytes())?;
-    bytes.extend_from_slice(&1000_i32.to_be_bytes())?;
-    bytes.extend_from_slice(&[0; 24])?;
+    if place == NUMBER {
+        i64::from(number)
+    } else if place == FLUX {
+        flux
+    } else if place == XCEN {
+        i64::from(xcen)
+    } else if place == YCEN {
+        1000
+    } else {
+        0
+    }
+}
+
+fn add_row(bytes: &mut Vec<u8>, source: Source) -> Result<(), Fail> {
+    let columns = catalogue_columns();
+    for place in 0..CELLS_IN_ROW {
+        let cell = cell_of(source, place).to_be_bytes();
+        match columns[place].cell {
+            Cell::J => bytes.extend_from_slice(&cell[4..])?,
+            Cell::K => bytes.extend_from_slice(&cell)?,
+        }
+    }
     Ok(())
 }
 
-/// A catalogue whose cards say this of the width and the number of its rows.
-pub(crate) fn catalogue(
-    alloc: Global,
-    width: &[u8],
-    count: &[u8],
-    sources: &[Source],
-) -> Result<Vec<u8>, Fail> {
-    let table: [&[u8]; 8] = [
-        b"XTENSION= 'BINTABLE'",
-        b"BITPIX  =                    8",
-        b"NAXIS   =                    2",
-        width,
-        count,
-        b"PCOUNT  =                    0",
-        b"GCOUNT  =                    1",
-        b"TFIELDS =                   17",
-    ];
+/// A catalogue whose rows are said to have this width.
+pub(crate) fn catalogue(alloc: Global, width: usize, sources: &[Source]) -> Result<Vec<u8>, Fail> {
     let mut bytes = Vec::new(alloc);
     add_cards(&mut bytes, &PRIMARY)?;
     fill_block(&mut bytes, b' ')?;
     add_cards(&mut bytes, &MAP)?;
     fill_block(&mut bytes, b' ')?;
     bytes.extend_from_slice(&[0; BLOCK])?;
-    add_cards(&mut bytes, &table)?;
-    // so many cards name the columns
-    for _ in 0..35 {
-        add_cards(&mut bytes, &[b"COMMENT"])?;
+    add_cards(&mut bytes, &TABLE)?;
+    bytes.extend_from_slice(&number_card(b"NAXIS1", width))?;
+    bytes.extend_from_slice(&number_card(b"NAXIS2", sources.len()))?;
+    add_cards(&mut bytes, &TABLE_SIZES)?;
+    bytes.extend_from_slice(&number_card(b"TFIELDS", CELLS_IN_ROW))?;
+    // the name of the table, and two cards for each column
+    for _ in 0..2 * CELLS_IN_ROW + 1 {
+        bytes.extend_from_slice(&card(b"COMMENT"))?;
     }
-    add_cards(&mut bytes, &[b"END"])?;
+    bytes.extend_from_slice(&card(b"END"))?;
     fill_block(&mut bytes, b' ')?;
     for source in sources {
         add_row(&mut bytes, *source)?;

@@ -1,25 +1,22 @@
 //! Sessions over tables in a database.
 
-use crate::sample::{WIDTH, catalogue};
+use crate::sample::catalogue;
 use crate::{FileKeeper, SqlKeeper};
+use catalogue_form::{BYTES_IN_ROW, CELLS_IN_ROW, FLUX, NUMBER, XCEN, YCEN};
 use dev_io::{MemSink, MemSource};
 use std::alloc::Global;
 use std::fs;
 use std::test::Fail;
 use survey_core::{Field, Keeper, run_survey};
 
-const ONE: &[u8] = b"NAXIS2  =                    1";
-
-const TWO: &[u8] = b"NAXIS2  =                    2";
-
 // Two sources.
 fn first(alloc: Global) -> Result<Vec<u8>, Fail> {
-    catalogue(alloc, WIDTH, TWO, &[(1, 4, 2000), (2, 3, 4000)])
+    catalogue(alloc, BYTES_IN_ROW, &[(1, 4, 2000), (2, 3, 4000)])
 }
 
 // Both at once.
 fn second(alloc: Global) -> Result<Vec<u8>, Fail> {
-    catalogue(alloc, WIDTH, ONE, &[(1, 10, 2900)])
+    catalogue(alloc, BYTES_IN_ROW, &[(1, 10, 2900)])
 }
 
 // The first of these bytes, so many at the most.
@@ -33,9 +30,8 @@ fn sessions_answer_as_they_should(rt: HostRuntime) -> Result<(), Fail> {
     let first = first(alloc)?;
     let mut both = Vec::from_slice(alloc, &first)?;
     both.extend_from_slice(&second(alloc)?)?;
-    let none = catalogue(alloc, WIDTH, b"NAXIS2  =                    0", &[])?;
-    let narrow = b"NAXIS1  =                   88";
-    let other = catalogue(alloc, narrow, ONE, &[(1, 10, 2900)])?;
+    let none = catalogue(alloc, BYTES_IN_ROW, &[])?;
+    let other = catalogue(alloc, BYTES_IN_ROW - 8, &[(1, 10, 2900)])?;
     // the words, the input; the status, how many bytes are taken, the output and the notes
     let cases: [(&[&str], &[u8], u8, usize, &[u8], &[u8]); 10] = [
         (
@@ -150,7 +146,11 @@ fn an_add_replaces(rt: HostRuntime) -> Result<(), Fail> {
     assert_eq!(rt; status, 0);
     let (status, _) = answer(alloc, &["add", "A"], &second(alloc)?, &mut keeper)?;
     assert_eq!(rt; status, 0);
-    let row: [i64; 17] = [1, 0, 0, 0, 10, 0, 0, 0, 0, 0, 0, 0, 2900, 1000, 0, 0, 0];
+    let mut row = [0; CELLS_IN_ROW];
+    row[NUMBER] = 1;
+    row[FLUX] = 10;
+    row[XCEN] = 2900;
+    row[YCEN] = 1000;
     let cells = keeper.rows(alloc, field);
     assert!(rt; matches!(&cells, Ok(Some(cells)) if cells.as_slice() == row.as_slice()));
     let names = keeper.names(alloc);

@@ -44,7 +44,7 @@ fn many_rows(rt: HostRuntime) -> Result<(), Fail> {
     let back = keeper.rows(alloc, b.copy());
     assert!(rt; matches!(&back, Ok(Some(back)) if back.as_slice() == cells.as_slice()));
     let back = keeper.rows(alloc, a.copy());
-    assert!(rt; matches!(&back, Ok(Some(back)) if back.len() == 17));
+    assert!(rt; matches!(&back, Ok(Some(back)) if back.len() == CELLS_IN_ROW));
     assert!(rt; matches!(keeper.remove(alloc, a.copy()), Ok(true)));
     assert!(rt; matches!(keeper.remove(alloc, a.copy()), Ok(false)));
     assert!(rt; matches!(keeper.rows(alloc, a.copy()), Ok(None)));
@@ -68,7 +68,7 @@ fn a_file_is_found_again(rt: HostRuntime) -> Result<(), Fail> {
     drop(keeper);
     let mut keeper = FileKeeper::at(&rt, "survey_sqlite_test/s.db");
     let back = keeper.rows(alloc, a.copy());
-    assert!(rt; matches!(&back, Ok(Some(back)) if back.len() == 34));
+    assert!(rt; matches!(&back, Ok(Some(back)) if back.len() == 2 * CELLS_IN_ROW));
     assert!(rt; matches!(keeper.remove(alloc, a.copy()), Ok(true)));
     assert!(rt; matches!(keeper.remove(alloc, a.copy()), Ok(false)));
     let mut other = FileKeeper::at(&rt, "survey_sqlite_test/none/s.db");
