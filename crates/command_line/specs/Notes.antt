@@ -1,4 +1,4 @@
--- Model: what a program tells of its end, on a sink for notes, and what it leaves alone.
+-- Model: what a program tells of its end, on a sink for notes.
 use Rattle.std.specs.Prelude.{◌≡◌, ℕ, ◌<◌, ◌≤◌, ◌⊎◌, Bool, List, [], ◌∷◌, length, IsTrue, codes, decimal}
 use Rattle.std.specs.declared.option.Option.{Option}
 use Rattle.std.specs.List.{concat}
@@ -14,9 +14,3 @@ pub record Noted (old new : Option (List ℕ)) (settled' : Bool) (faults faults'
   pub later : faults ≤ faults'
   pub front : AppendsPrefix old new line
   pub whole : Rose faults faults' ⊎ (Appends old new line × (0 < length line → IsTrue settled'))
-
--- nothing was asked of a source
-pub record SourceStays {S : Type 0} (left : S → Option (List ℕ)) (ended : S → Bool) (faults : S → ℕ) (old new : S) : Type 0 where
-  pub same_left : left new ≡ left old
-  pub same_end : ended new ≡ ended old
-  pub same_faults : faults new ≡ faults old

@@ -1,5 +1,5 @@
 -- What is made of an image is what its order writes.
-use Rattle.std.proofs.Common.{◌≡◌, ◌∙◌, ap, sym, ℕ, Bool, Result, Ok, Err, IfOk}
+use Rattle.std.proofs.Common.{◌≡◌, ◌∙◌, ap, ℕ, Bool, Result, Ok, Err, IfOk}
 use Rattle.std.specs.Prelude.{Some, None}
 use Rattle.std.specs.declared.option.Option.{Option}
 use Rattle.comp_tree.specs.declared.shape.Shape.{Shape}

@@ -1,18 +1,17 @@
 -- How a run that measures may end.
-use Rattle.std.proofs.Common.{◌≡◌, ◌∙◌, ℕ, ◌≤◌, Bool, true, false, cond, List, sym, ap, subst, arith, inl, inr, Result, Ok, Err}
+use Rattle.std.proofs.Common.{◌≡◌, ◌∙◌, ℕ, ◌≤◌, Bool, true, false, cond, List, sym, ap, subst, arith, Result, Ok, Err}
 use Rattle.std.specs.declared.option.Option.{Option}
 use Rattle.dev_io.specs.Streams.{Takes}
 use Rattle.detect_top.specs.declared.words.MeasureOrder.{MeasureOrder}
 use Rattle.detect_top.specs.declared.words.Usage.{Usage as AtFault}
 use Rattle.detect_top.specs.Words.{asks_measure, measure_order_of}
 use Rattle.detect_top.specs.Answers.{end_status, end_of}
-use Rattle.detect_top.specs.Streams.{TakesOneOf}
 use Rattle.detect_top.specs.RunEnds.{AllRead}
 use Rattle.detect_top.specs.Headline.{asked_of}
 use Rattle.detect_top.specs.Laws.{AnswersAreOfWordsAndBytes}
 use Rattle.detect_top.proofs.Exported.{by_verdict, status_by_words_and_bytes}
 use Rattle.measure_top.specs.declared.images.TwoPlanes.{TwoPlanes}
-use Rattle.measure_top.specs.TwoImages.{TwoVerdict, two_images, earlier_fault, later_fault, shapes_differ, taken_for_two, stop_of_two, memory_at_two}
+use Rattle.measure_top.specs.TwoImages.{TwoVerdict, two_images, earlier_fault, later_fault, shapes_differ, taken_for_two, stop_of_two}
 use Rattle.measure_top.specs.TwoReads.{TwoRead}
 use Rattle.measure_top.specs.MeasureAnswers.{measured_of_two, measure_output, measure_answer_to_verdict, verdict_for, asked_to_measure, asked_of_all}
 

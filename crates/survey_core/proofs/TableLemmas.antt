@@ -242,7 +242,8 @@ all_without P field ts all = all_from P _ (λ x m. all_among P ts x all (without
 
 pub put_are : (field : List ℕ) (cells : List ℤ) (ts us : List Table) → us ≡ put field cells ts → AreTables ts → is_name field ≡ true → IsNumbered cells
     → AreTables us
-put_are field cells ts us is are named numbered = subst AreTables (sym is) (order_put field cells ts are.0, all_put field cells IsFieldTable ts (named, numbered) are.1)
+put_are field cells ts us is are named numbered =
+    subst AreTables (sym is) (order_put field cells ts are.0, all_put field cells IsFieldTable ts (named, numbered) are.1)
 
 pub without_are : (field : List ℕ) (ts us : List Table) → us ≡ without_field field ts → AreTables ts → AreTables us
 without_are field ts us is are = subst AreTables (sym is) (order_without field ts are.0, all_without IsFieldTable field ts are.1)

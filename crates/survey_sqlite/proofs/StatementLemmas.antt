@@ -8,7 +8,7 @@ use Rattle.sqlite.specs.Order.{Row, column}
 use Rattle.sqlite_value.specs.Order.{value_cmp}
 use Rattle.sqlite_value.proofs.OrderLemmas.{value_cmp_total, value_cmp-Int}
 use Rattle.sqlite_value.proofs.KeyLemmas.{first_key-plain}
-use Rattle.sqlite.specs.Term.{Term, Env, holds, eval_all, lit, col}
+use Rattle.sqlite.specs.Term.{lit, col}
 use Rattle.sqlite.specs.Ops.{binary, is_true}
 use Rattle.sqlite.specs.Collation.TheVariants.{Binary}
 use Rattle.sqlite_sql.specs.declared.ops.BinaryOp.TheVariants.{Compare}
@@ -23,7 +23,7 @@ use Rattle.sqlite.specs.Tree.{Trees, IsTable}
 use Rattle.sqlite_trees.specs.Tree.{rowid, has_rowid, without_rowid}
 use Rattle.sqlite_trees.proofs.TreeLemmas.{IsTable-put_row}
 use Rattle.sqlite_trees.proofs.ListLemmas.{ascending-filter}
-use Rattle.sqlite.specs.Edit.{Edit, edit_of, edited, put_all, without_all, are_fresh}
+use Rattle.sqlite.specs.Edit.{edit_of, put_all, are_fresh}
 use Rattle.sqlite_rules.specs.Edit.{next_rowid, with_rowid}
 use Rattle.sqlite_rules.specs.declared.error.Refusal.{Refusal}
 use Rattle.sqlite.specs.Cast.{cast_row}
@@ -37,7 +37,7 @@ use Rattle.sqlite_rules.proofs.PlaceLemmas.{tied_same}
 use Rattle.sqlite_schema.specs.declared.schema.Keys.TheVariants.{Enforced}
 use Rattle.sqlite_schema.specs.declared.command.Conflict.TheVariants.{Abort}
 use Rattle.sqlite.specs.Source.TheVariants.{Values}
-use Rattle.sqlite.specs.Rows.{Written, Task, Part, Then, Puts, Clears, Updates, Meets, Upserts, Judged, Tries, TriesEach, InsertsOr, count_of, nothing, joined}
+use Rattle.sqlite.specs.Rows.{Written, Task, Then, Puts, Clears, Updates, Meets, Upserts, Judged, Tries, TriesEach, InsertsOr, count_of, nothing, joined}
 use Rattle.sqlite.specs.declared.error.Error.{Error}
 use Rattle.sqlite.proofs.Callers.{one_step}
 use Rattle.survey_core.specs.Fields.{name_cmp}

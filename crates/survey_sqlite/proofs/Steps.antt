@@ -1,5 +1,5 @@
 -- What each statement does to a connection at rest.
-use Rattle.std.proofs.Common.{◌≡◌, ◌≢◌, ◌⊎◌, inl, inr, ℕ, ◌≤◌, ◌+◌, Bool, true, false, List, [], ◌∷◌, ◌++◌, length, Some, None, Option, Ok, Err, Result, IsTrue, OnOk, IfOk, OnErr, IfErr, refl, sym, ap, subst, ◌∙◌, arith}
+use Rattle.std.proofs.Common.{◌≡◌, ◌⊎◌, inl, inr, ℕ, Bool, true, false, List, [], ◌∷◌, length, None, Ok, Err, Result, IsTrue, OnOk, IfOk, OnErr, IfErr, refl, sym, ap, subst, ◌∙◌}
 use Rattle.sqlite.specs.declared.types.Value.TheVariants.{Text, Blob}
 use Rattle.sqlite.specs.Order.{Row}
 use Rattle.sqlite.specs.Command.TheVariants.{CreateTable}
