@@ -95,15 +95,20 @@ rows_short bytes k count a b cells (Refused fault) rows h short =
     let long = length-drop (bytes_in_row * k) bytes in
     let all : bytes_in_row * k + length (drop (bytes_in_row * k) bytes) ≡ length bytes = omega (arith, long, rows.takes.within) in
     (short.0, omega (arith, short.1, all), subst (Takes bytes b) all (Takes-after bytes a b (bytes_in_row * k) _ rows.takes short.2))
-rows_short bytes k count a b cells ReadFault rows h short = at_most bytes b (bytes_in_row * k + bytes_in_row) (bytes_in_row * count) (TakesAtMost-after bytes a b (bytes_in_row * k) bytes_in_row rows.takes short) (omega arith)
+rows_short bytes k count a b cells ReadFault rows h short =
+    at_most bytes b (bytes_in_row * k + bytes_in_row) (bytes_in_row * count) (TakesAtMost-after bytes a b (bytes_in_row * k) bytes_in_row rows.takes short)
+    (omega arith)
 rows_short bytes k count a b cells WriteFault rows h short = short
-rows_short bytes k count a b cells NoMemory rows h short = at_most bytes b (bytes_in_row * k + bytes_in_row) (bytes_in_row * count) (TakesAtMost-after bytes a b (bytes_in_row * k) bytes_in_row rows.takes short) (omega arith)
+rows_short bytes k count a b cells NoMemory rows h short =
+    at_most bytes b (bytes_in_row * k + bytes_in_row) (bytes_in_row * count) (TakesAtMost-after bytes a b (bytes_in_row * k) bytes_in_row rows.takes short)
+    (omega arith)
 rows_short bytes k count a b cells KeeperFault rows h short = short
 
 pub rows_wanted : (bytes : List ℕ) (k count : ℕ) (a b : Option (List ℕ)) (row : List ℕ) (cells : List ℤ) → AreTableRows bytes k a cells → k < count
     → IsRow (drop (bytes_in_row * k) bytes) b row → TakesAtMost bytes b (bytes_in_row * count)
 rows_wanted bytes k count a b row cells rows h here =
-    taken_at_most bytes b (bytes_in_row * k + bytes_in_row) (bytes_in_row * count) (Takes-after bytes a b (bytes_in_row * k) bytes_in_row rows.takes here.takes) (omega arith)
+    taken_at_most bytes b (bytes_in_row * k + bytes_in_row) (bytes_in_row * count) (Takes-after bytes a b (bytes_in_row * k) bytes_in_row rows.takes here.takes)
+    (omega arith)
 
 -- ---- the table
 
@@ -118,7 +123,8 @@ unfolding table_of
 table_short bytes rows h = rw (lt_true (length bytes) (bytes_in_row * rows) h) refl
 
 table_whole : (bytes : List ℕ) (rows : ℕ) → bytes_in_row * rows ≤ length bytes
-    → table_of bytes rows ≡ numbered bytes (bytes_in_row * rows) (table_cells catalogue_columns bytes rows) (first_misnumbered (table_cells catalogue_columns bytes rows))
+    → table_of bytes rows ≡ numbered bytes (bytes_in_row * rows) (table_cells catalogue_columns bytes rows)
+    (first_misnumbered (table_cells catalogue_columns bytes rows))
 unfolding table_of
 table_whole bytes rows h = rw (lt_false (length bytes) (bytes_in_row * rows) h) refl
 
@@ -136,18 +142,25 @@ unfolding table_of
 table_takes bytes rows = by (nat_lt (length bytes) (bytes_in_row * rows)) refl
   where
     by : (b : Bool) → nat_lt (length bytes) (bytes_in_row * rows) ≡ b
-        → min (bytes_in_row * rows) (length bytes) ≤ taken_of (cond b (rejected (Refused TruncatedTable) (length bytes)) (numbered bytes (bytes_in_row * rows) (table_cells catalogue_columns bytes rows) (first_misnumbered (table_cells catalogue_columns bytes rows))))
+        → min (bytes_in_row * rows) (length bytes) ≤ taken_of
+        (cond b (rejected (Refused TruncatedTable) (length bytes))
+        (numbered bytes (bytes_in_row * rows) (table_cells catalogue_columns bytes rows) (first_misnumbered (table_cells catalogue_columns bytes rows))))
     by true h = omega arith
     by false h = let whole : bytes_in_row * rows ≤ length bytes = grind (arith, nat_tests) in
-        let least = numbered_takes bytes (bytes_in_row * rows) (table_cells catalogue_columns bytes rows) (first_misnumbered (table_cells catalogue_columns bytes rows)) whole in omega (arith, least)
+        let least =
+        numbered_takes bytes (bytes_in_row * rows) (table_cells catalogue_columns bytes rows)
+        (first_misnumbered (table_cells catalogue_columns bytes rows)) whole in omega (arith, least)
 
 table_wants : (bytes : List ℕ) (rows : ℕ) → MayLackIn (table_of bytes rows)
 unfolding table_of
 table_wants bytes rows = by (nat_lt (length bytes) (bytes_in_row * rows))
   where
-    by : (b : Bool) → MayLackIn (cond b (rejected (Refused TruncatedTable) (length bytes)) (numbered bytes (bytes_in_row * rows) (table_cells catalogue_columns bytes rows) (first_misnumbered (table_cells catalogue_columns bytes rows))))
+    by : (b : Bool)
+        → MayLackIn (cond b (rejected (Refused TruncatedTable) (length bytes))
+        (numbered bytes (bytes_in_row * rows) (table_cells catalogue_columns bytes rows) (first_misnumbered (table_cells catalogue_columns bytes rows))))
     by true = tt
-    by false = numbered_wants bytes (bytes_in_row * rows) (table_cells catalogue_columns bytes rows) (first_misnumbered (table_cells catalogue_columns bytes rows))
+    by false =
+        numbered_wants bytes (bytes_in_row * rows) (table_cells catalogue_columns bytes rows) (first_misnumbered (table_cells catalogue_columns bytes rows))
 
 pub table_cut : (bytes : List ℕ) (rows : ℕ) (left : Option (List ℕ)) (stop : Stop) → IsCutWithin bytes (bytes_in_row * rows) left stop
     → IsRejected (table_of bytes rows) bytes left stop
@@ -233,7 +246,9 @@ unfolding reading_by
 hdu_takes bytes (refused fault taken) = omega arith
 hdu_takes bytes (found hdu head) = by (is_catalogue hdu) (nat_lt most_rows hdu.height)
   where
-    by : (a b : Bool) → head ≤ taken_of (cond a (cond b (rejected (Refused TooManyRows) head) (beyond head (table_of (drop head bytes) hdu.height))) (rejected (Refused NotCatalogue) head))
+    by : (a b : Bool)
+        → head ≤ taken_of (cond a (cond b (rejected (Refused TooManyRows) head) (beyond head (table_of (drop head bytes) hdu.height)))
+        (rejected (Refused NotCatalogue) head))
     by true true = omega arith
     by true false = beyond_takes head (table_of (drop head bytes) hdu.height)
     by false b = omega arith
@@ -301,7 +316,8 @@ beyond_cut bytes head a b reading KeeperFault takes cut = cut
 -- the table behind its header
 pub behind_header : {C : Type 0} (items : C → List ℤ) (bytes : List ℕ) (head : ℕ) (hdu : HduSaid) (a b : Option (List ℕ)) (r : Result C Stop)
     → find_of bytes 2 ≡ found hdu head → Takes bytes a head → is_catalogue hdu ≡ true → hdu.height ≤ most_rows
-    → MatchResult r (λ cells. IsAccepted (table_of (drop head bytes) hdu.height) (drop head bytes) b (items cells)) (IsRejected (table_of (drop head bytes) hdu.height) (drop head bytes) b)
+    → MatchResult r (λ cells. IsAccepted (table_of (drop head bytes) hdu.height) (drop head bytes) b (items cells))
+    (IsRejected (table_of (drop head bytes) hdu.height) (drop head bytes) b)
     → MatchResult r (λ cells. IsAccepted (catalogue_in bytes) bytes b (items cells)) (IsRejected (catalogue_in bytes) bytes b)
 behind_header items bytes head hdu a b (Ok cells) is takes some few read =
     rw (table_there bytes head hdu is some few) (beyond_read bytes head a b (table_of (drop head bytes) hdu.height) (items cells) takes read)

@@ -15,7 +15,9 @@ use Rattle.survey_core.specs.Ends.{SessionAnswers, EndTells, SessionEndCause}
 use Rattle.survey_core.specs.Headline.{IsCutWith}
 
 -- a word is at fault
-pub at_fault : (commands : Result (List Command) ℕ) (usage : AtFault) (bytes : List ℕ) (ts : List Table) (a : Option (List ℕ)) (k : Option (List Table)) (w : Option (List ℕ)) (settled : Bool) → commands ≡ Err (usage.word - 1) → 0 < usage.word
+pub at_fault : (commands : Result (List Command) ℕ) (usage : AtFault) (bytes : List ℕ) (ts : List Table) (a : Option (List ℕ)) (k : Option (List Table))
+(w : Option (List ℕ)) (settled : Bool)
+    → commands ≡ Err (usage.word - 1) → 0 < usage.word
     → a ≡ Some bytes → k ≡ Some ts → SessionAnswers (session_answer_by commands bytes ts) bytes a k w w settled (Usage usage)
 at_fault commands usage bytes ts a k w settled is some e t = rw is (record {
   end_is = ap (λ n. Usage (record { word = n })) (omega (arith, some));
@@ -40,7 +42,8 @@ with_commands words P is_read h = by (some_commands (drop (file_words words) wor
     by (Ok commands) e some = h commands (read_too (drop (file_words words) words) commands e)
     by (Err at) e some = absurd (cc)
 
-module _ (words : List (List ℕ)) (bytes : List ℕ) (ts : List Table) (b : Option (List ℕ)) (m : Option (List Table)) (w u : Option (List ℕ)) (settled : Bool) (status : ℕ) where
+module _ (words : List (List ℕ)) (bytes : List ℕ) (ts : List Table) (b : Option (List ℕ)) (m : Option (List Table)) (w u : Option (List ℕ)) (settled : Bool)
+    (status : ℕ) where
   -- a status from 3 on comes where a command was cut short
   pub cut_with : (end : End) → EndTells (commands_of words) bytes ts b m w u settled end → status ≡ session_status end → 3 ≤ status
       → IsCutWith words bytes ts b m w u status

@@ -52,7 +52,8 @@ pub session_app : (bytes : List ℕ) (ts : List Table) (xs ys : List Command) �
 unfolding session
 session_app bytes ts [] ys passed = sym (nothing_first ts (session bytes ts ys))
 session_app bytes ts (x ∷ xs) ys passed =
-    go (effect bytes ts x) (session (drop (effect bytes ts x).taken bytes) (effect bytes ts x).tables xs) passed (session_app (drop (effect bytes ts x).taken bytes) (effect bytes ts x).tables xs ys)
+    go (effect bytes ts x) (session (drop (effect bytes ts x).taken bytes) (effect bytes ts x).tables xs) passed
+        (session_app (drop (effect bytes ts x).taken bytes) (effect bytes ts x).tables xs ys)
   where
     go : (e s : Outcome) → (followed_by e s).stop ≡ None
         → (s.stop ≡ None → session (drop e.taken bytes) e.tables (xs ++ ys) ≡ joined_outcomes s (session (drop s.taken (drop e.taken bytes)) s.tables ys))
@@ -94,12 +95,14 @@ session_stops bytes ts xs x ys stop passed here =
 
 -- ---- so far
 
-pub record SoFar (outcome : Outcome) (bytes : List ℕ) (left' : Option (List ℕ)) (tables' : Option (List Table)) (written written' : Option (List ℕ)) (settled' : Bool) : Type 0 where
+pub record SoFar (outcome : Outcome) (bytes : List ℕ) (left' : Option (List ℕ)) (tables' : Option (List Table)) (written written' : Option (List ℕ))
+    (settled' : Bool) : Type 0 where
   pub does : Does outcome bytes left' tables' written written' None
   pub settled : IsTrue outcome.printed → IsTrue settled'
 
 -- these commands were done, and those are left
-pub record Going (commands : List Command) (words : List (List ℕ)) (at : ℕ) (left left' : Option (List ℕ)) (tables tables' : Option (List Table)) (written written' : Option (List ℕ)) (settled' : Bool) : Type 0 where
+pub record Going (commands : List Command) (words : List (List ℕ)) (at : ℕ) (left left' : Option (List ℕ)) (tables tables' : Option (List Table))
+    (written written' : Option (List ℕ)) (settled' : Bool) : Type 0 where
   pub before : List Command
   pub rest : List Command
   pub split : commands ≡ before ++ rest
@@ -108,7 +111,9 @@ pub record Going (commands : List Command) (words : List (List ℕ)) (at : ℕ) 
   pub told : (bytes : List ℕ) → left ≡ Some bytes → (ts : List Table) → tables ≡ Some ts
       → SoFar (session bytes ts before) bytes left' tables' written written' settled'
 
-pub begins : (commands : List Command) (words : List (List ℕ)) (left : Option (List ℕ)) (tables : Option (List Table)) (written : Option (List ℕ)) (settled : Bool) → read words ≡ Ok commands
+pub begins : (commands : List Command) (words : List (List ℕ)) (left : Option (List ℕ)) (tables : Option (List Table)) (written : Option (List ℕ))
+(settled : Bool)
+    → read words ≡ Ok commands
     → Going commands words 0 left left tables tables written written settled
 unfolding session
 begins commands words left tables written settled is = record {
@@ -166,7 +171,9 @@ settled_on a true b b' is before h = is
 settled_on true false b b' is before h = is ∙ before refl
 settled_on false false b b' is before h = absurd (cc)
 
-module _ (commands : List Command) (words : List (List ℕ)) (at : ℕ) (left a : Option (List ℕ)) (tables k : Option (List Table)) (w v : Option (List ℕ)) (settled : Bool) (going : Going commands words at left a tables k w v settled) (x : Command) (here : front (drop at words) ≡ Ok x) (b : Option (List ℕ)) (m : Option (List Table)) (u : Option (List ℕ)) (settled' : Bool) where
+module _ (commands : List Command) (words : List (List ℕ)) (at : ℕ) (left a : Option (List ℕ)) (tables k : Option (List Table)) (w v : Option (List ℕ))
+    (settled : Bool) (going : Going commands words at left a tables k w v settled) (x : Command) (here : front (drop at words) ≡ Ok x) (b : Option (List ℕ))
+    (m : Option (List Table)) (u : Option (List ℕ)) (settled' : Bool) where
   next : (more : List Command) × (read (drop (width x) (drop at words)) ≡ Ok more) × (going.rest ≡ x ∷ more)
   next = behind_ok x (read (drop (width x) (drop at words))) going.rest (sym (read_front (drop at words) x here) ∙ going.rest_is)
 
@@ -179,7 +186,8 @@ module _ (commands : List Command) (words : List (List ℕ)) (at : ℕ) (left a 
     rest = next.0;
     split = going.split ∙ ap (λ l. going.before ++ l) next.2 ∙ sym (append_assoc going.before (x ∷ []) next.0);
     rest_is = ap read (sym (drop-drop (width x) at words)) ∙ next.1;
-    printed = λ h. settled_on (list_any is_printing going.before) (is_printing x) settled settled' settles going.printed (subst IsTrue (any-snoc going.before x) h);
+    printed =
+        λ h. settled_on (list_any is_printing going.before) (is_printing x) settled settled' settles going.printed (subst IsTrue (any-snoc going.before x) h);
     told = told;
   }
     where
@@ -197,7 +205,9 @@ module _ (commands : List Command) (words : List (List ℕ)) (at : ℕ) (left a 
               tables_are = does.tables_are;
               appended = Appends-trans w v u s.output o.output far.does.appended does.appended;
             };
-            settled = λ h. settled_on s.printed (is_printing x) settled settled' settles far.settled (subst (λ p. IsTrue (s.printed || p)) (prints_as (drop s.taken bytes) s.tables x does.stop_is) h);
+            settled =
+                λ h. settled_on s.printed (is_printing x) settled settled' settles far.settled
+                (subst (λ p. IsTrue (s.printed || p)) (prints_as (drop s.taken bytes) s.tables x does.stop_is) h);
           })
 
   commands_are : commands ≡ going.before ++ x ∷ next.0
@@ -219,7 +229,9 @@ module _ (commands : List Command) (words : List (List ℕ)) (at : ℕ) (left a 
         takes = Takes-after bytes a b s.taken o.taken far.does.takes does.takes;
         tables_are = does.tables_are;
         appended = Appends-trans w v u s.output o.output far.does.appended does.appended;
-        settled = λ h. settled_on s.printed false settled settled' settles far.settled (subst (λ p. IsTrue (s.printed || p)) (prints_none (drop s.taken bytes) s.tables x (Refused fault) does.stop_is) h);
+        settled =
+            λ h. settled_on s.printed false settled settled' settles far.settled
+            (subst (λ p. IsTrue (s.printed || p)) (prints_none (drop s.taken bytes) s.tables x (Refused fault) does.stop_is) h);
       })
 
   -- it was cut short
@@ -252,7 +264,8 @@ module _ (commands : List Command) (words : List (List ℕ)) (at : ℕ) (left a 
 
   pub stops_here : (source source' sink sink' keeper keeper' : ℕ) (stop : Stop) → Cause x source source' sink sink' keeper keeper' stop
       → StopsIn commands source source' sink sink' keeper keeper' stop
-  stops_here source source' sink sink' keeper keeper' stop cause = record { before = going.before; command = x; after = next.0; commands_are = commands_are; cause = cause }
+  stops_here source source' sink sink' keeper keeper' stop cause =
+      record { before = going.before; command = x; after = next.0; commands_are = commands_are; cause = cause }
 
   -- what any stop tells
   pub stop_tells : (stop : Stop) (bytes : List ℕ) → left ≡ Some bytes → (ts : List Table) → tables ≡ Some ts
@@ -266,7 +279,8 @@ module _ (commands : List Command) (words : List (List ℕ)) (at : ℕ) (left a 
   stop_tells KeeperFault bytes e ts t steps settles = cut_here KeeperFault bytes e ts t steps
 
 -- no command is left
-module _ (commands : List Command) (words : List (List ℕ)) (at : ℕ) (left a : Option (List ℕ)) (tables k : Option (List Table)) (w v : Option (List ℕ)) (settled : Bool) (going : Going commands words at left a tables k w v settled) (at_fault : ℕ) (none : front (drop at words) ≡ Err at_fault) where
+module _ (commands : List Command) (words : List (List ℕ)) (at : ℕ) (left a : Option (List ℕ)) (tables k : Option (List Table)) (w v : Option (List ℕ))
+    (settled : Bool) (going : Going commands words at left a tables k w v settled) (at_fault : ℕ) (none : front (drop at words) ≡ Err at_fault) where
   all_before : commands ≡ going.before
   all_before = going.split ∙ ap (λ l. going.before ++ l) (no_front (drop at words) at_fault going.rest none going.rest_is) ∙ append-nil going.before
 

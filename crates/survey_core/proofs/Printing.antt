@@ -41,4 +41,5 @@ pub not_done : (bytes lines : List ℕ) (ts : List Table) (k : Option (List Tabl
     → k ≡ Some ts → Appends a b lines → Keeps b c
     → IsCutCommand (prints lines ts) command bytes ts (Some bytes) k a c WriteFault
 not_done bytes lines ts k command a b c prints_it is put kept =
-    cut_short bytes lines ts k command a c prints_it is (record { front = lines; rest = []; split = sym (append-nil lines); appended = appends_kept a b c lines put kept })
+    cut_short bytes lines ts k command a c prints_it is
+    (record { front = lines; rest = []; split = sym (append-nil lines); appended = appends_kept a b c lines put kept })

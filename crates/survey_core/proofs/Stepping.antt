@@ -50,7 +50,8 @@ module _ (field : List ℕ) (bytes : List ℕ) (ts : List Table) (reading : Read
 
   pub rejects : (stop : Stop) → IsRejected reading bytes left stop → k ≡ Some ts → Step (added field ts reading) (Add field) bytes ts left k w w (Err stop)
   rejects (Refused fault) out is = rw (out.1) (record { stop_is = refl; takes = out.2; tables_are = is; appended = Appends-nil w })
-  rejects ReadFault out is = record { may_come = refl; lost = cut ReadFault is out; tables_are = is; front = []; back = []; split = added_output field ts reading; appended = Appends-nil w; is_front = refl }
+  rejects ReadFault out is =
+      record { may_come = refl; lost = cut ReadFault is out; tables_are = is; front = []; back = []; split = added_output field ts reading; appended = Appends-nil w; is_front = refl }
   rejects WriteFault out is = absurd out
   rejects NoMemory out is =
       record { may_come = added_wants field ts reading out.0; lost = cut NoMemory is out.1; tables_are = is; front = []; back = []; split = added_output field ts reading; appended = Appends-nil w; is_front = refl }
@@ -67,7 +68,8 @@ module _ (field : List ℕ) (bytes : List ℕ) (ts : List Table) (reading : Read
       wants = rw read.reading_is tt
 
       by : (refused : Why) → Step (added field ts reading) (Add field) bytes ts left k w w (Err (stop_at_keeper refused))
-      by why.Fault = record { may_come = tt; lost = cut KeeperFault is lost; tables_are = is; front = []; back = []; split = added_output field ts reading; appended = Appends-nil w; is_front = refl }
+      by why.Fault =
+          record { may_come = tt; lost = cut KeeperFault is lost; tables_are = is; front = []; back = []; split = added_output field ts reading; appended = Appends-nil w; is_front = refl }
       by why.OutOfMemory =
           record { may_come = added_wants field ts reading wants; lost = cut NoMemory is lost; tables_are = is; front = []; back = []; split = added_output field ts reading; appended = Appends-nil w; is_front = refl }
 
@@ -86,7 +88,8 @@ absent field (t ∷ ts) h = by (name_cmp t.0 field) h (absent field ts)
 
 pub not_there : (field bytes : List ℕ) (ts : List Table) (k : Option (List Table)) (w : Option (List ℕ)) (found : Bool) → found ≡ false
     → found ≡ is_some (cells_of_field field ts) → k ≡ Some (without_field field ts)
-    → Does (cond (is_some (cells_of_field field ts)) (changes 0 (without_field field ts)) (fails (Refused NoSuchField) 0 ts)) bytes (Some bytes) k w w (Some (Refused NoSuchField))
+    → Does (cond (is_some (cells_of_field field ts)) (changes 0 (without_field field ts)) (fails (Refused NoSuchField) 0 ts)) bytes (Some bytes) k w w
+    (Some (Refused NoSuchField))
 not_there field bytes ts k w found no_it is removed =
     let missing : is_some (cells_of_field field ts) ≡ false = sym is ∙ no_it in
     rw missing (record { stop_is = refl; takes = none_taken bytes; tables_are = removed ∙ ap Some (absent field ts missing); appended = Appends-nil w })

@@ -33,6 +33,11 @@ total_next cells n total x y z so_far low high few small here same is =
     let ends = bounds x fits in
     let sum_low : neg_ℤ (pos ((n + 1) * 2 ^ 63)) ≤ℤ (total +ℤ x) = omega (arith, ints, low, ends.0) in
     let sum_high : (total +ℤ x) ≤ℤ pos ((n + 1) * 2 ^ 63) = omega (arith, ints, high, ends.1) in
-    let sum_wide : SFits w128 (total +ℤ x) = fits_signed_from_abs w128 (total +ℤ x) (omega (arith, up_to ((n + 1) * 2 ^ 63) (total +ℤ x) sum_low sum_high, few)) in
-    let sum : z ≡ (total +ℤ x) = is ∙ rw (to_z-of_z w128 x wide) (to_z-of_z w128 (total +ℤ x) sum_wide) in
-    (sum ∙ ap₂ ◌+ℤ◌ so_far (same ∙ here) ∙ sym (total_more cells n), subst (λ (v : ℤ). neg_ℤ (pos ((n + 1) * 2 ^ 63)) ≤ℤ v) (sym sum) sum_low, subst (λ (v : ℤ). v ≤ℤ pos ((n + 1) * 2 ^ 63)) (sym sum) sum_high)
+    let sum_wide : SFits w128 (total +ℤ x) =
+    fits_signed_from_abs w128 (total +ℤ x) (omega (arith, up_to ((n + 1) * 2 ^ 63) (total +ℤ x) sum_low sum_high, few)) in
+    let sum : z ≡ (total +ℤ x) = is ∙ rw (to_z-of_z w128 x wide) (to_z-of_z w128 (total +ℤ x) sum_wide) in (
+      sum ∙ ap₂ ◌+ℤ◌ so_far (same ∙ here)
+          ∙ sym (total_more cells n),
+      subst (λ (v : ℤ). neg_ℤ (pos ((n + 1) * 2 ^ 63)) ≤ℤ v) (sym sum) sum_low,
+      subst (λ (v : ℤ). v ≤ℤ pos ((n + 1) * 2 ^ 63)) (sym sum) sum_high,
+    )

@@ -43,9 +43,12 @@ abbrev pub Step : Outcome → Command → List ℕ → List Table → Option (Li
 Step outcome command bytes tables left' tables' written written' (Ok done) = Does outcome bytes left' tables' written written' None
 Step outcome command bytes tables left' tables' written written' (Err (Refused fault)) =
     Does outcome bytes left' tables' written written' (Some (Refused fault))
-Step outcome command bytes tables left' tables' written written' (Err ReadFault) = IsCutCommand outcome command bytes tables left' tables' written written' ReadFault
-Step outcome command bytes tables left' tables' written written' (Err WriteFault) = IsCutCommand outcome command bytes tables left' tables' written written' WriteFault
-Step outcome command bytes tables left' tables' written written' (Err NoMemory) = IsCutCommand outcome command bytes tables left' tables' written written' NoMemory
+Step outcome command bytes tables left' tables' written written' (Err ReadFault) =
+    IsCutCommand outcome command bytes tables left' tables' written written' ReadFault
+Step outcome command bytes tables left' tables' written written' (Err WriteFault) =
+    IsCutCommand outcome command bytes tables left' tables' written written' WriteFault
+Step outcome command bytes tables left' tables' written written' (Err NoMemory) =
+    IsCutCommand outcome command bytes tables left' tables' written written' NoMemory
 Step outcome command bytes tables left' tables' written written' (Err KeeperFault) =
     IsCutCommand outcome command bytes tables left' tables' written written' KeeperFault
 

@@ -14,7 +14,8 @@ use Rattle.survey_core.specs.Answers.{EndedSession, session_answer_by}
 use Rattle.survey_core.specs.Runs.{IsCutFor, StopsIn}
 
 -- what the answer says was done; and if anything was to be printed, it was handed on
-pub record SessionAnswers (answer : EndedSession) (bytes : List ℕ) (left' : Option (List ℕ)) (tables' : Option (List Table)) (written written' : Option (List ℕ))
+pub record SessionAnswers (answer : EndedSession) (bytes : List ℕ) (left' : Option (List ℕ)) (tables' : Option (List Table))
+    (written written' : Option (List ℕ))
     (settled' : Bool) (end : End) : Type 0 where
   pub end_is : answer.end ≡ end
   pub takes : Takes bytes left' answer.does.taken

@@ -40,7 +40,8 @@ added field tables (rejected stop taken) = fails stop taken tables
 -- what one command does
 abbrev pub effect : List ℕ → List Table → Command → Outcome
 effect bytes tables (Add field) = added field tables (catalogue_in bytes)
-effect bytes tables (Drop field) = if is_some (cells_of_field field tables) then changes 0 (without_field field tables) else fails (Refused NoSuchField) 0 tables
+effect bytes tables (Drop field) =
+    if is_some (cells_of_field field tables) then changes 0 (without_field field tables) else fails (Refused NoSuchField) 0 tables
 effect bytes tables Listing = prints (list_lines tables) tables
 effect bytes tables (Brightest count) = prints (brightest_lines tables count) tables
 

@@ -122,7 +122,8 @@ module _ (find_law : WrittenTableIsFound) (read_law : WrittenTableIsReadBack) (s
   unfolding detected_hdus
   found_there =
       ap (λ l. find_of l 2) (nested empty_primary the_map (table_hdu catalogue_columns cells) rest)
-      ∙ find_law r.shape (segmentation r connect choice) catalogue_columns cells rest (map_many r connect choice is) (table_is order_law disjoint_law r connect choice is) names_short
+      ∙ find_law r.shape (segmentation r connect choice) catalogue_columns cells rest (map_many r connect choice is)
+      (table_is order_law disjoint_law r connect choice is) names_short
       ∙ ap (λ k. found (table_said catalogue_columns k) (table_start r.shape (segmentation r connect choice) catalogue_columns k)) rows
 
   said_is : is_catalogue (table_said catalogue_columns n) ≡ true
@@ -139,7 +140,8 @@ module _ (find_law : WrittenTableIsFound) (read_law : WrittenTableIsReadBack) (s
       let room = replicate (room_after (length written)) 0 in
       ap (λ l. table_cells catalogue_columns l n) (append_assoc written room rest)
       ∙ ap (table_cells catalogue_columns (written ++ (room ++ rest))) (sym rows)
-      ∙ read_law catalogue_columns cells (room ++ rest) (table_is order_law disjoint_law r connect choice is) (cells_are_64 order_law disjoint_law r connect choice is)
+      ∙ read_law catalogue_columns cells (room ++ rest) (table_is order_law disjoint_law r connect choice is)
+      (cells_are_64 order_law disjoint_law r connect choice is)
 
   table_there : table_of (the_data ++ rest) n ≡ accepted cells (padded (bytes_in_row * n))
   unfolding table_of

@@ -29,7 +29,19 @@ abbrev pub has_field : Term
 has_field = op2 (Compare Eq Binary) (col 1 1) (col 0 0)
 
 abbrev pub simple_query : List Term → List Term → Query
-simple_query filter project = record { from = inner 0 end; filter = filter; group = None; project = project; distinct = false; collations = []; order = []; limit = lit (Int (negsuc 0)); offset = lit (Int (pos 0)) }
+simple_query filter project =
+    record {
+      from = inner 0 end;
+      filter = filter;
+      group = None;
+      project = project;
+      distinct = false;
+      collations = [];
+      order = [];
+      limit = lit
+          (Int (negsuc 0));
+      offset = lit (Int (pos 0));
+    }
 
 abbrev pub alone : Query → Program
 alone q = record { lets = []; body = q }
@@ -50,9 +62,11 @@ abbrev pub rows_command : Command
 rows_command = Select (alone (simple_query (has_field ∷ []) (col 1 2 ∷ []))) (codes "cells" ∷ [])
 
 abbrev pub names_command : Command
-names_command = Select (alone (record (simple_query [] (col 1 1 ∷ [])) { order = (col 1 1, record { collation = Binary; descending = false }) ∷ [] })) (codes "field" ∷ [])
+names_command =
+    Select (alone (record (simple_query [] (col 1 1 ∷ [])) { order = (col 1 1, record { collation = Binary; descending = false }) ∷ [] })) (codes "field" ∷ [])
 
-pub create_is : (command_of (understood no_schema create_text) ≡ CreateTable) × (statement_of create_text (understood no_schema create_text) ≡ create_text) × (table_defined_by create_text ≡ Ok source)
+pub create_is : (command_of (understood no_schema create_text) ≡ CreateTable) × (statement_of create_text (understood no_schema create_text) ≡ create_text)
+    × (table_defined_by create_text ≡ Ok source)
 unfolding understood everything
 create_is = (refl, refl, refl)
 

@@ -1,5 +1,6 @@
 -- What the DELETE makes of the rows of `source`.
-use Rattle.std.proofs.Common.{◌≡◌, ◌≢◌, ◌⊎◌, inl, inr, ℕ, ℤ, Bool, true, not, ◌&&◌, List, [], ◌∷◌, filter, length, None, Option, Ok, refl, sym, ap, subst, ◌∙◌, is_eq}
+use Rattle.std.proofs.Common.{◌≡◌, ◌≢◌, ◌⊎◌, inl, inr, ℕ, ℤ, Bool, true, not, ◌&&◌, List, [], ◌∷◌}
+use Rattle.std.proofs.Common.{filter, length, None, Option, Ok, refl, sym, ap, subst, ◌∙◌, is_eq}
 use Rattle.std.specs.List.{list_all}
 use Rattle.std.proofs.lemmas.List.{length-map}
 use Rattle.std.proofs.lemmas.Bool.{and_parts, false_from_ne_true}
@@ -25,7 +26,8 @@ use Rattle.survey_sqlite.specs.Source.{row_field, IsFormed, AreFieldRows}
 use Rattle.survey_sqlite.proofs.Compiled.{simple_query, alone, has_field}
 use Rattle.survey_sqlite.proofs.RowLemmas.{Removes, IsRowOf, find_row}
 use Rattle.survey_sqlite.proofs.TestLemmas.{equal_texts, answers_one, answers_none}
-use Rattle.survey_sqlite.proofs.StatementLemmas.{went, same_value, filter_one, filter_nothing, same_from_test, test_from_same, keeps_rowid, drops_rowid, same_row}
+use Rattle.survey_sqlite.proofs.StatementLemmas.{went, same_value, filter_one, filter_nothing, same_from_test}
+use Rattle.survey_sqlite.proofs.StatementLemmas.{test_from_same, keeps_rowid, drops_rowid, same_row}
 
 module _ (rows : List Row) (are : AreFieldRows rows) (field : List ℕ) where
   abbrev pub tests : Row → Bool
@@ -58,11 +60,14 @@ module _ (limit : Option ℕ) (db : Trees) (are : AreFieldRows (db 0)) (field : 
   abbrev pub Counts : Written → Type 0
   Counts w = ((r : Row) × IsRowOf (db 0) field r × (length w.rows ≡ 1)) ⊎ (((r : Row) → Has (db 0) r → row_field r ≢ field) × (length w.rows ≡ 0))
 
-  step : (ids : List ℤ) (read : List Row) → ids_of read ≡ ids → (w : Written) → Then (Edited source_schema Enforced db (edit_of db source (ids_of read) Given 0 []))
+  step : (ids : List ℤ) (read : List Row) → ids_of read ≡ ids → (w : Written)
+      → Then (Edited source_schema Enforced db (edit_of db source (ids_of read) Given 0 []))
       (λ n. Gives (record { trees = n; rows = taken_by db (edit_of db source (ids_of read) Given 0 []); last = None })) (Ok w)
       → (w.trees 0 ≡ Rattle.sqlite.specs.Edit.without_all (db 0) ids) × (length w.rows ≡ length ids)
   step ids read e w h =
-      let done = went (subst (λ is. Then (Edited source_schema Enforced db (edit_of db source is Given 0 [])) (λ n. Gives (record { trees = n; rows = taken_by db (edit_of db source is Given 0 []); last = None })) (Ok w)) e h) in
+      let done =
+      went (subst (λ is. Then (Edited source_schema Enforced db (edit_of db source is Given 0 []))
+      (λ n. Gives (record { trees = n; rows = taken_by db (edit_of db source is Given 0 []); last = None })) (Ok w)) e h) in
       let applied = one_step source_schema Enforced db done.0 (edit_of db source ids Given 0 []) refl done.1 in
       (ap (λ (x : Written). x.trees 0) (same_value done.2) ∙ applied.rows, ap (λ (x : Written). length x.rows) (same_value done.2) ∙ length-map ids _)
 
@@ -74,19 +79,28 @@ module _ (limit : Option ℕ) (db : Trees) (are : AreFieldRows (db 0)) (field : 
             let r = it.0 in
             let f = are.formed r it.1.there in
             let at : column r 0 ≡ Int f.id = ap (λ (x : Row). column x 0) f.is in
-            let got : read.0 ≡ (column r 0 ∷ []) ∷ [] = answers_one (has_field ∷ []) (col 1 0 ∷ []) (overlay db []) (Text field ∷ []) read.0 r (found_row (db 0) are field r it.1) (read.1.answer Null) in
+            let got : read.0 ≡ (column r 0 ∷ []) ∷ [] =
+            answers_one (has_field ∷ []) (col 1 0 ∷ []) (overlay db []) (Text field ∷ []) read.0 r (found_row (db 0) are field r it.1)
+            (read.1.answer Null) in
             let out = step (f.id ∷ []) read.0 (ap ids_of (got ∙ ap (λ v. (v ∷ []) ∷ []) at)) w read.2 in (
               subst (Removes (db 0) field) (sym out.0) (record {
                 ordered = ascending-filter _ _ (db 0) are.ordered;
                 keeps = λ x m other. has_kept (λ y. not (has_rowid f.id y)) (db 0) x m
-                    (drops_rowid limit db are field [] f.id x (are.formed x m) (λ e. other (ap row_field (same_row limit db are field [] f.id x r m it.1.there e at) ∙ it.1.field_is)));
-                from = λ x m. let both = has_filtered (λ y. not (has_rowid f.id y)) (db 0) x m in
-                    (both.0, λ same. keeps_rowid limit db are field [] f.id x both.0 both.1 (ap (λ (y : Row). column y 0) (are.once x r both.0 it.1.there (same ∙ sym it.1.field_is)) ∙ at));
+                    (drops_rowid limit db are field [] f.id x (are.formed x m)
+                    (λ e. other (ap row_field (same_row limit db are field [] f.id x r m it.1.there e at) ∙ it.1.field_is)));
+                from = λ x m. let both = has_filtered (λ y. not (has_rowid f.id y)) (db 0) x m in (
+                  both.0,
+                  λ same. keeps_rowid limit db are field [] f.id x both.0 both.1
+                      (ap (λ (y : Row). column y 0) (are.once x r both.0 it.1.there (same ∙ sym it.1.field_is)) ∙ at),
+                );
               }),
               inl (r, it.1, out.1),
             )
         | inr none ↦
-            let got : read.0 ≡ [] = answers_none (has_field ∷ []) (col 1 0 ∷ []) (overlay db []) (Text field ∷ []) read.0 (found_none (db 0) are field none) (read.1.answer Null) in
-            let out = step [] read.0 (ap ids_of got) w read.2 in
-            (subst (Removes (db 0) field) (sym out.0) (record { ordered = are.ordered; keeps = λ x m other. m; from = λ x m. (m, none x m) }), inr (none, out.1))
+            let got : read.0 ≡ [] =
+            answers_none (has_field ∷ []) (col 1 0 ∷ []) (overlay db []) (Text field ∷ []) read.0 (found_none (db 0) are field none) (read.1.answer Null) in
+            let out = step [] read.0 (ap ids_of got) w read.2 in (
+              subst (Removes (db 0) field) (sym out.0) (record { ordered = are.ordered; keeps = λ x m other. m; from = λ x m. (m, none x m) }),
+              inr (none, out.1),
+            )
       ]

@@ -12,7 +12,8 @@ names_read [] = refl
 names_read (t ∷ ts) = ap₂ ◌∷◌ refl (names_read ts)
 
 -- one row more with a name, and the name behind the others
-pub more_named : (rows : List Row) (i : ℕ) (row : Row) (names : List (List ℕ)) → i < length rows → row ≡ get_or rows i row → (names ≡ map text_in (take i rows)) × All IsNameRow (take i rows) → IsNameRow row
+pub more_named : (rows : List Row) (i : ℕ) (row : Row) (names : List (List ℕ)) → i < length rows → row ≡ get_or rows i row
+    → (names ≡ map text_in (take i rows)) × All IsNameRow (take i rows) → IsNameRow row
     → (names ++ text_in row ∷ [] ≡ map text_in (take (i + 1) rows)) × All IsNameRow (take (i + 1) rows)
 more_named rows i row names lt is both one =
     let same : take (i + 1) rows ≡ take i rows ++ row ∷ [] = take_more rows i row lt ∙ ap (λ r. take i rows ++ r ∷ []) (sym is) in (

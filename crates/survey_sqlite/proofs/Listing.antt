@@ -1,5 +1,6 @@
 -- What the query for the names of the fields answers.
-use Rattle.std.proofs.Common.{◌≡◌, ◌≢◌, inl, inr, ℕ, ◌+◌, ◌≤◌, true, false, List, [], ◌∷◌, map, refl, sym, ap, ap₂, subst, subst₂, ◌∙◌, arith, Ordering, Less, Equal, Greater, is_eq, is_gt}
+use Rattle.std.proofs.Common.{◌≡◌, ◌≢◌, inl, inr, ℕ, ◌+◌, ◌≤◌, true, false, List, [], ◌∷◌, map, refl, sym, ap}
+use Rattle.std.proofs.Common.{ap₂, subst, subst₂, ◌∙◌, arith, Ordering, Less, Equal, Greater, is_eq, is_gt}
 use Rattle.std.specs.Prelude.{sum_by}
 use Rattle.std.specs.List.{AllByRecursion}
 use Rattle.std.proofs.lemmas.List.Sums.{sum_by-cons}
@@ -78,7 +79,8 @@ not_counted f (r ∷ rows) none = misses f (out_of r) (map out_of rows) (none r 
 below_itself : (r : Row) → value_cmp (rowid r) (rowid r) ≡ Less → ⊥
 below_itself r h = let itself = Rattle.std.proofs.lemmas.Cmp.tied_itself value_cmp_total (rowid r) in let bad : Less ≡ Equal = sym h ∙ itself in cc
 
-counted_once : (f : List ℕ) (rows : List Row) → IsTable rows → ((a b : Row) → Has rows a → Has rows b → row_field a ≡ row_field b → a ≡ b) → count f (map out_of rows) ≤ 1
+counted_once : (f : List ℕ) (rows : List Row) → IsTable rows → ((a b : Row) → Has rows a → Has rows b → row_field a ≡ row_field b → a ≡ b)
+    → count f (map out_of rows) ≤ 1
 counted_once f [] up once = omega arith
 counted_once f (r ∷ rows) up once = go (name_cmp (row_field r) f) refl (counted_once f rows up.1 (λ a b p q. once a b (inr p) (inr q)))
   where
@@ -108,17 +110,21 @@ compared f g = then-Equal _ ∙ value_cmp-Text f g
 abbrev AtMost : Output → Output → Type 0
 AtMost a b = is_gt (output_cmp by_name a b) ≡ false
 
-rises : (os : List Output) → ((o : Output) → Has os o → o ≡ named (name_of o)) → IsAscending AtMost os → ((f : List ℕ) → count f os ≤ 1) → AreInOrder (map strip os)
+rises : (os : List Output) → ((o : Output) → Has os o → o ≡ named (name_of o)) → IsAscending AtMost os → ((f : List ℕ) → count f os ≤ 1)
+    → AreInOrder (map strip os)
 rises [] are up once = tt
 rises (o ∷ os) are up once = (above os (λ y m. m) up.0, rises os (λ y m. are y (inr m)) up.1 (λ f. omega (arith, once f, more f o os)))
   where
     none : count (name_of o) os ≡ 0
     none = omega (arith, once (name_of o), hits (name_of o) o os refl)
 
-    above : (ys : List Output) → ((y : Output) → Has ys y → Has os y) → AllByRecursion (AtMost o) ys → AllByRecursion (λ (u : Table). name_cmp (name_of o) u.0 ≡ Less) (map strip ys)
+    above : (ys : List Output) → ((y : Output) → Has ys y → Has os y) → AllByRecursion (AtMost o) ys
+        → AllByRecursion (λ (u : Table). name_cmp (name_of o) u.0 ≡ Less) (map strip ys)
     above [] inside low = tt
     above (y ∷ ys) inside low = (
-      less_if (name_cmp (name_of o) (name_of y)) (ap is_gt (sym (compared (name_of o) (name_of y))) ∙ subst₂ (λ a b. is_gt (output_cmp by_name a b) ≡ false) (are o (inl refl)) (are y (inr (inside y (inl refl)))) low.0)
+      less_if (name_cmp (name_of o) (name_of y))
+          (ap is_gt (sym (compared (name_of o) (name_of y)))
+          ∙ subst₂ (λ a b. is_gt (output_cmp by_name a b) ≡ false) (are o (inl refl)) (are y (inr (inside y (inl refl)))) low.0)
           (λ e. uncounted (name_of o) os none y (inside y (inl refl)) (sym (same_name (name_of o) (name_of y) e))),
       above ys (λ z m. inside z (inr m)) low.1,
     )
@@ -138,10 +144,13 @@ module _ (rows : List Row) (are : AreFieldRows rows) (os : List Output) (same : 
   to_row (x ∷ xs) r (inr m) = inr (to_row xs r m)
 
   row_of : (o : Output) → Has os o → (r : Row) × Has rows r × (o ≡ out_of r)
-  row_of o m = from_row rows o (has_contained (map out_of rows) o (Contains-permutation os (map out_of rows) o (IsPermutation-sym (map out_of rows) os same) (contains_had os o m)))
+  row_of o m =
+      from_row rows o (has_contained (map out_of rows) o
+      (Contains-permutation os (map out_of rows) o (IsPermutation-sym (map out_of rows) os same) (contains_had os o m)))
 
   of_row : (r : Row) → Has rows r → Has os (out_of r)
-  of_row r m = has_contained os (out_of r) (Contains-permutation (map out_of rows) os (out_of r) same (contains_had (map out_of rows) (out_of r) (to_row rows r m)))
+  of_row r m =
+      has_contained os (out_of r) (Contains-permutation (map out_of rows) os (out_of r) same (contains_had (map out_of rows) (out_of r) (to_row rows r m)))
 
   are_named : (o : Output) → Has os o → o ≡ named (name_of o)
   are_named o m =
@@ -150,14 +159,20 @@ module _ (rows : List Row) (are : AreFieldRows rows) (os : List Output) (same : 
       r.2 ∙ n ∙ ap named (sym (ap name_of r.2))
 
   ordered_names : AreInOrder (map strip os)
-  ordered_names = rises os are_named up (λ f. subst (λ n. n ≤ 1) (sym (sum_by-IsPermutation (λ o. one_if (is_eq (name_cmp (name_of o) f))) (map out_of rows) os same)) (counted_once f rows are.ordered are.once))
+  ordered_names =
+      rises os are_named up (λ f. subst (λ n. n ≤ 1) (sym (sum_by-IsPermutation (λ o. one_if (is_eq (name_cmp (name_of o) f))) (map out_of rows) os same))
+      (counted_once f rows are.ordered are.once))
 
   abbrev bare : Table → Table
   bare t = (t.0, [])
 
   bare_order : (ts : List Table) → AreInOrder ts → AreInOrder (map bare ts)
   bare_order [] u = tt
-  bare_order (t ∷ ts) u = (core.all_from _ (map bare ts) (λ x m. let y = unbare ts x m in subst (λ (v : Table). name_cmp t.0 v.0 ≡ Less) (sym y.2) (core.all_among (λ v. name_cmp t.0 v.0 ≡ Less) ts y.0 u.0 y.1)), bare_order ts u.1)
+  bare_order (t ∷ ts) u = (
+    core.all_from _ (map bare ts)
+        (λ x m. let y = unbare ts x m in subst (λ (v : Table). name_cmp t.0 v.0 ≡ Less) (sym y.2) (core.all_among (λ v. name_cmp t.0 v.0 ≡ Less) ts y.0 u.0 y.1)),
+    bare_order ts u.1,
+  )
     where
       unbare : (us : List Table) (x : Table) → Among (map bare us) x → (y : Table) × Among us y × (x ≡ bare y)
       unbare [] x m = absurd m
@@ -201,11 +216,14 @@ module _ (rows : List Row) (are : AreFieldRows rows) (os : List Output) (same : 
   pub listed_names : map (λ (o : Output). o.1) os ≡ map (λ (t : Table). Text t.0 ∷ []) (tables_in rows)
   listed_names = shows os are_named ∙ ap (map name_row) listed ∙ map-map name_row bare (tables_in rows)
 
-pub reads_names : (db : Database) (are : AreFieldRows (db.trees 0)) (rows : List Row) → Reads names_command db [] rows → rows ≡ map (λ (t : Table). Text t.0 ∷ []) (tables_in (db.trees 0))
+pub reads_names : (db : Database) (are : AreFieldRows (db.trees 0)) (rows : List Row) → Reads names_command db [] rows
+    → rows ≡ map (λ (t : Table). Text t.0 ∷ []) (tables_in (db.trees 0))
 reads_names db are rows h =
     let a : IsAnswer by_name (overlay db.trees []) [] rows = h.answer Null in
     let source = db.trees 0 in
     let staged : a.staged ≡ map (λ r. [] ∷ r ∷ []) source =
-    a.grouped ∙ scanned Null [] [] (overlay db.trees []) ∙ ap (map (λ (r : Row). [] ∷ r ∷ [])) (filter_all (λ _. true) source (all_from _ source (λ x m. refl))) in
+    a.grouped ∙ scanned Null [] [] (overlay db.trees [])
+    ∙ ap (map (λ (r : Row). [] ∷ r ∷ [])) (filter_all (λ _. true) source (all_from _ source (λ x m. refl))) in
     let kept : a.kept ≡ map out_of source = a.distinct ∙ ap (map (output by_name)) staged ∙ map-map (output by_name) (λ r. [] ∷ r ∷ []) source in
-    a.shown ∙ listed_names source are a.ordered (subst (λ k. IsPermutation k a.ordered) kept a.same) (ascending_from_sorted (output_cmp by_name) (output_cmp_total by_name) a.ordered a.sorted)
+    a.shown ∙ listed_names source are a.ordered (subst (λ k. IsPermutation k a.ordered) kept a.same)
+    (ascending_from_sorted (output_cmp by_name) (output_cmp_total by_name) a.ordered a.sorted)

@@ -1,5 +1,6 @@
 -- What the statements make of the rows of `source`.
-use Rattle.std.proofs.Common.{◌≡◌, ◌≢◌, ◌⊎◌, inl, inr, ℕ, ℤ, Bool, true, false, not, ◌&&◌, ◌||◌, List, [], ◌∷◌, ◌++◌, filter, Some, None, Option, Ok, Err, Result, refl, sym, ap, ap₂, subst, ◌∙◌, arith, Ordering, Less, Equal, Greater, int_cmp, is_eq}
+use Rattle.std.proofs.Common.{◌≡◌, ◌≢◌, ◌⊎◌, inl, inr, ℕ, ℤ, Bool, true, false, not, ◌&&◌, ◌||◌, List, [], ◌∷◌, ◌++◌, filter, Some, None}
+use Rattle.std.proofs.Common.{Option, Ok, Err, Result, refl, sym, ap, ap₂, subst, ◌∙◌, arith, Ordering, Less, Equal, Greater, int_cmp, is_eq}
 use Rattle.std.proofs.lemmas.Bool.{cases_Bool}
 use Rattle.std.proofs.lemmas.Cmp.{tied_itself}
 use Rattle.sqlite.specs.declared.types.Value.{Value}
@@ -62,7 +63,8 @@ pub filter_nothing : (p : Row → Bool) (rows : List Row) → ((x : Row) → Has
 filter_nothing p [] h = refl
 filter_nothing p (x ∷ rows) h = rw (h x (inl refl)) (filter_nothing p rows (λ y m. h y (inr m)))
 
-pub filter_one : (p : Row → Bool) (rows : List Row) → IsTable rows → (r : Row) → Has rows r → p r ≡ true → ((x : Row) → Has rows x → p x ≡ true → x ≡ r) → filter p rows ≡ r ∷ []
+pub filter_one : (p : Row → Bool) (rows : List Row) → IsTable rows → (r : Row) → Has rows r → p r ≡ true → ((x : Row) → Has rows x → p x ≡ true → x ≡ r)
+    → filter p rows ≡ r ∷ []
 filter_one p [] up r m h only = absurd m
 filter_one p (x ∷ rows) up r m h only = go m (filter_one p rows up.1 r) (cases_Bool (p x))
   where
@@ -72,7 +74,8 @@ filter_one p (x ∷ rows) up r m h only = go m (filter_one p rows up.1 r) (cases
     fails : (y : Row) → Has rows y → r ≡ x → p y ≡ false
     fails y n e = elim (cases_Bool (p y)) [ inl yes_it ↦ absurd (apart y n (sym e ∙ sym (only y (inr n) yes_it))) | inr no_it ↦ no_it ]
 
-    go : Has (x ∷ rows) r → (Has rows r → p r ≡ true → ((y : Row) → Has rows y → p y ≡ true → y ≡ r) → filter p rows ≡ r ∷ []) → (p x ≡ true) ⊎ (p x ≡ false) → filter p (x ∷ rows) ≡ r ∷ []
+    go : Has (x ∷ rows) r → (Has rows r → p r ≡ true → ((y : Row) → Has rows y → p y ≡ true → y ≡ r) → filter p rows ≡ r ∷ []) → (p x ≡ true) ⊎ (p x ≡ false)
+        → filter p (x ∷ rows) ≡ r ∷ []
     go (inl e) more (inl yes_it) = rw yes_it (ap₂ ◌∷◌ (sym e) (filter_nothing p rows (λ y n. fails y n e)))
     go (inl e) more (inr no_it) = absurd (let t = ap p (sym e) ∙ h in let bad : true ≡ false = sym t ∙ no_it in cc)
     go (inr n) more (inl yes_it) = absurd (apart r n (only x (inl refl) yes_it))
@@ -84,7 +87,8 @@ alone_or : (b : Bool) → ((b && true) || false) ≡ b
 alone_or true = refl
 alone_or false = refl
 
-pub conflict_is : (g f : List ℕ) (u v : Value) (c d : List ℕ) → conflicts (Some (1 ∷ [])) source_schema.indexes source (v ∷ Text f ∷ Blob d ∷ []) (u ∷ Text g ∷ Blob c ∷ []) ≡ is_eq (name_cmp g f)
+pub conflict_is : (g f : List ℕ) (u v : Value) (c d : List ℕ)
+    → conflicts (Some (1 ∷ [])) source_schema.indexes source (v ∷ Text f ∷ Blob d ∷ []) (u ∷ Text g ∷ Blob c ∷ []) ≡ is_eq (name_cmp g f)
 conflict_is g f u v c d = rw first_key-plain (alone_or _ ∙ equal_texts g f)
 
 pub same_from_test : (g f : List ℕ) → is_eq (name_cmp g f) ≡ true → g ≡ f
@@ -111,7 +115,8 @@ module _ (limit : Option ℕ) (db : Trees) (are : AreFieldRows (db 0)) (field bl
   new_row id = Int id ∷ Text field ∷ Blob blob ∷ []
 
   -- a row that is put where no row has its field
-  pub puts : (id : ℤ) (w : Written) → ((r : Row) → Has (db 0) r → row_field r ≢ field) → Puts task (new_row id) db (Ok w) → Replaces (db 0) field blob (w.trees 0)
+  pub puts : (id : ℤ) (w : Written) → ((r : Row) → Has (db 0) r → row_field r ≢ field) → Puts task (new_row id) db (Ok w)
+      → Replaces (db 0) field blob (w.trees 0)
   puts id w none h =
       let done = went h in
       let edit = edit_of db source [] Given 0 (new_row id ∷ []) in
@@ -198,17 +203,21 @@ module _ (limit : Option ℕ) (db : Trees) (are : AreFieldRows (db 0)) (field bl
 
   -- ---- the whole INSERT
 
-  clears : (id : ℤ) (w : Written) (found : List Row) → ((r : Row) → Has (db 0) r → row_field r ≢ field) → Clears task Abort (new_row id) db found (Ok w) → Replaces (db 0) field blob (w.trees 0)
+  clears : (id : ℤ) (w : Written) (found : List Row) → ((r : Row) → Has (db 0) r → row_field r ≢ field) → Clears task Abort (new_row id) db found (Ok w)
+      → Replaces (db 0) field blob (w.trees 0)
   clears id w [] none h = puts id w none h
   clears id w (x ∷ found) none h = puts id w none h
 
   conflict_of : (id : ℤ) (r : Row) → IsFormed r → conflicts (Some (1 ∷ [])) source_schema.indexes source (new_row id) r ≡ is_eq (name_cmp (row_field r) field)
-  conflict_of id r f = subst (λ x. conflicts (Some (1 ∷ [])) source_schema.indexes source (new_row id) x ≡ is_eq (name_cmp (row_field x) field)) (sym f.is) (conflict_is f.field field (Int f.id) (Int id) f.blob blob)
+  conflict_of id r f =
+      subst (λ x. conflicts (Some (1 ∷ [])) source_schema.indexes source (new_row id) x ≡ is_eq (name_cmp (row_field x) field)) (sym f.is)
+      (conflict_is f.field field (Int f.id) (Int id) f.blob blob)
 
   upserts : (id : ℤ) (w : Written) → Upserts task Abort (new_row id) db (upsert ∷ []) (Ok w) → Replaces (db 0) field blob (w.trees 0)
   upserts id w h = go h.0 h.1 h.2
     where
-      go : (found : List Row) → AreConflicts (Some (1 ∷ [])) source_schema.indexes source (db 0) (new_row id) found → Meets task (Upserts task Abort (new_row id) db []) (new_row id) db upsert found (Ok w)
+      go : (found : List Row) → AreConflicts (Some (1 ∷ [])) source_schema.indexes source (db 0) (new_row id) found
+          → Meets task (Upserts task Abort (new_row id) db []) (new_row id) db upsert found (Ok w)
           → Replaces (db 0) field blob (w.trees 0)
       go [] are_they met =
           clears id w met.0 (λ r m same. are_they.complete r m (conflict_of id r (are.formed r m) ∙ test_from_same (row_field r) field same)) met.2
@@ -229,7 +238,8 @@ module _ (limit : Option ℕ) (db : Trees) (are : AreFieldRows (db 0)) (field bl
       go None h = upserts id one h
       go (Some why) h = absurd (let e : ◌≡◌ {A = Result Written (Option Error)} (Ok one) (Err (Some _)) = h in cc)
 
-  pub inserts : (w : Written) → InsertsOr task Abort (upsert ∷ []) (Values (lit Null ∷ col 0 0 ∷ col 0 1 ∷ []) 3) db (Ok w) → Replaces (db 0) field blob (w.trees 0)
+  pub inserts : (w : Written) → InsertsOr task Abort (upsert ∷ []) (Values (lit Null ∷ col 0 0 ∷ col 0 1 ∷ []) 3) db (Ok w)
+      → Replaces (db 0) field blob (w.trees 0)
   inserts w h =
       let given = went h in
       let counter = went given.2 in
@@ -239,7 +249,9 @@ module _ (limit : Option ℕ) (db : Trees) (are : AreFieldRows (db 0)) (field bl
       let top = count_of counter.0 in
       let first = went (subst (λ rs. TriesEach task Abort (upsert ∷ []) rs top (nothing db) (Ok each.0)) given.1.1 each.1) in
       let new : with_rowid Chosen (db 0) (cast_row source one_row) ≡ new_row (next_rowid (db 0)) = rw cast_null refl in
-      let done : Replaces (db 0) field blob (first.0.trees 0) = tried (next_rowid (db 0)) first.0 (subst (λ r. Tries task Abort (upsert ∷ []) r db (Ok first.0)) new first.1) in
+      let done : Replaces (db 0) field blob (first.0.trees 0) =
+      tried (next_rowid (db 0)) first.0 (subst (λ r. Tries task Abort (upsert ∷ []) r db (Ok first.0)) new first.1) in
       let written : each.0.0 ≡ joined (nothing db) first.0 = ap (λ (p : Written × ℤ). p.0) (same_value first.2) in
-      let trees : w.trees ≡ first.0.trees = ap (λ (x : Written). x.trees) (same_value counted.2) ∙ same_value counted.1 ∙ ap (λ (x : Written). x.trees) written in
+      let trees : w.trees ≡ first.0.trees =
+      ap (λ (x : Written). x.trees) (same_value counted.2) ∙ same_value counted.1 ∙ ap (λ (x : Written). x.trees) written in
       subst (λ (t : Trees). Replaces (db 0) field blob (t 0)) (sym trees) done

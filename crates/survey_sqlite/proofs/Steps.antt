@@ -1,5 +1,6 @@
 -- What each statement does to a connection at rest.
-use Rattle.std.proofs.Common.{◌≡◌, ◌⊎◌, inl, inr, ℕ, Bool, true, false, List, [], ◌∷◌, length, None, Ok, Err, Result, IsTrue, OnOk, IfOk, OnErr, IfErr, refl, sym, ap, subst, ◌∙◌}
+use Rattle.std.proofs.Common.{◌≡◌, ◌⊎◌, inl, inr, ℕ, Bool, true, false, List, [], ◌∷◌, length, None, Ok}
+use Rattle.std.proofs.Common.{Err, Result, IsTrue, OnOk, IfOk, OnErr, IfErr, refl, sym, ap, subst, ◌∙◌}
 use Rattle.sqlite.specs.declared.types.Value.TheVariants.{Text, Blob}
 use Rattle.sqlite.specs.Order.{Row}
 use Rattle.sqlite.specs.Command.TheVariants.{CreateTable}
@@ -12,7 +13,8 @@ use Rattle.sqlite.specs.Clock.{timed}
 use Rattle.std.specs.Prelude.{MatchBool, ◌==◌, is_some, unwrap_or}
 use Rattle.sqlite.specs.Effect.{Database}
 use Rattle.sqlite.specs.Does.{Tally, Does, lacks_sequence}
-use Rattle.sqlite.specs.State.{State, mode_of, Writes, Executes, ExecutesIn, RunsAlone, RunsCommand, Shown, FailsToQuery, FailsToShow, ShowsRows, IsNotRun, IsUnchanged, IsRolledBack, HasCleanDisk, shows_rows, Opens}
+use Rattle.sqlite.specs.State.{State, mode_of, Writes, Executes, ExecutesIn, RunsAlone, RunsCommand, Shown, FailsToQuery}
+use Rattle.sqlite.specs.State.{FailsToShow, ShowsRows, IsNotRun, IsUnchanged, IsRolledBack, HasCleanDisk, shows_rows, Opens}
 use Rattle.sqlite.proofs.Callers.{IsPlain, runs_as, reads_as, statement_of}
 use Rattle.survey_core.specs.Fields.{is_name}
 use Rattle.survey_core.specs.Tables.{IsNumbered, put, without_field, cells_of_field}
@@ -23,7 +25,8 @@ use Rattle.survey_sqlite.specs.Schemas.{source, source_schema}
 use Rattle.survey_sqlite.specs.Blobs.{blob_cells}
 use Rattle.survey_sqlite.specs.Source.{AreFieldRows, IsAtRest, tables_in}
 use Rattle.survey_sqlite.specs.Calls.{Turns, CountsFound, AnswersCells, AnswersNames}
-use Rattle.survey_sqlite.proofs.Compiled.{create_is, created_is, create_plain, replace_is, replace_plain, replace_command, remove_is, remove_plain, remove_command, rows_is, rows_plain, rows_command, names_is, names_plain, names_command}
+use Rattle.survey_sqlite.proofs.Compiled.{create_is, created_is, create_plain, replace_is, replace_plain, replace_command, remove_is}
+use Rattle.survey_sqlite.proofs.Compiled.{remove_plain, remove_command, rows_is, rows_plain, rows_command, names_is, names_plain, names_command}
 use Rattle.survey_sqlite.proofs.RowLemmas.{Replaces, Removes, replaced_rows, replaced_tables, removed_rows, removed_tables, cells_there, cells_not_there}
 use Rattle.survey_sqlite.proofs.StatementLemmas.{went, same_value, inserts}
 use Rattle.survey_sqlite.proofs.Deletion.{deletes}
@@ -33,7 +36,8 @@ use Rattle.survey_sqlite.proofs.Listing.{reads_names}
 -- ---- refusals
 
 -- a statement that is refused leaves the connection as it was, or rolls back what was not committed
-command_kept : (old new : State) (sql : List ℕ) (params : Row) (c : Compiled) (e : Error) → RunsCommand old new sql c params (Err e) → IsUnchanged old new ⊎ IsRolledBack old new
+command_kept : (old new : State) (sql : List ℕ) (params : Row) (c : Compiled) (e : Error) → RunsCommand old new sql c params (Err e)
+    → IsUnchanged old new ⊎ IsRolledBack old new
 command_kept old new sql params c e (inl h) = inl h.1
 command_kept old new sql params c e (inr h) = inr h.3
 
@@ -42,14 +46,18 @@ unfolding IsNotRun
 not_run_kept old new sql params e (inl h) = inl h.1
 not_run_kept old new sql params e (inr h) = inr h.3
 
-alone_kept : (old new : State) (sql : List ℕ) (params : Row) (c : Compiled) (e : Error) → RunsAlone false old new sql c params (Err e) → IsUnchanged old new ⊎ IsRolledBack old new
+alone_kept : (old new : State) (sql : List ℕ) (params : Row) (c : Compiled) (e : Error) → RunsAlone false old new sql c params (Err e)
+    → IsUnchanged old new ⊎ IsRolledBack old new
 alone_kept old new sql params c e h = go (shows_rows false c) h
   where
-    go : (shows : Bool) → MatchBool shows ((◌≡◌ {A = Result ℕ Error} (Err e) (Err ExecuteReturnedResults)) × IsUnchanged old new) (RunsCommand old new sql c params (Err e)) → IsUnchanged old new ⊎ IsRolledBack old new
+    go : (shows : Bool)
+        → MatchBool shows ((◌≡◌ {A = Result ℕ Error} (Err e) (Err ExecuteReturnedResults)) × IsUnchanged old new) (RunsCommand old new sql c params (Err e))
+        → IsUnchanged old new ⊎ IsRolledBack old new
     go true k = inl k.1
     go false k = command_kept old new sql params c e k
 
-pub execute_kept : (sql : List ℕ) (params : Row) (old new : State) (e : Error) → Executes sql params old new (Err e) → IsUnchanged old new ⊎ IsRolledBack old new
+pub execute_kept : (sql : List ℕ) (params : Row) (old new : State) (e : Error) → Executes sql params old new (Err e)
+    → IsUnchanged old new ⊎ IsRolledBack old new
 unfolding ExecutesIn
 execute_kept sql params old new e (inl h) = not_run_kept old new sql params e h
 execute_kept sql params old new e (inr h) = alone_kept old new sql (timed params h.0.formats h.1.now) h.0 e h.2
@@ -81,9 +89,12 @@ kept_at_rest old new rest still (inr h) =
 
 -- ---- the schema
 
-pub creates : (old new : State) (count : ℕ) → Opens old → old.now.schema ≡ no_schema → Executes create_text [] old new (Ok count) → IsAtRest new × (tables_in (new.now.trees 0) ≡ [])
+pub creates : (old new : State) (count : ℕ) → Opens old → old.now.schema ≡ no_schema → Executes create_text [] old new (Ok count)
+    → IsAtRest new × (tables_in (new.now.trees 0) ≡ [])
 creates old new count fresh has h =
-    let w = subst (λ t. Writes old new Rattle.std.proofs.Common.None CreateTable t [] count) create_is.1 (runs_as create_text [] old new no_schema has CreateTable create_is.0 create_plain count h) in
+    let w =
+    subst (λ t. Writes old new Rattle.std.proofs.Common.None CreateTable t [] count) create_is.1
+    (runs_as create_text [] old new no_schema has CreateTable create_is.0 create_plain count h) in
     let all = went w.changed in
     let first = went all.1 in
     let made = first.1 in
@@ -105,14 +116,17 @@ creates old new count fresh has h =
 
 -- ---- replace
 
-pub replaces : (old new : State) (field blob : List ℕ) (count : ℕ) → IsAtRest old → is_name field ≡ true → IsNumbered (blob_cells blob) → Executes replace_text (Text field ∷ Blob blob ∷ []) old new (Ok count)
+pub replaces : (old new : State) (field blob : List ℕ) (count : ℕ) → IsAtRest old → is_name field ≡ true → IsNumbered (blob_cells blob)
+    → Executes replace_text (Text field ∷ Blob blob ∷ []) old new (Ok count)
     → IsAtRest new × (tables_in (new.now.trees 0) ≡ put field (blob_cells blob) (tables_in (old.now.trees 0)))
 replaces old new field blob count rest named numbered h =
     let params = Text field ∷ Blob blob ∷ [] in
     let db = old.now.trees in
     let w = runs_as replace_text params old new source_schema rest.schema replace_command replace_is replace_plain count h in
     let text = statement_of replace_text (understood source_schema replace_text) in
-    let done = went (subst (λ s. Does old.step_limit (mode_of old) params (record old.now { schema = s }) text None replace_command (Ok (w.tally, new.now))) rest.schema w.changed) in
+    let done =
+    went (subst (λ s. Does old.step_limit (mode_of old) params (record old.now { schema = s }) text None replace_command
+    (Ok (w.tally, new.now))) rest.schema w.changed) in
     let now = ap (λ (p : Tally × Database). p.1) (same_value (went (went done.2).2).2) in
     let trees : new.now.trees 0 ≡ done.0.trees 0 = ap (λ (d : Database). d.trees 0) now in
     let made = subst (Replaces (db 0) field blob) (sym trees) (inserts old.step_limit db rest.rows field blob done.0 done.1) in
@@ -130,12 +144,14 @@ replaces old new field blob count rest named numbered h =
 -- ---- calls
 
 -- told by what a call promises while the disk is clean
-turned_err : (old new : State) (sql : List ℕ) (params : Row) (e : Error) → (HasCleanDisk new → Executes sql params old new (Err e)) → Turns old new (λ tables. tables)
+turned_err : (old new : State) (sql : List ℕ) (params : Row) (e : Error) → (HasCleanDisk new → Executes sql params old new (Err e))
+    → Turns old new (λ tables. tables)
 turned_err old new sql params e h clean still rest =
     let kept = kept_at_rest old new rest still (execute_kept sql params old new e (h clean)) in
     (kept.0, ap (λ (d : Database). tables_in (d.trees 0)) kept.1)
 
-pub replace_turns : (old new : State) (field blob : List ℕ) (r : Result ℕ Error) → is_name field ≡ true → IsNumbered (blob_cells blob) → (HasCleanDisk new → Executes replace_text (Text field ∷ Blob blob ∷ []) old new r)
+pub replace_turns : (old new : State) (field blob : List ℕ) (r : Result ℕ Error) → is_name field ≡ true → IsNumbered (blob_cells blob)
+    → (HasCleanDisk new → Executes replace_text (Text field ∷ Blob blob ∷ []) old new r)
     → OnOk r (Turns old new (put field (blob_cells blob))) × OnErr r (Turns old new (λ tables. tables))
 replace_turns old new field blob (Ok count) named numbered h = (λ clean still rest. replaces old new field blob count rest named numbered (h clean), tt)
 replace_turns old new field blob (Err e) named numbered h = (tt, turned_err old new replace_text _ e h)
@@ -143,13 +159,16 @@ replace_turns old new field blob (Err e) named numbered h = (tt, turned_err old 
 -- ---- remove
 
 pub removes : (old new : State) (field : List ℕ) (count : ℕ) → IsAtRest old → Executes remove_text (Text field ∷ []) old new (Ok count)
-    → IsAtRest new × (tables_in (new.now.trees 0) ≡ without_field field (tables_in (old.now.trees 0))) × ((count == 1) ≡ is_some (cells_of_field field (tables_in (old.now.trees 0))))
+    → IsAtRest new × (tables_in (new.now.trees 0) ≡ without_field field (tables_in (old.now.trees 0)))
+    × ((count == 1) ≡ is_some (cells_of_field field (tables_in (old.now.trees 0))))
 removes old new field count rest h =
     let params = Text field ∷ [] in
     let db = old.now.trees in
     let w = runs_as remove_text params old new source_schema rest.schema remove_command remove_is remove_plain count h in
     let text = statement_of remove_text (understood source_schema remove_text) in
-    let done = went (subst (λ s. Does old.step_limit (mode_of old) params (record old.now { schema = s }) text None remove_command (Ok (w.tally, new.now))) rest.schema w.changed) in
+    let done =
+    went (subst (λ s. Does old.step_limit (mode_of old) params (record old.now { schema = s }) text None remove_command
+    (Ok (w.tally, new.now))) rest.schema w.changed) in
     let last = same_value (went (went done.2).2).2 in
     let now = ap (λ (p : Tally × Database). p.1) last in
     let trees : new.now.trees 0 ≡ done.0.trees 0 = ap (λ (d : Database). d.trees 0) now in
@@ -172,19 +191,24 @@ removes old new field count rest h =
 
 pub remove_turns : (old new : State) (field : List ℕ) (r : Result ℕ Error) → (HasCleanDisk new → Executes remove_text (Text field ∷ []) old new r)
     → OnOk r (Turns old new (without_field field)) × IfOk r (CountsFound old new field) × OnErr r (Turns old new (λ tables. tables))
-remove_turns old new field (Ok count) h =
-    (λ clean still rest. let out = removes old new field count rest (h clean) in (out.0, out.1), λ clean rest. (removes old new field count rest (h clean)).2, tt)
+remove_turns old new field (Ok count) h = (
+  λ clean still rest. let out = removes old new field count rest (h clean) in (out.0, out.1),
+  λ clean rest. (removes old new field count rest (h clean)).2,
+  tt,
+)
 remove_turns old new field (Err e) h = (tt, tt, turned_err old new remove_text _ e h)
 
 -- ---- rows
 
-shown_kept : (sql : List ℕ) (params : Row) (old new : State) (rows : List Row) → IsPlain (understood old.now.schema sql) → Shown sql params old new rows → IsUnchanged old new
+shown_kept : (sql : List ℕ) (params : Row) (old new : State) (rows : List Row) → IsPlain (understood old.now.schema sql) → Shown sql params old new rows
+    → IsUnchanged old new
 unfolding Shown
 shown_kept sql params old new rows plain h =
     let none = (subst IsPlain h.1.is plain).0 in
     (subst (ShowsRows old new sql h.0 (timed params h.0.formats h.1.now) rows) none h.2).3
 
-query_kept : (sql : List ℕ) (params : Row) (old new : State) (e : Error) → IsPlain (understood old.now.schema sql) → FailsToQuery sql params old new e → IsUnchanged old new ⊎ IsRolledBack old new
+query_kept : (sql : List ℕ) (params : Row) (old new : State) (e : Error) → IsPlain (understood old.now.schema sql) → FailsToQuery sql params old new e
+    → IsUnchanged old new ⊎ IsRolledBack old new
 unfolding FailsToQuery
 query_kept sql params old new e plain (inl h) = not_run_kept old new sql params e h
 query_kept sql params old new e plain (inr h) =
@@ -196,17 +220,21 @@ turned_by old new h clean still rest =
     let kept = kept_at_rest old new rest still (h clean rest) in
     (kept.0, ap (λ (d : Database). tables_in (d.trees 0)) kept.1)
 
-pub query_turns : {X : Type 0} (items : X → List Row) (old new : State) (sql : List ℕ) (params : Row) (r : Result X Error) → IsPlain (understood source_schema sql)
-    → (HasCleanDisk new → IfOk r (λ x. Shown sql params old new (items x))) → (HasCleanDisk new → IfErr r (FailsToQuery sql params old new)) → Turns old new (λ tables. tables)
+pub query_turns : {X : Type 0} (items : X → List Row) (old new : State) (sql : List ℕ) (params : Row) (r : Result X Error)
+    → IsPlain (understood source_schema sql)
+    → (HasCleanDisk new → IfOk r (λ x. Shown sql params old new (items x))) → (HasCleanDisk new → IfErr r (FailsToQuery sql params old new))
+    → Turns old new (λ tables. tables)
 query_turns items old new sql params (Ok x) plain ok err =
     turned_by old new (λ clean rest. inl (shown_kept sql params old new (items x) (subst (λ s. IsPlain (understood s sql)) (sym rest.schema) plain) (ok clean)))
 query_turns items old new sql params (Err e) plain ok err =
     turned_by old new (λ clean rest. query_kept sql params old new e (subst (λ s. IsPlain (understood s sql)) (sym rest.schema) plain) (err clean))
 
-pub rows_turn : {X : Type 0} (items : X → List Row) (old new : State) (field : List ℕ) (r : Result X Error) → (HasCleanDisk new → IfOk r (λ x. Shown rows_text (Text field ∷ []) old new (items x)))
+pub rows_turn : {X : Type 0} (items : X → List Row) (old new : State) (field : List ℕ) (r : Result X Error)
+    → (HasCleanDisk new → IfOk r (λ x. Shown rows_text (Text field ∷ []) old new (items x)))
     → IfOk r (λ x. AnswersCells old new field (items x))
 rows_turn items old new field (Ok x) h =
-    λ clean rest. reads_cells old.now rest.rows field (items x) (reads_as rows_text (Text field ∷ []) old new source_schema rest.schema rows_command rows_is.0 rows_plain rows_is.1 (items x) (h clean))
+    λ clean rest. reads_cells old.now rest.rows field (items x)
+    (reads_as rows_text (Text field ∷ []) old new source_schema rest.schema rows_command rows_is.0 rows_plain rows_is.1 (items x) (h clean))
 rows_turn items old new field (Err e) h = tt
 
 -- ---- the table
@@ -218,7 +246,9 @@ table_turns old new (Err e) h clean = tt
 
 -- ---- names
 
-pub names_turn : {X : Type 0} (items : X → List Row) (old new : State) (r : Result X Error) → (HasCleanDisk new → IfOk r (λ x. Shown names_text [] old new (items x))) → IfOk r (λ x. AnswersNames old new (items x))
+pub names_turn : {X : Type 0} (items : X → List Row) (old new : State) (r : Result X Error)
+    → (HasCleanDisk new → IfOk r (λ x. Shown names_text [] old new (items x))) → IfOk r (λ x. AnswersNames old new (items x))
 names_turn items old new (Ok x) h =
-    λ clean rest. reads_names old.now rest.rows (items x) (reads_as names_text [] old new source_schema rest.schema names_command names_is.0 names_plain names_is.1 (items x) (h clean))
+    λ clean rest. reads_names old.now rest.rows (items x)
+    (reads_as names_text [] old new source_schema rest.schema names_command names_is.0 names_plain names_is.1 (items x) (h clean))
 names_turn items old new (Err e) h = tt

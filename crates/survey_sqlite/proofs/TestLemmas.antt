@@ -1,5 +1,6 @@
 -- What the tests and casts of the statements come to, and what a query over `source` answers.
-use Rattle.std.proofs.Common.{◌≡◌, inl, inr, ℕ, ℤ, Bool, true, false, cond, List, [], ◌∷◌, map, filter, flat_map, Some, refl, ap, subst, ◌∙◌, arith, int_cmp, is_eq}
+use Rattle.std.proofs.Common.{◌≡◌, inl, inr, ℕ, ℤ, Bool, true, false, cond, List, [], ◌∷◌, map}
+use Rattle.std.proofs.Common.{filter, flat_map, Some, refl, ap, subst, ◌∙◌, arith, int_cmp, is_eq}
 use Rattle.std.specs.List.{list_all}
 use Rattle.std.specs.List.Sorted.{IsPermutation}
 use Rattle.std.proofs.lemmas.List.Sorted.{length_permutation}
@@ -72,7 +73,8 @@ module _ (filter_terms project : List Term) (db : Trees) (params : Row) (rows : 
   abbrev q : Query
   q = simple_query filter_terms project
 
-  pub answers_one : (r : Row) → filter (λ x. list_all (holds (params ∷ x ∷ [])) filter_terms) (db 0) ≡ r ∷ [] → IsAnswer q db params rows → rows ≡ eval_all project (params ∷ r ∷ []) ∷ []
+  pub answers_one : (r : Row) → filter (λ x. list_all (holds (params ∷ x ∷ [])) filter_terms) (db 0) ≡ r ∷ [] → IsAnswer q db params rows
+      → rows ≡ eval_all project (params ∷ r ∷ []) ∷ []
   answers_one r found a =
       let staged : a.staged ≡ (params ∷ r ∷ []) ∷ [] = a.grouped ∙ scanned Null filter_terms params db ∙ ap (map (λ x. params ∷ x ∷ [])) found in
       let o : Output = ([], eval_all project (params ∷ r ∷ [])) in

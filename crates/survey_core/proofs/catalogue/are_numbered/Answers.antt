@@ -7,4 +7,5 @@ pub returns-in-Some : goal.returns-in-Some
 returns-in-Some c = (λ t. absurd (cc), λ is. absurd (none_misnumbered c.args.cells.now c.in-Some.field-0 is c.in-Some.ensures.within c.in-Some.ensures.some))
 
 pub returns-in-None : goal.returns-in-None
-returns-in-None c = (λ t. all_numbered c.args.cells.now (length c.args.cells.now / cells_in_row) (omega (arith, c.if-cells-ne0.false)) c.in-None.ensures.none, λ is. refl)
+returns-in-None c =
+    (λ t. all_numbered c.args.cells.now (length c.args.cells.now / cells_in_row) (omega (arith, c.if-cells-ne0.false)) c.in-None.ensures.none, λ is. refl)

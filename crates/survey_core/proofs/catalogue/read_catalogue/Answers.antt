@@ -18,5 +18,6 @@ returns-then-hdu-gt-MOST_ROWS-clause-told g c = λ bytes told.
 pub returns-clause-told : goal.returns-clause-told
 returns-clause-told g c = λ bytes told.
     let there = c.in-Ok.ensures.told bytes told in
-    behind_header (λ cells. cells.items) bytes there.0 c.in-Ok.hdu _ _ c.read_table.result there.1 there.2 (sym c.is_catalogue.ensures ∙ c.if-not-is_catalogue.false) c.if-hdu-gt-MOST_ROWS.false
+    behind_header (λ cells. cells.items) bytes there.0 c.in-Ok.hdu _ _ c.read_table.result there.1 there.2
+    (sym c.is_catalogue.ensures ∙ c.if-not-is_catalogue.false) c.if-hdu-gt-MOST_ROWS.false
     (c.read_table.ensures.told _ there.2.rest)

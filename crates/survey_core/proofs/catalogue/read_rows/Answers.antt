@@ -14,7 +14,8 @@ pub loop-preserved : goal.loop-preserved
 loop-preserved g c = record {
   told = λ bytes told.
       let rows = c.loop.invariant.told bytes told in
-      rows_more bytes c.loop.counter _ _ _ _ _ _ rows (c.in_default.ensures.told _ rows.takes.rest) c.catalogue_columns-columns.ensures.columns c.in_default-add_row.ensures;
+      rows_more bytes c.loop.counter _ _ _ _ _ _ rows
+      (c.in_default.ensures.told _ rows.takes.rest) c.catalogue_columns-columns.ensures.columns c.in_default-add_row.ensures;
   whole = cells_more c.loop.counter _ _ _ _ c.loop.invariant.whole c.catalogue_columns-columns.ensures.columns c.in_default-add_row.ensures;
   later = omega (arith, c.loop.invariant.later, c.read_row.ensures.later);
 }

@@ -9,7 +9,8 @@ returns-in-Err-clause-told g c = λ bytes told. table_cut bytes c.args.rows _ c.
 
 pub returns-in-Some-clause-told : goal.returns-in-Some-clause-told
 returns-in-Some-clause-told g c = λ bytes told.
-    table_misnumbered bytes c.args.rows c.in-Some.place _ _ c.in-Ok.cells.items (c.in-Ok.ensures.told bytes told) (c.in-Some.ensures.first ∙ ap first_misnumbered c.deref.ensures.value) refl
+    table_misnumbered bytes c.args.rows c.in-Some.place _ _ c.in-Ok.cells.items (c.in-Ok.ensures.told bytes told)
+    (c.in-Some.ensures.first ∙ ap first_misnumbered c.deref.ensures.value) refl
 
 pub returns-in-Ok-take_padding-clause-told : goal.returns-in-Ok-take_padding-clause-told
 returns-in-Ok-take_padding-clause-told g c = λ bytes told.
@@ -20,7 +21,8 @@ returns-in-Ok-take_padding-clause-told g c = λ bytes told.
 pub returns-in-Ok-take_padding-clause-numbered : goal.returns-in-Ok-take_padding-clause-numbered
 returns-in-Ok-take_padding-clause-numbered g c =
     all_numbered c.in-Ok.cells.items c.args.rows c.in-Ok.ensures.length
-    (subst (λ (cells : List ℤ). (i : ℕ) → cells_in_row * i + cells_in_row ≤ length cells → is_misnumbered cells i ≡ false) c.deref.ensures.value c.in_default.ensures.none)
+    (subst (λ (cells : List ℤ). (i : ℕ) → cells_in_row * i + cells_in_row ≤ length cells
+    → is_misnumbered cells i ≡ false) c.deref.ensures.value c.in_default.ensures.none)
 
 pub returns-in-Err-take_padding-clause-told : goal.returns-in-Err-take_padding-clause-told
 returns-in-Err-take_padding-clause-told g c = λ bytes told.

@@ -10,5 +10,7 @@ pub loop-row-preserved : goal.loop-row-preserved
 loop-row-preserved c =
     let fits : SFits w64 c.cell.result = search rules in
     let i = c.loop-row.invariant in
-    let next = total_next c.args.cells.now c.loop-row.row _ c.from-total.result c.cell.result _ i.total_is i.low i.high (omega (arith, c.loop-row-test.true)) fits c.cell.ensures (c.from-total.ensures ∙ to_z-of_z w64 c.cell.result fits) refl in
+    let next =
+    total_next c.args.cells.now c.loop-row.row _ c.from-total.result c.cell.result _ i.total_is i.low i.high
+    (omega (arith, c.loop-row-test.true)) fits c.cell.ensures (c.from-total.ensures ∙ to_z-of_z w64 c.cell.result fits) refl in
     record { total_is = next.0; low = next.1; high = next.2 }

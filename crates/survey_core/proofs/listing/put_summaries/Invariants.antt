@@ -7,6 +7,7 @@ use Rattle.survey_core.proofs.listing.put_summaries.Given as goal
 
 abbrev pub invariant-loop-summary : goal.invariant-loop-summary
 invariant-loop-summary g l = record {
-  moved : Moves (g.O.Sink.written l.initial.sink) (g.O.Sink.written l.sink) (l.initial.block ++ concat (take l.summary-index (map summary_line l.summaries))) l.block;
+  moved : Moves (g.O.Sink.written l.initial.sink) (g.O.Sink.written l.sink)
+      (l.initial.block ++ concat (take l.summary-index (map summary_line l.summaries))) l.block;
   later : g.O.Sink.faults l.initial.sink ≤ g.O.Sink.faults l.sink;
 }

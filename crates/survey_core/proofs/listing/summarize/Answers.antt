@@ -26,4 +26,5 @@ pub returns-clause-told : goal.returns-clause-told
 returns-clause-told g c = from_some _ _ (λ ts told.
     let names = at_some _ ts _ told c.in-Ok.ensures.told in
     c.loop-name.invariant.so_far ts told
-    ∙ ap (map table_summary) (take_all c.loop-name.name-index ts (omega (arith, c.loop-name-test.false, ap length c.deref-name-items.ensures.value, ap length names, names_long ts))))
+    ∙ ap (map table_summary) (take_all c.loop-name.name-index ts
+    (omega (arith, c.loop-name-test.false, ap length c.deref-name-items.ensures.value, ap length names, names_long ts))))

@@ -18,7 +18,8 @@ pub returns-in-Ok-done-clause-told : goal.returns-in-Ok-done-clause-told
 returns-in-Ok-done-clause-told g c = λ bytes ts told.
     let lines = lines_are ts c.args.most _ _ c.deref.ensures.value (at_some _ ts _ told c.in-Ok.ensures.told) in
     printed bytes (brightest_lines ts c.args.most) ts _ _ _ _ (stays_at _ _ ts c.in-Ok.ensures.kept told)
-    (subst (λ (l : List ℕ). Appends (g.O.Sink.written c.args.output.now) (g.O.Sink.written c.put_rows.new.sink) l) lines c.in_default.ensures.bytes) c.in-Ok-done.ensures.bytes
+    (subst (λ (l : List ℕ). Appends (g.O.Sink.written c.args.output.now)
+    (g.O.Sink.written c.put_rows.new.sink) l) lines c.in_default.ensures.bytes) c.in-Ok-done.ensures.bytes
 
 pub returns-in-Err-put_rows-clause-told : goal.returns-in-Err-put_rows-clause-told
 returns-in-Err-put_rows-clause-told g c = λ bytes ts told.
@@ -30,4 +31,5 @@ pub returns-clause-told : goal.returns-clause-told
 returns-clause-told g c = λ bytes ts told.
     let lines = lines_are ts c.args.most _ _ c.deref.ensures.value (at_some _ ts _ told c.in-Ok.ensures.told) in
     not_done bytes (brightest_lines ts c.args.most) ts _ (Brightest c.args.most) _ _ _ refl (stays_at _ _ ts c.in-Ok.ensures.kept told)
-    (subst (λ (l : List ℕ). Appends (g.O.Sink.written c.args.output.now) (g.O.Sink.written c.put_rows.new.sink) l) lines c.in_default.ensures.bytes) c.in-Err-done.ensures.bytes
+    (subst (λ (l : List ℕ). Appends (g.O.Sink.written c.args.output.now)
+    (g.O.Sink.written c.put_rows.new.sink) l) lines c.in_default.ensures.bytes) c.in-Err-done.ensures.bytes

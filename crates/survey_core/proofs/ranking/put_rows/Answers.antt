@@ -21,5 +21,6 @@ loop-row-preserved g c =
 
 pub returns-clause-bytes : goal.returns-clause-bytes
 returns-clause-bytes g c =
-    line_flushed _ _ _ _ _ _ _ _ c.new-block.ensures (all_lines _ _ _ row_line c.args.rows.now _ c.loop-row.row-index c.loop-row-test.false c.loop-row.invariant.moved)
+    line_flushed _ _ _ _ _ _ _ _ c.new-block.ensures
+    (all_lines _ _ _ row_line c.args.rows.now _ c.loop-row.row-index c.loop-row-test.false c.loop-row.invariant.moved)
     c.flush.ensures.ok c.flush.ensures.empty c.flush.ensures.err

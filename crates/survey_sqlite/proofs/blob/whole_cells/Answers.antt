@@ -10,7 +10,8 @@ pub loop-first-preserved : goal.loop-first-preserved
 loop-first-preserved c =
     let cut = c.in-Some.ensures.cases in
     let first = cells_first c.loop-first.rest.now (omega (arith, cut.2)) in
-    let cell : c.from_be_bytes.result ≡ cast_signed w64 (from_be_bytes w64 (take 8 c.loop-first.rest.now)) = c.from_be_bytes.ensures ∙ ap (λ b. cast_signed w64 (from_be_bytes w64 b)) cut.0 in
+    let cell : c.from_be_bytes.result ≡ cast_signed w64 (from_be_bytes w64 (take 8 c.loop-first.rest.now)) =
+    c.from_be_bytes.ensures ∙ ap (λ b. cast_signed w64 (from_be_bytes w64 b)) cut.0 in
     let fits : SFits w64 c.from_be_bytes.result = search rules in
     let items = c.in_ok-push.ensures.items ∙ ap (λ z. c.loop-first.cells.items ++ z ∷ []) (to_z-of_z w64 c.from_be_bytes.result fits) in (
       ap (λ l. l ++ blob_cells c.in-Some.more.now) items ∙ append_assoc c.loop-first.cells.items (c.from_be_bytes.result ∷ []) (blob_cells c.in-Some.more.now)

@@ -9,7 +9,8 @@ returns-clause-rests c = rests_after c.args.conn.now c.find_blob.new.conn (λ ta
 
 pub returns-clause-cells : goal.returns-clause-cells
 returns-clause-cells c =
-    merely_told c.args.conn.now c.find_blob.new.conn (λ rows. IsCellsOf (tables_held (Some c.args.conn.now)) c.args.field.now rows.items) c.find_blob.result c.find_blob.ensures.cells c.requires
+    merely_told c.args.conn.now c.find_blob.new.conn
+    (λ rows. IsCellsOf (tables_held (Some c.args.conn.now)) c.args.field.now rows.items) c.find_blob.result c.find_blob.ensures.cells c.requires
 
 pub returns-clause-kept : goal.returns-clause-kept
 returns-clause-kept c = tables_after c.args.conn.now c.find_blob.new.conn (λ tables. tables) c.find_blob.ensures.still c.find_blob.ensures.kept c.requires

@@ -11,7 +11,8 @@ returns-clause-rests c = rests_after c.args.conn.now c.list_names.new.conn (λ t
 
 pub returns-clause-names : goal.returns-clause-names
 returns-clause-names c =
-    told c.args.conn.now c.list_names.new.conn (λ rows. rows.items ≡ are_names (tables_held (Some c.args.conn.now))) (λ rows. rows_set _ _) c.list_names.result c.list_names.ensures.names c.requires
+    told c.args.conn.now c.list_names.new.conn (λ rows. rows.items ≡ are_names (tables_held (Some c.args.conn.now)))
+    (λ rows. rows_set _ _) c.list_names.result c.list_names.ensures.names c.requires
 
 pub returns-clause-kept : goal.returns-clause-kept
 returns-clause-kept c = tables_after c.args.conn.now c.list_names.new.conn (λ tables. tables) c.list_names.ensures.still c.list_names.ensures.kept c.requires

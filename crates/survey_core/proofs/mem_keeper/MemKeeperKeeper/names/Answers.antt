@@ -12,5 +12,6 @@ fields_are (e ∷ es) = ap₂ ◌∷◌ refl (fields_are es)
 pub returns-clause-names : goal.returns-clause-names
 returns-clause-names c =
     let fields : List Entry → List (List ℕ) = map (λ (e : Entry). e.field) in
-    c.loop-entry.invariant ∙ ap fields (take_all c.loop-entry.entry-index _ c.loop-entry-test.false ∙ c.deref-entry-items.ensures.value ∙ ap (λ v. v.items) c.fails.ensures.same)
+    c.loop-entry.invariant ∙ ap fields
+    (take_all c.loop-entry.entry-index _ c.loop-entry-test.false ∙ c.deref-entry-items.ensures.value ∙ ap (λ v. v.items) c.fails.ensures.same)
     ∙ fields_are c.args.self.now.entries.items

@@ -8,4 +8,5 @@ use Rattle.survey_sqlite.proofs.sql_keeper.SqlKeeperKeeper.names.Goals as goal
 
 pub returns-in-Ok-read_names-clause-names : goal.returns-in-Ok-read_names-clause-names
 returns-in-Ok-read_names-clause-names c =
-    c.in-Ok-read_names.ensures.names ∙ ap (map text_in) (c.deref.ensures.value ∙ c.in-Ok-found.ensures.names) ∙ names_read (tables_held (Some c.in-Ok.conn)) ∙ ap names_of c.in-Ok.ensures.tables
+    c.in-Ok-read_names.ensures.names ∙ ap (map text_in) (c.deref.ensures.value ∙ c.in-Ok-found.ensures.names) ∙ names_read (tables_held (Some c.in-Ok.conn))
+    ∙ ap names_of c.in-Ok.ensures.tables

@@ -11,5 +11,6 @@ use Rattle.survey_sqlite.proofs.sql_keeper.SqlKeeperKeeper.rows.Goals as goal
 pub returns-in-Ok-read_cells-clause-rows : goal.returns-in-Ok-read_cells-clause-rows
 returns-in-Ok-read_cells-clause-rows c =
     ∥∥₁_elim c.in-Ok-found.ensures.cells (Coded-set (coded_option (coded_list coded_ℤ)) _ _)
-    (λ it. c.in-Ok-read_cells.ensures.cells (tables_held (Some c.in-Ok.conn)) c.args.field (subst (IsCellsOf (tables_held (Some c.in-Ok.conn)) c.args.field) (sym c.deref.ensures.value) it)
+    (λ it. c.in-Ok-read_cells.ensures.cells (tables_held (Some c.in-Ok.conn)) c.args.field
+    (subst (IsCellsOf (tables_held (Some c.in-Ok.conn)) c.args.field) (sym c.deref.ensures.value) it)
     ∙ ap (cells_of_field c.args.field) c.in-Ok.ensures.tables)
