@@ -51,10 +51,28 @@ module _ (field : List ℕ) (bytes : List ℕ) (ts : List Table) (reading : Read
   pub rejects : (stop : Stop) → IsRejected reading bytes left stop → k ≡ Some ts → Step (added field ts reading) (Add field) bytes ts left k w w (Err stop)
   rejects (Refused fault) out is = rw (out.1) (record { stop_is = refl; takes = out.2; tables_are = is; appended = Appends-nil w })
   rejects ReadFault out is =
-      record { may_come = refl; lost = cut ReadFault is out; tables_are = is; front = []; back = []; split = added_output field ts reading; appended = Appends-nil w; is_front = refl }
+      record {
+        may_come = refl;
+        lost = cut ReadFault is out;
+        tables_are = is;
+        front = [];
+        back = [];
+        split = added_output field ts reading;
+        appended = Appends-nil w;
+        is_front = refl;
+      }
   rejects WriteFault out is = absurd out
   rejects NoMemory out is =
-      record { may_come = added_wants field ts reading out.0; lost = cut NoMemory is out.1; tables_are = is; front = []; back = []; split = added_output field ts reading; appended = Appends-nil w; is_front = refl }
+      record {
+        may_come = added_wants field ts reading out.0;
+        lost = cut NoMemory is out.1;
+        tables_are = is;
+        front = [];
+        back = [];
+        split = added_output field ts reading;
+        appended = Appends-nil w;
+        is_front = refl;
+      }
   rejects KeeperFault out is = absurd out
 
   pub refuses : (cells : List ℤ) (refused : Why) (stop : Stop) → stop ≡ stop_at_keeper refused → IsAccepted reading bytes left cells → k ≡ Some ts
@@ -69,9 +87,27 @@ module _ (field : List ℕ) (bytes : List ℕ) (ts : List Table) (reading : Read
 
       by : (refused : Why) → Step (added field ts reading) (Add field) bytes ts left k w w (Err (stop_at_keeper refused))
       by why.Fault =
-          record { may_come = tt; lost = cut KeeperFault is lost; tables_are = is; front = []; back = []; split = added_output field ts reading; appended = Appends-nil w; is_front = refl }
+          record {
+            may_come = tt;
+            lost = cut KeeperFault is lost;
+            tables_are = is;
+            front = [];
+            back = [];
+            split = added_output field ts reading;
+            appended = Appends-nil w;
+            is_front = refl;
+          }
       by why.OutOfMemory =
-          record { may_come = added_wants field ts reading wants; lost = cut NoMemory is lost; tables_are = is; front = []; back = []; split = added_output field ts reading; appended = Appends-nil w; is_front = refl }
+          record {
+            may_come = added_wants field ts reading wants;
+            lost = cut NoMemory is lost;
+            tables_are = is;
+            front = [];
+            back = [];
+            split = added_output field ts reading;
+            appended = Appends-nil w;
+            is_front = refl;
+          }
 
 -- ---- drop
 

@@ -6,14 +6,17 @@ use Rattle.survey_sqlite.proofs.in_memory.put.Goals as goal
 pub returns-clause-rests : goal.returns-clause-rests
 returns-clause-rests c =
     (write_after c.args.conn.now c.put_row.new.conn
-    (put c.args.field.now (blob_cells c.args.blob.now)) c.put_row.result c.put_row.ensures.still c.put_row.ensures.done c.put_row.ensures.kept c.requires.rests).0
+    (put c.args.field.now (blob_cells c.args.blob.now)) c.put_row.result c.put_row.ensures.still c.put_row.ensures.done c.put_row.ensures.kept
+    c.requires.rests).0
 
 pub returns-clause-done : goal.returns-clause-done
 returns-clause-done c =
     (write_after c.args.conn.now c.put_row.new.conn
-    (put c.args.field.now (blob_cells c.args.blob.now)) c.put_row.result c.put_row.ensures.still c.put_row.ensures.done c.put_row.ensures.kept c.requires.rests).1
+    (put c.args.field.now (blob_cells c.args.blob.now)) c.put_row.result c.put_row.ensures.still c.put_row.ensures.done c.put_row.ensures.kept
+    c.requires.rests).1
 
 pub returns-clause-kept : goal.returns-clause-kept
 returns-clause-kept c =
     (write_after c.args.conn.now c.put_row.new.conn
-    (put c.args.field.now (blob_cells c.args.blob.now)) c.put_row.result c.put_row.ensures.still c.put_row.ensures.done c.put_row.ensures.kept c.requires.rests).2
+    (put c.args.field.now (blob_cells c.args.blob.now)) c.put_row.result c.put_row.ensures.still c.put_row.ensures.done c.put_row.ensures.kept
+    c.requires.rests).2
