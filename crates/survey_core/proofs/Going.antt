@@ -53,7 +53,7 @@ unfolding session
 session_app bytes ts [] ys passed = sym (nothing_first ts (session bytes ts ys))
 session_app bytes ts (x ∷ xs) ys passed =
     go (effect bytes ts x) (session (drop (effect bytes ts x).taken bytes) (effect bytes ts x).tables xs) passed
-        (session_app (drop (effect bytes ts x).taken bytes) (effect bytes ts x).tables xs ys)
+    (session_app (drop (effect bytes ts x).taken bytes) (effect bytes ts x).tables xs ys)
   where
     go : (e s : Outcome) → (followed_by e s).stop ≡ None
         → (s.stop ≡ None → session (drop e.taken bytes) e.tables (xs ++ ys) ≡ joined_outcomes s (session (drop s.taken (drop e.taken bytes)) s.tables ys))
@@ -112,8 +112,7 @@ pub record Going (commands : List Command) (words : List (List ℕ)) (at : ℕ) 
       → SoFar (session bytes ts before) bytes left' tables' written written' settled'
 
 pub begins : (commands : List Command) (words : List (List ℕ)) (left : Option (List ℕ)) (tables : Option (List Table)) (written : Option (List ℕ))
-(settled : Bool)
-    → read words ≡ Ok commands
+    (settled : Bool) → read words ≡ Ok commands
     → Going commands words 0 left left tables tables written written settled
 unfolding session
 begins commands words left tables written settled is = record {

@@ -170,7 +170,8 @@ module _ (rows : List Row) (are : AreFieldRows rows) (os : List Output) (same : 
   bare_order [] u = tt
   bare_order (t ∷ ts) u = (
     core.all_from _ (map bare ts)
-        (λ x m. let y = unbare ts x m in subst (λ (v : Table). name_cmp t.0 v.0 ≡ Less) (sym y.2) (core.all_among (λ v. name_cmp t.0 v.0 ≡ Less) ts y.0 u.0 y.1)),
+        (λ x m. let y = unbare ts x m in
+        subst (λ (v : Table). name_cmp t.0 v.0 ≡ Less) (sym y.2) (core.all_among (λ v. name_cmp t.0 v.0 ≡ Less) ts y.0 u.0 y.1)),
     bare_order ts u.1,
   )
     where
