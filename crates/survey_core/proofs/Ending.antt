@@ -16,8 +16,7 @@ use Rattle.survey_core.specs.Headline.{IsCutWith}
 
 -- a word is at fault
 pub at_fault : (commands : Result (List Command) ℕ) (usage : AtFault) (bytes : List ℕ) (ts : List Table) (a : Option (List ℕ)) (k : Option (List Table))
-(w : Option (List ℕ)) (settled : Bool)
-    → commands ≡ Err (usage.word - 1) → 0 < usage.word
+    (w : Option (List ℕ)) (settled : Bool) → commands ≡ Err (usage.word - 1) → 0 < usage.word
     → a ≡ Some bytes → k ≡ Some ts → SessionAnswers (session_answer_by commands bytes ts) bytes a k w w settled (Usage usage)
 at_fault commands usage bytes ts a k w settled is some e t = rw is (record {
   end_is = ap (λ n. Usage (record { word = n })) (omega (arith, some));
