@@ -129,6 +129,9 @@ fn a_row_gets_seven_columns(rt: HostRuntime) -> Result<(), Fail> {
     };
     let found = measured_cells(&row, &measure, 8500);
     assert_eq!(rt; &found[..CELLS_IN_ROW], cells(&row).as_slice());
-    assert_eq!(rt; &found[CELLS_IN_ROW..], [3, 1, -1, -3, 2, -334, 8500].as_slice());
+    assert_eq!(rt;
+        &found[CELLS_IN_ROW..],
+        [3, 1, -1, -3, 2, -334, 8500].as_slice()
+    );
     Ok(())
 }

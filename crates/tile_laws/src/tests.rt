@@ -102,10 +102,16 @@ fn plane_of(alloc: Global, shape: Shape, values: &[i64]) -> Result<Plane, Fail> 
 fn sources_of_two_windows(rt: HostRuntime) -> Result<(), Fail> {
     let whole = [1, 6, 1, 1, 5, 1];
     let left = row_of(rt.alloc(), 6, &whole, 1)?;
-    assert_eq!(rt; (left.level, left.xmin, left.xfirst, left.xcen), (6, 2, 2, 2000));
+    assert_eq!(rt;
+        (left.level, left.xmin, left.xfirst, left.xcen),
+        (6, 2, 2, 2000)
+    );
     assert_eq!(rt; row_of(rt.alloc(), 4, &whole[..4], 1)?, left);
     let right = row_of(rt.alloc(), 6, &whole, 2)?;
-    assert_eq!(rt; (right.level, right.xmin, right.xfirst, right.xcen), (5, 5, 5, 5000));
+    assert_eq!(rt;
+        (right.level, right.xmin, right.xfirst, right.xcen),
+        (5, 5, 5, 5000)
+    );
     // the same row, two columns further left, and with the number that it has in its window
     let seen = CatRow {
         number: 1,
