@@ -1,7 +1,7 @@
 -- The cells of a catalogue, row by row.
 use Rattle.std.proofs.Common.{◌≡◌, ◌∙◌, ap, sym, subst, refl, arith, ℕ, ◌+◌, ◌^◌, ◌<◌, ◌≤◌, List, [], ◌∷◌, ◌++◌, length, take}
 use Rattle.std.proofs.Common.{get_or, append-nil, length-append, ℤ, pos, negsuc, w32}
-use Rattle.std.specs.Prelude.{FitsSigned}
+use Rattle.std.specs.Prelude.{FitsSigned, ⊤}
 use Rattle.std.specs.List.{flat_map, enumerate_from, AllByRecursion}
 use Rattle.std.proofs.lemmas.Int.{ints}
 use Rattle.std.proofs.lemmas.Grind.{flat_map-append}
@@ -21,12 +21,33 @@ use Rattle.source_pick.proofs.Exported.{few_marked, few_rows}
 use Rattle.catalogue_form.specs.Columns.{catalogue_columns}
 use Rattle.catalogue_form.proofs.Exported.{FitEach, catalogue_are_columns, rows_are_table}
 
+-- ---- each cell fits its column
+
+column_fits : (z : ℤ) → FitsColumn z → FitsSigned w32 z
+column_fits (pos n) h = record { sfits = omega (arith, ints, h.high) }
+column_fits (negsuc n) h = record { sfits = omega (arith, ints, h.low) }
+
+-- a number of 32 bits, and one of 64 bits, before those that fit theirs
+pub narrow : {Rest : Type 0} {z : ℤ} → FitsColumn z → Rest → FitsSigned w32 z × Rest
+narrow {Rest} {z} h rest = (column_fits z h, rest)
+
+pub wide : {Rest : Type 0} → Rest → ⊤ × Rest
+wide rest = (tt, rest)
+
+pub row_fits : (row : CatRow) → FitsColumns row → FitEach catalogue_columns (cells_of row)
+unfolding catalogue_columns
+row_fits row h =
+    narrow h.number (wide (wide (narrow h.area (wide (wide (narrow h.xmin (narrow h.xmax (narrow h.ymin (narrow h.ymax
+    (narrow h.xfirst (narrow h.yfirst (narrow h.xcen (narrow h.ycen (wide (wide (wide tt))))))))))))))))
+
+-- ---- the cells of some rows
+
 -- these are the cells of the first count rows of the catalogue of some nodes
 pub record AreCells (tree : ComponentTree) (sums : List Sums) (picked : List ℕ) (count : ℕ) (items : List ℤ) : Type 0 where
   pub rows : List CatRow
   pub made : items ≡ flat_map cells_of rows
   pub one_each : length rows ≡ count
-  pub fit : AllByRecursion FitsColumns rows
+  pub fit : AllByRecursion (λ row. FitEach catalogue_columns (cells_of row)) rows
   pub exact : (plane : Raster) (connect : Connect) → tree ≡ tree_of plane connect → sums ≡ sums_in plane connect
       → rows ≡ take count (catalogue_of plane connect picked)
 
@@ -38,9 +59,9 @@ no_cells tree sums picked items empty = record { rows = []; made = empty; one_ea
 
 -- ---- one row more
 
-one_more_fits : (rows : List CatRow) (row : CatRow) → AllByRecursion FitsColumns rows → FitsColumns row → AllByRecursion FitsColumns (rows ++ row ∷ [])
-one_more_fits [] row before here = (here, tt)
-one_more_fits (r ∷ rows) row before here = (before.0, one_more_fits rows row before.1 here)
+all_more : {X : Type 0} (P : X → Type 0) (xs : List X) (x : X) → AllByRecursion P xs → P x → AllByRecursion P (xs ++ x ∷ [])
+all_more P [] x before here = (here, tt)
+all_more P (y ∷ xs) x before here = (before.0, all_more P xs x before.1 here)
 
 length-catalogue : (plane : Raster) (connect : Connect) (picked : List ℕ) → length (catalogue_of plane connect picked) ≡ length picked
 unfolding catalogue_of
@@ -67,7 +88,7 @@ cells_more tree sums picked count items items' row before within more fits is = 
   made = more ∙ ap (λ l. l ++ cells_of row) before.made ∙ ap (λ l. flat_map cells_of before.rows ++ l) (sym (append-nil (cells_of row)))
       ∙ sym (flat_map-append cells_of before.rows (row ∷ []));
   one_each = length-append before.rows (row ∷ []) ∙ omega (arith, before.one_each);
-  fit = one_more_fits before.rows row before.fit fits;
+  fit = all_more (λ (r : CatRow). FitEach catalogue_columns (cells_of r)) before.rows row before.fit (row_fits row fits);
   exact = λ plane connect tree_is sums_are.
       let all = catalogue_of plane connect picked in
       ap (λ l. l ++ row ∷ []) (before.exact plane connect tree_is sums_are)
@@ -85,56 +106,9 @@ all_cells tree sums picked count items are whole plane connect tree_is sums_are 
     are.made ∙ ap (flat_map cells_of) (are.exact plane connect tree_is sums_are ∙ take_all count (catalogue_of plane connect picked)
     (omega (arith, whole, length-catalogue plane connect picked)))
 
--- ---- each cell fits its column
-
-pub column_fits : (z : ℤ) → FitsColumn z → FitsSigned w32 z
-column_fits (pos n) h = record { sfits = omega (arith, ints, h.high) }
-column_fits (negsuc n) h = record { sfits = omega (arith, ints, h.low) }
-
-pub row_fits : (row : CatRow) → FitsColumns row → FitEach catalogue_columns (cells_of row)
-unfolding catalogue_columns
-row_fits row h = (
-  column_fits row.number h.number,
-  (
-    tt,
-    (
-      tt,
-      (
-        column_fits row.area h.area,
-        (
-          tt,
-          (
-            tt,
-            (
-              column_fits row.xmin h.xmin,
-              (
-                column_fits row.xmax h.xmax,
-                (
-                  column_fits row.ymin h.ymin,
-                  (
-                    column_fits row.ymax h.ymax,
-                    (
-                      column_fits row.xfirst h.xfirst,
-                      (column_fits row.yfirst h.yfirst, (column_fits row.xcen h.xcen, (column_fits row.ycen h.ycen, (tt, (tt, (tt, tt)))))),
-                    ),
-                  ),
-                ),
-              ),
-            ),
-          ),
-        ),
-      ),
-    ),
-  ),
-)
-
-rows_fit : (rows : List CatRow) → AllByRecursion FitsColumns rows → AllByRecursion (λ row. FitEach catalogue_columns (cells_of row)) rows
-rows_fit [] h = tt
-rows_fit (row ∷ rows) h = (row_fits row h.0, rows_fit rows h.1)
-
 pub cells_table : (tree : ComponentTree) (sums : List Sums) (picked : List ℕ) (count : ℕ) (items : List ℤ) → AreCells tree sums picked count items
     → count ≤ 2 ^ 24
     → IsTable catalogue_columns items
 cells_table tree sums picked count items are few =
-    let rows = rows_are_table catalogue_columns cells_of are.rows catalogue_are_columns (rows_fit are.rows are.fit) (omega (arith, are.one_each, few)) in
+    let rows = rows_are_table catalogue_columns cells_of are.rows catalogue_are_columns are.fit (omega (arith, are.one_each, few)) in
     subst (IsTable catalogue_columns) (sym are.made) rows

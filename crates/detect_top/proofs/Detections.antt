@@ -1,5 +1,5 @@
 -- What is written of the sources of a plane.
-use Rattle.std.proofs.Common.{◌≡◌, ◌∙◌, ap, subst, ℕ, ◌*◌, ◌^◌, ◌≤◌, List, ◌++◌, length, Option, Result, ℤ}
+use Rattle.std.proofs.Common.{◌≡◌, ◌∙◌, ap, subst, subst₂, ℕ, ◌*◌, ◌^◌, ◌≤◌, List, ◌++◌, length, Option, Result, ℤ}
 use Rattle.std.specs.Prelude.{slice_index}
 use Rattle.std.specs.List.{flat_map}
 use Rattle.std.proofs.lemmas.List.{get_or_default}
@@ -18,22 +18,21 @@ use Rattle.source_pick.specs.declared.choice.Choice.{Choice}
 use Rattle.source_pick.specs.Sources.{sources}
 use Rattle.source_pick.specs.Segmentation.{segmentation_of, segmentation}
 use Rattle.source_pick.specs.Catalogue.{catalogue_of, catalogue, cells_of}
+use Rattle.source_pick.specs.Locality.{HaveSameSources}
 use Rattle.source_pick.proofs.Exported.{numbers-length}
 use Rattle.catalogue_form.specs.Columns.{catalogue_columns}
 use Rattle.detect_top.specs.Catalogues.{hdus, catalogue_cells, detected_hdus}
 use Rattle.detect_top.specs.Writables.{IsDetection}
 
--- the HDUs were put one behind the other
-pub all_put : {T E : Type 0} (a b c d : Option (List ℕ)) (r : Result T E) (shape : Shape) (numbers numbers' : List ℕ) (list : List Column)
-    (cells cells' : List ℤ)
-    → Appends a b empty_primary → Appends b c (map_hdu shape numbers') → PutAppends c d r (table_hdu list cells') → numbers' ≡ numbers
-    → list ≡ catalogue_columns → cells' ≡ cells
-    → PutAppends a d r (hdus shape numbers cells)
-all_put a b c d r shape numbers numbers' list cells cells' first second third same_numbers same_columns same_cells =
-    let map = subst (λ l. Appends b c (map_hdu shape l)) same_numbers second in
-    let table = subst (λ l. PutAppends c d r (table_hdu l cells)) same_columns (subst (λ l. PutAppends c d r (table_hdu list l)) same_cells third) in
-    PutAppends-after a b d r empty_primary (map_hdu shape numbers ++ table_hdu catalogue_columns cells) first
-    (PutAppends-after b c d r (map_hdu shape numbers) (table_hdu catalogue_columns cells) map table)
+-- a primary HDU, a map and a table were put one behind the other
+pub all_put : {T E : Type 0} (a b c d : Option (List ℕ)) (r : Result T E) (shape : Shape) (numbers numbers' : List ℕ) (columns list : List Column)
+    (cells cells' : List ℤ) → Appends a b empty_primary → Appends b c (map_hdu shape numbers') → PutAppends c d r (table_hdu list cells')
+    → numbers' ≡ numbers → list ≡ columns → cells' ≡ cells
+    → PutAppends a d r (empty_primary ++ (map_hdu shape numbers ++ table_hdu columns cells))
+all_put a b c d r shape numbers numbers' columns list cells cells' first second third same_numbers same_columns same_cells =
+    PutAppends-after a b d r empty_primary (map_hdu shape numbers ++ table_hdu columns cells) first
+    (PutAppends-after b c d r (map_hdu shape numbers) (table_hdu columns cells) (subst (λ l. Appends b c (map_hdu shape l)) same_numbers second)
+    (subst₂ (λ l z. PutAppends c d r (table_hdu l z)) same_columns same_cells third))
 
 -- a map with a number for each pixel, and a table, can be written
 pub can_be_written : (plane : Raster) (tree : ComponentTree) (shape : Shape) (numbers : List ℕ) (cells : List ℤ) → IsTreeOfPlane plane tree
@@ -54,7 +53,12 @@ pub is_detection : (plane : Raster) (connect : Connect) (choice : Choice) (shape
     → cells ≡ flat_map cells_of (catalogue_of plane connect listed) → hdus shape numbers cells ≡ detected_hdus plane connect choice
 unfolding detected_hdus segmentation catalogue catalogue_cells
 is_detection plane connect choice shape picked marked listed numbers cells same are same_marked mapped same_listed rows =
-    ap (λ s. hdus s numbers cells) same
-    ∙ ap (λ l. hdus plane.shape l cells) (mapped ∙ ap (segmentation_of plane connect) (same_marked ∙ are))
-    ∙ ap (hdus plane.shape (segmentation_of plane connect (sources plane connect choice)))
-    (rows ∙ ap (λ l. flat_map cells_of (catalogue_of plane connect l)) (same_listed ∙ are))
+    let numbers_are = mapped ∙ ap (segmentation_of plane connect) (same_marked ∙ are) in
+    let cells_are = rows ∙ ap (λ l. flat_map cells_of (catalogue_of plane connect l)) (same_listed ∙ are) in
+    λ i. hdus (same i) (numbers_are i) (cells_are i)
+
+-- planes of one shape with the same sources are written alike
+pub detection_same : (r s : Raster) (connect : Connect) (choice : Choice) → r.shape ≡ s.shape → HaveSameSources r s connect choice
+    → detected_hdus r connect choice ≡ detected_hdus s connect choice
+unfolding detected_hdus catalogue_cells
+detection_same r s connect choice same h = λ i. hdus (same i) (h.numbers i) (flat_map cells_of (h.rows i))

@@ -77,10 +77,6 @@ pub told_read : (order : Order) (left : Option (List ℕ)) (bytes : List ℕ) �
     → left ≡ Some bytes
 told_read order left bytes reads tells = tells (ap (λ o. (asked_for order o).reads) reads)
 
-pub by_reading : (order : Order) (bytes : List ℕ) (i : InputUse) (o : OutputUse) (end : End) → image_made order.job ≡ None
-    → EndBytes (asked_for order None) bytes i o end → EndBytes (asked_by (Ok order)) bytes i o end
-by_reading order bytes i o end reads by = subst (λ m. EndBytes (asked_for order m) bytes i o end) (sym reads) by
-
 -- ---- the run, by its end
 
 follows : (answer : Answer) (memory_at : List ℕ) (i : InputUse) (o n : OutputUse) (end : End) → EndsBy answer memory_at i o end

@@ -5,13 +5,11 @@ mod NodeLines
 mod Ends
 mod Products
 mod EachArea
-mod Given
 mod Limits
 mod Cells
 mod Detections
 mod Trials
 mod Summaries
 mod Shapes
-mod NearPixels
 mod AnswerStatus
 pub mod Exported

@@ -1,7 +1,7 @@
 -- What is made of an image is what its order writes.
 use Rattle.std.proofs.Common.{◌≡◌, ◌∙◌, ap, ℕ, Bool, Result, Ok, Err, IfOk}
 use Rattle.std.specs.Prelude.{Some, None}
-use Rattle.std.specs.declared.option.Option.{Option}
+use Rattle.std.proofs.lemmas.Option.{none-some}
 use Rattle.comp_tree.specs.declared.shape.Shape.{Shape}
 use Rattle.comp_tree.specs.declared.shape.Connect.{Connect}
 use Rattle.comp_tree.specs.Raster.{Raster}
@@ -27,13 +27,10 @@ made_of_image order image plane left tree (Ok product) residual same is bytes =
     bytes order.connect is ∙ same ∙ ap (output_of_job order.job order.connect) residual
 made_of_image order image plane left tree (Err e) residual same is bytes = tt
 
-no_image : (made : Raster) → (let o : Option Raster = None in o) ≡ Some made → ⊥
-no_image made h = cc
-
 -- a trial takes its image less the background
 pub suits_made : (job : Job) (seed : ℕ) (shape : Shape) (mesh : ℕ) (flat : Bool) → image_made job ≡ Some (trial_image seed shape)
     → SuitsJob job (residual_of (trial_image seed shape) mesh flat)
-suits_made Tree seed shape mesh flat is = absurd (no_image (trial_image seed shape) is)
-suits_made (Filter rule criterion) seed shape mesh flat is = absurd (no_image (trial_image seed shape) is)
-suits_made (Detect choice) seed shape mesh flat is = absurd (no_image (trial_image seed shape) is)
+suits_made Tree seed shape mesh flat is = absurd (none-some (trial_image seed shape) is)
+suits_made (Filter rule criterion) seed shape mesh flat is = absurd (none-some (trial_image seed shape) is)
+suits_made (Detect choice) seed shape mesh flat is = absurd (none-some (trial_image seed shape) is)
 suits_made (Trial own sides) seed shape mesh flat is = trial_residual_is_small seed shape mesh flat

@@ -14,14 +14,11 @@ none_if : (width height : ℕ) (within : Bool) (limits : within ≡ true → IsW
 none_if width height true limits not_so = absurd (not_so (limits refl))
 none_if width height false limits not_so = refl
 
-no_shape : IsSome (let o : Option Shape = None in o) → ⊥
-no_shape h = absurd (cc)
-
 pub shape_is : (width height : ℕ) (result : Option Shape) → (IsSome result ↔ IsWithinLimits width height)
     → IfSome result (λ s. (s.width ≡ width) × (s.height ≡ height)) → result ≡ shape_of width height
 unfolding shape_of
 shape_is width height (Some s) accepted sides = sym (shape_of_sides width height s sides.0 sides.1)
-shape_is width height None accepted sides = none_if width height (fits_limits width height) (limits_from width height) (λ limits. no_shape (accepted.1 limits))
+shape_is width height None accepted sides = none_if width height (fits_limits width height) (limits_from width height) (λ limits. let some = accepted.1 limits in absurd (cc))
 
 pub shape_by : (words : List (List ℕ)) (n : ℕ) (width height : Option ℕ) → width ≡ given positive_u16_in words n Width
     → height ≡ given positive_u16_in words n Height

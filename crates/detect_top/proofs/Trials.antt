@@ -1,15 +1,15 @@
 -- The trial's image: its states, its values, and how large what is made of it is.
 use Rattle.std.proofs.Common.{◌≡◌, ℕ, ◌+◌, ◌*◌, ◌/◌, ◌%◌, ◌^◌, ◌<◌, ◌≤◌, ◌⊎◌, inl, inr, get_or, zero, suc, Bool, true, false, cond, List, [], ◌∷◌, length, map}
 use Rattle.std.proofs.Common.{refl, sym, ap, subst, ◌∙◌, arith}
-use Rattle.std.specs.Prelude.{◌==◌, ℤ, pos, ◌-ℤ◌, ◌≤ℤ◌, filter, slice_get, Option, Some, None, unwrap_or, is_some, All}
+use Rattle.std.specs.Prelude.{◌==◌, ◌≢◌, ℤ, pos, ◌-ℤ◌, ◌≤ℤ◌, filter, slice_get, Option, Some, None, unwrap_or, All}
 use Rattle.std.specs.Option.{option_map}
 use Rattle.std.specs.List.{flat_map, range_with_len}
-use Rattle.std.proofs.lemmas.Bool.{true≢false, cases_lt, eq-eqb, ne_eqb}
+use Rattle.std.proofs.lemmas.Bool.{cases_lt, eqb-false}
 use Rattle.std.proofs.lemmas.Int.{ints}
 use Rattle.std.proofs.lemmas.Nat.{mod_below}
 use Rattle.std.proofs.lemmas.List.{get_or_past, length-map}
-use Rattle.std.proofs.lemmas.List.Elements.{All-nil, All-append, All-map, All-weaker, All-contains, filter_passes}
-use Rattle.std.proofs.lemmas.Option.{slice_get_within}
+use Rattle.std.proofs.lemmas.List.Elements.{All-nil, All-append, All-map, All-contains}
+use Rattle.std.proofs.lemmas.Option.{none-some, slice_get_within}
 use Rattle.comp_tree.specs.declared.shape.Shape.{Shape}
 use Rattle.comp_tree.specs.declared.shape.Connect.{Connect}
 use Rattle.comp_tree.specs.Raster.{Raster, IsPlane, pixels, value_at, is_defined, level}
@@ -112,19 +112,18 @@ record HasBytes (r : Raster) : Type 0 where
 byte-zero : IsByte (pos 0)
 byte-zero = record { low = omega (arith, ints); high = omega (arith, ints) }
 
-byte-level : (r : Raster) (p : ℕ) → HasBytes r → is_defined r p ≡ true → IsByte (level r p)
+-- what holds of 0 and of the value of a pixel holds of its level
+level-from : (P : ℤ → Type 0) (r : Raster) (p : ℕ) → ((v : ℤ) → slice_get r.values p ≡ Some (Some v) → P v) → P (pos 0) → P (level r p)
 unfolding level
-byte-level r p h d = go (value_at r.values p) refl d
+level-from P r p each none = go (value_at r.values p) refl
   where
-    go : (o : Option ℤ) → value_at r.values p ≡ o → is_some o ≡ true → IsByte (unwrap_or o (pos 0))
-    go None e d = absurd (true≢false (sym d))
-    go (Some v) e d = h.each p v (get_from_read r.values p v e)
+    go : (o : Option ℤ) → value_at r.values p ≡ o → P (unwrap_or o (pos 0))
+    go None e = none
+    go (Some v) e = each v (get_from_read r.values p v e)
 
 byte-defined : (r : Raster) (ps : List ℕ) → HasBytes r → All IsByte (defined_values r ps)
 unfolding defined_values
-byte-defined r ps h =
-    All-map IsByte (level r) (filter (is_defined r) ps)
-    (All-weaker (λ p. is_defined r p ≡ true) (λ p. IsByte (level r p)) (λ p d. byte-level r p h d) (filter (is_defined r) ps) (filter_passes (is_defined r) ps))
+byte-defined r ps h = All-map IsByte (level r) (filter (is_defined r) ps) (λ k d lt. level-from IsByte r _ (h.each _) byte-zero)
 
 -- a median is a member
 byte-median : (xs : List ℤ) (d : ℤ) → All IsByte xs → IsByte d → IsByte (unwrap_or (lower_median xs) d)
@@ -184,21 +183,13 @@ byte-between r mesh p some h =
 
 byte-background : (r : Raster) (mesh : ℕ) (flat : Bool) (p : ℕ) → HasBytes r → IsByte (background r mesh flat p)
 unfolding background
-byte-background r mesh flat p h = go (cases_lt 0 mesh) flat
+byte-background r mesh flat p h = go (mesh == 0) refl flat
   where
-    go : (0 < mesh) ⊎ (mesh ≤ 0) → (f : Bool)
-        → IsByte (cond (mesh == 0) (pos 0)
-        (cond f (mesh_value r mesh (mesh_cell_of mesh r.shape.width p)) (pixel_level mesh r.shape (filtered_values r mesh) p)))
-    go (inr none) f = let e : mesh ≡ 0 = omega arith in
-        subst (λ (b : Bool). IsByte (cond b (pos 0)
-        (cond f (mesh_value r mesh (mesh_cell_of mesh r.shape.width p)) (pixel_level mesh r.shape (filtered_values r mesh) p)))) (sym (eq-eqb mesh 0
-        e)) byte-zero
-    go (inl some) true =
-        subst (λ (b : Bool). IsByte (cond b (pos 0) (mesh_value r mesh (mesh_cell_of mesh r.shape.width p)))) (sym (ne_eqb mesh 0 (λ e. absurd (omega arith))))
-        (byte-mesh r mesh (mesh_cell_of mesh r.shape.width p) h)
-    go (inl some) false =
-        subst (λ (b : Bool). IsByte (cond b (pos 0) (pixel_level mesh r.shape (filtered_values r mesh) p))) (sym (ne_eqb mesh 0 (λ e. absurd (omega arith))))
-        (byte-between r mesh p some h)
+    go : (none : Bool) → mesh == 0 ≡ none → (f : Bool)
+        → IsByte (cond none (pos 0) (cond f (mesh_value r mesh (mesh_cell_of mesh r.shape.width p)) (pixel_level mesh r.shape (filtered_values r mesh) p)))
+    go true e f = byte-zero
+    go false e true = byte-mesh r mesh (mesh_cell_of mesh r.shape.width p) h
+    go false e false = let some : mesh ≢ 0 = eqb-false mesh 0 e in byte-between r mesh p (omega arith) h
 
 difference_small : (v b : ℤ) → IsByte v → IsByte b → IsSmall (v -ℤ b)
 difference_small v b h k = record { low = omega (arith, ints, h.low, k.high); high = omega (arith, ints, h.high, k.low) }
@@ -207,11 +198,8 @@ small-at : (r : Raster) (mesh : ℕ) (flat : Bool) (p : ℕ) (v : ℤ) → HasBy
 unfolding residual_at
 small-at r mesh flat p v h e = go (value_at r.values p) refl e
   where
-    no_element : None ≡ Some v → ⊥
-    no_element e = cc
-
     go : (o : Option ℤ) → value_at r.values p ≡ o → option_map (λ w. w -ℤ background r mesh flat p) o ≡ Some v → IsSmall v
-    go None u f = absurd (no_element f)
+    go None u f = absurd (none-some v f)
     go (Some w) u f =
         let same : w -ℤ background r mesh flat p ≡ v = cc in
         subst IsSmall same (difference_small w (background r mesh flat p) (h.each p w (get_from_read r.values p w u)) (byte-background r mesh flat p h))
@@ -230,12 +218,9 @@ trial_residual_is_small seed shape mesh flat =
 -- ---- the fluxes over a plane of small values
 
 small-level : (r : Raster) (p : ℕ) → HasSmallValues r.values → IsUpTo 255 (level r p)
-unfolding level
-small-level r p h = go (value_at r.values p) refl
-  where
-    go : (o : Option ℤ) → value_at r.values p ≡ o → IsUpTo 255 (unwrap_or o (pos 0))
-    go None e = record { low = omega (arith, ints); high = omega (arith, ints) }
-    go (Some v) e = let k : IsSmall v = h.each p v (get_from_read r.values p v e) in record { low = k.low; high = k.high }
+small-level r p h =
+    level-from (IsUpTo 255) r p (λ v e. let k : IsSmall v = h.each p v e in record { low = k.low; high = k.high })
+    (record { low = omega (arith, ints); high = omega (arith, ints) })
 
 small-base : (r : Raster) (connect : Connect) (n : ℕ) → IsPlane r → HasSmallValues r.values → n < length (nodes r connect)
     → IsUpTo 255 (base_of (tree_of r connect) n)

@@ -96,6 +96,7 @@ fn value<'a>(words: &[&'a str], setting: Setting, pairs: u32) -> Option<&'a str>
 // Judges the name and the value of one option more. The name is word 2 * pair + 2.
 fn judge_pair(command: Command, words: &[&str], pair: u32) -> Result<(), Usage>
     requires read { AreRead command (texts words.now) pair }
+    requires few { pair ≤ 17 }
     requires more { 2 * pair + 1 < length words.now }
     ensures { MatchResult result
         (λ _. AreRead command (texts words.now) (pair + 1))
@@ -236,9 +237,11 @@ fn order_of_job(words: &[&str], pairs: u32, job: Job) -> Order
 // How many pairs of a name and a value stand behind the command, unless one is at fault.
 fn pairs_read(command: Command, words: &[&str]) -> Result<u32, Usage>
     requires { 0 < length words.now }
-    ensures { MatchResult result
+    ensures told { MatchResult result
         (λ pairs. AreAllRead command (texts words.now) pairs)
         (λ usage. IsFirstFault command (texts words.now) usage.word) }
+    ensures few { IfOk result (λ pairs. pairs ≤ 17) }
+    ensures there { IfOk result (λ pairs. 2 * pairs + 1 ≤ length words.now) }
 {
     let mut pairs = 0;
     while 2 * pairs as usize + 1 < words.len() {

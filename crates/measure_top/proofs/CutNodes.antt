@@ -12,22 +12,14 @@ use Rattle.comp_tree.proofs.Exported.{int_le-from, int_le_trans, int_le_from_lt,
 use Rattle.comp_tree.proofs.Exported.{parent-candidate, parent-of_node, below_no_node, AlikeAbove, IsCounterpart, above_level, above_pixels, above_reached}
 use Rattle.comp_tree.proofs.Exported.{above_sym, counterpart, counterpart_pixels, counterpart_sym, counterpart_test, reached_high}
 use Rattle.comp_tree.proofs.Exported as Nodes
-use Rattle.node_sums.proofs.Exported.{goes_down, level-of_node}
+use Rattle.node_sums.proofs.Exported.{level-of_node}
+use Rattle.source_pick.proofs.Exported.{parent_cases}
 use Rattle.dual_measure.specs.Measures.{measure_over, measure_of, mean_of, around_node, back_of}
 use Rattle.measure_top.specs.Cuts.{cut, node_in_cut}
-use Rattle.measure_top.proofs.CutAlike.{cut_alike, high_in_cut}
-pub use Rattle.measure_top.proofs.CutAlike.{cut_is_a_plane}
+use Rattle.measure_top.proofs.CutPlanes.{cut_alike, high_in_cut}
+pub use Rattle.measure_top.proofs.CutPlanes.{cut_is_a_plane}
 
 -- ---- parents
-
-parent_cases : (r : Raster) (connect : Connect) (n : ℕ) → IsPlane r → n < length (nodes r connect)
-    → (parent_of_node r connect n ≡ no_node) ⊎ (parent_of_node r connect n < length (nodes r connect))
-parent_cases r connect n plane hn = go ((goes_down r connect plane).parents n (omega (arith, length-rows r connect)))
-  where
-    go : (parent_of_node r connect n ≡ no_node) ⊎ (parent_of_node r connect n < n) → (parent_of_node r connect n ≡ no_node)
-        ⊎ (parent_of_node r connect n < length (nodes r connect))
-    go (inl e) = inl e
-    go (inr l) = inr (omega arith)
 
 -- what is below a pixel, and has at least h, is below it in the other plane
 candidate_there : (r s : Raster) (connect : Connect) (h : ℤ) (p q : ℕ) → AlikeAbove r s h → IsTrue (is_at_least r h q) → Nodes.IsCandidate r connect p q
@@ -54,8 +46,7 @@ parent_there r s connect h n m k j plane a c d e =
     parent-of_node s connect m c.other
     ∙ Nodes.parent-is s connect (top_of s connect m) (top_of s connect j) (Nodes.candidate-from s connect (top_of s connect m) (top_of s connect j) there)
     highest
-    ∙ Nodes.node-unique s connect (top_of s connect j) j (top-defined s connect j d.other)
-    (record { below = d.other; it_is = sym (Nodes.is_representative-parts s connect (top_of s connect j) (top-representative s connect j d.other)).1 })
+    ∙ Nodes.node_of_top s connect j d.other
   where
     p : IsParent r connect k n
     p = parent-candidate r connect k n plane c.one d.one (sym (parent-of_node r connect n c.one) ∙ e)

@@ -34,55 +34,31 @@ use Rattle.measure_top.specs.TwoImages.{memory_at_two}
 use Rattle.measure_top.specs.TwoReads.{TwoRead, TwoStopped}
 use Rattle.measure_top.proofs.Besides.{two_is, search_most, search_beside}
 
--- An image stands where its header and its shape say.
-
-record IsBehind (bytes : List ℕ) (hdu : Hdu) (at : ℕ) (check : Result Shape ImageFault) (head end : ℕ) : Type 0 where
-  shape : Shape
-  is : check ≡ Ok shape
-  same_head : at ≡ head
-  end_is : end ≡ at + image_bytes hdu shape
-  within : end ≤ length bytes
-
-whole_image : (bytes : List ℕ) (hdu : Hdu) (at long : ℕ) (shape : Shape) (pixel : Option ℕ) (plane : Raster) (head end : ℕ)
-    → image_unless bytes hdu at shape pixel ≡ image plane head end
-    → (at ≡ head) × (end ≡ at + image_bytes hdu shape)
-whole_image bytes hdu at long shape (Some pixel) plane head end is = absurd (cc)
-whole_image bytes hdu at long shape None plane head end is =
-    let place : at + image_bytes hdu shape ≡ end = cc in
-    let same : at ≡ head = cc in
-    (same, sym place)
-
-image_behind_parts : (bytes : List ℕ) (hdu : Hdu) (at : ℕ) (check : Result Shape ImageFault) (plane : Raster) (head end : ℕ)
-    → verdict_on_hdu bytes hdu at check ≡ image plane head end → IsBehind bytes hdu at check head end
-image_behind_parts bytes hdu at (Err fault) plane head end is = absurd (cc)
-image_behind_parts bytes hdu at (Ok shape) plane head end is = by (nat_lt (length bytes) (at + image_bytes hdu shape)) refl is
-  where
-    long : (n m : ℕ) → nat_lt n m ≡ false → m ≤ n
-    long n m h = grind (arith, nat_tests)
-
-    by : (cut : Bool) → nat_lt (length bytes) (at + image_bytes hdu shape) ≡ cut
-        → cond cut (truncated at (length bytes)) (image_unless (drop at bytes) hdu at shape (first_out_of_range hdu shape (drop at bytes)))
-        ≡ image plane head end → IsBehind bytes hdu at (Ok shape) head end
-    by true e v = absurd (cc)
-    by false e v =
-        let place = whole_image (drop at bytes) hdu at (length bytes) shape (first_out_of_range hdu shape (drop at bytes)) plane head end v in
-        record { shape = shape; is = refl; same_head = place.0; end_is = place.1; within = subst (λ n. n ≤ length bytes) (sym place.1) (long _ _ e) }
-
 -- the HDU with this number was found, and its data end at the image's end
 record IsAt (bytes : List ℕ) (number : ℕ) (hdu : Hdu) (head end : ℕ) : Type 0 where
   is : find_of bytes number ≡ found hdu head
   end_is : end ≡ head + hdu.data_bytes
   within : end ≤ length bytes
 
+-- an image stands where its header and its shape say
 image_at : (bytes : List ℕ) (number : ℕ) (hdu : Hdu) (at : ℕ) (plane : Raster) (head end : ℕ) → find_of bytes number ≡ found hdu at
     → verdict_on_hdu bytes hdu at (checked hdu) ≡ image plane head end → IsAt bytes number hdu head end
-image_at bytes number hdu at plane head end is v =
-    let behind = image_behind_parts bytes hdu at (checked hdu) plane head end v in
-    record {
-      is = subst (λ n. find_of bytes number ≡ found hdu n) behind.same_head is;
-      end_is = behind.end_is ∙ ap (λ n. at + n) (all_data bytes number hdu at behind.shape is behind.is) ∙ ap (λ n. n + hdu.data_bytes) behind.same_head;
-      within = behind.within;
-    }
+image_at bytes number hdu at plane head end is v = by (checked hdu) refl v
+  where
+    by_data : (shape : Shape) (pixel : Option ℕ) (cut : Bool) → checked hdu ≡ Ok shape → nat_lt (length bytes) (at + image_bytes hdu shape) ≡ cut
+        → cond cut (truncated at (length bytes)) (image_unless (drop at bytes) hdu at shape pixel) ≡ image plane head end → IsAt bytes number hdu head end
+    by_data shape pixel true c e v = absurd (cc)
+    by_data shape (Some pixel) false c e v = absurd (cc)
+    by_data shape None false c e v =
+        let same : at ≡ head = cc in
+        let place : at + image_bytes hdu shape ≡ end = cc in
+        let data : image_bytes hdu shape ≡ hdu.data_bytes = all_data bytes number hdu at shape is c in
+        let within : at + image_bytes hdu shape ≤ length bytes = grind (arith, nat_tests) in
+        record { is = subst (λ n. find_of bytes number ≡ found hdu n) same is; end_is = omega arith; within = omega arith }
+
+    by : (check : Result Shape ImageFault) → checked hdu ≡ check → verdict_on_hdu bytes hdu at check ≡ image plane head end → IsAt bytes number hdu head end
+    by (Err fault) c v = absurd (cc)
+    by (Ok shape) c v = by_data shape (first_out_of_range hdu shape (drop at bytes)) (nat_lt (length bytes) (at + image_bytes hdu shape)) c refl v
 
 pub first_read : (bytes : List ℕ) (number : ℕ) (head : ℕ) (left : Option (List ℕ)) (first : FirstImage) → find_of bytes number ≡ found first.hdu head
     → ImageRead (verdict_on_hdu bytes first.hdu head (checked first.hdu)) bytes left first.plane → FirstImageRead bytes number left first

@@ -1,10 +1,11 @@
 -- The sources of a plane in the plane that is cut at the lowest of their bases: they are its nodes too, with the same cells.
-use Rattle.std.proofs.Common.{◌≡◌, ◌∙◌, ap, sym, subst, refl, arith, ℕ, zero, suc, ◌+◌, ◌*◌, ◌<◌, ◌≤◌, Bool, true, false, cond, List, [], ◌∷◌, ◌++◌, length}
-use Rattle.std.proofs.Common.{map}
-use Rattle.std.specs.Prelude.{ℤ, ◌≤ℤ◌, ⊤, Some, slice_get, slice_index, filter}
-use Rattle.std.specs.List.{range_with_len, flat_map, enumerate_from}
+use Rattle.std.proofs.Common.{◌≡◌, ◌∙◌, ap, sym, subst, refl, arith, ℕ, zero, suc, ◌+◌, ◌*◌, ◌<◌, ◌≤◌, Bool, true, false, cond, List, [], ◌∷◌, length, map}
+use Rattle.std.proofs.Common.{inl, inr}
+use Rattle.std.specs.Prelude.{ℤ, ◌≤ℤ◌, Some, slice_get, slice_index}
+use Rattle.std.specs.List.{flat_map, enumerate_from}
 use Rattle.std.proofs.lemmas.Int.{ints}
 use Rattle.std.proofs.lemmas.List.{length-map}
+use Rattle.lemmas.proofs.Exported.{IsAmong, ArePaired, at_end, at_more, paired_flat_map}
 use Rattle.comp_tree.specs.declared.shape.Connect.{Connect}
 use Rattle.comp_tree.specs.declared.shape.Shape.{Shape}
 use Rattle.comp_tree.specs.Raster.{Raster, IsPlane, level, pixels}
@@ -17,8 +18,9 @@ use Rattle.node_sums.specs.Flux.{base_of}
 use Rattle.node_sums.proofs.Exported.{BaseCase, at_root, at_child, base-case, level-of_node}
 use Rattle.source_pick.specs.declared.choice.Choice.{Choice}
 use Rattle.source_pick.specs.declared.catalogue.CatRow.{CatRow}
-use Rattle.source_pick.specs.Sources.{sources_at, sources}
+use Rattle.source_pick.specs.Sources.{sources}
 use Rattle.source_pick.specs.Catalogue.{measured_row, catalogue_row, catalogue_of}
+use Rattle.source_pick.proofs.Exported.{source_from_among}
 use Rattle.dual_measure.specs.Measures.{measure_of, back_of}
 use Rattle.dual_measure.specs.Columns.{measured_cells_of}
 use Rattle.measure_top.specs.declared.picking_near.PickedNode.{PickedNode}
@@ -26,39 +28,6 @@ use Rattle.measure_top.specs.MeasuredCatalogues.{row_with_measure, rows_with_mea
 use Rattle.measure_top.specs.Cuts.{cut, node_in_cut}
 use Rattle.measure_top.specs.Picks.{AreNodesOf, HaveBasesFrom, StandIn, cells_at, all_cells}
 use Rattle.measure_top.proofs.CutNodes.{cut_is_a_plane, node_there, same_measure, same_back}
-
--- ---- sources are nodes
-
-abbrev AreNodes : ℕ → List ℕ → Type 0
-AreNodes count [] = ⊤
-AreNodes count (n ∷ ns) = (n < count) × AreNodes count ns
-
-nodes_in_range : (count first many : ℕ) → first + many ≤ count → AreNodes count (range_with_len first many)
-nodes_in_range count first zero within = tt
-nodes_in_range count first (suc many) within = (omega (arith, within), nodes_in_range count (first + 1) many (omega (arith, within)))
-
-one_filtered : (count n : ℕ) (ns : List ℕ) (b : Bool) → n < count → AreNodes count ns → AreNodes count (cond b (n ∷ ns) ns)
-one_filtered count n ns true one are = (one, are)
-one_filtered count n ns false one are = are
-
-nodes_filtered : (count : ℕ) (test : ℕ → Bool) (ns : List ℕ) → AreNodes count ns → AreNodes count (filter test ns)
-nodes_filtered count test [] are = tt
-nodes_filtered count test (n ∷ ns) are = one_filtered count n (filter test ns) (test n) are.0 (nodes_filtered count test ns are.1)
-
-nodes_joined : (count : ℕ) (ms ns : List ℕ) → AreNodes count ms → AreNodes count ns → AreNodes count (ms ++ ns)
-nodes_joined count [] ns one other = other
-nodes_joined count (m ∷ ms) ns one other = (one.0, nodes_joined count ms ns one.1 other)
-
-nodes_of_each : (count : ℕ) (f : ℕ → List ℕ) (ps : List ℕ) → ((p : ℕ) → AreNodes count (f p)) → AreNodes count (flat_map f ps)
-nodes_of_each count f [] each = tt
-nodes_of_each count f (p ∷ ps) each = nodes_joined count (f p) (flat_map f ps) (each p) (nodes_of_each count f ps each)
-
-sources_are_nodes : (r : Raster) (connect : Connect) (choice : Choice) → AreNodes (length (nodes r connect)) (sources r connect choice)
-unfolding sources sources_at
-sources_are_nodes r connect choice =
-    nodes_of_each (length (nodes r connect)) (sources_at r connect choice) (pixels r)
-    (λ p. nodes_filtered (length (nodes r connect)) _ (range_with_len 0 (length (nodes r connect)))
-    (nodes_in_range (length (nodes r connect)) 0 (length (nodes r connect)) (omega arith)))
 
 -- ---- levels from the base on
 
@@ -128,55 +97,37 @@ cells_same r values connect h number n node plane k = λ i. measured_cells_of (k
 
 -- each node was picked as the source at its place, with numbers that rise from this one
 abbrev ArePickedAs : Raster → Connect → ℤ → ℕ → List ℕ → List PickedNode → Type 0
-ArePickedAs r connect h number [] [] = ⊤
-ArePickedAs r connect h number [] (node ∷ found) = ⊥
-ArePickedAs r connect h number (n ∷ picked) [] = ⊥
-ArePickedAs r connect h number (n ∷ picked) (node ∷ found) = IsPickedAs r connect h number n node × ArePickedAs r connect h (number + 1) picked found
+ArePickedAs r connect h number picked found = ArePaired (λ e node. IsPickedAs r connect h e.0 e.1 node) (enumerate_from number picked) found
 
-picked_as : (r : Raster) (connect : Connect) (h : ℤ) (number : ℕ) (picked : List ℕ) (found : List PickedNode) → AreNodes (length (nodes r connect)) picked
+picked_as : (r : Raster) (connect : Connect) (h : ℤ) (number : ℕ) (picked : List ℕ) (found : List PickedNode)
+    → ((n : ℕ) → IsAmong n picked → n < length (nodes r connect))
     → map (λ n. n.row) found ≡ map (λ e. catalogue_row r connect e.0 e.1) (enumerate_from number picked)
     → map (λ n. n.rep) found ≡ map (top_of r connect) picked
     → HaveBasesFrom h found → ArePickedAs r connect h number picked found
-picked_as r connect h number [] [] within rows reps low = tt
+picked_as r connect h number [] [] within rows reps low = at_end
 picked_as r connect h number [] (node ∷ found) within rows reps low = absurd (cc)
 picked_as r connect h number (n ∷ picked) [] within rows reps low = absurd (cc)
 picked_as r connect h number (n ∷ picked) (node ∷ found) within rows reps low =
     let row_is : node.row ≡ catalogue_row r connect number n = cc in
     let rows_are : map (λ n. n.row) found ≡ map (λ e. catalogue_row r connect e.0 e.1) (enumerate_from (number + 1) picked) = cc in
     let rep_is : node.rep ≡ top_of r connect n = cc in
-    let reps_are : map (λ n. n.rep) found ≡ map (top_of r connect) picked = cc in (
-      record { within = within.0; row_is = row_is; rep_is = rep_is; low = low 0 node refl },
-      picked_as r connect h (number + 1) picked found within.1 rows_are reps_are (λ k x at. low (suc k) x at),
-    )
+    let reps_are : map (λ n. n.rep) found ≡ map (top_of r connect) picked = cc in
+    at_more (record { within = within n (inl refl); row_is = row_is; rep_is = rep_is; low = low 0 node refl })
+    (picked_as r connect h (number + 1) picked found (λ m a. within m (inr a)) rows_are reps_are (λ k x at. low (suc k) x at))
 
-all_stand : (r : Raster) (connect : Connect) (h : ℤ) (number : ℕ) (picked : List ℕ) (found : List PickedNode) → IsPlane r
-    → ArePickedAs r connect h number picked found
-    → (k : ℕ) (node : PickedNode) → slice_get found k ≡ Some node → (node.rep < length r.values)
-    × (node_in_cut r connect h node.rep < length (nodes (cut r h) connect))
-all_stand r connect h number [] [] plane are k node at = absurd (cc)
-all_stand r connect h number [] (x ∷ found) plane are k node at = absurd are
-all_stand r connect h number (n ∷ picked) [] plane are k node at = absurd are
-all_stand r connect h number (n ∷ picked) (x ∷ found) plane are zero node at =
-    let same : x ≡ node = cc in
-    stands r connect h number n node plane (subst (IsPickedAs r connect h number n) same are.0)
-all_stand r connect h number (n ∷ picked) (x ∷ found) plane are (suc k) node at = all_stand r connect h (number + 1) picked found plane are.1 k node at
+-- what follows for each second member of a pair
+each_second : {X Y : Type 0} (R : X → Y → Type 0) (P : Y → Type 0) (xs : List X) (ys : List Y) → ((x : X) (y : Y) → R x y → P y) → ArePaired R xs ys
+    → (k : ℕ) (y : Y) → slice_get ys k ≡ Some y → P y
+each_second R P _ _ so at_end k y at = absurd (cc)
+each_second R P _ _ so (at_more {x} {z} {xs} {ys} pair rest) zero y at = let same : z ≡ y = cc in subst P same (so x z pair)
+each_second R P _ _ so (at_more {x} {z} {xs} {ys} pair rest) (suc k) y at = each_second R P xs ys so rest k y at
 
-all_cells_same : (r values : Raster) (connect : Connect) (h : ℤ) (number : ℕ) (picked : List ℕ) (found : List PickedNode) → IsPlane r
-    → ArePickedAs r connect h number picked found
-    → flat_map (cells_at (cut r h) values connect) found ≡ flat_map (λ e. row_with_measure r values connect e.0 e.1) (enumerate_from number picked)
-all_cells_same r values connect h number [] [] plane are = refl
-all_cells_same r values connect h number [] (node ∷ found) plane are = absurd are
-all_cells_same r values connect h number (n ∷ picked) [] plane are = absurd are
-all_cells_same r values connect h number (n ∷ picked) (node ∷ found) plane are =
-    ap (λ (l : List ℤ). l ++ flat_map (cells_at (cut r h) values connect) found) (cells_same r values connect h number n node plane are.0)
-    ∙ ap (λ (l : List ℤ). row_with_measure r values connect number n ++ l) (all_cells_same r values connect h (number + 1) picked found plane are.1)
-
-sources_picked : (r : Raster) (connect : Connect) (choice : Choice) (h : ℤ) (found : List PickedNode) → AreNodesOf r connect (sources r connect choice) found
-    → HaveBasesFrom h found
+sources_picked : (r : Raster) (connect : Connect) (choice : Choice) (h : ℤ) (found : List PickedNode) → IsPlane r
+    → AreNodesOf r connect (sources r connect choice) found → HaveBasesFrom h found
     → ArePickedAs r connect h 1 (sources r connect choice) found
 unfolding catalogue_of
-sources_picked r connect choice h found are low =
-    picked_as r connect h 1 (sources r connect choice) found (sources_are_nodes r connect choice) are.rows are.representatives low
+sources_picked r connect choice h found plane are low =
+    picked_as r connect h 1 (sources r connect choice) found (λ n m. (source_from_among r connect choice n plane m).0) are.rows are.representatives low
 
 shape-cut : (r : Raster) (h : ℤ) → (cut r h).shape ≡ r.shape
 unfolding cut
@@ -188,7 +139,8 @@ pub sources_stand : (r plane : Raster) (connect : Connect) (choice : Choice) (h 
     → tree ≡ tree_of plane connect → AreNodesOf r connect (sources r connect choice) found → HaveBasesFrom h found → StandIn tree found
 unfolding tree_of
 sources_stand r plane connect choice h tree found one is tree_is are low k node at =
-    let stand = all_stand r connect h 1 (sources r connect choice) found one (sources_picked r connect choice h found are low) k node at in
+    let stand = each_second _ (λ (n : PickedNode). (n.rep < length r.values) × (node_in_cut r connect h n.rep < length (nodes (cut r h) connect))) _ found
+    (λ e n c. stands r connect h e.0 e.1 n one c) (sources_picked r connect choice h found one are low) k node at in
     subst (λ (t : ComponentTree). (node.rep < length t.node_of) × (slice_index t.node_of node.rep < length t.rows))
     (sym (tree_is ∙ ap (λ (p : Raster). tree_of p connect) is)) (
       omega (arith, stand.0, many),
@@ -209,7 +161,8 @@ pub sources_measured : (r plane values : Raster) (connect : Connect) (choice : C
 unfolding all_cells rows_with_measures
 sources_measured r plane values connect choice h found one is are low =
     ap (λ (p : Raster). all_cells p values connect found) is
-    ∙ all_cells_same r values connect h 1 (sources r connect choice) found one (sources_picked r connect choice h found are low)
+    ∙ sym (paired_flat_map _ (λ e. row_with_measure r values connect e.0 e.1) (cells_at (cut r h) values connect) _ found
+    (λ e n c. sym (cells_same r values connect h e.0 e.1 n one c)) (sources_picked r connect choice h found one are low))
 
 pub plane-cut : (r plane : Raster) (h : ℤ) → IsPlane r → plane ≡ cut r h → IsPlane plane
 plane-cut r plane h one is = subst IsPlane (sym is) (cut_is_a_plane r h one)

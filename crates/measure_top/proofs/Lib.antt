@@ -4,7 +4,6 @@ mod Firsts
 mod InCut
 mod PickedRows
 mod PickedSources
-mod CutAlike
 mod CutNodes
 mod Ended
 mod MeasuredRows

@@ -1,17 +1,12 @@
 -- What is written of the sources of one plane that are measured in another.
-use Rattle.std.proofs.Common.{◌≡◌, ◌∙◌, ap, sym, subst, ℕ, ◌*◌, Bool, List, ◌++◌, Option, Result, Ok, Err, IfOk, ℤ}
-use Rattle.std.specs.Io.KnownBytes.{Appends}
-use Rattle.dev_io.specs.Streams.{PutAppends}
-use Rattle.dev_io.specs.Laws.{PutAppends-after}
+use Rattle.std.proofs.Common.{◌≡◌, ◌∙◌, ap, sym, subst, ℕ, ◌*◌, Bool, List, Result, Ok, Err, IfOk, ℤ}
 use Rattle.comp_tree.specs.declared.shape.Shape.{Shape}
 use Rattle.comp_tree.specs.declared.shape.Connect.{Connect}
 use Rattle.comp_tree.specs.Raster.{Raster, IsPlane}
 use Rattle.comp_tree.specs.ComponentTree.{ComponentTree}
 use Rattle.comp_tree.specs.Components.{tree_of}
 use Rattle.mesh_background.specs.Residuals.{residual_of}
-use Rattle.fits_write.specs.declared.table.Column.{Column}
 use Rattle.fits_write.specs.Columns.{IsTable}
-use Rattle.fits_write.specs.Hdus.{empty_primary, map_hdu, table_hdu}
 use Rattle.source_pick.specs.declared.choice.Choice.{Choice}
 use Rattle.source_pick.specs.Sources.{sources}
 use Rattle.dual_measure.specs.Measures.{IsPlanesTree}
@@ -24,20 +19,6 @@ use Rattle.measure_top.specs.TwoReads.{IsMeasuredDetection}
 use Rattle.measure_top.specs.Cuts.{cut}
 use Rattle.measure_top.specs.Picks.{AreSourcesOf, CanBeListed, HaveBasesFrom, all_cells}
 use Rattle.measure_top.proofs.InCut.{sources_measured, plane-cut, same_shape-cut}
-
--- ---- the HDUs
-
--- they were put one behind the other
-pub hdus_put : {T E : Type 0} (a b c d : Option (List ℕ)) (r : Result T E) (shape : Shape) (numbers numbers' : List ℕ) (list : List Column)
-    (cells cells' : List ℤ)
-    → Appends a b empty_primary → Appends b c (map_hdu shape numbers') → PutAppends c d r (table_hdu list cells') → numbers' ≡ numbers → list ≡ measured_columns
-    → cells' ≡ cells
-    → PutAppends a d r (measured_hdus shape numbers cells)
-hdus_put a b c d r shape numbers numbers' list cells cells' first second third same_numbers same_columns same_cells =
-    let map = subst (λ l. Appends b c (map_hdu shape l)) same_numbers second in
-    let table = subst (λ l. PutAppends c d r (table_hdu l cells)) same_columns (subst (λ l. PutAppends c d r (table_hdu list l)) same_cells third) in
-    PutAppends-after a b d r empty_primary (map_hdu shape numbers ++ table_hdu measured_columns cells) first
-    (PutAppends-after b c d r (map_hdu shape numbers) (table_hdu measured_columns cells) map table)
 
 -- a map with a number for each pixel, and a table, can be written
 pub can_be_put : (plane : Raster) (shape : Shape) (numbers : List ℕ) (found : List PickedNode) (cells : List ℤ) → shape ≡ plane.shape

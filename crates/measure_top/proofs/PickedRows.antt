@@ -102,31 +102,6 @@ all_nodes tree sums picked count nodes are whole plane connect is sums_are = rec
 
 -- ---- the least of their bases
 
--- what is read behind the end of a list
-abbrev pub nobody : PickedNode
-nobody = record {
-  row = record {
-    number = pos 0;
-    level = pos 0;
-    base = pos 0;
-    area = pos 0;
-    flux = pos 0;
-    peak = pos 0;
-    xmin = pos 0;
-    xmax = pos 0;
-    ymin = pos 0;
-    ymax = pos 0;
-    xfirst = pos 0;
-    yfirst = pos 0;
-    xcen = pos 0;
-    ycen = pos 0;
-    xvar = pos 0;
-    yvar = pos 0;
-    xycov = pos 0;
-  };
-  rep = 0;
-}
-
 pub no_bases : (h : ℤ) (nodes : List PickedNode) → HaveBasesFrom h (take 0 nodes)
 no_bases h nodes k node at = no_item (λ (n : PickedNode). h ≤ℤ n.row.base) (take 0 nodes) refl k node at
 

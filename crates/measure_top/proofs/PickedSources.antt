@@ -38,7 +38,8 @@ can_be_listed plane tree numbers found of_plane whole one_each small few fits = 
   fits = fits;
 }
 
-same_sources : (r s : Raster) (connect : Connect) (choice : Choice) (numbers : List ℕ) (found : List PickedNode) → HaveSameSources r s connect choice
+-- the sources of a plane that has the same are those of the plane
+pub same_sources : (r s : Raster) (connect : Connect) (choice : Choice) (numbers : List ℕ) (found : List PickedNode) → HaveSameSources r s connect choice
     → AreSourcesOf s connect choice numbers found → AreSourcesOf r connect choice numbers found
 unfolding catalogue
 same_sources r s connect choice numbers found same are = record {
@@ -48,21 +49,3 @@ same_sources r s connect choice numbers found same are = record {
     representatives = are.nodes_are.representatives ∙ sym same.representatives;
   };
 }
-
--- the sources of a plane that has the same are those of the plane
-pub sources_kept : {E : Type 0} (plane copy near : Raster) (connect : Connect) (choice : Choice) (tree : ComponentTree) (made : Result Picked E) → copy ≡ plane
-    → HaveSameSources copy near connect choice → tree ≡ tree_of near connect
-    → IfOk made (λ picked. (connect' : Connect) → tree ≡ tree_of near connect' → AreSourcesOf near connect' choice picked.map.items picked.nodes.items)
-    → IfOk made (λ picked. AreSourcesOf plane connect choice picked.map.items picked.nodes.items)
-sources_kept plane copy near connect choice tree (Ok picked) is same tree_is are =
-    same_sources plane near connect choice picked.map.items picked.nodes.items (subst (λ (r : Raster). HaveSameSources r near connect choice) is same)
-    (are connect tree_is)
-sources_kept plane copy near connect choice tree (Err e) is same tree_is are = tt
-
-pub listed_kept : {E : Type 0} (plane copy near : Raster) (connect : Connect) (h : ℤ) (made : Result Picked E) → copy ≡ plane → near ≡ kept copy connect h
-    → IfOk made (λ picked. CanBeListed near.shape picked.map.items picked.nodes.items)
-    → IfOk made (λ picked. CanBeListed plane.shape picked.map.items picked.nodes.items)
-listed_kept plane copy near connect h (Ok picked) is kept_is can =
-    subst (λ (s : Shape). CanBeListed s picked.map.items picked.nodes.items)
-    (ap (λ (r : Raster). r.shape) kept_is ∙ shape-kept copy connect h ∙ ap (λ (r : Raster). r.shape) is) can
-listed_kept plane copy near connect h (Err e) is kept_is can = tt

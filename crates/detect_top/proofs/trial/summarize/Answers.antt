@@ -1,20 +1,16 @@
 use Rattle.std.proofs.Common.{◌≡◌, ◌≤◌, ◌^◌, ◌*◌, ℕ, List, length, ap, sym, subst, ◌∙◌, arith}
 use Rattle.std.specs.Prelude.{count_by, sum_by}
 use Rattle.comp_tree.specs.declared.shape.Shape.{Shape}
-use Rattle.comp_tree.specs.declared.tree.NodeRow.{NodeRow}
 use Rattle.comp_tree.specs.Raster.{Raster, IsPlane}
+use Rattle.comp_tree.specs.ComponentTree.{ComponentTree}
 use Rattle.node_sums.specs.declared.entry.Sums.{Sums}
 use Rattle.node_sums.proofs.Exported.{trees_rows}
-use Rattle.source_pick.specs.Segmentation.{segmentation_of}
-use Rattle.source_pick.proofs.Exported.{few_marked, few_rows}
-use Rattle.detect_top.specs.Trials.{is_root_row, is_mapped}
+use Rattle.source_pick.specs.Segmentation.{segmentation_of, segmentation}
+use Rattle.source_pick.proofs.Exported.{few_marked, few_rows, numbers-length}
+use Rattle.detect_top.specs.Trials.{is_root_row, is_mapped, total_area, summary_of}
 use Rattle.detect_top.specs.TrialSizes.{HasSmallFluxes}
 use Rattle.detect_top.proofs.Trials.{small_fluxes}
-use Rattle.detect_top.proofs.Summaries.{few-numbers, summary_is}
 use Rattle.detect_top.proofs.trial.summarize.Goals as goal
-
-is_plane : (r : Raster) (shape : Shape) → shape ≡ r.shape → length r.values ≡ shape.width * shape.height → IsPlane r
-is_plane r shape same long = long ∙ ap (λ (s : Shape). s.width * s.height) same
 
 pub sum_areas-requires : goal.sum_areas-requires
 sum_areas-requires g c =
@@ -24,7 +20,7 @@ sum_areas-requires g c =
 
 pub sum_fluxes-requires-clause-small : goal.sum_fluxes-requires-clause-small
 sum_fluxes-requires-clause-small g c =
-    let plane : IsPlane c.args.plane.now = is_plane c.args.plane.now c.shape-shape.result c.shape-shape.ensures.same c.shape-shape.ensures.pixels in
+    let plane : IsPlane c.args.plane.now = c.shape-shape.ensures.pixels ∙ ap (λ (s : Shape). s.width * s.height) c.shape-shape.ensures.same in
     subst (λ (xs : List Sums). HasSmallFluxes c.args.tree.now xs) (sym c.deref-4.ensures.value)
     (small_fluxes c.args.plane.now c.args.tree.now c.in_ok-sums.sums.items plane c.requires.small c.in_ok-sums.ensures.of_plane)
 
@@ -37,33 +33,30 @@ overflow_cast-result g c =
 
 pub count_mapped-requires : goal.count_mapped-requires
 count_mapped-requires g c =
-    let plane : IsPlane c.args.plane.now = is_plane c.args.plane.now c.shape-shape.result c.shape-shape.ensures.same c.shape-shape.ensures.pixels in
-    omega (arith, few-numbers c.args.plane.now c.args.tree.now plane c.requires.of_plane, c.in_ok-numbers.ensures.one_each, ap length c.deref-5.ensures.value)
+    let long = numbers-length c.args.plane.now c.requires.of_plane.0 c.args.tree.now c.requires.of_plane.1 in
+    let few = c.shape-shape.result.within_limits.few_pixels in
+    omega (arith, long, few, c.shape-shape.ensures.pixels, c.in_ok-numbers.ensures.one_each, ap length c.deref-5.ensures.value)
 
 pub returns : goal.returns
+unfolding summary_of total_area segmentation
 returns g c = λ connect is.
+    let plane = c.args.plane.now in
     let sums_are = c.in_ok-sums.ensures.exact connect is in
-    let pixels : c.pixels.result ≡ length c.args.plane.now.values = c.pixels.ensures.product ∙ sym c.shape-shape.ensures.pixels in
-    summary_is c.args.plane.now connect c.args.tree.now c.in_ok-sums.sums.items c.in_ok-sources.sources.items c.in_ok-numbers.numbers.items
-    (record {
-      pixels = c.pixels.result;
-      nodes = c.node_count.result;
-      roots = c.count_roots.result;
-      areas = c.sum_areas.result;
-      fluxes = c.sum_fluxes.result;
-      sources = c.len.result;
-      mapped = c.count_mapped.result;
-    })
-    (record {
-      tree_is = is;
-      sums_are = sums_are;
-      picked_are = c.in_ok-sources.ensures.exact c.args.plane.now connect is (c.deref.ensures.value ∙ sums_are);
-      numbers_are = c.in_ok-numbers.ensures.exact c.args.plane.now connect is ∙ ap (segmentation_of c.args.plane.now connect) c.deref-2.ensures.value;
-      pixels = pixels;
-      nodes = c.node_count.ensures.all;
-      roots = c.count_roots.ensures ∙ ap (λ (rows : List NodeRow). count_by is_root_row rows) c.rows.ensures;
-      areas = c.sum_areas.ensures ∙ ap (λ (xs : List Sums). sum_by (λ s. s.area) xs) c.deref-3.ensures.value;
-      fluxes = c.sum_fluxes.ensures c.args.plane.now connect is (c.deref-4.ensures.value ∙ sums_are);
-      sources_are = c.len.ensures ∙ sym c.deref-2.ensures.len ∙ ap (λ (xs : List ℕ). length xs) c.deref-2.ensures.value;
-      mapped = c.count_mapped.ensures ∙ ap (λ (xs : List ℕ). count_by is_mapped xs) c.deref-5.ensures.value;
-    })
+    let picked_are = c.in_ok-sources.ensures.exact plane connect is (c.deref.ensures.value ∙ sums_are) in
+    let numbers_are = c.in_ok-numbers.ensures.exact plane connect is ∙ ap (segmentation_of plane connect) (c.deref-2.ensures.value ∙ picked_are) in
+    let pixels : c.pixels.result ≡ length plane.values = c.pixels.ensures.product ∙ sym c.shape-shape.ensures.pixels in
+    let nodes = c.node_count.ensures.all ∙ ap (λ (t : ComponentTree). length t.rows) is in
+    let roots = c.count_roots.ensures ∙ ap (count_by is_root_row) (c.rows.ensures ∙ ap (λ (t : ComponentTree). t.rows) is) in
+    let areas = c.sum_areas.ensures ∙ ap (sum_by (λ (s : Sums). s.area)) (c.deref-3.ensures.value ∙ sums_are) in
+    let fluxes = c.sum_fluxes.ensures plane connect is (c.deref-4.ensures.value ∙ sums_are) in
+    let found = c.len.ensures ∙ sym c.deref-2.ensures.len ∙ ap (λ (l : List ℕ). length l) (c.deref-2.ensures.value ∙ picked_are) in
+    let mapped = c.count_mapped.ensures ∙ ap (count_by is_mapped) (c.deref-5.ensures.value ∙ numbers_are) in
+    λ i. record {
+      pixels = pixels i;
+      nodes = nodes i;
+      roots = roots i;
+      areas = areas i;
+      fluxes = fluxes i;
+      sources = found i;
+      mapped = mapped i;
+    }

@@ -1,7 +1,7 @@
 use Rattle.std.proofs.Common.{refl}
 use Rattle.detect_top.specs.Options.{u16_in, connect_in, positive_u16_in, workers_in, flat_in}
 use Rattle.detect_top.specs.Words.{order_for}
-use Rattle.detect_top.proofs.Given.{given_by}
+use Rattle.detect_top.proofs.Places.{given_by}
 use Rattle.detect_top.proofs.words.order_of_job.Goals as goal
 
 pub returns : goal.returns
@@ -13,17 +13,5 @@ returns c =
     let workers = given_by _ _ workers_in _ c.value-4.ensures c.and_then-4.ensures in
     let mesh = given_by _ _ u16_in _ c.value-5.ensures c.and_then-5.ensures in
     let flat = given_by _ _ flat_in _ c.value-6.ensures c.and_then-6.ensures in
-    rw (
-      c.unwrap_or.ensures,
-      c.unwrap_or-2.ensures,
-      c.unwrap_or-3.ensures,
-      c.unwrap_or-4.ensures,
-      c.unwrap_or-5.ensures,
-      c.unwrap_or-6.ensures,
-      hdu,
-      connect,
-      strips,
-      workers,
-      mesh,
-      flat,
-    ) refl
+    rw (c.unwrap_or.ensures, c.unwrap_or-2.ensures, c.unwrap_or-3.ensures, c.unwrap_or-4.ensures, c.unwrap_or-5.ensures, c.unwrap_or-6.ensures)
+    (rw (hdu, connect, strips, workers, mesh, flat) refl)

@@ -1,59 +1,42 @@
-use Rattle.std.proofs.Common.{rules, ◌∙◌, ◌+◌, ◌*◌, ap, sym, refl}
+use Rattle.std.proofs.Common.{◌∙◌, ◌+◌, ◌*◌, ap, sym, refl}
 use Rattle.std.specs.Prelude.{Some, None}
 use Rattle.detect_top.specs.declared.options.Command.TheVariants.{Measure}
 use Rattle.detect_top.specs.declared.options.Setting.TheVariants.{Values}
 use Rattle.command_line.specs.Lines.{texts}
 use Rattle.detect_top.specs.Options.{u16_in}
 use Rattle.detect_top.specs.Words.{given, order_unless}
-use Rattle.detect_top.proofs.FewOptions.{few_read}
-use Rattle.detect_top.proofs.Given.{given_by}
 use Rattle.detect_top.proofs.Limits.{measure_limits}
-use Rattle.detect_top.proofs.Places.{measure_there, pairs_there, measure_refused_at, measured, one_hdu, two_hdus}
+use Rattle.detect_top.proofs.Places.{given_by, measure_there, measure_refused_at, measured, one_hdu, two_hdus}
 use Rattle.detect_top.proofs.words.read_measure.Goals as goal
 
 pub pairs_read-requires : goal.pairs_read-requires
 pairs_read-requires c = measure_there c.args.words.now c.requires
 
-pub job_for-requires : goal.job_for-requires
-job_for-requires c = pairs_there Measure c.args.words.now c.in-Ok.pairs c.in-Ok.ensures
-
-pub order_of_job-order-requires : goal.order_of_job-order-requires
-order_of_job-order-requires c = pairs_there Measure c.args.words.now c.in-Ok.pairs c.in-Ok.ensures
-
-pub value-requires : goal.value-requires
-value-requires c = pairs_there Measure c.args.words.now c.in-Ok.pairs c.in-Ok.ensures
-
-pub overflow_mul-behind : goal.overflow_mul-behind
-overflow_mul-behind c = let few = few_read Measure (texts c.args.words.now) c.in-Ok.pairs c.in-Ok.ensures.read in search rules
-
-pub overflow_add-behind : goal.overflow_add-behind
-overflow_add-behind c = let few = few_read Measure (texts c.args.words.now) c.in-Ok.pairs c.in-Ok.ensures.read in search rules
-
 pub returns-in-Err-clause-order : goal.returns-in-Err-clause-order
-returns-in-Err-clause-order c = sym (measure_refused_at (texts c.args.words.now) c.in-Err.usage.word c.in-Err.ensures)
+returns-in-Err-clause-order c = sym (measure_refused_at (texts c.args.words.now) c.in-Err.usage.word c.in-Err.ensures.told)
 
 pub returns-in-None-clause-order : goal.returns-in-None-clause-order
 returns-in-None-clause-order c =
     let words = texts c.args.words.now in
-    sym (measured words c.in-Ok.pairs None (given u16_in words c.in-Ok.pairs Values) c.in-Ok.ensures c.in-None.ensures refl)
+    sym (measured words c.in-Ok.pairs None (given u16_in words c.in-Ok.pairs Values) c.in-Ok.ensures.told c.in-None.ensures refl)
 
 pub returns-in_default-clause-order : goal.returns-in_default-clause-order
 returns-in_default-clause-order c =
     let values = given_by _ None u16_in _ c.value.ensures c.in_default.ensures in
-    sym (measured (texts c.args.words.now) c.in-Ok.pairs (Some c.in-Some.job) None c.in-Ok.ensures c.in-Some.ensures values)
+    sym (measured (texts c.args.words.now) c.in-Ok.pairs (Some c.in-Some.job) None c.in-Ok.ensures.told c.in-Some.ensures values)
 
 pub returns-then-values-order-clause-order : goal.returns-then-values-order-clause-order
 returns-then-values-order-clause-order c =
     let words = texts c.args.words.now in
     let values = given_by _ (Some c.in-Some-and_then.values) u16_in _ c.value.ensures c.in-Some-and_then.ensures in
-    sym (measured words c.in-Ok.pairs (Some c.in-Some.job) (Some c.in-Some-and_then.values) c.in-Ok.ensures c.in-Some.ensures values
+    sym (measured words c.in-Ok.pairs (Some c.in-Some.job) (Some c.in-Some-and_then.values) c.in-Ok.ensures.told c.in-Some.ensures values
     ∙ ap (order_unless None (2 * c.in-Ok.pairs + 2)) (one_hdu c.order_of_job-order.result _ _ c.order_of_job-order.ensures c.if-values-order.true))
 
 pub returns-else-values-order-clause-order : goal.returns-else-values-order-clause-order
 returns-else-values-order-clause-order c =
     let words = texts c.args.words.now in
     let values = given_by _ (Some c.in-Some-and_then.values) u16_in _ c.value.ensures c.in-Some-and_then.ensures in
-    sym (measured words c.in-Ok.pairs (Some c.in-Some.job) (Some c.in-Some-and_then.values) c.in-Ok.ensures c.in-Some.ensures values
+    sym (measured words c.in-Ok.pairs (Some c.in-Some.job) (Some c.in-Some-and_then.values) c.in-Ok.ensures.told c.in-Some.ensures values
     ∙ ap (order_unless None (2 * c.in-Ok.pairs + 2)) (two_hdus c.order_of_job-order.result _ _ c.order_of_job-order.ensures c.if-values-order.false))
 
 pub returns-else-values-order-clause-limits : goal.returns-else-values-order-clause-limits

@@ -1,10 +1,9 @@
-use Rattle.std.proofs.Common.{rules, ◌∙◌, ap, sym, subst}
+use Rattle.std.proofs.Common.{◌∙◌, ap, sym, subst}
 use Rattle.std.specs.Prelude.{Ok, Some, None}
 use Rattle.command_line.specs.Lines.{texts}
 use Rattle.detect_top.specs.Words.{HasLimits}
-use Rattle.detect_top.proofs.FewOptions.{few_read}
 use Rattle.detect_top.proofs.Limits.{given_limits}
-use Rattle.detect_top.proofs.Places.{command_there, pairs_there, refused_at, ordered, no_command}
+use Rattle.detect_top.proofs.Places.{command_there, refused_at, ordered, no_command}
 use Rattle.detect_top.proofs.words.read_words.Goals as goal
 
 pub returns-in_default-clause-order : goal.returns-in_default-clause-order
@@ -13,25 +12,13 @@ returns-in_default-clause-order c = sym (no_command (texts c.args.words.now) (sy
 pub pairs_read-requires : goal.pairs_read-requires
 pairs_read-requires c = command_there c.args.words.now c.in-Some.command (sym c.in-Some.ensures)
 
-pub job_for-requires : goal.job_for-requires
-job_for-requires c = pairs_there c.in-Some.command c.args.words.now c.in-Ok.pairs c.in-Ok.ensures
-
-pub order_of_job-requires : goal.order_of_job-requires
-order_of_job-requires c = pairs_there c.in-Some.command c.args.words.now c.in-Ok.pairs c.in-Ok.ensures
-
-pub overflow_mul-result : goal.overflow_mul-result
-overflow_mul-result c = let few = few_read c.in-Some.command (texts c.args.words.now) c.in-Ok.pairs c.in-Ok.ensures.read in search rules
-
-pub overflow_add-result : goal.overflow_add-result
-overflow_add-result c = let few = few_read c.in-Some.command (texts c.args.words.now) c.in-Ok.pairs c.in-Ok.ensures.read in search rules
-
 pub returns-in-Err-clause-order : goal.returns-in-Err-clause-order
-returns-in-Err-clause-order c = sym (refused_at c.in-Some.command (texts c.args.words.now) c.in-Err.usage.word (sym c.in-Some.ensures) c.in-Err.ensures)
+returns-in-Err-clause-order c = sym (refused_at c.in-Some.command (texts c.args.words.now) c.in-Err.usage.word (sym c.in-Some.ensures) c.in-Err.ensures.told)
 
 pub returns-in-Some-job_for-clause-order : goal.returns-in-Some-job_for-clause-order
 returns-in-Some-job_for-clause-order c =
     ap Ok c.order_of_job.ensures
-    ∙ sym (ordered c.in-Some.command (texts c.args.words.now) c.in-Ok.pairs (Some c.in-Some-job_for.job) (sym c.in-Some.ensures) c.in-Ok.ensures
+    ∙ sym (ordered c.in-Some.command (texts c.args.words.now) c.in-Ok.pairs (Some c.in-Some-job_for.job) (sym c.in-Some.ensures) c.in-Ok.ensures.told
     (sym c.in-Some-job_for.ensures))
 
 pub returns-in-Some-job_for-clause-limits : goal.returns-in-Some-job_for-clause-limits
@@ -41,4 +28,4 @@ returns-in-Some-job_for-clause-limits c =
 
 pub returns-in-None-clause-order : goal.returns-in-None-clause-order
 returns-in-None-clause-order c =
-    sym (ordered c.in-Some.command (texts c.args.words.now) c.in-Ok.pairs None (sym c.in-Some.ensures) c.in-Ok.ensures (sym c.in-None.ensures))
+    sym (ordered c.in-Some.command (texts c.args.words.now) c.in-Ok.pairs None (sym c.in-Some.ensures) c.in-Ok.ensures.told (sym c.in-None.ensures))

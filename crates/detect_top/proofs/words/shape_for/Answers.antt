@@ -4,7 +4,7 @@ use Rattle.detect_top.specs.declared.options.Setting.TheVariants.{Height}
 use Rattle.detect_top.specs.Options.{positive_u16_in}
 use Rattle.command_line.specs.Lines.{texts}
 use Rattle.detect_top.specs.Words.{given}
-use Rattle.detect_top.proofs.Given.{given_by}
+use Rattle.detect_top.proofs.Places.{given_by}
 use Rattle.detect_top.proofs.Shapes.{shape_is, shape_by}
 use Rattle.detect_top.proofs.words.shape_for.Goals as goal
 

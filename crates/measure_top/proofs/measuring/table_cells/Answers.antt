@@ -1,8 +1,7 @@
-use Rattle.std.proofs.Common.{◌≡◌, ◌<◌, length, get_or, arith, rules, subst, sym, List, ℕ}
+use Rattle.std.proofs.Common.{◌≡◌, ◌<◌, length, arith, rules, subst, sym, List, ℕ}
 use Rattle.std.specs.Prelude.{slice_index}
 use Rattle.std.proofs.lemmas.Option.{slice_get-get_or}
 use Rattle.catalogue_form.specs.Columns.{measured_cells_in_row}
-use Rattle.measure_top.proofs.PickedRows.{nobody}
 use Rattle.measure_top.proofs.MeasuredRows.{before_rows, rows_more, all_rows, node_read}
 use Rattle.measure_top.proofs.measuring.table_cells.Goals as goal
 
@@ -14,28 +13,27 @@ loop-node-init c = before_rows c.args.tree.now c.args.measures.now c.args.nodes.
 
 pub bounds-node_of-node : goal.bounds-node_of-node
 bounds-node_of-node c =
-    let there = c.requires.there c.loop-node.node-index _ (slice_get-get_or c.args.nodes.now c.loop-node.node-index nobody c.loop-node-test.true) in
-    subst (λ (l : List ℕ). (get_or c.args.nodes.now c.loop-node.node-index nobody).rep < length l) (sym c.node_of-node_of.ensures) there.0
+    let there = c.requires.there c.loop-node.node-index _ (slice_get-get_or c.args.nodes.now c.loop-node.node-index _ c.loop-node-test.true) in
+    subst (λ (l : List ℕ). _ < length l) (sym c.node_of-node_of.ensures) there.0
 
 pub row_cells-cells-requires-clause-node : goal.row_cells-cells-requires-clause-node
 row_cells-cells-requires-clause-node c =
-    let there = c.requires.there c.loop-node.node-index _ (slice_get-get_or c.args.nodes.now c.loop-node.node-index nobody c.loop-node-test.true) in
-    subst (λ (l : List ℕ). slice_index l (get_or c.args.nodes.now c.loop-node.node-index nobody).rep < length c.args.tree.now.rows)
-    (sym c.node_of-node_of.ensures) there.1
+    let there = c.requires.there c.loop-node.node-index _ (slice_get-get_or c.args.nodes.now c.loop-node.node-index _ c.loop-node-test.true) in
+    subst (λ (l : List ℕ). slice_index l _ < length c.args.tree.now.rows) (sym c.node_of-node_of.ensures) there.1
 
 pub row_cells-cells-requires-clause-columns : goal.row_cells-cells-requires-clause-columns
 row_cells-cells-requires-clause-columns c =
-    c.requires.fits c.loop-node.node-index _ (slice_get-get_or c.args.nodes.now c.loop-node.node-index nobody c.loop-node-test.true)
+    c.requires.fits c.loop-node.node-index _ (slice_get-get_or c.args.nodes.now c.loop-node.node-index _ c.loop-node-test.true)
 
 pub loop-node-preserved : goal.loop-node-preserved
 loop-node-preserved c =
     let many : length c.row_cells-cells.result ≡ measured_cells_in_row = search rules in
-    let there = c.requires.there c.loop-node.node-index _ (slice_get-get_or c.args.nodes.now c.loop-node.node-index nobody c.loop-node-test.true) in
-    rows_more c.args.tree.now c.args.measures.now c.args.nodes.now c.loop-node.node-index nobody _ _ c.row_cells-cells.result c.loop-node.invariant
+    let there = c.requires.there c.loop-node.node-index _ (slice_get-get_or c.args.nodes.now c.loop-node.node-index _ c.loop-node-test.true) in
+    rows_more c.args.tree.now c.args.measures.now c.args.nodes.now c.loop-node.node-index _ _ _ c.row_cells-cells.result c.loop-node.invariant
     c.requires.few
     c.loop-node-test.true c.in_ok-add_row.ensures many c.row_cells-cells.ensures.table
     (λ plane values connect one tree_is measures_are.
-    node_read plane values connect c.args.tree.now c.node_of-node_of.result.now (get_or c.args.nodes.now c.loop-node.node-index nobody) c.row_cells-cells.result
+    node_read plane values connect c.args.tree.now c.node_of-node_of.result.now _ c.row_cells-cells.result
     tree_is
     c.node_of-node_of.ensures there.0 (c.row_cells-cells.ensures.exact plane values connect one tree_is measures_are))
 

@@ -1,7 +1,7 @@
 use Rattle.std.proofs.Common.{subst, sym, arith, rules, w64, SFits, to_z, of_z, ℤ, ◌≡◌}
 use Rattle.std.specs.Prelude.{◌≤ℤ◌}
 use Rattle.std.proofs.lemmas.Int.{ints, to_z-of_z}
-use Rattle.measure_top.proofs.PickedRows.{nobody, no_bases, base_more, all_bases}
+use Rattle.measure_top.proofs.PickedRows.{no_bases, base_more, all_bases}
 use Rattle.lemmas.proofs.Exported.{le_trans}
 use Rattle.measure_top.proofs.picking_near.lowest_base.Goals as goal
 
@@ -21,7 +21,7 @@ loop-node-preserved c =
     record {
       level = subst (λ (z : ℤ). z ≤ℤ to_z w64 (of_z w64 c.args.level)) (sym same) (le_trans _ _ _ a before);
       bases =
-          base_more (to_z w64 c.loop-node.lowest-bits) (to_z w64 (of_z w64 c.min-lowest.result)) c.args.nodes.now c.loop-node.node-index nobody
+          base_more (to_z w64 c.loop-node.lowest-bits) (to_z w64 (of_z w64 c.min-lowest.result)) c.args.nodes.now c.loop-node.node-index _
           c.loop-node.invariant.bases
           c.loop-node-test.true (subst (λ (z : ℤ). z ≤ℤ to_z w64 c.loop-node.lowest-bits) (sym same) a)
           (subst (λ (z : ℤ). to_z w64 (of_z w64 c.min-lowest.result) ≤ℤ z) base_is
