@@ -52,7 +52,7 @@ image_at bytes number hdu at plane head end is v = by (checked hdu) refl v
     by_data shape None false c e v =
         let same : at ≡ head = cc in
         let place : at + image_bytes hdu shape ≡ end = cc in
-        let data : image_bytes hdu shape ≡ hdu.data_bytes = all_data bytes number hdu at shape is c in
+        let size : image_bytes hdu shape ≡ hdu.data_bytes = all_data bytes number hdu at shape is c in
         let within : at + image_bytes hdu shape ≤ length bytes = grind (arith, nat_tests) in
         record { is = subst (λ n. find_of bytes number ≡ found hdu n) same is; end_is = omega arith; within = omega arith }
 

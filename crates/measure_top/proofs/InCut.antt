@@ -118,9 +118,9 @@ picked_as r connect h number (n ∷ picked) (node ∷ found) within rows reps lo
 -- what follows for each second member of a pair
 each_second : {X Y : Type 0} (R : X → Y → Type 0) (P : Y → Type 0) (xs : List X) (ys : List Y) → ((x : X) (y : Y) → R x y → P y) → ArePaired R xs ys
     → (k : ℕ) (y : Y) → slice_get ys k ≡ Some y → P y
-each_second R P _ _ so at_end k y at = absurd (cc)
-each_second R P _ _ so (at_more {x} {z} {xs} {ys} pair rest) zero y at = let same : z ≡ y = cc in subst P same (so x z pair)
-each_second R P _ _ so (at_more {x} {z} {xs} {ys} pair rest) (suc k) y at = each_second R P xs ys so rest k y at
+each_second R P _ _ so at_end k z at = absurd (cc)
+each_second R P _ _ so (at_more {x} {y} {xs} {ys} pair rest) zero z at = let same : y ≡ z = cc in subst P same (so x y pair)
+each_second R P _ _ so (at_more {x} {y} {xs} {ys} pair rest) (suc k) z at = each_second R P xs ys so rest k z at
 
 sources_picked : (r : Raster) (connect : Connect) (choice : Choice) (h : ℤ) (found : List PickedNode) → IsPlane r
     → AreNodesOf r connect (sources r connect choice) found → HaveBasesFrom h found

@@ -1,7 +1,7 @@
 -- The rows of a catalogue with measures, put one behind the other.
 use Rattle.std.proofs.Common.{◌≡◌, ◌∙◌, ap, sym, subst, arith, ℕ, ◌+◌, ◌*◌, ◌^◌, ◌<◌, ◌≤◌, List, [], ◌∷◌, ◌++◌, length, take, get_or, append-nil, length-append}
 use Rattle.std.proofs.Common.{ℤ}
-use Rattle.std.specs.Prelude.{Some, slice_get}
+use Rattle.std.specs.Prelude.{Some, slice_get, slice_index}
 use Rattle.std.specs.List.{flat_map}
 use Rattle.std.proofs.lemmas.Grind.{flat_map-append}
 use Rattle.std.proofs.lemmas.List.{take_more, take_all}
@@ -24,7 +24,7 @@ use Rattle.measure_top.specs.declared.picking_near.PickedNode.{PickedNode}
 use Rattle.catalogue_form.specs.Columns.{measured_columns, measured_cells_in_row}
 use Rattle.catalogue_form.proofs.Exported.{no_rows, tables_joined}
 use Rattle.catalogue_form.proofs.Exported.{measured_are_columns}
-use Rattle.measure_top.specs.Picks.{cells_at, all_cells}
+use Rattle.measure_top.specs.Picks.{StandIn, cells_at, all_cells}
 use Rattle.measure_top.proofs.MeasuredTables.{many_columns}
 
 -- these are the cells of the first count of some nodes
@@ -101,6 +101,14 @@ pub cells_are : (row : CatRow) (measure measure' : Measure) (back back' : ℤ) �
 cells_are row measure measure' back back' a b = λ i. measured_cells_of row (a i) (b i)
 
 -- ---- the node of a pixel
+
+-- a node's pixel has a number, which is that of a row
+pub number_there : (tree : ComponentTree) (numbers : List ℕ) (nodes : List PickedNode) (k : ℕ) (d : PickedNode) → StandIn tree nodes
+    → numbers ≡ tree.node_of → k < length nodes
+    → ((get_or nodes k d).rep < length numbers) × (slice_index numbers (get_or nodes k d).rep < length tree.rows)
+number_there tree numbers nodes k d there same within =
+    subst (λ (l : List ℕ). ((get_or nodes k d).rep < length l) × (slice_index l (get_or nodes k d).rep < length tree.rows)) (sym same)
+    (there k (get_or nodes k d) (slice_get-get_or nodes k d within))
 
 -- the number that is read for it is that of its node
 pub node_read : (plane values : Raster) (connect : Connect) (tree : ComponentTree) (numbers : List ℕ) (node : PickedNode) (row : List ℤ)

@@ -1,8 +1,7 @@
-use Rattle.std.proofs.Common.{◌≡◌, ◌<◌, length, arith, rules, subst, sym, List, ℕ}
-use Rattle.std.specs.Prelude.{slice_index}
+use Rattle.std.proofs.Common.{◌≡◌, length, arith, rules, sym}
 use Rattle.std.proofs.lemmas.Option.{slice_get-get_or}
 use Rattle.catalogue_form.specs.Columns.{measured_cells_in_row}
-use Rattle.measure_top.proofs.MeasuredRows.{before_rows, rows_more, all_rows, node_read}
+use Rattle.measure_top.proofs.MeasuredRows.{before_rows, rows_more, all_rows, number_there, node_read}
 use Rattle.measure_top.proofs.measuring.table_cells.Goals as goal
 
 pub overflow_mul-nodes : goal.overflow_mul-nodes
@@ -13,13 +12,13 @@ loop-node-init c = before_rows c.args.tree.now c.args.measures.now c.args.nodes.
 
 pub bounds-node_of-node : goal.bounds-node_of-node
 bounds-node_of-node c =
-    let there = c.requires.there c.loop-node.node-index _ (slice_get-get_or c.args.nodes.now c.loop-node.node-index _ c.loop-node-test.true) in
-    subst (λ (l : List ℕ). _ < length l) (sym c.node_of-node_of.ensures) there.0
+    (number_there c.args.tree.now c.node_of-node_of.result.now c.args.nodes.now c.loop-node.node-index _ c.requires.there c.node_of-node_of.ensures
+    c.loop-node-test.true).0
 
 pub row_cells-cells-requires-clause-node : goal.row_cells-cells-requires-clause-node
 row_cells-cells-requires-clause-node c =
-    let there = c.requires.there c.loop-node.node-index _ (slice_get-get_or c.args.nodes.now c.loop-node.node-index _ c.loop-node-test.true) in
-    subst (λ (l : List ℕ). slice_index l _ < length c.args.tree.now.rows) (sym c.node_of-node_of.ensures) there.1
+    (number_there c.args.tree.now c.node_of-node_of.result.now c.args.nodes.now c.loop-node.node-index _ c.requires.there c.node_of-node_of.ensures
+    c.loop-node-test.true).1
 
 pub row_cells-cells-requires-clause-columns : goal.row_cells-cells-requires-clause-columns
 row_cells-cells-requires-clause-columns c =
