@@ -19,7 +19,7 @@ use Rattle.command_line.proofs.Exported.{text_at, text_in}
 use Rattle.detect_top.specs.Options.{option_name, option_named, is_value, u16_in}
 use Rattle.command_line.specs.Lines.{texts}
 use Rattle.detect_top.specs.Words.{word_at, names, naming, value_given, is_bad_option, is_bad_name, is_bad_value, is_at_fault, first_at_fault, job_given}
-use Rattle.detect_top.specs.Words.{order_for, order_given, order_unless, order_of, command_of, at_fault, given, asks_measure, measure_apart, measure_given}
+use Rattle.detect_top.specs.Words.{order_for, order_unless, order_of, command_of, at_fault, given, asks_measure, measure_apart, measure_given}
 use Rattle.detect_top.specs.Words.{measure_order_of}
 use Rattle.detect_top.specs.Given.{AreRead, AreAllRead, IsFirstFault}
 

@@ -1,9 +1,8 @@
 -- Planes that are cut pixel by pixel; a plane and its cut have the same pixels of at least the level of the cut.
 use Rattle.std.proofs.Common.{◌≡◌, ℕ, ◌+◌, ◌<◌, ◌≤◌, Bool, true, false, cond, length, refl, sym, ◌∙◌, ap, subst, arith, inl, inr}
 use Rattle.std.specs.Prelude.{IsTrue, ℤ, Option, None, is_some, slice_set}
-use Rattle.std.specs.List.{range_with_len}
 use Rattle.std.proofs.lemmas.Bool.{cases_lt, true≢false}
-use Rattle.std.proofs.lemmas.List.{length-map, length-set, get_or-set_same, get_or-set_other}
+use Rattle.std.proofs.lemmas.List.{length-set, get_or-set_same, get_or-set_other}
 use Rattle.std.proofs.lemmas.List.FromFn.{get_or-map-range_with_len, length-map-range_with_len}
 use Rattle.comp_tree.specs.Raster.{Raster, IsPlane, pixels, value_at, at_least, is_defined, is_at_least}
 use Rattle.comp_tree.proofs.Exported.{written_all, AlikeAbove, defined_from_at_least, below_from_defined}

@@ -1,7 +1,7 @@
 -- The nodes that were picked, put one behind the other.
 use Rattle.std.proofs.Common.{◌≡◌, ◌∙◌, ap, sym, subst, refl, arith, ℕ, zero, suc, ◌+◌, ◌<◌, ◌≤◌, List, [], ◌∷◌, ◌++◌, length, map, take, get_or}
 use Rattle.std.proofs.Common.{length-append, ℤ}
-use Rattle.std.specs.Prelude.{Some, slice_get, pos, ◌≤ℤ◌}
+use Rattle.std.specs.Prelude.{Some, slice_get, ◌≤ℤ◌}
 use Rattle.std.specs.List.{enumerate_from}
 use Rattle.std.proofs.lemmas.Int.{ints}
 use Rattle.std.proofs.lemmas.List.{take_more, take_all, map-append, get_or-map}

@@ -1,21 +1,18 @@
 -- The sources of a plane, found in the plane of its pixels near those of at least the threshold.
-use Rattle.std.proofs.Common.{◌≡◌, ◌∙◌, ap, sym, subst, ℕ, ◌^◌, ◌≤◌, List, length, Result, Ok, Err, IfOk, ℤ}
+use Rattle.std.proofs.Common.{◌≡◌, ◌∙◌, ap, sym, subst, ℕ, ◌^◌, ◌≤◌, List, length}
 use Rattle.std.specs.Prelude.{slice_index}
 use Rattle.std.proofs.lemmas.List.{get_or_default}
-use Rattle.comp_tree.specs.declared.shape.Shape.{Shape}
 use Rattle.comp_tree.specs.declared.shape.Connect.{Connect}
 use Rattle.comp_tree.specs.Raster.{Raster, IsPlane}
 use Rattle.comp_tree.specs.ComponentTree.{ComponentTree}
-use Rattle.comp_tree.specs.Components.{tree_of}
 use Rattle.node_sums.specs.Sums.{IsTreeOfPlane}
 use Rattle.source_pick.specs.declared.choice.Choice.{Choice}
 use Rattle.source_pick.specs.Sources.{sources}
 use Rattle.source_pick.specs.Segmentation.{segmentation_of, segmentation}
 use Rattle.source_pick.specs.Catalogue.{catalogue}
-use Rattle.source_pick.specs.Locality.{kept, HaveSameSources}
-use Rattle.source_pick.proofs.Exported.{numbers-length, shape-kept}
+use Rattle.source_pick.specs.Locality.{HaveSameSources}
+use Rattle.source_pick.proofs.Exported.{numbers-length}
 use Rattle.measure_top.specs.declared.picking_near.PickedNode.{PickedNode}
-use Rattle.measure_top.specs.declared.picking_near.Picked.{Picked}
 use Rattle.measure_top.specs.Picks.{AreNodesOf, AreSourcesOf, HaveFittingRows, CanBeListed}
 
 pub are_sources_of : (plane : Raster) (connect : Connect) (choice : Choice) (picked marked listed : List ℕ) (numbers : List ℕ) (found : List PickedNode)

@@ -1,4 +1,4 @@
-use Rattle.std.proofs.Common.{◌∙◌, ◌≤◌, ◌+◌, ◌*◌, sym, arith}
+use Rattle.std.proofs.Common.{◌∙◌, ◌+◌, sym, arith}
 use Rattle.command_line.specs.Lines.{texts}
 use Rattle.detect_top.specs.Words.{names}
 use Rattle.detect_top.proofs.Places.{name_at, up_to_more, first_naming, no_naming}

@@ -1,6 +1,5 @@
 use Rattle.std.proofs.Common.{◌∙◌, ◌+◌, ◌*◌, ap, sym, refl}
 use Rattle.std.specs.Prelude.{Some, None}
-use Rattle.detect_top.specs.declared.options.Command.TheVariants.{Measure}
 use Rattle.detect_top.specs.declared.options.Setting.TheVariants.{Values}
 use Rattle.command_line.specs.Lines.{texts}
 use Rattle.detect_top.specs.Options.{u16_in}

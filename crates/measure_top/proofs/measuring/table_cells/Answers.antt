@@ -1,4 +1,4 @@
-use Rattle.std.proofs.Common.{◌≡◌, length, arith, rules, sym}
+use Rattle.std.proofs.Common.{◌≡◌, length, arith, rules}
 use Rattle.std.proofs.lemmas.Option.{slice_get-get_or}
 use Rattle.catalogue_form.specs.Columns.{measured_cells_in_row}
 use Rattle.measure_top.proofs.MeasuredRows.{before_rows, rows_more, all_rows, number_there, node_read}
