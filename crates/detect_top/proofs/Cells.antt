@@ -77,6 +77,20 @@ row_numbered plane connect picked place d within =
     ∙ ap (λ e. catalogue_row plane connect e.0 e.1) pair
     ∙ ap (λ n. catalogue_row plane connect n (get_or picked place 0)) number
 
+-- so many rows of the catalogue, and one more; and all of them
+pub row_more : (plane : Raster) (connect : Connect) (picked : List ℕ) (count : ℕ) (rows : List CatRow) (row : CatRow)
+    → rows ≡ take count (catalogue_of plane connect picked) → count < length picked → row ≡ catalogue_row plane connect (count + 1) (get_or picked count 0)
+    → rows ++ row ∷ [] ≡ take (count + 1) (catalogue_of plane connect picked)
+row_more plane connect picked count rows row before within is =
+    let all = catalogue_of plane connect picked in
+    ap (λ l. l ++ row ∷ []) before ∙ ap (λ r. take count all ++ r ∷ []) (is ∙ sym (row_numbered plane connect picked count row within))
+    ∙ sym (take_more all count row (omega (arith, within, length-catalogue plane connect picked)))
+
+pub rows_all : (plane : Raster) (connect : Connect) (picked : List ℕ) (count : ℕ) (rows : List CatRow) → rows ≡ take count (catalogue_of plane connect picked)
+    → length picked ≤ count → rows ≡ catalogue_of plane connect picked
+rows_all plane connect picked count rows are whole =
+    are ∙ take_all count (catalogue_of plane connect picked) (omega (arith, whole, length-catalogue plane connect picked))
+
 pub cells_more : (tree : ComponentTree) (sums : List Sums) (picked : List ℕ) (count : ℕ) (items items' : List ℤ) (row : CatRow)
     → AreCells tree sums picked count items → count < length picked
     → items' ≡ items ++ cells_of row → FitsColumns row
@@ -90,10 +104,7 @@ cells_more tree sums picked count items items' row before within more fits is = 
   one_each = length-append before.rows (row ∷ []) ∙ omega (arith, before.one_each);
   fit = all_more (λ (r : CatRow). FitEach catalogue_columns (cells_of r)) before.rows row before.fit (row_fits row fits);
   exact = λ plane connect tree_is sums_are.
-      let all = catalogue_of plane connect picked in
-      ap (λ l. l ++ row ∷ []) (before.exact plane connect tree_is sums_are)
-      ∙ ap (λ r. take count all ++ r ∷ []) (is plane connect tree_is sums_are ∙ sym (row_numbered plane connect picked count row within))
-      ∙ sym (take_more all count row (omega (arith, within, length-catalogue plane connect picked)));
+      row_more plane connect picked count before.rows row (before.exact plane connect tree_is sums_are) within (is plane connect tree_is sums_are);
 }
 
 -- ---- all rows
@@ -103,8 +114,7 @@ pub all_cells : (tree : ComponentTree) (sums : List Sums) (picked : List ℕ) (c
     → (plane : Raster) (connect : Connect) → tree ≡ tree_of plane connect → sums ≡ sums_in plane connect
     → items ≡ flat_map cells_of (catalogue_of plane connect picked)
 all_cells tree sums picked count items are whole plane connect tree_is sums_are =
-    are.made ∙ ap (flat_map cells_of) (are.exact plane connect tree_is sums_are ∙ take_all count (catalogue_of plane connect picked)
-    (omega (arith, whole, length-catalogue plane connect picked)))
+    are.made ∙ ap (flat_map cells_of) (rows_all plane connect picked count are.rows (are.exact plane connect tree_is sums_are) whole)
 
 pub cells_table : (tree : ComponentTree) (sums : List Sums) (picked : List ℕ) (count : ℕ) (items : List ℤ) → AreCells tree sums picked count items
     → count ≤ 2 ^ 24

@@ -10,5 +10,7 @@ pub use Rattle.detect_top.proofs.Ends.{took_one, run_of_end}
 pub use Rattle.detect_top.proofs.AnswerStatus.{by_verdict, status_by_words_and_bytes}
 -- nodes that were picked are few; the columns of 32 and of 64 bits, one before the other; a row that fits its columns fits those of the catalogue
 pub use Rattle.detect_top.proofs.Cells.{few_picked, narrow, wide, row_fits}
+-- the first rows of a catalogue, one row after the other
+pub use Rattle.detect_top.proofs.Cells.{row_more, rows_all}
 -- a primary HDU, a map and a table were put one behind the other
 pub use Rattle.detect_top.proofs.Detections.{all_put}

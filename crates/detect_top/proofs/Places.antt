@@ -30,9 +30,6 @@ text_of words k i d within is =
     let there : i ≡ k - 1 = omega arith in
     text_at words i d within ∙ ap (λ j. get_or (texts words) j []) there
 
-pub past : (i long : ℕ) → false ≡ nat_lt i long → long ≤ i
-past i long h = grind (arith, nat_tests)
-
 -- what word 2 * (n + 1) is compared with
 pub name_at : (words : List (Bor (List ℕ))) (setting : Setting) (n : ℕ) (d : Bor (List ℕ)) (name : List ℕ) (b : Bool) → 2 * n + 1 < length words
     → name ≡ option_name setting → bytes_eq (get_or words (2 * n + 1) d).now name ≡ b → names (texts words) setting (n + 1) ≡ b
@@ -140,7 +137,7 @@ next_is command words n d named read more is = record {
   named_is = ap (option_named command) (sym (text_of words (2 * (n + 1)) (2 * n + 2 - 1) d (omega arith) (omega arith))) ∙ sym is;
 }
 
-name_at_fault : (command : Command) (words : List (Bor (List ℕ))) (n : ℕ) (named : Option Setting) → IsNext command words n named
+pub name_at_fault : (command : Command) (words : List (Bor (List ℕ))) (n : ℕ) (named : Option Setting) → IsNext command words n named
     → is_bad_option (texts words) (n + 1) named ≡ true → IsFirstFault command (texts words) (2 * n + 2)
 name_at_fault command words n named next bad =
     let here : 2 * n + 2 ≡ 2 * (n + 1) = omega arith in
@@ -151,14 +148,6 @@ name_at_fault command words n named next bad =
           ∙ name_by command (texts words) n named next.more next.named_is ∙ bad;
       none_before = λ j l h. none_so_far command (texts words) n next.read j l (omega arith);
     }
-
--- it gives no option, or one that was given before
-pub unnamed : (command : Command) (words : List (Bor (List ℕ))) (n : ℕ) → IsNext command words n None → IsFirstFault command (texts words) (2 * n + 2)
-unnamed command words n next = name_at_fault command words n None next refl
-
-pub named_again : (command : Command) (words : List (Bor (List ℕ))) (n : ℕ) (setting : Setting) → IsNext command words n (Some setting)
-    → is_some (naming (texts words) setting n) ≡ true → IsFirstFault command (texts words) (2 * n + 2)
-named_again command words n setting next known = name_at_fault command words n (Some setting) next (option_by (texts words) n setting ∙ known)
 
 -- a new option, whose value comes next
 pub record IsNew (command : Command) (words : List (Bor (List ℕ))) (n : ℕ) (setting : Setting) : Type 0 where
@@ -183,7 +172,8 @@ value_at_fault command words n setting new bad =
       none_before = λ j l h. none_with_name command (texts words) n new.next.read new.good j l (omega arith);
     }
 
-pub value_missing : (command : Command) (words : List (Bor (List ℕ))) (n : ℕ) → length words ≤ 2 * n + 2 → is_bad_value command (texts words) (n + 1) ≡ true
+pub value_missing : (command : Command) (words : List (Bor (List ℕ))) (n : ℕ) → false ≡ nat_lt (2 * n + 2) (length words)
+    → is_bad_value command (texts words) (n + 1) ≡ true
 unfolding is_bad_value
 value_missing command words n short =
     let there : nat_lt (length (texts words)) (2 * (n + 1) + 1) ≡ true = grind (arith, nat_tests, length-map words (λ (w : Bor (List ℕ)). w.now)) in

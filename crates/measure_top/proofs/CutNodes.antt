@@ -104,32 +104,21 @@ root_in_cut r connect h n m plane plane_cut c e = go (parent_cases (cut r h) con
 
 -- ---- the values around a node
 
-back-root : (values r : Raster) (connect : Connect) (n : ℕ) → parent_of_node r connect n ≡ no_node → back_of values r connect n ≡ pos 0
+back-by : (values r : Raster) (connect : Connect) (n : ℕ) (b : Bool) → is_root (tree_of r connect) n ≡ b
+    → back_of values r connect n ≡ (if b then pos 0 else mean_of (measure_over values (around_node r connect n)))
 unfolding back_of
-back-root values r connect n e =
-    ap (λ (b : Bool). if b then pos 0 else mean_of (measure_over values (around_node r connect n))) (eq-eqb (parent_of_node r connect n) no_node e)
+back-by values r connect n b e = ap (λ (t : Bool). if t then pos 0 else mean_of (measure_over values (around_node r connect n))) e
 
 not_root : (r : Raster) (connect : Connect) (n : ℕ) → IsPlane r → parent_of_node r connect n < length (nodes r connect) → is_root (tree_of r connect) n ≡ false
 not_root r connect n plane l = ne_eqb (parent_of_node r connect n) no_node (below_no_node r connect (parent_of_node r connect n) plane l)
-
-back-child : (values r : Raster) (connect : Connect) (n : ℕ) → is_root (tree_of r connect) n ≡ false
-    → back_of values r connect n ≡ mean_of (measure_over values (around_node r connect n))
-unfolding back_of
-back-child values r connect n e = ap (λ (b : Bool). if b then pos 0 else mean_of (measure_over values (around_node r connect n))) e
-
--- the pixels that one node holds and another doesn't
-abbrev held_around : Raster → Connect → ℕ → ℕ → ℕ → Bool
-held_around r connect k n p = is_in_node r connect k p && not (is_in_node r connect n p)
 
 around_same : (r s : Raster) (connect : Connect) (h : ℤ) (n m k j : ℕ) → AlikeAbove r s h → IsCounterpart r s connect h n m → IsCounterpart r s connect h k j
     → parent_of_node r connect n ≡ k → parent_of_node s connect m ≡ j → around_node r connect n ≡ around_node s connect m
 unfolding around_node
 around_same r s connect h n m k j a c d e f =
-    ap (λ (x : ℕ). filter (held_around r connect x n) (pixels r)) e
-    ∙ ap (λ (g : ℕ → Bool). filter (λ p. g p && not (is_in_node r connect n p)) (pixels r)) (counterpart_test r s connect h k j a d)
-    ∙ ap (λ (g : ℕ → Bool). filter (λ p. is_in_node s connect j p && not (g p)) (pixels r)) (counterpart_test r s connect h n m a c)
-    ∙ ap (filter (held_around s connect j m)) (above_pixels r s h a)
-    ∙ ap (λ (x : ℕ). filter (held_around s connect x m) (pixels s)) (sym f)
+    let parents = ap (is_in_node r connect) e ∙ counterpart_test r s connect h k j a d ∙ ap (is_in_node s connect) (sym f) in
+    let own = counterpart_test r s connect h n m a c in
+    λ i. filter (λ p. parents i p && not (own i p)) (above_pixels r s h a i)
 
 -- ---- a node and the one that the same pixel represents in the cut plane
 
@@ -173,12 +162,14 @@ same_back r values connect h n plane hn l left = go (parent_cases r connect n pl
 
     go : (parent_of_node r connect n ≡ no_node) ⊎ (parent_of_node r connect n < length (nodes r connect))
         → back_of values (cut r h) connect m ≡ back_of values r connect n
-    go (inl e) = back-root values (cut r h) connect m (root_in_cut r connect h n m plane plane_cut c e) ∙ sym (back-root values r connect n e)
+    go (inl e) =
+        back-by values (cut r h) connect m true (eq-eqb (parent_of_node (cut r h) connect m) no_node (root_in_cut r connect h n m plane plane_cut c e))
+        ∙ sym (back-by values r connect n true (eq-eqb (parent_of_node r connect n) no_node e))
     go (inr hk) =
-        back-child values (cut r h) connect m (not_root (cut r h) connect m plane_cut
+        back-by values (cut r h) connect m false (not_root (cut r h) connect m plane_cut
         (subst (λ (x : ℕ). x < length (nodes (cut r h) connect)) (sym there) d.other))
         ∙ ap (λ ps. mean_of (measure_over values ps)) (sym (around_same r (cut r h) connect h n m k j (cut_alike r h) c d refl there))
-        ∙ sym (back-child values r connect n (not_root r connect n plane hk))
+        ∙ sym (back-by values r connect n false (not_root r connect n plane hk))
       where
         k : ℕ
         k = parent_of_node r connect n

@@ -51,10 +51,6 @@ parent_from_base r connect h n low child =
 
 -- ---- one source
 
-row_base : (r : Raster) (connect : Connect) (number n : ℕ) → (catalogue_row r connect number n).base ≡ base_of (tree_of r connect) n
-unfolding catalogue_row measured_row
-row_base r connect number n = refl
-
 -- the node was picked as the source n of the plane with this number, and its base isn't below h
 record IsPickedAs (r : Raster) (connect : Connect) (h : ℤ) (number n : ℕ) (node : PickedNode) : Type 0 where
   within : n < length (nodes r connect)
@@ -64,7 +60,8 @@ record IsPickedAs (r : Raster) (connect : Connect) (h : ℤ) (number n : ℕ) (n
 
 base_low : (r : Raster) (connect : Connect) (h : ℤ) (number n : ℕ) (node : PickedNode) → IsPickedAs r connect h number n node
     → h ≤ℤ base_of (tree_of r connect) n
-base_low r connect h number n node k = subst (λ (z : ℤ). h ≤ℤ z) (ap (λ (row : CatRow). row.base) k.row_is ∙ row_base r connect number n) k.low
+unfolding catalogue_row measured_row
+base_low r connect h number n node k = subst (λ (z : ℤ). h ≤ℤ z) (ap (λ (row : CatRow). row.base) k.row_is) k.low
 
 stands : (r : Raster) (connect : Connect) (h : ℤ) (number n : ℕ) (node : PickedNode) → IsPlane r → IsPickedAs r connect h number n node
     → (node.rep < length r.values) × (node_in_cut r connect h node.rep < length (nodes (cut r h) connect))

@@ -1,6 +1,5 @@
-mod Besides
 mod CutPlanes
-mod Firsts
+mod TwoHdus
 mod InCut
 mod PickedRows
 mod PickedSources
@@ -8,4 +7,3 @@ mod CutNodes
 mod Ended
 mod MeasuredRows
 mod MeasuredSources
-mod MeasuredTables

@@ -1,6 +1,17 @@
--- The rows of a catalogue with measures, put one behind the other.
-use Rattle.std.proofs.Common.{◌≡◌, ◌∙◌, ap, sym, subst, arith, ℕ, ◌+◌, ◌*◌, ◌^◌, ◌<◌, ◌≤◌, List, [], ◌∷◌, ◌++◌, length, take, get_or, append-nil, length-append}
-use Rattle.std.proofs.Common.{ℤ}
+-- The rows of a catalogue with measures: each fits its columns, and they are put one behind the other.
+use Rattle.std.proofs.Common.{◌≡◌, refl, arith, ℕ, ◌^◌, ◌≤◌, List, [], ◌∷◌, ◌++◌, length, ℤ, pos, ◌∙◌, ap, sym, subst, ◌+◌, ◌*◌, ◌<◌, take, get_or, append-nil}
+use Rattle.std.proofs.Common.{length-append}
+use Rattle.std.proofs.lemmas.Int.{ints}
+use Rattle.fits_write.specs.declared.table.Column.{Column}
+use Rattle.fits_write.specs.Columns.{IsTable}
+use Rattle.source_pick.specs.declared.catalogue.CatRow.{CatRow}
+use Rattle.source_pick.specs.Catalogue.{FitsColumn, FitsColumns, cells_of}
+use Rattle.dual_measure.specs.declared.values.Measure.{Measure}
+use Rattle.dual_measure.specs.Measures.{HasMeasureSizes, measure_of, measures_of, back_of, AreTheTreesMeasures}
+use Rattle.dual_measure.specs.Columns.{measured_cells_of}
+use Rattle.catalogue_form.specs.Columns.{catalogue_columns, measured_columns, measured_cells_in_row}
+use Rattle.catalogue_form.proofs.Exported.{FitEach, measured_are_columns, one_row, no_rows, tables_joined}
+use Rattle.detect_top.proofs.Exported.{narrow, wide, row_fits}
 use Rattle.std.specs.Prelude.{Some, slice_get, slice_index}
 use Rattle.std.specs.List.{flat_map}
 use Rattle.std.proofs.lemmas.Grind.{flat_map-append}
@@ -13,19 +24,43 @@ use Rattle.comp_tree.specs.ComponentTree.{ComponentTree}
 use Rattle.comp_tree.specs.Components.{nodes, node_of, tree_of}
 use Rattle.comp_tree.proofs.Exported.{read-node_of}
 use Rattle.node_sums.proofs.Exported.{rows_are}
-use Rattle.fits_write.specs.Columns.{IsTable}
-use Rattle.source_pick.specs.declared.catalogue.CatRow.{CatRow}
 use Rattle.source_pick.proofs.Exported.{numbers-length}
-use Rattle.dual_measure.specs.declared.values.Measure.{Measure}
-use Rattle.dual_measure.specs.Measures.{measure_of, measures_of, back_of, HasMeasureSizes, AreTheTreesMeasures}
 use Rattle.dual_measure.proofs.Exported.{one_for_each}
-use Rattle.dual_measure.specs.Columns.{measured_cells_of}
 use Rattle.measure_top.specs.declared.picking_near.PickedNode.{PickedNode}
-use Rattle.catalogue_form.specs.Columns.{measured_columns, measured_cells_in_row}
-use Rattle.catalogue_form.proofs.Exported.{no_rows, tables_joined}
-use Rattle.catalogue_form.proofs.Exported.{measured_are_columns}
 use Rattle.measure_top.specs.Picks.{StandIn, cells_at, all_cells}
-use Rattle.measure_top.proofs.MeasuredTables.{many_columns}
+
+-- ---- a row that fits its columns
+
+pub many_columns : length measured_columns ≡ measured_cells_in_row
+unfolding measured_columns catalogue_columns
+many_columns = refl
+
+count_fits : (n : ℕ) → n ≤ 2 ^ 24 → FitsColumn (pos n)
+count_fits n few = record { low = omega (arith, ints); high = omega (arith, ints, few) }
+
+-- columns behind others
+fit_behind : (columns behind : List Column) (numbers others : List ℤ) → FitEach columns numbers → FitEach behind others
+    → FitEach (columns ++ behind) (numbers ++ others)
+fit_behind [] behind [] others fit more = more
+fit_behind [] behind (z ∷ numbers) others fit more = absurd fit
+fit_behind (column ∷ columns) behind [] others fit more = absurd fit
+fit_behind (column ∷ columns) behind (z ∷ numbers) others fit more = (fit.0, fit_behind columns behind numbers others fit.1 more)
+
+measured_row_fits : (row : CatRow) (measure : Measure) (back : ℤ) → FitsColumns row → HasMeasureSizes measure
+    → FitEach measured_columns (measured_cells_of row measure back)
+unfolding measured_columns
+measured_row_fits row measure back h sizes =
+    let few = sizes.few in
+    fit_behind catalogue_columns _ (cells_of row) _ (row_fits row h) (narrow (count_fits measure.seen (omega (arith, few)))
+    (narrow (count_fits measure.missing (omega (arith, few))) (wide (wide (wide (wide (wide tt)))))))
+
+-- a row by itself is a table
+pub row_table : (row : CatRow) (measure : Measure) (back : ℤ) → FitsColumns row → HasMeasureSizes measure
+    → IsTable measured_columns (measured_cells_of row measure back)
+row_table row measure back h sizes =
+    one_row measured_columns (measured_cells_of row measure back) measured_are_columns (measured_row_fits row measure back h sizes)
+
+-- ---- rows one behind the other
 
 -- these are the cells of the first count of some nodes
 pub record AreMeasuredRows (tree : ComponentTree) (measures : List Measure) (picked : List PickedNode) (count : ℕ) (items : List ℤ) : Type 0 where

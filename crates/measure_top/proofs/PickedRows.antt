@@ -18,6 +18,7 @@ use Rattle.node_sums.specs.Sums.{sums_in}
 use Rattle.node_sums.proofs.Exported.{rows_are}
 use Rattle.source_pick.specs.declared.catalogue.CatRow.{CatRow}
 use Rattle.source_pick.specs.Catalogue.{catalogue_row, catalogue_of, FitsColumns}
+use Rattle.detect_top.proofs.Exported.{row_more, rows_all}
 use Rattle.measure_top.specs.declared.picking_near.PickedNode.{PickedNode}
 use Rattle.measure_top.specs.Picks.{AreNodesOf, HaveFittingRows, HaveBasesFrom}
 
@@ -38,7 +39,7 @@ pub record AreFirstNodes (tree : ComponentTree) (sums : List Sums) (picked : Lis
   pub many : length nodes ≡ count
   pub fits : HaveFittingRows nodes
   pub rows : (plane : Raster) (connect : Connect) → tree ≡ tree_of plane connect → sums ≡ sums_in plane connect
-      → map (λ n. n.row) nodes ≡ map (λ e. catalogue_row plane connect e.0 e.1) (take count (enumerate_from 1 picked))
+      → map (λ n. n.row) nodes ≡ take count (catalogue_of plane connect picked)
   pub representatives : (plane : Raster) (connect : Connect) → tree ≡ tree_of plane connect
       → map (λ n. n.rep) nodes ≡ map (top_of plane connect) (take count picked)
 
@@ -65,13 +66,8 @@ node_more tree sums picked count nodes nodes' node before within more fits row r
   many = ap (λ (l : List PickedNode). length l) more ∙ length-append nodes (node ∷ []) ∙ ap (λ n. n + 1) before.many;
   fits = subst HaveFittingRows (sym more) (each_more (λ (n : PickedNode). FitsColumns n.row) nodes node before.fits fits);
   rows = λ plane connect is are.
-      ap (map (λ (n : PickedNode). n.row)) more
-      ∙ map-append (λ (n : PickedNode). n.row) nodes (node ∷ [])
-      ∙ ap (λ (l : List CatRow). l ++ node.row ∷ []) (before.rows plane connect is are)
-      ∙ ap (λ (x : CatRow). map (λ (e : ℕ × ℕ). catalogue_row plane connect e.0 e.1) (take count (enumerate_from 1 picked)) ++ x ∷ [])
-      (row plane connect is are)
-      ∙ sym (ap (map (λ (e : ℕ × ℕ). catalogue_row plane connect e.0 e.1)) next ∙ map-append (λ (e : ℕ × ℕ). catalogue_row plane connect e.0 e.1)
-      (take count (enumerate_from 1 picked)) ((count + 1, get_or picked count 0) ∷ []));
+      ap (map (λ (n : PickedNode). n.row)) more ∙ map-append (λ (n : PickedNode). n.row) nodes (node ∷ [])
+      ∙ row_more plane connect picked count (map (λ n. n.row) nodes) node.row (before.rows plane connect is are) within (row plane connect is are);
   representatives = λ plane connect is.
       ap (map (λ (n : PickedNode). n.rep)) more
       ∙ map-append (λ (n : PickedNode). n.rep) nodes (node ∷ [])
@@ -80,23 +76,12 @@ node_more tree sums picked count nodes nodes' node before within more fits row r
       ∙ sym (ap (map (top_of plane connect)) (take_more picked count 0 within) ∙ map-append (top_of plane connect) (take count picked)
       (get_or picked count 0 ∷ []));
 }
-  where
-    pair : get_or (enumerate_from 1 picked) count (0, 0) ≡ (count + 1, get_or picked count 0)
-    pair = get_or-enumerate_from 1 picked count (0, 0) within ∙ ap (λ n. (n, get_or picked count 0)) (omega arith)
-
-    next : take (count + 1) (enumerate_from 1 picked) ≡ take count (enumerate_from 1 picked) ++ (count + 1, get_or picked count 0) ∷ []
-    next =
-        take_more (enumerate_from 1 picked) count (0, 0) (omega (arith, within, length-enumerate_from 1 picked))
-        ∙ ap (λ e. take count (enumerate_from 1 picked) ++ e ∷ []) pair
 
 pub all_nodes : (tree : ComponentTree) (sums : List Sums) (picked : List ℕ) (count : ℕ) (nodes : List PickedNode) → AreFirstNodes tree sums picked count nodes
     → length picked ≤ count
     → (plane : Raster) (connect : Connect) → tree ≡ tree_of plane connect → sums ≡ sums_in plane connect → AreNodesOf plane connect picked nodes
-unfolding catalogue_of
 all_nodes tree sums picked count nodes are whole plane connect is sums_are = record {
-  rows = are.rows plane connect is sums_are
-      ∙ ap (map (λ (e : ℕ × ℕ). catalogue_row plane connect e.0 e.1))
-      (take_all count (enumerate_from 1 picked) (omega (arith, whole, length-enumerate_from 1 picked)));
+  rows = rows_all plane connect picked count (map (λ n. n.row) nodes) (are.rows plane connect is sums_are) whole;
   representatives = are.representatives plane connect is ∙ ap (map (top_of plane connect)) (take_all count picked whole);
 }
 

@@ -1,5 +1,6 @@
 //! Sources of small planes, measured in others.
-ghost use Rattle.std.specs.Prelude.{◌≡◌, IfOk};
+ghost use Rattle.std.specs.Prelude.{◌≡◌, IfOk, IfSome};
+ghost use Rattle.comp_tree.specs.Limits.{IsInHalfRange};
 ghost use Rattle.comp_tree.specs.Raster.{HasValuesInHalfRange};
 ghost use Rattle.detect_top.specs.Words.{HasLimits};
 
@@ -43,18 +44,30 @@ const ORDER: Order = Order {
     flat: false,
 };
 
-// A plane of this shape, whose first pixels are these.
-fn plane_of(alloc: Global, shape: Shape, row: Row) -> Result<Plane, OutOfMemory>
-    ensures shape { IfOk result (λ plane. plane.shape ≡ shape) }
-    ensures storable { IfOk result (λ plane. HasValuesInHalfRange plane.values) }
+// A pixel of a row.
+fn pixel_of(value: i64) -> Option<i64>
+    ensures { IfSome result IsInHalfRange }
 {
-    let mut plane = Plane::blank(alloc, shape)?;
-    for (p, value) in row.iter().enumerate() {
-        if *value > -99 && *value < 99 && p < plane.shape().pixels() as usize {
-            plane.set(p as u32, Some(*value));
-        }
+    if value > -99 && value < 99 {
+        Some(value)
+    } else {
+        None
     }
-    Ok(plane)
+}
+
+// A plane of this shape with these pixels.
+fn plane_of(alloc: Global, shape: Shape, row: Row) -> Result<Option<Plane>, OutOfMemory>
+    ensures { IfOk result (λ made. IfSome made (λ plane. (plane.shape ≡ shape) ×
+        HasValuesInHalfRange plane.values)) }
+{
+    let pixels = [
+        pixel_of(row[0]),
+        pixel_of(row[1]),
+        pixel_of(row[2]),
+        pixel_of(row[3]),
+        pixel_of(row[4]),
+    ];
+    Plane::of(alloc, shape, &pixels)
 }
 
 fn compare<R: Threads + Sync + Abort>(rt: &R, alloc: Global, order: Order, case: Case)
@@ -62,7 +75,9 @@ fn compare<R: Threads + Sync + Abort>(rt: &R, alloc: Global, order: Order, case:
 {
     let shape = Shape::of(5, 1).expect(rt, "a shape");
     let image = plane_of(alloc, shape, case.pixels).expect(rt, "memory");
+    let image = image.expect(rt, "a plane");
     let values = plane_of(alloc, shape, case.values).expect(rt, "memory");
+    let values = values.expect(rt, "a plane");
     let found = measure_sources(rt, alloc, image, values, order, CHOICE, &OpenGate);
     let found = found.expect(rt, "memory");
     assert!(rt; found.shape == shape);

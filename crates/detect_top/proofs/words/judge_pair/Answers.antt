@@ -1,18 +1,19 @@
-use Rattle.std.proofs.Common.{◌∙◌, ◌+◌, ◌*◌, ap, sym, true, false}
+use Rattle.std.proofs.Common.{◌∙◌, ◌+◌, ◌*◌, ap, sym, refl, true, false}
 use Rattle.std.specs.Prelude.{Some, None, is_some}
-use Rattle.detect_top.proofs.Places.{past, next_is, unnamed, named_again, new_is, value_missing, value_by, value_at_fault, pair_read}
+use Rattle.command_line.specs.Lines.{texts}
+use Rattle.detect_top.proofs.Places.{option_by, next_is, name_at_fault, new_is, value_missing, value_by, value_at_fault, pair_read}
 use Rattle.detect_top.proofs.words.judge_pair.Goals as goal
 
 pub returns-in_default : goal.returns-in_default
 returns-in_default c =
-    unnamed c.args.command c.args.words.now c.args.pair
-    (next_is c.args.command c.args.words.now c.args.pair _ None c.requires.read c.requires.more c.in_default.ensures)
+    name_at_fault c.args.command c.args.words.now c.args.pair None
+    (next_is c.args.command c.args.words.now c.args.pair _ None c.requires.read c.requires.more c.in_default.ensures) refl
 
 pub returns-then-is_some : goal.returns-then-is_some
 returns-then-is_some c =
-    named_again c.args.command c.args.words.now c.args.pair c.in-Some.setting
+    name_at_fault c.args.command c.args.words.now c.args.pair (Some c.in-Some.setting)
     (next_is c.args.command c.args.words.now c.args.pair _ (Some c.in-Some.setting) c.requires.read c.requires.more c.in-Some.ensures)
-    (ap is_some (sym c.naming.ensures) ∙ sym c.is_some.ensures ∙ c.if-is_some.true)
+    (option_by (texts c.args.words.now) c.args.pair c.in-Some.setting ∙ ap is_some (sym c.naming.ensures) ∙ sym c.is_some.ensures ∙ c.if-is_some.true)
 
 pub returns-in_default-get : goal.returns-in_default-get
 returns-in_default-get c =
@@ -20,7 +21,7 @@ returns-in_default-get c =
     let new = new_is c.args.command c.args.words.now c.args.pair c.in-Some.setting next
     (ap is_some (sym c.naming.ensures) ∙ sym c.is_some.ensures ∙ c.if-is_some.false) in
     value_at_fault c.args.command c.args.words.now c.args.pair c.in-Some.setting new
-    (value_missing c.args.command c.args.words.now c.args.pair (past (2 * c.args.pair + 2) _ c.in_default-get.ensures.lookup.0))
+    (value_missing c.args.command c.args.words.now c.args.pair c.in_default-get.ensures.lookup.0)
 
 pub returns-then-accepts : goal.returns-then-accepts
 returns-then-accepts c =

@@ -1,6 +1,6 @@
 use Rattle.std.proofs.Common.{sym, ◌∙◌}
 use Rattle.pixel_plane.specs.Images.{checked}
-use Rattle.measure_top.proofs.Besides.{shape_is_same}
+use Rattle.measure_top.proofs.TwoHdus.{shape_is_same}
 use Rattle.measure_top.proofs.images.read_beside.Goals as goal
 
 pub returns-in-Ok-clause-same_shape : goal.returns-in-Ok-clause-same_shape

@@ -2,7 +2,7 @@ use Rattle.std.proofs.Common.{subst, sym}
 use Rattle.pixel_plane.specs.Verdicts.{verdict_on}
 use Rattle.detect_top.specs.Streams.{ImageStopped}
 use Rattle.detect_top.proofs.Exported.{verdict_is, search_stopped}
-use Rattle.measure_top.proofs.Firsts.{first_read}
+use Rattle.measure_top.proofs.TwoHdus.{first_read}
 use Rattle.measure_top.proofs.images.read_first.Goals as goal
 
 pub returns-in-Err-clause-told : goal.returns-in-Err-clause-told

@@ -1,7 +1,7 @@
 use Rattle.std.proofs.Common.{subst, sym}
 use Rattle.measure_top.specs.TwoImages.{verdict_on_two}
 use Rattle.measure_top.specs.TwoReads.{TwoStopped}
-use Rattle.measure_top.proofs.Firsts.{second_stopped, second_read}
+use Rattle.measure_top.proofs.TwoHdus.{second_stopped, second_read}
 use Rattle.measure_top.proofs.images.read_second.Goals as goal
 
 pub returns-in-Err-clause-told : goal.returns-in-Err-clause-told

@@ -1,4 +1,4 @@
-use Rattle.measure_top.proofs.Firsts.{first_stopped}
+use Rattle.measure_top.proofs.TwoHdus.{first_stopped}
 use Rattle.measure_top.proofs.images.read_two.Goals as goal
 
 pub returns-in-Err-clause-told : goal.returns-in-Err-clause-told
