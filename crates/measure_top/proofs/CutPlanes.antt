@@ -49,7 +49,7 @@ cut_all r plane h count c all =
 
 -- ---- the cut plane
 
-length-cut : (r : Raster) (h : ℤ) → length (cut r h).values ≡ length r.values
+pub length-cut : (r : Raster) (h : ℤ) → length (cut r h).values ≡ length r.values
 unfolding cut pixels
 length-cut r h = length-map-range_with_len (λ p. cond (is_at_least r h p) (value_at r.values p) None) 0 (length r.values)
 

@@ -15,18 +15,20 @@ use Rattle.comp_tree.specs.Nesting.{is_root, level_in, level_of_node}
 use Rattle.comp_tree.specs.Laws.{top_of, parent_of_node, parent_in}
 use Rattle.comp_tree.proofs.Exported.{top-defined, below_from_defined, length-rows, length-pixels, read-node_of}
 use Rattle.node_sums.specs.Flux.{base_of}
-use Rattle.node_sums.proofs.Exported.{BaseCase, at_root, at_child, base-case, level-of_node}
+use Rattle.node_sums.proofs.Exported.{BaseCase, at_root, at_child, base-case, level-of_node, rows_are}
 use Rattle.source_pick.specs.declared.choice.Choice.{Choice}
 use Rattle.source_pick.specs.declared.catalogue.CatRow.{CatRow}
 use Rattle.source_pick.specs.Sources.{sources}
 use Rattle.source_pick.specs.Catalogue.{measured_row, catalogue_row, catalogue_of}
-use Rattle.source_pick.proofs.Exported.{source_from_among}
+use Rattle.source_pick.proofs.Exported.{numbers-length, source_from_among}
 use Rattle.dual_measure.specs.Measures.{measure_of, back_of}
 use Rattle.dual_measure.specs.Columns.{measured_cells_of}
 use Rattle.measure_top.specs.declared.picking_near.PickedNode.{PickedNode}
 use Rattle.measure_top.specs.MeasuredCatalogues.{row_with_measure, rows_with_measures}
 use Rattle.measure_top.specs.Cuts.{cut, node_in_cut}
 use Rattle.measure_top.specs.Picks.{AreNodesOf, HaveBasesFrom, StandIn, cells_at, all_cells}
+use Rattle.measure_top.proofs.CutPlanes.{length-cut}
+use Rattle.measure_top.proofs.MeasuredRows.{number_read}
 use Rattle.measure_top.proofs.CutNodes.{cut_is_a_plane, node_there, same_measure, same_back}
 
 -- ---- levels from the base on
@@ -134,22 +136,14 @@ shape-cut r h = refl
 pub sources_stand : (r plane : Raster) (connect : Connect) (choice : Choice) (h : ℤ) (tree : ComponentTree) (found : List PickedNode) → IsPlane r
     → plane ≡ cut r h
     → tree ≡ tree_of plane connect → AreNodesOf r connect (sources r connect choice) found → HaveBasesFrom h found → StandIn tree found
-unfolding tree_of
 sources_stand r plane connect choice h tree found one is tree_is are low k node at =
     let stand = each_second _ (λ (n : PickedNode). (n.rep < length r.values) × (node_in_cut r connect h n.rep < length (nodes (cut r h) connect))) _ found
     (λ e n c. stands r connect h e.0 e.1 n one c) (sources_picked r connect choice h found one are low) k node at in
-    subst (λ (t : ComponentTree). (node.rep < length t.node_of) × (slice_index t.node_of node.rep < length t.rows))
-    (sym (tree_is ∙ ap (λ (p : Raster). tree_of p connect) is)) (
-      omega (arith, stand.0, many),
-      subst (λ m. m < length (tree_of (cut r h) connect).rows) (sym (read-node_of (cut r h) connect node.rep (omega (arith, stand.0, values))))
-          (omega (arith, stand.1, length-rows (cut r h) connect)),
-    )
-  where
-    values : length (cut r h).values ≡ length r.values
-    values = cut_is_a_plane r h one ∙ ap (λ (s : Shape). s.width * s.height) (shape-cut r h) ∙ sym one
-
-    many : length (tree_of (cut r h) connect).node_of ≡ length r.values
-    many = length-map (pixels (cut r h)) (node_of (cut r h) connect) ∙ length-pixels (cut r h) ∙ values
+    let cut_tree = tree_is ∙ ap (λ (p : Raster). tree_of p connect) is in
+    let many = numbers-length (cut r h) connect tree cut_tree in
+    let rows = rows_are (cut r h) connect tree cut_tree in
+    let number = number_read (cut r h) connect tree node.rep cut_tree (omega (arith, stand.0, length-cut r h)) in
+    (omega (arith, stand.0, many, length-cut r h), omega (arith, stand.1, rows, number))
 
 -- and their cells there are those of their rows
 pub sources_measured : (r plane values : Raster) (connect : Connect) (choice : Choice) (h : ℤ) (found : List PickedNode) → IsPlane r → plane ≡ cut r h

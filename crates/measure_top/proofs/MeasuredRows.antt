@@ -137,6 +137,12 @@ cells_are row measure measure' back back' a b = λ i. measured_cells_of row (a i
 
 -- ---- the node of a pixel
 
+-- the number of a pixel's node, as it is read from the tree
+pub number_read : (r : Raster) (connect : Connect) (tree : ComponentTree) (p : ℕ) → tree ≡ tree_of r connect → p < length r.values
+    → slice_index tree.node_of p ≡ node_of r connect p
+unfolding tree_of
+number_read r connect tree p is within = ap (λ (t : ComponentTree). slice_index t.node_of p) is ∙ read-node_of r connect p within
+
 -- a node's pixel has a number, which is that of a row
 pub number_there : (tree : ComponentTree) (numbers : List ℕ) (nodes : List PickedNode) (k : ℕ) (d : PickedNode) → StandIn tree nodes
     → numbers ≡ tree.node_of → k < length nodes
@@ -151,12 +157,9 @@ pub node_read : (plane values : Raster) (connect : Connect) (tree : ComponentTre
     → node.rep < length tree.node_of
     → row ≡ measured_cells_of node.row (measure_of values plane connect (get_or numbers node.rep 0)) (back_of values plane connect (get_or numbers node.rep 0))
     → row ≡ cells_at plane values connect node
-unfolding cells_at tree_of
+unfolding cells_at
 node_read plane values connect tree numbers node row is same within cells =
-    cells ∙ ap (λ m. measured_cells_of node.row (measure_of values plane connect m) (back_of values plane connect m)) read
-  where
-    inside : node.rep < length plane.values
-    inside = omega (arith, within, numbers-length plane connect tree is)
-
-    read : get_or numbers node.rep 0 ≡ node_of plane connect node.rep
-    read = ap (λ (l : List ℕ). get_or l node.rep 0) (same ∙ ap (λ (t : ComponentTree). t.node_of) is) ∙ read-node_of plane connect node.rep inside
+    let inside : node.rep < length plane.values = omega (arith, within, numbers-length plane connect tree is) in
+    cells
+    ∙ ap (λ m. measured_cells_of node.row (measure_of values plane connect m) (back_of values plane connect m))
+    (ap (λ (l : List ℕ). get_or l node.rep 0) same ∙ number_read plane connect tree node.rep is inside)

@@ -23,7 +23,7 @@ use Rattle.pixel_plane.specs.Reading.{image_bytes}
 use Rattle.pixel_plane.specs.Stored.{first_out_of_range}
 use Rattle.pixel_plane.specs.Verdicts.{image, truncated, image_unless, verdict_on, verdict_on_hdu, verdict_on_found, Verdict, unfound, unreadable, out_of_range}
 use Rattle.detect_top.specs.Faults.{stop_at_hdu}
-use Rattle.detect_top.proofs.Exported.{verdict_is}
+use Rattle.detect_top.proofs.Exported.{verdict_is, stopped_as}
 use Rattle.lemmas.proofs.Exported.{both_true}
 use Rattle.measure_top.specs.TwoImages.{TwoVerdict, shape_found, header_shape, is_other_shape, verdict_beside, combined_verdict, verdict_on_two, taken_for_two}
 use Rattle.measure_top.specs.TwoImages.{stop_of_two, memory_at_two}
@@ -55,10 +55,6 @@ shape_is_same s t check h is = same_shapes s t (subst (λ r. is_other_shape s (r
 
 -- The later HDU isn't found.
 
--- the verdict, by what is found as the later HDU
-abbrev beside_found : List ℕ → Raster → ℕ → ℕ → Found → TwoVerdict
-beside_found bytes first head end search = verdict_beside first head end (verdict_on_found bytes search) (shape_found search)
-
 header_shape_is : (bytes : List ℕ) (number : ℕ) (search : Found) → find_of bytes number ≡ search → header_shape bytes number ≡ shape_found search
 unfolding header_shape
 header_shape_is bytes number search is = ap shape_found is
@@ -71,14 +67,6 @@ two_is bytes at number first head end search earlier is =
     ap (λ v. combined_verdict v (verdict_on bytes number) (header_shape bytes number)) earlier
     ∙ ap (λ v. verdict_beside first head end v (header_shape bytes number)) (verdict_is bytes number search is)
     ∙ ap (verdict_beside first head end (verdict_on_found bytes search)) (header_shape_is bytes number search is)
-
-refused_beside : (bytes : List ℕ) (first : Raster) (head end : ℕ) (left : Option (List ℕ)) (search : Found) (fault : HduFault) → (taken : ℕ)
-    × (search ≡ refused fault taken) × Takes bytes left taken
-    → (stop_of_two (beside_found bytes first head end search) ≡ Some (stop_at_hdu (Fault fault)))
-    × Takes bytes left (taken_for_two (beside_found bytes first head end search))
-refused_beside bytes first head end left search fault (taken, is, takes) =
-    let same = ap (beside_found bytes first head end) is in
-    (ap stop_of_two same, subst (Takes bytes left) (sym (ap taken_for_two same)) takes)
 
 most_unless : (bytes : List ℕ) (hdu : Hdu) (first : Raster) (head end head' n : ℕ) (shape : Shape) (pixel : Option ℕ) (other : Bool) → n ≤ head'
     → is_other_shape first.shape (Some shape) ≡ other
@@ -110,9 +98,10 @@ search_most bytes first head end n (refused fault taken) few within = few
 
 pub search_beside : (bytes : List ℕ) (first : Raster) (head end : ℕ) (left : Option (List ℕ)) (search : Found) (stop : HduStop) → Stopped search bytes left stop
     → TwoStopped (verdict_beside first head end (verdict_on_found bytes search) (shape_found search)) bytes left (stop_at_hdu stop)
-search_beside bytes first head end left search (Fault fault) h = refused_beside bytes first head end left search fault h
-search_beside bytes first head end left search ReadFault lost =
-    record { count = lost.count; few = search_most bytes first head end lost.count search lost.few lost.takes.within; takes = lost.takes }
+search_beside bytes first head end left search stop h =
+    stopped_as bytes left search stop (λ s. stop_of_two (verdict_beside first head end (verdict_on_found bytes s) (shape_found s)))
+    (λ s. taken_for_two (verdict_beside first head end (verdict_on_found bytes s) (shape_found s))) _ (λ fault n. (refl, refl))
+    (λ n few within. search_most bytes first head end n search few within) h
 
 -- the HDU with this number was found, and its data end at the image's end
 record IsAt (bytes : List ℕ) (number : ℕ) (hdu : Hdu) (head end : ℕ) : Type 0 where

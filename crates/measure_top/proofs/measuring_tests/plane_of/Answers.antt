@@ -1,6 +1,7 @@
-use Rattle.std.proofs.Common.{◌≡◌, ℕ, zero, suc, List, [], ◌∷◌, ap, subst, sym, ℤ, Option, Some, None, IfSome, slice_get}
+use Rattle.std.proofs.Common.{◌≡◌, ℕ, zero, suc, List, [], ◌∷◌, refl, subst, sym, ℤ, Option, Some, None, IfSome, slice_get}
 use Rattle.std.specs.List.{AllByRecursion}
 use Rattle.std.proofs.lemmas.Option.{cond_some}
+use Rattle.std.proofs.lemmas.Result.{IfOk-weaker}
 use Rattle.comp_tree.specs.declared.shape.Shape.{Shape}
 use Rattle.comp_tree.specs.Limits.{IsInHalfRange}
 use Rattle.comp_tree.specs.Raster.{Raster, HasValuesInHalfRange, raster_of}
@@ -18,9 +19,9 @@ made_of : (shape : Shape) (values : List (Option ℤ)) (made : Option Raster) �
 unfolding raster_of
 made_of shape values None all is = tt
 made_of shape values (Some plane) all is =
-    let same = (cond_some _ _ _ (sym is)).1 in
-    (sym (ap (λ (r : Raster). r.shape) same),
-      subst (λ (l : List (Option ℤ)). HasValuesInHalfRange l) (ap (λ (r : Raster). r.values) same) (record { each = each_of values all }))
+    subst (λ (r : Raster). (r.shape ≡ shape) × HasValuesInHalfRange r.values) (cond_some _ _ _ (sym is)).1 (refl, record { each = each_of values all })
 
 pub returns : goal.returns
-returns c = ?
+returns c =
+    IfOk-weaker c.of.result _ _ (λ made is. made_of c.args.shape _ made
+    (c.pixel_of.ensures, (c.pixel_of-2.ensures, (c.pixel_of-3.ensures, (c.pixel_of-4.ensures, (c.pixel_of-5.ensures, tt))))) is) c.of.ensures
