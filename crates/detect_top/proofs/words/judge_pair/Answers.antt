@@ -1,4 +1,4 @@
-use Rattle.std.proofs.Common.{◌∙◌, ◌+◌, ◌*◌, ap, sym, refl, true, false}
+use Rattle.std.proofs.Common.{◌∙◌, ap, sym, refl, true, false}
 use Rattle.std.specs.Prelude.{Some, None, is_some}
 use Rattle.command_line.specs.Lines.{texts}
 use Rattle.detect_top.proofs.Places.{option_by, next_is, name_at_fault, new_is, value_missing, value_by, value_at_fault, pair_read}
