@@ -2,6 +2,7 @@
 ghost use Rattle.std.specs.Prelude.{◌≡◌, ◌≤◌, ◌<◌, ◌+◌, ◌*◌, ℕ, IfOk, IfSome, IsTrue, MatchResult, length, is_some};
 ghost use Rattle.std.specs.Option.{option_map};
 ghost use Rattle.command_line.specs.Lines.{texts};
+ghost use Rattle.detect_top.specs.Options.{settings};
 ghost use Rattle.detect_top.specs.Words.{order_of, measure_order_of, asks_measure, HasLimits, IsMeasureOrder, command_of, naming as naming_of, value_given, criterion_given, choice_given, job_given, order_for, order_given, shape_given};
 ghost use Rattle.detect_top.specs.Given.{AreRead, AreAllRead, IsFirstFault};
 
@@ -96,7 +97,7 @@ fn value<'a>(words: &[&'a str], setting: Setting, pairs: u32) -> Option<&'a str>
 // Judges the name and the value of one option more. The name is word 2 * pair + 2.
 fn judge_pair(command: Command, words: &[&str], pair: u32) -> Result<(), Usage>
     requires read { AreRead command (texts words.now) pair }
-    requires few { pair ≤ 17 }
+    requires few { pair ≤ length settings }
     requires more { 2 * pair + 1 < length words.now }
     ensures { MatchResult result
         (λ _. AreRead command (texts words.now) (pair + 1))
@@ -240,7 +241,7 @@ fn pairs_read(command: Command, words: &[&str]) -> Result<u32, Usage>
     ensures told { MatchResult result
         (λ pairs. AreAllRead command (texts words.now) pairs)
         (λ usage. IsFirstFault command (texts words.now) usage.word) }
-    ensures few { IfOk result (λ pairs. pairs ≤ 17) }
+    ensures few { IfOk result (λ pairs. pairs ≤ length settings) }
     ensures there { IfOk result (λ pairs. 2 * pairs + 1 ≤ length words.now) }
 {
     let mut pairs = 0;

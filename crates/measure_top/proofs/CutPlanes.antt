@@ -63,14 +63,9 @@ value-cut r h p l = get_or-map-range_with_len (λ q. cond (is_at_least r h q) (v
 
 -- a pixel that is left has at least the level
 high_in_whole : (r : Raster) (h : ℤ) (p : ℕ) → IsTrue (is_defined (cut r h) p) → IsTrue (is_at_least r h p)
-high_in_whole r h p d = go (is_at_least r h p) (subst (λ (v : Option ℤ). is_some v ≡ true) (value-cut r h p below) d)
+high_in_whole r h p d =
+    go (is_at_least r h p) (subst (λ (v : Option ℤ). is_some v ≡ true) (value-cut r h p (omega (arith, length-cut r h, below_from_defined (cut r h) p d))) d)
   where
-    inside : p < length (cut r h).values
-    inside = below_from_defined (cut r h) p d
-
-    below : p < length r.values
-    below = omega (arith, length-cut r h, inside)
-
     go : (b : Bool) → is_some (cond b (value_at r.values p) None) ≡ true → b ≡ true
     go true m = refl
     go false m = absurd (true≢false (sym m))

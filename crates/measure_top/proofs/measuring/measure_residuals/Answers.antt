@@ -1,7 +1,6 @@
-use Rattle.std.proofs.Common.{◌≡◌, ◌∙◌, ◌*◌, ap, subst, sym, rules, ℤ, w64, SFits}
+use Rattle.std.proofs.Common.{◌∙◌, ◌*◌, ap, subst, subst₂, sym, rules, w64, SFits}
 use Rattle.std.proofs.lemmas.Int.{to_z-of_z}
 use Rattle.comp_tree.specs.declared.shape.Shape.{Shape}
-use Rattle.measure_top.specs.Cuts.{cut}
 use Rattle.measure_top.specs.Picks.{HaveFittingRows, HaveBasesFrom, StandIn, all_cells}
 use Rattle.measure_top.proofs.InCut.{sources_stand, plane-cut}
 use Rattle.measure_top.proofs.MeasuredSources.{can_be_put, are_sources, cut_tree, cut_tree_shape}
@@ -21,13 +20,11 @@ pub cells_in_tree-requires-clause-there : goal.cells_in_tree-requires-clause-the
 cells_in_tree-requires-clause-there g c =
     let one = c.shape-shape.ensures.pixels ∙ ap (λ (s : Shape). s.width * s.height) c.shape-shape.ensures.same in
     let level : SFits w64 c.lowest_base.result = search rules in
-    let is : c.cut_below.new.plane ≡ cut c.args.plane c.lowest_base.result =
-    subst (λ (h : ℤ). c.cut_below.new.plane ≡ cut c.args.plane h) (to_z-of_z w64 c.lowest_base.result level) c.cut_below.ensures in
-    let low = subst (HaveBasesFrom c.lowest_base.result) c.deref.ensures.value c.lowest_base.ensures.bases in
+    let low =
+    subst₂ (λ h nodes. HaveBasesFrom h nodes) (sym (to_z-of_z w64 c.lowest_base.result level)) c.deref.ensures.value c.lowest_base.ensures.bases in
     subst (StandIn c.in_ok-tree.tree) (sym c.deref-2.ensures.value)
-    (sources_stand c.args.plane c.cut_below.new.plane c.args.order.connect c.args.choice.now c.lowest_base.result c.in_ok-tree.tree
-    c.in_ok-picked.picked.nodes.items one is
-    c.in_ok-tree.ensures c.in_ok-picked.ensures.exact.nodes_are low)
+    (sources_stand c.args.plane c.cut_below.new.plane c.args.order.connect c.args.choice.now _ c.in_ok-tree.tree c.in_ok-picked.picked.nodes.items one
+    c.cut_below.ensures c.in_ok-tree.ensures c.in_ok-picked.ensures.exact.nodes_are low)
 
 pub cells_in_tree-requires-clause-fits : goal.cells_in_tree-requires-clause-fits
 cells_in_tree-requires-clause-fits g c = subst HaveFittingRows (sym c.deref-2.ensures.value) c.in_ok-picked.ensures.listed.fits
@@ -41,11 +38,9 @@ pub returns-clause-bytes : goal.returns-clause-bytes
 returns-clause-bytes g c =
     let one = c.shape-shape.ensures.pixels ∙ ap (λ (s : Shape). s.width * s.height) c.shape-shape.ensures.same in
     let level : SFits w64 c.lowest_base.result = search rules in
-    let is : c.cut_below.new.plane ≡ cut c.args.plane c.lowest_base.result =
-    subst (λ (h : ℤ). c.cut_below.new.plane ≡ cut c.args.plane h) (to_z-of_z w64 c.lowest_base.result level) c.cut_below.ensures in
-    let low = subst (HaveBasesFrom c.lowest_base.result) c.deref.ensures.value c.lowest_base.ensures.bases in
-    are_sources c.args.plane c.cut_below.new.plane c.args.values.now c.args.order.connect c.args.choice.now c.shape-shape.result c.lowest_base.result _
-    c.in_ok-picked.picked.nodes.items _ one c.shape-shape.ensures.same c.in_ok-picked.ensures.exact is low
-    (c.in_ok-cells.ensures.exact c.cut_below.new.plane c.args.order.connect (plane-cut c.args.plane c.cut_below.new.plane c.lowest_base.result one is)
-    c.in_ok-tree.ensures
-    ∙ ap (all_cells c.cut_below.new.plane c.args.values.now c.args.order.connect) c.deref-2.ensures.value)
+    let low =
+    subst₂ (λ h nodes. HaveBasesFrom h nodes) (sym (to_z-of_z w64 c.lowest_base.result level)) c.deref.ensures.value c.lowest_base.ensures.bases in
+    are_sources c.args.plane c.cut_below.new.plane c.args.values.now c.args.order.connect c.args.choice.now c.shape-shape.result _ _
+    c.in_ok-picked.picked.nodes.items _ one c.shape-shape.ensures.same c.in_ok-picked.ensures.exact c.cut_below.ensures low
+    (c.in_ok-cells.ensures.exact c.cut_below.new.plane c.args.order.connect (plane-cut c.args.plane c.cut_below.new.plane _ one c.cut_below.ensures)
+    c.in_ok-tree.ensures ∙ ap (all_cells c.cut_below.new.plane c.args.values.now c.args.order.connect) c.deref-2.ensures.value)
