@@ -3,7 +3,7 @@ use Rattle.std.proofs.Common.{◌≡◌, ℕ, ◌<◌, Bool, true, false, ◌&&�
 use Rattle.std.specs.Prelude.{IsTrue, ℤ, pos, ◌≤ℤ◌, int_le, int_lt, filter, if◌then◌else◌}
 use Rattle.std.proofs.lemmas.Bool.{eq-eqb, ne_eqb}
 use Rattle.comp_tree.specs.declared.shape.Connect.{Connect}
-use Rattle.comp_tree.specs.Raster.{Raster, IsPlane, pixels, level, is_at_least}
+use Rattle.comp_tree.specs.Raster.{Raster, IsPlane, level, is_at_least}
 use Rattle.comp_tree.specs.ComponentTree.{no_node}
 use Rattle.comp_tree.specs.Components.{reaches, nodes, node_of, is_candidate, is_in_node, tree_of}
 use Rattle.comp_tree.specs.Nesting.{is_root, level_of_node}

@@ -1,19 +1,17 @@
 -- The sources of a plane in the plane that is cut at the lowest of their bases: they are its nodes too, with the same cells.
-use Rattle.std.proofs.Common.{◌≡◌, ◌∙◌, ap, sym, subst, refl, arith, ℕ, zero, suc, ◌+◌, ◌*◌, ◌<◌, Bool, false, cond, List, [], ◌∷◌, length, map}
+use Rattle.std.proofs.Common.{◌≡◌, ◌∙◌, ap, sym, subst, refl, arith, ℕ, zero, suc, ◌+◌, ◌<◌, Bool, false, cond, List, [], ◌∷◌, length, map}
 use Rattle.std.proofs.Common.{inl, inr}
-use Rattle.std.specs.Prelude.{ℤ, ◌≤ℤ◌, Some, slice_get, slice_index}
+use Rattle.std.specs.Prelude.{ℤ, ◌≤ℤ◌, Some, slice_get}
 use Rattle.std.specs.List.{enumerate_from}
 use Rattle.std.proofs.lemmas.Int.{ints}
-use Rattle.std.proofs.lemmas.List.{length-map}
 use Rattle.lemmas.proofs.Exported.{IsAmong, ArePaired, at_end, at_more, paired_flat_map}
 use Rattle.comp_tree.specs.declared.shape.Connect.{Connect}
-use Rattle.comp_tree.specs.declared.shape.Shape.{Shape}
-use Rattle.comp_tree.specs.Raster.{Raster, IsPlane, level, pixels}
+use Rattle.comp_tree.specs.Raster.{Raster, IsPlane, level}
 use Rattle.comp_tree.specs.ComponentTree.{ComponentTree}
 use Rattle.comp_tree.specs.Components.{nodes, node_of, tree_of}
 use Rattle.comp_tree.specs.Nesting.{is_root, level_in, level_of_node}
 use Rattle.comp_tree.specs.Laws.{top_of, parent_of_node, parent_in}
-use Rattle.comp_tree.proofs.Exported.{top-defined, below_from_defined, length-rows, length-pixels, read-node_of}
+use Rattle.comp_tree.proofs.Exported.{top-defined, below_from_defined}
 use Rattle.node_sums.specs.Flux.{base_of}
 use Rattle.node_sums.proofs.Exported.{BaseCase, at_root, at_child, base-case, level-of_node, rows_are}
 use Rattle.source_pick.specs.declared.choice.Choice.{Choice}

@@ -11,9 +11,8 @@ use Rattle.comp_tree.specs.Raster.{Raster}
 use Rattle.comp_tree.specs.Shapes.{shape_of}
 use Rattle.comp_tree.proofs.Exported.{shape_of_sides}
 use Rattle.fits_hdu.specs.declared.answer.Hdu.{Hdu}
-use Rattle.fits_hdu.specs.declared.fault.HduFault.{HduFault}
 use Rattle.fits_hdu.specs.declared.fault.HduStop.{HduStop}
-use Rattle.fits_hdu.specs.declared.fault.HduStop.TheVariants.{Fault, ReadFault}
+use Rattle.fits_hdu.specs.declared.fault.HduStop.TheVariants.{ReadFault}
 use Rattle.fits_hdu.specs.Headers.{Found, found, refused}
 use Rattle.fits_hdu.specs.Finding.{find_of, taken_by, find_after_of}
 use Rattle.fits_hdu.specs.Streams.{Stopped, Finds}
