@@ -5,7 +5,7 @@ use Rattle.comp_tree.specs.declared.tree.NodeRow.{NodeRow}
 use Rattle.comp_tree.specs.Raster.{Raster, IsPlane, HasValuesInRange}
 use Rattle.comp_tree.specs.ComponentTree.{ComponentTree, no_node}
 use Rattle.node_sums.specs.declared.outline.Outline.{Outline}
-use Rattle.node_sums.specs.Outlines.{outlines_in, AreOutlinesOfPlane, AreOutlinesOfTree}
+use Rattle.node_sums.specs.Outlines.{AreOutlinesOfPlane, AreOutlinesOfTree}
 use Rattle.node_sums.proofs.Exported.{numbers_for_pixels}
 use Rattle.filter_rules.specs.Passes.{HasRisingLevels, AreValues, flag, filled_pixel}
 use Rattle.filter_rules.proofs.Boxes.{trees_rise}
