@@ -179,7 +179,7 @@ fn outlines_of_a_small_plane(rt: HostRuntime) -> Result<(), Fail> {
             ymax: 2,
         },
     ];
-    assert!(rt; found.as_slice() == expected);
+    assert!(rt; found.as_slice() == expected.as_slice());
     assert!(rt; tree.rows().len() == 3);
     assert_eq!(rt; flux_by_outlines(&tree, &found, 1), 9);
     Ok(())
