@@ -71,7 +71,8 @@ outline_is r connect outlines n d e h =
     ∙ get_or-map outline_of (sums_in r connect) n (sums_of r connect n) d (omega (arith, length-sums_in r connect))
     ∙ ap outline_of (get_or-map-range_with_len (sums_of r connect) 0 (length (nodes r connect)) n n (sums_of r connect n) h (omega arith))
 
-rows_of : (tree : ComponentTree) (outlines : List Outline) → (t : AreOutlinesOfTree tree outlines) → length tree.rows ≡ length (nodes t.plane t.of_plane.connect)
+rows_of : (tree : ComponentTree) (outlines : List Outline) → (t : AreOutlinesOfTree tree outlines)
+    → length tree.rows ≡ length (nodes t.plane t.of_plane.connect)
 rows_of tree outlines t = ap (λ (x : ComponentTree). length x.rows) t.of_plane.tree_is ∙ length-rows t.plane t.of_plane.connect
 
 pub trees_box : (tree : ComponentTree) (outlines : List Outline) (n : ℕ) (d : Outline) → AreOutlinesOfTree tree outlines → n < length tree.rows

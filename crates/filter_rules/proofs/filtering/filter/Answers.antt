@@ -58,7 +58,8 @@ returns c =
     c.fill.ensures.shape c.fill.ensures.values (λ left s v connect e f.
     made_is_filtered c.args.plane.now left connect c.args.tree.now c.args.rule c.args.criterion.now c.deref-2.result.now c.deref-3.result.now plane (record {
       tree_is = e;
-      flags = λ n h. ap (λ (flags : List Bool). flag flags n) c.deref-2.ensures.value ∙ c.in_ok-kept.ensures.kept c.args.plane.now connect e (c.deref.ensures.value ∙ f) plane n h;
+      flags = λ n h. ap (λ (flags : List Bool). flag flags n) c.deref-2.ensures.value
+          ∙ c.in_ok-kept.ensures.kept c.args.plane.now connect e (c.deref.ensures.value ∙ f) plane n h;
       one_each = ap length c.deref-3.ensures.value ∙ c.in_ok-values.ensures.one_each ∙ ap length c.rows.ensures;
       made = subst (λ (values : List ℤ). AreValues c.args.tree.now.rows c.args.rule c.deref-2.result.now values) (sym c.deref-3.ensures.value)
           (subst (λ (rows : List NodeRow). AreValues rows c.args.rule c.deref-2.result.now c.in_ok-values.values.items) c.rows.ensures
