@@ -1,5 +1,6 @@
 -- No option is named twice, so no more pairs are read than there are options.
-use Rattle.std.proofs.Common.{◌≡◌, ◌∙◌, ℕ, zero, suc, ◌+◌, ◌*◌, ◌<◌, ◌≤◌, ◌||◌, Bool, true, false, cond, List, [], ◌∷◌, length, inl, inr, refl, sym, ap, subst, arith}
+use Rattle.std.proofs.Common.{◌≡◌, ◌∙◌, ℕ, zero, suc, ◌+◌, ◌*◌, ◌<◌, ◌≤◌, ◌||◌, Bool, true, false, cond, List, [], ◌∷◌, length, inl, inr, refl, sym, ap}
+use Rattle.std.proofs.Common.{subst, arith}
 use Rattle.std.specs.Prelude.{Option, Some, None, find, is_some, count_by}
 use Rattle.std.specs.List.{range_with_len}
 use Rattle.std.specs.Str.{bytes_eq}
@@ -27,7 +28,8 @@ found_more test a zero = let same : a + 0 ≡ a = omega arith in rw same (by (te
 found_more test a (suc n) = by (test a) (let same : a + 1 + n ≡ a + suc n = omega arith in rw (← same) (found_more test (a + 1) n))
   where
     by : (b : Bool) → is_some (find test (range_with_len (a + 1) (suc n))) ≡ (is_some (find test (range_with_len (a + 1) n)) || test (a + suc n))
-        → is_some (cond b (Some a) (find test (range_with_len (a + 1) (suc n)))) ≡ (is_some (cond b (Some a) (find test (range_with_len (a + 1) n))) || test (a + suc n))
+        → is_some (cond b (Some a) (find test (range_with_len (a + 1) (suc n))))
+        ≡ (is_some (cond b (Some a) (find test (range_with_len (a + 1) n))) || test (a + suc n))
     by true rest = refl
     by false rest = rest
 

@@ -18,7 +18,8 @@ pub shape_is : (width height : ℕ) (result : Option Shape) → (IsSome result �
     → IfSome result (λ s. (s.width ≡ width) × (s.height ≡ height)) → result ≡ shape_of width height
 unfolding shape_of
 shape_is width height (Some s) accepted sides = sym (shape_of_sides width height s sides.0 sides.1)
-shape_is width height None accepted sides = none_if width height (fits_limits width height) (limits_from width height) (λ limits. let some = accepted.1 limits in absurd (cc))
+shape_is width height None accepted sides =
+    none_if width height (fits_limits width height) (limits_from width height) (λ limits. let some = accepted.1 limits in absurd (cc))
 
 pub shape_by : (words : List (List ℕ)) (n : ℕ) (width height : Option ℕ) → width ≡ given positive_u16_in words n Width
     → height ≡ given positive_u16_in words n Height

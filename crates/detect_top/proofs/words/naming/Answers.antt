@@ -9,8 +9,8 @@ returns-then-eq c =
     let here =
     name_at c.args.words.now c.args.setting c.loop-before.before _ c.name-name.result.now _ (omega (arith, c.requires, c.loop-before-test.true))
     c.name-name.ensures (sym c.eq.ensures ∙ c.if-eq.true) in
-    sym (first_naming (texts c.args.words.now) c.args.setting c.args.pairs (c.loop-before.before + 1) (omega arith) (omega (arith, c.loop-before-test.true)) here
-    (λ j low high. c.loop-before.invariant j low (omega arith)))
+    sym (first_naming (texts c.args.words.now) c.args.setting c.args.pairs (c.loop-before.before + 1) (omega arith) (omega (arith, c.loop-before-test.true))
+    here (λ j low high. c.loop-before.invariant j low (omega arith)))
 
 pub loop-before-preserved : goal.loop-before-preserved
 loop-before-preserved c =
