@@ -7,6 +7,9 @@ mod Counting
 mod Retiring
 mod Seeing
 mod Looking
+mod Masks
+mod Edges
+mod Rounds
 mod Flooded
 mod Working
 mod Numbering
