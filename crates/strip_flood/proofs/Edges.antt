@@ -1,17 +1,16 @@
 -- The directions from a pixel that stay in the strip.
-use Rattle.std.proofs.Common.{◌≡◌, ℕ, zero, suc, ◌+◌, ◌-◌, ◌*◌, ◌/◌, ◌%◌, ◌^◌, ◌<◌, ◌≤◌, min, max, bit_and, bit_or, w32, refl, sym, subst, ap, ◌∙◌, ⊎_elim, arith}
+use Rattle.std.proofs.Common.{◌≡◌, ℕ, zero, suc, ◌+◌, ◌-◌, ◌*◌, ◌/◌, ◌%◌, ◌^◌, ◌<◌, ◌≤◌, min, max, bit_and, bit_or, w32, refl, subst, ap, ◌∙◌, ⊎_elim, arith}
 use Rattle.std.proofs.Common.{mul-le-mul_right}
 use Rattle.std.specs.Int.{bit_at, bit_not}
 use Rattle.std.proofs.lemmas.Bool.{cases_lt}
 use Rattle.std.proofs.lemmas.Nat.{mod_below, div-add-mod'}
-use Rattle.std.proofs.lemmas.Nat.Bits.{bit_at-zero, bit_at-lt, bit_at_and, bit_at_or, bit_at_not, bit_at_ones, bit_at_ones_above}
+use Rattle.std.proofs.lemmas.Nat.Bits.{bit_at-zero, bit_at_and, bit_at_or, bit_at_not, bit_at_ones}
 use Rattle.comp_tree.specs.declared.shape.Connect.{Connect}
 use Rattle.comp_tree.specs.declared.shape.Connect.TheVariants.{Four, Eight}
 use Rattle.comp_tree.specs.Forest.{IsWithin}
 use Rattle.strip_flood.specs.Flood.{direction_count, cell, IsInterior, HasCell, HasDirections, AreSides}
 use Rattle.strip_flood.proofs.Directions.{cell_nine}
 use Rattle.strip_flood.proofs.Flow.{ends_small}
-use Rattle.strip_flood.proofs.Masks.{IsFrom, from_is}
 
 -- ---- the four sides
 
@@ -178,12 +177,6 @@ module _ (connect : Connect) (width first count p : ℕ) (pos : 0 < width) (star
   out_bit k = bit_at_or (bit_or (bit_or a l) r) b k ∙ ap (λ n. max n (bit_at b k)) (bit_at_or (bit_or a l) r k
       ∙ ap (λ n. max n (bit_at r k)) (bit_at_or a l k))
 
-  few : (k : ℕ) → bit_at mask k ≡ 1 → k < direction_count connect
-  few k e = ⊎_elim (λ (m : k < direction_count connect). m)
-      (λ (m : direction_count connect ≤ k). absurd (let z : bit_at (2 ^ direction_count connect - 1) k ≡ 0 = bit_at_ones_above (direction_count connect) k m in
-      let w : bit_at mask k ≡ min (bit_at (2 ^ direction_count connect - 1) k) (bit_at (bit_not w32 out) k) = both k in omega arith))
-      (cases_lt k (direction_count connect))
-
   -- a bit of the mask is none of those over an edge
   in_mask : (k : ℕ) → k < direction_count connect → bit_at mask k ≡ 1 - bit_at out k
   in_mask k more = let d : direction_count connect ≤ 8 = ends_small connect in
@@ -191,8 +184,8 @@ module _ (connect : Connect) (width first count p : ℕ) (pos : 0 < width) (star
       let o : bit_at (2 ^ direction_count connect - 1) k ≡ 1 = bit_at_ones (direction_count connect) k more in
       let n : bit_at (bit_not w32 out) k ≡ 1 - bit_at out k = bit_at_not w32 out k fits (omega arith) in omega arith
 
-  there : (k : ℕ) → bit_at mask k ≡ 1 → HasCell width first count p (cell connect k)
-  there k e = has_cell width first count p pos rows inside.high small (cell connect k) (cell_nine connect k more)
+  there : (k : ℕ) → k < direction_count connect → bit_at mask k ≡ 1 → HasCell width first count p (cell connect k)
+  there k more e = has_cell width first count p pos rows inside.high small (cell connect k) (cell_nine connect k more)
       (λ up. ⊎_elim
       (λ (t : p - first < width). absurd (let s : bit_at above k ≡ 1 - cell connect k / 3 = sides.up k more in
       let f : bit_at a k ≡ bit_at above k = ap (λ n. bit_at n k) (oa.edge t) in omega (arith, none)))
@@ -212,9 +205,6 @@ module _ (connect : Connect) (width first count p : ℕ) (pos : 0 < width) (star
       (λ (t : width ≤ p % width + 1). absurd (let s : bit_at right k ≡ cell connect k % 3 - 1 = sides.east k more in
       let f : bit_at r k ≡ bit_at right k = ap (λ n. bit_at n k) (or.edge t) in omega (arith, none)))
       (cases_lt (p % width + 1) width)) where
-        more : k < direction_count connect
-        more = few k e
-
         none : max (max (max (bit_at a k) (bit_at l k)) (bit_at r k)) (bit_at b k) ≡ 0
         none = let w : bit_at mask k ≡ 1 - bit_at out k = in_mask k more in
             let o : bit_at out k ≡ max (max (max (bit_at a k) (bit_at l k)) (bit_at r k)) (bit_at b k) = out_bit k in omega arith
@@ -256,39 +246,19 @@ module _ (connect : Connect) (width first count p : ℕ) (pos : 0 < width) (star
             (cases_lt (p % width + 1) width)
 
   -- all directions but those over an edge
-  pub edge_directions : HasDirections connect width first count p 0 (bit_and (2 ^ direction_count connect - 1)
+  pub edge_directions : HasDirections connect width first count p (bit_and (2 ^ direction_count connect - 1)
       (bit_not w32 (bit_or (bit_or (bit_or a l) r) b)))
-  edge_directions = record { few = few; late = λ k e. omega arith; there = there; all = λ k z more c. all k more c }
+  edge_directions = record { there = there; all = all }
 
 -- a pixel with all nine around it has all directions
 pub inner_directions : (connect : Connect) (width first count p : ℕ) → 0 < width → first % width ≡ 0 → (first + count) % width ≡ 0 → IsWithin first count p
-    → IsInterior width first count p → HasDirections connect width first count p 0 (2 ^ direction_count connect - 1)
+    → IsInterior width first count p → HasDirections connect width first count p (2 ^ direction_count connect - 1)
 inner_directions connect width first count p pos starts ends inside inner = record {
-  few = few;
-  late = λ k e. omega arith;
-  there = λ k e. has_cell width first count p pos (in_rows width first count p pos starts ends inside) inside.high (mod_below p width pos)
-      (cell connect k) (cell_nine connect k (few k e))
+  there = λ k more e. has_cell width first count p pos (in_rows width first count p pos starts ends inside) inside.high (mod_below p width pos)
+      (cell connect k) (cell_nine connect k more)
       (λ i. let up : first + width < p = inner.up in omega arith)
       (λ i. let down : p + width + 1 < first + count = inner.down in omega arith)
       (λ i. inner.left)
       (λ i. inner.right);
-  all = λ k z more c. bit_at_ones (direction_count connect) k more;
-} where
-  few : (k : ℕ) → bit_at (2 ^ direction_count connect - 1) k ≡ 1 → k < direction_count connect
-  few k e = ⊎_elim (λ (m : k < direction_count connect). m)
-      (λ (m : direction_count connect ≤ k). absurd (let z : bit_at (2 ^ direction_count connect - 1) k ≡ 0 =
-      bit_at_ones_above (direction_count connect) k m in omega arith))
-      (cases_lt k (direction_count connect))
-
--- those from a direction on
-pub late_directions : (connect : Connect) (width first count p from mask : ℕ) → from ≤ 8 → HasDirections connect width first count p 0 mask
-    → HasDirections connect width first count p from (bit_and mask ((2 ^ 32 - 1) * 2 ^ from % 2 ^ 32))
-late_directions connect width first count p from mask small d = by (from_is mask from (omega arith)) where
-  by : IsFrom mask from (bit_and mask ((2 ^ 32 - 1) * 2 ^ from % 2 ^ 32))
-      → HasDirections connect width first count p from (bit_and mask ((2 ^ 32 - 1) * 2 ^ from % 2 ^ 32))
-  by part = record {
-    few = λ k e. d.few k (part.fewer k e);
-    late = part.late;
-    there = λ k e. d.there k (part.fewer k e);
-    all = λ k l more c. part.kept k l (let e : direction_count connect ≤ 8 = ends_small connect in omega arith) (d.all k (omega arith) more c);
-  }
+  all = λ k more c. bit_at_ones (direction_count connect) k more;
+}

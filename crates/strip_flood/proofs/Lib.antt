@@ -7,7 +7,6 @@ mod Counting
 mod Retiring
 mod Seeing
 mod Looking
-mod Masks
 mod Edges
 mod Rounds
 mod Flooded

@@ -166,12 +166,10 @@ pub record HasCell (width first count p m : ℕ) : Type 0 where
   pub left : 0 < p % width + m % 3
   pub right : p % width + m % 3 ≤ width
 
--- the bits of a mask are the directions, but those in front of `from`, in which p has a pixel among the count from first on
-pub record HasDirections (connect : Connect) (width first count p from mask : ℕ) : Type 0 where
-  pub few : (k : ℕ) → bit_at mask k ≡ 1 → k < direction_count connect
-  pub late : (k : ℕ) → bit_at mask k ≡ 1 → from ≤ k
-  pub there : (k : ℕ) → bit_at mask k ≡ 1 → HasCell width first count p (cell connect k)
-  pub all : (k : ℕ) → from ≤ k → k < direction_count connect → HasCell width first count p (cell connect k) → bit_at mask k ≡ 1
+-- the bits of a mask are the directions in which p has a pixel among the count from first on
+pub record HasDirections (connect : Connect) (width first count p mask : ℕ) : Type 0 where
+  pub there : (k : ℕ) → k < direction_count connect → bit_at mask k ≡ 1 → HasCell width first count p (cell connect k)
+  pub all : (k : ℕ) → k < direction_count connect → HasCell width first count p (cell connect k) → bit_at mask k ≡ 1
 
 -- the bits of four masks are the directions to the row above, the column to the left, the one to the right, and the row below
 pub record AreSides (connect : Connect) (above left right below : ℕ) : Type 0 where

@@ -119,19 +119,22 @@ impl Flood {
         ensures next { MatchOption result (IsTurned strip.now self.new at.rank at.pixel)
             (λ c. IsCurrent strip.now self.new c.rank c.pixel) }
     {
+        let inside = strip.directions_inside(at.pixel);
+        let last = directions(strip.connect);
         let here = (at.pixel - strip.first) as usize;
-        let mut left = strip.directions_from(at.pixel, u32::from(self.cursors[here] - 1));
-        while left > 0 {
-            let k = left.trailing_zeros();
-            left &= left - 1;
-            let cursor = k as u8 + 1;
-            let n = strip.neighbour(at.pixel, k);
-            if let Some(higher) = self.see(strip, at, cursor, n, queued, looked) {
-                self.cursors[here] = cursor + 1;
-                return Some(higher);
+        let mut cursor = self.cursors[here];
+        while cursor <= last {
+            let k = u32::from(cursor - 1);
+            if inside >> k & 1 == 1 {
+                let n = strip.neighbour(at.pixel, k);
+                if let Some(higher) = self.see(strip, at, cursor, n, queued, looked) {
+                    self.cursors[here] = cursor + 1;
+                    return Some(higher);
+                }
             }
+            cursor += 1;
         }
-        self.cursors[here] = directions(strip.connect) + 1;
+        self.cursors[here] = cursor;
         None
     }
 

@@ -134,7 +134,7 @@ impl Strip {
     fn directions_at_edge(&self, p: u32) -> u32
         requires strip { IsStrip self.now }
         requires inside { IsOf (ground_of self.now) p }
-        ensures { HasDirections self.now.connect self.now.width self.now.first (length self.now.ranks.items) p 0 result }
+        ensures { HasDirections self.now.connect self.now.width self.now.first (length self.now.ranks.items) p result }
     {
         let sides = sides_of(self.connect);
         let column = p % self.width;
@@ -147,26 +147,15 @@ impl Strip {
 
     // The directions from a pixel that stay in the strip, by a bit for each. Most pixels are interior, and have all.
     #[inline]
-    fn directions_inside(&self, p: u32) -> u32
+    pub(crate) fn directions_inside(&self, p: u32) -> u32
         requires strip { IsStrip self.now }
         requires inside { IsOf (ground_of self.now) p }
-        ensures { HasDirections self.now.connect self.now.width self.now.first (length self.now.ranks.items) p 0 result }
+        ensures { HasDirections self.now.connect self.now.width self.now.first (length self.now.ranks.items) p result }
     {
         if self.is_interior(p) {
             return all_directions(self.connect);
         }
         self.directions_at_edge(p)
-    }
-
-    // The same without those in front of the direction `from`.
-    #[inline]
-    pub(crate) fn directions_from(&self, p: u32, from: u32) -> u32
-        requires strip { IsStrip self.now }
-        requires inside { IsOf (ground_of self.now) p }
-        requires few { from ≤ 8 }
-        ensures { HasDirections self.now.connect self.now.width self.now.first (length self.now.ranks.items) p from result }
-    {
-        self.directions_inside(p) & (u32::MAX << from)
     }
 
     // The pixel in direction `k`, which stays in the strip.

@@ -1,8 +1,10 @@
-use Rattle.strip_flood.proofs.Rounds.{HasLeft}
+use Rattle.std.proofs.Common.{◌+◌, ◌-◌}
+use Rattle.strip_flood.specs.Flood.{direction_count}
+use Rattle.strip_flood.proofs.Rounds.{IsOn}
 use Rattle.strip_flood.proofs.flood.Flood.look_around.Given as goal
 
-abbrev pub invariant-loop-left : goal.invariant-loop-left
-invariant-loop-left g l = HasLeft l.strip l.initial.self l.self l.at.rank l.at.pixel l.left l.initial.queued l.queued l.initial.looked l.looked
+abbrev pub invariant-loop-cursor : goal.invariant-loop-cursor
+invariant-loop-cursor g l = IsOn l.strip l.initial.self l.self l.at.rank l.at.pixel l.cursor l.initial.queued l.queued l.initial.looked l.looked
 
-abbrev pub decreases-loop-left : goal.decreases-loop-left
-decreases-loop-left g l = l.left
+abbrev pub decreases-loop-cursor : goal.decreases-loop-cursor
+decreases-loop-cursor g l = direction_count l.strip.connect + 1 - l.cursor

@@ -1,8 +1,8 @@
-use Rattle.std.proofs.Common.{◌≡◌, ◌+◌, ◌-◌, ◌%◌, ◌^◌, ◌<◌, ◌≤◌, length, bit_and, bit_or, w32, sym, subst, arith, rules}
+use Rattle.std.proofs.Common.{◌≡◌, ◌%◌, ◌<◌, ◌≤◌, length, bit_and, bit_or, w32, sym, subst, arith, rules}
 use Rattle.std.specs.Int.{bit_not}
 use Rattle.std.proofs.lemmas.Bool.Decides.{nat_tests}
 use Rattle.std.proofs.lemmas.Nat.{mod_below, or_of_32}
-use Rattle.strip_flood.specs.Flood.{direction_count, HasDirections}
+use Rattle.strip_flood.specs.Flood.{HasDirections}
 use Rattle.strip_flood.proofs.Edges.{edge_directions}
 use Rattle.strip_flood.proofs.strip.Strip.directions_at_edge.Goals as goal
 
@@ -11,7 +11,7 @@ returns c =
     let count : c.count.result ≡ length c.args.self.now.ranks.items = c.count.ensures.all in
     let column : c.args.p % c.args.self.now.width < c.args.self.now.width = mod_below c.args.p c.args.self.now.width c.requires.strip.ranked.wide in
     let low : c.args.self.now.first ≤ c.args.p = c.requires.inside.low in
-    subst (λ all. HasDirections c.args.self.now.connect c.args.self.now.width c.args.self.now.first (length c.args.self.now.ranks.items) c.args.p 0
+    subst (λ all. HasDirections c.args.self.now.connect c.args.self.now.width c.args.self.now.first (length c.args.self.now.ranks.items) c.args.p
     (bit_and all (bit_not w32
     (bit_or (bit_or (bit_or c.over_edge-above.result c.over_edge-left.result) c.over_edge-right.result) c.over_edge-below.result))))
     (sym c.all_directions.ensures)

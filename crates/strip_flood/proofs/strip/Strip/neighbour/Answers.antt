@@ -1,4 +1,4 @@
-use Rattle.std.proofs.Common.{◌≡◌, ◌+◌, ◌-◌, ◌*◌, ◌/◌, ◌%◌, ◌<◌, ◌≤◌, length, slice_index, arith}
+use Rattle.std.proofs.Common.{◌≡◌, ◌+◌, ◌-◌, ◌*◌, ◌/◌, ◌%◌, ◌≤◌, length, slice_index, arith}
 use Rattle.strip_flood.specs.Flood.{cell}
 use Rattle.strip_flood.proofs.Directions.{cell_found}
 use Rattle.strip_flood.proofs.strip.Strip.neighbour.Goals as goal
