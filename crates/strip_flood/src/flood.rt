@@ -120,21 +120,23 @@ impl Flood {
             (λ c. IsCurrent strip.now self.new c.rank c.pixel) }
     {
         let inside = strip.directions_inside(at.pixel);
-        let last = directions(strip.connect);
+        let count = directions(strip.connect);
+        // read once, since a write to a list of bytes may be one to any place
+        let corner = strip.width + 1;
         let here = (at.pixel - strip.first) as usize;
-        let mut cursor = self.cursors[here];
-        while cursor <= last {
-            let k = u32::from(cursor - 1);
+        let mut k = u32::from(self.cursors[here] - 1);
+        while k < count {
             if inside >> k & 1 == 1 {
-                let n = strip.neighbour(at.pixel, k);
+                let n = strip.neighbour(at.pixel, corner, k);
+                let cursor = k as u8 + 1;
                 if let Some(higher) = self.see(strip, at, cursor, n, queued, looked) {
                     self.cursors[here] = cursor + 1;
                     return Some(higher);
                 }
             }
-            cursor += 1;
+            k += 1;
         }
-        self.cursors[here] = cursor;
+        self.cursors[here] = k as u8 + 1;
         None
     }
 

@@ -1,6 +1,6 @@
 //! A strip of a plane as its flooding reads it.
 
-ghost use Rattle.std.specs.Prelude.{◌^◌, ◌≡◌, ◌-◌, ◌<◌, ◌≤◌, length, true, false, MatchOption};
+ghost use Rattle.std.specs.Prelude.{◌^◌, ◌≡◌, ◌+◌, ◌-◌, ◌<◌, ◌≤◌, length, true, false, MatchOption};
 ghost use Rattle.strip_flood.specs.Flood.{direction_count, cell, rank_of, IsOf, IsNeighbour, HasOffsets, IsInterior, HasCell, HasDirections, AreSides};
 ghost use Rattle.strip_flood.specs.Strips.{ground_of, IsStrip};
 
@@ -22,7 +22,7 @@ pub struct Strip {
 }
 
 // The number of directions in which a pixel may have a neighbour.
-pub(crate) fn directions(connect: Connect) -> u8
+pub(crate) fn directions(connect: Connect) -> u32
     ensures all { result ≡ direction_count connect }
     ensures few { result ≤ 8 }
 {
@@ -158,14 +158,15 @@ impl Strip {
         self.directions_at_edge(p)
     }
 
-    // The pixel in direction `k`, which stays in the strip.
+    // The pixel in direction `k`, which stays in the strip. The first of the nine around and at the pixel is `corner` in front.
     #[inline]
-    pub(crate) fn neighbour(&self, p: u32, k: u32) -> u32
+    pub(crate) fn neighbour(&self, p: u32, corner: u32, k: u32) -> u32
         requires strip { IsStrip self.now }
+        requires corner { corner ≡ self.now.width + 1 }
         requires direction { k < direction_count self.now.connect }
         requires there { HasCell self.now.width self.now.first (length self.now.ranks.items) p (cell self.now.connect k) }
         ensures { IsNeighbour self.now.connect self.now.width self.now.first (length self.now.ranks.items) p k result }
     {
-        p + self.offsets[k as usize] - self.width - 1
+        p + self.offsets[k as usize] - corner
     }
 }

@@ -10,6 +10,7 @@ returns c =
     c.requires.strip.offsets.offset c.args.k c.requires.direction in
     let up : c.args.self.now.first + c.args.self.now.width + 1
     ≤ c.args.p + cell c.args.self.now.connect c.args.k / 3 * c.args.self.now.width + cell c.args.self.now.connect c.args.k % 3 = c.requires.there.up in
+    let corner : c.args.corner ≡ c.args.self.now.width + 1 = c.requires.corner in
     cell_found c.args.self.now.connect c.args.self.now.width c.args.self.now.first (length c.args.self.now.ranks.items) c.args.p c.args.k
-    (c.args.p + slice_index c.args.self.now.offsets c.args.k - c.args.self.now.width - 1)
+    (c.args.p + slice_index c.args.self.now.offsets c.args.k - c.args.corner)
     c.requires.strip.ranked.wide c.requires.direction c.requires.there (omega arith)
