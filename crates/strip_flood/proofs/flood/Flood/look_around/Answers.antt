@@ -63,15 +63,15 @@ loop-k-preserved g c =
     let at : c.loop-k.k + 1 - 1 ≡ c.loop-k.k = omega arith in
     elim c.if-inside-k-eq1.branch [
       | then-inside-k-eq1+in_default w ↦ rw (w.self-is, w.queued-is, w.looked-is) (record {
-          around = w.see.ensures.look.after;
-          front = w.in_default.ensures.next;
-          step = step_trans (ground_of c.args.strip.now) c.args.self.now.cursors.items
-              (looking c.args.strip.now c.loop-k.self c.args.at.pixel (c.loop-k.k + 1)).cursors
-              (looking c.args.strip.now w.see.new.self c.args.at.pixel (c.loop-k.k + 1 + 1)).cursors c.args.queued.now c.loop-k.queued
-              w.see.new.queued c.args.looked.now c.loop-k.looked w.see.new.looked c.loop-k.invariant.step w.see.ensures.look.step;
-          first = omega arith;
-          last = omega arith;
-        })
+        around = w.see.ensures.look.after;
+        front = w.in_default.ensures.next;
+        step = step_trans (ground_of c.args.strip.now) c.args.self.now.cursors.items
+            (looking c.args.strip.now c.loop-k.self c.args.at.pixel (c.loop-k.k + 1)).cursors
+            (looking c.args.strip.now w.see.new.self c.args.at.pixel (c.loop-k.k + 1 + 1)).cursors c.args.queued.now c.loop-k.queued
+            w.see.new.queued c.args.looked.now c.loop-k.looked w.see.new.looked c.loop-k.invariant.step w.see.ensures.look.step;
+        first = omega arith;
+        last = omega arith;
+      })
       | else-inside-k-eq1 w ↦ rw (w.self-is, w.queued-is, w.looked-is) (skip c.args.strip.now c.requires.strip c.args.self.now c.loop-k.self
           c.args.at.rank c.args.at.pixel c.args.queued.now c.loop-k.queued c.args.looked.now c.loop-k.looked (c.loop-k.k + 1)
           c.loop-k.invariant more (λ there. w.if-inside-k-eq1.false
