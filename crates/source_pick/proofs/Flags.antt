@@ -1,11 +1,10 @@
--- Which nodes the arrays show as sources, and the list that is made of them.
-use Rattle.std.proofs.Common.{◌≡◌, ℕ, ◌+◌, ◌*◌, ◌<◌, ◌≤◌, zero, suc, Bool, true, false, ◌&&◌, ◌||◌, not, List, [], ◌∷◌, ◌++◌, length, map, refl, sym, ◌∙◌}
+-- Which nodes the arrays show as sources.
+use Rattle.std.proofs.Common.{◌≡◌, ℕ, ◌+◌, ◌*◌, ◌<◌, ◌≤◌, zero, suc, Bool, true, false, ◌&&◌, ◌||◌, not, List, [], ◌∷◌, length, map, refl, sym, ◌∙◌}
 use Rattle.std.proofs.Common.{ap, subst, arith, ◌⊎◌, inl, inr, set, Result, Ok, Err, Vec, Global}
-use Rattle.std.specs.Prelude.{unwrap_or, IfOk, Option, Some, replicate, slice_get, slice_index, slice_index_or}
-use Rattle.std.specs.List.{range_with_len, flat_map}
-use Rattle.std.proofs.lemmas.Bool.{true≢false, and_right, not_from_true, false_from_ne_true, cases_lt, cases_order}
-use Rattle.std.proofs.lemmas.List.{append-nil, length-set, length-replicate}
-use Rattle.std.proofs.lemmas.Option.{slice_get-get_or, same_Some}
+use Rattle.std.specs.Prelude.{unwrap_or, IfOk, Option, Some, slice_index, slice_index_or}
+use Rattle.std.proofs.lemmas.Bool.{true≢false, and_right, not_from_true, false_from_ne_true, cases_order}
+use Rattle.std.proofs.lemmas.List.{length-set}
+use Rattle.std.proofs.lemmas.Option.{slice_get-get_or}
 use Rattle.lemmas.proofs.Exported.{same_bool}
 use Rattle.comp_tree.specs.declared.shape.Shape.{Shape}
 use Rattle.comp_tree.specs.declared.shape.Connect.{Connect}
@@ -16,20 +15,18 @@ use Rattle.comp_tree.specs.Components.{nodes, tree_of}
 use Rattle.comp_tree.specs.Laws.{parent_of_node}
 use Rattle.comp_tree.proofs.Exported.{below_no_node}
 use Rattle.node_sums.specs.declared.entry.Sums.{Sums}
-use Rattle.node_sums.specs.Sums.{sums_of, sums_in, AreTheTrees, ForEachPlaneOf}
-use Rattle.node_sums.proofs.Exported.{get-written, rows_are}
+use Rattle.node_sums.specs.Sums.{sums_in, AreTheTrees, ForEachPlaneOf}
+use Rattle.node_sums.proofs.Exported.{rows_are}
 use Rattle.source_pick.specs.declared.choice.Choice.{Choice}
 use Rattle.source_pick.specs.declared.splitting.StrongChildren.{StrongChildren}
 use Rattle.source_pick.specs.declared.splitting.StrongChildren.TheVariants.{Zero, One, Several}
-use Rattle.source_pick.specs.Sources.{is_entry, entry_of, is_split, has_strong_sibling, contains_split, is_source, sources_at, sources}
-use Rattle.source_pick.specs.Segmentation.{AreDisjointNodes}
+use Rattle.source_pick.specs.Sources.{is_entry, entry_of, is_split, has_strong_sibling, contains_split, is_source}
 use Rattle.source_pick.specs.Passes.{entry_number, AreEntries, AreStrong, IsStrongChild, HasTwoStrongChildren, HasStrongChildren, AreStrongChildCounts}
-use Rattle.source_pick.specs.Passes.{are_several, IsOnWay, IsAboveSplit, AreAboveSplits, AreSources, IsFirstOf, IsNoFirst, StandAtFirst, ArePicked}
+use Rattle.source_pick.specs.Passes.{are_several, IsOnWay, IsAboveSplit, AreAboveSplits, AreSources}
 use Rattle.source_pick.proofs.Entries.{IsEntryOf, entry_of-parts, entry_of-self, entry_of-found, entry_of_child}
 use Rattle.source_pick.proofs.Splits.{AreTwins, other_way, IsSplitNode, split_parts, split_from, split_entry, sibling_parts, sibling_from, ContainsSplit}
 use Rattle.source_pick.proofs.Splits.{contains_parts, contains_from}
 use Rattle.source_pick.proofs.Sourcing.{source_from}
-use Rattle.source_pick.proofs.Listing.{first_below, flat-push, list_is, source_node, sources_apart, sources_at-none, sources_at-one}
 use Rattle.source_pick.proofs.Readings.{HasTreeAndSums, numbers-length, tree-shape, node_inside, filled}
 use Rattle.source_pick.proofs.Strong.{entry_from_number}
 
@@ -280,145 +277,7 @@ pub sources_up_to : (choice : Choice) (tree : ComponentTree) (sums : List Sums) 
 sources_up_to choice tree sums j k flags h l =
     record { one_each = h.one_each; each = λ r connect of_tree of_sums is_plane n m. h.each r connect of_tree of_sums is_plane n (omega arith) }
 
--- ---- the marks at least pixels
-
-pub stand_none : (choice : Choice) (tree : ComponentTree) (sums : List Sums) (marks : List ℕ) → marks ≡ replicate (length tree.node_of) no_node
-    → StandAtFirst choice tree sums 0 marks
-stand_none choice tree sums marks e = record {
-  one_each = ap length e ∙ length-replicate (length tree.node_of) no_node;
-  each = λ r connect of_tree of_sums is_plane p n g. inr (record {
-    none = nothing (length tree.node_of) p n (ap (λ (xs : List ℕ). slice_get xs p) (sym e) ∙ g);
-    no_source = λ m l. absurd (omega arith);
-  });
-}
-  where
-    nothing : (k i n : ℕ) → slice_get (replicate k no_node) i ≡ Some n → n ≡ no_node
-    nothing zero i n f = absurd (cc)
-    nothing (suc k) zero n f = sym (same_Some no_node n f)
-    nothing (suc k) (suc i) n f = nothing k i n f
-
-pub stand_source : (choice : Choice) (tree : ComponentTree) (sums : List Sums) (k f : ℕ) (marks : List ℕ) → StandAtFirst choice tree sums k marks
-    → ForEachPlaneOf tree sums (λ r connect. IsPlane r → is_source r connect choice k ≡ true)
-    → ForEachPlaneOf tree sums (λ r connect. IsPlane r → f ≡ (sums_of r connect k).first) → StandAtFirst choice tree sums (k + 1) (set marks f k)
-stand_source choice tree sums k f marks h source first = record {
-  one_each = length-set marks f k ∙ h.one_each;
-  each = λ r connect of_tree of_sums is_plane p n g. go r connect (record { plane = is_plane; tree_is = of_tree; sums_are = of_sums }) p n
-      (get-written marks f k p n g);
-}
-  where
-    go : (r : Raster) (connect : Connect) → HasTreeAndSums r connect tree sums → (p n : ℕ) → ((p ≡ f) × (k ≡ n)) ⊎ ((p ≡ f → ⊥) × (slice_get marks p ≡ Some n))
-        → IsFirstOf r connect choice (k + 1) p n ⊎ IsNoFirst r connect choice (k + 1) p n
-    go r connect o p n (inl x) = inl (record {
-      below = let e : k ≡ n = x.1 in omega arith;
-      source = subst (λ (y : ℕ). is_source r connect choice y ≡ true) x.1 (source r connect o.tree_is o.sums_are o.plane);
-      first = subst (λ (y : ℕ). (sums_of r connect y).first ≡ p) x.1 (sym (first r connect o.tree_is o.sums_are o.plane) ∙ sym x.0);
-    })
-    go r connect o p n (inr x) = old (h.each r connect o.tree_is o.sums_are o.plane p n x.1)
-      where
-        old : IsFirstOf r connect choice k p n ⊎ IsNoFirst r connect choice k p n
-            → IsFirstOf r connect choice (k + 1) p n ⊎ IsNoFirst r connect choice (k + 1) p n
-        old (inl a) = inl (record { below = omega (arith, a.below); source = a.source; first = a.first })
-        old (inr a) = inr (record { none = a.none; no_source = λ m l s e. last m (cases_lt m k) l s e })
-          where
-            last : (m : ℕ) → (m < k) ⊎ (k ≤ m) → m < k + 1 → is_source r connect choice m ≡ true → (sums_of r connect m).first ≡ p → ⊥
-            last m (inl y) l s e = a.no_source m y s e
-            last m (inr y) l s e =
-                let same : m ≡ k = omega arith in
-                x.0 (sym e ∙ ap (λ (z : ℕ). (sums_of r connect z).first) same ∙ sym (first r connect o.tree_is o.sums_are o.plane))
-
-pub stand_other : (choice : Choice) (tree : ComponentTree) (sums : List Sums) (k : ℕ) (marks : List ℕ) → StandAtFirst choice tree sums k marks
-    → ForEachPlaneOf tree sums (λ r connect. IsPlane r → is_source r connect choice k ≡ false) → StandAtFirst choice tree sums (k + 1) marks
-stand_other choice tree sums k marks h other =
-    record {
-      one_each = h.one_each;
-      each = λ r connect of_tree of_sums is_plane p n g. old r connect (record { plane = is_plane; tree_is = of_tree; sums_are = of_sums }) p n
-          (h.each r connect of_tree of_sums is_plane p n g);
-    }
-  where
-    old : (r : Raster) (connect : Connect) → HasTreeAndSums r connect tree sums → (p n : ℕ)
-        → IsFirstOf r connect choice k p n ⊎ IsNoFirst r connect choice k p n
-        → IsFirstOf r connect choice (k + 1) p n ⊎ IsNoFirst r connect choice (k + 1) p n
-    old r connect o p n (inl a) = inl (record { below = omega (arith, a.below); source = a.source; first = a.first })
-    old r connect o p n (inr a) = inr (record { none = a.none; no_source = λ m l s e. last m (cases_lt m k) l s e })
-      where
-        last : (m : ℕ) → (m < k) ⊎ (k ≤ m) → m < k + 1 → is_source r connect choice m ≡ true → (sums_of r connect m).first ≡ p → ⊥
-        last m (inl y) l s e = a.no_source m y s e
-        last m (inr y) l s e =
-            let same : m ≡ k = omega arith in true≢false (sym s ∙ ap (is_source r connect choice) same ∙ other r connect o.tree_is o.sums_are o.plane)
-
-pub stand_up_to : (choice : Choice) (tree : ComponentTree) (sums : List Sums) (j k : ℕ) (marks : List ℕ) → StandAtFirst choice tree sums k marks → j ≡ k
-    → StandAtFirst choice tree sums j marks
-stand_up_to choice tree sums j k marks h e = subst (λ (n : ℕ). StandAtFirst choice tree sums n marks) (sym e) h
-
--- a node's least pixel has a place
-pub first_place : (r : Raster) (connect : Connect) (tree : ComponentTree) (sums : List Sums) (n : ℕ) (s : Sums) (marks : List ℕ)
-    → HasTreeAndSums r connect tree sums → n < length tree.rows
-    → s ≡ sums_of r connect n → length marks ≡ length tree.node_of → s.first < length marks
-first_place r connect tree sums n s marks o h e l =
-    let a : (sums_of r connect n).first < length r.values = first_below r connect n o.plane (node_inside r connect tree n o.tree_is h) in
-    let b : length tree.node_of ≡ length r.values = numbers-length r connect tree o.tree_is in
-    let f : s.first ≡ (sums_of r connect n).first = ap (λ (x : Sums). x.first) e in
-    omega arith
-
--- ---- the list
-
-pub picked_none : (choice : Choice) (tree : ComponentTree) (sums : List Sums) (picked : List ℕ) → picked ≡ [] → ArePicked choice tree sums 0 picked
-picked_none choice tree sums picked e = record { listed = λ r connect of_tree of_sums is_plane. e }
-
-picked_step : (choice : Choice) (tree : ComponentTree) (sums : List Sums) (i : ℕ) (picked here : List ℕ) → ArePicked choice tree sums i picked
-    → ForEachPlaneOf tree sums (λ r connect. IsPlane r → sources_at r connect choice i ≡ here) → ArePicked choice tree sums (i + 1) (picked ++ here)
-picked_step choice tree sums i picked here h at = record {
-  listed = λ r connect of_tree of_sums is_plane.
-      let next : suc i ≡ i + 1 = omega arith in
-      ap (λ (xs : List ℕ). xs ++ here) (h.listed r connect of_tree of_sums is_plane)
-      ∙ ap (λ (xs : List ℕ). flat_map (sources_at r connect choice) (range_with_len 0 i) ++ xs) (sym (at r connect of_tree of_sums is_plane))
-      ∙ sym (flat-push r connect choice i)
-      ∙ ap (λ (n : ℕ). flat_map (sources_at r connect choice) (range_with_len 0 n)) next;
-}
-
-pub picked_more : (choice : Choice) (tree : ComponentTree) (sums : List Sums) (i n : ℕ) (marks picked : List ℕ)
-    → StandAtFirst choice tree sums (length tree.rows) marks
-    → slice_get marks i ≡ Some n → (n ≡ no_node → ⊥) → ArePicked choice tree sums i picked → ArePicked choice tree sums (i + 1) (picked ++ n ∷ [])
-picked_more choice tree sums i n marks picked s g some h =
-    picked_step choice tree sums i picked (n ∷ []) h
-    (λ r connect of_tree of_sums is_plane. at r connect (record { plane = is_plane; tree_is = of_tree; sums_are = of_sums })
-    (s.each r connect of_tree of_sums is_plane i n g))
-  where
-    at : (r : Raster) (connect : Connect) → HasTreeAndSums r connect tree sums
-        → IsFirstOf r connect choice (length tree.rows) i n ⊎ IsNoFirst r connect choice (length tree.rows) i n
-        → sources_at r connect choice i ≡ n ∷ []
-    at r connect o (inl a) =
-        sources_at-one r connect choice i n o.plane (record { node = node_inside r connect tree n o.tree_is a.below; source = a.source; first = a.first })
-    at r connect o (inr a) = absurd (some a.none)
-
-pub picked_same : (choice : Choice) (tree : ComponentTree) (sums : List Sums) (i n : ℕ) (marks picked : List ℕ)
-    → StandAtFirst choice tree sums (length tree.rows) marks
-    → slice_get marks i ≡ Some n → n ≡ no_node → ArePicked choice tree sums i picked → ArePicked choice tree sums (i + 1) picked
-picked_same choice tree sums i n marks picked s g none h =
-    subst (ArePicked choice tree sums (i + 1)) (append-nil picked)
-    (picked_step choice tree sums i picked [] h (λ r connect of_tree of_sums is_plane. at r connect
-    (record { plane = is_plane; tree_is = of_tree; sums_are = of_sums }) (s.each r connect of_tree of_sums is_plane i n g)))
-  where
-    at : (r : Raster) (connect : Connect) → HasTreeAndSums r connect tree sums
-        → IsFirstOf r connect choice (length tree.rows) i n ⊎ IsNoFirst r connect choice (length tree.rows) i n
-        → sources_at r connect choice i ≡ []
-    at r connect o (inl a) = absurd (below_no_node r connect n o.plane (node_inside r connect tree n o.tree_is a.below) none)
-    at r connect o (inr a) =
-        sources_at-none r connect choice i
-        (λ m x. a.no_source m (let l : length tree.rows ≡ length (nodes r connect) = rows_are r connect tree o.tree_is in let y : m < length
-        (nodes r connect) = x.node in omega arith) x.source x.first)
-
-pub picked_up_to : (choice : Choice) (tree : ComponentTree) (sums : List Sums) (j k : ℕ) (picked : List ℕ) → ArePicked choice tree sums k picked → j ≡ k
-    → ArePicked choice tree sums j picked
-picked_up_to choice tree sums j k picked h e = subst (λ (n : ℕ). ArePicked choice tree sums n picked) (sym e) h
-
-pub picked_all : (r : Raster) (connect : Connect) (choice : Choice) (tree : ComponentTree) (sums : List Sums) (count : ℕ) (picked : List ℕ)
-    → ArePicked choice tree sums count picked
-    → count ≡ length tree.node_of → HasTreeAndSums r connect tree sums → picked ≡ sources r connect choice
-picked_all r connect choice tree sums count picked h e o =
-    h.listed r connect o.tree_is o.sums_are o.plane
-    ∙ ap (λ (n : ℕ). flat_map (sources_at r connect choice) (range_with_len 0 n)) (e ∙ numbers-length r connect tree o.tree_is)
-    ∙ sym (list_is r connect choice)
+-- ---- the plane
 
 -- any plane with this tree and these sums
 pub of_same : (r : Raster) (connect : Connect) (tree : ComponentTree) (sums : List Sums) → AreTheTrees tree sums → tree ≡ tree_of r connect
@@ -430,24 +289,6 @@ of_same r connect tree sums t e f = record { plane = plane; tree_is = e; sums_ar
         sym (numbers-length r connect tree e) ∙ numbers-length t.plane t.of_plane.connect tree t.of_plane.tree_is ∙ t.one_each
         ∙ ap (λ (s : Shape). s.width * s.height) (sym (tree-shape t.plane t.of_plane.connect tree t.of_plane.tree_is) ∙ tree-shape r connect tree e)
 
-pub picked_disjoint : (choice : Choice) (tree : ComponentTree) (sums : List Sums) (picked : List ℕ) → (t : AreTheTrees tree sums)
-    → picked ≡ sources t.plane t.of_plane.connect choice
-    → AreDisjointNodes tree picked
-picked_disjoint choice tree sums picked t e = record {
-  plane = t.plane;
-  connect = t.of_plane.connect;
-  one_each = t.one_each;
-  tree_is = t.of_plane.tree_is;
-  nodes = λ i s g.
-      let a : s < length (nodes t.plane t.of_plane.connect) =
-      source_node t.plane t.of_plane.connect choice i s t.one_each (ap (λ (xs : List ℕ). slice_get xs i) (sym e) ∙ g) in
-      let b : length tree.rows ≡ length (nodes t.plane t.of_plane.connect) = rows_are t.plane t.of_plane.connect tree t.of_plane.tree_is in
-      omega arith;
-  disjoint = λ i j m n l f g.
-      sources_apart t.plane t.of_plane.connect choice i j m n t.one_each l (ap (λ (xs : List ℕ). slice_get xs i) (sym e) ∙ f)
-      (ap (λ (xs : List ℕ). slice_get xs j) (sym e) ∙ g);
-}
-
 -- ---- as the code answers
 
 pub flags_exact : {E : Type 0} (result : Result (Vec Bool Global) E) (choice : Choice) (tree : ComponentTree) (sums : List Sums) (entries : List ℕ)
@@ -458,19 +299,3 @@ pub flags_exact : {E : Type 0} (result : Result (Vec Bool Global) E) (choice : C
     → IfOk result (λ flags. AreSources choice tree sums (length tree.rows) flags.items)
 flags_exact (Ok v) choice tree sums entries strong a b h = h choice sums a b
 flags_exact (Err d) choice tree sums entries strong a b h = tt
-
-pub picked_exact : {E : Type 0} (result : Result (Vec ℕ Global) E) (choice : Choice) (tree : ComponentTree) (sums : List Sums) (marks : List ℕ)
-    → AreTheTrees tree sums
-    → StandAtFirst choice tree sums (length tree.rows) marks
-    → IfOk result (λ picked. (c : Choice) (t : ComponentTree) (s : List Sums) → StandAtFirst c t s (length t.rows) marks
-    → ArePicked c t s (length marks) picked.items)
-    → IfOk result (λ picked. ForEachPlaneOf tree sums (λ plane connect. picked.items ≡ sources plane connect choice))
-picked_exact (Ok v) choice tree sums marks t stand h = λ plane connect e f.
-    picked_all plane connect choice tree sums (length marks) v.items (h choice tree sums stand) stand.one_each (of_same plane connect tree sums t e f)
-picked_exact (Err d) choice tree sums marks t stand h = tt
-
-pub picked_apart : {E : Type 0} (result : Result (Vec ℕ Global) E) (choice : Choice) (tree : ComponentTree) (sums : List Sums) → AreTheTrees tree sums
-    → IfOk result (λ picked. ForEachPlaneOf tree sums (λ plane connect. picked.items ≡ sources plane connect choice))
-    → IfOk result (λ picked. AreDisjointNodes tree picked.items)
-picked_apart (Ok v) choice tree sums t h = picked_disjoint choice tree sums v.items t (h t.plane t.of_plane.connect t.of_plane.tree_is t.of_plane.sums_are)
-picked_apart (Err d) choice tree sums t h = tt

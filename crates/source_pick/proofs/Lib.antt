@@ -19,6 +19,7 @@ mod AlongSums
 mod AlongSources
 mod MovedRows
 mod Pairing
+mod Placing
 mod AlongInPlace
 mod Local
 mod Windowed

@@ -103,7 +103,7 @@ source_test r connect choice p n hn h =
     let parts = and_parts (is_source r connect choice n) ((sums_of r connect n).first == p) h in
     record { node = hn; source = parts.0; first = eqb-true (sums_of r connect n).first p parts.1 }
 
-pub sources_at-one : (r : Raster) (connect : Connect) (choice : Choice) (p n : ℕ) → IsPlane r → IsSourceAt r connect choice p n
+sources_at-one : (r : Raster) (connect : Connect) (choice : Choice) (p n : ℕ) → IsPlane r → IsSourceAt r connect choice p n
     → sources_at r connect choice p ≡ n ∷ []
 unfolding sources_at
 sources_at-one r connect choice p n plane k =
@@ -111,15 +111,7 @@ sources_at-one r connect choice p n plane k =
     (and_from (is_source r connect choice n) ((sums_of r connect n).first == p) k.source (eq-eqb (sums_of r connect n).first p k.first))
     (λ x l u h. same_source r connect choice p x n plane (source_test r connect choice p x (omega arith) h) k)
 
-pub sources_at-none : (r : Raster) (connect : Connect) (choice : Choice) (p : ℕ) → ((n : ℕ) → IsSourceAt r connect choice p n → ⊥)
-    → sources_at r connect choice p ≡ []
-unfolding sources_at
-sources_at-none r connect choice p none =
-    filter_none (λ x. is_source r connect choice x && ((sums_of r connect x).first == p)) 0 (length (nodes r connect))
-    (λ x l u. false_from_ne_true (is_source r connect choice x && ((sums_of r connect x).first == p))
-    (λ h. none x (source_test r connect choice p x (omega arith) h)))
-
-pub among_sources_at : (r : Raster) (connect : Connect) (choice : Choice) (p n : ℕ) → IsAmong n (sources_at r connect choice p)
+among_sources_at : (r : Raster) (connect : Connect) (choice : Choice) (p n : ℕ) → IsAmong n (sources_at r connect choice p)
     → IsSourceAt r connect choice p n
 unfolding sources_at
 among_sources_at r connect choice p n h =
@@ -206,7 +198,7 @@ listed_none r connect choice count xs h none = record {
     all n m (inl e) = absurd (none n (record { node = m.node; source = m.source; first = e }))
     all n m (inr d) = let a : (sums_of r connect n).first < suc count = m.first in h.all n (record { node = m.node; source = m.source; first = omega arith })
 
-pub flat-push : (r : Raster) (connect : Connect) (choice : Choice) (count : ℕ)
+flat-push : (r : Raster) (connect : Connect) (choice : Choice) (count : ℕ)
     → flat_map (sources_at r connect choice) (range_with_len 0 (suc count)) ≡ flat_map (sources_at r connect choice) (range_with_len 0 count)
     ++ sources_at r connect choice count
 flat-push r connect choice count =
@@ -247,7 +239,7 @@ are_listed r connect choice (suc count) plane =
         k : IsSourceAt r connect choice count x
         k = among_sources_at r connect choice count x (subst (λ (zs : List ℕ). IsAmong x zs) (sym u) (inl refl))
 
-pub list_is : (r : Raster) (connect : Connect) (choice : Choice)
+list_is : (r : Raster) (connect : Connect) (choice : Choice)
     → sources r connect choice ≡ flat_map (sources_at r connect choice) (range_with_len 0 (length r.values))
 unfolding sources pixels
 list_is r connect choice = refl

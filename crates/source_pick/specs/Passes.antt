@@ -1,6 +1,6 @@
--- Bookkeeping: what the passes over the nodes and the pixels have found so far.
-use Rattle.std.specs.Prelude.{◌≡◌, ℕ, ◌<◌, ◌+◌, ◌≤◌, Bool, true, false, List, length, ◌⊎◌, slice_get, slice_index, slice_index_or, Some, unwrap_or}
-use Rattle.std.specs.List.{range_with_len, flat_map}
+-- Bookkeeping: what the passes over the nodes have found so far, and the map over the pixels.
+use Rattle.std.specs.Prelude.{◌≡◌, ℕ, ◌<◌, ◌+◌, ◌≤◌, Bool, true, false, List, length, map, filter, ◌⊎◌, slice_get, slice_index, slice_index_or, Some, unwrap_or}
+use Rattle.std.specs.List.{range_with_len}
 use Rattle.comp_tree.specs.declared.shape.Connect.{Connect}
 use Rattle.comp_tree.specs.declared.tree.NodeRow.{NodeRow}
 use Rattle.comp_tree.specs.Raster.{Raster, IsPlane}
@@ -10,9 +10,10 @@ use Rattle.comp_tree.specs.Laws.{IsAncestor, top_of}
 use Rattle.node_sums.specs.declared.entry.Sums.{Sums}
 use Rattle.node_sums.specs.Sums.{sums_of, ForEachPlaneOf}
 use Rattle.source_pick.specs.declared.choice.Choice.{Choice}
+use Rattle.source_pick.specs.declared.picking.PlacedSource.{PlacedSource}
 use Rattle.source_pick.specs.declared.splitting.StrongChildren.{StrongChildren}
 use Rattle.source_pick.specs.declared.splitting.StrongChildren.TheVariants.{Zero, One, Several}
-use Rattle.source_pick.specs.Sources.{entry_of, is_strong, is_source, sources_at}
+use Rattle.source_pick.specs.Sources.{entry_of, is_strong, is_source}
 use Rattle.source_pick.specs.Segmentation.{source_number_at, AreDisjointNodes}
 
 -- ---- entries and strong nodes
@@ -113,26 +114,18 @@ pub record AreSources (choice : Choice) (tree : ComponentTree) (sums : List Sums
   pub one_each : length flags ≡ length tree.rows
   pub each : ForEachPlaneOf tree sums (λ r connect. IsPlane r → (n : ℕ) → n < count → slice_index_or flags n false ≡ is_source r connect choice n)
 
--- n is a source below count whose least pixel is p
-pub record IsFirstOf (r : Raster) (connect : Connect) (choice : Choice) (count p n : ℕ) : Type 0 where
-  pub below : n < count
-  pub source : is_source r connect choice n ≡ true
-  pub first : (sums_of r connect n).first ≡ p
+-- source n with its least pixel
+abbrev pub with_least_pixel : Raster → Connect → ℕ → PlacedSource
+with_least_pixel r connect n = record { first = (sums_of r connect n).first; node = n }
 
--- n is none, and there is no such source
-pub record IsNoFirst (r : Raster) (connect : Connect) (choice : Choice) (count p n : ℕ) : Type 0 where
-  pub none : n ≡ no_node
-  pub no_source : (m : ℕ) → m < count → is_source r connect choice m ≡ true → (sums_of r connect m).first ≡ p → ⊥
+-- the list has the sources below count with their least pixels, in the order of nodes
+pub record ArePlacedSources (choice : Choice) (tree : ComponentTree) (sums : List Sums) (count : ℕ) (placed : List PlacedSource) : Type 0 where
+  pub listed : ForEachPlaneOf tree sums (λ r connect. IsPlane r
+      → placed ≡ map (with_least_pixel r connect) (filter (is_source r connect choice) (range_with_len 0 count)))
 
--- the sources below count stand at their least pixels
-pub record StandAtFirst (choice : Choice) (tree : ComponentTree) (sums : List Sums) (count : ℕ) (marks : List ℕ) : Type 0 where
-  pub one_each : length marks ≡ length tree.node_of
-  pub each : ForEachPlaneOf tree sums (λ r connect. IsPlane r → (p n : ℕ) → slice_get marks p ≡ Some n
-      → IsFirstOf r connect choice count p n ⊎ IsNoFirst r connect choice count p n)
-
--- the list has the sources with least pixels below count, in the order of these
-pub record ArePicked (choice : Choice) (tree : ComponentTree) (sums : List Sums) (count : ℕ) (picked : List ℕ) : Type 0 where
-  pub listed : ForEachPlaneOf tree sums (λ r connect. IsPlane r → picked ≡ flat_map (sources_at r connect choice) (range_with_len 0 count))
+-- their nodes
+abbrev pub placed_nodes : List PlacedSource → List ℕ
+placed_nodes placed = map (λ (source : PlacedSource). source.node) placed
 
 -- ---- the map
 

@@ -1,8 +1,7 @@
 //! The sources of a plane, in the order of their least pixels.
 
-ghost use Rattle.std.specs.Prelude.{◌≡◌, ◌<◌, ◌≤◌, List, IfOk, length, map, replicate};
+ghost use Rattle.std.specs.Prelude.{◌≡◌, ◌<◌, ◌≤◌, List, IfOk, length, map};
 ghost use Rattle.comp_tree.specs.Raster.{IsPlane};
-ghost use Rattle.comp_tree.specs.ComponentTree.{ComponentTree, no_node};
 ghost use Rattle.node_sums.specs.declared.entry.Sums.{Sums as Entry};
 ghost use Rattle.node_sums.specs.Sums.{AreTheTrees, ForEachPlaneOf};
 ghost use Rattle.source_pick.specs.declared.choice.Choice.{Choice as Chosen};
@@ -14,9 +13,9 @@ ghost use Rattle.source_pick.specs.Passes.{
   AreStrongChildCounts,
   AreAboveSplits,
   AreSources,
-  StandAtFirst,
-  ArePicked,
+  ArePlacedSources,
   are_several,
+  placed_nodes,
 };
 
 use crate::choice::Choice;
@@ -25,9 +24,16 @@ use crate::splitting::{StrongChildren, above_splits, strong_children};
 use comp_tree::{NONE, Tree};
 use dev_io::OutOfMemory;
 use node_sums::Sums;
-use std::alloc::Global;
+use std::alloc::{AllocError, Global};
 
-/// The nodes of the sources, in the order of their numbers: passes over the nodes, and one over the pixels. The one error
+// A source: its least pixel, and its node.
+#[derive(Clone, Copy)]
+struct PlacedSource {
+    first: u32,
+    node: u32,
+}
+
+/// The nodes of the sources, in the order of their numbers: passes over the nodes, and a sort of the sources. The one error
 /// is that memory was refused.
 pub fn pick(
     alloc: Global,
@@ -42,8 +48,9 @@ pub fn pick(
     ensures disjoint { IfOk result (λ picked. AreDisjointNodes tree.now picked.items) }
 {
     let flags = flags_of_sources(alloc, tree, sums, choice)?;
-    let marks = first_pixels(alloc, tree, sums, &flags)?;
-    marked_nodes(alloc, &marks)
+    let mut placed = placed_sources(alloc, tree, sums, &flags)?;
+    placed.sort_unstable_by_key(|source| source.first);
+    Ok(nodes_of(alloc, &placed)?)
 }
 
 // For each node whether it is a source.
@@ -148,50 +155,32 @@ fn passes_as_source(
     children[parent as usize].are_several()
 }
 
-// For each pixel the source whose least pixel it is, or `NONE`.
-fn first_pixels(
+// The sources with their least pixels, in the order of nodes.
+fn placed_sources(
     alloc: Global,
     tree: &Tree,
     sums: &[Sums],
     flags: &[bool],
-) -> Result<Vec<u32>, OutOfMemory>
+) -> Result<Vec<PlacedSource>, OutOfMemory>
     requires sums { AreTheTrees tree.now sums.now }
     requires flags { length flags.now ≡ length tree.now.rows }
-    ensures { IfOk result (λ marks. (choice : Chosen)
+    ensures { IfOk result (λ placed. (choice : Chosen)
         → AreSources choice tree.now sums.now (length tree.now.rows) flags.now
-        → StandAtFirst choice tree.now sums.now (length tree.now.rows) marks.items) }
+        → ArePlacedSources choice tree.now sums.now (length tree.now.rows) placed.items) }
 {
-    let mut marks = vec![in alloc; NONE; tree.node_of().len()]?;
-    mark_first_pixels(tree, sums, flags, &mut marks);
-    Ok(marks)
-}
-
-fn mark_first_pixels(tree: &Tree, sums: &[Sums], flags: &[bool], marks: &mut [u32])
-    requires sums { AreTheTrees tree.now sums.now }
-    requires flags { length flags.now ≡ length tree.now.rows }
-    requires none { marks.old ≡ replicate (length tree.now.node_of) no_node }
-    ensures { (choice : Chosen) → AreSources choice tree.now sums.now (length tree.now.rows) flags.now
-        → StandAtFirst choice tree.now sums.now (length tree.now.rows) marks.new }
-{
+    let mut placed = Vec::new(alloc);
     for n in 0..node_count(tree) {
         if flags[n as usize] {
             let first = sums[n as usize].first;
-            marks[first as usize] = n;
+            placed.push(PlacedSource { first, node: n })?;
         }
     }
+    Ok(placed)
 }
 
-// The nodes that stand at pixels, in the order of these.
-fn marked_nodes(alloc: Global, marks: &[u32]) -> Result<Vec<u32>, OutOfMemory>
-    ensures { IfOk result (λ picked. (choice : Chosen) (tree : ComponentTree) (sums : List Entry)
-        → StandAtFirst choice tree sums (length tree.rows) marks.now
-        → ArePicked choice tree sums (length marks.now) picked.items) }
+// Their nodes alone.
+fn nodes_of(alloc: Global, placed: &[PlacedSource]) -> Result<Vec<u32>, AllocError>
+    ensures { IfOk result (λ nodes. nodes.items ≡ placed_nodes placed.now) }
 {
-    let mut picked = Vec::new(alloc);
-    for n in marks {
-        if *n != NONE {
-            picked.push(*n)?;
-        }
-    }
-    Ok(picked)
+    placed.iter().map(|source| source.node).collect(alloc)
 }
