@@ -121,7 +121,7 @@ impl Flood {
     {
         let inside = strip.directions_inside(at.pixel);
         let count = directions(strip.connect);
-        // read once, since a write to a list of bytes may be one to any place
+        // a local, so that it isn't read again at each look
         let corner = strip.width + 1;
         let here = (at.pixel - strip.first) as usize;
         let mut k = u32::from(self.cursors[here] - 1);
