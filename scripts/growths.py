@@ -1,12 +1,13 @@
 """Refuses each growth of memory in turn, in small runs of the built program.
 
-usage: python3 scripts/growths.py MAXDETECT [TESTS [MAXSURVEY]]      (the built programs, and the built tests of `strip_crew`)
+usage: python3 scripts/growths.py MAXDETECT [CRATES [MAXSURVEY]]      (the built programs, and the folder of crates with their built tests)
 
 Each such run has status 5, has written nothing and says `out of memory`, or has status 0 and the whole output, which is compared with what it has to
 be: a growth may be one that the run can do without. A run of three rows asks for memory more often in two strips than in one, and more often in three
-than in two, since each strip is prepared by itself. One of the tests counts the strips that come to the gate: none does where memory was refused, and
-else each. Sessions of `maxsurvey` are tried in memory and over a file, of which a later run then lists what the session left: the tables before it,
-or after some of its commands. It wants gcc, and takes some seconds. Exit status 1 where a run does otherwise.
+than in two, since each strip is prepared by itself. Two tests of crates hold with each growth refused: one counts the strips that come to the gate,
+none where memory was refused, and else each; one looks at a plane whose background is taken off, whole or not at all. Sessions of `maxsurvey` are
+tried in memory and over a file, of which a later run then lists what the session left: the tables before it, or after some of its commands. It wants
+gcc, and takes some seconds. Exit status 1 where a run does otherwise.
 """
 import os
 import pathlib
@@ -82,7 +83,11 @@ SESSIONS = [
 # What a session of two adds may leave in a file, as `list` prints it.
 LEFT = [b"", b"A 2 7\n", b"A 2 7\nB 1 10\n"]
 
-GATE_TEST = "tests::no_strip_comes_to_the_gate_where_memory_is_refused"
+# Tests of crates that have to hold whatever growth is refused.
+TESTS = {
+    "strip_crew": "tests::no_strip_comes_to_the_gate_where_memory_is_refused",
+    "mesh_background": "tests::background_is_subtracted_whole_or_not_at_all",
+}
 
 
 class Refuser:
@@ -120,20 +125,20 @@ def trials(refuser, program, words, data, is_right):
     return count, wrong
 
 
-def gate_trials(refuser, tests):
-    """The same of the test that counts at the gate. It may itself want memory, for its plane or its cut; then it says so."""
-    whole, count = refuser.run([tests, GATE_TEST], b"", 0)
+def test_trials(refuser, tests, name):
+    """The same of a test. It may itself want memory, for its plane or its cut; then it says so."""
+    whole, count = refuser.run([tests, name], b"", 0)
     if whole.returncode != 0 or not 0 < count < MANY:
-        return count, [f"the gate: with ample memory its test ends with {whole.returncode} after {count} growths"]
+        return count, [f"{name}: with ample memory it ends with {whole.returncode} after {count} growths"]
     wrong, passed = [], 0
     for number in range(1, count + 1):
-        done, _ = refuser.run([tests, GATE_TEST], b"", number)
+        done, _ = refuser.run([tests, name], b"", number)
         said = done.stdout + done.stderr
         passed += done.returncode == 0
-        if done.returncode != 0 and b"OutOfMemory" not in said:
-            wrong.append(f"the gate: with growth {number} refused its test ends with {done.returncode}, {said!r}")
+        if done.returncode != 0 and not any(word in said for word in (b"OutOfMemory", b"AllocFailed")):
+            wrong.append(f"{name}: with growth {number} refused it ends with {done.returncode}, {said!r}")
     if not 0 < passed:
-        wrong.append("the gate: its test passes with no growth refused")
+        wrong.append(f"{name}: it passes with no growth refused")
     return count, wrong
 
 
@@ -190,10 +195,10 @@ def main():
             counts[words], found = trials(refuser, program, words, data, is_right)
             wrong += found
             print(f"{words}: {counts[words]} growths, {len(found)} end otherwise than they may")
-        if len(sys.argv) > 2:
-            count, found = gate_trials(refuser, pathlib.Path(sys.argv[2]).resolve())
+        for crate, name in TESTS.items() if len(sys.argv) > 2 else ():
+            count, found = test_trials(refuser, pathlib.Path(sys.argv[2], crate, "out", f"{crate}_tests").resolve(), name)
             wrong += found
-            print(f"the gate's count: {count} growths, {len(found)} end otherwise than they may")
+            print(f"{crate}, {name}: {count} growths, {len(found)} end otherwise than they may")
         if len(sys.argv) > 3:
             wrong += survey_trials(refuser, program, pathlib.Path(sys.argv[3]).resolve())
     one, two, three = (counts[f"tree --strips {strips} --workers 1"] for strips in (1, 2, 3))

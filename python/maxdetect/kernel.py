@@ -39,6 +39,13 @@ from .errors import Mistake
 
 __all__ = ["NoProgram", "Refusal", "detect", "filter", "find_program", "load", "measure", "read", "tree"]
 
+# Asks the C library (glibc from 2.35 on) for large pages, for one heap whatever the threads, and to keep what was freed
+# for the next array: arrays of a word a pixel otherwise come page by page from the system, and go back to it.
+LARGE_PAGES = (
+    "glibc.malloc.hugetlb=1:glibc.malloc.arena_max=1"
+    ":glibc.malloc.mmap_threshold=4294967296:glibc.malloc.trim_threshold=4294967296"
+)
+
 # Stands for an undefined pixel among 32-bit numbers.
 LEAST = -(2**31)
 
@@ -151,6 +158,11 @@ def _refusal(words, status, note):
     return Refusal(status, None, "failed", f"maxdetect ended with status {status}: {' '.join(note.split())}")
 
 
+def _environment():
+    """The program's environment: its own pages of memory, unless the caller's GLIBC_TUNABLES says otherwise."""
+    return {"GLIBC_TUNABLES": LARGE_PAGES, **os.environ}
+
+
 def _in_memory():
     """A file without a name, in memory where the system can."""
     return os.fdopen(os.memfd_create("maxdetect"), "w+b") if hasattr(os, "memfd_create") else tempfile.TemporaryFile()
@@ -165,7 +177,9 @@ def _run(program, words, *images):
                 file.write(piece)
         file.seek(0)
         try:
-            result = subprocess.run([path, *words], stdin=file, stdout=output, stderr=subprocess.PIPE, check=False)
+            result = subprocess.run(
+                [path, *words], stdin=file, stdout=output, stderr=subprocess.PIPE, env=_environment(), check=False
+            )
         except OSError as error:
             raise NoProgram(f"{path} can't be run: {error.strerror}") from None
         if result.returncode != 0:

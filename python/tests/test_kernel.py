@@ -4,6 +4,7 @@ import doctest
 import io
 import os
 import pickle
+import re
 import subprocess
 import sys
 
@@ -158,6 +159,18 @@ def test_a_program_that_is_not_there_is_told(tmp_path):
 def test_other_words_of_a_program_are_told(tmp_path, status, note):
     with pytest.raises(maxdetect.Refusal, match=f"status {status}"):
         maxdetect.tree(SMALL, program=script(tmp_path, f"echo '{note}' >&2; exit {status}\n"))
+
+
+def test_the_program_gets_large_pages_unless_the_caller_says_otherwise(monkeypatch, tmp_path):
+    program = script(tmp_path, 'echo "it has $GLIBC_TUNABLES." >&2; exit 7\n')
+    monkeypatch.delenv("GLIBC_TUNABLES", raising=False)
+    with pytest.raises(maxdetect.Refusal, match=f"it has {re.escape(kernel.LARGE_PAGES)}[.]"):
+        maxdetect.tree(SMALL, program=program)
+    monkeypatch.setenv("GLIBC_TUNABLES", "")
+    with pytest.raises(maxdetect.Refusal, match="it has [.]"):
+        maxdetect.tree(SMALL, program=program)
+    for text in ("maxdetect", "docs/maxdetect.1"):
+        assert kernel.LARGE_PAGES in (TOP / text).read_text(encoding="utf-8")
 
 
 def test_other_outputs_of_a_program_are_told(tmp_path):

@@ -24,7 +24,7 @@ use comp_tree::{Connect, Plane, Shape, Tree};
 use dev_io::{OutOfMemory, Sink};
 use filter_rules::{Criterion, Rule, filter};
 use fits_write::{WriteFault, put_plane};
-use node_sums::{areas, sums};
+use node_sums::{areas, outlines};
 use source_pick::{Choice, clear_far};
 use std::alloc::Global;
 use std::thread::Threads;
@@ -72,8 +72,8 @@ fn filtered(
     ensures { IfOk result (λ left. (connect : Connect) → tree.now ≡ tree_of plane.now connect →
         left ≡ filtered_of plane.now connect rule criterion.now) }
 {
-    let sums = sums(alloc, plane, tree)?;
-    filter(alloc, plane, tree, &sums, rule, criterion)
+    let outlines = outlines(alloc, plane, tree)?;
+    filter(alloc, plane, tree, outlines, rule, criterion)
 }
 
 // What a job makes of a plane and its tree.

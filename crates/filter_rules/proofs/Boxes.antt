@@ -1,7 +1,8 @@
--- What is known of the sums and the rows of a tree.
+-- What is known of the outlines and the rows of a tree.
 use Rattle.std.proofs.Common.{◌≡◌, ℕ, ◌<◌, ◌≤◌, Bool, true, false, List, [], ◌∷◌, length, refl, sym, ◌∙◌, ap, subst, arith, get_or}
 use Rattle.std.specs.Prelude.{filter, ℤ, ◌≤ℤ◌, ◌<ℤ◌}
 use Rattle.std.proofs.lemmas.Int.{ints}
+use Rattle.std.proofs.lemmas.List.{get_or-map}
 use Rattle.std.proofs.lemmas.List.FromFn.{get_or-map-range_with_len}
 use Rattle.lemmas.proofs.Exported.{IsAmong, among_from_filter, int_lt-true}
 use Rattle.comp_tree.specs.declared.shape.Connect.{Connect}
@@ -12,9 +13,11 @@ use Rattle.comp_tree.specs.Components.{nodes, is_in_node, tree_of}
 use Rattle.comp_tree.specs.Laws.{top_of}
 use Rattle.comp_tree.proofs.Exported.{below_from_defined, length-rows, parent-of_node, parent-candidate, in_node-defined, among_pixels, top_inside}
 use Rattle.node_sums.specs.declared.entry.Sums.{Sums}
-use Rattle.node_sums.specs.Sums.{AreTheTrees, sums_of, sums_in, sums_over, x_of, y_of}
+use Rattle.node_sums.specs.declared.outline.Outline.{Outline}
+use Rattle.node_sums.specs.Outlines.{outline_of, outlines_in, AreOutlinesOfTree}
+use Rattle.node_sums.specs.Sums.{sums_of, sums_in, sums_over, x_of, y_of}
 use Rattle.comp_tree.specs.Nesting.{pixels_of, level_in}
-use Rattle.node_sums.proofs.Exported.{few-pixels_of, goes_down, level-of_node, level_up_to, x_small, y_small}
+use Rattle.node_sums.proofs.Exported.{few-pixels_of, goes_down, length-sums_in, level-of_node, level_up_to, x_small, y_small}
 use Rattle.node_sums.proofs.Exported.{least_at_most, greatest_at_least, greatest_up_to}
 use Rattle.node_sums.specs.Flux.{flux_of}
 use Rattle.node_sums.specs.Sizes.{IsUpTo, value_bound}
@@ -35,7 +38,7 @@ length_grows f g (p ∷ ps) h = go (f p) (g p) refl refl (length_grows f g ps h)
     go false true u v ih = rw (u, v) (omega arith)
     go false false u v ih = rw (u, v) ih
 
-pub has_box : (r : Raster) (connect : Connect) (n : ℕ) → IsPlane r → n < length (nodes r connect) → HasBox (sums_of r connect n)
+pub has_box : (r : Raster) (connect : Connect) (n : ℕ) → IsPlane r → n < length (nodes r connect) → HasBox (outline_of (sums_of r connect n))
 unfolding sums_of sums_over
 has_box r connect n plane hn = record {
   area = few-pixels_of r connect n plane;
@@ -58,35 +61,41 @@ has_box r connect n plane hn = record {
     there : IsAmong (top_of r connect n) (pixels_of r connect n)
     there = among_pixels r connect n (top_of r connect n) (top_inside r connect n hn)
 
--- ---- the sums of some plane's tree
+-- ---- the outlines of some plane's tree
 
-entry_is : (r : Raster) (connect : Connect) (sums : List Sums) (n : ℕ) (d : Sums) → sums ≡ sums_in r connect → n < length (nodes r connect)
-    → get_or sums n d ≡ sums_of r connect n
+outline_is : (r : Raster) (connect : Connect) (outlines : List Outline) (n : ℕ) (d : Outline) → outlines ≡ outlines_in r connect → n < length (nodes r connect)
+    → get_or outlines n d ≡ outline_of (sums_of r connect n)
 unfolding sums_in
-entry_is r connect sums n d e h =
-    ap (λ (xs : List Sums). get_or xs n d) e ∙ get_or-map-range_with_len (sums_of r connect) 0 (length (nodes r connect)) n n d h (omega arith)
+outline_is r connect outlines n d e h =
+    ap (λ (xs : List Outline). get_or xs n d) e
+    ∙ get_or-map outline_of (sums_in r connect) n (sums_of r connect n) d (omega (arith, length-sums_in r connect))
+    ∙ ap outline_of (get_or-map-range_with_len (sums_of r connect) 0 (length (nodes r connect)) n n (sums_of r connect n) h (omega arith))
 
-rows_of : (tree : ComponentTree) (sums : List Sums) → (t : AreTheTrees tree sums) → length tree.rows ≡ length (nodes t.plane t.of_plane.connect)
-rows_of tree sums t = ap (λ (x : ComponentTree). length x.rows) t.of_plane.tree_is ∙ length-rows t.plane t.of_plane.connect
+rows_of : (tree : ComponentTree) (outlines : List Outline) → (t : AreOutlinesOfTree tree outlines)
+    → length tree.rows ≡ length (nodes t.plane t.of_plane.connect)
+rows_of tree outlines t = ap (λ (x : ComponentTree). length x.rows) t.of_plane.tree_is ∙ length-rows t.plane t.of_plane.connect
 
-pub trees_box : (tree : ComponentTree) (sums : List Sums) (n : ℕ) (d : Sums) → AreTheTrees tree sums → n < length tree.rows → HasBox (get_or sums n d)
-trees_box tree sums n d t h =
-    let hn : n < length (nodes t.plane t.of_plane.connect) = omega (arith, rows_of tree sums t) in
-    subst HasBox (sym (entry_is t.plane t.of_plane.connect sums n d t.of_plane.sums_are hn)) (has_box t.plane t.of_plane.connect n t.one_each hn)
+pub trees_box : (tree : ComponentTree) (outlines : List Outline) (n : ℕ) (d : Outline) → AreOutlinesOfTree tree outlines → n < length tree.rows
+    → HasBox (get_or outlines n d)
+trees_box tree outlines n d t h =
+    let hn : n < length (nodes t.plane t.of_plane.connect) = omega (arith, rows_of tree outlines t) in
+    subst HasBox (sym (outline_is t.plane t.of_plane.connect outlines n d t.of_plane.outlines_are hn)) (has_box t.plane t.of_plane.connect n t.one_each hn)
 
--- what is asked of the entry is asked of the node
-pub admitted : (r : Raster) (connect : Connect) (tree : ComponentTree) (sums : List Sums) (criterion : Criterion) (n : ℕ) (d : Sums) (flux : ℤ)
-    → tree ≡ tree_of r connect → sums ≡ sums_in r connect → n < length tree.rows → flux ≡ flux_of r connect n
-    → admits criterion (get_or sums n d) flux ≡ satisfies r connect criterion n
+-- what is asked of the outline is asked of the node
+pub admitted : (r : Raster) (connect : Connect) (tree : ComponentTree) (outlines : List Outline) (criterion : Criterion) (n : ℕ) (d : Outline) (flux : ℤ)
+    (answer : Bool)
+    → tree ≡ tree_of r connect → outlines ≡ outlines_in r connect → n < length tree.rows → flux ≡ flux_of r connect n
+    → ((s : Sums) → get_or outlines n d ≡ outline_of s → answer ≡ admits criterion s flux)
+    → answer ≡ satisfies r connect criterion n
 unfolding satisfies
-admitted r connect tree sums criterion n d flux e f h g =
-    ap (λ (s : Sums). admits criterion s flux)
-    (entry_is r connect sums n d f (omega (arith, ap (λ (x : ComponentTree). length x.rows) e, length-rows r connect)))
+admitted r connect tree outlines criterion n d flux answer e f h g asked =
+    asked (sums_of r connect n)
+    (outline_is r connect outlines n d f (omega (arith, ap (λ (x : ComponentTree). length x.rows) e, length-rows r connect)))
     ∙ ap (λ (z : ℤ). admits criterion (sums_of r connect n) z) g
 
 -- the rows of the tree rise
-pub trees_rise : (tree : ComponentTree) (sums : List Sums) → AreTheTrees tree sums → HasRisingLevels tree.rows
-trees_rise tree sums t =
+pub trees_rise : (tree : ComponentTree) (outlines : List Outline) → AreOutlinesOfTree tree outlines → HasRisingLevels tree.rows
+trees_rise tree outlines t =
     subst (λ (x : ComponentTree). HasRisingLevels x.rows) (sym t.of_plane.tree_is) (rise t.plane t.of_plane.connect t.one_each t.in_range)
   where
     rise : (r : Raster) (connect : Connect) → IsPlane r → HasValuesInRange r.values → HasRisingLevels (tree_of r connect).rows

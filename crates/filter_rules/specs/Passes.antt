@@ -6,7 +6,7 @@ use Rattle.comp_tree.specs.Limits.{IsWithinRange}
 use Rattle.comp_tree.specs.ComponentTree.{parent_in, no_node}
 use Rattle.comp_tree.specs.Laws.{IsAncestor}
 use Rattle.comp_tree.specs.Nesting.{level_in}
-use Rattle.node_sums.specs.declared.entry.Sums.{Sums}
+use Rattle.node_sums.specs.declared.outline.Outline.{Outline}
 use Rattle.filter_rules.specs.declared.rule.Rule.{Rule}
 use Rattle.filter_rules.specs.declared.rule.Rule.TheVariants.{Min, Max, Direct, Subtractive}
 
@@ -17,13 +17,13 @@ pub record HasRisingLevels (rows : List NodeRow) : Type 0 where
   pub levels : (n : ℕ) → n < length rows → IsWithinRange (level_in rows n)
   pub rising : (n : ℕ) → n < length rows → parent_in rows n < length rows → level_in rows (parent_in rows n) ≤ℤ level_in rows n
 
--- sums as those of a node of an image: the box lies in the image, and so do all pixels
-pub record HasBox (s : Sums) : Type 0 where
-  pub area : s.area ≤ 2 ^ 24
-  pub columns : s.xmin ≤ s.xmax
-  pub few_columns : s.xmax ≤ 65535
-  pub rows : s.ymin ≤ s.ymax
-  pub few_rows : s.ymax ≤ 65535
+-- an outline as that of a node of an image: the box lies in the image, and so do all pixels
+pub record HasBox (o : Outline) : Type 0 where
+  pub area : o.area ≤ 2 ^ 24
+  pub columns : o.xmin ≤ o.xmax
+  pub few_columns : o.xmax ≤ 65535
+  pub rows : o.ymin ≤ o.ymax
+  pub few_rows : o.ymax ≤ 65535
 
 -- the flag and the value of node n
 abbrev pub flag : List Bool → ℕ → Bool

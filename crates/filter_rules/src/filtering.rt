@@ -5,7 +5,7 @@ ghost use Rattle.comp_tree.specs.declared.shape.Connect.{Connect};
 ghost use Rattle.comp_tree.specs.Limits.{IsWithinRange};
 ghost use Rattle.comp_tree.specs.Components.{tree_of, no_node};
 ghost use Rattle.comp_tree.specs.Nesting.{level_in};
-ghost use Rattle.node_sums.specs.Sums.{sums_in, AreOfPlane};
+ghost use Rattle.node_sums.specs.Outlines.{outlines_in, AreOutlinesOfPlane};
 ghost use Rattle.filter_rules.specs.Filtered.{filtered};
 ghost use Rattle.filter_rules.specs.Passes.{HasRisingLevels, AreValues, value_of_node, filled_pixel as filled_pixel_of, value_in};
 
@@ -13,29 +13,31 @@ use crate::keeping::kept_nodes;
 use crate::rule::{Criterion, Rule};
 use comp_tree::{NONE, NodeRow, Plane, Shape, Tree};
 use dev_io::OutOfMemory;
-use node_sums::Sums;
+use node_sums::Outline;
 use std::alloc::Global;
 
 /// The plane that a filter leaves of `plane`: each pixel gets the level of the smallest kept node that holds it, or under
 /// `Rule::Subtractive` the sum of the rises of all kept nodes that hold it. Undefined pixels stay undefined.
 ///
-/// It takes at most three passes over the nodes and one over the pixels. The one error is that memory was refused.
+/// It takes at most three passes over the nodes and one over the pixels. The outlines go as soon as it is known which nodes
+/// are kept. The one error is that memory was refused.
 pub fn filter(
     alloc: Global,
     plane: &Plane,
     tree: &Tree,
-    sums: &[Sums],
+    outlines: Vec<Outline>,
     rule: Rule,
     criterion: &Criterion,
 ) -> Result<Plane, OutOfMemory>
-    requires of_plane { AreOfPlane plane.now tree.now sums.now }
+    requires of_plane { AreOutlinesOfPlane plane.now tree.now outlines.items }
     requires fill { criterion.now.min_fill ≤ 1000 }
     ensures { IfOk result (λ left. (connect : Connect) → tree.now ≡ tree_of plane.now connect
-        → sums.now ≡ sums_in plane.now connect
+        → outlines.items ≡ outlines_in plane.now connect
         → left ≡ filtered plane.now connect rule criterion.now) }
 {
     let shape = plane.shape();
-    let kept = kept_nodes(alloc, tree, sums, rule, criterion)?;
+    let kept = kept_nodes(alloc, tree, &outlines, rule, criterion)?;
+    drop(outlines);
     let values = node_values(alloc, tree.rows(), rule, &kept)?;
     fill(alloc, shape, tree.node_of(), &values)
 }

@@ -2,7 +2,7 @@
 
 ghost use Rattle.std.specs.Prelude.{◌≡◌, ℕ, ◌<◌, ◌≤◌, IfOk, length};
 ghost use Rattle.comp_tree.specs.Raster.{IsPlane};
-ghost use Rattle.node_sums.specs.Sums.{AreTheTrees, ForEachPlaneOf};
+ghost use Rattle.node_sums.specs.Outlines.{AreOutlinesOfTree, ForEachPlaneOutlined};
 ghost use Rattle.filter_rules.specs.Criteria.{satisfies as satisfies_criterion};
 ghost use Rattle.filter_rules.specs.Filtered.{satisfies_rule};
 ghost use Rattle.filter_rules.specs.Passes.{flag, HasRisingLevels, AreWithParents, AreWithChildren, AreKeptBy};
@@ -10,25 +10,25 @@ ghost use Rattle.filter_rules.specs.Passes.{flag, HasRisingLevels, AreWithParent
 use crate::rule::{Criterion, Rule};
 use comp_tree::{NONE, NodeRow, Tree};
 use dev_io::OutOfMemory;
-use node_sums::{Sums, flux};
+use node_sums::{Outline, flux_by_outlines};
 use std::alloc::Global;
 
 // For each node whether the rule keeps it. At a root the flag says nothing: roots are kept whatever it says.
 pub(crate) fn kept_nodes(
     alloc: Global,
     tree: &Tree,
-    sums: &[Sums],
+    outlines: &[Outline],
     rule: Rule,
     criterion: &Criterion,
 ) -> Result<Vec<bool>, OutOfMemory>
-    requires sums { AreTheTrees tree.now sums.now }
+    requires outlines { AreOutlinesOfTree tree.now outlines.now }
     requires fill { criterion.now.min_fill ≤ 1000 }
     ensures one_each { IfOk result (λ kept. length kept.items ≡ length tree.now.rows) }
-    ensures kept { IfOk result (λ kept. ForEachPlaneOf tree.now sums.now (λ plane connect. IsPlane plane
+    ensures kept { IfOk result (λ kept. ForEachPlaneOutlined tree.now outlines.now (λ plane connect. IsPlane plane
         → (n : ℕ) → n < length tree.now.rows
         → flag kept.items n ≡ satisfies_rule plane connect rule criterion.now n)) }
 {
-    let mut kept = satisfying(alloc, tree, sums, criterion)?;
+    let mut kept = satisfying(alloc, tree, outlines, criterion)?;
     apply(rule, tree.rows(), &mut kept);
     Ok(kept)
 }
@@ -37,33 +37,33 @@ pub(crate) fn kept_nodes(
 fn satisfying(
     alloc: Global,
     tree: &Tree,
-    sums: &[Sums],
+    outlines: &[Outline],
     criterion: &Criterion,
 ) -> Result<Vec<bool>, OutOfMemory>
-    requires sums { AreTheTrees tree.now sums.now }
+    requires outlines { AreOutlinesOfTree tree.now outlines.now }
     requires fill { criterion.now.min_fill ≤ 1000 }
     ensures one_each { IfOk result (λ flags. length flags.items ≡ length tree.now.rows) }
-    ensures flags { IfOk result (λ flags. ForEachPlaneOf tree.now sums.now (λ plane connect.
+    ensures flags { IfOk result (λ flags. ForEachPlaneOutlined tree.now outlines.now (λ plane connect.
         (n : ℕ) → n < length tree.now.rows
         → flag flags.items n ≡ satisfies_criterion plane connect criterion.now n)) }
 {
     let count = tree.rows().len() as u32;
     let mut flags = Vec::with_capacity(alloc, count as usize)?;
     for n in 0..count {
-        flags.push(satisfies(tree, sums, n, criterion))?;
+        flags.push(satisfies(tree, outlines, n, criterion))?;
     }
     Ok(flags)
 }
 
 // Whether a node satisfies the criterion.
-fn satisfies(tree: &Tree, sums: &[Sums], n: u32, criterion: &Criterion) -> bool
+fn satisfies(tree: &Tree, outlines: &[Outline], n: u32, criterion: &Criterion) -> bool
     requires node { n < length tree.now.rows }
-    requires sums { AreTheTrees tree.now sums.now }
+    requires outlines { AreOutlinesOfTree tree.now outlines.now }
     requires fill { criterion.now.min_fill ≤ 1000 }
-    ensures { ForEachPlaneOf tree.now sums.now
+    ensures { ForEachPlaneOutlined tree.now outlines.now
         (λ plane connect. result ≡ satisfies_criterion plane connect criterion.now n) }
 {
-    criterion.admits(&sums[n as usize], flux(tree, sums, n))
+    criterion.admits(&outlines[n as usize], flux_by_outlines(tree, outlines, n))
 }
 
 // From the nodes that satisfy the criterion to those that the rule keeps.

@@ -1,10 +1,12 @@
 //! The four rules, and what a node has to meet.
 
 ghost use Rattle.std.specs.Prelude.{◌≡◌, ◌≤◌, ◌^◌};
+ghost use Rattle.node_sums.specs.declared.entry.Sums.{Sums};
+ghost use Rattle.node_sums.specs.Outlines.{outline_of};
 ghost use Rattle.filter_rules.specs.Criteria.{admits, is_filled, box_of};
 ghost use Rattle.filter_rules.specs.Passes.{HasBox};
 
-use node_sums::Sums;
+use node_sums::Outline;
 
 /// How a filter decides which nodes of a component tree are kept, and what a pixel gets of the nodes that hold it. A root
 /// is kept under every rule.
@@ -35,35 +37,35 @@ pub struct Criterion {
 }
 
 impl Criterion {
-    // Whether a node with these sums and this flux satisfies it.
-    pub(crate) fn admits(&self, sums: &Sums, flux: i64) -> bool
-        requires pixels { HasBox sums.now }
+    // Whether a node whose sums have this outline satisfies it, with this flux.
+    pub(crate) fn admits(&self, outline: &Outline, flux: i64) -> bool
+        requires pixels { HasBox outline.now }
         requires fill { self.now.min_fill ≤ 1000 }
-        ensures { result ≡ admits self.now sums.now flux }
+        ensures { (s : Sums) → outline.now ≡ outline_of s → result ≡ admits self.now s flux }
     {
-        self.min_area <= sums.area
-            && sums.area <= self.max_area
+        self.min_area <= outline.area
+            && outline.area <= self.max_area
             && self.min_flux <= flux
-            && self.is_filled(sums)
+            && self.is_filled(outline)
     }
 
-    // Whether a node with these sums fills enough of its box.
-    fn is_filled(&self, sums: &Sums) -> bool
-        requires pixels { HasBox sums.now }
+    // Whether a node whose sums have this outline fills enough of its box.
+    fn is_filled(&self, outline: &Outline) -> bool
+        requires pixels { HasBox outline.now }
         requires fill { self.now.min_fill ≤ 1000 }
-        ensures { result ≡ is_filled self.now sums.now }
+        ensures { (s : Sums) → outline.now ≡ outline_of s → result ≡ is_filled self.now s }
     {
-        self.min_fill as u64 * places(sums) <= 1000 * sums.area as u64
+        self.min_fill as u64 * places(outline) <= 1000 * outline.area as u64
     }
 }
 
 // The number of grid places in a node's box.
-fn places(sums: &Sums) -> u64
-    requires { HasBox sums.now }
-    ensures exact { result ≡ box_of sums.now }
+fn places(outline: &Outline) -> u64
+    requires { HasBox outline.now }
+    ensures exact { (s : Sums) → outline.now ≡ outline_of s → result ≡ box_of s }
     ensures few { result ≤ 2 ^ 32 }
 {
-    let columns = sums.xmax - sums.xmin + 1;
-    let rows = sums.ymax - sums.ymin + 1;
+    let columns = outline.xmax - outline.xmin + 1;
+    let rows = outline.ymax - outline.ymin + 1;
     columns as u64 * rows as u64
 }

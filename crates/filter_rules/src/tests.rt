@@ -5,7 +5,7 @@ ghost use Rattle.std.specs.Prelude.{◌≤◌};
 use super::*;
 use comp_tree::{Connect, Plane, Shape, plain_tree};
 use dev_io::OutOfMemory;
-use node_sums::sums;
+use node_sums::outlines;
 use std::alloc::Global;
 use std::test::Fail;
 
@@ -39,8 +39,8 @@ fn filtered(
     requires { criterion.now.min_fill ≤ 1000 }
 {
     let tree = plain_tree(alloc, plane, Connect::Four)?;
-    let sums = sums(alloc, plane, &tree)?;
-    filter(alloc, plane, &tree, &sums, rule, criterion)
+    let outlines = outlines(alloc, plane, &tree)?;
+    filter(alloc, plane, &tree, outlines, rule, criterion)
 }
 
 // No node is refused for its area, flux or fill.

@@ -18,13 +18,13 @@ use Rattle.comp_tree.proofs.Exported.{length-rows}
 use Rattle.node_sums.specs.declared.entry.Sums.{Sums}
 use Rattle.node_sums.specs.Sums.{sums_over, sums_of, sums_in, AreTheTrees}
 use Rattle.node_sums.specs.Flux.{base_of, flux_of}
-use Rattle.node_sums.specs.Sizes.{IsUpTo, HasSizes, value_bound, total_bound}
+use Rattle.node_sums.specs.Sizes.{IsUpTo, HasSizes, HasFluxSizes, value_bound, total_bound}
 use Rattle.node_sums.proofs.Sizes.{sizes, filtered_pixels, level_up_to, up_to-times, up_to-minus, up_to_more}
 use Rattle.node_sums.proofs.Reading.{fits}
 use Rattle.node_sums.proofs.Totals.{total-less}
 use Rattle.node_sums.proofs.Fluxes.{BaseCase, at_root, at_child, base-case, never_negative}
 
-length-sums_in : (r : Raster) (connect : Connect) → length (sums_in r connect) ≡ length (nodes r connect)
+pub length-sums_in : (r : Raster) (connect : Connect) → length (sums_in r connect) ≡ length (nodes r connect)
 unfolding sums_in
 length-sums_in r connect =
     length-map (range_with_len 0 (length (nodes r connect))) (sums_of r connect) ∙ length-range_with_len 0 (length (nodes r connect))
@@ -90,26 +90,30 @@ pub record FluxFits (sum base : ℤ) (area : ℕ) : Type 0 where
   pub product_fits : SFits w64 (base *ℤ pos area)
   pub flux_fits : SFits w64 (sum -ℤ base *ℤ pos area)
 
-fits_from_sizes : (s : Sums) (base : ℤ) → HasSizes s → IsUpTo value_bound base → FluxFits s.r base s.area
-fits_from_sizes s base h b = record {
-  few = omega (arith, h.area);
-  sum_fits = fits w64 total_bound s.r sum (lit< tt);
-  base_fits = fits w64 value_bound base b (lit< tt);
-  product_fits = fits w64 total_bound (base *ℤ pos s.area) product (lit< tt);
-  flux_fits = fits w64 (total_bound + total_bound) (s.r -ℤ base *ℤ pos s.area) (up_to-minus total_bound total_bound s.r (base *ℤ pos s.area) sum product)
+pub fits_from_sizes : (area : ℕ) (r base : ℤ) → HasFluxSizes area r base → FluxFits r base area
+fits_from_sizes area r base h = record {
+  few = omega (arith, h.few);
+  sum_fits = fits w64 total_bound r h.sum (lit< tt);
+  base_fits = fits w64 value_bound base h.level (lit< tt);
+  product_fits = fits w64 total_bound (base *ℤ pos area) product (lit< tt);
+  flux_fits = fits w64 (total_bound + total_bound) (r -ℤ base *ℤ pos area) (up_to-minus total_bound total_bound r (base *ℤ pos area) h.sum product)
       (lit< tt);
 }
   where
-    sum : IsUpTo total_bound s.r
-    sum = up_to_more (value_bound * s.area) total_bound s.r h.r (omega (arith, h.area))
+    product : IsUpTo total_bound (base *ℤ pos area)
+    product = up_to-times value_bound (2 ^ 24) area base h.level h.few
 
-    product : IsUpTo total_bound (base *ℤ pos s.area)
-    product = up_to-times value_bound (2 ^ 24) s.area base b h.area
+flux_sizes : (s : Sums) (base : ℤ) → HasSizes s → IsUpTo value_bound base → HasFluxSizes s.area s.r base
+flux_sizes s base h b = record {
+  few = h.area;
+  sum = up_to_more (value_bound * s.area) total_bound s.r h.r (omega (arith, h.area));
+  level = b;
+}
 
 pub flux_numbers : (tree : ComponentTree) (sums : List Sums) (n : ℕ) (entry : Sums) → AreTheTrees tree sums → slice_get sums n ≡ Some entry
-    → FluxFits entry.r (base_of tree n) entry.area
+    → HasFluxSizes entry.area entry.r (base_of tree n)
 flux_numbers tree sums n entry t g =
-    fits_from_sizes entry (base_of tree n)
+    flux_sizes entry (base_of tree n)
     (subst HasSizes (sym (entry_is t.plane t.of_plane.connect sums n entry t.of_plane.sums_are g))
     (node_sizes t.plane t.of_plane.connect n t.one_each t.in_range))
     (subst (λ (x : ComponentTree). IsUpTo value_bound (base_of x n)) (sym t.of_plane.tree_is)
@@ -130,3 +134,16 @@ flux-read sum base got area f e = rw (product-read sum base got area f e, to_z-o
 pub result-read : (sum base got : ℤ) (area : ℕ) → FluxFits sum base area → got ≡ base
     → to_z w64 (of_z w64 (to_z w64 (of_z w64 sum) -ℤ to_z w64 (of_z w64 (to_z w64 (of_z w64 got) *ℤ to_z w64 area)))) ≡ sum -ℤ base *ℤ pos area
 result-read sum base got area f e = rw (flux-read sum base got area f e) (to_z-of_z w64 (sum -ℤ base *ℤ pos area) f.flux_fits)
+
+-- the sum of values, and the flux, as they are handed on
+sum-handed : (area : ℕ) (r base : ℤ) → HasFluxSizes area r base → to_z w64 (of_z w64 r) ≡ r
+sum-handed area r base h = to_z-of_z w64 r (fits w64 total_bound r h.sum (lit< tt))
+
+pub handed_sizes : (area : ℕ) (r base : ℤ) → HasFluxSizes area r base → HasFluxSizes area (to_z w64 (of_z w64 r)) base
+handed_sizes area r base h = subst (λ (z : ℤ). HasFluxSizes area z base) (sym (sum-handed area r base h)) h
+
+pub handed-flux : (area : ℕ) (r base result : ℤ) → HasFluxSizes area r base → result ≡ to_z w64 (of_z w64 r) -ℤ base *ℤ pos area
+    → to_z w64 (of_z w64 result) ≡ r -ℤ base *ℤ pos area
+handed-flux area r base result h e =
+    let is : result ≡ r -ℤ base *ℤ pos area = e ∙ ap (λ (z : ℤ). z -ℤ base *ℤ pos area) (sum-handed area r base h) in
+    ap (λ (z : ℤ). to_z w64 (of_z w64 z)) is ∙ to_z-of_z w64 (r -ℤ base *ℤ pos area) (fits_from_sizes area r base h).flux_fits

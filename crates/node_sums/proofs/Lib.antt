@@ -8,4 +8,6 @@ mod AreaSteps
 mod Totals
 mod Fluxes
 mod FluxOfSums
+mod OutlineFlux
+mod OutlineSteps
 pub mod Exported

@@ -6,3 +6,5 @@ pub mod Counted
 pub mod Merging
 pub mod Areas
 pub mod AreaPasses
+pub mod Outlines
+pub mod OutlinePasses

@@ -28,3 +28,9 @@ pub record HasSizes (s : Sums) : Type 0 where
   pub yy : s.yy ≤ 2 ^ 32 * s.area
   pub rx : IsUpTo (moment_bound * s.area) s.rx
   pub ry : IsUpTo (moment_bound * s.area) s.ry
+
+-- how large the numbers are of which a flux is made: an area, the sum of the values, and a base
+pub record HasFluxSizes (area : ℕ) (r base : ℤ) : Type 0 where
+  pub few : area ≤ 2 ^ 24
+  pub sum : IsUpTo total_bound r
+  pub level : IsUpTo value_bound base

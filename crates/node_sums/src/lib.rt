@@ -6,11 +6,13 @@ mod area;
 mod entry;
 pub mod laws;
 mod measures;
+mod outline;
 
 pub use adding::sums;
 pub use area::areas;
 pub use entry::Sums;
-pub use measures::{base, flux};
+pub use measures::{base, flux, flux_by_outlines};
+pub use outline::{Outline, outlines};
 
 #[cfg(test)]
 mod tests;

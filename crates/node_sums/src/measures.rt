@@ -4,8 +4,11 @@ ghost use Rattle.std.specs.Prelude.{◌≡◌, ◌<◌, pos, ◌-ℤ◌, ◌*ℤ
 ghost use Rattle.node_sums.specs.declared.entry.Sums.{Sums as Entry};
 ghost use Rattle.node_sums.specs.Sums.{AreTheTrees, ForEachPlaneOf};
 ghost use Rattle.node_sums.specs.Flux.{base_of, flux_of};
+ghost use Rattle.node_sums.specs.Sizes.{HasFluxSizes};
+ghost use Rattle.node_sums.specs.Outlines.{AreOutlinesOfTree, ForEachPlaneOutlined};
 
 use crate::entry::Sums;
+use crate::outline::Outline;
 use comp_tree::{NONE, Tree};
 
 /// The base of a node: the level of its parent, and at a root its own level.
@@ -35,5 +38,25 @@ pub fn flux(tree: &Tree, sums: &[Sums], n: u32) -> i64
     ensures never_negative { pos 0 ≤ℤ result }
 {
     let entry = sums[n as usize];
-    entry.r - base(tree, n) * entry.area as i64
+    above_base(tree, n, entry.area, entry.r)
+}
+
+/// The flux of a node, by the outlines of all.
+pub fn flux_by_outlines(tree: &Tree, outlines: &[Outline], n: u32) -> i64
+    requires node { n < length tree.now.rows }
+    requires outlines { AreOutlinesOfTree tree.now outlines.now }
+    ensures { ForEachPlaneOutlined tree.now outlines.now
+        (λ plane connect. result ≡ flux_of plane connect n) }
+{
+    let outline = outlines[n as usize];
+    above_base(tree, n, outline.area, outline.r)
+}
+
+// The sum of value less the node's base over so many pixels, whose values have the sum `r`.
+fn above_base(tree: &Tree, n: u32, area: u32, r: i64) -> i64
+    requires node { n < length tree.now.rows }
+    requires sizes { HasFluxSizes area r (base_of tree.now n) }
+    ensures { result ≡ r -ℤ base_of tree.now n *ℤ pos area }
+{
+    r - base(tree, n) * area as i64
 }

@@ -146,3 +146,41 @@ fn sums_and_fluxes_of_small_planes(rt: HostRuntime) -> Result<(), Fail> {
     }
     Ok(())
 }
+
+#[test]
+fn outlines_of_a_small_plane(rt: HostRuntime) -> Result<(), Fail> {
+    let shape = Shape::of(2, 2).ok_or("a shape")?;
+    let plane = plane_of(rt.alloc(), shape, &[3, -1, 99, 4])?;
+    let tree = plain_tree(rt.alloc(), &plane, Connect::Eight)?;
+    let found = outlines(rt.alloc(), &plane, &tree)?;
+    let expected = [
+        Outline {
+            area: 3,
+            r: 6,
+            xmin: 1,
+            xmax: 2,
+            ymin: 1,
+            ymax: 2,
+        },
+        Outline {
+            area: 2,
+            r: 7,
+            xmin: 1,
+            xmax: 2,
+            ymin: 1,
+            ymax: 2,
+        },
+        Outline {
+            area: 1,
+            r: 4,
+            xmin: 2,
+            xmax: 2,
+            ymin: 2,
+            ymax: 2,
+        },
+    ];
+    assert!(rt; found.as_slice() == expected.as_slice());
+    assert!(rt; tree.rows().len() == 3);
+    assert_eq!(rt; flux_by_outlines(&tree, &found, 1), 9);
+    Ok(())
+}

@@ -1,6 +1,6 @@
 //! A crew of workers that floods all strips of a plane.
 
-ghost use Rattle.std.specs.Prelude.{◌≡◌, ℕ, ◌+◌, ◌-◌, ◌*◌, ◌++◌, ◌<◌, ◌≤◌, List, [], ◌∷◌, All, IfOk, IsSomeAnd, length, vec_len, vec_capacity, false};
+ghost use Rattle.std.specs.Prelude.{◌≡◌, ◌≢◌, ℕ, ◌+◌, ◌-◌, ◌*◌, ◌++◌, ◌<◌, ◌≤◌, List, [], ◌∷◌, All, IfOk, IsSomeAnd, length, vec_len, vec_capacity, false};
 ghost use Rattle.std.specs.Mem.Slots.{slots_items, slots_len, IsFull};
 ghost use Rattle.comp_tree.specs.Grid.{IsAdjacency};
 ghost use Rattle.tree_join.specs.Cuts.{IsCut};
@@ -155,14 +155,67 @@ fn copy_links(
     links
 }
 
+// Room for the links of all strips. One strip needs none: its links stay where its flooding wrote them.
+fn room_for_links(alloc: Global, plane: &Plane, cut: &[u32]) -> Result<Vec<u32>, OutOfMemory>
+    ensures empty { IfOk result (λ links. links.items ≡ []) }
+    ensures room { IfOk result (λ links. length cut.now ≢ 1 → length plane.now.values ≤ vec_capacity links) }
+{
+    if cut.len() == 1 {
+        return Ok(Vec::new(alloc));
+    }
+    Ok(Vec::with_capacity(alloc, plane.shape().pixels() as usize)?)
+}
+
+// The links of the only job.
+fn only_links(
+    closed: Closed<StripJob, Global>,
+    plane: &Plane,
+    connect: Connect,
+    cut: &[u32],
+) -> Vec<u32>
+    requires full { IsFull closed.slots }
+    requires cut { IsCut plane.now.shape.height cut.now }
+    requires jobs { AreFlooded (plan_of plane.now connect cut.now) (slots_items closed.slots) }
+    requires one { length cut.now ≡ 1 }
+    ensures { AreCopied (plan_of plane.now connect cut.now) (length cut.now) result.items }
+{
+    let mut closed = closed;
+    // for its clauses alone: how many pixels a plane has
+    let _shape = plane.shape();
+    let job = closed.take(0);
+    closed.free();
+    job.into_parents()
+}
+
+// The links of all jobs, in order: copied where there is room for them, but for one strip, whose job gives them away.
+fn gather_links(
+    closed: Closed<StripJob, Global>,
+    room: Vec<u32>,
+    plane: &Plane,
+    connect: Connect,
+    cut: &[u32],
+) -> Vec<u32>
+    requires full { IsFull closed.slots }
+    requires cut { IsCut plane.now.shape.height cut.now }
+    requires jobs { AreFlooded (plan_of plane.now connect cut.now) (slots_items closed.slots) }
+    requires empty { room.items ≡ [] }
+    requires room { length cut.now ≢ 1 → length plane.now.values ≤ vec_capacity room }
+    ensures { AreCopied (plan_of plane.now connect cut.now) (length cut.now) result.items }
+{
+    if cut.len() == 1 {
+        return only_links(closed, plane, connect, cut);
+    }
+    copy_links(closed, room, plane, connect, cut)
+}
+
 /// Floods the plane in strips and joins them: a forest of the plane that stands for all its adjacencies, whatever the
 /// cut, the number of workers and the schedule.
 ///
 /// `cut` has the first row of each strip: it begins with 0 and rises, up to a row of the plane (`even_cut` gives such
 /// a one). There are from 1 to 64 workers, each in a thread of its own where one can be made; else they run one after
 /// another. All memory is taken before the first of them starts: the jobs of the strips (prepared in parallel), the
-/// table of claims, a place for each worker's seat, and the links. Once all strips are flooded, `join_group` joins them
-/// with 6 forks, so up to 64 groups of strips at once, whatever the number of workers.
+/// table of claims, a place for each worker's seat, and the links, which one strip's job has already. Once all strips are
+/// flooded, `join_group` joins them with 6 forks, so up to 64 groups of strips at once, whatever the number of workers.
 pub fn flood_all<R: Threads + Sync, G: Gate>(
     rt: &R,
     alloc: Global,
@@ -180,9 +233,8 @@ pub fn flood_all<R: Threads + Sync, G: Gate>(
     ensures stands { IfOk result (λ forest. StandsFor plane.now.values 0 forest
         (IsAdjacency plane.now.values plane.now.shape.width connect)) }
 {
-    let shape = plane.shape();
     let jobs = prepare_all(rt, alloc, plane, connect, cut, workers)?;
-    let links = Vec::with_capacity(alloc, shape.pixels() as usize)?;
+    let room = room_for_links(alloc, plane, cut)?;
     let places = Vec::with_capacity(alloc, workers as usize)?;
     let mut rows = Vec::with_capacity(alloc, cut.len())?;
     append_links(&mut rows, cut);
@@ -201,7 +253,7 @@ pub fn flood_all<R: Threads + Sync, G: Gate>(
     let Some(last) = dismiss(&table, places) else {
         unreachable!()
     };
-    let mut links = copy_links(close_crew(table, last), links, plane, connect, cut);
+    let mut links = gather_links(close_crew(table, last), room, plane, connect, cut);
     join_cut(rt, &mut links, plane, connect, cut);
     Ok(Forest::of(links))
 }

@@ -1,6 +1,6 @@
 -- The directions from a pixel to its neighbours.
 use Rattle.std.proofs.Common.{◌≡◌, ℕ, zero, suc, ◌+◌, ◌-◌, ◌*◌, ◌/◌, ◌%◌, ◌<◌, ◌≤◌, max, cond, ◌&&◌, true, is_some, List, Option, ℤ, ◌⊎◌, inl, inr, refl, sym}
-use Rattle.std.proofs.Common.{◌∙◌, ap, subst, ⊎_elim, arith, mul-le-mul_right}
+use Rattle.std.proofs.Common.{◌∙◌, ap, subst, ⊎_elim, arith}
 use Rattle.std.specs.Prelude.{nat_lt}
 use Rattle.std.proofs.lemmas.Bool.{cases_lt, and_parts}
 use Rattle.std.proofs.lemmas.Bool.Decides.{nat_tests}
@@ -9,7 +9,7 @@ use Rattle.comp_tree.specs.declared.shape.Connect.{Connect}
 use Rattle.comp_tree.specs.declared.shape.Connect.TheVariants.{Four, Eight}
 use Rattle.comp_tree.specs.Forest.{value_at, IsWithin}
 use Rattle.comp_tree.specs.Grid.{distance, are_neighbours, IsInner}
-use Rattle.strip_flood.specs.Flood.{direction_count, cell, cell_of, direction, IsAt, IsNeighbour, HasNone, IsInterior}
+use Rattle.strip_flood.specs.Flood.{direction_count, cell, cell_of, direction, IsAt, IsNeighbour, HasCell}
 use Rattle.comp_tree.proofs.Exported.{adjacent_turned, neighbours_four, neighbours_eight}
 
 pub inner_sym : (values : List (Option ℤ)) (width : ℕ) (connect : Connect) (first count x y : ℕ) → IsInner values width connect first count x y
@@ -182,10 +182,23 @@ found connect width first count p k q pos l w at = record {
       let bq : q + width + 1 ≡ p + cell connect k / 3 * width + cell connect k % 3 = at.place in omega arith;
 }
 
-pub missing : (connect : Connect) (width first count p k : ℕ) → 0 < width → ((y : ℕ) → IsWithin first count y → IsAt width p (cell connect k) y → ⊥)
-    → HasNone connect width first count p k
-missing connect width first count p k pos nothing =
-    record { no_node = λ y w near d. nothing y w (subst (λ j. IsAt width p (cell connect j) y) d (near_at connect width p y pos near)) }
+-- the neighbour in a cell that is there
+pub cell_found : (connect : Connect) (width first count p k q : ℕ) → 0 < width → k < direction_count connect → HasCell width first count p (cell connect k)
+    → q + width + 1 ≡ p + cell connect k / 3 * width + cell connect k % 3 → IsNeighbour connect width first count p k q
+cell_found connect width first count p k q pos l there e =
+    let up : first + width + 1 ≤ p + cell connect k / 3 * width + cell connect k % 3 = there.up in
+    let down : p + cell connect k / 3 * width + cell connect k % 3 < first + count + width + 1 = there.down in
+    found connect width first count p k q pos l (record { low = omega arith; high = omega arith })
+    (record { place = e; low = there.left; high = there.right })
+
+-- a neighbour's cell is there
+pub near_cell : (connect : Connect) (width first count p q : ℕ) → 0 < width → IsWithin first count q → are_neighbours connect width p q ≡ true
+    → HasCell width first count p (cell connect (direction connect width p q))
+near_cell connect width first count p q pos w e = by (cell connect (direction connect width p q)) (near_at connect width p q pos e) where
+  by : (m : ℕ) → IsAt width p m q → HasCell width first count p m
+  by m at = let place : q + width + 1 ≡ p + m / 3 * width + m % 3 = at.place in
+      let low : first ≤ q = w.low in let high : q < first + count = w.high in
+      record { up = omega arith; down = omega arith; left = at.low; right = at.high }
 
 -- a direction leads to one neighbour
 pub direction_once : (connect : Connect) (width p y n : ℕ) → 0 < width → are_neighbours connect width p y ≡ true → are_neighbours connect width p n ≡ true
@@ -198,21 +211,6 @@ direction_once connect width p y n pos near_y near_n same =
     let place_n : n + width + 1 ≡ p + cell connect (direction connect width p n) / 3 * width + cell connect (direction connect width p n) % 3 =
     b.place in omega arith
 
--- ---- pixels with all nine around them in the strip
-
-cell_nine : (connect : Connect) (k : ℕ) → k < direction_count connect → cell connect k < 9
+pub cell_nine : (connect : Connect) (k : ℕ) → k < direction_count connect → cell connect k < 9
 cell_nine Four k l = omega arith
 cell_nine Eight k l = (cell_eight k l).0
-
--- its neighbour lies behind the first of the nine
-pub inner_found : (connect : Connect) (width first count p k q : ℕ) → 0 < width → k < direction_count connect → IsInterior width first count p
-    → q + width + 1 ≡ p + (cell connect k / 3 * width + cell connect k % 3) → IsNeighbour connect width first count p k q
-inner_found connect width first count p k q wide l inner e = by (cell connect k) (cell_nine connect k l) e
-    (λ (w : IsWithin first count q) (at : IsAt width p (cell connect k) q). found connect width first count p k q wide l w at) where
-      by : (m : ℕ) → m < 9 → q + width + 1 ≡ p + (m / 3 * width + m % 3)
-          → (IsWithin first count q → IsAt width p m q → IsNeighbour connect width first count p k q) → IsNeighbour connect width first count p k q
-      by m nine is make =
-          let up : first + width < p = inner.up in let down : p + width + 1 < first + count = inner.down in
-          let left : 0 < p % width = inner.left in let right : p % width + 1 < width = inner.right in
-          let rows : m / 3 * width ≤ 2 * width = mul-le-mul_right width (omega arith) in
-          make (record { low = omega arith; high = omega arith }) (record { place = omega arith; low = omega arith; high = omega arith })

@@ -7,6 +7,8 @@ mod Counting
 mod Retiring
 mod Seeing
 mod Looking
+mod Edges
+mod Rounds
 mod Flooded
 mod Working
 mod Numbering

@@ -8,11 +8,11 @@ use Rattle.comp_tree.specs.Defined.{HasValue}
 use Rattle.comp_tree.specs.Grid.{are_neighbours}
 use Rattle.level_queue.specs.Queue.{IsEmpty, IsFront}
 use Rattle.strip_flood.proofs.Adapting.{IsNowhere}
-use Rattle.strip_flood.specs.Flood.{Ground, FloodState, state_with, list_at, direction_count, direction, IsOf, rank_of, cursor_of, IsInQueue, IsOpen}
-use Rattle.strip_flood.specs.Flood.{IsRanked, IsFair, IsTurning, IsTop, IsAtFront, IsNeighbour, HasNone}
+use Rattle.strip_flood.specs.Flood.{Ground, FloodState, state_with, list_at, direction_count, cell, direction, IsOf, rank_of, cursor_of, IsInQueue, IsOpen}
+use Rattle.strip_flood.specs.Flood.{IsRanked, IsFair, IsTurning, IsTop, IsAtFront, IsNeighbour, HasCell}
 use Rattle.comp_tree.proofs.Exported.{joined_trans, joined_pair, at_least_cases, adjacent_from}
 use Rattle.strip_flood.proofs.Flow.{IsSeen, IsAround, cursor_new, queued_new, queued_old}
-use Rattle.strip_flood.proofs.Directions.{inner_near}
+use Rattle.strip_flood.proofs.Directions.{inner_near, near_cell}
 use Rattle.strip_flood.proofs.Listing.{list_new, list_old}
 use Rattle.strip_flood.proofs.Stepping.{High, Adj, not_none, push_fair, look_fair}
 use Rattle.strip_flood.proofs.Retiring.{contains_some}
@@ -139,9 +139,11 @@ module _ (g : Ground) (s : FloodState) (ok : IsRanked g) (turning : IsTurning g 
         let low : rank_of g y < g.size = ok.there y i.other there in
         let low_n : rank_of g n < g.size = subst (λ x. rank_of g x < g.size) e low in omega arith
 
-    -- p has no neighbour in this direction
-    pub none_there : (k : ℕ) → HasNone g.connect g.width g.first (length g.ranks) p k → (y : ℕ) → Adj g p y → direction g.connect g.width p y ≡ k → ⊥
-    none_there k no_one y i d = no_one.no_node y i.other (inner_near g.values g.width g.connect g.first (length g.ranks) p y i) d
+    -- the strip has no pixel in this direction
+    pub none_there : (k : ℕ) → (HasCell g.width g.first (length g.ranks) p (cell g.connect k) → ⊥) → (y : ℕ) → Adj g p y
+        → direction g.connect g.width p y ≡ k → ⊥
+    none_there k none y i d = none (subst (λ j. HasCell g.width g.first (length g.ranks) p (cell g.connect j)) d
+        (near_cell g.connect g.width g.first (length g.ranks) p y ok.wide i.other (inner_near g.values g.width g.connect g.first (length g.ranks) p y i)))
 
     -- where there is no adjacency, all were seen
     pub seen_none : (k : ℕ) → ((y : ℕ) → Adj g p y → direction g.connect g.width p y ≡ k → ⊥) → IsSeen g s.cursors p k

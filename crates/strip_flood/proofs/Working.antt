@@ -1,10 +1,11 @@
 -- A strip's job, before and after it is flooded.
-use Rattle.std.proofs.Common.{◌^◌, ◌≡◌, ℕ, zero, suc, ◌+◌, ◌-◌, ◌*◌, ◌<◌, ◌≤◌, Bool, true, false, is_some, List, [], ◌∷◌, length, replicate, get_or}
+use Rattle.std.proofs.Common.{◌^◌, ◌≡◌, ℕ, zero, suc, ◌+◌, ◌-◌, ◌*◌, ◌%◌, ◌<◌, ◌≤◌, Bool, true, false, is_some, List, [], ◌∷◌, length, replicate, get_or}
 use Rattle.std.proofs.Common.{slice_index, Option, Some, None, ℤ, pos, ◌≤ℤ◌, ◌<ℤ◌, inl, inr, refl, sym, subst, subst₂, ap, ◌∙◌, ⊎_elim, arith}
 use Rattle.std.proofs.Common.{mul-le-mul_right}
 use Rattle.std.specs.Prelude.{nat_lt, ◌&&◌}
 use Rattle.std.specs.List.{slice_get}
 use Rattle.std.proofs.lemmas.Int.{ints}
+use Rattle.std.proofs.lemmas.Nat.{mod-mul-add}
 use Rattle.std.proofs.lemmas.Bool.{cases_eq, cases_lt, and_parts, false_from_ne_true, true≢false}
 use Rattle.std.proofs.lemmas.List.{get_or-map, length-map, get_or-replicate, length-replicate, get_or-append_right}
 use Rattle.std.proofs.lemmas.Option.{slice_get_past, slice_get-get_or}
@@ -220,6 +221,16 @@ strip_small width height first_row end_row count limits l h e = by (end_row - fi
   by n at c = let whole : (first_row + n) * width ≤ height * width = mul-le-mul_right width (omega arith) in
       let limit : width * height ≤ 2 ^ 24 = limits.few_pixels in omega arith
 
+-- whole rows end where a row does
+whole_rows : (width n : ℕ) → 0 < width → n * width % width ≡ 0
+whole_rows width n wide = let e : n * width ≡ n * width + 0 = omega arith in ap (λ x. x % width) e ∙ mod-mul-add n width 0 wide
+
+strip_ends : (width first_row end_row count : ℕ) → 0 < width → first_row < end_row → count ≡ (end_row - first_row) * width
+    → (first_row * width + count) % width ≡ 0
+strip_ends width first_row end_row count wide l e = by (end_row - first_row) e where
+  by : (n : ℕ) → count ≡ n * width → (first_row * width + count) % width ≡ 0
+  by n c = let s : first_row * width + count ≡ (first_row + n) * width = omega arith in ap (λ x. x % width) s ∙ whole_rows width (first_row + n) wide
+
 -- the strip of a job that is prepared
 pub strip_known : (connect : Connect) (width height first_row end_row : ℕ) (ranks : Vec ℕ Global) (levels : Vec ℤ Global) (offsets : List ℕ)
     → IsWithinLimits width height → first_row < end_row → end_row ≤ height
@@ -233,6 +244,8 @@ strip_known connect width height first_row end_row ranks levels offsets limits r
           (λ i l. plane_at (first_row * width) levels.items ranks.items i);
       narrow = limits.few_columns;
       few = small;
+      starts = whole_rows width first_row limits.some_columns;
+      ends = strip_ends width first_row end_row (length ranks.items) limits.some_columns rows count;
       offsets = far;
     }
 

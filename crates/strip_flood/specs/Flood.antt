@@ -1,6 +1,7 @@
 -- Bookkeeping: the flooding of one strip: what does not change, the state, and what holds between two turns.
 use Rattle.std.specs.Prelude.{◌≡◌, ℕ, ◌+◌, ◌-◌, ◌*◌, ◌/◌, ◌%◌, ◌<◌, ◌≤◌, nat_lt, cond}
 use Rattle.std.specs.Prelude.{Bool, ◌&&◌, IsTrue, List, [], length, slice_index, Contains, Option, ℤ, ◌⊎◌}
+use Rattle.std.specs.Int.{bit_at}
 use Rattle.comp_tree.specs.declared.shape.Connect.{Connect}
 use Rattle.comp_tree.specs.declared.shape.Connect.TheVariants.{Four, Eight}
 use Rattle.comp_tree.specs.Forest.{no_node, value_at, ReachesLevel, ComesEarlier, IsWithin, IsHigh, link_of, IsLink, IsForest}
@@ -146,10 +147,6 @@ pub record IsNeighbour (connect : Connect) (width first count p k n : ℕ) : Typ
   pub turned : direction connect width p n ≡ k
   pub only : (y : ℕ) → IsWithin first count y → IsTrue (are_neighbours connect width p y) → direction connect width p y ≡ k → y ≡ n
 
--- p has no neighbour in direction k
-pub record HasNone (connect : Connect) (width first count p k : ℕ) : Type 0 where
-  pub no_node : (y : ℕ) → IsWithin first count y → IsTrue (are_neighbours connect width p y) → direction connect width p y ≡ k → ⊥
-
 -- how far the pixel in each direction lies behind the first of the nine around and at a pixel
 pub record HasOffsets (connect : Connect) (width : ℕ) (offsets : List ℕ) : Type 0 where
   pub count : length offsets ≡ 8
@@ -161,6 +158,25 @@ pub record IsInterior (width first count p : ℕ) : Type 0 where
   pub down : p + width + 1 < first + count
   pub left : 0 < p % width
   pub right : p % width + 1 < width
+
+-- the grid has a pixel in cell m around p, of the nine, and it is of the count pixels from first on
+pub record HasCell (width first count p m : ℕ) : Type 0 where
+  pub up : first + width + 1 ≤ p + m / 3 * width + m % 3
+  pub down : p + m / 3 * width + m % 3 < first + count + width + 1
+  pub left : 0 < p % width + m % 3
+  pub right : p % width + m % 3 ≤ width
+
+-- the bits of a mask are the directions in which p has a pixel among the count from first on
+pub record HasDirections (connect : Connect) (width first count p mask : ℕ) : Type 0 where
+  pub there : (k : ℕ) → k < direction_count connect → bit_at mask k ≡ 1 → HasCell width first count p (cell connect k)
+  pub all : (k : ℕ) → k < direction_count connect → HasCell width first count p (cell connect k) → bit_at mask k ≡ 1
+
+-- the bits of four masks are the directions to the row above, the column to the left, the one to the right, and the row below
+pub record AreSides (connect : Connect) (above left right below : ℕ) : Type 0 where
+  pub up : (k : ℕ) → k < direction_count connect → bit_at above k ≡ 1 - cell connect k / 3
+  pub west : (k : ℕ) → k < direction_count connect → bit_at left k ≡ 1 - cell connect k % 3
+  pub east : (k : ℕ) → k < direction_count connect → bit_at right k ≡ cell connect k % 3 - 1
+  pub down : (k : ℕ) → k < direction_count connect → bit_at below k ≡ cell connect k / 3 - 1
 
 -- all that the cursors have to go
 abbrev pub work : List ℕ → ℕ

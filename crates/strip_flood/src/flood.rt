@@ -6,10 +6,10 @@
 //! earliest is kept, and the others are linked to it. When the rank runs empty, its kept pixel is linked to the front of the next
 //! rank. Only then is the queue asked for its highest rank: else the pixel to go on from is known.
 
-ghost use Rattle.std.specs.Prelude.{◌^◌, ◌≡◌, ◌≢◌, ℕ, ◌+◌, ◌-◌, ◌%◌, ◌<◌, ◌≤◌, length, IfOk, IfSome, MatchOption, slice_set, slice_index, [], true, false};
+ghost use Rattle.std.specs.Prelude.{◌^◌, ◌≡◌, ◌≢◌, ℕ, ◌+◌, ◌-◌, ◌<◌, ◌≤◌, length, IfOk, IfSome, MatchOption, slice_set, slice_index, [], true, false};
 ghost use Rattle.comp_tree.specs.Forest.{no_node, IsForest};
 ghost use Rattle.level_queue.specs.Queue.{list_at, IsEmpty};
-ghost use Rattle.strip_flood.specs.Flood.{direction_count, rank_of, IsOf, IsNeighbour, IsInterior, IsFair, IsBusyBut, work, seen_count, looks};
+ghost use Rattle.strip_flood.specs.Flood.{direction_count, rank_of, IsOf, IsNeighbour, IsFair, IsBusyBut, work, seen_count, looks};
 ghost use Rattle.strip_flood.specs.Strips.{ground_of, state_of, values_of, cursor_at, IsStrip, IsBetweenTurns, IsCurrent, IsTurned, IsLooking, IsCurrentWhile, IsLook, IsStepOf, IsFresh, StandsForStrip, defined_in, adjacencies_in};
 
 use crate::strip::{Strip, directions};
@@ -101,102 +101,8 @@ impl Flood {
         Some(Current { rank, pixel: n })
     }
 
-    // Looks where the cursor leads, if there is a pixel. It tells where the flooding goes on, if that is not the current pixel.
-    #[inline]
-    fn look<A: Ledger, B: Ledger>(
-        &mut self,
-        strip: &Strip,
-        at: Current,
-        column: u32,
-        cursor: u8,
-        queued: &mut Steps<A>,
-        looked: &mut Steps<B>,
-    ) -> Option<Current>
-        requires strip { IsStrip strip.now }
-        requires looking { IsLooking strip.now self.old at.pixel cursor }
-        requires front { IsCurrentWhile strip.now self.old at.pixel cursor at.rank at.pixel }
-        requires column { column ≡ at.pixel % strip.now.width }
-        requires first { 0 < cursor }
-        requires last { cursor ≤ direction_count strip.now.connect }
-        ensures look { IsLook strip.now self.old self.new at.pixel cursor queued.old queued.new looked.old looked.new }
-        ensures next { MatchOption result (IsCurrentWhile strip.now self.new at.pixel (cursor + 1) at.rank at.pixel)
-            (λ c. IsCurrentWhile strip.now self.new at.pixel (cursor + 1) c.rank c.pixel) }
-    {
-        let Some(n) = strip.neighbour(at.pixel, column, u32::from(cursor - 1)) else {
-            return None;
-        };
-        self.see(strip, at, cursor, n, queued, looked)
-    }
-
-    // Looks in all directions that are left, up to the first that leads to a higher pixel, from a pixel with all nine around it in
-    // the strip. It tells where the flooding goes on, if that is not the current pixel.
-    fn look_inside<A: Ledger, B: Ledger>(
-        &mut self,
-        strip: &Strip,
-        at: Current,
-        queued: &mut Steps<A>,
-        looked: &mut Steps<B>,
-    ) -> Option<Current>
-        requires strip { IsStrip strip.now }
-        requires between { IsBetweenTurns strip.now self.old }
-        requires front { IsCurrent strip.now self.old at.rank at.pixel }
-        requires interior { IsInterior strip.now.width strip.now.first (length strip.now.ranks.items) at.pixel }
-        ensures between { IsBetweenTurns strip.now self.new }
-        ensures step { IsStepOf strip.now self.old self.new queued.old queued.new looked.old looked.new }
-        ensures work { IfSome result (λ c. work self.new.cursors.items < work self.old.cursors.items) }
-        ensures next { MatchOption result (IsTurned strip.now self.new at.rank at.pixel)
-            (λ c. IsCurrent strip.now self.new c.rank c.pixel) }
-    {
-        let last = directions(strip.connect);
-        let here = (at.pixel - strip.first) as usize;
-        let mut cursor = self.cursors[here];
-        while cursor <= last {
-            let n = strip.inner_neighbour(at.pixel, u32::from(cursor - 1));
-            if let Some(higher) = self.see(strip, at, cursor, n, queued, looked) {
-                self.cursors[here] = cursor + 1;
-                return Some(higher);
-            }
-            cursor += 1;
-        }
-        self.cursors[here] = cursor;
-        None
-    }
-
-    // Does the same from any pixel.
-    fn look_at_edge<A: Ledger, B: Ledger>(
-        &mut self,
-        strip: &Strip,
-        at: Current,
-        queued: &mut Steps<A>,
-        looked: &mut Steps<B>,
-    ) -> Option<Current>
-        requires strip { IsStrip strip.now }
-        requires between { IsBetweenTurns strip.now self.old }
-        requires front { IsCurrent strip.now self.old at.rank at.pixel }
-        ensures between { IsBetweenTurns strip.now self.new }
-        ensures step { IsStepOf strip.now self.old self.new queued.old queued.new looked.old looked.new }
-        ensures work { IfSome result (λ c. work self.new.cursors.items < work self.old.cursors.items) }
-        ensures next { MatchOption result (IsTurned strip.now self.new at.rank at.pixel)
-            (λ c. IsCurrent strip.now self.new c.rank c.pixel) }
-    {
-        let column = at.pixel % strip.width;
-        let last = directions(strip.connect);
-        let place = (at.pixel - strip.first) as usize;
-        let mut cursor = self.cursors[place];
-        while cursor <= last {
-            if let Some(higher) = self.look(strip, at, column, cursor, queued, looked) {
-                self.cursors[place] = cursor + 1;
-                return Some(higher);
-            }
-            cursor += 1;
-        }
-        self.cursors[place] = cursor;
-        None
-    }
-
-    // Looks in all directions that are left, up to the first that leads to a higher pixel. It tells where the flooding goes on,
-    // if that is not the current pixel.
-    #[inline]
+    // Looks in all directions that are left and stay in the strip, up to the first that leads to a higher pixel. It tells where
+    // the flooding goes on, if that is not the current pixel.
     fn look_around<A: Ledger, B: Ledger>(
         &mut self,
         strip: &Strip,
@@ -213,10 +119,25 @@ impl Flood {
         ensures next { MatchOption result (IsTurned strip.now self.new at.rank at.pixel)
             (λ c. IsCurrent strip.now self.new c.rank c.pixel) }
     {
-        if strip.is_interior(at.pixel) {
-            return self.look_inside(strip, at, queued, looked);
+        let inside = strip.directions_inside(at.pixel);
+        let count = directions(strip.connect);
+        // a local, so that it isn't read again at each look
+        let corner = strip.width + 1;
+        let here = (at.pixel - strip.first) as usize;
+        let mut k = u32::from(self.cursors[here] - 1);
+        while k < count {
+            if inside >> k & 1 == 1 {
+                let n = strip.neighbour(at.pixel, corner, k);
+                let cursor = k as u8 + 1;
+                if let Some(higher) = self.see(strip, at, cursor, n, queued, looked) {
+                    self.cursors[here] = cursor + 1;
+                    return Some(higher);
+                }
+            }
+            k += 1;
         }
-        self.look_at_edge(strip, at, queued, looked)
+        self.cursors[here] = k as u8 + 1;
+        None
     }
 
     // Takes out the current pixel, which has no direction left. It is linked to the kept pixel of its rank, or kept in its place.

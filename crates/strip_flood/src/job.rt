@@ -113,6 +113,16 @@ impl StripJob {
         &self.flood.links
     }
 
+    /// Gives the links out of the job, in the order of the pixels, and lets go of all else.
+    pub fn into_parents(self) -> Vec<u32>
+        ensures links { result.items ≡ self.links }
+        ensures count { length self.links ≡ length self.values }
+        ensures standing { IsStandingWhereFlooded self }
+    {
+        let flood = self.flood;
+        flood.links
+    }
+
     /// Floods the strip. It takes no memory, and reads no value of the plane again: the plane is named for the contract alone.
     pub fn flood<A: Ledger, B: Ledger>(
         &mut self,

@@ -1,7 +1,7 @@
 //! A strip of a plane as its flooding reads it.
 
-ghost use Rattle.std.specs.Prelude.{◌≡◌, ◌*◌, ◌+◌, ◌%◌, ◌<◌, ◌≤◌, length, true, MatchOption};
-ghost use Rattle.strip_flood.specs.Flood.{direction_count, cell, rank_of, IsOf, IsNeighbour, HasNone, HasOffsets, IsInterior};
+ghost use Rattle.std.specs.Prelude.{◌^◌, ◌≡◌, ◌+◌, ◌-◌, ◌<◌, ◌≤◌, length, true, false, MatchOption};
+ghost use Rattle.strip_flood.specs.Flood.{direction_count, cell, rank_of, IsOf, IsNeighbour, HasOffsets, IsInterior, HasCell, HasDirections, AreSides};
 ghost use Rattle.strip_flood.specs.Strips.{ground_of, IsStrip};
 
 use comp_tree::Connect;
@@ -22,7 +22,7 @@ pub struct Strip {
 }
 
 // The number of directions in which a pixel may have a neighbour.
-pub(crate) fn directions(connect: Connect) -> u8
+pub(crate) fn directions(connect: Connect) -> u32
     ensures all { result ≡ direction_count connect }
     ensures few { result ≤ 8 }
 {
@@ -32,16 +32,51 @@ pub(crate) fn directions(connect: Connect) -> u8
     }
 }
 
-// The cell that direction `k` leads to, of the nine around and at a pixel, counted row by row.
-fn cell_at(connect: Connect, k: u32) -> u32
-    requires { k < direction_count connect }
-    ensures cell { result ≡ cell connect k }
-    ensures nine { result < 9 }
+// All directions, by a bit for each, the lowest for direction 0.
+fn all_directions(connect: Connect) -> u32
+    ensures { result ≡ 2 ^ direction_count connect - 1 }
 {
     match connect {
-        Connect::Four => 2 * k + 1,
-        Connect::Eight => { if k < 4 { k } else { k + 1 } }
+        Connect::Four => 0b1111,
+        Connect::Eight => 0b1111_1111,
     }
+}
+
+// The directions that lead to each side of a pixel, by a bit for each direction.
+#[derive(Clone, Copy)]
+struct Sides {
+    above: u32,
+    left: u32,
+    right: u32,
+    below: u32,
+}
+
+// The directions that lead to each side of a pixel.
+fn sides_of(connect: Connect) -> Sides
+    ensures { AreSides connect result.above result.left result.right result.below }
+{
+    match connect {
+        Connect::Four => Sides {
+            above: 0b0001,
+            left: 0b0010,
+            right: 0b0100,
+            below: 0b1000,
+        },
+        Connect::Eight => Sides {
+            above: 0b0000_0111,
+            left: 0b0010_1001,
+            right: 0b1001_0100,
+            below: 0b1110_0000,
+        },
+    }
+}
+
+// The directions that lead over an edge: all of its side, if the pixel lies there.
+fn over_edge(side: u32, is_there: bool) -> u32
+    ensures edge { is_there ≡ true → result ≡ side }
+    ensures inner { is_there ≡ false → result ≡ 0 }
+{
+    if is_there { side } else { 0 }
 }
 
 // How far the pixel in each direction lies behind the first of the nine around and at a pixel.
@@ -80,32 +115,9 @@ impl Strip {
         }
     }
 
-    // The strip's pixel in direction `k` from `p`, a pixel of this column.
-    pub(crate) fn neighbour(&self, p: u32, column: u32, k: u32) -> Option<u32>
-        requires strip { IsStrip self.now }
-        requires inside { IsOf (ground_of self.now) p }
-        requires column { column ≡ p % self.now.width }
-        requires direction { k < direction_count self.now.connect }
-        ensures { let count = length self.now.ranks.items in
-            MatchOption result (HasNone self.now.connect self.now.width self.now.first count p k)
-            (λ n. IsNeighbour self.now.connect self.now.width self.now.first count p k n) }
-    {
-        let cell = cell_at(self.connect, k);
-        let across = column + cell % 3;
-        if across == 0 || across > self.width {
-            return None;
-        }
-        let end = self.first + self.count();
-        // one row and one column further than the neighbour, so that no difference is below 0
-        let sum = p + cell / 3 * self.width + cell % 3;
-        if sum < self.first + self.width + 1 || sum >= end + self.width + 1 {
-            return None;
-        }
-        Some(sum - self.width - 1)
-    }
     // Whether all nine pixels around and at this one lie in the strip.
     #[inline]
-    pub(crate) fn is_interior(&self, p: u32) -> bool
+    fn is_interior(&self, p: u32) -> bool
         requires strip { IsStrip self.now }
         requires inside { IsOf (ground_of self.now) p }
         ensures { result ≡ true → IsInterior self.now.width self.now.first (length self.now.ranks.items) p }
@@ -118,14 +130,43 @@ impl Strip {
         column > 0 && column + 1 < self.width
     }
 
-    // The pixel in direction `k` from one that has all nine around it in the strip.
-    #[inline]
-    pub(crate) fn inner_neighbour(&self, p: u32, k: u32) -> u32
+    // The directions from a pixel at an edge that stay in the strip, by a bit for each.
+    fn directions_at_edge(&self, p: u32) -> u32
         requires strip { IsStrip self.now }
-        requires interior { IsInterior self.now.width self.now.first (length self.now.ranks.items) p }
+        requires inside { IsOf (ground_of self.now) p }
+        ensures { HasDirections self.now.connect self.now.width self.now.first (length self.now.ranks.items) p result }
+    {
+        let sides = sides_of(self.connect);
+        let column = p % self.width;
+        let above = over_edge(sides.above, p - self.first < self.width);
+        let left = over_edge(sides.left, column == 0);
+        let right = over_edge(sides.right, column + 1 == self.width);
+        let below = over_edge(sides.below, p - self.first + self.width >= self.count());
+        all_directions(self.connect) & !(above | left | right | below)
+    }
+
+    // The directions from a pixel that stay in the strip, by a bit for each. Most pixels are interior, and have all.
+    #[inline]
+    pub(crate) fn directions_inside(&self, p: u32) -> u32
+        requires strip { IsStrip self.now }
+        requires inside { IsOf (ground_of self.now) p }
+        ensures { HasDirections self.now.connect self.now.width self.now.first (length self.now.ranks.items) p result }
+    {
+        if self.is_interior(p) {
+            return all_directions(self.connect);
+        }
+        self.directions_at_edge(p)
+    }
+
+    // The pixel in direction `k`, which stays in the strip. The first of the nine around and at the pixel is `corner` in front.
+    #[inline]
+    pub(crate) fn neighbour(&self, p: u32, corner: u32, k: u32) -> u32
+        requires strip { IsStrip self.now }
+        requires corner { corner ≡ self.now.width + 1 }
         requires direction { k < direction_count self.now.connect }
+        requires there { HasCell self.now.width self.now.first (length self.now.ranks.items) p (cell self.now.connect k) }
         ensures { IsNeighbour self.now.connect self.now.width self.now.first (length self.now.ranks.items) p k result }
     {
-        p - self.width - 1 + self.offsets[k as usize]
+        p + self.offsets[k as usize] - corner
     }
 }

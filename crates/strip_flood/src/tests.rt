@@ -53,11 +53,11 @@ fn try_case<A: Ledger, B: Ledger>(
     assert_eq!(rt; job.first_row(), case.first_row);
     assert_eq!(rt; job.end_row(), case.end_row);
     let first = case.first_row * plane.shape().width;
+    let count = job.parents().len();
+    let links = job.into_parents();
+    assert_eq!(rt; links.len(), count);
     for (pixel, value, wanted) in case.lasts {
-        assert_eq!(rt;
-            last(rt, &plane, first, job.parents(), *pixel, *value),
-            *wanted
-        );
+        assert_eq!(rt; last(rt, &plane, first, &links, *pixel, *value), *wanted);
     }
     Ok(())
 }

@@ -22,8 +22,8 @@ new-requires g c =
     (record { some_strip = c.requires.cut.some; most_strips = short; some_worker = c.requires.some; most_workers = c.requires.most }))
     (subst (λ (p : Plan). AreReady p 0 (length p.cut) c.in_ok-jobs.jobs.items) (sym same) c.in_ok-jobs.ensures)
 
-pub copy_links-links-requires-clause-jobs : goal.copy_links-links-requires-clause-jobs
-copy_links-links-requires-clause-jobs g c =
+pub gather_links-links-requires-clause-jobs : goal.gather_links-links-requires-clause-jobs
+gather_links-links-requires-clause-jobs g c =
     let cut = c.args.cut.now in let rows = c.append_links.new.links.items in let value = c.of.result.value in
     let are = c.append_links.ensures.items ∙ ap (λ l. l ++ cut) c.in_ok-rows.ensures.items in
     let run = run_of c.in-Ok.made.0.shared.key in
@@ -40,17 +40,17 @@ close_crew-requires g c =
 pub join_cut-requires-clause-copied : goal.join_cut-requires-clause-copied
 join_cut-requires-clause-copied g c κs within =
     subst (AreCopied (plan_of c.args.plane.now c.args.connect c.args.cut.now) (length c.args.cut.now))
-    (sym c.deref_mut-2.ensures.value) c.copy_links-links.ensures
+    (sym c.deref_mut-2.ensures.value) c.gather_links-links.ensures
 
 pub returns-clause-count : goal.returns-clause-count
 returns-clause-count g c =
-    let plane = c.args.plane.now in let old = c.copy_links-links.result in let are = c.deref_mut-2.ensures.value in let new =
+    let plane = c.args.plane.now in let old = c.gather_links-links.result in let are = c.deref_mut-2.ensures.value in let new =
     c.join_cut.new.links in let same : length new ≡ length c.deref_mut-2.result.now = c.join_cut.auto.links in
     ap (λ (l : List ℕ). length l) (c.of-2.ensures ∙ pasted old.items new old.len old.ok.0 (same ∙ ap (λ (l : List ℕ). length l) are)) ∙ c.join_cut.ensures.count
 
 pub returns-clause-stands : goal.returns-clause-stands
 returns-clause-stands g c =
-    let plane = c.args.plane.now in let old = c.copy_links-links.result in let are = c.deref_mut-2.ensures.value in let new =
+    let plane = c.args.plane.now in let old = c.gather_links-links.result in let are = c.deref_mut-2.ensures.value in let new =
     c.join_cut.new.links in let same : length new ≡ length c.deref_mut-2.result.now = c.join_cut.auto.links in
     subst (λ (l : List ℕ). StandsFor plane.values 0 l (IsAdjacency plane.values plane.shape.width c.args.connect))
     (sym (c.of-2.ensures ∙ pasted old.items new old.len old.ok.0 (same ∙ ap (λ (l : List ℕ). length l) are)))
