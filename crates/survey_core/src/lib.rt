@@ -20,8 +20,3 @@ pub use keeper::{Keeper, Refused};
 pub use mem_keeper::MemKeeper;
 pub use top::run_survey;
 pub use words::path_of;
-
-#[cfg(test)]
-mod session_tests;
-#[cfg(test)]
-mod tests;

@@ -15,12 +15,3 @@ pub use file_keeper::FileKeeper;
 pub use reading::{Unread, read_cells, read_names};
 pub use sql_keeper::SqlKeeper;
 pub use statements::make_table;
-
-#[cfg(test)]
-mod foreign_tests;
-#[cfg(test)]
-mod sample;
-#[cfg(test)]
-mod session_tests;
-#[cfg(test)]
-mod tests;

@@ -1,12 +1,11 @@
 //! Catalogues for the tests: five pixels in a row, and a table of their sources.
 
 use catalogue_form::{CELLS_IN_ROW, FLUX, NUMBER, XCEN, YCEN, catalogue_columns};
+use dev_io::BLOCK;
 use fits_write::Cell;
 use itoa::Buffer;
 use std::alloc::Global;
 use std::test::Fail;
-
-const BLOCK: usize = 2880;
 
 const PRIMARY: [&[u8]; 5] = [
     b"SIMPLE  =                    T",
@@ -16,7 +15,8 @@ const PRIMARY: [&[u8]; 5] = [
     b"END",
 ];
 
-const MAP: [&[u8]; 8] = [
+/// The image of the labels, with no name.
+pub(crate) const MAP: [&[u8]; 8] = [
     b"XTENSION= 'IMAGE   '",
     b"BITPIX  =                   32",
     b"NAXIS   =                    2",
@@ -24,6 +24,19 @@ const MAP: [&[u8]; 8] = [
     b"NAXIS2  =                    1",
     b"PCOUNT  =                    0",
     b"GCOUNT  =                    1",
+    b"END",
+];
+
+/// The image of the labels with its name, at which a survey doesn't look.
+pub(crate) const NAMED_MAP: [&[u8]; 9] = [
+    b"XTENSION= 'IMAGE   '",
+    b"BITPIX  =                   32",
+    b"NAXIS   =                    2",
+    b"NAXIS1  =                    5",
+    b"NAXIS2  =                    1",
+    b"PCOUNT  =                    0",
+    b"GCOUNT  =                    1",
+    b"EXTNAME = 'SEGMENT '",
     b"END",
 ];
 
@@ -41,10 +54,19 @@ const TABLE_SIZES: [&[u8]; 2] = [
 /// NUMBER, FLUX and XCEN of a row.
 pub(crate) type Source = (i32, i64, i32);
 
+/// A catalogue: how wide its rows are said to be, and their sources.
+#[derive(Clone, Copy)]
+pub(crate) struct Sample<'a> {
+    pub(crate) width: usize,
+    pub(crate) sources: &'a [Source],
+}
+
 // Fills the last block.
 fn fill_block(bytes: &mut Vec<u8>, byte: u8) -> Result<(), Fail> {
     let rest = (BLOCK - bytes.len() % BLOCK) % BLOCK;
-    bytes.extend_from_slice(&[byte; BLOCK][..rest])?;
+    for _ in 0..rest {
+        bytes.push(byte)?;
+    }
     Ok(())
 }
 
@@ -102,28 +124,48 @@ fn add_row(bytes: &mut Vec<u8>, source: Source) -> Result<(), Fail> {
     Ok(())
 }
 
-/// A catalogue whose rows are said to have this width.
-pub(crate) fn catalogue(alloc: Global, width: usize, sources: &[Source]) -> Result<Vec<u8>, Fail> {
-    let mut bytes = Vec::new(alloc);
-    add_cards(&mut bytes, &PRIMARY)?;
-    fill_block(&mut bytes, b' ')?;
-    add_cards(&mut bytes, &MAP)?;
-    fill_block(&mut bytes, b' ')?;
-    bytes.extend_from_slice(&[0; BLOCK])?;
-    add_cards(&mut bytes, &TABLE)?;
+// The primary header, the image of the labels with these cards, and its pixels, all 0.
+fn add_image(bytes: &mut Vec<u8>, map: &[&[u8]]) -> Result<(), Fail> {
+    add_cards(bytes, &PRIMARY)?;
+    fill_block(bytes, b' ')?;
+    add_cards(bytes, map)?;
+    fill_block(bytes, b' ')?;
+    bytes.extend_from_slice(&[0; 20])?;
+    fill_block(bytes, 0)
+}
+
+fn add_table_header(bytes: &mut Vec<u8>, width: usize, height: usize) -> Result<(), Fail> {
+    add_cards(bytes, &TABLE)?;
     bytes.extend_from_slice(&number_card(b"NAXIS1", width))?;
-    bytes.extend_from_slice(&number_card(b"NAXIS2", sources.len()))?;
-    add_cards(&mut bytes, &TABLE_SIZES)?;
+    bytes.extend_from_slice(&number_card(b"NAXIS2", height))?;
+    add_cards(bytes, &TABLE_SIZES)?;
     bytes.extend_from_slice(&number_card(b"TFIELDS", CELLS_IN_ROW))?;
     // the name of the table, and two cards for each column
     for _ in 0..2 * CELLS_IN_ROW + 1 {
         bytes.extend_from_slice(&card(b"COMMENT"))?;
     }
     bytes.extend_from_slice(&card(b"END"))?;
-    fill_block(&mut bytes, b' ')?;
-    for source in sources {
-        add_row(&mut bytes, *source)?;
+    fill_block(bytes, b' ')
+}
+
+fn add_catalogue(bytes: &mut Vec<u8>, map: &[&[u8]], sample: Sample) -> Result<(), Fail> {
+    add_image(bytes, map)?;
+    add_table_header(bytes, sample.width, sample.sources.len())?;
+    for source in sample.sources {
+        add_row(bytes, *source)?;
     }
-    fill_block(&mut bytes, 0)?;
+    fill_block(bytes, 0)
+}
+
+/// These catalogues one behind the other, each with an image of these cards.
+pub(crate) fn catalogues(
+    alloc: Global,
+    map: &[&[u8]],
+    samples: &[Sample],
+) -> Result<Vec<u8>, Fail> {
+    let mut bytes = Vec::new(alloc);
+    for sample in samples {
+        add_catalogue(&mut bytes, map, *sample)?;
+    }
     Ok(bytes)
 }
