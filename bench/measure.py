@@ -8,6 +8,7 @@ one strip, and in 16 strips with four workers; each time is the median of its ru
 import argparse
 import os
 import pathlib
+import re
 import statistics
 import subprocess
 import sys
@@ -15,6 +16,8 @@ import tempfile
 import time
 
 TOP = pathlib.Path(__file__).resolve().parent.parent
+# What `./maxdetect` and the Python package ask the C library for.
+LARGE_PAGES = re.search(r"GLIBC_TUNABLES=([\w.=:]+)", (TOP / "maxdetect").read_text())[1]
 SOURCES = ["--threshold", "60", "--min-area", "5", "--mesh", "64", "--connect", "8"]
 CREWS = {"one strip": [], "16 strips, 4 workers": ["--strips", "16", "--workers", "4"]}
 COMMANDS = {"detect": ["detect"], "measure": ["measure", "--values", "1"]}
@@ -24,7 +27,7 @@ def timed(program, image, words):
     """Seconds and peak megabytes."""
     with open(image, "rb") as source:
         start = time.perf_counter()
-        process = subprocess.Popen([program, *words], stdin=source, stdout=subprocess.DEVNULL)
+        process = subprocess.Popen([program, *words], stdin=source, stdout=subprocess.DEVNULL, env={**os.environ, "GLIBC_TUNABLES": LARGE_PAGES})
         _, status, usage = os.wait4(process.pid, 0)
         seconds = time.perf_counter() - start
     if status != 0:

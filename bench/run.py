@@ -9,7 +9,8 @@ The images are star fields of 16 bits (examples/star_field.py), white noise of 3
 values as there are pixels, with one, four and sixteen strips, since that is where joining strips costs most. The yardstick for `tree` is a plain
 union-find in C++ (it wants g++), whose output must be the same bytes. Where they are installed it also times scikit-image's
 max-tree and Source Extractor (Debian: python3-skimage with python3-astropy, and source-extractor) on the same files; these do other work, so their
-outputs are not compared. Times are wall clock, with reading and writing; memory is the peak of the process. Run it with nothing else running.
+outputs are not compared. Times are wall clock, with reading and writing; memory is the peak of the process. maxdetect runs with large pages of memory,
+as `./maxdetect` and the Python package have it; rows of "small pages" are without. Run it with nothing else running.
 """
 import argparse
 import array
@@ -17,6 +18,7 @@ import hashlib
 import os
 import pathlib
 import random
+import re
 import shutil
 import subprocess
 import sys
@@ -24,6 +26,8 @@ import tempfile
 import time
 
 TOP = pathlib.Path(__file__).resolve().parent.parent
+# What `./maxdetect` and the Python package ask the C library for.
+LARGE_PAGES = re.search(r"GLIBC_TUNABLES=[\w.=:]+", (TOP / "maxdetect").read_text())[0]
 CREWS = [(16, 1), (16, 2), (16, 4)]
 MAX_TREE = """
 import sys
@@ -105,13 +109,16 @@ def yardstick(folder):
 
 
 def maxdetect_runs(program, name, jobs, crews):
-    """Each job in one strip, and in some strips with some workers."""
+    """Each job in one strip, and in some strips with some workers; the first and the last of these also with small pages of memory."""
     for job, words in jobs.items():
-        command = [program, *words, "--connect", "8"]
-        yield job, f"{name}, one strip", command
+        commands = {f"{name}, one strip": [program, *words, "--connect", "8"]}
         for strips, workers in crews:
             crew = "1 worker" if workers == 1 else f"{workers} workers"
-            yield job, f"{name}, {strips} strips, {crew}", [*command, "--strips", str(strips), "--workers", str(workers)]
+            commands[f"{name}, {strips} strips, {crew}"] = [program, *words, "--connect", "8", "--strips", str(strips), "--workers", str(workers)]
+        for label, command in commands.items():
+            yield job, label, ["env", LARGE_PAGES, *command]
+        for label in [*commands][:: max(len(commands) - 1, 1)]:
+            yield job, f"{label}, small pages", ["env", "-u", "GLIBC_TUNABLES", *commands[label]]
 
 
 def others(folder, image, side):
@@ -175,7 +182,7 @@ def main():
         print_rows("noise of sigma 1,000, 2048 x 2048", runs, image, options.runs)
         for title, (side, draw) in MANY_VALUES.items():
             noise(image, side, draw)
-            print_rows(title, maxdetect_runs(programs[0][1], programs[0][0], tree, [(4, 4), (16, 4)]), image, 1)
+            print_rows(title, maxdetect_runs(programs[0][1], programs[0][0], tree, [(4, 4), (16, 4)]), image, options.runs)
     print("All outputs of one job on one image are the same bytes.")
 
 
