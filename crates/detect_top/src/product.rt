@@ -137,6 +137,7 @@ fn without_far<R: Threads + Sync>(
         (λ left. detected_hdus left connect choice ≡ detected_hdus plane connect choice) }
 {
     clear_far(rt, alloc, &mut plane, connect, choice.threshold, workers)?;
+    plane.compact(alloc)?;
     Ok(plane)
 }
 

@@ -11,7 +11,7 @@ ghost use Rattle.detect_top.specs.TrialSizes.{HasSmallValues};
 ghost use Rattle.detect_top.specs.TrialSizes.{HasSmallFluxes};
 
 use command_line::lines::put_line;
-use comp_tree::{NONE, NodeRow, Plane, Shape, Tree};
+use comp_tree::{Canvas, NONE, NodeRow, Plane, Shape, Tree};
 use dev_io::{Failed, OutOfMemory, Sink};
 use fits_write::WriteFault;
 use itoa::Buffer;
@@ -55,14 +55,14 @@ fn step(state: u32) -> u32
 pub(crate) fn trial_image(alloc: Global, seed: u32, shape: Shape) -> Result<Plane, OutOfMemory>
     ensures { IfOk result (λ plane. plane ≡ image_of seed shape) }
 {
-    let mut plane = Plane::blank(alloc, shape)?;
+    let mut canvas = Canvas::blank(alloc, shape)?;
     let mut state = seed;
     for p in 0..shape.pixels() {
         let next = step(state);
-        plane.set(p, Some(i64::from(next >> 24)));
+        canvas.set(p, Some(i64::from(next >> 24)));
         state = next;
     }
-    Ok(plane)
+    Ok(canvas.into_plane())
 }
 
 // A tree has at most as many nodes as pixels, so the other branch never runs: without it no clause says that the count fits.

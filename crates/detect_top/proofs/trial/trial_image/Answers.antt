@@ -12,8 +12,8 @@ pub loop-p-init : goal.loop-p-init
 loop-p-init c =
     let image = trial_image c.args.seed c.args.shape in
     record {
-      written = written_none image c.in_ok-plane.plane (value_at image.values) (c.in_ok-plane.ensures.shape ∙ sym (trial_shape c.args.seed c.args.shape))
-          (ap length c.in_ok-plane.ensures.undefined ∙ length-replicate (c.args.shape.width * c.args.shape.height) None ∙ sym
+      written = written_none image c.in_ok-canvas.canvas (value_at image.values) (c.in_ok-canvas.ensures.shape ∙ sym (trial_shape c.args.seed c.args.shape))
+          (ap length c.in_ok-canvas.ensures.undefined ∙ length-replicate (c.args.shape.width * c.args.shape.height) None ∙ sym
           (trial_length c.args.seed c.args.shape));
       state_is = refl;
     }
@@ -30,7 +30,7 @@ loop-p-preserved c =
     let inside : c.loop-p.p < c.args.shape.width * c.args.shape.height = omega (arith, c.loop-p-test.true, c.pixels-p-end.ensures.product) in
     record {
       written =
-          written_next image c.loop-p.plane c.set.new.self (value_at image.values) c.loop-p.p _ _ c.loop-p.invariant.written
+          written_next image c.loop-p.canvas c.set.new.self (value_at image.values) c.loop-p.p _ _ c.loop-p.invariant.written
           (omega (arith, inside, trial_length c.args.seed c.args.shape))
           (value_more c.args.seed c.loop-p.p c.loop-p.state c.step-next.result c.args.shape _ c.loop-p.invariant.state_is c.step-next.ensures inside
           (value-read c.step-next.result c.from.result c.step-next.type_inv c.from.ensures)) c.set.ensures refl;
@@ -39,5 +39,5 @@ loop-p-preserved c =
 
 pub returns : goal.returns
 returns c =
-    written_itself (trial_image c.args.seed c.args.shape) c.loop-p.plane c.loop-p.p c.loop-p.invariant.written
+    written_itself (trial_image c.args.seed c.args.shape) c.loop-p.canvas c.loop-p.p c.loop-p.invariant.written
     (omega (arith, trial_length c.args.seed c.args.shape, c.loop-p-test.false, c.pixels-p-end.ensures.product))

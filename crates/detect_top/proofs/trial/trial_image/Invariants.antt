@@ -7,6 +7,6 @@ use Rattle.detect_top.proofs.trial.trial_image.Given as goal
 
 abbrev pub invariant-loop-p : goal.invariant-loop-p
 invariant-loop-p l = record {
-  written : IsWritten (trial_image l.seed l.fn.shape) (value_at (trial_image l.seed l.fn.shape).values) l.p l.plane;
+  written : IsWritten (trial_image l.seed l.fn.shape) (value_at (trial_image l.seed l.fn.shape).values) l.p l.canvas;
   state_is : l.state ≡ state_at l.seed l.p;
 }
