@@ -14,6 +14,7 @@ mod Ancestors
 mod OneTree
 mod WellFormed
 mod Values
+mod Blocks
 mod CountsBelow
 mod Walks
 mod Sames

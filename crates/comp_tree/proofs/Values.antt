@@ -41,6 +41,11 @@ pub in_range-get : (xs : List (Option ℤ)) (p : ℕ) (o : Option ℤ) → HasVa
 in_range-get xs p None h e = tt
 in_range-get xs p (Some v) h e = h p v e
 
+pub in_range-value : (values : List (Option ℤ)) (p : ℕ) → HasValuesInRange values → IfSome (value_at values p) (λ v. IsWithinRange v)
+in_range-value [] p h = tt
+in_range-value (x ∷ xs) zero h = in_range-get (x ∷ xs) 0 x h refl
+in_range-value (x ∷ xs) (suc p) h = in_range-value xs p (λ j v e. h (suc j) v e)
+
 -- ---- pixels as they are kept
 
 pub pixel_of-undefined : pixel_of undefined_number ≡ None

@@ -6,9 +6,11 @@
 //! al. 2008). `specs/` defines both by paths of adjacent pixels, and `laws` says that the definitions fit together.
 #![tactic(auto)]
 
+mod canvas;
 mod forest;
 mod grid;
 pub mod laws;
+mod pixels;
 mod plain;
 mod plane;
 mod shape;
@@ -16,6 +18,7 @@ mod shape;
 mod tests;
 mod tree;
 
+pub use canvas::Canvas;
 pub use forest::{Forest, is_forest};
 pub use grid::neighbours;
 pub use plain::plain_tree;

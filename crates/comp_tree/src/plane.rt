@@ -1,20 +1,17 @@
 //! Planes: images of whole numbers with undefined pixels.
 
-ghost use Rattle.std.specs.Prelude.{◌≡◌, ℕ, ◌*◌, ◌<◌, true, length, map, None, is_some, replicate, slice_set, IfOk, IfSome};
+ghost use Rattle.std.specs.Prelude.{◌≡◌, ℕ, ◌*◌, ◌<◌, true, length, map, None, is_some, slice_set, IfOk, IfSome, IsTrue};
 ghost use Rattle.std.specs.List.{list_all};
 ghost use Rattle.comp_tree.specs.Limits.{IsWithinRange};
 ghost use Rattle.comp_tree.specs.Stored.{pixel_of as pixel_kept_as};
 ghost use Rattle.comp_tree.specs.Raster.{is_pixel_value as may_stand, raster_of};
 ghost use Rattle.comp_tree.specs.Raster.{Raster, HasValuesInRange, value_at, is_defined, level, is_at_least, is_earlier};
 
+use crate::pixels::{Pixels, UNDEFINED};
 use crate::shape::Shape;
 use dev_io::OutOfMemory;
 use std::alloc::Global;
 use std::marker::Model;
-
-// Stands for an undefined pixel. No value is so small, so a pixel takes 8 bytes: an `Option<i64>` would take 16, and
-// reading pixels is most of what flooding does.
-const UNDEFINED: i64 = i64::MIN;
 
 /// An image of whole numbers from -2^37 to 2^37, in which a pixel may be undefined.
 ///
@@ -22,34 +19,32 @@ const UNDEFINED: i64 = i64::MIN;
 #[derive(Drop)]
 pub struct Plane {
     shape: Shape,
-    // a pixel's value, or `UNDEFINED`
-    numbers: Vec<i64>,
+    pixels: Pixels,
 }
 
 impl Model for Plane {
-    ghost use Rattle.std.specs.Prelude.{◌≡◌, ◌*◌, length, map};
-    ghost use Rattle.comp_tree.specs.Raster.{is_pixel_value as may_stand, raster_of};
+    ghost use Rattle.std.specs.Prelude.{◌≡◌, ◌*◌, length};
     ghost use Rattle.comp_tree.specs.Raster.{Raster, HasValuesInRange};
-    ghost use Rattle.comp_tree.specs.Stored.{pixel_of};
 
     ghost Value = { Raster };
 
-    ghost view = { λ plane. record { shape = plane.shape; values = map pixel_of plane.numbers.items } };
+    ghost view = { λ plane. record { shape = plane.shape; values = plane.pixels } };
 
-    ghost invariant = { λ plane. (length plane.numbers.items ≡ plane.shape.width * plane.shape.height)
-        × HasValuesInRange (map pixel_of plane.numbers.items) };
+    ghost invariant = { λ plane. (length plane.pixels ≡ plane.shape.width * plane.shape.height)
+        × HasValuesInRange plane.pixels };
 }
 
 impl Plane {
-    /// A plane in which every pixel is undefined.
-    pub fn blank(alloc: Global, shape: Shape) -> Result<Plane, OutOfMemory>
-        ensures shape { IfOk result (λ plane. plane.shape ≡ shape) }
-        ensures undefined { IfOk result
-            (λ plane. plane.values ≡ replicate (shape.width * shape.height) None) }
+    // The plane that these numbers stand for, one for each pixel.
+    pub(crate) fn of_numbers(shape: Shape, numbers: Vec<i64>) -> Plane
+        requires one_each { length numbers.items ≡ shape.width * shape.height }
+        requires in_range { HasValuesInRange (map pixel_kept_as numbers.items) }
+        ensures { result ≡ record { shape = shape; values = map pixel_kept_as numbers.items } }
     {
-        let count = shape.pixels() as usize;
-        let numbers = vec![in alloc; UNDEFINED; count]?;
-        Ok(Plane { shape, numbers })
+        Plane {
+            shape,
+            pixels: Pixels::of(numbers),
+        }
     }
 
     /// The plane of these values, row by row. There is none where there isn't one value for each pixel, or where one lies
@@ -65,7 +60,7 @@ impl Plane {
             return Ok(None);
         }
         match numbers_of(alloc, values)? {
-            Some(numbers) => Ok(Some(Plane { shape, numbers })),
+            Some(numbers) => Ok(Some(Plane::of_numbers(shape, numbers))),
             None => Ok(None),
         }
     }
@@ -74,11 +69,10 @@ impl Plane {
     pub fn copied(&self, alloc: Global) -> Result<Plane, OutOfMemory>
         ensures { IfOk result (λ copy. copy ≡ self.now) }
     {
-        let mut numbers = Vec::with_capacity(alloc, self.numbers.len())?;
-        numbers.extend_from_slice(&self.numbers)?;
+        let pixels = self.pixels.copied(alloc)?;
         Ok(Plane {
             shape: self.shape,
-            numbers,
+            pixels,
         })
     }
 
@@ -97,7 +91,7 @@ impl Plane {
         ensures value { result ≡ value_at self.now.values p }
         ensures in_range { IfSome result (λ v. IsWithinRange v) }
     {
-        pixel_of(self.numbers[p as usize])
+        self.pixels.get(p as usize)
     }
 
     /// Whether a pixel has a value.
@@ -141,25 +135,28 @@ impl Plane {
         }
     }
 
-    /// Gives a pixel a value, or makes it undefined.
+    /// Gives a defined pixel another value, or makes a pixel undefined. On a `Canvas` an undefined pixel can get a value too.
     pub fn set(&mut self, p: u32, value: Option<i64>)
         requires pixel { p < length self.old.values }
+        requires defined { IfSome value (λ _. IsTrue (is_defined self.old p)) }
         requires in_range { IfSome value (λ v. IsWithinRange v) }
         ensures { self.new ≡ record self.old { values = slice_set self.old.values p value } }
     {
-        self.numbers[p as usize] = number_of(value);
+        self.pixels.set(p as usize, number_of(value));
     }
-}
 
-// The pixel that is kept as this number.
-#[tactic(auto, unfolding(crate::specs::Stored::pixel_of))]
-fn pixel_of(number: i64) -> Option<i64>
-    ensures { result ≡ pixel_kept_as number }
-{
-    if number == UNDEFINED {
-        None
-    } else {
-        Some(number)
+    /// Keeps the pixels in less memory, where few of them are defined. For a moment it takes more.
+    ///
+    /// The one error is that memory was refused.
+    pub fn compact(&mut self, alloc: Global) -> Result<(), OutOfMemory>
+        ensures { self.new ≡ self.old }
+    {
+        // for its clauses alone: how many pixels there are
+        let _count = self.shape.pixels();
+        if let Some(pixels) = self.pixels.in_blocks(alloc)? {
+            self.pixels = pixels;
+        }
+        Ok(())
     }
 }
 
@@ -190,7 +187,7 @@ fn is_pixel_value(value: Option<i64>) -> bool
 }
 
 // The number that a pixel is kept as.
-fn number_of(value: Option<i64>) -> i64
+pub(crate) fn number_of(value: Option<i64>) -> i64
     requires { IfSome value (λ v. IsWithinRange v) }
     ensures { pixel_kept_as result ≡ value }
 {

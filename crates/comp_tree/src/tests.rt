@@ -2,6 +2,7 @@ ghost use Rattle.std.specs.Prelude.{◌≡◌, ◌<◌};
 ghost use Rattle.comp_tree.specs.Windows.{Window, in_whole};
 
 use super::*;
+use std::alloc::Global;
 use std::test::Fail;
 
 #[derive(Drop)]
@@ -28,6 +29,85 @@ fn planes_of_values(rt: HostRuntime) -> Result<(), Fail> {
     assert!(rt; Plane::of(rt.alloc(), shape, &[Some(0)])?.is_none());
     assert!(rt; Plane::of(rt.alloc(), shape, &[Some(0), Some(most + 1)])?.is_none());
     assert!(rt; Plane::of(rt.alloc(), shape, &[Some(-most - 1), Some(0)])?.is_none());
+    Ok(())
+}
+
+// A canvas becomes the plane that was painted on it.
+#[test]
+fn a_canvas_is_painted(rt: HostRuntime) -> Result<(), Fail> {
+    let shape = Shape::of(3, 1).ok_or("a shape")?;
+    let mut canvas = Canvas::blank(rt.alloc(), shape)?;
+    assert_eq!(rt; canvas.shape().pixels(), 3);
+    canvas.set(0, Some(5));
+    canvas.set(2, Some(-6));
+    canvas.set(0, None);
+    let plane = canvas.into_plane();
+    assert_eq!(rt; plane.shape().pixels(), 3);
+    assert_eq!(rt; plane.get(0), None);
+    assert_eq!(rt; plane.get(1), None);
+    assert_eq!(rt; plane.get(2), Some(-6));
+    Ok(())
+}
+
+// A plane of 100 pixels, of which some are defined: two in a block of their own, and the last.
+fn plane_of_few(alloc: Global) -> Result<Plane, Fail> {
+    let shape = Shape::of(100, 1).ok_or("a shape")?;
+    let mut canvas = Canvas::blank(alloc, shape)?;
+    if canvas.shape().pixels() == 100 {
+        canvas.set(32, Some(7));
+        canvas.set(47, Some(8));
+        canvas.set(99, Some(-9));
+    }
+    Ok(canvas.into_plane())
+}
+
+// Whether both planes have the same pixels.
+fn are_alike(plane: &Plane, other: &Plane) -> bool {
+    let shape = plane.shape();
+    if other.shape() != shape {
+        return false;
+    }
+    for p in 0..shape.pixels() {
+        if plane.get(p) != other.get(p) {
+            return false;
+        }
+    }
+    true
+}
+
+// Where few pixels are defined, a plane that is kept in less memory has the same ones, also once more and in a copy, and its
+// pixels can still be changed.
+#[test]
+fn a_compact_plane_is_the_same(rt: HostRuntime) -> Result<(), Fail> {
+    let first = plane_of_few(rt.alloc())?;
+    let mut plane = first.copied(rt.alloc())?;
+    plane.compact(rt.alloc())?;
+    assert!(rt; are_alike(&plane, &first));
+    plane.compact(rt.alloc())?;
+    let copy = plane.copied(rt.alloc())?;
+    assert!(rt; are_alike(&copy, &first));
+    assert_eq!(rt; plane.shape().pixels(), 100);
+    if plane.is_defined(47) {
+        plane.set(47, Some(1));
+    }
+    plane.set(99, None);
+    plane.set(0, None);
+    assert_eq!(rt; plane.get(32), Some(7));
+    assert_eq!(rt; plane.get(47), Some(1));
+    assert_eq!(rt; plane.get(99), None);
+    assert_eq!(rt; plane.get(0), None);
+    Ok(())
+}
+
+// Where many are defined, it stays as it is.
+#[test]
+fn a_full_plane_stays(rt: HostRuntime) -> Result<(), Fail> {
+    let shape = Shape::of(2, 2).ok_or("a shape")?;
+    let values = [Some(4), Some(3), None, Some(1)];
+    let mut plane = Plane::of(rt.alloc(), shape, &values)?.ok_or("a plane")?;
+    let first = plane.copied(rt.alloc())?;
+    plane.compact(rt.alloc())?;
+    assert!(rt; are_alike(&plane, &first));
     Ok(())
 }
 

@@ -11,7 +11,7 @@ ghost use Rattle.filter_rules.specs.Passes.{HasRisingLevels, AreValues, value_of
 
 use crate::keeping::kept_nodes;
 use crate::rule::{Criterion, Rule};
-use comp_tree::{NONE, NodeRow, Plane, Shape, Tree};
+use comp_tree::{Canvas, NONE, NodeRow, Plane, Shape, Tree};
 use dev_io::OutOfMemory;
 use node_sums::Outline;
 use std::alloc::Global;
@@ -99,11 +99,11 @@ fn fill(alloc: Global, shape: Shape, node_of: &[u32], values: &[i64]) -> Result<
     ensures values { IfOk result (λ plane.
         plane.values ≡ map (filled_pixel_of values.now) node_of.now) }
 {
-    let mut plane = Plane::blank(alloc, shape)?;
+    let mut canvas = Canvas::blank(alloc, shape)?;
     for p in 0..shape.pixels() {
-        plane.set(p, filled_pixel(values, node_of[p as usize]));
+        canvas.set(p, filled_pixel(values, node_of[p as usize]));
     }
-    Ok(plane)
+    Ok(canvas.into_plane())
 }
 
 // What a pixel gets whose smallest node is `n`.

@@ -2,7 +2,7 @@
 ghost use Rattle.std.specs.Prelude.{◌+◌, ◌*◌, ◌≤◌, length};
 
 use crate::*;
-use comp_tree::{Plane, Shape};
+use comp_tree::{Canvas, Shape};
 use dev_io::MemSink;
 use std::test::Fail;
 
@@ -19,9 +19,10 @@ fn is_card(bytes: &[u8], place: usize, text: &[u8]) -> bool
 #[test]
 fn a_plane_is_written(rt: HostRuntime) -> Result<(), Fail> {
     let shape = Shape::of(2, 1).ok_or("sides")?;
-    let mut plane = Plane::blank(rt.alloc(), shape).expect(&rt, "memory");
-    assert_eq!(rt; plane.shape().pixels(), 2);
-    plane.set(1, Some(-2));
+    let mut canvas = Canvas::blank(rt.alloc(), shape).expect(&rt, "memory");
+    assert_eq!(rt; canvas.shape().pixels(), 2);
+    canvas.set(1, Some(-2));
+    let plane = canvas.into_plane();
     let mut sink = MemSink::new(vec![in rt.alloc(); 1; 5760]?, &[], 0);
     assert_eq!(rt; put_plane(&mut sink, &plane), Ok(()));
     let bytes = sink.bytes();
@@ -43,7 +44,9 @@ fn a_plane_is_written(rt: HostRuntime) -> Result<(), Fail> {
 #[test]
 fn full_blocks_are_not_padded(rt: HostRuntime) -> Result<(), Fail> {
     let shape = Shape::of(360, 1).ok_or("sides")?;
-    let plane = Plane::blank(rt.alloc(), shape).expect(&rt, "memory");
+    let plane = Canvas::blank(rt.alloc(), shape)
+        .expect(&rt, "memory")
+        .into_plane();
     let mut sink = MemSink::new(vec![in rt.alloc(); 0; 9000]?, &[], 0);
     assert_eq!(rt; put_plane(&mut sink, &plane), Ok(()));
     assert_eq!(rt; sink.bytes().len(), 5760);
@@ -53,7 +56,9 @@ fn full_blocks_are_not_padded(rt: HostRuntime) -> Result<(), Fail> {
 #[test]
 fn a_failing_sink_has_a_front(rt: HostRuntime) -> Result<(), Fail> {
     let shape = Shape::of(2, 1).ok_or("sides")?;
-    let plane = Plane::blank(rt.alloc(), shape).expect(&rt, "memory");
+    let plane = Canvas::blank(rt.alloc(), shape)
+        .expect(&rt, "memory")
+        .into_plane();
     let mut sink = MemSink::new(vec![in rt.alloc(); 0; 9000]?, &[2], 10);
     assert_eq!(rt; put_plane(&mut sink, &plane), Err(WriteFault));
     assert_eq!(rt; sink.bytes().len(), 2890);

@@ -10,7 +10,7 @@ ghost use Rattle.pixel_plane.specs.Decoding.{PixelsRead, PixelsStopped, BytesSto
 
 use crate::encoding::Encoding;
 use crate::{PixelPlace, PlaneFault, PlaneStop};
-use comp_tree::{Plane, Shape};
+use comp_tree::{Canvas, Plane, Shape};
 use dev_io::{BLOCK, Source, fill, skip};
 use fits_hdu::Hdu;
 use std::alloc::Global;
@@ -37,12 +37,12 @@ pub fn read_plane<S: Source>(
     ensures fault { IsErrOf result PlaneStop.ReadFault →
         Rose (S.faults src.old) (S.faults src.new) }
 {
-    let Ok(mut plane) = Plane::blank(alloc, shape) else {
+    let Ok(mut canvas) = Canvas::blank(alloc, shape) else {
         return Err(PlaneStop::OutOfMemory);
     };
     let encoding = Encoding::of(hdu);
-    match read_pixels(src, &encoding, &mut plane) {
-        Ok(()) => Ok(plane),
+    match read_pixels(src, &encoding, &mut canvas) {
+        Ok(()) => Ok(canvas.into_plane()),
         Err(stop) => Err(stop),
     }
 }
@@ -51,24 +51,24 @@ pub fn read_plane<S: Source>(
 fn read_pixels<S: Source>(
     src: &mut S,
     encoding: &Encoding,
-    plane: &mut Plane,
+    canvas: &mut Canvas,
 ) -> Result<(), PlaneStop>
-    requires { HasValuesInHalfRange plane.old.values }
-    ensures shape { plane.new.shape ≡ plane.old.shape }
-    ensures count { length plane.new.values ≡ length plane.old.values }
-    ensures half_range { HasValuesInHalfRange plane.new.values }
+    requires { HasValuesInHalfRange canvas.old.values }
+    ensures shape { canvas.new.shape ≡ canvas.old.shape }
+    ensures count { length canvas.new.values ≡ length canvas.old.values }
+    ensures half_range { HasValuesInHalfRange canvas.new.values }
     ensures told { ForSome (S.left src.old) (λ bytes. MatchResult result
-        (λ _. PixelsRead encoding.now bytes (S.left src.new) plane.new.values)
-        (λ stop. PixelsStopped encoding.now (length plane.old.values) bytes
+        (λ _. PixelsRead encoding.now bytes (S.left src.new) canvas.new.values)
+        (λ stop. PixelsStopped encoding.now (length canvas.old.values) bytes
         (S.left src.new) stop)) }
-    ensures range { IfErr result (NamesFar encoding.now (length plane.old.values)) }
+    ensures range { IfErr result (NamesFar encoding.now (length canvas.old.values)) }
     ensures truncated { IsErrOf result (PlaneStop.Fault PlaneFault.TruncatedData) →
         IsTrue (S.ended src.new) }
     ensures later { S.faults src.old ≤ S.faults src.new }
     ensures fault { IsErrOf result PlaneStop.ReadFault →
         Rose (S.faults src.old) (S.faults src.new) }
 {
-    let count = plane.shape().pixels();
+    let count = canvas.shape().pixels();
     // A block holds a whole number of pixels of each size.
     let most = (BLOCK / encoding.size) as u32;
     let mut block = [0; BLOCK];
@@ -79,7 +79,7 @@ fn read_pixels<S: Source>(
         if let Err(stop) = fill_all(src, bytes) {
             return Err(stop);
         }
-        if let Err(far) = decode(encoding, bytes, plane, first, end) {
+        if let Err(far) = decode(encoding, bytes, canvas, first, end) {
             return Err(stop_at_range(src, &far, (count - end) as usize * encoding.size));
         }
         first = end;
@@ -131,67 +131,67 @@ fn fill_all<S: Source>(src: &mut S, buf: &mut [u8]) -> Result<(), PlaneStop>
 fn decode(
     encoding: &Encoding,
     bytes: &[u8],
-    plane: &mut Plane,
+    canvas: &mut Canvas,
     first: u32,
     end: u32,
 ) -> Result<(), PixelPlace>
     requires order { first ≤ end }
     requires room { (end - first) * encoding.now.size ≤ length bytes.now }
-    requires within { end ≤ length plane.old.values }
-    requires in_half_range { HasValuesInHalfRange plane.old.values }
-    ensures shape { plane.new.shape ≡ plane.old.shape }
-    ensures count { length plane.new.values ≡ length plane.old.values }
-    ensures half_range { HasValuesInHalfRange plane.new.values }
+    requires within { end ≤ length canvas.old.values }
+    requires in_half_range { HasValuesInHalfRange canvas.old.values }
+    ensures shape { canvas.new.shape ≡ canvas.old.shape }
+    ensures count { length canvas.new.values ≡ length canvas.old.values }
+    ensures half_range { HasValuesInHalfRange canvas.new.values }
     ensures decoded { MatchResult result
-        (λ _. IsDecoded encoding.now bytes.now first end plane.old.values plane.new.values)
-        (λ far. FarInside encoding.now bytes.now first end plane.old.values plane.new.values far.pixel far.stored) }
+        (λ _. IsDecoded encoding.now bytes.now first end canvas.old.values canvas.new.values)
+        (λ far. FarInside encoding.now bytes.now first end canvas.old.values canvas.new.values far.pixel far.stored) }
 {
     // A loop for each, so that no pixel of fewer bits is compared with the range.
     if encoding.size == 8 {
-        return decode_wide(encoding, bytes, plane, first, end);
+        return decode_wide(encoding, bytes, canvas, first, end);
     }
-    decode_narrow(encoding, bytes, plane, first, end);
+    decode_narrow(encoding, bytes, canvas, first, end);
     Ok(())
 }
 
-fn decode_narrow(encoding: &Encoding, bytes: &[u8], plane: &mut Plane, first: u32, end: u32)
+fn decode_narrow(encoding: &Encoding, bytes: &[u8], canvas: &mut Canvas, first: u32, end: u32)
     requires narrow { encoding.now.size ≢ 8 }
     requires room { (end - first) * encoding.now.size ≤ length bytes.now }
-    requires within { end ≤ length plane.old.values }
-    requires in_half_range { HasValuesInHalfRange plane.old.values }
-    ensures shape { plane.new.shape ≡ plane.old.shape }
-    ensures count { length plane.new.values ≡ length plane.old.values }
-    ensures half_range { HasValuesInHalfRange plane.new.values }
-    ensures decoded { IsDecoded encoding.now bytes.now first end plane.old.values plane.new.values }
+    requires within { end ≤ length canvas.old.values }
+    requires in_half_range { HasValuesInHalfRange canvas.old.values }
+    ensures shape { canvas.new.shape ≡ canvas.old.shape }
+    ensures count { length canvas.new.values ≡ length canvas.old.values }
+    ensures half_range { HasValuesInHalfRange canvas.new.values }
+    ensures decoded { IsDecoded encoding.now bytes.now first end canvas.old.values canvas.new.values }
 {
     for p in first..end {
         let at = (p - first) as usize * encoding.size;
-        plane.set(p, encoding.value(&bytes[at..]));
+        canvas.set(p, encoding.value(&bytes[at..]));
     }
 }
 
 fn decode_wide(
     encoding: &Encoding,
     bytes: &[u8],
-    plane: &mut Plane,
+    canvas: &mut Canvas,
     first: u32,
     end: u32,
 ) -> Result<(), PixelPlace>
     requires wide { encoding.now.size ≡ 8 }
     requires room { (end - first) * encoding.now.size ≤ length bytes.now }
-    requires within { end ≤ length plane.old.values }
-    requires in_half_range { HasValuesInHalfRange plane.old.values }
-    ensures shape { plane.new.shape ≡ plane.old.shape }
-    ensures count { length plane.new.values ≡ length plane.old.values }
-    ensures half_range { HasValuesInHalfRange plane.new.values }
+    requires within { end ≤ length canvas.old.values }
+    requires in_half_range { HasValuesInHalfRange canvas.old.values }
+    ensures shape { canvas.new.shape ≡ canvas.old.shape }
+    ensures count { length canvas.new.values ≡ length canvas.old.values }
+    ensures half_range { HasValuesInHalfRange canvas.new.values }
     ensures decoded { MatchResult result
-        (λ _. IsDecoded encoding.now bytes.now first end plane.old.values plane.new.values)
-        (λ far. FarInside encoding.now bytes.now first end plane.old.values plane.new.values far.pixel far.stored) }
+        (λ _. IsDecoded encoding.now bytes.now first end canvas.old.values canvas.new.values)
+        (λ far. FarInside encoding.now bytes.now first end canvas.old.values canvas.new.values far.pixel far.stored) }
 {
     for p in first..end {
         let at = (p - first) as usize * encoding.size;
         match encoding.wide_value(&bytes[at..]) {
-            Ok(value) => plane.set(p, value),
+            Ok(value) => canvas.set(p, value),
             Err(stored) => return Err(PixelPlace { pixel: p, stored }),
         }
     }

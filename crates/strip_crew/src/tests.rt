@@ -7,7 +7,7 @@ ghost use Rattle.tree_join.specs.Cuts.{IsCut};
 use crate::prepare::prepare_all;
 use crate::{ClaimTable, Gate, Key, OpenGate, even_cut, flood_all, join_group, worker};
 use atomic_table::Refused;
-use comp_tree::{Connect, NONE, Plane, Shape, is_forest};
+use comp_tree::{Canvas, Connect, NONE, Plane, Shape, is_forest};
 use std::alloc::Global;
 use std::process::Abort;
 use std::snapshot::Snapshot;
@@ -194,7 +194,7 @@ impl Gate for Meeting {
 #[test]
 fn two_workers_are_in_two_strips_at_once(rt: HostRuntime) -> Result<(), Fail> {
     let shape = Shape::of(2, 2).ok_or("a shape")?;
-    let plane = Plane::blank(rt.alloc(), shape)?;
+    let plane = Canvas::blank(rt.alloc(), shape)?.into_plane();
     let gate = Meeting::of(0, 1);
     let cut = even_cut(rt.alloc(), plane.shape().height, 2)?;
     flood_all(&rt, rt.alloc(), &plane, Connect::Four, &cut, 2, &gate)?;
@@ -231,13 +231,13 @@ fn no_strip_comes_to_the_gate_where_memory_is_refused(rt: HostRuntime) -> Result
 // A plane of one column, whose values rise from row to row.
 fn column(alloc: Global, rows: u32) -> Result<Plane, Fail> {
     let shape = Shape::of(1, rows).ok_or("a shape")?;
-    let mut plane = Plane::blank(alloc, shape)?;
+    let mut canvas = Canvas::blank(alloc, shape)?;
     for pixel in 0..rows {
-        if pixel < plane.shape().pixels() {
-            plane.set(pixel, Some(pixel as i64));
+        if pixel < canvas.shape().pixels() {
+            canvas.set(pixel, Some(pixel as i64));
         }
     }
-    Ok(plane)
+    Ok(canvas.into_plane())
 }
 
 // Joins strips of one pixel each, which have no links yet.

@@ -4,5 +4,5 @@ use Rattle.filter_rules.proofs.filtering.fill.Goals as goal
 
 pub returns-clause-values : goal.returns-clause-values
 returns-clause-values c =
-    filled_all c.args.node_of.now c.args.values.now c.loop-p.plane.values c.loop-p.p
+    filled_all c.args.node_of.now c.args.values.now c.loop-p.canvas.values c.loop-p.p
     (omega (arith, c.loop-p-test.false, c.requires.pixels, c.pixels-p-end.ensures.product)) c.loop-p.invariant.filled

@@ -4,6 +4,6 @@ use Rattle.filter_rules.proofs.filtering.fill.Given as goal
 
 abbrev pub invariant-loop-p : goal.invariant-loop-p
 invariant-loop-p l = record {
-  same_shape : l.plane.shape ≡ l.fn.shape;
-  filled : IsFilled l.node_of l.values l.plane.values l.p;
+  same_shape : l.canvas.shape ≡ l.fn.shape;
+  filled : IsFilled l.node_of l.values l.canvas.values l.p;
 }

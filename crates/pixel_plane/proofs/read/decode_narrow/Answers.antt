@@ -7,7 +7,7 @@ use Rattle.pixel_plane.proofs.read.decode_narrow.Goals as goal
 
 pub loop-p-preserved : goal.loop-p-preserved
 loop-p-preserved c =
-    let inside : c.loop-p.p < length c.loop-p.plane.values = omega (arith, c.loop-p-test.true, c.requires.within, c.loop-p.invariant.count) in
+    let inside : c.loop-p.p < length c.loop-p.canvas.values = omega (arith, c.loop-p-test.true, c.requires.within, c.loop-p.invariant.count) in
     let value : c.value.result ≡ decoded c.args.encoding.now c.args.bytes.now (c.loop-p.p - c.args.first) =
     c.value.ensures.value ∙ value_from c.args.encoding.now c.args.bytes.now (c.loop-p.p - c.args.first) in
     rw c.set.ensures (record {

@@ -6,8 +6,8 @@ use Rattle.pixel_plane.proofs.read.decode_narrow.Given as goal
 
 abbrev pub invariant-loop-p : goal.invariant-loop-p
 invariant-loop-p l = record {
-  shape : l.plane.shape ≡ l.initial.plane.shape;
-  count : length l.plane.values ≡ length l.initial.plane.values;
-  half_range : HasValuesInHalfRange l.plane.values;
-  decoded : IsDecoded l.encoding l.bytes l.first l.p l.initial.plane.values l.plane.values;
+  shape : l.canvas.shape ≡ l.initial.canvas.shape;
+  count : length l.canvas.values ≡ length l.initial.canvas.values;
+  half_range : HasValuesInHalfRange l.canvas.values;
+  decoded : IsDecoded l.encoding l.bytes l.first l.p l.initial.canvas.values l.canvas.values;
 }

@@ -22,7 +22,7 @@ loop-first-preserved g c =
 
 pub returns-clause-told : goal.returns-clause-told
 returns-clause-told g c = λ x e.
-    let all : c.loop-first.first ≡ length c.loop-first.plane.values =
+    let all : c.loop-first.first ≡ length c.loop-first.canvas.values =
     omega (
       arith,
       c.loop-first-test.false,
@@ -31,13 +31,13 @@ returns-clause-told g c = λ x e.
       c.shape.ensures.pixels,
       c.pixels-count.ensures.product,
     ) in
-    subst (ReadSoFar c.args.encoding.now x _ c.loop-first.plane.values) all (c.loop-first.invariant.told x e)
+    subst (ReadSoFar c.args.encoding.now x _ c.loop-first.canvas.values) all (c.loop-first.invariant.told x e)
 
 pub returns-in-Err-clause-told : goal.returns-in-Err-clause-told
 returns-in-Err-clause-told g c = λ x e.
     let order : c.loop-first.first ≤ c.min-end.result = search rules in
     let size : length c.fill_all.new.buf ≡ (c.min-end.result - c.loop-first.first) * c.args.encoding.now.size = search rules in
-    let within : c.min-end.result ≤ length c.args.plane.now.values = search rules in
+    let within : c.min-end.result ≤ length c.args.canvas.now.values = search rules in
     let before = c.loop-first.invariant.told x e in
     block_stopped c.args.encoding.now x _ _ _ _ _ _ _ order within size before.takes (c.in-Err.ensures.told _ before.takes.rest)
 
@@ -46,7 +46,7 @@ returns-in-Err-decode-clause-told g c = λ x e.
     let order : c.loop-first.first ≤ c.min-end.result = search rules in
     let size : length c.fill_all.new.buf ≡ (c.min-end.result - c.loop-first.first) * c.args.encoding.now.size = search rules in
     let within : c.min-end.result ≤ c.pixels-count.result = search rules in
-    let count : c.pixels-count.result ≡ length c.args.plane.now.values = search rules in
+    let count : c.pixels-count.result ≡ length c.args.canvas.now.values = search rules in
     let before = c.loop-first.invariant.told x e in
     let fills = c.in_default.ensures.told _ before.takes.rest in
     let taken = taken_to c.args.encoding.now x _ _ _ _ _ order size before.takes fills in
@@ -57,9 +57,9 @@ returns-in-Err-decode-clause-told g c = λ x e.
     (far_stopped c.args.encoding.now x _ _ _ _ _ _ _ _ _ _ _ _ order within size before fills far near stopped)
 
 pub returns-in-Err-clause-range : goal.returns-in-Err-clause-range
-returns-in-Err-clause-range g c = none_far_named c.args.encoding.now (length c.args.plane.now.values) c.in-Err.stop c.in-Err.ensures.range
+returns-in-Err-clause-range g c = none_far_named c.args.encoding.now (length c.args.canvas.now.values) c.in-Err.stop c.in-Err.ensures.range
 
 pub returns-in-Err-decode-clause-range : goal.returns-in-Err-decode-clause-range
 returns-in-Err-decode-clause-range g c =
-    let within : c.min-end.result ≤ length c.args.plane.now.values = search rules in
+    let within : c.min-end.result ≤ length c.args.canvas.now.values = search rules in
     far_named c.args.encoding.now _ _ _ _ _ _ _ _ c.stop_at_range.result within c.in-Err-decode.ensures.decoded c.stop_at_range.ensures.range

@@ -8,10 +8,10 @@ use Rattle.pixel_plane.proofs.read.read_pixels.Given as goal
 abbrev pub invariant-loop-first : goal.invariant-loop-first
 invariant-loop-first g l = record {
   within : l.first ≤ l.count;
-  shape : l.plane.shape ≡ l.initial.plane.shape;
-  values : length l.plane.values ≡ length l.initial.plane.values;
-  half_range : HasValuesInHalfRange l.plane.values;
-  told : ForSome (g.S.Source.left l.initial.src) (λ bytes. ReadSoFar l.encoding bytes (g.S.Source.left l.src) l.plane.values l.first);
+  shape : l.canvas.shape ≡ l.initial.canvas.shape;
+  values : length l.canvas.values ≡ length l.initial.canvas.values;
+  half_range : HasValuesInHalfRange l.canvas.values;
+  told : ForSome (g.S.Source.left l.initial.src) (λ bytes. ReadSoFar l.encoding bytes (g.S.Source.left l.src) l.canvas.values l.first);
   later : g.S.Source.faults l.initial.src ≤ g.S.Source.faults l.src;
 }
 

@@ -16,7 +16,7 @@ returns-in-Ok-read_pixels-clause-told g c = λ x e.
       zero = c.of-encoding.ensures.zero;
       blank = c.of-encoding.ensures.blank;
     } in
-    let blank : length c.in-Ok.plane.values ≡ c.args.shape.width * c.args.shape.height = ap length c.in-Ok.ensures.undefined ∙ length-replicate _ _ in
+    let blank : length c.in-Ok.canvas.values ≡ c.args.shape.width * c.args.shape.height = ap length c.in-Ok.ensures.undefined ∙ length-replicate _ _ in
     plane_is_read c.args.hdu.now c.args.shape c.of-encoding.result x _ _ encoding (c.in-Ok-read_pixels.ensures.shape ∙ c.in-Ok.ensures.shape)
     (c.in-Ok-read_pixels.ensures.count ∙ blank) c.in-Ok-read_pixels.ensures.half_range (c.in-Ok-read_pixels.ensures.told x e)
 
@@ -30,7 +30,7 @@ returns-in-Err-clause-told g c = λ x e.
       zero = c.of-encoding.ensures.zero;
       blank = c.of-encoding.ensures.blank;
     } in
-    let blank : length c.in-Ok.plane.values ≡ c.args.shape.width * c.args.shape.height = ap length c.in-Ok.ensures.undefined ∙ length-replicate _ _ in
+    let blank : length c.in-Ok.canvas.values ≡ c.args.shape.width * c.args.shape.height = ap length c.in-Ok.ensures.undefined ∙ length-replicate _ _ in
     plane_stopped c.args.hdu.now c.args.shape c.of-encoding.result x _ _ c.in-Err.stop encoding (shape_without_fault c.args.hdu.now c.args.shape c.requires)
     blank
     (c.in-Err.ensures.told x e)
@@ -42,6 +42,6 @@ returns-in-Err-clause-range g c =
       zero = c.of-encoding.ensures.zero;
       blank = c.of-encoding.ensures.blank;
     } in
-    let blank : length c.in-Ok.plane.values ≡ c.args.shape.width * c.args.shape.height = ap length c.in-Ok.ensures.undefined ∙ length-replicate _ _ in
+    let blank : length c.in-Ok.canvas.values ≡ c.args.shape.width * c.args.shape.height = ap length c.in-Ok.ensures.undefined ∙ length-replicate _ _ in
     pixel_named c.args.hdu.now c.args.shape c.of-encoding.result _ c.in-Err.stop encoding (shape_without_fault c.args.hdu.now c.args.shape c.requires) blank
     c.in-Err.ensures.range

@@ -4,7 +4,7 @@ use Rattle.std.proofs.lemmas.List.{length-replicate}
 use Rattle.comp_tree.specs.Raster.{HasValuesInRange}
 use Rattle.comp_tree.specs.Stored.{undefined_number, pixel_of}
 use Rattle.comp_tree.proofs.Values.{in_range-blank, pixels-replicate}
-use Rattle.comp_tree.proofs.plane.Plane.blank.Goals as goal
+use Rattle.comp_tree.proofs.canvas.Canvas.blank.Goals as goal
 
 pub invariant_of-result : goal.invariant_of-result
 invariant_of-result c =

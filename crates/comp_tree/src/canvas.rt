@@ -1,0 +1,71 @@
+//! Planes that are being painted.
+
+ghost use Rattle.std.specs.Prelude.{◌≡◌, ◌*◌, ◌<◌, None, replicate, slice_set, IfOk, IfSome, length};
+ghost use Rattle.comp_tree.specs.Limits.{IsWithinRange};
+
+use crate::pixels::UNDEFINED;
+use crate::plane::{Plane, number_of};
+use crate::shape::Shape;
+use dev_io::OutOfMemory;
+use std::alloc::Global;
+use std::marker::Model;
+
+/// A plane that is being painted: each pixel can still get any value.
+///
+/// It keeps a number for each pixel, where a plane may keep less, so it is here that an undefined pixel becomes a defined one.
+#[derive(Drop)]
+pub struct Canvas {
+    shape: Shape,
+    // a pixel's value, or `UNDEFINED`
+    numbers: Vec<i64>,
+}
+
+impl Model for Canvas {
+    ghost use Rattle.std.specs.Prelude.{◌≡◌, ◌*◌, length, map};
+    ghost use Rattle.comp_tree.specs.Raster.{Raster, HasValuesInRange};
+    ghost use Rattle.comp_tree.specs.Stored.{pixel_of};
+
+    ghost Value = { Raster };
+
+    ghost view = { λ canvas. record { shape = canvas.shape; values = map pixel_of canvas.numbers.items } };
+
+    ghost invariant = { λ canvas. (length canvas.numbers.items ≡ canvas.shape.width * canvas.shape.height)
+        × HasValuesInRange (map pixel_of canvas.numbers.items) };
+}
+
+impl Canvas {
+    /// A canvas on which every pixel is undefined.
+    pub fn blank(alloc: Global, shape: Shape) -> Result<Canvas, OutOfMemory>
+        ensures shape { IfOk result (λ canvas. canvas.shape ≡ shape) }
+        ensures undefined { IfOk result
+            (λ canvas. canvas.values ≡ replicate (shape.width * shape.height) None) }
+    {
+        let count = shape.pixels() as usize;
+        let numbers = vec![in alloc; UNDEFINED; count]?;
+        Ok(Canvas { shape, numbers })
+    }
+
+    /// The width and the height. They never change.
+    pub fn shape(&self) -> Shape
+        ensures same { result ≡ self.now.shape }
+        ensures pixels { length self.now.values ≡ result.width * result.height }
+    {
+        self.shape
+    }
+
+    /// Gives a pixel a value, or makes it undefined.
+    pub fn set(&mut self, p: u32, value: Option<i64>)
+        requires pixel { p < length self.old.values }
+        requires in_range { IfSome value (λ v. IsWithinRange v) }
+        ensures { self.new ≡ record self.old { values = slice_set self.old.values p value } }
+    {
+        self.numbers[p as usize] = number_of(value);
+    }
+
+    /// The plane that was painted.
+    pub fn into_plane(self) -> Plane
+        ensures { result ≡ self }
+    {
+        Plane::of_numbers(self.shape, self.numbers)
+    }
+}
