@@ -4,8 +4,8 @@ use Rattle.std.specs.Prelude.{slice_index}
 use Rattle.std.specs.List.{flat_map}
 use Rattle.std.proofs.lemmas.List.{get_or_default}
 use Rattle.std.specs.Io.KnownBytes.{Appends}
-use Rattle.dev_io.specs.Streams.{PutAppends}
-use Rattle.dev_io.specs.Laws.{PutAppends-after}
+use Rattle.dev_io.specs.Streams.{PutAppends, AppendsPrefix}
+use Rattle.dev_io.specs.Laws.{PutAppends-after, AppendsPrefix-more, AppendsPrefix-after}
 use Rattle.comp_tree.specs.declared.shape.Shape.{Shape}
 use Rattle.comp_tree.specs.declared.shape.Connect.{Connect}
 use Rattle.comp_tree.specs.Raster.{Raster}
@@ -33,6 +33,13 @@ all_put a b c d r shape numbers numbers' columns list cells cells' first second 
     PutAppends-after a b d r empty_primary (map_hdu shape numbers ++ table_hdu columns cells) first
     (PutAppends-after b c d r (map_hdu shape numbers) (table_hdu columns cells) (subst (λ l. Appends b c (map_hdu shape l)) same_numbers second)
     (subst₂ (λ l z. PutAppends c d r (table_hdu l z)) same_columns same_cells third))
+
+-- a primary HDU was put, and the map behind it cut short
+pub map_cut : (a b c : Option (List ℕ)) (shape : Shape) (numbers numbers' rest : List ℕ) → Appends a b empty_primary
+    → AppendsPrefix b c (map_hdu shape numbers') → numbers' ≡ numbers → AppendsPrefix a c (empty_primary ++ (map_hdu shape numbers ++ rest))
+map_cut a b c shape numbers numbers' rest first second same =
+    AppendsPrefix-after a b c empty_primary (map_hdu shape numbers ++ rest) first (AppendsPrefix-more b c (map_hdu shape numbers) rest
+    (subst (λ l. AppendsPrefix b c (map_hdu shape l)) same second))
 
 -- a map with a number for each pixel, and a table, can be written
 pub can_be_written : (plane : Raster) (tree : ComponentTree) (shape : Shape) (numbers : List ℕ) (cells : List ℤ) → IsTreeOfPlane plane tree

@@ -12,4 +12,6 @@ mod Trials
 mod Summaries
 mod Shapes
 mod AnswerStatus
+mod Causes
+mod Telling
 pub mod Exported
