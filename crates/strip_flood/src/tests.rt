@@ -359,6 +359,79 @@ fn values_far_apart(rt: HostRuntime) -> Result<(), Fail> {
     try_cases::<Brand, Brand>(&rt, rt.alloc(), Blank::new(1), Blank::new(1), &cases)
 }
 
+// The values of four rows of five pixels, by a bit for each.
+fn values_of(rows: &[u8; 4]) -> [Option<i64>; 20] {
+    let mut values = [None; 20];
+    for p in 0..20 {
+        if rows[p / 5] >> (4 - p % 5) & 1 == 1 {
+            values[p] = Some(1);
+        }
+    }
+    values
+}
+
+// Small components, each of which comes apart, or is joined with another, where the pixels at some edge, or those at none, look in
+// one direction too few or too many.
+#[test]
+fn looks_in_each_direction(rt: HostRuntime) -> Result<(), Fail> {
+    // the connectivity, the rows, and some pixels with the last ones on the walks from them
+    let images: [(Connect, [u8; 4], &[(u32, i64, u32)]); 8] = [
+        (
+            Connect::Four,
+            [0b01011, 0b01001, 0b01111, 0b00000],
+            &[(3, 1, 1)],
+        ),
+        (
+            Connect::Eight,
+            [0b10110, 0b10001, 0b00101, 0b11001],
+            &[(5, 1, 0), (14, 1, 2), (15, 1, 12)],
+        ),
+        (
+            Connect::Eight,
+            [0b01010, 0b10001, 0b10001, 0b01110],
+            &[(3, 1, 1)],
+        ),
+        (
+            Connect::Eight,
+            [0b01001, 0b10010, 0b10000, 0b00000],
+            &[(8, 1, 4)],
+        ),
+        (
+            Connect::Eight,
+            [0b00010, 0b10001, 0b10110, 0b01000],
+            &[(5, 1, 3)],
+        ),
+        (
+            Connect::Eight,
+            [0b00000, 0b00000, 0b00000, 0b11000],
+            &[(16, 1, 15)],
+        ),
+        (
+            Connect::Eight,
+            [0b10110, 0b10001, 0b01001, 0b00110],
+            &[(2, 1, 0)],
+        ),
+        (
+            Connect::Eight,
+            [0b00001, 0b01001, 0b10001, 0b01110],
+            &[(6, 1, 4)],
+        ),
+    ];
+    for (connect, rows, lasts) in images.iter() {
+        let case = Case {
+            width: 5,
+            height: 4,
+            connect: *connect,
+            first_row: 0,
+            end_row: 4,
+            values: &values_of(rows),
+            lasts,
+        };
+        try_cases::<Brand, Brand>(&rt, rt.alloc(), Blank::new(1), Blank::new(1), &[case])?;
+    }
+    Ok(())
+}
+
 #[test]
 fn ranks_by_sorting(rt: HostRuntime) -> Result<(), Fail> {
     let least = -(1i64 << 37);

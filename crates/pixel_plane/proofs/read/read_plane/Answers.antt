@@ -17,8 +17,9 @@ returns-in-Ok-read_pixels-clause-told g c = λ x e.
       blank = c.of-encoding.ensures.blank;
     } in
     let blank : length c.in-Ok.canvas.values ≡ c.args.shape.width * c.args.shape.height = ap length c.in-Ok.ensures.undefined ∙ length-replicate _ _ in
-    plane_is_read c.args.hdu.now c.args.shape c.of-encoding.result x _ _ encoding (c.in-Ok-read_pixels.ensures.shape ∙ c.in-Ok.ensures.shape)
-    (c.in-Ok-read_pixels.ensures.count ∙ blank) c.in-Ok-read_pixels.ensures.half_range (c.in-Ok-read_pixels.ensures.told x e)
+    rw c.into_plane.ensures
+    (plane_is_read c.args.hdu.now c.args.shape c.of-encoding.result x _ _ encoding (c.in-Ok-read_pixels.ensures.shape ∙ c.in-Ok.ensures.shape)
+    (c.in-Ok-read_pixels.ensures.count ∙ blank) c.in-Ok-read_pixels.ensures.half_range (c.in-Ok-read_pixels.ensures.told x e))
 
 pub read_pixels-requires : goal.read_pixels-requires
 read_pixels-requires g c = blank_in_half_range _ _ c.in-Ok.ensures.undefined
