@@ -14,3 +14,6 @@ pub use Rattle.detect_top.proofs.Cells.{few_picked, narrow, wide, row_fits}
 pub use Rattle.detect_top.proofs.Cells.{row_more, rows_all}
 -- a primary HDU, a map and a table were put one behind the other
 pub use Rattle.detect_top.proofs.Detections.{all_put}
+-- the map behind a primary HDU was cut short; the last of several calls of a sink answers for all of them
+pub use Rattle.detect_top.proofs.Detections.{map_cut}
+pub use Rattle.detect_top.proofs.Causes.{cause_after, cause_after_two}

@@ -11,47 +11,68 @@ use crate::top::End;
 use command_line::lines::put_line;
 use command_line::notes::put_usage;
 use dev_io::{Failed, Sink};
+use fits_hdu::CardPlace;
 use itoa::Buffer;
+use pixel_plane::PixelPlace;
 
-fn put_place<N: Sink>(notes: &mut N, number: &[u8], name: &[u8], place: Place) -> Result<(), Failed>
+fn put_card<N: Sink>(
+    notes: &mut N,
+    number: &[u8],
+    name: &[u8],
+    place: CardPlace,
+) -> Result<(), Failed>
     requires short_number { length number.now ≤ 40 }
     requires short_name { length name.now ≤ 15 }
     ensures bytes { PutAppends (N.written notes.old) (N.written notes.new) result
-        (line_at_place number.now name.now place) }
+        (line_at_place number.now name.now (Place.Card place)) }
     ensures cause { HasCause (N.faults notes.old) (N.faults notes.new) result }
 {
-    let mut first = Buffer::new();
-    let mut second = Buffer::new();
-    match place {
-        Place::Card(place) => put_line(
-            notes,
-            &[
-                b"refused: ",
-                number,
-                b" ",
-                name,
-                b" hdu ",
-                first.format(place.hdu).as_bytes(),
-                b" card ",
-                second.format(place.card).as_bytes(),
-                b"\n",
-            ],
-        ),
-        Place::Pixel(place) => put_line(
-            notes,
-            &[
-                b"refused: ",
-                number,
-                b" ",
-                name,
-                b" pixel ",
-                first.format(place.pixel).as_bytes(),
-                b" stored ",
-                second.format(place.stored).as_bytes(),
-                b"\n",
-            ],
-        ),
-    }
+    let mut hdu = Buffer::new();
+    let mut card = Buffer::new();
+    put_line(
+        notes,
+        &[
+            b"refused: ",
+            number,
+            b" ",
+            name,
+            b" hdu ",
+            hdu.format(place.hdu).as_bytes(),
+            b" card ",
+            card.format(place.card).as_bytes(),
+            b"\n",
+        ],
+    )
+}
+
+fn put_pixel<N: Sink>(
+    notes: &mut N,
+    number: &[u8],
+    name: &[u8],
+    place: PixelPlace,
+) -> Result<(), Failed>
+    requires short_number { length number.now ≤ 40 }
+    requires short_name { length name.now ≤ 15 }
+    ensures bytes { PutAppends (N.written notes.old) (N.written notes.new) result
+        (line_at_place number.now name.now (Place.Pixel place)) }
+    ensures cause { HasCause (N.faults notes.old) (N.faults notes.new) result }
+{
+    let mut pixel = Buffer::new();
+    let mut stored = Buffer::new();
+    put_line(
+        notes,
+        &[
+            b"refused: ",
+            number,
+            b" ",
+            name,
+            b" pixel ",
+            pixel.format(place.pixel).as_bytes(),
+            b" stored ",
+            stored.format(place.stored).as_bytes(),
+            b"\n",
+        ],
+    )
 }
 
 // Puts the line of a fault: its number, its name, and the card or the pixel at fault.
@@ -64,7 +85,8 @@ fn put_refusal<N: Sink>(notes: &mut N, fault: Fault) -> Result<(), Failed>
     let number = number.format(fault.number()).as_bytes();
     let name = fault.name().as_bytes();
     match fault.place() {
-        Some(place) => put_place(notes, number, name, place),
+        Some(Place::Card(place)) => put_card(notes, number, name, place),
+        Some(Place::Pixel(place)) => put_pixel(notes, number, name, place),
         None => put_line(notes, &[b"refused: ", number, b" ", name, b"\n"]),
     }
 }
