@@ -8,6 +8,7 @@ ghost use Rattle.comp_tree.specs.Raster.{Raster};
 ghost use Rattle.comp_tree.specs.Components.{tree_of};
 ghost use Rattle.node_sums.specs.Sums.{sums_in, IsTreeOfPlane, AreTheTrees};
 ghost use Rattle.fits_write.specs.Columns.{IsTable};
+ghost use Rattle.source_pick.specs.Sources.{sources};
 ghost use Rattle.source_pick.specs.Segmentation.{AreDisjointNodes};
 ghost use Rattle.source_pick.specs.Catalogue.{catalogue_of, cells_of};
 ghost use Rattle.catalogue_form.specs.Columns.{catalogue_columns};
@@ -66,31 +67,60 @@ fn table_cells(
     Ok(table)
 }
 
+// The nodes that were picked, and the cells of their catalogue.
+#[derive(Drop)]
+struct Listed {
+    picked: Vec<u32>,
+    cells: Vec<i64>,
+}
+
+// Picks the sources of a plane, with its tree, and lists them. The plane and the sums are gone when this returns, so that they take no memory beside
+// the map.
+fn list_sources(
+    alloc: Global,
+    plane: Plane,
+    tree: &Tree,
+    choice: &Choice,
+) -> Result<Listed, OutOfMemory>
+    requires of_plane { IsTreeOfPlane plane tree.now }
+    requires contrast { choice.now.contrast ≤ 1000 }
+    ensures disjoint { IfOk result (λ listed. AreDisjointNodes tree.now listed.picked.items) }
+    ensures picked { IfOk result (λ listed. (connect : Connect) → tree.now ≡ tree_of plane connect →
+        listed.picked.items ≡ sources plane connect choice.now) }
+    ensures cells { IfOk result (λ listed. (connect : Connect) → tree.now ≡ tree_of plane connect →
+        listed.cells.items ≡ flat_map cells_of (catalogue_of plane connect listed.picked.items)) }
+    ensures table { IfOk result (λ listed. IsTable catalogue_columns listed.cells.items) }
+{
+    let sums = sums(alloc, &plane, tree)?;
+    let picked = pick(alloc, tree, &sums, choice)?;
+    let cells = table_cells(alloc, tree, &sums, &picked)?;
+    Ok(Listed { picked, cells })
+}
+
 /// The sources of a plane, with its tree. So many workers fill the map.
 pub(crate) fn detect<R: Threads + Sync>(
     rt: &R,
     alloc: Global,
-    plane: &Plane,
+    plane: Plane,
     tree: &Tree,
     choice: &Choice,
     workers: u32,
 ) -> Result<Detection, OutOfMemory>
-    requires of_plane { IsTreeOfPlane plane.now tree.now }
+    requires of_plane { IsTreeOfPlane plane tree.now }
     requires contrast { choice.now.contrast ≤ 1000 }
     ensures writable { IfOk result
         (λ found. IsDetection found.shape found.map.items found.cells.items) }
-    ensures bytes { IfOk result (λ found. (connect : Connect) → tree.now ≡ tree_of plane.now connect
+    ensures bytes { IfOk result (λ found. (connect : Connect) → tree.now ≡ tree_of plane connect
         → hdus found.shape found.map.items found.cells.items ≡
-        detected_hdus plane.now connect choice.now) }
+        detected_hdus plane connect choice.now) }
 {
-    let sums = sums(alloc, plane, tree)?;
-    let picked = pick(alloc, tree, &sums, choice)?;
-    let map = segment_in_parts(rt, alloc, tree, &picked, workers)?;
-    let cells = table_cells(alloc, tree, &sums, &picked)?;
+    let shape = plane.shape();
+    let listed = list_sources(alloc, plane, tree, choice)?;
+    let map = segment_in_parts(rt, alloc, tree, &listed.picked, workers)?;
     Ok(Detection {
-        shape: plane.shape(),
+        shape,
         map,
-        cells,
+        cells: listed.cells,
     })
 }
 

@@ -19,7 +19,7 @@ pub enum Fault {
 }
 
 /// What a fault names besides itself.
-#[derive(Clone, Copy, Debug, PartialEq, Eq)]
+#[derive(Clone, Copy)]
 pub(crate) enum Place {
     Card(CardPlace),
     Pixel(PixelPlace),

@@ -14,7 +14,7 @@ const MOST_FLUX: i64 = 1 << 62;
 const MOST_LEVEL: i64 = 1 << 37;
 
 /// The first word.
-#[derive(Clone, Copy, Debug, PartialEq, Eq)]
+#[derive(Clone, Copy, PartialEq, Eq)]
 pub(crate) enum Command {
     Tree,
     Filter,
@@ -73,7 +73,7 @@ impl Command {
 }
 
 /// An option.
-#[derive(Clone, Copy, Debug, PartialEq, Eq)]
+#[derive(Clone, Copy)]
 pub(crate) enum Setting {
     Hdu,
     Connect,

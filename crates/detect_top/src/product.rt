@@ -82,25 +82,25 @@ fn make_of<R: Threads + Sync>(
     alloc: Global,
     job: Job,
     workers: u32,
-    plane: &Plane,
+    plane: Plane,
     tree: Tree,
 ) -> Result<Product, OutOfMemory>
-    requires of_plane { IsTreeOfPlane plane.now tree }
+    requires of_plane { IsTreeOfPlane plane tree }
     requires limits { HasJobLimits job }
-    requires suits { SuitsJob job plane.now }
+    requires suits { SuitsJob job plane }
     ensures writable { IfOk result (λ product. IsWritable product) }
-    ensures bytes { IfOk result (λ product. (connect : Connect) → tree ≡ tree_of plane.now connect →
-        bytes_of product ≡ output_of_job job connect plane.now) }
+    ensures bytes { IfOk result (λ product. (connect : Connect) → tree ≡ tree_of plane connect →
+        bytes_of product ≡ output_of_job job connect plane) }
 {
     match job {
-        Job::Tree => Ok(Product::Nodes(node_areas(alloc, plane, tree)?)),
+        Job::Tree => Ok(Product::Nodes(node_areas(alloc, &plane, tree)?)),
         Job::Filter { rule, criterion } => Ok(Product::Image(filtered(
-            alloc, plane, &tree, rule, &criterion,
+            alloc, &plane, &tree, rule, &criterion,
         )?)),
         Job::Detect { choice } => Ok(Product::Sources(detect(
             rt, alloc, plane, &tree, &choice, workers,
         )?)),
-        Job::Trial { .. } => Ok(Product::Told(summarize(rt, alloc, plane, &tree, workers)?)),
+        Job::Trial { .. } => Ok(Product::Told(summarize(rt, alloc, &plane, &tree, workers)?)),
     }
 }
 
@@ -158,7 +158,7 @@ pub(crate) fn make<R: Threads + Sync, G: Gate>(
     let residual = residual_plane(rt, alloc, image, order.mesh, order.flat)?;
     let plane = working_plane(rt, alloc, residual, order)?;
     let tree = component_tree(rt, alloc, &plane, order, gate)?;
-    make_of(rt, alloc, order.job, order.workers, &plane, tree)
+    make_of(rt, alloc, order.job, order.workers, plane, tree)
 }
 
 /// What a trial of this seed and this shape makes.

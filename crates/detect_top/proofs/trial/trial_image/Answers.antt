@@ -39,5 +39,6 @@ loop-p-preserved c =
 
 pub returns : goal.returns
 returns c =
-    written_itself (trial_image c.args.seed c.args.shape) c.loop-p.canvas c.loop-p.p c.loop-p.invariant.written
+    c.into_plane.ensures
+    ∙ written_itself (trial_image c.args.seed c.args.shape) c.loop-p.canvas c.loop-p.p c.loop-p.invariant.written
     (omega (arith, trial_length c.args.seed c.args.shape, c.loop-p-test.false, c.pixels-p-end.ensures.product))
