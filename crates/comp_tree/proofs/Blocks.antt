@@ -1,7 +1,7 @@
 -- Pixels that are kept in blocks are those that are kept by a number each.
 use Rattle.std.proofs.Common.{◌≡◌, ◌≢◌, ◌∙◌, ℕ, ◌+◌, ◌-◌, ◌*◌, ◌/◌, ◌%◌, ◌==◌, ◌<◌, ◌≤◌, Bool, true, false, ◌⊎◌, inl, inr, List, [], ◌∷◌, ◌++◌}
 use Rattle.std.proofs.Common.{length, map, min, take, drop, get_or, set, refl, sym, ap, subst, arith}
-use Rattle.std.specs.Prelude.{Result, Ok, Err, IfOk, OnOk}
+use Rattle.std.specs.Prelude.{Result, Ok, Err, IfOk}
 use Rattle.std.specs.Prelude.{ℤ, Option, Some, None, IfSome, IsTrue, is_some, slice_set, nat_le, nat_lt, ◌&&◌, if◌then◌else◌}
 use Rattle.std.specs.Option.{option_map}
 use Rattle.std.proofs.lemmas.List.{get_or-map, ext_get_or, length-map, length-set, get_or-set_same, get_or-set_other, set-get_or}
@@ -210,14 +210,6 @@ kept-after count (Some runs) numbers i number kept = (
 
 -- ---- blocks one after the other
 
-pub no-blocks : (numbers : List ℤ) → AreBlocksOf 0 [] [] numbers
-no-blocks numbers = record {
-  count = refl;
-  few = omega arith;
-  apart = record { inside = λ b lt. absurd (omega (arith, lt)); apart = λ a b lt below. absurd (omega (arith, below)) };
-  same = λ p lt. absurd (omega (arith, lt));
-}
-
 -- runs, when one more is added: those before, and the new one
 run-before : (runs : List Run) (x : Run) (b : ℕ) → b < length runs → run_of (runs ++ x ∷ []) b ≡ run_of runs b
 run-before runs x b lt = get_or_append_left runs (x ∷ []) no_run b lt
@@ -330,10 +322,6 @@ pub part-at : (n m i : ℕ) (xs : List ℤ) → i < n → get_or (take n (drop m
 part-at n m i xs lt = get_or-take n (drop m xs) i undefined_number lt ∙ get_or-drop m xs i undefined_number
 
 -- blocks for all pixels
-pub blocks-of-all : (k : ℕ) (runs : List Run) (kept numbers : List ℤ) → length numbers ≤ k * 32 → AreBlocksOf k runs kept numbers
-    → IsKept (length numbers) (Some runs) kept
-blocks-of-all k runs kept numbers enough blocks = (omega (arith, enough, blocks.count), blocks.apart)
-
 pub kept-in-blocks : (k : ℕ) (runs : List Run) (kept numbers : List ℤ) → length numbers ≤ k * 32 → AreBlocksOf k runs kept numbers
     → kept_pixels (length numbers) (Some runs) kept ≡ map pixel_of numbers
 kept-in-blocks k runs kept numbers enough blocks =
@@ -345,10 +333,6 @@ kept-in-blocks k runs kept numbers enough blocks =
     ∙ sym (get_or-map pixel_of numbers i undefined_number None lt))
 
 -- ---- what holds where there is an answer
-
-pub on-ok : {X E : Type 0} (r : Result X E) (P Q : Type 0) → (P → Q) → OnOk r P → OnOk r Q
-on-ok (Ok x) P Q f h = f h
-on-ok (Err e) P Q f h = tt
 
 pub if-made : {X E : Type 0} (r : Result (Option X) E) (P Q : X → Type 0) → ((x : X) → P x → Q x) → IfOk r (λ o. IfSome o P) → IfOk r (λ o. IfSome o Q)
 if-made (Ok None) P Q f h = tt
