@@ -1,31 +1,30 @@
 -- Pixels that are kept in blocks are those that are kept by a number each.
 use Rattle.std.proofs.Common.{◌≡◌, ◌≢◌, ◌∙◌, ℕ, ◌+◌, ◌-◌, ◌*◌, ◌/◌, ◌%◌, ◌==◌, ◌<◌, ◌≤◌, Bool, true, false, ◌⊎◌, inl, inr, List, [], ◌∷◌, ◌++◌}
-use Rattle.std.proofs.Common.{length, map, get_or, set, refl, sym, ap, subst, arith}
-use Rattle.std.specs.Prelude.{Result, Ok, Err, IfOk, OnOk}
-use Rattle.std.specs.Prelude.{ℤ, Option, Some, None, IfSome, IsTrue, is_some, slice_set}
-use Rattle.std.specs.List.{range_with_len}
+use Rattle.std.proofs.Common.{length, map, min, take, drop, get_or, set, refl, sym, ap, subst, arith}
+use Rattle.std.specs.Prelude.{Result, Ok, Err, IfOk}
+use Rattle.std.specs.Prelude.{ℤ, Option, Some, None, IfSome, IsTrue, is_some, slice_set, nat_le, nat_lt, ◌&&◌, if◌then◌else◌}
 use Rattle.std.specs.Option.{option_map}
 use Rattle.std.proofs.lemmas.List.{get_or-map, ext_get_or, length-map, length-set, get_or-set_same, get_or-set_other, set-get_or}
-use Rattle.std.proofs.lemmas.List.{get_or_append_left, get_or_push, get_or_past, get_or-append-add, get_or_default, length-append, append_assoc}
-use Rattle.std.proofs.lemmas.List.FromFn.{length-map-range_with_len, get_or-map-range_with_len, map-range_with_len_more}
-use Rattle.std.proofs.lemmas.Bool.{ne_eqb, eqb-true, eqb-false, cases_lt}
-use Rattle.std.proofs.Common.{eq-eqb}
-use Rattle.comp_tree.specs.Limits.{no_node}
+use Rattle.std.proofs.lemmas.List.{get_or_append_left, get_or_push, get_or_past, get_or-append-add, get_or_default, length-append, get_or-take, get_or-drop, length-take-le, length-drop}
+use Rattle.std.proofs.lemmas.List.FromFn.{length-map-range_with_len, get_or-map-range_with_len}
+use Rattle.std.proofs.lemmas.Bool.{eqb-true, eqb-false, cases_lt, le-leb, lt-ltb, le-ltb, lt-leb}
+use Rattle.comp_tree.specs.declared.pixels.Run.{Run}
 use Rattle.comp_tree.proofs.Values.{pixel_of-undefined}
 use Rattle.comp_tree.specs.Raster.{value_at}
-use Rattle.comp_tree.specs.Stored.{undefined_number, pixel_of, number_of_pixel, block_from, start_of, place_of, number_at, kept_pixels, AreApart, IsKept, AreBlocksOf}
+use Rattle.comp_tree.specs.Stored.{undefined_number, pixel_of, number_of_pixel, no_run, run_of, place_in_run, place_of, number_at, kept_pixels, AreApart, IsKept, AreBlocksOf}
+use Rattle.comp_tree.specs.Stored.{AreUndefined}
 
 -- ---- one pixel
 
-pub kept-length : (count : ℕ) (starts : Option (List ℕ)) (numbers : List ℤ) → length (kept_pixels count starts numbers) ≡ count
+pub kept-length : (count : ℕ) (runs : Option (List Run)) (numbers : List ℤ) → length (kept_pixels count runs numbers) ≡ count
 unfolding kept_pixels
-kept-length count starts numbers = length-map-range_with_len (λ p. pixel_of (number_at numbers (place_of starts p))) 0 count
+kept-length count runs numbers = length-map-range_with_len (λ p. pixel_of (number_at numbers (place_of runs p))) 0 count
 
-pub kept-at : (count : ℕ) (starts : Option (List ℕ)) (numbers : List ℤ) (p : ℕ) → p < count
-    → value_at (kept_pixels count starts numbers) p ≡ pixel_of (number_at numbers (place_of starts p))
+pub kept-at : (count : ℕ) (runs : Option (List Run)) (numbers : List ℤ) (p : ℕ) → p < count
+    → value_at (kept_pixels count runs numbers) p ≡ pixel_of (number_at numbers (place_of runs p))
 unfolding kept_pixels
-kept-at count starts numbers p within =
-    get_or-map-range_with_len (λ q. pixel_of (number_at numbers (place_of starts q))) 0 count p p None within (omega arith)
+kept-at count runs numbers p within =
+    get_or-map-range_with_len (λ q. pixel_of (number_at numbers (place_of runs q))) 0 count p p None within (omega arith)
 
 -- ---- a number each
 
@@ -38,338 +37,302 @@ kept-each numbers =
     let lt : i < length numbers = subst (λ n. i < n) (kept-length (length numbers) None numbers) within in
     kept-at (length numbers) None numbers i lt ∙ sym (get_or-map pixel_of numbers i undefined_number None lt))
 
-pub same-each : (count : ℕ) (starts : Option (List ℕ)) (numbers : List ℤ) → IsKept count starts numbers → starts ≡ None
-    → map pixel_of numbers ≡ kept_pixels count starts numbers
+pub same-each : (count : ℕ) (runs : Option (List Run)) (numbers : List ℤ) → IsKept count runs numbers → runs ≡ None
+    → map pixel_of numbers ≡ kept_pixels count runs numbers
 same-each count None numbers kept e = sym (subst (λ n. kept_pixels n None numbers ≡ map pixel_of numbers) kept (kept-each numbers))
-same-each count (Some starts) numbers kept e = let wrong : (let o : Option (List ℕ) = Some starts in o) ≡ None = e in absurd cc
+same-each count (Some runs) numbers kept e = let wrong : (let o : Option (List Run) = Some runs in o) ≡ None = e in absurd cc
 
-pub count-each : (count : ℕ) (starts : Option (List ℕ)) (numbers : List ℤ) → IsKept count starts numbers → starts ≡ None
+pub count-each : (count : ℕ) (runs : Option (List Run)) (numbers : List ℤ) → IsKept count runs numbers → runs ≡ None
     → length numbers ≡ count
 count-each count None numbers kept e = kept
-count-each count (Some starts) numbers kept e = let wrong : (let o : Option (List ℕ) = Some starts in o) ≡ None = e in absurd cc
+count-each count (Some runs) numbers kept e = let wrong : (let o : Option (List Run) = Some runs in o) ≡ None = e in absurd cc
 
 -- ---- places
 
--- where a block has numbers, its pixels have places
-place-of-some : (starts : List ℕ) (p : ℕ) → start_of starts (p / 16) ≢ no_node → place_of (Some starts) p ≡ Some (start_of starts (p / 16) + p % 16)
-unfolding place_of
-place-of-some starts p some = let e : start_of starts (p / 16) == no_node ≡ false = ne_eqb _ _ some in rw e refl
+-- a place in a run, and none beside it
+place-in : (run : Run) (k : ℕ) → run.first ≤ k → k < run.end → place_in_run run k ≡ Some (run.start + (k - run.first))
+unfolding place_in_run
+place-in run k low high =
+    let a : nat_le run.first k ≡ true = le-leb run.first k low in
+    let b : nat_lt k run.end ≡ true = lt-ltb k run.end high in
+    rw (a, b) refl
 
-place-of-none : (starts : List ℕ) (p : ℕ) → start_of starts (p / 16) ≡ no_node → place_of (Some starts) p ≡ None
-unfolding place_of
-place-of-none starts p none = let e : start_of starts (p / 16) == no_node ≡ true = eq-eqb _ _ none in rw e refl
+place-beside : (run : Run) (k : ℕ) → (k < run.first) ⊎ (run.end ≤ k) → place_in_run run k ≡ None
+unfolding place_in_run
+place-beside run k (inl lt) = let a : nat_le run.first k ≡ false = lt-leb run.first k lt in rw a refl
+place-beside run k (inr ge) = let b : nat_lt k run.end ≡ false = le-ltb k run.end ge in go (nat_le run.first k) b
+  where
+    go : (a : Bool) → nat_lt k run.end ≡ false
+        → (if a && nat_lt k run.end then Some (run.start + (k - run.first)) else (let o : Option ℕ = None in o)) ≡ None
+    go true e = rw e refl
+    go false e = refl
+
+-- a pixel that has a place is one of a run, and its place tells which
+pub record IsPlaceIn (run : Run) (k i : ℕ) : Type 0 where
+  pub low : run.first ≤ k
+  pub high : k < run.end
+  pub place : run.start + (k - run.first) ≡ i
+
+place-told : (run : Run) (k i : ℕ) → place_in_run run k ≡ Some i → IsPlaceIn run k i
+place-told run k i e = go (cases_lt k run.first) (cases_lt k run.end)
+  where
+    go : (k < run.first) ⊎ (run.first ≤ k) → (k < run.end) ⊎ (run.end ≤ k) → IsPlaceIn run k i
+    go (inl before) d = let none : place_in_run run k ≡ None = place-beside run k (inl before) in absurd cc
+    go (inr low) (inr behind) = let none : place_in_run run k ≡ None = place-beside run k (inr behind) in absurd cc
+    go (inr low) (inl high) =
+        let there : place_in_run run k ≡ Some (run.start + (k - run.first)) = place-in run k low high in
+        record { low = low; high = high; place = cc }
 
 -- a place is one of the numbers
-pub place-inside : (count : ℕ) (starts : Option (List ℕ)) (numbers : List ℤ) (p i : ℕ) → IsKept count starts numbers → p < count
-    → place_of starts p ≡ Some i → i < length numbers
+pub place-inside : (count : ℕ) (runs : Option (List Run)) (numbers : List ℤ) (p i : ℕ) → IsKept count runs numbers → p < count
+    → place_of runs p ≡ Some i → i < length numbers
 unfolding place_of
 place-inside count None numbers p i kept within e = let same : p ≡ i = cc in omega (arith, same, within, kept)
-place-inside count (Some starts) numbers p i kept within e = go (start_of starts (p / 16) == no_node) refl
-  where
-    go : (b : Bool) → start_of starts (p / 16) == no_node ≡ b → i < length numbers
-    go true at = let none : place_of (Some starts) p ≡ None = place-of-none starts p (eqb-true _ _ at) in absurd cc
-    go false at =
-        let some : start_of starts (p / 16) ≢ no_node = eqb-false _ _ at in
-        let there : place_of (Some starts) p ≡ Some (start_of starts (p / 16) + p % 16) = place-of-some starts p some in
-        let same : start_of starts (p / 16) + p % 16 ≡ i = cc in
-        let inside : _ = kept.1.inside (p / 16) some in
-        omega (arith, same, inside)
+place-inside count (Some runs) numbers p i kept within e =
+    let told : IsPlaceIn (run_of runs (p / 32)) (p % 32) i = place-told (run_of runs (p / 32)) (p % 32) i e in
+    let inside : _ = kept.1.inside (p / 32) (omega (arith, within, kept.0)) in
+    let low : _ = told.low in
+    let high : _ = told.high in
+    let place : _ = told.place in
+    omega (arith, low, high, place, inside)
 
 -- pixels have places apart
-place-apart : (count : ℕ) (starts : Option (List ℕ)) (numbers : List ℤ) (p q i : ℕ) → IsKept count starts numbers
-    → place_of starts p ≡ Some i → place_of starts q ≡ Some i → p ≡ q
+pub place-apart : (count : ℕ) (runs : Option (List Run)) (numbers : List ℤ) (p q i : ℕ) → IsKept count runs numbers → p < count → q < count
+    → place_of runs p ≡ Some i → place_of runs q ≡ Some i → p ≡ q
 unfolding place_of
-place-apart count None numbers p q i kept at there = cc
-place-apart count (Some starts) numbers p q i kept at there =
-    go (start_of starts (p / 16) == no_node) (start_of starts (q / 16) == no_node) refl refl
+place-apart count None numbers p q i kept here there at at' = cc
+place-apart count (Some runs) numbers p q i kept here there at at' =
+    let one : IsPlaceIn (run_of runs (p / 32)) (p % 32) i = place-told (run_of runs (p / 32)) (p % 32) i at in
+    let other : IsPlaceIn (run_of runs (q / 32)) (q % 32) i = place-told (run_of runs (q / 32)) (q % 32) i at' in
+    go one other (cases_lt (p / 32) (q / 32)) (cases_lt (q / 32) (p / 32))
   where
-    go : (b c : Bool) → start_of starts (p / 16) == no_node ≡ b → start_of starts (q / 16) == no_node ≡ c → p ≡ q
-    go true c e f = let none : place_of (Some starts) p ≡ None = place-of-none starts p (eqb-true _ _ e) in absurd cc
-    go false true e f = let none : place_of (Some starts) q ≡ None = place-of-none starts q (eqb-true _ _ f) in absurd cc
-    go false false e f =
-        let some : start_of starts (p / 16) ≢ no_node = eqb-false _ _ e in
-        let other : start_of starts (q / 16) ≢ no_node = eqb-false _ _ f in
-        let first : place_of (Some starts) p ≡ Some (start_of starts (p / 16) + p % 16) = place-of-some starts p some in
-        let second : place_of (Some starts) q ≡ Some (start_of starts (q / 16) + q % 16) = place-of-some starts q other in
-        let same : start_of starts (p / 16) + p % 16 ≡ start_of starts (q / 16) + q % 16 = cc in
-        order some other same (cases_lt (p / 16) (q / 16)) (cases_lt (q / 16) (p / 16))
-      where
-        order : start_of starts (p / 16) ≢ no_node → start_of starts (q / 16) ≢ no_node
-            → start_of starts (p / 16) + p % 16 ≡ start_of starts (q / 16) + q % 16
-            → (p / 16 < q / 16) ⊎ (q / 16 ≤ p / 16) → (q / 16 < p / 16) ⊎ (p / 16 ≤ q / 16) → p ≡ q
-        order some other same (inl lt) l = let apart : _ = kept.1.apart (p / 16) (q / 16) lt some other in absurd (omega (arith, apart, same))
-        order some other same (inr ge) (inl gt) = let apart : _ = kept.1.apart (q / 16) (p / 16) gt other some in absurd (omega (arith, apart, same))
-        order some other same (inr ge) (inr le) =
-            let eq : p / 16 ≡ q / 16 = omega (arith, ge, le) in
-            let alike : start_of starts (p / 16) ≡ start_of starts (q / 16) = ap (start_of starts) eq in
-            omega (arith, eq, same, alike)
+    go : IsPlaceIn (run_of runs (p / 32)) (p % 32) i → IsPlaceIn (run_of runs (q / 32)) (q % 32) i
+        → (p / 32 < q / 32) ⊎ (q / 32 ≤ p / 32) → (q / 32 < p / 32) ⊎ (p / 32 ≤ q / 32) → p ≡ q
+    go one other (inl lt) d =
+        let apart : _ = kept.1.apart (p / 32) (q / 32) lt (omega (arith, there, kept.0)) in
+        absurd (omega (arith, apart, one.low, one.high, one.place, other.place))
+    go one other (inr ge) (inl gt) =
+        let apart : _ = kept.1.apart (q / 32) (p / 32) gt (omega (arith, here, kept.0)) in
+        absurd (omega (arith, apart, other.low, other.high, other.place, one.place))
+    go one other (inr ge) (inr le) =
+        let eq : p / 32 ≡ q / 32 = omega (arith, ge, le) in
+        let alike : run_of runs (p / 32) ≡ run_of runs (q / 32) = ap (run_of runs) eq in
+        let moved : IsPlaceIn (run_of runs (q / 32)) (p % 32) i = subst (λ run. IsPlaceIn run (p % 32) i) alike one in
+        omega (arith, eq, moved.low, moved.place, other.low, other.place)
 
 -- there is a block for each pixel
-pub block-there : {X : Type 0} (items : X → List ℕ) (count : ℕ) (starts : Option X) (numbers : List ℤ) (p : ℕ) → IsKept count (option_map items starts) numbers
-    → p < count → IfSome starts (λ x. p < length (items x) * 16)
+pub block-there : {X : Type 0} (items : X → List Run) (count : ℕ) (runs : Option X) (numbers : List ℤ) (p : ℕ) → IsKept count (option_map items runs) numbers
+    → p < count → IfSome runs (λ x. p < length (items x) * 32)
 block-there items count None numbers p kept within = tt
 block-there items count (Some x) numbers p kept within = omega (arith, within, kept.0)
 
 -- what is read at a place is the pixel, and where there is no place the pixel is undefined
-pub read-at : (count : ℕ) (starts : Option (List ℕ)) (numbers : List ℤ) (p i : ℕ) (number d : ℤ) → IsKept count starts numbers → p < count
-    → place_of starts p ≡ Some i → number ≡ get_or numbers i d → pixel_of number ≡ value_at (kept_pixels count starts numbers) p
-read-at count starts numbers p i number d kept within e is =
-    ap pixel_of (is ∙ get_or_default numbers i d undefined_number (place-inside count starts numbers p i kept within e) ∙ sym (ap (number_at numbers) e))
-    ∙ sym (kept-at count starts numbers p within)
+pub read-at : (count : ℕ) (runs : Option (List Run)) (numbers : List ℤ) (p i : ℕ) (number d : ℤ) → IsKept count runs numbers → p < count
+    → place_of runs p ≡ Some i → number ≡ get_or numbers i d → pixel_of number ≡ value_at (kept_pixels count runs numbers) p
+read-at count runs numbers p i number d kept within e is =
+    ap pixel_of (is ∙ get_or_default numbers i d undefined_number (place-inside count runs numbers p i kept within e) ∙ sym (ap (number_at numbers) e))
+    ∙ sym (kept-at count runs numbers p within)
 
-pub unread-at : (count : ℕ) (starts : Option (List ℕ)) (numbers : List ℤ) (p : ℕ) → p < count → place_of starts p ≡ None
-    → value_at (kept_pixels count starts numbers) p ≡ None
-unread-at count starts numbers p within e = kept-at count starts numbers p within ∙ ap (λ o. pixel_of (number_at numbers o)) e ∙ pixel_of-undefined
+pub unread-at : (count : ℕ) (runs : Option (List Run)) (numbers : List ℤ) (p : ℕ) → p < count → place_of runs p ≡ None
+    → value_at (kept_pixels count runs numbers) p ≡ None
+unread-at count runs numbers p within e = kept-at count runs numbers p within ∙ ap (λ o. pixel_of (number_at numbers o)) e ∙ pixel_of-undefined
 
 -- ---- a write
 
-pub kept-set : (count : ℕ) (starts : Option (List ℕ)) (numbers : List ℤ) (p i : ℕ) (number : ℤ) → IsKept count starts numbers → p < count
-    → place_of starts p ≡ Some i → kept_pixels count starts (set numbers i number) ≡ slice_set (kept_pixels count starts numbers) p (pixel_of number)
-kept-set count starts numbers p i number kept within e =
-    ext_get_or None (kept_pixels count starts (set numbers i number)) (set (kept_pixels count starts numbers) p (pixel_of number))
-    (kept-length count starts (set numbers i number) ∙ sym (length-set (kept_pixels count starts numbers) p (pixel_of number) ∙ kept-length count starts numbers))
-    (λ q below. at q (subst (λ n. q < n) (kept-length count starts (set numbers i number)) below))
+pub kept-set : (count : ℕ) (runs : Option (List Run)) (numbers : List ℤ) (p i : ℕ) (number : ℤ) → IsKept count runs numbers → p < count
+    → place_of runs p ≡ Some i → kept_pixels count runs (set numbers i number) ≡ slice_set (kept_pixels count runs numbers) p (pixel_of number)
+kept-set count runs numbers p i number kept within e =
+    ext_get_or None (kept_pixels count runs (set numbers i number)) (set (kept_pixels count runs numbers) p (pixel_of number))
+    (kept-length count runs (set numbers i number) ∙ sym (length-set (kept_pixels count runs numbers) p (pixel_of number) ∙ kept-length count runs numbers))
+    (λ q below. at q (subst (λ n. q < n) (kept-length count runs (set numbers i number)) below))
   where
     inside : i < length numbers
-    inside = place-inside count starts numbers p i kept within e
+    inside = place-inside count runs numbers p i kept within e
 
-    here : number_at (set numbers i number) (place_of starts p) ≡ number
+    here : number_at (set numbers i number) (place_of runs p) ≡ number
     here = ap (number_at (set numbers i number)) e ∙ get_or-set_same numbers i number undefined_number inside
 
-    elsewhere : (q : ℕ) → p ≢ q → (o : Option ℕ) → place_of starts q ≡ o → number_at (set numbers i number) o ≡ number_at numbers o
-    elsewhere q other None f = refl
-    elsewhere q other (Some j) f =
+    elsewhere : (q : ℕ) → q < count → p ≢ q → (o : Option ℕ) → place_of runs q ≡ o → number_at (set numbers i number) o ≡ number_at numbers o
+    elsewhere q lt other None f = refl
+    elsewhere q lt other (Some j) f =
         get_or-set_other numbers i j number undefined_number
-        (λ same. other (place-apart count starts numbers p q i kept e (f ∙ ap (λ (k : ℕ). let o : Option ℕ = Some k in o) same)))
+        (λ same. other (place-apart count runs numbers p q i kept within lt e (f ∙ ap (λ (k : ℕ). let o : Option ℕ = Some k in o) same)))
 
     at : (q : ℕ) → q < count
-        → get_or (kept_pixels count starts (set numbers i number)) q None ≡ get_or (set (kept_pixels count starts numbers) p (pixel_of number)) q None
+        → get_or (kept_pixels count runs (set numbers i number)) q None ≡ get_or (set (kept_pixels count runs numbers) p (pixel_of number)) q None
     at q lt = choose (p == q) refl
       where
         choose : (b : Bool) → p == q ≡ b
-            → get_or (kept_pixels count starts (set numbers i number)) q None
-            ≡ get_or (set (kept_pixels count starts numbers) p (pixel_of number)) q None
+            → get_or (kept_pixels count runs (set numbers i number)) q None
+            ≡ get_or (set (kept_pixels count runs numbers) p (pixel_of number)) q None
         choose true e =
             subst
-            (λ (r : ℕ). get_or (kept_pixels count starts (set numbers i number)) r None
-            ≡ get_or (set (kept_pixels count starts numbers) p (pixel_of number)) r None)
+            (λ (r : ℕ). get_or (kept_pixels count runs (set numbers i number)) r None
+            ≡ get_or (set (kept_pixels count runs numbers) p (pixel_of number)) r None)
             (eqb-true p q e)
-            (kept-at count starts (set numbers i number) p within ∙ ap pixel_of here
-            ∙ sym (get_or-set_same (kept_pixels count starts numbers) p (pixel_of number) None
-            (subst (λ n. p < n) (sym (kept-length count starts numbers)) within)))
+            (kept-at count runs (set numbers i number) p within ∙ ap pixel_of here
+            ∙ sym (get_or-set_same (kept_pixels count runs numbers) p (pixel_of number) None
+            (subst (λ n. p < n) (sym (kept-length count runs numbers)) within)))
         choose false e =
             let other : p ≢ q = eqb-false p q e in
-            kept-at count starts (set numbers i number) q lt ∙ ap pixel_of (elsewhere q other (place_of starts q) refl)
-            ∙ sym (kept-at count starts numbers q lt)
-            ∙ sym (get_or-set_other (kept_pixels count starts numbers) p q (pixel_of number) None (λ same. other (sym same)))
+            kept-at count runs (set numbers i number) q lt ∙ ap pixel_of (elsewhere q lt other (place_of runs q) refl)
+            ∙ sym (kept-at count runs numbers q lt)
+            ∙ sym (get_or-set_other (kept_pixels count runs numbers) p q (pixel_of number) None (λ same. other (sym same)))
 
 -- what is not kept stays undefined
-pub unkept-set : (count : ℕ) (starts : Option (List ℕ)) (numbers : List ℤ) (p : ℕ) (number : ℤ) → p < count → place_of starts p ≡ None
-    → IfSome (pixel_of number) (λ _. IsTrue (is_some (value_at (kept_pixels count starts numbers) p)))
-    → kept_pixels count starts numbers ≡ slice_set (kept_pixels count starts numbers) p (pixel_of number)
-unkept-set count starts numbers p number within e defined =
-    sym (ap (set (kept_pixels count starts numbers) p) (same (pixel_of number) defined)
-    ∙ set-get_or (kept_pixels count starts numbers) p None)
+pub unkept-set : (count : ℕ) (runs : Option (List Run)) (numbers : List ℤ) (p : ℕ) (number : ℤ) → p < count → place_of runs p ≡ None
+    → IfSome (pixel_of number) (λ _. IsTrue (is_some (value_at (kept_pixels count runs numbers) p)))
+    → kept_pixels count runs numbers ≡ slice_set (kept_pixels count runs numbers) p (pixel_of number)
+unkept-set count runs numbers p number within e defined =
+    sym (ap (set (kept_pixels count runs numbers) p) (same (pixel_of number) defined)
+    ∙ set-get_or (kept_pixels count runs numbers) p None)
   where
-    undefined : value_at (kept_pixels count starts numbers) p ≡ None
-    undefined = unread-at count starts numbers p within e
+    undefined : value_at (kept_pixels count runs numbers) p ≡ None
+    undefined = unread-at count runs numbers p within e
 
-    same : (o : Option ℤ) → IfSome o (λ _. IsTrue (is_some (value_at (kept_pixels count starts numbers) p)))
-        → o ≡ get_or (kept_pixels count starts numbers) p None
+    same : (o : Option ℤ) → IfSome o (λ _. IsTrue (is_some (value_at (kept_pixels count runs numbers) p)))
+        → o ≡ get_or (kept_pixels count runs numbers) p None
     same None h = sym undefined
     same (Some v) h = let wrong : IsTrue (is_some (let o : Option ℤ = None in o)) = subst (λ (o : Option ℤ). IsTrue (is_some o)) undefined h in cc
 
-pub kept-after : (count : ℕ) (starts : Option (List ℕ)) (numbers : List ℤ) (i : ℕ) (number : ℤ) → IsKept count starts numbers
-    → IsKept count starts (set numbers i number)
+pub kept-after : (count : ℕ) (runs : Option (List Run)) (numbers : List ℤ) (i : ℕ) (number : ℤ) → IsKept count runs numbers
+    → IsKept count runs (set numbers i number)
 kept-after count None numbers i number kept = length-set numbers i number ∙ kept
-kept-after count (Some starts) numbers i number kept = (
+kept-after count (Some runs) numbers i number kept = (
   kept.0,
   record {
-    inside = λ b some. subst (λ n. start_of starts b + 16 ≤ n) (sym (length-set numbers i number)) (kept.1.inside b some);
+    inside = λ b lt.
+        subst (λ n. (run_of runs b).start + ((run_of runs b).end - (run_of runs b).first) ≤ n) (sym (length-set numbers i number))
+        (kept.1.inside b lt);
     apart = kept.1.apart;
   },
 )
 
 -- ---- blocks one after the other
 
-pub no-blocks : (numbers : List ℤ) → AreBlocksOf 0 [] [] numbers
-no-blocks numbers = record {
-  count = refl;
-  few = omega arith;
-  apart = record { inside = λ b some. absurd (some refl); apart = λ a b lt some other. absurd (some refl) };
-  same = λ p lt. absurd (omega (arith, lt));
-}
+-- runs, when one more is added: those before, and the new one
+run-before : (runs : List Run) (x : Run) (b : ℕ) → b < length runs → run_of (runs ++ x ∷ []) b ≡ run_of runs b
+run-before runs x b lt = get_or_append_left runs (x ∷ []) no_run b lt
 
--- where blocks begin, when one more is added: those before, and the new one
-start-before : (starts : List ℕ) (x b : ℕ) → b < length starts → start_of (starts ++ x ∷ []) b ≡ start_of starts b
-start-before starts x b lt = get_or_append_left starts (x ∷ []) no_node b lt
+run-new : (runs : List Run) (x : Run) (b : ℕ) → length runs ≡ b → run_of (runs ++ x ∷ []) b ≡ x
+run-new runs x b e = get_or_push runs x no_run b e
 
-start-new : (starts : List ℕ) (x b : ℕ) → length starts ≡ b → start_of (starts ++ x ∷ []) b ≡ x
-start-new starts x b e = get_or_push starts x no_node b e
-
-start-behind : (starts : List ℕ) (x b : ℕ) → length starts < b → start_of (starts ++ x ∷ []) b ≡ no_node
-start-behind starts x b lt = get_or_past (starts ++ x ∷ []) b no_node (omega (arith, lt, length-append starts (x ∷ [])))
-
--- the number of a pixel by where its block begins
-number-by-start : (starts : List ℕ) (kept : List ℤ) (p s : ℕ) → start_of starts (p / 16) ≡ s → s ≢ no_node
-    → number_at kept (place_of (Some starts) p) ≡ number_of_pixel kept (s + p % 16)
-number-by-start starts kept p s e some =
-    ap (number_at kept) (place-of-some starts p (λ none. some (sym e ∙ none))) ∙ ap (λ t. number_of_pixel kept (t + p % 16)) e
-
-number-by-none : (starts : List ℕ) (kept : List ℤ) (p : ℕ) → start_of starts (p / 16) ≡ no_node
-    → number_at kept (place_of (Some starts) p) ≡ undefined_number
-number-by-none starts kept p e = ap (number_at kept) (place-of-none starts p e)
-
--- a block more changes no number of a pixel before it
-number-before : (k : ℕ) (starts : List ℕ) (kept more : List ℤ) (x p : ℕ) → length starts ≡ k → AreApart starts kept → p < k * 16
-    → number_at (kept ++ more) (place_of (Some (starts ++ x ∷ [])) p) ≡ number_at kept (place_of (Some starts) p)
-number-before k starts kept more x p count apart lt = go (start_of starts (p / 16) == no_node) refl
-  where
-    old : start_of (starts ++ x ∷ []) (p / 16) ≡ start_of starts (p / 16)
-    old = start-before starts x (p / 16) (omega (arith, lt, count))
-
-    go : (b : Bool) → start_of starts (p / 16) == no_node ≡ b
-        → number_at (kept ++ more) (place_of (Some (starts ++ x ∷ [])) p) ≡ number_at kept (place_of (Some starts) p)
-    go true e =
-        number-by-none (starts ++ x ∷ []) (kept ++ more) p (old ∙ eqb-true _ _ e) ∙ sym (number-by-none starts kept p (eqb-true _ _ e))
-    go false e =
-        let some : start_of starts (p / 16) ≢ no_node = eqb-false _ _ e in
-        let inside : _ = apart.inside (p / 16) some in
-        number-by-start (starts ++ x ∷ []) (kept ++ more) p (start_of starts (p / 16)) old some
-        ∙ get_or_append_left kept more undefined_number (start_of starts (p / 16) + p % 16) (omega (arith, inside))
-        ∙ sym (number-by-start starts kept p (start_of starts (p / 16)) refl some)
-
--- blocks stay apart where one is added without numbers, or with numbers behind all others
-apart-more : (starts : List ℕ) (kept more : List ℤ) (x : ℕ) → AreApart starts kept → (x ≢ no_node → x ≡ length kept) → (x ≢ no_node → length more ≡ 16)
-    → AreApart (starts ++ x ∷ []) (kept ++ more)
-apart-more starts kept more x apart behind size = record {
-  inside = λ b some. inside b some (cases_lt b (length starts)) (cases_lt (length starts) b);
-  apart = λ a b lt some other. between a b lt some other (cases_lt b (length starts)) (cases_lt (length starts) b);
+-- a run behind all others is apart from them
+apart-more : (runs : List Run) (kept more : List ℤ) (x : Run) → AreApart runs kept → x.start ≡ length kept → x.end - x.first ≤ length more
+    → AreApart (runs ++ x ∷ []) (kept ++ more)
+apart-more runs kept more x apart start size = record {
+  inside = λ b lt. inside b (cases_lt b (length runs)) (omega (arith, lt, longer));
+  apart = λ a b lt below. between a b lt (cases_lt b (length runs)) (omega (arith, below, longer));
 }
   where
     all : length (kept ++ more) ≡ length kept + length more
     all = length-append kept more
 
-    inside : (b : ℕ) → start_of (starts ++ x ∷ []) b ≢ no_node → (b < length starts) ⊎ (length starts ≤ b) → (length starts < b) ⊎ (b ≤ length starts)
-        → start_of (starts ++ x ∷ []) b + 16 ≤ length (kept ++ more)
-    inside b some (inl lt) l =
-        let e : start_of (starts ++ x ∷ []) b ≡ start_of starts b = start-before starts x b lt in
-        let old : _ = apart.inside b (λ none. some (e ∙ none)) in
-        omega (arith, e, old, all)
-    inside b some (inr ge) (inl gt) = absurd (some (start-behind starts x b gt))
-    inside b some (inr ge) (inr le) =
-        let e : start_of (starts ++ x ∷ []) b ≡ x = start-new starts x b (omega (arith, ge, le)) in
-        let there : x ≢ no_node = λ none. some (e ∙ none) in
-        omega (arith, e, behind there, size there, all)
+    longer : length (runs ++ x ∷ []) ≡ length runs + 1
+    longer = length-append runs (x ∷ [])
 
-    between : (a b : ℕ) → a < b → start_of (starts ++ x ∷ []) a ≢ no_node → start_of (starts ++ x ∷ []) b ≢ no_node
-        → (b < length starts) ⊎ (length starts ≤ b) → (length starts < b) ⊎ (b ≤ length starts)
-        → start_of (starts ++ x ∷ []) a + 16 ≤ start_of (starts ++ x ∷ []) b
-    between a b lt some other (inl low) l =
-        let e : start_of (starts ++ x ∷ []) b ≡ start_of starts b = start-before starts x b low in
-        let f : start_of (starts ++ x ∷ []) a ≡ start_of starts a = start-before starts x a (omega (arith, lt, low)) in
-        let old : _ = apart.apart a b lt (λ none. some (f ∙ none)) (λ none. other (e ∙ none)) in
-        omega (arith, e, f, old)
-    between a b lt some other (inr ge) (inl gt) = absurd (other (start-behind starts x b gt))
-    between a b lt some other (inr ge) (inr le) =
-        let e : start_of (starts ++ x ∷ []) b ≡ x = start-new starts x b (omega (arith, ge, le)) in
-        let f : start_of (starts ++ x ∷ []) a ≡ start_of starts a = start-before starts x a (omega (arith, lt, le)) in
-        let there : x ≢ no_node = λ none. other (e ∙ none) in
-        let old : _ = apart.inside a (λ none. some (f ∙ none)) in
-        omega (arith, e, f, old, behind there)
+    inside : (b : ℕ) → (b < length runs) ⊎ (length runs ≤ b) → b < length runs + 1
+        → (run_of (runs ++ x ∷ []) b).start + ((run_of (runs ++ x ∷ []) b).end - (run_of (runs ++ x ∷ []) b).first) ≤ length (kept ++ more)
+    inside b (inl low) lt =
+        let old : _ = apart.inside b low in
+        rw (run-before runs x b low, all) (omega (arith, old))
+    inside b (inr ge) lt = rw (run-new runs x b (omega (arith, ge, lt)), all) (omega (arith, start, size))
 
-append-nothing : (l : List ℤ) → l ++ [] ≡ l
-append-nothing [] = refl
-append-nothing (x ∷ xs) = ap (λ (t : List ℤ). x ∷ t) (append-nothing xs)
+    between : (a b : ℕ) → a < b → (b < length runs) ⊎ (length runs ≤ b) → b < length runs + 1
+        → (run_of (runs ++ x ∷ []) a).start + ((run_of (runs ++ x ∷ []) a).end - (run_of (runs ++ x ∷ []) a).first)
+        ≤ (run_of (runs ++ x ∷ []) b).start
+    between a b lt (inl low) below = rw (run-before runs x b low, run-before runs x a (omega (arith, lt, low))) (apart.apart a b lt low)
+    between a b lt (inr ge) below =
+        let old : _ = apart.inside a (omega (arith, lt, below)) in
+        rw (run-new runs x b (omega (arith, ge, below)), run-before runs x a (omega (arith, lt, below))) (omega (arith, old, start))
 
--- the numbers of a block one after the other
-pub kept-more : (before kept more numbers : List ℤ) (first p : ℕ) → first ≤ p
-    → kept ≡ before ++ map (number_of_pixel numbers) (range_with_len first (p - first)) → more ≡ kept ++ number_of_pixel numbers p ∷ []
-    → more ≡ before ++ map (number_of_pixel numbers) (range_with_len first (p + 1 - first))
-kept-more before kept more numbers first p order so_far pushed =
-    pushed ∙ ap (λ l. l ++ number_of_pixel numbers p ∷ []) so_far
-    ∙ append_assoc before (map (number_of_pixel numbers) (range_with_len first (p - first))) (number_of_pixel numbers p ∷ [])
-    ∙ ap (λ l. before ++ l) (sym (map-range_with_len_more (number_of_pixel numbers) first (p - first) p (omega (arith, order))))
-    ∙ ap (λ n. before ++ map (number_of_pixel numbers) (range_with_len first n)) (omega (arith, order))
+-- a number that lies before what is added is read as before
+number-before : (kept more : List ℤ) (o : Option ℕ) → IfSome o (λ i. i < length kept) → number_at (kept ++ more) o ≡ number_at kept o
+number-before kept more None h = refl
+number-before kept more (Some i) h = get_or_append_left kept more undefined_number i h
 
-pub kept-whole : (before kept numbers : List ℤ) (first p : ℕ) → p ≡ first + 16
-    → kept ≡ before ++ map (number_of_pixel numbers) (range_with_len first (p - first)) → kept ≡ before ++ block_from numbers first
-unfolding block_from
-kept-whole before kept numbers first p end so_far =
-    so_far ∙ ap (λ n. before ++ map (number_of_pixel numbers) (range_with_len first n)) (let e : p - first ≡ 16 = omega (arith, end) in e)
-
--- a block without a defined pixel is added without numbers
-pub block-left-out : (k : ℕ) (starts : List ℕ) (kept numbers : List ℤ) → AreBlocksOf k starts kept numbers
-    → ((p : ℕ) → k * 16 ≤ p → p < k * 16 + 16 → number_of_pixel numbers p ≡ undefined_number)
-    → AreBlocksOf (k + 1) (starts ++ no_node ∷ []) kept numbers
-block-left-out k starts kept numbers before none = record {
-  count = length-append starts (no_node ∷ []) ∙ ap (λ n. n + 1) before.count;
-  few = omega (arith, before.few);
-  apart =
-      subst (λ l. AreApart (starts ++ no_node ∷ []) l) (append-nothing kept)
-      (apart-more starts kept [] no_node before.apart (λ some. absurd (some refl)) (λ some. absurd (some refl)));
-  same = λ p lt. same p lt (cases_lt p (k * 16));
+-- the next block's run, with the numbers between its first and its last defined pixel
+pub block-added : (k first end : ℕ) (runs : List Run) (run : Run) (kept more numbers : List ℤ) → AreBlocksOf k runs kept numbers
+    → run.start ≡ length kept → k * 32 + run.first ≡ first → k * 32 + run.end ≡ end → first ≤ end → end ≤ k * 32 + 32
+    → AreUndefined numbers (k * 32) first → AreUndefined numbers end (k * 32 + 32)
+    → length more ≡ end - first → ((i : ℕ) → i < end - first → get_or more i undefined_number ≡ number_of_pixel numbers (first + i))
+    → AreBlocksOf (k + 1) (runs ++ run ∷ []) (kept ++ more) numbers
+unfolding place_of
+block-added k first end runs run kept more numbers before start low high order most none_before none_behind size same_there = record {
+  count = length-append runs (run ∷ []) ∙ ap (λ n. n + 1) before.count;
+  few = omega (arith, before.few, length-append kept more, size, most, low);
+  apart = apart-more runs kept more run before.apart start (omega (arith, size, low, high));
+  same = λ p lt. same p lt (cases_lt p (k * 32));
 }
   where
-    same : (p : ℕ) → p < (k + 1) * 16 → (p < k * 16) ⊎ (k * 16 ≤ p)
-        → number_at kept (place_of (Some (starts ++ no_node ∷ [])) p) ≡ number_of_pixel numbers p
-    same p lt (inl low) =
-        subst (λ l. number_at l (place_of (Some (starts ++ no_node ∷ [])) p) ≡ number_at kept (place_of (Some starts) p)) (append-nothing kept)
-        (number-before k starts kept [] no_node p before.count before.apart low)
-        ∙ before.same p low
-    same p lt (inr ge) =
-        number-by-none (starts ++ no_node ∷ []) kept p (start-new starts no_node (p / 16) (omega (arith, lt, ge, before.count)))
-        ∙ sym (none p ge (omega (arith, lt)))
+    inside : (p : ℕ) → p < k * 32 → (o : Option ℕ) → place_of (Some runs) p ≡ o → IfSome o (λ i. i < length kept)
+    inside p lt None e = tt
+    inside p lt (Some i) e = place-inside (k * 32) (Some runs) kept p i (omega (arith, before.count), before.apart) lt e
 
--- a block with its numbers is added behind the others
-pub block-kept : (k : ℕ) (starts : List ℕ) (kept numbers : List ℤ) → length kept < no_node → AreBlocksOf k starts kept numbers
-    → AreBlocksOf (k + 1) (starts ++ length kept ∷ []) (kept ++ block_from numbers (k * 16)) numbers
-unfolding block_from
-block-kept k starts kept numbers few before = record {
-  count = length-append starts (length kept ∷ []) ∙ ap (λ n. n + 1) before.count;
-  few = omega (arith, before.few, size, length-append kept block);
-  apart = apart-more starts kept block (length kept) before.apart (λ some. refl) (λ some. size);
-  same = λ p lt. same p lt (cases_lt p (k * 16));
-}
+    new : (p : ℕ) → k * 32 ≤ p → p < (k + 1) * 32 → run_of (runs ++ run ∷ []) (p / 32) ≡ run
+    new p ge lt = run-new runs run (p / 32) (omega (arith, ge, lt, before.count))
+
+    beside : (p : ℕ) → k * 32 ≤ p → p < (k + 1) * 32 → (p % 32 < run.first) ⊎ (run.end ≤ p % 32)
+        → number_at (kept ++ more) (place_of (Some (runs ++ run ∷ [])) p) ≡ undefined_number
+    beside p ge lt out = rw (new p ge lt, place-beside run (p % 32) out) refl
+
+    at : (p : ℕ) → k * 32 ≤ p → p < (k + 1) * 32 → (p % 32 < run.first) ⊎ (run.first ≤ p % 32) → (p % 32 < run.end) ⊎ (run.end ≤ p % 32)
+        → number_at (kept ++ more) (place_of (Some (runs ++ run ∷ [])) p) ≡ number_of_pixel numbers p
+    at p ge lt (inl out) d = beside p ge lt (inl out) ∙ sym (none_before p ge (omega (arith, out, ge, lt, low)))
+    at p ge lt (inr in_low) (inr out) = beside p ge lt (inr out) ∙ sym (none_behind p (omega (arith, out, ge, lt, high)) (omega (arith, lt)))
+    at p ge lt (inr in_low) (inl in_high) =
+        ap (λ r. number_at (kept ++ more) (place_in_run r (p % 32))) (new p ge lt)
+        ∙ ap (number_at (kept ++ more)) (place-in run (p % 32) in_low in_high)
+        ∙ ap (λ s. get_or (kept ++ more) (s + (p % 32 - run.first)) undefined_number) start
+        ∙ get_or-append-add kept more (p % 32 - run.first) undefined_number
+        ∙ same_there (p % 32 - run.first) (omega (arith, in_low, in_high, low, high))
+        ∙ ap (number_of_pixel numbers) (omega (arith, in_low, ge, lt, low))
+
+    same : (p : ℕ) → p < (k + 1) * 32 → (p < k * 32) ⊎ (k * 32 ≤ p)
+        → number_at (kept ++ more) (place_of (Some (runs ++ run ∷ [])) p) ≡ number_of_pixel numbers p
+    same p lt (inl under) =
+        ap (λ r. number_at (kept ++ more) (place_in_run r (p % 32))) (run-before runs run (p / 32) (omega (arith, under, before.count)))
+        ∙ number-before kept more (place_of (Some runs) p) (inside p under (place_of (Some runs) p) refl)
+        ∙ before.same p under
+    same p lt (inr ge) = at p ge lt (cases_lt (p % 32) run.first) (cases_lt (p % 32) run.end)
+
+-- behind the last pixel nothing is defined
+pub undefined-to : (numbers : List ℤ) (end high limit : ℕ) → AreUndefined numbers end high → (limit ≤ high) ⊎ (length numbers ≤ high)
+    → AreUndefined numbers end limit
+undefined-to numbers end high limit none reach p low below = go (cases_lt p high) reach
   where
-    block : List ℤ
-    block = block_from numbers (k * 16)
+    go : (p < high) ⊎ (high ≤ p) → (limit ≤ high) ⊎ (length numbers ≤ high) → number_of_pixel numbers p ≡ undefined_number
+    go (inl lt) r = none p low lt
+    go (inr ge) (inl all) = absurd (omega (arith, ge, all, below))
+    go (inr ge) (inr past) = get_or_past numbers p undefined_number (omega (arith, ge, past))
 
-    size : length block ≡ 16
-    size = length-map-range_with_len (number_of_pixel numbers) (k * 16) 16
+-- the lesser of two numbers reaches one of them
+pub min-reaches : (a b r : ℕ) → r ≡ min a b → (b ≤ r) ⊎ (a ≤ r)
+min-reaches a b r e = go (cases_lt a b)
+  where
+    go : (a < b) ⊎ (b ≤ a) → (b ≤ r) ⊎ (a ≤ r)
+    go (inl lt) = inr (omega (arith, e, lt))
+    go (inr ge) = inl (omega (arith, e, ge))
 
-    some : length kept ≢ no_node
-    some e = absurd (omega (arith, few, e))
+-- a part of a list
+pub part-length : (n m : ℕ) (xs : List ℤ) → m + n ≤ length xs → length (take n (drop m xs)) ≡ n
+part-length n m xs inside = length-take-le n (drop m xs) (omega (arith, inside, length-drop m xs))
 
-    same : (p : ℕ) → p < (k + 1) * 16 → (p < k * 16) ⊎ (k * 16 ≤ p)
-        → number_at (kept ++ block) (place_of (Some (starts ++ length kept ∷ [])) p) ≡ number_of_pixel numbers p
-    same p lt (inl low) = number-before k starts kept block (length kept) p before.count before.apart low ∙ before.same p low
-    same p lt (inr ge) =
-        number-by-start (starts ++ length kept ∷ []) (kept ++ block) p (length kept)
-        (start-new starts (length kept) (p / 16) (omega (arith, lt, ge, before.count))) some
-        ∙ get_or-append-add kept block (p % 16) undefined_number
-        ∙ get_or-map-range_with_len (number_of_pixel numbers) (k * 16) 16 (p % 16) p undefined_number (omega arith) (omega (arith, lt, ge))
+pub part-at : (n m i : ℕ) (xs : List ℤ) → i < n → get_or (take n (drop m xs)) i undefined_number ≡ number_of_pixel xs (m + i)
+part-at n m i xs lt = get_or-take n (drop m xs) i undefined_number lt ∙ get_or-drop m xs i undefined_number
 
 -- blocks for all pixels
-pub blocks-of-all : (k : ℕ) (starts : List ℕ) (kept numbers : List ℤ) → length numbers ≤ k * 16 → AreBlocksOf k starts kept numbers
-    → IsKept (length numbers) (Some starts) kept
-blocks-of-all k starts kept numbers enough blocks = (omega (arith, enough, blocks.count), blocks.apart)
-
-pub kept-in-blocks : (k : ℕ) (starts : List ℕ) (kept numbers : List ℤ) → length numbers ≤ k * 16 → AreBlocksOf k starts kept numbers
-    → kept_pixels (length numbers) (Some starts) kept ≡ map pixel_of numbers
-kept-in-blocks k starts kept numbers enough blocks =
-    ext_get_or None (kept_pixels (length numbers) (Some starts) kept) (map pixel_of numbers)
-    (kept-length (length numbers) (Some starts) kept ∙ sym (length-map numbers pixel_of))
+pub kept-in-blocks : (k : ℕ) (runs : List Run) (kept numbers : List ℤ) → length numbers ≤ k * 32 → AreBlocksOf k runs kept numbers
+    → kept_pixels (length numbers) (Some runs) kept ≡ map pixel_of numbers
+kept-in-blocks k runs kept numbers enough blocks =
+    ext_get_or None (kept_pixels (length numbers) (Some runs) kept) (map pixel_of numbers)
+    (kept-length (length numbers) (Some runs) kept ∙ sym (length-map numbers pixel_of))
     (λ i within.
-    let lt : i < length numbers = subst (λ n. i < n) (kept-length (length numbers) (Some starts) kept) within in
-    kept-at (length numbers) (Some starts) kept i lt ∙ ap pixel_of (blocks.same i (omega (arith, lt, enough)))
+    let lt : i < length numbers = subst (λ n. i < n) (kept-length (length numbers) (Some runs) kept) within in
+    kept-at (length numbers) (Some runs) kept i lt ∙ ap pixel_of (blocks.same i (omega (arith, lt, enough)))
     ∙ sym (get_or-map pixel_of numbers i undefined_number None lt))
 
 -- ---- what holds where there is an answer
-
-pub on-ok : {X E : Type 0} (r : Result X E) (P Q : Type 0) → (P → Q) → OnOk r P → OnOk r Q
-on-ok (Ok x) P Q f h = f h
-on-ok (Err e) P Q f h = tt
 
 pub if-made : {X E : Type 0} (r : Result (Option X) E) (P Q : X → Type 0) → ((x : X) → P x → Q x) → IfOk r (λ o. IfSome o P) → IfOk r (λ o. IfSome o Q)
 if-made (Ok None) P Q f h = tt

@@ -1,10 +1,11 @@
 -- Bookkeeping: how a plane keeps its pixels. A defined pixel is kept as its value, and an undefined one as a number that is no value.
--- Where few pixels are defined, the numbers of those blocks of 16 pixels are kept that have a defined one, and no others.
-use Rattle.std.specs.Prelude.{◌≡◌, ◌≢◌, ℕ, ◌+◌, ◌*◌, ◌/◌, ◌%◌, ◌^◌, ◌<◌, ◌≤◌, ◌==◌, ℤ, pos, neg_ℤ, List, length, map, slice_index_or, Option, Some, None}
-use Rattle.std.specs.Prelude.{cond, if◌then◌else◌}
+-- Where few pixels are defined, the pixels are cut into blocks of 32, and of each block the numbers from the first defined pixel to
+-- the last are kept, its run.
+use Rattle.std.specs.Prelude.{◌≡◌, ℕ, ◌+◌, ◌*◌, ◌/◌, ◌%◌, ◌^◌, ◌<◌, ◌≤◌, ℤ, pos, neg_ℤ, List, length, map, slice_index_or, Option, Some, None}
+use Rattle.std.specs.Prelude.{cond, if◌then◌else◌, ◌&&◌, nat_le, nat_lt, ◌-◌}
 use Rattle.std.specs.List.{range_with_len}
 use Rattle.std.specs.Ordering.{int_eq}
-use Rattle.comp_tree.specs.Limits.{no_node}
+use Rattle.comp_tree.specs.declared.pixels.Run.{Run}
 
 -- stands for an undefined pixel: -2 ^ 63, which is below every value
 abbrev pub undefined_number : ℤ
@@ -18,18 +19,22 @@ pixel_of number = cond (int_eq number undefined_number) None (Some number)
 abbrev pub number_of_pixel : List ℤ → ℕ → ℤ
 number_of_pixel numbers p = slice_index_or numbers p undefined_number
 
--- the numbers of the 16 pixels from the first one on
-unfoldable pub block_from : List ℤ → ℕ → List ℤ
-block_from numbers first = map (number_of_pixel numbers) (range_with_len first 16)
+-- a block without numbers
+abbrev pub no_run : Run
+no_run = record { start = 0; first = 0; end = 0 }
 
--- where the numbers of block b begin, and no_node where it has none
-abbrev pub start_of : List ℕ → ℕ → ℕ
-start_of starts b = slice_index_or starts b no_node
+-- the numbers of block b
+abbrev pub run_of : List Run → ℕ → Run
+run_of runs b = slice_index_or runs b no_run
+
+-- the place of the number of a block's pixel with this number in the block, if it is one of the run's
+unfoldable pub place_in_run : Run → ℕ → Option ℕ
+place_in_run run k = if nat_le run.first k && nat_lt k run.end then Some (run.start + (k - run.first)) else None
 
 -- which of the kept numbers is that of pixel p, if there is one: the p-th where each pixel has one, else one of its block's
-unfoldable pub place_of : Option (List ℕ) → ℕ → Option ℕ
+unfoldable pub place_of : Option (List Run) → ℕ → Option ℕ
 place_of None p = Some p
-place_of (Some starts) p = if start_of starts (p / 16) == no_node then None else Some (start_of starts (p / 16) + p % 16)
+place_of (Some runs) p = place_in_run (run_of runs (p / 32)) (p % 32)
 
 -- the number at a place
 abbrev pub number_at : List ℤ → Option ℕ → ℤ
@@ -37,22 +42,27 @@ number_at numbers None = undefined_number
 number_at numbers (Some place) = number_of_pixel numbers place
 
 -- so many pixels that are kept as these numbers
-unfoldable pub kept_pixels : ℕ → Option (List ℕ) → List ℤ → List (Option ℤ)
-kept_pixels count starts numbers = map (λ p. pixel_of (number_at numbers (place_of starts p))) (range_with_len 0 count)
+unfoldable pub kept_pixels : ℕ → Option (List Run) → List ℤ → List (Option ℤ)
+kept_pixels count runs numbers = map (λ p. pixel_of (number_at numbers (place_of runs p))) (range_with_len 0 count)
 
--- each block that begins anywhere has numbers of its own
-pub record AreApart (starts : List ℕ) (numbers : List ℤ) : Type 0 where
-  pub inside : (b : ℕ) → start_of starts b ≢ no_node → start_of starts b + 16 ≤ length numbers
-  pub apart : (a b : ℕ) → a < b → start_of starts a ≢ no_node → start_of starts b ≢ no_node → start_of starts a + 16 ≤ start_of starts b
+-- the runs have numbers of their own, in the order of blocks
+pub record AreApart (runs : List Run) (numbers : List ℤ) : Type 0 where
+  pub inside : (b : ℕ) → b < length runs → (run_of runs b).start + ((run_of runs b).end - (run_of runs b).first) ≤ length numbers
+  pub apart : (a b : ℕ) → a < b → b < length runs
+      → (run_of runs a).start + ((run_of runs a).end - (run_of runs a).first) ≤ (run_of runs b).start
 
--- the numbers are those of all pixels, or of blocks apart, of which there are enough for all pixels
-abbrev pub IsKept : ℕ → Option (List ℕ) → List ℤ → Type 0
+-- the numbers are those of all pixels, or of runs apart, one for each block of the pixels
+abbrev pub IsKept : ℕ → Option (List Run) → List ℤ → Type 0
 IsKept count None numbers = length numbers ≡ count
-IsKept count (Some starts) numbers = (count ≤ length starts * 16) × AreApart starts numbers
+IsKept count (Some runs) numbers = (count ≤ length runs * 32) × AreApart runs numbers
 
 -- the first k blocks, with the numbers that these pixels have
-pub record AreBlocksOf (k : ℕ) (starts : List ℕ) (kept numbers : List ℤ) : Type 0 where
-  pub count : length starts ≡ k
-  pub few : length kept ≤ k * 16
-  pub apart : AreApart starts kept
-  pub same : (p : ℕ) → p < k * 16 → number_at kept (place_of (Some starts) p) ≡ number_of_pixel numbers p
+pub record AreBlocksOf (k : ℕ) (runs : List Run) (kept numbers : List ℤ) : Type 0 where
+  pub count : length runs ≡ k
+  pub few : length kept ≤ k * 32
+  pub apart : AreApart runs kept
+  pub same : (p : ℕ) → p < k * 32 → number_at kept (place_of (Some runs) p) ≡ number_of_pixel numbers p
+
+-- all pixels from the first one up to the end are undefined
+abbrev pub AreUndefined : List ℤ → ℕ → ℕ → Type 0
+AreUndefined numbers first end = (p : ℕ) → first ≤ p → p < end → number_of_pixel numbers p ≡ undefined_number

@@ -1,12 +1,11 @@
-//! How a plane keeps its pixels: a number for each of them, or, where few are defined, the numbers of those blocks alone that have a
-//! defined pixel.
+//! How a plane keeps its pixels: a number for each of them, or, where few are defined, for each block of 32 pixels the numbers from its
+//! first defined pixel to its last.
 
-ghost use Rattle.std.specs.Prelude.{◌≡◌, ℕ, ◌+◌, ◌*◌, ◌++◌, ◌^◌, ◌<◌, ◌≤◌, length, map, false, IfOk, OnOk, IfSome, IsTrue, is_some, slice_set};
+ghost use Rattle.std.specs.Prelude.{◌≡◌, ◌+◌, ◌*◌, ◌^◌, ◌<◌, ◌≤◌, length, map, IfOk, OnOk, IfSome, IsTrue, is_some, slice_set};
 ghost use Rattle.comp_tree.specs.Raster.{value_at};
 ghost use Rattle.std.specs.Option.{option_map};
-ghost use Rattle.comp_tree.specs.Stored.{undefined_number, pixel_of as pixel_kept_as, place_of as place_in, number_of_pixel, block_from, AreBlocksOf};
+ghost use Rattle.comp_tree.specs.Stored.{pixel_of as pixel_kept_as, place_of as place_in, place_in_run as place_in_run_of, AreBlocksOf, AreUndefined};
 
-use crate::NONE;
 use dev_io::OutOfMemory;
 use std::alloc::Global;
 use std::marker::Model;
@@ -16,16 +15,25 @@ use std::marker::Model;
 pub(crate) const UNDEFINED: i64 = i64::MIN;
 
 // How many pixels there are in a block.
-const BLOCK: usize = 16;
+const BLOCK: usize = 32;
+
+// The run of a block: its numbers from the first defined pixel to the last. `first` and `end` count from the block's first pixel,
+// and where no pixel is defined they are equal.
+#[derive(Clone, Copy)]
+pub struct Run {
+    // the place of the run's first number among all that are kept
+    start: u32,
+    first: u8,
+    end: u8,
+}
 
 // The pixels of a plane.
 #[derive(Drop)]
 pub(crate) struct Pixels {
     count: usize,
-    // For each block where its numbers begin, and `NONE` where none of its pixels is defined. There is no such list while each
-    // pixel has a number.
-    starts: Option<Vec<u32>>,
-    // A pixel's value, or `UNDEFINED`. A block has 16 of them, also where the pixels end before.
+    // A run for each block, or no list while each pixel has a number.
+    runs: Option<Vec<Run>>,
+    // A pixel's value, or `UNDEFINED`.
     numbers: Vec<i64>,
 }
 
@@ -36,9 +44,9 @@ impl Model for Pixels {
 
     ghost Value = { List (Option ℤ) };
 
-    ghost view = { λ pixels. kept_pixels pixels.count (option_map (λ starts. starts.items) pixels.starts) pixels.numbers.items };
+    ghost view = { λ pixels. kept_pixels pixels.count (option_map (λ runs. runs.items) pixels.runs) pixels.numbers.items };
 
-    ghost invariant = { λ pixels. IsKept pixels.count (option_map (λ starts. starts.items) pixels.starts) pixels.numbers.items };
+    ghost invariant = { λ pixels. IsKept pixels.count (option_map (λ runs. runs.items) pixels.runs) pixels.numbers.items };
 }
 
 impl Pixels {
@@ -48,7 +56,7 @@ impl Pixels {
     {
         Pixels {
             count: numbers.len(),
-            starts: None,
+            runs: None,
             numbers,
         }
     }
@@ -57,12 +65,12 @@ impl Pixels {
     pub(crate) fn copied(&self, alloc: Global) -> Result<Pixels, OutOfMemory>
         ensures { IfOk result (λ copy. copy ≡ self.now) }
     {
-        let starts = copy_if_there(alloc, &self.starts)?;
+        let runs = copy_if_there(alloc, &self.runs)?;
         let mut numbers = Vec::with_capacity(alloc, self.numbers.len())?;
         numbers.extend_from_slice(&self.numbers)?;
         Ok(Pixels {
             count: self.count,
-            starts,
+            runs,
             numbers,
         })
     }
@@ -73,7 +81,7 @@ impl Pixels {
         requires { p < length self.now }
         ensures { result ≡ value_at self.now p }
     {
-        match place_of(&self.starts, p) {
+        match place_of(&self.runs, p) {
             Some(place) => pixel_of(self.numbers[place]),
             None => None,
         }
@@ -86,7 +94,7 @@ impl Pixels {
         requires defined { IfSome (pixel_kept_as number) (λ _. IsTrue (is_some (value_at self.old p))) }
         ensures { self.new ≡ slice_set self.old p (pixel_kept_as number) }
     {
-        if let Some(place) = place_of(&self.starts, p) {
+        if let Some(place) = place_of(&self.runs, p) {
             self.numbers[place] = number;
         }
     }
@@ -96,7 +104,7 @@ impl Pixels {
         requires { length self.now ≤ 2 ^ 24 }
         ensures { IfOk result (λ made. IfSome made (λ pixels. pixels ≡ self.now)) }
     {
-        match &self.starts {
+        match &self.runs {
             None => blocks_of(alloc, &self.numbers),
             Some(_) => Ok(None),
         }
@@ -119,30 +127,38 @@ fn pixel_of(number: i64) -> Option<i64>
 // Which of the numbers is that of a pixel, if one is.
 #[inline]
 #[tactic(auto, unfolding(crate::specs::Stored::place_of))]
-fn place_of(starts: &Option<Vec<u32>>, p: usize) -> Option<usize>
-    requires { IfSome starts.now (λ starts. p < length starts.items * 16) }
-    ensures { result ≡ place_in (option_map (λ starts. starts.items) starts.now) p }
+fn place_of(runs: &Option<Vec<Run>>, p: usize) -> Option<usize>
+    requires { IfSome runs.now (λ runs. p < length runs.items * 32) }
+    ensures { result ≡ place_in (option_map (λ runs. runs.items) runs.now) p }
 {
-    let Some(starts) = starts else {
+    let Some(runs) = runs else {
         return Some(p);
     };
-    let start = starts[p / BLOCK];
-    if start == NONE {
+    place_in_run(runs[p / BLOCK], p % BLOCK)
+}
+
+// The place of the number of a block's pixel, if it is one of the run's.
+#[inline]
+#[tactic(auto, unfolding(crate::specs::Stored::place_in_run))]
+fn place_in_run(run: Run, k: usize) -> Option<usize>
+    ensures { result ≡ place_in_run_of run k }
+{
+    if k < run.first as usize || k >= run.end as usize {
         return None;
     }
-    Some(start as usize + p % BLOCK)
+    Some(run.start as usize + (k - run.first as usize))
 }
 
 // The same list a second time, if there is one.
-fn copy_if_there(alloc: Global, starts: &Option<Vec<u32>>) -> Result<Option<Vec<u32>>, OutOfMemory>
-    ensures { IfOk result (λ copy. option_map (λ starts. starts.items) copy
-        ≡ option_map (λ starts. starts.items) starts.now) }
+fn copy_if_there(alloc: Global, runs: &Option<Vec<Run>>) -> Result<Option<Vec<Run>>, OutOfMemory>
+    ensures { IfOk result (λ copy. option_map (λ runs. runs.items) copy
+        ≡ option_map (λ runs. runs.items) runs.now) }
 {
-    let Some(starts) = starts else {
+    let Some(runs) = runs else {
         return Ok(None);
     };
-    let mut copy = Vec::with_capacity(alloc, starts.len())?;
-    copy.extend_from_slice(starts)?;
+    let mut copy = Vec::with_capacity(alloc, runs.len())?;
+    copy.extend_from_slice(runs)?;
     Ok(Some(copy))
 }
 
@@ -152,73 +168,74 @@ fn blocks_of(alloc: Global, numbers: &[i64]) -> Result<Option<Pixels>, OutOfMemo
     ensures { IfOk result (λ made. IfSome made (λ pixels. pixels ≡ map pixel_kept_as numbers.now)) }
 {
     let count = numbers.len().div_ceil(BLOCK);
-    let mut starts = Vec::with_capacity(alloc, count)?;
-    let mut kept = Vec::new(alloc);
+    let mut runs = Vec::with_capacity(alloc, count)?;
+    // room that isn't used takes no memory until it is written to
+    let mut kept = Vec::with_capacity(alloc, numbers.len() / 4)?;
     for block in 0..count {
-        add_block(&mut starts, &mut kept, numbers, block)?;
+        add_block(&mut runs, &mut kept, numbers, block)?;
         if kept.len() > numbers.len() / 4 {
             return Ok(None);
         }
     }
     Ok(Some(Pixels {
         count: numbers.len(),
-        starts: Some(starts),
+        runs: Some(runs),
         numbers: kept,
     }))
 }
 
 // Adds the next block to the first ones.
 fn add_block(
-    starts: &mut Vec<u32>,
+    runs: &mut Vec<Run>,
     kept: &mut Vec<i64>,
     numbers: &[i64],
     block: usize,
 ) -> Result<(), OutOfMemory>
-    requires few { block < 2 ^ 24 }
-    requires before { AreBlocksOf block starts.old.items kept.old.items numbers.now }
-    ensures { OnOk result (AreBlocksOf (block + 1) starts.new.items kept.new.items numbers.now) }
+    requires few { length numbers.now ≤ 2 ^ 24 }
+    requires inside { block * 32 < length numbers.now }
+    requires before { AreBlocksOf block runs.old.items kept.old.items numbers.now }
+    ensures { OnOk result (AreBlocksOf (block + 1) runs.new.items kept.new.items numbers.now) }
 {
-    let first = block * BLOCK;
-    if has_value(numbers, first) {
-        starts.push(kept.len() as u32)?;
-        return keep_block(kept, numbers, first);
-    }
-    starts.push(NONE)?;
+    let low = block * BLOCK;
+    let high = numbers.len().min(low + BLOCK);
+    let first = first_defined(numbers, low, high);
+    let end = end_of_defined(numbers, first, high);
+    let run = Run {
+        start: kept.len() as u32,
+        first: (first - low) as u8,
+        end: (end - low) as u8,
+    };
+    runs.push(run)?;
+    kept.extend_from_slice(&numbers[first..end])?;
     Ok(())
 }
 
-// Whether a pixel is defined in the block that begins here.
-fn has_value(numbers: &[i64], first: usize) -> bool
-    requires { first < 2 ^ 32 }
-    ensures { result ≡ false → (p : ℕ) → first ≤ p → p < first + 16
-        → number_of_pixel numbers.now p ≡ undefined_number }
+// The first of some pixels that is defined, or their end where none is.
+fn first_defined(numbers: &[i64], low: usize, high: usize) -> usize
+    requires order { low ≤ high }
+    requires inside { high ≤ length numbers.now }
+    ensures low { low ≤ result }
+    ensures high { result ≤ high }
+    ensures none_before { AreUndefined numbers.now low result }
 {
-    for p in first..(first + BLOCK).min(numbers.len()) {
-        if numbers[p] != UNDEFINED {
-            return true;
-        }
+    let mut first = low;
+    while first < high && numbers[first] == UNDEFINED {
+        first += 1;
     }
-    false
+    first
 }
 
-// Puts the numbers of a block behind the others.
-fn keep_block(kept: &mut Vec<i64>, numbers: &[i64], first: usize) -> Result<(), OutOfMemory>
-    requires { first < 2 ^ 32 }
-    ensures { OnOk result (kept.new.items ≡ kept.old.items ++ block_from numbers.now first) }
+// The pixel after the last of some that is defined, or the first where none is.
+fn end_of_defined(numbers: &[i64], low: usize, high: usize) -> usize
+    requires order { low ≤ high }
+    requires inside { high ≤ length numbers.now }
+    ensures low { low ≤ result }
+    ensures high { result ≤ high }
+    ensures none_behind { AreUndefined numbers.now result high }
 {
-    for p in first..first + BLOCK {
-        kept.push(number_there(numbers, p))?;
+    let mut end = high;
+    while low < end && numbers[end - 1] == UNDEFINED {
+        end -= 1;
     }
-    Ok(())
-}
-
-// The number of a pixel, and that of an undefined one behind the last.
-fn number_there(numbers: &[i64], p: usize) -> i64
-    ensures { result ≡ number_of_pixel numbers.now p }
-{
-    if p < numbers.len() {
-        numbers[p]
-    } else {
-        UNDEFINED
-    }
+    end
 }

@@ -1,6 +1,6 @@
 //! Planes: images of whole numbers with undefined pixels.
 
-ghost use Rattle.std.specs.Prelude.{◌≡◌, ℕ, ◌*◌, ◌<◌, true, length, map, None, is_some, slice_set, IfOk, IfSome, IsTrue};
+ghost use Rattle.std.specs.Prelude.{◌≡◌, ◌*◌, ◌<◌, true, length, map, None, is_some, slice_set, IfOk, IfSome, IsTrue};
 ghost use Rattle.std.specs.List.{list_all};
 ghost use Rattle.comp_tree.specs.Limits.{IsWithinRange};
 ghost use Rattle.comp_tree.specs.Stored.{pixel_of as pixel_kept_as};

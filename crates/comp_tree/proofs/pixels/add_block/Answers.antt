@@ -1,27 +1,23 @@
-use Rattle.std.proofs.Common.{◌≡◌, ◌<◌, ◌+◌, ◌*◌, ◌∙◌, ◌++◌, [], ◌∷◌, length, sym, ap, subst, arith, rules}
+use Rattle.std.proofs.Common.{◌≡◌, ◌∙◌, ◌+◌, ◌-◌, ◌*◌, ◌≤◌, ◌++◌, ◌⊎◌, length, take, drop, sym, subst, arith, rules}
 use Rattle.std.specs.Vec.{vec_len}
-use Rattle.comp_tree.specs.Limits.{no_node}
-use Rattle.comp_tree.specs.Stored.{AreBlocksOf, block_from}
-use Rattle.comp_tree.proofs.Blocks.{block-left-out, block-kept, on-ok}
+use Rattle.comp_tree.specs.Stored.{AreBlocksOf}
+use Rattle.comp_tree.proofs.Blocks.{block-added, undefined-to, part-length, part-at, min-reaches}
 use Rattle.comp_tree.proofs.pixels.add_block.Goals as goal
-
-pub returns-then-has_value : goal.returns-then-has_value
-returns-then-has_value c =
-    let size : vec_len c.args.kept.now ≡ length c.args.kept.now.items = search rules in
-    let few : length c.args.kept.now.items < no_node = omega (arith, c.requires.few, c.requires.before.few) in
-    let starts : c.push.new.self.items ≡ c.args.starts.now.items ++ length c.args.kept.now.items ∷ [] =
-    c.in_ok-push.ensures.items ∙ ap (λ n. c.args.starts.now.items ++ n ∷ []) (c.len.ensures ∙ size) in
-    let more : AreBlocksOf (c.args.block + 1) (c.args.starts.now.items ++ length c.args.kept.now.items ∷ [])
-    (c.args.kept.now.items ++ block_from c.args.numbers.now (c.args.block * 16)) c.args.numbers.now =
-    block-kept c.args.block c.args.starts.now.items c.args.kept.now.items c.args.numbers.now few c.requires.before in
-    on-ok c.keep_block.result _ _
-    (λ kept.
-    subst (λ l. AreBlocksOf (c.args.block + 1) l c.keep_block.new.kept.items c.args.numbers.now) (sym starts)
-    (subst (λ l. AreBlocksOf (c.args.block + 1) (c.args.starts.now.items ++ length c.args.kept.now.items ∷ []) l c.args.numbers.now) (sym kept) more))
-    c.keep_block.ensures
 
 pub returns : goal.returns
 returns c =
-    subst (λ l. AreBlocksOf (c.args.block + 1) l c.args.kept.now.items c.args.numbers.now) (sym c.in_ok-push-2.ensures.items)
-    (block-left-out c.args.block c.args.starts.now.items c.args.kept.now.items c.args.numbers.now c.requires.before
-    (c.has_value.ensures c.if-has_value.false))
+    let size : vec_len c.args.kept.now ≡ length c.args.kept.now.items = search rules in
+    let order : c.first_defined-first.result ≤ c.end_of_defined-end.result = c.end_of_defined-end.ensures.low in
+    let low : c.args.block * 32 ≤ c.first_defined-first.result = c.first_defined-first.ensures.low in
+    let within : c.end_of_defined-end.result ≤ length c.args.numbers.now = search rules in
+    let reach : (c.args.block * 32 + 32 ≤ c.min-high.result) ⊎ (length c.args.numbers.now ≤ c.min-high.result) =
+    min-reaches _ _ _ c.min-high.ensures in
+    let most : c.end_of_defined-end.result ≤ c.args.block * 32 + 32 = search rules in
+    subst (λ l. AreBlocksOf (c.args.block + 1) c.push.new.self.items l c.args.numbers.now) (sym c.in_ok-extend_from_slice.ensures.items)
+    (subst (λ l. AreBlocksOf (c.args.block + 1) l (c.args.kept.now.items ++ take (c.end_of_defined-end.result - c.first_defined-first.result) (drop c.first_defined-first.result c.args.numbers.now)) c.args.numbers.now) (sym c.in_ok-push.ensures.items)
+    (block-added c.args.block c.first_defined-first.result c.end_of_defined-end.result c.args.runs.now.items _ c.args.kept.now.items
+    (take (c.end_of_defined-end.result - c.first_defined-first.result) (drop c.first_defined-first.result c.args.numbers.now)) c.args.numbers.now
+    c.requires.before (c.len.ensures ∙ size) (omega (arith, low)) (omega (arith, low, order)) order most c.first_defined-first.ensures.none_before
+    (undefined-to c.args.numbers.now c.end_of_defined-end.result c.min-high.result (c.args.block * 32 + 32) c.end_of_defined-end.ensures.none_behind reach)
+    (part-length (c.end_of_defined-end.result - c.first_defined-first.result) c.first_defined-first.result c.args.numbers.now (omega (arith, order, within)))
+    (λ i lt. part-at (c.end_of_defined-end.result - c.first_defined-first.result) c.first_defined-first.result i c.args.numbers.now lt)))
