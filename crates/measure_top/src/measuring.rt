@@ -11,6 +11,7 @@ ghost use Rattle.dual_measure.specs.declared.values.Measure.{Measure as Entry};
 ghost use Rattle.dual_measure.specs.Measures.{measure_of, measures_of, back_of, HasMeasureSizes, IsPlanesTree, AreTheTreesMeasures};
 ghost use Rattle.dual_measure.specs.Columns.{measured_cells_of};
 ghost use Rattle.detect_top.specs.Words.{HasLimits};
+ghost use Rattle.measure_top.specs.Cuts.{cut};
 ghost use Rattle.measure_top.specs.MeasuredCatalogues.{measured_hdus, measured_sources, measured_output};
 ghost use Rattle.catalogue_form.specs.Columns.{measured_columns};
 ghost use Rattle.measure_top.specs.TwoReads.{IsMeasuredDetection};
@@ -121,12 +122,29 @@ fn cells_in_tree(
     table_cells(alloc, tree, &measures, nodes)
 }
 
-// The sources of a plane, measured in the values. What is around a source lies at least as high as the lowest base of all, so the second tree is that
-// of the pixels of at least this level alone. It is made in the place of the plane, when the first tree is gone.
-fn measure_residuals<R: Threads + Sync, G: Gate>(
+// The tree of the plane's pixels of at least this level, made in the place of the plane, which is gone when this returns.
+fn tree_above<R: Threads + Sync, G: Gate>(
     rt: &R,
     alloc: Global,
     mut plane: Plane,
+    level: i64,
+    order: Order,
+    gate: &G,
+) -> Result<Tree, OutOfMemory>
+    requires { HasLimits order }
+    ensures { IfOk result (λ tree. tree ≡ tree_of (cut plane level) order.connect) }
+{
+    cut_below(&mut plane, level);
+    plane.compact(alloc)?;
+    component_tree(rt, alloc, &plane, order, gate)
+}
+
+// The sources of a plane, measured in the values. What is around a source lies at least as high as the lowest base of all, so the second tree is that
+// of the pixels of at least this level alone. It is made when the first tree is gone.
+fn measure_residuals<R: Threads + Sync, G: Gate>(
+    rt: &R,
+    alloc: Global,
+    plane: Plane,
     values: &Plane,
     order: Order,
     choice: &Choice,
@@ -143,8 +161,8 @@ fn measure_residuals<R: Threads + Sync, G: Gate>(
 {
     let shape = plane.shape();
     let picked = pick_near(rt, alloc, &plane, order, choice, gate)?;
-    cut_below(&mut plane, lowest_base(&picked.nodes, choice.threshold));
-    let tree = component_tree(rt, alloc, &plane, order, gate)?;
+    let level = lowest_base(&picked.nodes, choice.threshold);
+    let tree = tree_above(rt, alloc, plane, level, order, gate)?;
     let cells = cells_in_tree(alloc, &tree, values, &picked.nodes)?;
     Ok(Measured {
         shape,
