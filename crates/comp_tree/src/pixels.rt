@@ -76,7 +76,7 @@ impl Pixels {
     }
 
     // The value of a pixel, where it is defined.
-    #[inline]
+    #[inline(always)]
     pub(crate) fn get(&self, p: usize) -> Option<i64>
         requires { p < length self.now }
         ensures { result ≡ value_at self.now p }
@@ -112,7 +112,7 @@ impl Pixels {
 }
 
 // The pixel that is kept as this number.
-#[inline]
+#[inline(always)]
 #[tactic(auto, unfolding(crate::specs::Stored::pixel_of))]
 fn pixel_of(number: i64) -> Option<i64>
     ensures { result ≡ pixel_kept_as number }
@@ -125,7 +125,7 @@ fn pixel_of(number: i64) -> Option<i64>
 }
 
 // Which of the numbers is that of a pixel, if one is.
-#[inline]
+#[inline(always)]
 #[tactic(auto, unfolding(crate::specs::Stored::place_of))]
 fn place_of(runs: &Option<Vec<Run>>, p: usize) -> Option<usize>
     requires { IfSome runs.now (λ runs. p < length runs.items * 32) }
@@ -138,7 +138,7 @@ fn place_of(runs: &Option<Vec<Run>>, p: usize) -> Option<usize>
 }
 
 // The place of the number of a block's pixel, if it is one of the run's.
-#[inline]
+#[inline(always)]
 #[tactic(auto, unfolding(crate::specs::Stored::place_in_run))]
 fn place_in_run(run: Run, k: usize) -> Option<usize>
     ensures { result ≡ place_in_run_of run k }

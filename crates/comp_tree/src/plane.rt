@@ -86,6 +86,7 @@ impl Plane {
     }
 
     /// The value of a pixel, where it is defined.
+    #[inline(always)]
     pub fn get(&self, p: u32) -> Option<i64>
         requires { p < length self.now.values }
         ensures value { result ≡ value_at self.now.values p }

@@ -1,5 +1,5 @@
 //! The line on the notes.
-ghost use Rattle.std.specs.Prelude.{◌≡◌, ◌≤◌, length};
+ghost use Rattle.std.specs.Prelude.{◌≤◌, length};
 ghost use Rattle.dev_io.specs.Causes.{HasCause};
 ghost use Rattle.dev_io.specs.Streams.{PutAppends};
 ghost use Rattle.detect_top.specs.Answers.{note_of, line_at_place, refusal_line};

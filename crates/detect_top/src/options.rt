@@ -1,5 +1,5 @@
 //! The commands and their options.
-ghost use Rattle.std.specs.Prelude.{◌≡◌, ◌≤ℤ◌, ◌<◌, ℕ, Some, IfSome, is_some};
+ghost use Rattle.std.specs.Prelude.{◌≡◌, ◌<◌, Some};
 ghost use Rattle.detect_top.specs.Options.{command_named, setting_named, option_named, command_takes, picks_sources as picks_some, option_name, is_value, u16_in, connect_in, positive_u16_in, workers_in, flat_in, rule_in, area_in, flux_in, thousandths_in, threshold_in, seed_in};
 
 use command_line::numbers::number_between;
