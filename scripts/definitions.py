@@ -15,9 +15,6 @@ from dataclasses import dataclass, field
 
 TOP = pathlib.Path(__file__).resolve().parent.parent
 NAME = r"[^\s:(){}\[\],;.]+"
-# Names in the bookkeeping of how a plane keeps its pixels that other crates have for other things. No crate but
-# comp_tree cites them. They want names of their own when it is opened again: then everything is proved anew.
-LOCAL = {"comp_tree/specs/Stored": {"place_of", "number_at", "run_of", "no_run", "AreApart", "IsKept"}}
 HEAD = re.compile(rf"^(?P<marks>(?:(?:abbrev|unfoldable|pub)\s+)*)(?P<kind>record\s+|data\s+)?(?P<name>{NAME})")
 
 
@@ -74,10 +71,6 @@ def definitions_in(path):
                 yield current
 
 
-def is_local(one):
-    return one.name in LOCAL.get(one.place, ())
-
-
 def definitions():
     return [one for path in spec_files() for one in definitions_in(path)]
 
@@ -114,7 +107,7 @@ def standing_twice(found):
 
 def alike_but_for_case(found):
     seen = {}
-    for one in (one for one in found if not is_local(one)):
+    for one in found:
         plain = one.name.lower().replace("_", "").replace("-", "")
         other = seen.setdefault(plain, one)
         if other.name != one.name:
@@ -123,7 +116,7 @@ def alike_but_for_case(found):
 
 def two_meanings(found):
     seen = {}
-    for one in (one for one in found if not is_local(one)):
+    for one in found:
         other = seen.setdefault(one.name, one)
         if other.place != one.place:
             yield f"{one.name} stands in {one.place} and in {other.place}"

@@ -4,7 +4,7 @@ ghost use Rattle.fits_write.specs.Columns.{cell_size, row_size};
 ghost use Rattle.catalogue_form.specs.Rows.{front_cell, row_cells};
 
 use byteorder::{BigEndian, ByteOrder};
-use dev_io::OutOfMemory;
+use costs::OutOfMemory;
 use fits_write::{Cell, Column};
 
 // The number in a cell of this kind at the front of the bytes, and what stands behind it.

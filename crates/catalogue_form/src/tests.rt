@@ -1,5 +1,5 @@
 use crate::{BYTES_IN_ROW, CELLS_IN_ROW, add_row, catalogue_columns, measured_columns};
-use dev_io::OutOfMemory;
+use costs::OutOfMemory;
 use fits_write::Cell;
 use std::alloc::Global;
 

@@ -1,5 +1,5 @@
 //! The words that a program was started with.
-use dev_io::OutOfMemory;
+use costs::OutOfMemory;
 use std::env;
 use std::io::ErrorKind;
 use std::rt::Env;

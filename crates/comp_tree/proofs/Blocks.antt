@@ -10,26 +10,26 @@ use Rattle.std.proofs.lemmas.List.FromFn.{length-map-range_with_len, get_or-map-
 use Rattle.std.proofs.lemmas.Bool.{eqb-true, eqb-false, cases_lt, le-leb, lt-ltb, le-ltb, lt-leb}
 use Rattle.comp_tree.specs.declared.pixels.Run.{Run}
 use Rattle.comp_tree.proofs.Values.{pixel_of-undefined}
-use Rattle.comp_tree.specs.Raster.{value_at}
-use Rattle.comp_tree.specs.Stored.{undefined_number, pixel_of, number_of_pixel, no_run, run_of, place_in_run, place_of, number_at, kept_pixels, AreApart, IsKept, AreBlocksOf}
+use Rattle.comp_tree.specs.Raster.{value_at, HasGap}
+use Rattle.comp_tree.specs.Stored.{undefined_number, pixel_of, number_of_pixel, empty_run, run_of_block, place_in_run, kept_place, kept_number, kept_pixels, AreRunsApart, AreKept, AreBlocksOf}
 use Rattle.comp_tree.specs.Stored.{AreUndefined}
 
 -- ---- one pixel
 
 pub kept-length : (count : ℕ) (runs : Option (List Run)) (numbers : List ℤ) → length (kept_pixels count runs numbers) ≡ count
 unfolding kept_pixels
-kept-length count runs numbers = length-map-range_with_len (λ p. pixel_of (number_at numbers (place_of runs p))) 0 count
+kept-length count runs numbers = length-map-range_with_len (λ p. pixel_of (kept_number numbers (kept_place runs p))) 0 count
 
 pub kept-at : (count : ℕ) (runs : Option (List Run)) (numbers : List ℤ) (p : ℕ) → p < count
-    → value_at (kept_pixels count runs numbers) p ≡ pixel_of (number_at numbers (place_of runs p))
+    → value_at (kept_pixels count runs numbers) p ≡ pixel_of (kept_number numbers (kept_place runs p))
 unfolding kept_pixels
 kept-at count runs numbers p within =
-    get_or-map-range_with_len (λ q. pixel_of (number_at numbers (place_of runs q))) 0 count p p None within (omega arith)
+    get_or-map-range_with_len (λ q. pixel_of (kept_number numbers (kept_place runs q))) 0 count p p None within (omega arith)
 
 -- ---- a number each
 
 pub kept-each : (numbers : List ℤ) → kept_pixels (length numbers) None numbers ≡ map pixel_of numbers
-unfolding place_of
+unfolding kept_place
 kept-each numbers =
     ext_get_or None (kept_pixels (length numbers) None numbers) (map pixel_of numbers)
     (kept-length (length numbers) None numbers ∙ sym (length-map numbers pixel_of))
@@ -37,12 +37,12 @@ kept-each numbers =
     let lt : i < length numbers = subst (λ n. i < n) (kept-length (length numbers) None numbers) within in
     kept-at (length numbers) None numbers i lt ∙ sym (get_or-map pixel_of numbers i undefined_number None lt))
 
-pub same-each : (count : ℕ) (runs : Option (List Run)) (numbers : List ℤ) → IsKept count runs numbers → runs ≡ None
+pub same-each : (count : ℕ) (runs : Option (List Run)) (numbers : List ℤ) → AreKept count runs numbers → runs ≡ None
     → map pixel_of numbers ≡ kept_pixels count runs numbers
 same-each count None numbers kept e = sym (subst (λ n. kept_pixels n None numbers ≡ map pixel_of numbers) kept (kept-each numbers))
 same-each count (Some runs) numbers kept e = let wrong : (let o : Option (List Run) = Some runs in o) ≡ None = e in absurd cc
 
-pub count-each : (count : ℕ) (runs : Option (List Run)) (numbers : List ℤ) → IsKept count runs numbers → runs ≡ None
+pub count-each : (count : ℕ) (runs : Option (List Run)) (numbers : List ℤ) → AreKept count runs numbers → runs ≡ None
     → length numbers ≡ count
 count-each count None numbers kept e = kept
 count-each count (Some runs) numbers kept e = let wrong : (let o : Option (List Run) = Some runs in o) ≡ None = e in absurd cc
@@ -57,7 +57,7 @@ place-in run k low high =
     let b : nat_lt k run.end ≡ true = lt-ltb k run.end high in
     rw (a, b) refl
 
-place-beside : (run : Run) (k : ℕ) → (k < run.first) ⊎ (run.end ≤ k) → place_in_run run k ≡ None
+pub place-beside : (run : Run) (k : ℕ) → (k < run.first) ⊎ (run.end ≤ k) → place_in_run run k ≡ None
 unfolding place_in_run
 place-beside run k (inl lt) = let a : nat_le run.first k ≡ false = lt-leb run.first k lt in rw a refl
 place-beside run k (inr ge) = let b : nat_lt k run.end ≡ false = le-ltb k run.end ge in go (nat_le run.first k) b
@@ -84,12 +84,12 @@ place-told run k i e = go (cases_lt k run.first) (cases_lt k run.end)
         record { low = low; high = high; place = cc }
 
 -- a place is one of the numbers
-pub place-inside : (count : ℕ) (runs : Option (List Run)) (numbers : List ℤ) (p i : ℕ) → IsKept count runs numbers → p < count
-    → place_of runs p ≡ Some i → i < length numbers
-unfolding place_of
+pub place-inside : (count : ℕ) (runs : Option (List Run)) (numbers : List ℤ) (p i : ℕ) → AreKept count runs numbers → p < count
+    → kept_place runs p ≡ Some i → i < length numbers
+unfolding kept_place
 place-inside count None numbers p i kept within e = let same : p ≡ i = cc in omega (arith, same, within, kept)
 place-inside count (Some runs) numbers p i kept within e =
-    let told : IsPlaceIn (run_of runs (p / 32)) (p % 32) i = place-told (run_of runs (p / 32)) (p % 32) i e in
+    let told : IsPlaceIn (run_of_block runs (p / 32)) (p % 32) i = place-told (run_of_block runs (p / 32)) (p % 32) i e in
     let inside : _ = kept.1.inside (p / 32) (omega (arith, within, kept.0)) in
     let low : _ = told.low in
     let high : _ = told.high in
@@ -97,16 +97,16 @@ place-inside count (Some runs) numbers p i kept within e =
     omega (arith, low, high, place, inside)
 
 -- pixels have places apart
-pub place-apart : (count : ℕ) (runs : Option (List Run)) (numbers : List ℤ) (p q i : ℕ) → IsKept count runs numbers → p < count → q < count
-    → place_of runs p ≡ Some i → place_of runs q ≡ Some i → p ≡ q
-unfolding place_of
+pub place-apart : (count : ℕ) (runs : Option (List Run)) (numbers : List ℤ) (p q i : ℕ) → AreKept count runs numbers → p < count → q < count
+    → kept_place runs p ≡ Some i → kept_place runs q ≡ Some i → p ≡ q
+unfolding kept_place
 place-apart count None numbers p q i kept here there at at' = cc
 place-apart count (Some runs) numbers p q i kept here there at at' =
-    let one : IsPlaceIn (run_of runs (p / 32)) (p % 32) i = place-told (run_of runs (p / 32)) (p % 32) i at in
-    let other : IsPlaceIn (run_of runs (q / 32)) (q % 32) i = place-told (run_of runs (q / 32)) (q % 32) i at' in
+    let one : IsPlaceIn (run_of_block runs (p / 32)) (p % 32) i = place-told (run_of_block runs (p / 32)) (p % 32) i at in
+    let other : IsPlaceIn (run_of_block runs (q / 32)) (q % 32) i = place-told (run_of_block runs (q / 32)) (q % 32) i at' in
     go one other (cases_lt (p / 32) (q / 32)) (cases_lt (q / 32) (p / 32))
   where
-    go : IsPlaceIn (run_of runs (p / 32)) (p % 32) i → IsPlaceIn (run_of runs (q / 32)) (q % 32) i
+    go : IsPlaceIn (run_of_block runs (p / 32)) (p % 32) i → IsPlaceIn (run_of_block runs (q / 32)) (q % 32) i
         → (p / 32 < q / 32) ⊎ (q / 32 ≤ p / 32) → (q / 32 < p / 32) ⊎ (p / 32 ≤ q / 32) → p ≡ q
     go one other (inl lt) d =
         let apart : _ = kept.1.apart (p / 32) (q / 32) lt (omega (arith, there, kept.0)) in
@@ -116,31 +116,55 @@ place-apart count (Some runs) numbers p q i kept here there at at' =
         absurd (omega (arith, apart, other.low, other.high, other.place, one.place))
     go one other (inr ge) (inr le) =
         let eq : p / 32 ≡ q / 32 = omega (arith, ge, le) in
-        let alike : run_of runs (p / 32) ≡ run_of runs (q / 32) = ap (run_of runs) eq in
-        let moved : IsPlaceIn (run_of runs (q / 32)) (p % 32) i = subst (λ run. IsPlaceIn run (p % 32) i) alike one in
+        let alike : run_of_block runs (p / 32) ≡ run_of_block runs (q / 32) = ap (run_of_block runs) eq in
+        let moved : IsPlaceIn (run_of_block runs (q / 32)) (p % 32) i = subst (λ run. IsPlaceIn run (p % 32) i) alike one in
         omega (arith, eq, moved.low, moved.place, other.low, other.place)
 
 -- there is a block for each pixel
-pub block-there : {X : Type 0} (items : X → List Run) (count : ℕ) (runs : Option X) (numbers : List ℤ) (p : ℕ) → IsKept count (option_map items runs) numbers
+pub block-there : {X : Type 0} (items : X → List Run) (count : ℕ) (runs : Option X) (numbers : List ℤ) (p : ℕ) → AreKept count (option_map items runs) numbers
     → p < count → IfSome runs (λ x. p < length (items x) * 32)
 block-there items count None numbers p kept within = tt
 block-there items count (Some x) numbers p kept within = omega (arith, within, kept.0)
 
+pub block-is-there : {X : Type 0} (items : X → List Run) (count : ℕ) (runs : Option X) (x : X) (numbers : List ℤ) (p : ℕ)
+    → AreKept count (option_map items runs) numbers → p < count → runs ≡ Some x → p < length (items x) * 32
+block-is-there items count runs x numbers p kept within e =
+    subst (λ o. IfSome o (λ y. p < length (items y) * 32)) e (block-there items count runs numbers p kept within)
+
 -- what is read at a place is the pixel, and where there is no place the pixel is undefined
-pub read-at : (count : ℕ) (runs : Option (List Run)) (numbers : List ℤ) (p i : ℕ) (number d : ℤ) → IsKept count runs numbers → p < count
-    → place_of runs p ≡ Some i → number ≡ get_or numbers i d → pixel_of number ≡ value_at (kept_pixels count runs numbers) p
+pub read-at : (count : ℕ) (runs : Option (List Run)) (numbers : List ℤ) (p i : ℕ) (number d : ℤ) → AreKept count runs numbers → p < count
+    → kept_place runs p ≡ Some i → number ≡ get_or numbers i d → pixel_of number ≡ value_at (kept_pixels count runs numbers) p
 read-at count runs numbers p i number d kept within e is =
-    ap pixel_of (is ∙ get_or_default numbers i d undefined_number (place-inside count runs numbers p i kept within e) ∙ sym (ap (number_at numbers) e))
+    ap pixel_of (is ∙ get_or_default numbers i d undefined_number (place-inside count runs numbers p i kept within e) ∙ sym (ap (kept_number numbers) e))
     ∙ sym (kept-at count runs numbers p within)
 
-pub unread-at : (count : ℕ) (runs : Option (List Run)) (numbers : List ℤ) (p : ℕ) → p < count → place_of runs p ≡ None
+pub unread-at : (count : ℕ) (runs : Option (List Run)) (numbers : List ℤ) (p : ℕ) → p < count → kept_place runs p ≡ None
     → value_at (kept_pixels count runs numbers) p ≡ None
-unread-at count runs numbers p within e = kept-at count runs numbers p within ∙ ap (λ o. pixel_of (number_at numbers o)) e ∙ pixel_of-undefined
+unread-at count runs numbers p within e = kept-at count runs numbers p within ∙ ap (λ o. pixel_of (kept_number numbers o)) e ∙ pixel_of-undefined
+
+-- behind a pixel nothing is defined up to where its block has a place again
+pub block-gap : (count : ℕ) (runs : List Run) (numbers : List ℤ) (p r : ℕ) (run : Run) → run ≡ get_or runs (p / 32) run → p / 32 < length runs
+    → r ≤ 32 → ((j : ℕ) → p % 32 < j → j < r → place_in_run run j ≡ None) → HasGap (kept_pixels count (Some runs) numbers) (p + 1) (p / 32 * 32 + r)
+unfolding kept_place
+block-gap count runs numbers p r run is there most none q low high = at (cases_lt q count)
+  where
+    same : q / 32 ≡ p / 32
+    same = omega (arith, low, high, most)
+
+    block : run_of_block runs (q / 32) ≡ run
+    block = ap (run_of_block runs) same ∙ sym (is ∙ get_or_default runs (p / 32) run empty_run there)
+
+    unplaced : kept_place (Some runs) q ≡ None
+    unplaced = ap (λ b. place_in_run b (q % 32)) block ∙ none (q % 32) (omega (arith, low, high, most)) (omega (arith, low, high, most))
+
+    at : (q < count) ⊎ (count ≤ q) → value_at (kept_pixels count (Some runs) numbers) q ≡ None
+    at (inl lt) = unread-at count (Some runs) numbers q lt unplaced
+    at (inr ge) = get_or_past (kept_pixels count (Some runs) numbers) q None (omega (arith, kept-length count (Some runs) numbers, ge))
 
 -- ---- a write
 
-pub kept-set : (count : ℕ) (runs : Option (List Run)) (numbers : List ℤ) (p i : ℕ) (number : ℤ) → IsKept count runs numbers → p < count
-    → place_of runs p ≡ Some i → kept_pixels count runs (set numbers i number) ≡ slice_set (kept_pixels count runs numbers) p (pixel_of number)
+pub kept-set : (count : ℕ) (runs : Option (List Run)) (numbers : List ℤ) (p i : ℕ) (number : ℤ) → AreKept count runs numbers → p < count
+    → kept_place runs p ≡ Some i → kept_pixels count runs (set numbers i number) ≡ slice_set (kept_pixels count runs numbers) p (pixel_of number)
 kept-set count runs numbers p i number kept within e =
     ext_get_or None (kept_pixels count runs (set numbers i number)) (set (kept_pixels count runs numbers) p (pixel_of number))
     (kept-length count runs (set numbers i number) ∙ sym (length-set (kept_pixels count runs numbers) p (pixel_of number) ∙ kept-length count runs numbers))
@@ -149,10 +173,10 @@ kept-set count runs numbers p i number kept within e =
     inside : i < length numbers
     inside = place-inside count runs numbers p i kept within e
 
-    here : number_at (set numbers i number) (place_of runs p) ≡ number
-    here = ap (number_at (set numbers i number)) e ∙ get_or-set_same numbers i number undefined_number inside
+    here : kept_number (set numbers i number) (kept_place runs p) ≡ number
+    here = ap (kept_number (set numbers i number)) e ∙ get_or-set_same numbers i number undefined_number inside
 
-    elsewhere : (q : ℕ) → q < count → p ≢ q → (o : Option ℕ) → place_of runs q ≡ o → number_at (set numbers i number) o ≡ number_at numbers o
+    elsewhere : (q : ℕ) → q < count → p ≢ q → (o : Option ℕ) → kept_place runs q ≡ o → kept_number (set numbers i number) o ≡ kept_number numbers o
     elsewhere q lt other None f = refl
     elsewhere q lt other (Some j) f =
         get_or-set_other numbers i j number undefined_number
@@ -175,12 +199,12 @@ kept-set count runs numbers p i number kept within e =
             (subst (λ n. p < n) (sym (kept-length count runs numbers)) within)))
         choose false e =
             let other : p ≢ q = eqb-false p q e in
-            kept-at count runs (set numbers i number) q lt ∙ ap pixel_of (elsewhere q lt other (place_of runs q) refl)
+            kept-at count runs (set numbers i number) q lt ∙ ap pixel_of (elsewhere q lt other (kept_place runs q) refl)
             ∙ sym (kept-at count runs numbers q lt)
             ∙ sym (get_or-set_other (kept_pixels count runs numbers) p q (pixel_of number) None (λ same. other (sym same)))
 
 -- what is not kept stays undefined
-pub unkept-set : (count : ℕ) (runs : Option (List Run)) (numbers : List ℤ) (p : ℕ) (number : ℤ) → p < count → place_of runs p ≡ None
+pub unkept-set : (count : ℕ) (runs : Option (List Run)) (numbers : List ℤ) (p : ℕ) (number : ℤ) → p < count → kept_place runs p ≡ None
     → IfSome (pixel_of number) (λ _. IsTrue (is_some (value_at (kept_pixels count runs numbers) p)))
     → kept_pixels count runs numbers ≡ slice_set (kept_pixels count runs numbers) p (pixel_of number)
 unkept-set count runs numbers p number within e defined =
@@ -195,14 +219,14 @@ unkept-set count runs numbers p number within e defined =
     same None h = sym undefined
     same (Some v) h = let wrong : IsTrue (is_some (let o : Option ℤ = None in o)) = subst (λ (o : Option ℤ). IsTrue (is_some o)) undefined h in cc
 
-pub kept-after : (count : ℕ) (runs : Option (List Run)) (numbers : List ℤ) (i : ℕ) (number : ℤ) → IsKept count runs numbers
-    → IsKept count runs (set numbers i number)
+pub kept-after : (count : ℕ) (runs : Option (List Run)) (numbers : List ℤ) (i : ℕ) (number : ℤ) → AreKept count runs numbers
+    → AreKept count runs (set numbers i number)
 kept-after count None numbers i number kept = length-set numbers i number ∙ kept
 kept-after count (Some runs) numbers i number kept = (
   kept.0,
   record {
     inside = λ b lt.
-        subst (λ n. (run_of runs b).start + ((run_of runs b).end - (run_of runs b).first) ≤ n) (sym (length-set numbers i number))
+        subst (λ n. (run_of_block runs b).start + ((run_of_block runs b).end - (run_of_block runs b).first) ≤ n) (sym (length-set numbers i number))
         (kept.1.inside b lt);
     apart = kept.1.apart;
   },
@@ -211,15 +235,15 @@ kept-after count (Some runs) numbers i number kept = (
 -- ---- blocks one after the other
 
 -- runs, when one more is added: those before, and the new one
-run-before : (runs : List Run) (x : Run) (b : ℕ) → b < length runs → run_of (runs ++ x ∷ []) b ≡ run_of runs b
-run-before runs x b lt = get_or_append_left runs (x ∷ []) no_run b lt
+run-before : (runs : List Run) (x : Run) (b : ℕ) → b < length runs → run_of_block (runs ++ x ∷ []) b ≡ run_of_block runs b
+run-before runs x b lt = get_or_append_left runs (x ∷ []) empty_run b lt
 
-run-new : (runs : List Run) (x : Run) (b : ℕ) → length runs ≡ b → run_of (runs ++ x ∷ []) b ≡ x
-run-new runs x b e = get_or_push runs x no_run b e
+run-new : (runs : List Run) (x : Run) (b : ℕ) → length runs ≡ b → run_of_block (runs ++ x ∷ []) b ≡ x
+run-new runs x b e = get_or_push runs x empty_run b e
 
 -- a run behind all others is apart from them
-apart-more : (runs : List Run) (kept more : List ℤ) (x : Run) → AreApart runs kept → x.start ≡ length kept → x.end - x.first ≤ length more
-    → AreApart (runs ++ x ∷ []) (kept ++ more)
+apart-more : (runs : List Run) (kept more : List ℤ) (x : Run) → AreRunsApart runs kept → x.start ≡ length kept → x.end - x.first ≤ length more
+    → AreRunsApart (runs ++ x ∷ []) (kept ++ more)
 apart-more runs kept more x apart start size = record {
   inside = λ b lt. inside b (cases_lt b (length runs)) (omega (arith, lt, longer));
   apart = λ a b lt below. between a b lt (cases_lt b (length runs)) (omega (arith, below, longer));
@@ -232,22 +256,22 @@ apart-more runs kept more x apart start size = record {
     longer = length-append runs (x ∷ [])
 
     inside : (b : ℕ) → (b < length runs) ⊎ (length runs ≤ b) → b < length runs + 1
-        → (run_of (runs ++ x ∷ []) b).start + ((run_of (runs ++ x ∷ []) b).end - (run_of (runs ++ x ∷ []) b).first) ≤ length (kept ++ more)
+        → (run_of_block (runs ++ x ∷ []) b).start + ((run_of_block (runs ++ x ∷ []) b).end - (run_of_block (runs ++ x ∷ []) b).first) ≤ length (kept ++ more)
     inside b (inl low) lt =
         let old : _ = apart.inside b low in
         rw (run-before runs x b low, all) (omega (arith, old))
     inside b (inr ge) lt = rw (run-new runs x b (omega (arith, ge, lt)), all) (omega (arith, start, size))
 
     between : (a b : ℕ) → a < b → (b < length runs) ⊎ (length runs ≤ b) → b < length runs + 1
-        → (run_of (runs ++ x ∷ []) a).start + ((run_of (runs ++ x ∷ []) a).end - (run_of (runs ++ x ∷ []) a).first)
-        ≤ (run_of (runs ++ x ∷ []) b).start
+        → (run_of_block (runs ++ x ∷ []) a).start + ((run_of_block (runs ++ x ∷ []) a).end - (run_of_block (runs ++ x ∷ []) a).first)
+        ≤ (run_of_block (runs ++ x ∷ []) b).start
     between a b lt (inl low) below = rw (run-before runs x b low, run-before runs x a (omega (arith, lt, low))) (apart.apart a b lt low)
     between a b lt (inr ge) below =
         let old : _ = apart.inside a (omega (arith, lt, below)) in
         rw (run-new runs x b (omega (arith, ge, below)), run-before runs x a (omega (arith, lt, below))) (omega (arith, old, start))
 
 -- a number that lies before what is added is read as before
-number-before : (kept more : List ℤ) (o : Option ℕ) → IfSome o (λ i. i < length kept) → number_at (kept ++ more) o ≡ number_at kept o
+number-before : (kept more : List ℤ) (o : Option ℕ) → IfSome o (λ i. i < length kept) → kept_number (kept ++ more) o ≡ kept_number kept o
 number-before kept more None h = refl
 number-before kept more (Some i) h = get_or_append_left kept more undefined_number i h
 
@@ -257,7 +281,7 @@ pub block-added : (k first end : ℕ) (runs : List Run) (run : Run) (kept more n
     → AreUndefined numbers (k * 32) first → AreUndefined numbers end (k * 32 + 32)
     → length more ≡ end - first → ((i : ℕ) → i < end - first → get_or more i undefined_number ≡ number_of_pixel numbers (first + i))
     → AreBlocksOf (k + 1) (runs ++ run ∷ []) (kept ++ more) numbers
-unfolding place_of
+unfolding kept_place
 block-added k first end runs run kept more numbers before start low high order most none_before none_behind size same_there = record {
   count = length-append runs (run ∷ []) ∙ ap (λ n. n + 1) before.count;
   few = omega (arith, before.few, length-append kept more, size, most, low);
@@ -265,34 +289,34 @@ block-added k first end runs run kept more numbers before start low high order m
   same = λ p lt. same p lt (cases_lt p (k * 32));
 }
   where
-    inside : (p : ℕ) → p < k * 32 → (o : Option ℕ) → place_of (Some runs) p ≡ o → IfSome o (λ i. i < length kept)
+    inside : (p : ℕ) → p < k * 32 → (o : Option ℕ) → kept_place (Some runs) p ≡ o → IfSome o (λ i. i < length kept)
     inside p lt None e = tt
     inside p lt (Some i) e = place-inside (k * 32) (Some runs) kept p i (omega (arith, before.count), before.apart) lt e
 
-    new : (p : ℕ) → k * 32 ≤ p → p < (k + 1) * 32 → run_of (runs ++ run ∷ []) (p / 32) ≡ run
+    new : (p : ℕ) → k * 32 ≤ p → p < (k + 1) * 32 → run_of_block (runs ++ run ∷ []) (p / 32) ≡ run
     new p ge lt = run-new runs run (p / 32) (omega (arith, ge, lt, before.count))
 
     beside : (p : ℕ) → k * 32 ≤ p → p < (k + 1) * 32 → (p % 32 < run.first) ⊎ (run.end ≤ p % 32)
-        → number_at (kept ++ more) (place_of (Some (runs ++ run ∷ [])) p) ≡ undefined_number
+        → kept_number (kept ++ more) (kept_place (Some (runs ++ run ∷ [])) p) ≡ undefined_number
     beside p ge lt out = rw (new p ge lt, place-beside run (p % 32) out) refl
 
     at : (p : ℕ) → k * 32 ≤ p → p < (k + 1) * 32 → (p % 32 < run.first) ⊎ (run.first ≤ p % 32) → (p % 32 < run.end) ⊎ (run.end ≤ p % 32)
-        → number_at (kept ++ more) (place_of (Some (runs ++ run ∷ [])) p) ≡ number_of_pixel numbers p
+        → kept_number (kept ++ more) (kept_place (Some (runs ++ run ∷ [])) p) ≡ number_of_pixel numbers p
     at p ge lt (inl out) d = beside p ge lt (inl out) ∙ sym (none_before p ge (omega (arith, out, ge, lt, low)))
     at p ge lt (inr in_low) (inr out) = beside p ge lt (inr out) ∙ sym (none_behind p (omega (arith, out, ge, lt, high)) (omega (arith, lt)))
     at p ge lt (inr in_low) (inl in_high) =
-        ap (λ r. number_at (kept ++ more) (place_in_run r (p % 32))) (new p ge lt)
-        ∙ ap (number_at (kept ++ more)) (place-in run (p % 32) in_low in_high)
+        ap (λ r. kept_number (kept ++ more) (place_in_run r (p % 32))) (new p ge lt)
+        ∙ ap (kept_number (kept ++ more)) (place-in run (p % 32) in_low in_high)
         ∙ ap (λ s. get_or (kept ++ more) (s + (p % 32 - run.first)) undefined_number) start
         ∙ get_or-append-add kept more (p % 32 - run.first) undefined_number
         ∙ same_there (p % 32 - run.first) (omega (arith, in_low, in_high, low, high))
         ∙ ap (number_of_pixel numbers) (omega (arith, in_low, ge, lt, low))
 
     same : (p : ℕ) → p < (k + 1) * 32 → (p < k * 32) ⊎ (k * 32 ≤ p)
-        → number_at (kept ++ more) (place_of (Some (runs ++ run ∷ [])) p) ≡ number_of_pixel numbers p
+        → kept_number (kept ++ more) (kept_place (Some (runs ++ run ∷ [])) p) ≡ number_of_pixel numbers p
     same p lt (inl under) =
-        ap (λ r. number_at (kept ++ more) (place_in_run r (p % 32))) (run-before runs run (p / 32) (omega (arith, under, before.count)))
-        ∙ number-before kept more (place_of (Some runs) p) (inside p under (place_of (Some runs) p) refl)
+        ap (λ r. kept_number (kept ++ more) (place_in_run r (p % 32))) (run-before runs run (p / 32) (omega (arith, under, before.count)))
+        ∙ number-before kept more (kept_place (Some runs) p) (inside p under (kept_place (Some runs) p) refl)
         ∙ before.same p under
     same p lt (inr ge) = at p ge lt (cases_lt (p % 32) run.first) (cases_lt (p % 32) run.end)
 

@@ -20,48 +20,48 @@ abbrev pub number_of_pixel : List ℤ → ℕ → ℤ
 number_of_pixel numbers p = slice_index_or numbers p undefined_number
 
 -- a block without numbers
-abbrev pub no_run : Run
-no_run = record { start = 0; first = 0; end = 0 }
+abbrev pub empty_run : Run
+empty_run = record { start = 0; first = 0; end = 0 }
 
 -- the numbers of block b
-abbrev pub run_of : List Run → ℕ → Run
-run_of runs b = slice_index_or runs b no_run
+abbrev pub run_of_block : List Run → ℕ → Run
+run_of_block runs b = slice_index_or runs b empty_run
 
 -- the place of the number of a block's pixel with this number in the block, if it is one of the run's
 unfoldable pub place_in_run : Run → ℕ → Option ℕ
 place_in_run run k = if nat_le run.first k && nat_lt k run.end then Some (run.start + (k - run.first)) else None
 
 -- which of the kept numbers is that of pixel p, if there is one: the p-th where each pixel has one, else one of its block's
-unfoldable pub place_of : Option (List Run) → ℕ → Option ℕ
-place_of None p = Some p
-place_of (Some runs) p = place_in_run (run_of runs (p / 32)) (p % 32)
+unfoldable pub kept_place : Option (List Run) → ℕ → Option ℕ
+kept_place None p = Some p
+kept_place (Some runs) p = place_in_run (run_of_block runs (p / 32)) (p % 32)
 
 -- the number at a place
-abbrev pub number_at : List ℤ → Option ℕ → ℤ
-number_at numbers None = undefined_number
-number_at numbers (Some place) = number_of_pixel numbers place
+abbrev pub kept_number : List ℤ → Option ℕ → ℤ
+kept_number numbers None = undefined_number
+kept_number numbers (Some place) = number_of_pixel numbers place
 
 -- so many pixels that are kept as these numbers
 unfoldable pub kept_pixels : ℕ → Option (List Run) → List ℤ → List (Option ℤ)
-kept_pixels count runs numbers = map (λ p. pixel_of (number_at numbers (place_of runs p))) (range_with_len 0 count)
+kept_pixels count runs numbers = map (λ p. pixel_of (kept_number numbers (kept_place runs p))) (range_with_len 0 count)
 
 -- the runs have numbers of their own, in the order of blocks
-pub record AreApart (runs : List Run) (numbers : List ℤ) : Type 0 where
-  pub inside : (b : ℕ) → b < length runs → (run_of runs b).start + ((run_of runs b).end - (run_of runs b).first) ≤ length numbers
+pub record AreRunsApart (runs : List Run) (numbers : List ℤ) : Type 0 where
+  pub inside : (b : ℕ) → b < length runs → (run_of_block runs b).start + ((run_of_block runs b).end - (run_of_block runs b).first) ≤ length numbers
   pub apart : (a b : ℕ) → a < b → b < length runs
-      → (run_of runs a).start + ((run_of runs a).end - (run_of runs a).first) ≤ (run_of runs b).start
+      → (run_of_block runs a).start + ((run_of_block runs a).end - (run_of_block runs a).first) ≤ (run_of_block runs b).start
 
 -- the numbers are those of all pixels, or of runs apart, one for each block of the pixels
-abbrev pub IsKept : ℕ → Option (List Run) → List ℤ → Type 0
-IsKept count None numbers = length numbers ≡ count
-IsKept count (Some runs) numbers = (count ≤ length runs * 32) × AreApart runs numbers
+abbrev pub AreKept : ℕ → Option (List Run) → List ℤ → Type 0
+AreKept count None numbers = length numbers ≡ count
+AreKept count (Some runs) numbers = (count ≤ length runs * 32) × AreRunsApart runs numbers
 
 -- the first k blocks, with the numbers that these pixels have
 pub record AreBlocksOf (k : ℕ) (runs : List Run) (kept numbers : List ℤ) : Type 0 where
   pub count : length runs ≡ k
   pub few : length kept ≤ k * 32
-  pub apart : AreApart runs kept
-  pub same : (p : ℕ) → p < k * 32 → number_at kept (place_of (Some runs) p) ≡ number_of_pixel numbers p
+  pub apart : AreRunsApart runs kept
+  pub same : (p : ℕ) → p < k * 32 → kept_number kept (kept_place (Some runs) p) ≡ number_of_pixel numbers p
 
 -- all pixels from the first one up to the end are undefined
 abbrev pub AreUndefined : List ℤ → ℕ → ℕ → Type 0

@@ -6,7 +6,7 @@ ghost use Rattle.comp_tree.specs.Limits.{IsWithinRange};
 use crate::pixels::UNDEFINED;
 use crate::plane::{Plane, number_of};
 use crate::shape::Shape;
-use dev_io::OutOfMemory;
+use costs::OutOfMemory;
 use std::alloc::Global;
 use std::marker::Model;
 

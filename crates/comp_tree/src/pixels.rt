@@ -1,12 +1,12 @@
 //! How a plane keeps its pixels: a number for each of them, or, where few are defined, for each block of 32 pixels the numbers from its
 //! first defined pixel to its last.
 
-ghost use Rattle.std.specs.Prelude.{◌≡◌, ◌+◌, ◌*◌, ◌^◌, ◌<◌, ◌≤◌, length, map, IfOk, OnOk, IfSome, IsTrue, is_some, slice_set};
-ghost use Rattle.comp_tree.specs.Raster.{value_at};
+ghost use Rattle.std.specs.Prelude.{◌≡◌, ℕ, ◌+◌, ◌*◌, ◌^◌, ◌<◌, ◌≤◌, None, length, map, IfOk, OnOk, IfSome, IsTrue, is_some, slice_set};
+ghost use Rattle.comp_tree.specs.Raster.{value_at, HasGap};
 ghost use Rattle.std.specs.Option.{option_map};
-ghost use Rattle.comp_tree.specs.Stored.{pixel_of as pixel_kept_as, place_of as place_in, place_in_run as place_in_run_of, AreBlocksOf, AreUndefined};
+ghost use Rattle.comp_tree.specs.Stored.{pixel_of as pixel_kept_as, kept_place, place_in_run as place_in_run_of, AreBlocksOf, AreUndefined};
 
-use dev_io::OutOfMemory;
+use costs::OutOfMemory;
 use std::alloc::Global;
 use std::marker::Model;
 
@@ -40,13 +40,13 @@ pub(crate) struct Pixels {
 impl Model for Pixels {
     ghost use Rattle.std.specs.Prelude.{List, Option, ℤ};
     ghost use Rattle.std.specs.Option.{option_map};
-    ghost use Rattle.comp_tree.specs.Stored.{kept_pixels, IsKept};
+    ghost use Rattle.comp_tree.specs.Stored.{kept_pixels, AreKept};
 
     ghost Value = { List (Option ℤ) };
 
     ghost view = { λ pixels. kept_pixels pixels.count (option_map (λ runs. runs.items) pixels.runs) pixels.numbers.items };
 
-    ghost invariant = { λ pixels. IsKept pixels.count (option_map (λ runs. runs.items) pixels.runs) pixels.numbers.items };
+    ghost invariant = { λ pixels. AreKept pixels.count (option_map (λ runs. runs.items) pixels.runs) pixels.numbers.items };
 }
 
 impl Pixels {
@@ -99,6 +99,20 @@ impl Pixels {
         }
     }
 
+    // The next pixel behind this one that may be defined. Where pixels are kept in blocks, those beside a run are passed over.
+    #[inline(always)]
+    pub(crate) fn behind(&self, p: usize) -> usize
+        requires pixel { p < length self.now }
+        requires few { p < 2 ^ 32 }
+        ensures later { p < result }
+        ensures none { HasGap self.now (p + 1) result }
+    {
+        match &self.runs {
+            None => p + 1,
+            Some(runs) => p / BLOCK * BLOCK + behind_in_run(runs[p / BLOCK], p % BLOCK),
+        }
+    }
+
     // The same pixels in blocks, if they aren't kept so and at most a quarter of the numbers remains.
     pub(crate) fn in_blocks(&self, alloc: Global) -> Result<Option<Pixels>, OutOfMemory>
         requires { length self.now ≤ 2 ^ 24 }
@@ -126,10 +140,10 @@ fn pixel_of(number: i64) -> Option<i64>
 
 // Which of the numbers is that of a pixel, if one is.
 #[inline(always)]
-#[tactic(auto, unfolding(crate::specs::Stored::place_of))]
+#[tactic(auto, unfolding(crate::specs::Stored::kept_place))]
 fn place_of(runs: &Option<Vec<Run>>, p: usize) -> Option<usize>
     requires { IfSome runs.now (λ runs. p < length runs.items * 32) }
-    ensures { result ≡ place_in (option_map (λ runs. runs.items) runs.now) p }
+    ensures { result ≡ kept_place (option_map (λ runs. runs.items) runs.now) p }
 {
     let Some(runs) = runs else {
         return Some(p);
@@ -147,6 +161,20 @@ fn place_in_run(run: Run, k: usize) -> Option<usize>
         return None;
     }
     Some(run.start as usize + (k - run.first as usize))
+}
+
+// The next pixel of a block behind this one that is one of the run's, or the end of the block.
+#[inline(always)]
+fn behind_in_run(run: Run, k: usize) -> usize
+    requires { k < 32 }
+    ensures later { k < result }
+    ensures inside { result ≤ 32 }
+    ensures none { (j : ℕ) → k < j → j < result → place_in_run_of run j ≡ None }
+{
+    if k >= run.end as usize {
+        return BLOCK;
+    }
+    (k + 1).max(BLOCK.min(run.first as usize))
 }
 
 // The same list a second time, if there is one.

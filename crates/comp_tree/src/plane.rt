@@ -1,15 +1,15 @@
 //! Planes: images of whole numbers with undefined pixels.
 
-ghost use Rattle.std.specs.Prelude.{◌≡◌, ◌*◌, ◌<◌, true, length, map, None, is_some, slice_set, IfOk, IfSome, IsTrue};
+ghost use Rattle.std.specs.Prelude.{◌≡◌, ◌*◌, ◌<◌, ◌≤◌, true, length, map, None, is_some, slice_set, IfOk, IfSome, IsTrue};
 ghost use Rattle.std.specs.List.{list_all};
 ghost use Rattle.comp_tree.specs.Limits.{IsWithinRange};
 ghost use Rattle.comp_tree.specs.Stored.{pixel_of as pixel_kept_as};
 ghost use Rattle.comp_tree.specs.Raster.{is_pixel_value as may_stand, raster_of};
-ghost use Rattle.comp_tree.specs.Raster.{Raster, HasValuesInRange, value_at, is_defined, level, is_at_least, is_earlier};
+ghost use Rattle.comp_tree.specs.Raster.{Raster, HasValuesInRange, HasGap, value_at, is_defined, level, is_at_least, is_earlier};
 
 use crate::pixels::{Pixels, UNDEFINED};
 use crate::shape::Shape;
-use dev_io::OutOfMemory;
+use costs::OutOfMemory;
 use std::alloc::Global;
 use std::marker::Model;
 
@@ -93,6 +93,24 @@ impl Plane {
         ensures in_range { IfSome result (λ v. IsWithinRange v) }
     {
         self.pixels.get(p as usize)
+    }
+
+    /// The first defined pixel from `first` up to `end`, or `end` if there is none. With many undefined pixels it is quicker
+    /// than a look at each.
+    #[inline(always)]
+    pub fn next_defined(&self, first: u32, end: u32) -> u32
+        requires order { first ≤ end }
+        requires inside { end ≤ length self.now.values }
+        ensures low { first ≤ result }
+        ensures high { result ≤ end }
+        ensures gap { HasGap self.now.values first result }
+        ensures defined { result < end → IsTrue (is_defined self.now result) }
+    {
+        let mut p = first;
+        while p < end && self.get(p).is_none() {
+            p = self.pixels.behind(p as usize).min(end as usize) as u32;
+        }
+        p
     }
 
     /// Whether a pixel has a value.

@@ -49,14 +49,14 @@ fn a_canvas_is_painted(rt: HostRuntime) -> Result<(), Fail> {
     Ok(())
 }
 
-// A plane of 100 pixels, of which some are defined: two in a block of their own, and the last.
+// A plane of 70 pixels, of which some are defined: two in a block of their own, and the last.
 fn plane_of_few(alloc: Global) -> Result<Plane, Fail> {
-    let shape = Shape::of(100, 1).ok_or("a shape")?;
+    let shape = Shape::of(70, 1).ok_or("a shape")?;
     let mut canvas = Canvas::blank(alloc, shape)?;
-    if canvas.shape().pixels() == 100 {
+    if canvas.shape().pixels() == 70 {
         canvas.set(32, Some(7));
-        canvas.set(47, Some(8));
-        canvas.set(99, Some(-9));
+        canvas.set(37, Some(8));
+        canvas.set(69, Some(-9));
     }
     Ok(canvas.into_plane())
 }
@@ -75,8 +75,19 @@ fn are_alike(plane: &Plane, other: &Plane) -> bool {
     true
 }
 
-// Where few pixels are defined, a plane that is kept in less memory has the same ones, also once more and in a copy, and its
-// pixels can still be changed.
+// The sum of the defined pixels' numbers, and of their places.
+fn sums_of_defined(plane: &Plane) -> (u32, i64) {
+    let end = plane.shape().pixels();
+    let mut sums = (0u32, 0i64);
+    let mut p = plane.next_defined(0, end);
+    while p < end {
+        sums = (sums.0.wrapping_add(p), sums.1.wrapping_add(plane.level(p)));
+        p = plane.next_defined(p + 1, end);
+    }
+    sums
+}
+
+// Where few pixels are defined, a plane that is kept in less memory has the same ones, also once more and in a copy.
 #[test]
 fn a_compact_plane_is_the_same(rt: HostRuntime) -> Result<(), Fail> {
     let first = plane_of_few(rt.alloc())?;
@@ -86,16 +97,31 @@ fn a_compact_plane_is_the_same(rt: HostRuntime) -> Result<(), Fail> {
     plane.compact(rt.alloc())?;
     let copy = plane.copied(rt.alloc())?;
     assert!(rt; are_alike(&copy, &first));
-    assert_eq!(rt; plane.shape().pixels(), 100);
-    if plane.is_defined(47) {
-        plane.set(47, Some(1));
+    Ok(())
+}
+
+// Its pixels can be changed.
+#[test]
+fn a_compact_plane_is_changed(rt: HostRuntime) -> Result<(), Fail> {
+    let mut plane = plane_of_few(rt.alloc())?;
+    plane.compact(rt.alloc())?;
+    assert_eq!(rt; plane.shape().pixels(), 70);
+    if plane.is_defined(37) {
+        plane.set(37, Some(1));
     }
-    plane.set(99, None);
-    plane.set(0, None);
-    assert_eq!(rt; plane.get(32), Some(7));
-    assert_eq!(rt; plane.get(47), Some(1));
-    assert_eq!(rt; plane.get(99), None);
-    assert_eq!(rt; plane.get(0), None);
+    plane.set(69, None);
+    assert_eq!(rt; plane.get(37), Some(1));
+    assert_eq!(rt; plane.get(69), None);
+    Ok(())
+}
+
+// One finds the defined pixels one after the other, with a number for each pixel as in blocks.
+#[test]
+fn defined_pixels_are_found(rt: HostRuntime) -> Result<(), Fail> {
+    let mut plane = plane_of_few(rt.alloc())?;
+    assert_eq!(rt; sums_of_defined(&plane), (138, 6));
+    plane.compact(rt.alloc())?;
+    assert_eq!(rt; sums_of_defined(&plane), (138, 6));
     Ok(())
 }
 

@@ -7,7 +7,7 @@ ghost use Rattle.detect_top.specs.Words.{HasLimits};
 
 use crate::Order;
 use comp_tree::{Plane, Tree};
-use dev_io::OutOfMemory;
+use costs::OutOfMemory;
 use mesh_background::subtract_background;
 use std::alloc::Global;
 use std::thread::Threads;

@@ -17,7 +17,8 @@ ghost use Rattle.detect_top.specs.Writables.{IsDetection};
 
 use catalogue_form::{CELLS_IN_ROW, catalogue_columns};
 use comp_tree::{Plane, Shape, Tree};
-use dev_io::{OutOfMemory, Sink};
+use costs::OutOfMemory;
+use dev_io::Sink;
 use fits_write::{WriteFault, put_empty_primary, put_map, put_table};
 use node_sums::{Sums, sums};
 use source_pick::{CatRow, Choice, cells, pick, row, segment_in_parts};

@@ -12,7 +12,8 @@ ghost use Rattle.detect_top.specs.TrialSizes.{HasSmallFluxes};
 
 use command_line::lines::put_line;
 use comp_tree::{Canvas, NONE, NodeRow, Plane, Shape, Tree};
-use dev_io::{Failed, OutOfMemory, Sink};
+use costs::OutOfMemory;
+use dev_io::{Failed, Sink};
 use fits_write::WriteFault;
 use itoa::Buffer;
 use node_sums::{Sums, flux, sums};

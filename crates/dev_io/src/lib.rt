@@ -12,7 +12,6 @@ mod plain_source;
 mod read_source;
 mod sink;
 mod source;
-mod steps;
 mod write_sink;
 
 pub use block::{BLOCK, Block};
@@ -21,8 +20,7 @@ pub use mem_source::MemSource;
 pub use plain_source::PlainSource;
 pub use read_source::ReadSource;
 pub use sink::Sink;
-pub use source::{Failed, OutOfMemory, Source, fill, skip};
-pub use steps::Steps;
+pub use source::{Failed, Source, fill, skip};
 pub use write_sink::WriteSink;
 
 #[cfg(test)]

@@ -8,27 +8,10 @@ ghost use Rattle.dev_io.specs.Causes.{HasCause};
 ghost use Rattle.dev_io.specs.Streams.{gives_nothing, falls_short, Fills, Takes, TakesAtMost, Skipped};
 
 use crate::block::BLOCK;
-use std::alloc::{AllocError, AllocFailed};
 
 /// A call on a source or a sink failed: its count of faults has risen, or stands at its last value, 2^64 - 1.
 #[derive(Clone, Copy, Debug, PartialEq, Eq)]
 pub struct Failed;
-
-/// Memory is wanted and isn't there: the answer of calls that take memory, in every crate.
-#[derive(Clone, Copy, Debug, PartialEq, Eq)]
-pub struct OutOfMemory;
-
-impl From<AllocError> for OutOfMemory {
-    fn from(_: AllocError) -> Self {
-        OutOfMemory
-    }
-}
-
-impl<T: Drop> From<AllocFailed<T>> for OutOfMemory {
-    fn from(_: AllocFailed<T>) -> Self {
-        OutOfMemory
-    }
-}
 
 /// Bytes in their order, which are taken once. Where `left` is told at one moment it is told at all later ones.
 pub trait Source {

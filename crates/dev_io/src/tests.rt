@@ -1,11 +1,8 @@
 //! The adapters over memory, and the numbering of the fakes' calls.
-ghost use Rattle.std.specs.Prelude.{◌≡◌, ◌<◌, ◌+◌};
 
 use crate::*;
 use std::fs::File;
 use std::io::BufWriter;
-use std::marker::Brand;
-use std::sync::ledger::{Blank, Ledger};
 use std::test::Fail;
 
 #[test]
@@ -119,26 +116,4 @@ fn a_block_puts_full_pieces(rt: HostRuntime) -> Result<(), Fail> {
     assert_eq!(rt; sink.bytes().len(), 2890);
     assert_eq!(rt; block.flush(&mut sink), Ok(()));
     Ok(())
-}
-
-fn tick_twice<L: Ledger>(steps: &mut Steps<L>)
-    ensures { steps.new ≡ steps.old + 2 }
-{
-    steps.tick();
-    steps.tick();
-}
-
-fn count<L: Ledger>(blank: Blank)
-    requires name { blank.name ≡ L.name }
-    requires parts { blank.parts ≡ L.parts }
-    requires some { 0 < blank.parts }
-{
-    let mut steps = Steps::<L>::start(blank);
-    tick_twice(&mut steps);
-}
-
-// The count is a ghost: `tick_twice` says in its contract what the ticks add up to.
-#[test]
-fn a_counter_counts(_: HostRuntime) {
-    count::<Brand>(Blank::new(1));
 }

@@ -10,7 +10,7 @@ ghost use Rattle.dual_measure.specs.Adding.{blank_measure, settled_measure, AreO
 
 use crate::values::Measure;
 use comp_tree::{NONE, Plane, Tree};
-use dev_io::OutOfMemory;
+use costs::OutOfMemory;
 use std::alloc::Global;
 
 /// The measure of each node of a max-tree (Salembier, Oliveras and Garrido 1998) in the values of a second plane, in

@@ -12,7 +12,7 @@ ghost use Rattle.filter_rules.specs.Passes.{HasRisingLevels, AreValues, value_of
 use crate::keeping::kept_nodes;
 use crate::rule::{Criterion, Rule};
 use comp_tree::{Canvas, NONE, NodeRow, Plane, Shape, Tree};
-use dev_io::OutOfMemory;
+use costs::OutOfMemory;
 use node_sums::Outline;
 use std::alloc::Global;
 

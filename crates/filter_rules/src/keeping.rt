@@ -9,7 +9,7 @@ ghost use Rattle.filter_rules.specs.Passes.{flag, HasRisingLevels, AreWithParent
 
 use crate::rule::{Criterion, Rule};
 use comp_tree::{NONE, NodeRow, Tree};
-use dev_io::OutOfMemory;
+use costs::OutOfMemory;
 use node_sums::{Outline, flux_by_outlines};
 use std::alloc::Global;
 

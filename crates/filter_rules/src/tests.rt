@@ -4,7 +4,7 @@ ghost use Rattle.std.specs.Prelude.{◌≤◌};
 
 use super::*;
 use comp_tree::{Connect, Plane, Shape, plain_tree};
-use dev_io::OutOfMemory;
+use costs::OutOfMemory;
 use node_sums::outlines;
 use std::alloc::Global;
 use std::test::Fail;

@@ -4,7 +4,7 @@ ghost use Rattle.level_queue.specs.Queue.{list_at, with_list, empty_queue, IsQue
 
 use crate::rank_set::RankSet;
 use crate::raw_array::RawArray;
-use dev_io::{OutOfMemory, Steps};
+use costs::{OutOfMemory, Steps};
 use std::alloc::Global;
 use std::marker::{Model, Send, Sync};
 use std::sync::ledger::Ledger;

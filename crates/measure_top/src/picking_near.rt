@@ -14,7 +14,7 @@ ghost use Rattle.measure_top.specs.Picks.{AreNodesOf, AreSourcesOf, HaveFittingR
 
 use comp_tree::{Connect, Plane, Tree};
 use detect_top::{Order, component_tree};
-use dev_io::OutOfMemory;
+use costs::OutOfMemory;
 use node_sums::{Sums, sums};
 use source_pick::{CatRow, Choice, clear_far, pick, row, segment_in_parts};
 use std::alloc::Global;

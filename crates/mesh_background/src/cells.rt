@@ -10,7 +10,7 @@ ghost use Rattle.mesh_background.specs.Mesh.{cell_count, cell_pixels, defined_va
 use crate::grid::Grid;
 use crate::median::lower_median;
 use comp_tree::Plane;
-use dev_io::OutOfMemory;
+use costs::OutOfMemory;
 use rayon::prelude::*;
 use std::alloc::Global;
 use std::thread::Threads;

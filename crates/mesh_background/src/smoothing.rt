@@ -4,7 +4,7 @@ ghost use Rattle.std.specs.Prelude.{◌≡◌, ◌*◌, ◌/◌, ◌%◌, ◌<�
 ghost use Rattle.mesh_background.specs.Smoothing.{filtered_mesh, numbers_around};
 
 use crate::median::lower_median;
-use dev_io::OutOfMemory;
+use costs::OutOfMemory;
 use std::alloc::Global;
 
 // How many cells a cell and those around it are, at most.

@@ -22,7 +22,7 @@ use crate::interpolation::{Between, down_column, level_between, parts_of, step_b
 use crate::slope::Mixed;
 use crate::smoothing::smooth_mesh;
 use comp_tree::Plane;
-use dev_io::OutOfMemory;
+use costs::OutOfMemory;
 use std::alloc::Global;
 use std::thread::Threads;
 

@@ -9,7 +9,7 @@ ghost use Rattle.node_sums.specs.Merging.{AreCounted, AreOwn, AreOwnTo};
 
 use crate::entry::Sums;
 use comp_tree::{NONE, Plane, Tree};
-use dev_io::OutOfMemory;
+use costs::OutOfMemory;
 use std::alloc::Global;
 
 /// The sums of each node of a plane's tree, in the order of their numbers: one pass over the pixels, and one over the

@@ -9,7 +9,7 @@ ghost use Rattle.node_sums.specs.Areas.{areas_in};
 ghost use Rattle.node_sums.specs.AreaPasses.{AreCounts, AreSoFar};
 
 use comp_tree::{NONE, Plane, Tree};
-use dev_io::OutOfMemory;
+use costs::OutOfMemory;
 use std::alloc::Global;
 
 /// The area of each node of a plane's tree in pixels, in the order of their numbers: one pass over the pixels' nodes,

@@ -11,7 +11,7 @@ ghost use Rattle.node_sums.specs.Outlines.{outline_of, outlines_in, AreOutlinesO
 ghost use Rattle.node_sums.specs.OutlinePasses.{FitTogether, AreOutlinesOf};
 
 use comp_tree::{NONE, Plane, Tree};
-use dev_io::OutOfMemory;
+use costs::OutOfMemory;
 use std::alloc::Global;
 
 /// The outline of a node's sums: its area, the sum of its values, and its box. As in FITS, x and y count columns and rows

@@ -15,7 +15,7 @@ ghost use Rattle.source_pick.specs.Clearing.{
 
 use crate::bands::band_size;
 use comp_tree::{Connect, Plane, Shape};
-use dev_io::OutOfMemory;
+use costs::OutOfMemory;
 use std::alloc::Global;
 use std::thread;
 use std::thread::Threads;

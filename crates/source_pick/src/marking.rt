@@ -10,7 +10,7 @@ ghost use Rattle.source_pick.specs.Passes.{AreEntries, AreStrong, entry_number};
 
 use crate::choice::Choice;
 use comp_tree::{NONE, Tree};
-use dev_io::OutOfMemory;
+use costs::OutOfMemory;
 use node_sums::{Sums, flux};
 use std::alloc::Global;
 

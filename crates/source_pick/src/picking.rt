@@ -22,7 +22,7 @@ use crate::choice::Choice;
 use crate::marking::{entries_of_nodes, node_count, strong_nodes};
 use crate::splitting::{StrongChildren, above_splits, strong_children};
 use comp_tree::{NONE, Tree};
-use dev_io::OutOfMemory;
+use costs::OutOfMemory;
 use node_sums::Sums;
 use std::alloc::{AllocError, Global};
 

@@ -9,7 +9,7 @@ ghost use Rattle.source_pick.specs.Passes.{AreMarked, AreNumbered, HavePixelNumb
 
 use crate::bands::band_size;
 use comp_tree::{NONE, Tree};
-use dev_io::OutOfMemory;
+use costs::OutOfMemory;
 use std::alloc::Global;
 use std::thread;
 use std::thread::Threads;

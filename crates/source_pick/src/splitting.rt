@@ -4,7 +4,7 @@ ghost use Rattle.std.specs.Prelude.{◌≡◌, ◌<◌, ℕ, IfOk, IfSome, IfNon
 ghost use Rattle.source_pick.specs.Passes.{IsStrongChild, AreStrongChildCounts, AreAboveSplits, with_one_more, are_several};
 
 use comp_tree::{NONE, Tree};
-use dev_io::OutOfMemory;
+use costs::OutOfMemory;
 use std::alloc::{AllocError, Global};
 
 // How many strong children a node has in its entry, as far as it matters.

@@ -11,7 +11,7 @@ ghost use Rattle.strip_crew.specs.Workers.{MayClaim, HoldsSlot, IsFloodedFrom, I
 use crate::gate::Gate;
 use crate::rule::{Claim, ClaimSeat, ClaimTable, Give};
 use comp_tree::Plane;
-use dev_io::Steps;
+use costs::Steps;
 use std::marker::Brand;
 use std::sync::ledger::{Blank, Ledger};
 use strip_flood::StripJob;

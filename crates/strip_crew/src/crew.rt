@@ -18,7 +18,7 @@ use crate::prepare::prepare_all;
 use crate::rule::{ClaimSeat, ClaimTable, Dismiss, Key, Recruit};
 use atomic_table::{Closed, Refused};
 use comp_tree::{Connect, Forest, Plane};
-use dev_io::OutOfMemory;
+use costs::OutOfMemory;
 use std::alloc::Global;
 use std::snapshot::Snapshot;
 use std::thread;

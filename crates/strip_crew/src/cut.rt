@@ -10,7 +10,7 @@ ghost use Rattle.strip_crew.specs.Copied.{AreCopied};
 use crate::gate::OpenGate;
 use crate::group::join_group;
 use comp_tree::{Connect, Plane};
-use dev_io::OutOfMemory;
+use costs::OutOfMemory;
 use std::alloc::Global;
 use std::thread::Threads;
 

@@ -10,7 +10,7 @@ ghost use Rattle.strip_crew.specs.Halves.{IsGroup, IsGroupJoined};
 
 use crate::gate::Gate;
 use comp_tree::{Connect, Plane};
-use dev_io::Steps;
+use costs::Steps;
 use std::marker::Brand;
 use std::sync::ledger::{Blank, Ledger};
 use std::thread::{Threads, join_mut};

@@ -7,7 +7,7 @@ ghost use Rattle.strip_crew.specs.Claims.{AreReady};
 ghost use Rattle.strip_crew.specs.Workers.{AreGroup};
 
 use comp_tree::{Connect, Plane};
-use dev_io::OutOfMemory;
+use costs::OutOfMemory;
 use std::alloc::Global;
 use std::thread;
 use std::thread::Threads;

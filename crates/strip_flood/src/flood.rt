@@ -14,7 +14,7 @@ ghost use Rattle.strip_flood.specs.Strips.{ground_of, state_of, values_of, curso
 
 use crate::strip::{Strip, directions};
 use comp_tree::NONE;
-use dev_io::{OutOfMemory, Steps};
+use costs::{OutOfMemory, Steps};
 use level_queue::LevelQueue;
 use std::alloc::Global;
 use std::sync::ledger::Ledger;

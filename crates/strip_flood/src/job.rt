@@ -9,7 +9,7 @@ use crate::flood::Flood;
 use crate::levels::rank_pixels;
 use crate::strip::{Strip, offsets};
 use comp_tree::{Connect, Plane, Shape};
-use dev_io::{OutOfMemory, Steps};
+use costs::{OutOfMemory, Steps};
 use std::alloc::Global;
 use std::marker::Model;
 use std::sync::ledger::Ledger;

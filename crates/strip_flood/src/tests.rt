@@ -4,7 +4,7 @@ ghost use Rattle.std.specs.Prelude.{◌≡◌, ◌<◌};
 use crate::StripJob;
 use crate::by_order::rank_by_order;
 use comp_tree::{Connect, NONE, Plane, Shape};
-use dev_io::Steps;
+use costs::Steps;
 use std::alloc::Global;
 use std::marker::Brand;
 use std::process::Abort;

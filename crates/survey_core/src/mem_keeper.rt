@@ -15,7 +15,7 @@ ghost use Rattle.dev_io.specs.Causes.{Rose};
 ghost use Rattle.survey_core.specs.declared.mem_keeper.Entry.{Entry};
 
 use crate::{Field, Keeper, Refused};
-use dev_io::OutOfMemory;
+use costs::OutOfMemory;
 use std::alloc::Global;
 use std::cmp::Ordering;
 

@@ -2,7 +2,7 @@
 ghost use Rattle.std.specs.Prelude.{◌≡◌, ◌≢◌, ◌%◌, length, IfOk, MatchOption};
 ghost use Rattle.survey_sqlite.specs.Blobs.{blob_of, blob_cells, IsBlob};
 
-use dev_io::OutOfMemory;
+use costs::OutOfMemory;
 use std::alloc::Global;
 use survey_core::are_numbered;
 

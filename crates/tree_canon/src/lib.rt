@@ -18,7 +18,7 @@ ghost use Rattle.comp_tree.specs.Components.{tree_of};
 ghost use Rattle.comp_tree.specs.Forest.{IsForest, StandsForAll};
 
 use comp_tree::{Forest, Plane, Tree};
-use dev_io::OutOfMemory;
+use costs::OutOfMemory;
 use nodes::number_nodes;
 use rows::{find_canonical, set_parents};
 use std::alloc::Global;

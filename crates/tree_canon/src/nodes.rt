@@ -9,7 +9,7 @@ use crate::counting::{Span, number_by_counting};
 use crate::numbers::number_pixels;
 use crate::rows::sorted_rows;
 use comp_tree::{NodeRow, Plane};
-use dev_io::OutOfMemory;
+use costs::OutOfMemory;
 use std::alloc::Global;
 
 // The rows of the nodes in their order, and the number of each pixel's node, `NONE` for an undefined pixel.

@@ -6,7 +6,7 @@ ghost use Rattle.tree_canon.specs.Canonical.{canonical_pixels, loose_row, node_n
 ghost use Rattle.tree_canon.specs.Numbers.{HaveOwnPixels, HasRowNumbers, LeadBack, HasLinkNumbers};
 
 use comp_tree::{NONE, NodeRow, Plane};
-use dev_io::OutOfMemory;
+use costs::OutOfMemory;
 use std::alloc::Global;
 
 // The number of each pixel's node, and `NONE` for an undefined pixel. The rows are those of the canonical pixels, in order.

@@ -10,7 +10,7 @@ ghost use Rattle.tree_canon.specs.Places.{ArePixelsFrom, AreNumberedBy};
 
 use crate::numbers::node_number_at;
 use comp_tree::{NONE, NodeRow, Plane};
-use dev_io::OutOfMemory;
+use costs::OutOfMemory;
 use std::alloc::Global;
 
 // The canonical pixels, in the order of pixel numbers.

@@ -7,7 +7,7 @@ ghost use Rattle.tree_canon.specs.Fitting.{IsFit, AreFit};
 
 use crate::canon;
 use comp_tree::{Connect, Forest, NONE, Plane, Shape, Tree, plain_tree};
-use dev_io::OutOfMemory;
+use costs::OutOfMemory;
 use std::alloc::Global;
 
 // Whether the link of a pixel leads to a smaller pixel of its node, or from the node's representative to the parent.

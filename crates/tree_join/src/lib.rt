@@ -33,7 +33,7 @@ mod tests;
 mod walk;
 
 use comp_tree::{Connect, Plane};
-use dev_io::Steps;
+use costs::Steps;
 use links::Links;
 use skips::Skips;
 use std::sync::ledger::Ledger;

@@ -5,7 +5,7 @@
 
 ghost use Rattle.std.specs.Prelude.{◌≡◌, ◌+◌, ◌<◌, length, set, slice_index};
 
-use dev_io::Steps;
+use costs::Steps;
 use std::sync::ledger::Ledger;
 
 #[derive(Drop)]

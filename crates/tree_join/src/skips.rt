@@ -10,7 +10,7 @@ ghost use Rattle.comp_tree.specs.Forest.{no_node};
 ghost use Rattle.tree_join.specs.Skips.{IsPutDown, IsLeft, IsNoted};
 
 use comp_tree::NONE;
-use dev_io::Steps;
+use costs::Steps;
 use std::sync::ledger::Ledger;
 
 // How many places there are for skips from near marks, from far ones, and in all.

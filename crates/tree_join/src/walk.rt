@@ -12,7 +12,7 @@ ghost use Rattle.tree_join.specs.Walks.{AreLinks, AreLike, HaveTrueSkips, IsLate
 use crate::links::Links;
 use crate::skips::{Reach, Skips};
 use comp_tree::{NONE, Plane};
-use dev_io::Steps;
+use costs::Steps;
 use std::sync::ledger::Ledger;
 
 // The rows whose links are at hand: those of this plane from the pixel `first` on.

@@ -1,4 +1,4 @@
-use Rattle.dev_io.proofs.tests.a_counter_counts.Given as goal
+use Rattle.costs.proofs.tests.a_counter_counts.Given as goal
 
 abbrev pub ghosts-count : goal.ghosts-count
 ghosts-count a = record { name = a.blank.name; parts = a.blank.parts }
