@@ -15,6 +15,7 @@ mod OneTree
 mod WellFormed
 mod Values
 mod Blocks
+mod Marked
 mod CountsBelow
 mod Walks
 mod Sames

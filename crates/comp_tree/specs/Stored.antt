@@ -5,7 +5,9 @@ use Rattle.std.specs.Prelude.{◌≡◌, ℕ, ◌+◌, ◌*◌, ◌/◌, ◌%◌
 use Rattle.std.specs.Prelude.{cond, if◌then◌else◌, ◌&&◌, nat_le, nat_lt, ◌-◌}
 use Rattle.std.specs.List.{range_with_len}
 use Rattle.std.specs.Ordering.{int_eq}
+use Rattle.std.specs.Prelude.{Bool, false, slice_index_or}
 use Rattle.comp_tree.specs.declared.pixels.Run.{Run}
+use Rattle.comp_tree.specs.Raster.{Raster, value_at}
 
 -- stands for an undefined pixel: -2 ^ 63, which is below every value
 abbrev pub undefined_number : ℤ
@@ -66,3 +68,10 @@ pub record AreBlocksOf (k : ℕ) (runs : List Run) (kept numbers : List ℤ) : T
 -- all pixels from the first one up to the end are undefined
 abbrev pub AreUndefined : List ℤ → ℕ → ℕ → Type 0
 AreUndefined numbers first end = (p : ℕ) → first ≤ p → p < end → number_of_pixel numbers p ≡ undefined_number
+
+-- the first count pixels of a plane are those of another one where they are marked, and else undefined
+pub record IsClearedUpTo (r : Raster) (marks : List Bool) (count : ℕ) (plane : Raster) : Type 0 where
+  pub same_shape : plane.shape ≡ r.shape
+  pub one_each : length plane.values ≡ length r.values
+  pub done : (p : ℕ) → p < count → value_at plane.values p ≡ cond (slice_index_or marks p false) (value_at r.values p) None
+  pub rest : (p : ℕ) → count ≤ p → value_at plane.values p ≡ value_at r.values p

@@ -5,7 +5,7 @@ ghost use Rattle.std.specs.List.{list_all};
 ghost use Rattle.comp_tree.specs.Limits.{IsWithinRange};
 ghost use Rattle.comp_tree.specs.Stored.{pixel_of as pixel_kept_as};
 ghost use Rattle.comp_tree.specs.Raster.{is_pixel_value as may_stand, raster_of};
-ghost use Rattle.comp_tree.specs.Raster.{Raster, HasValuesInRange, HasGap, value_at, is_defined, level, is_at_least, is_earlier};
+ghost use Rattle.comp_tree.specs.Raster.{Raster, HasValuesInRange, HasGap, value_at, is_defined, level, is_at_least, is_earlier, without_unmarked};
 
 use crate::pixels::{Pixels, UNDEFINED};
 use crate::shape::Shape;
@@ -162,6 +162,29 @@ impl Plane {
         ensures { self.new ≡ record self.old { values = slice_set self.old.values p value } }
     {
         self.pixels.set(p as usize, number_of(value));
+    }
+
+    /// A second plane, in which the pixels that aren't marked are undefined. The one error is that memory was refused.
+    pub fn marked(&self, alloc: Global, marks: &[bool]) -> Result<Plane, OutOfMemory>
+        requires one_each { length marks.now ≡ length self.now.values }
+        ensures { IfOk result (λ plane. plane ≡ without_unmarked self.now marks.now) }
+    {
+        let mut copy = self.copied(alloc)?;
+        copy.clear_unmarked(marks);
+        copy.compact(alloc)?;
+        Ok(copy)
+    }
+
+    fn clear_unmarked(&mut self, marks: &[bool])
+        requires { length marks.now ≡ length self.old.values }
+        ensures { self.new ≡ without_unmarked self.old marks.now }
+    {
+        let count = self.shape().pixels();
+        for p in 0..count {
+            if !marks[p as usize] {
+                self.set(p, None);
+            }
+        }
     }
 
     /// Keeps the pixels in less memory, where few of them are defined. For a moment it takes more.

@@ -9,11 +9,11 @@ use Rattle.std.proofs.lemmas.List.FromFn.{get_or-map-range_with_len, length-rang
 use Rattle.lemmas.proofs.Exported.{IsAmong, IsWitness, among_from_filter, among_from_range, same_bool, witness_from_any}
 use Rattle.comp_tree.specs.declared.shape.Connect.{Connect}
 use Rattle.comp_tree.specs.declared.shape.Shape.{Shape}
-use Rattle.comp_tree.specs.Raster.{Raster, IsPlane, pixels, value_at, is_defined, is_at_least}
+use Rattle.comp_tree.specs.Raster.{Raster, IsPlane, pixels, value_at, is_defined, is_at_least, without_unmarked}
 use Rattle.comp_tree.specs.Grid.{distance, are_neighbours}
 use Rattle.comp_tree.proofs.Exported.{are_neighbours_comm, defined_from_at_least, below_from_defined}
 use Rattle.source_pick.specs.Locality.{is_beside_high, is_near_high, kept}
-use Rattle.source_pick.specs.Clearing.{HasNoneBelow, IsAround, columns_beside, AreSetBetween, AreSetAround, AreMarkedNear, without_unmarked, IsClearedUpTo}
+use Rattle.source_pick.specs.Clearing.{HasNoneBelow, IsAround, columns_beside, AreSetBetween, AreSetAround, AreMarkedNear}
 use Rattle.source_pick.proofs.Keeping.{near_from_own, near_from_neighbour}
 use Rattle.source_pick.proofs.Around.{first_row, last_row, IsPartOfRow, part_around, around_part, around_after, around_before}
 
@@ -247,23 +247,6 @@ blank_part count marks part start e each k = go (cases_lt k (length part))
     go (inr l) = get_or_past part k false l
 
 -- ---- the plane without the others
-
-pub cleared_all : (r plane : Raster) (marks : List Bool) (count : ℕ) → IsClearedUpTo r marks count plane → length r.values ≤ count
-    → plane ≡ without_unmarked r marks
-unfolding without_unmarked pixels
-cleared_all r plane marks count h all = ap (λ (s : Shape). let x : Raster = record { shape = s; values = plane.values } in x) h.same_shape
-    ∙ ap (λ (vs : List (Option ℤ)). let x : Raster = record { shape = r.shape; values = vs } in x) same
-  where
-    f : ℕ → Option ℤ
-    f p = cond (slice_index_or marks p false) (value_at r.values p) None
-
-    same : plane.values ≡ map (λ p. cond (slice_index_or marks p false) (value_at r.values p) None) (range_with_len 0 (length r.values))
-    same = ext_get_or None plane.values (map (λ p. cond (slice_index_or marks p false) (value_at r.values p) None) (range_with_len 0 (length r.values)))
-        (h.one_each ∙ sym (length-map (range_with_len 0 (length r.values))
-        (λ p. cond (slice_index_or marks p false) (value_at r.values p) None) ∙ length-range_with_len 0 (length r.values)))
-        (λ q l. let b : q < length r.values = omega (arith, h.one_each) in
-        h.done q (omega arith)
-        ∙ sym (get_or-map-range_with_len (λ p. cond (slice_index_or marks p false) (value_at r.values p) None) 0 (length r.values) q q None b (omega arith)))
 
 -- with the marks near the pixels of at least h it is the plane that is kept
 pub without-kept : (r : Raster) (connect : Connect) (h : ℤ) (marks : List Bool) → marks ≡ map (is_near_high r connect h) (pixels r)

@@ -40,17 +40,3 @@ pub record AreMarkedNear (r : Raster) (connect : Connect) (h : ℤ) (start first
   pub sound : (k : ℕ) → slice_index_or marks k false ≡ true → is_near_high r connect h (start + k) ≡ true
   pub complete : (p k : ℕ) → first ≤ p → p < count → IsTrue (is_at_least r h p) → k < length marks → IsAround connect r.shape.width p (start + k)
       → slice_index_or marks k false ≡ true
-
--- a plane without the pixels that are not marked
-unfoldable pub without_unmarked : Raster → List Bool → Raster
-without_unmarked r marks = record {
-  shape = r.shape;
-  values = map (λ p. cond (slice_index_or marks p false) (value_at r.values p) None) (pixels r);
-}
-
--- the first count pixels are so
-pub record IsClearedUpTo (r : Raster) (marks : List Bool) (count : ℕ) (plane : Raster) : Type 0 where
-  pub same_shape : plane.shape ≡ r.shape
-  pub one_each : length plane.values ≡ length r.values
-  pub done : (p : ℕ) → p < count → value_at plane.values p ≡ cond (slice_index_or marks p false) (value_at r.values p) None
-  pub rest : (p : ℕ) → count ≤ p → value_at plane.values p ≡ value_at r.values p

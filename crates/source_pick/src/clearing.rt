@@ -10,7 +10,6 @@ ghost use Rattle.source_pick.specs.Clearing.{
   AreSetBetween,
   AreSetAround,
   AreMarkedNear,
-  without_unmarked,
 };
 
 use crate::bands::band_size;
@@ -43,7 +42,7 @@ pub fn clear_far<R: Threads + Sync>(
     }
     let size = band_size(plane.shape(), parts);
     let marks = near_marks(rt, alloc, plane, connect, threshold, size)?;
-    clear_unmarked(plane, &marks);
+    *plane = plane.marked(alloc, &marks)?;
     Ok(())
 }
 
@@ -194,17 +193,5 @@ fn mark_between(first: usize, end: usize, start: usize, marks: &mut [bool])
 {
     for p in first.max(start)..end.min(start + marks.len()) {
         marks[p - start] = true;
-    }
-}
-
-fn clear_unmarked(plane: &mut Plane, marks: &[bool])
-    requires { length marks.now ≡ length plane.old.values }
-    ensures { plane.new ≡ without_unmarked plane.old marks.now }
-{
-    let count = plane.shape().pixels();
-    for p in 0..count {
-        if !marks[p as usize] {
-            plane.set(p, None);
-        }
     }
 }
