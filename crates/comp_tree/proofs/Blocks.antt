@@ -1,18 +1,32 @@
 -- Pixels that are kept in blocks are those that are kept by a number each.
 use Rattle.std.proofs.Common.{◌≡◌, ◌≢◌, ◌∙◌, ℕ, ◌+◌, ◌-◌, ◌*◌, ◌/◌, ◌%◌, ◌==◌, ◌<◌, ◌≤◌, Bool, true, false, ◌⊎◌, inl, inr, List, [], ◌∷◌, ◌++◌}
 use Rattle.std.proofs.Common.{length, map, min, take, drop, get_or, set, refl, sym, ap, subst, arith}
-use Rattle.std.specs.Prelude.{Result, Ok, Err, IfOk}
+use Rattle.std.specs.Prelude.{Result, Ok, Err, IfOk, OnOk}
 use Rattle.std.specs.Prelude.{ℤ, Option, Some, None, IfSome, IsTrue, is_some, slice_set, nat_le, nat_lt, ◌&&◌, if◌then◌else◌}
 use Rattle.std.specs.Option.{option_map}
 use Rattle.std.proofs.lemmas.List.{get_or-map, ext_get_or, length-map, length-set, get_or-set_same, get_or-set_other, set-get_or}
 use Rattle.std.proofs.lemmas.List.{get_or_append_left, get_or_push, get_or_past, get_or-append-add, get_or_default, length-append, get_or-take, get_or-drop, length-take-le, length-drop}
-use Rattle.std.proofs.lemmas.List.FromFn.{length-map-range_with_len, get_or-map-range_with_len}
+use Rattle.std.proofs.lemmas.List.FromFn.{length-map-range_with_len, get_or-map-range_with_len, map-range_with_len_more}
 use Rattle.std.proofs.lemmas.Bool.{eqb-true, eqb-false, cases_lt, le-leb, lt-ltb, le-ltb, lt-leb}
 use Rattle.comp_tree.specs.declared.pixels.Run.{Run}
 use Rattle.comp_tree.proofs.Values.{pixel_of-undefined}
 use Rattle.comp_tree.specs.Raster.{value_at, HasGap}
 use Rattle.comp_tree.specs.Stored.{undefined_number, pixel_of, number_of_pixel, empty_run, run_of_block, place_in_run, kept_place, kept_number, kept_pixels, AreRunsApart, AreKept, AreBlocksOf}
-use Rattle.comp_tree.specs.Stored.{AreUndefined}
+use Rattle.comp_tree.specs.Stored.{AreUndefined, AreUnmarked, number_if_marked, marked_numbers, marked_values}
+use Rattle.std.specs.List.{range_with_len}
+use Rattle.std.specs.Prelude.{cond, slice_index_or}
+
+-- ---- the values of marked pixels
+
+pub length-marked : (values : List (Option ℤ)) (marks : List Bool) → length (marked_values values marks) ≡ length values
+unfolding marked_values
+length-marked values marks = length-map-range_with_len (λ p. cond (slice_index_or marks p false) (value_at values p) None) 0 (length values)
+
+pub marked-at : (values : List (Option ℤ)) (marks : List Bool) (p : ℕ) → p < length values
+    → value_at (marked_values values marks) p ≡ cond (slice_index_or marks p false) (value_at values p) None
+unfolding marked_values
+marked-at values marks p lt =
+    get_or-map-range_with_len (λ q. cond (slice_index_or marks q false) (value_at values q) None) 0 (length values) p p None lt (omega arith)
 
 -- ---- one pixel
 
@@ -356,9 +370,70 @@ kept-in-blocks k runs kept numbers enough blocks =
     kept-at (length numbers) (Some runs) kept i lt ∙ ap pixel_of (blocks.same i (omega (arith, lt, enough)))
     ∙ sym (get_or-map pixel_of numbers i undefined_number None lt))
 
+-- ---- marked pixels
+
+pub masked-at : (numbers : List ℤ) (marks : List Bool) (p : ℕ) → p < length numbers
+    → number_of_pixel (marked_numbers numbers marks) p ≡ number_if_marked numbers marks p
+unfolding marked_numbers
+masked-at numbers marks p lt = get_or-map-range_with_len (number_if_marked numbers marks) 0 (length numbers) p p undefined_number lt (omega arith)
+
+pub masked-length : (numbers : List ℤ) (marks : List Bool) → length (marked_numbers numbers marks) ≡ length numbers
+unfolding marked_numbers
+masked-length numbers marks = length-map-range_with_len (number_if_marked numbers marks) 0 (length numbers)
+
+-- what is not marked counts as undefined
+pub undefined-unmarked : (numbers : List ℤ) (marks : List Bool) (first end : ℕ) → AreUnmarked marks first end
+    → AreUndefined (marked_numbers numbers marks) first end
+unfolding number_if_marked
+undefined-unmarked numbers marks first end none p low high = at (cases_lt p (length numbers))
+  where
+    at : (p < length numbers) ⊎ (length numbers ≤ p) → number_of_pixel (marked_numbers numbers marks) p ≡ undefined_number
+    at (inl lt) = masked-at numbers marks p lt ∙ ap (λ b. cond b (number_of_pixel numbers p) undefined_number) (none p low high)
+    at (inr ge) = get_or_past (marked_numbers numbers marks) p undefined_number (omega (arith, ge, masked-length numbers marks))
+
+-- a part of these numbers
+pub masked-part : (numbers : List ℤ) (marks : List Bool) (first n i : ℕ) → i < n → first + n ≤ length numbers
+    → get_or (map (number_if_marked numbers marks) (range_with_len first n)) i undefined_number
+    ≡ number_of_pixel (marked_numbers numbers marks) (first + i)
+masked-part numbers marks first n i lt inside =
+    get_or-map-range_with_len (number_if_marked numbers marks) first n i (first + i) undefined_number lt (omega arith)
+    ∙ sym (masked-at numbers marks (first + i) (omega (arith, lt, inside)))
+
+pub masked-more : (numbers : List ℤ) (marks : List Bool) (first p : ℕ) → first ≤ p
+    → map (number_if_marked numbers marks) (range_with_len first (p + 1 - first))
+    ≡ map (number_if_marked numbers marks) (range_with_len first (p - first)) ++ number_if_marked numbers marks p ∷ []
+masked-more numbers marks first p low =
+    ap (λ n. map (number_if_marked numbers marks) (range_with_len first n)) (let e : p + 1 - first ≡ p - first + 1 = omega (arith, low) in e)
+    ∙ map-range_with_len_more (number_if_marked numbers marks) first (p - first) p (omega (arith, low))
+
+-- the values of marked pixels
+pub masked-values : (numbers : List ℤ) (marks : List Bool) → map pixel_of (marked_numbers numbers marks) ≡ marked_values (map pixel_of numbers) marks
+unfolding marked_values number_if_marked
+masked-values numbers marks =
+    ext_get_or None (map pixel_of (marked_numbers numbers marks)) (marked_values (map pixel_of numbers) marks)
+    (length-map (marked_numbers numbers marks) pixel_of ∙ masked-length numbers marks ∙ sym (length-marked (map pixel_of numbers) marks ∙ length-map numbers pixel_of))
+    (λ i within. at i (subst (λ n. i < n) (length-map (marked_numbers numbers marks) pixel_of ∙ masked-length numbers marks) within))
+  where
+    choose : (b : Bool) (x : ℤ) → pixel_of (cond b x undefined_number) ≡ cond b (pixel_of x) None
+    choose true x = refl
+    choose false x = pixel_of-undefined
+
+    at : (i : ℕ) → i < length numbers
+        → get_or (map pixel_of (marked_numbers numbers marks)) i None ≡ get_or (marked_values (map pixel_of numbers) marks) i None
+    at i lt =
+        get_or-map pixel_of (marked_numbers numbers marks) i undefined_number None (subst (λ n. i < n) (sym (masked-length numbers marks)) lt)
+        ∙ ap pixel_of (masked-at numbers marks i lt)
+        ∙ choose (slice_index_or marks i false) (number_of_pixel numbers i)
+        ∙ ap (λ (v : Option ℤ). cond (slice_index_or marks i false) v None) (sym (get_or-map pixel_of numbers i undefined_number None lt))
+        ∙ sym (marked-at (map pixel_of numbers) marks i (subst (λ n. i < n) (sym (length-map numbers pixel_of)) lt))
+
 -- ---- what holds where there is an answer
 
 pub if-made : {X E : Type 0} (r : Result (Option X) E) (P Q : X → Type 0) → ((x : X) → P x → Q x) → IfOk r (λ o. IfSome o P) → IfOk r (λ o. IfSome o Q)
 if-made (Ok None) P Q f h = tt
 if-made (Ok (Some x)) P Q f h = f x h
 if-made (Err e) P Q f h = tt
+
+pub if-done : {X E : Type 0} (r : Result X E) (P Q : Type 0) → (P → Q) → OnOk r P → OnOk r Q
+if-done (Ok x) P Q f h = f h
+if-done (Err e) P Q f h = tt

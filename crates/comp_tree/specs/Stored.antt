@@ -75,3 +75,19 @@ pub record IsClearedUpTo (r : Raster) (marks : List Bool) (count : ℕ) (plane :
   pub one_each : length plane.values ≡ length r.values
   pub done : (p : ℕ) → p < count → value_at plane.values p ≡ cond (slice_index_or marks p false) (value_at r.values p) None
   pub rest : (p : ℕ) → count ≤ p → value_at plane.values p ≡ value_at r.values p
+
+-- no pixel from the first one up to the end is marked
+abbrev pub AreUnmarked : List Bool → ℕ → ℕ → Type 0
+AreUnmarked marks first end = (p : ℕ) → first ≤ p → p < end → slice_index_or marks p false ≡ false
+
+-- the number of pixel p if it is marked, and else that of an undefined one
+unfoldable pub number_if_marked : List ℤ → List Bool → ℕ → ℤ
+number_if_marked numbers marks p = cond (slice_index_or marks p false) (number_of_pixel numbers p) undefined_number
+
+-- these numbers of all pixels
+unfoldable pub marked_numbers : List ℤ → List Bool → List ℤ
+marked_numbers numbers marks = map (number_if_marked numbers marks) (range_with_len 0 (length numbers))
+
+-- the values of the pixels that are marked, and none for the others
+unfoldable pub marked_values : List (Option ℤ) → List Bool → List (Option ℤ)
+marked_values values marks = map (λ p. cond (slice_index_or marks p false) (value_at values p) None) (range_with_len 0 (length values))

@@ -1,10 +1,12 @@
 //! How a plane keeps its pixels: a number for each of them, or, where few are defined, for each block of 32 pixels the numbers from its
 //! first defined pixel to its last.
 
-ghost use Rattle.std.specs.Prelude.{◌≡◌, ℕ, ◌+◌, ◌*◌, ◌^◌, ◌<◌, ◌≤◌, None, length, map, IfOk, OnOk, IfSome, IsTrue, is_some, slice_set};
+ghost use Rattle.std.specs.Prelude.{◌≡◌, ℕ, ◌+◌, ◌-◌, ◌*◌, ◌++◌, ◌^◌, ◌<◌, ◌≤◌, None, length, map, IfOk, OnOk, IfSome, IsTrue, is_some, slice_set};
 ghost use Rattle.comp_tree.specs.Raster.{value_at, HasGap};
 ghost use Rattle.std.specs.Option.{option_map};
 ghost use Rattle.comp_tree.specs.Stored.{pixel_of as pixel_kept_as, kept_place, place_in_run as place_in_run_of, AreBlocksOf, AreUndefined};
+ghost use Rattle.comp_tree.specs.Stored.{AreUnmarked, number_if_marked, marked_numbers, marked_values};
+ghost use Rattle.std.specs.List.{range_with_len};
 
 use costs::OutOfMemory;
 use std::alloc::Global;
@@ -120,6 +122,22 @@ impl Pixels {
     {
         match &self.runs {
             None => blocks_of(alloc, &self.numbers),
+            Some(_) => Ok(None),
+        }
+    }
+
+    // The marked pixels in blocks, with the others undefined, if these aren't kept so and at most a quarter of the numbers remains.
+    pub(crate) fn marked_in_blocks(
+        &self,
+        alloc: Global,
+        marks: &[bool],
+    ) -> Result<Option<Pixels>, OutOfMemory>
+        requires few { length self.now ≤ 2 ^ 24 }
+        requires one_each { length marks.now ≡ length self.now }
+        ensures { IfOk result (λ made. IfSome made (λ pixels. pixels ≡ marked_values self.now marks.now)) }
+    {
+        match &self.runs {
+            None => blocks_of_marked(alloc, &self.numbers, marks),
             Some(_) => Ok(None),
         }
     }
@@ -263,6 +281,123 @@ fn end_of_defined(numbers: &[i64], low: usize, high: usize) -> usize
 {
     let mut end = high;
     while low < end && numbers[end - 1] == UNDEFINED {
+        end -= 1;
+    }
+    end
+}
+
+// The pixels that the numbers of marked pixels stand for, in blocks, if at most a quarter of the numbers remains.
+fn blocks_of_marked(
+    alloc: Global,
+    numbers: &[i64],
+    marks: &[bool],
+) -> Result<Option<Pixels>, OutOfMemory>
+    requires few { length numbers.now ≤ 2 ^ 24 }
+    requires one_each { length marks.now ≡ length numbers.now }
+    ensures { IfOk result (λ made. IfSome made
+        (λ pixels. pixels ≡ map pixel_kept_as (marked_numbers numbers.now marks.now))) }
+{
+    let count = numbers.len().div_ceil(BLOCK);
+    let mut runs = Vec::with_capacity(alloc, count)?;
+    // room that isn't used takes no memory until it is written to
+    let mut kept = Vec::with_capacity(alloc, numbers.len() / 4)?;
+    for block in 0..count {
+        add_marked_block(&mut runs, &mut kept, numbers, marks, block)?;
+        if kept.len() > numbers.len() / 4 {
+            return Ok(None);
+        }
+    }
+    Ok(Some(Pixels {
+        count: numbers.len(),
+        runs: Some(runs),
+        numbers: kept,
+    }))
+}
+
+// Adds the next block of the marked pixels to the first ones.
+fn add_marked_block(
+    runs: &mut Vec<Run>,
+    kept: &mut Vec<i64>,
+    numbers: &[i64],
+    marks: &[bool],
+    block: usize,
+) -> Result<(), OutOfMemory>
+    requires few { length numbers.now ≤ 2 ^ 24 }
+    requires one_each { length marks.now ≡ length numbers.now }
+    requires inside { block * 32 < length numbers.now }
+    requires before { AreBlocksOf block runs.old.items kept.old.items (marked_numbers numbers.now marks.now) }
+    ensures { OnOk result (AreBlocksOf (block + 1) runs.new.items kept.new.items
+        (marked_numbers numbers.now marks.now)) }
+{
+    let low = block * BLOCK;
+    let high = numbers.len().min(low + BLOCK);
+    let first = first_marked(marks, low, high);
+    let end = end_of_marked(marks, first, high);
+    let run = Run {
+        start: kept.len() as u32,
+        first: (first - low) as u8,
+        end: (end - low) as u8,
+    };
+    runs.push(run)?;
+    push_marked(kept, numbers, marks, first, end)
+}
+
+// Adds the numbers of some pixels, the marked ones' own.
+fn push_marked(
+    kept: &mut Vec<i64>,
+    numbers: &[i64],
+    marks: &[bool],
+    first: usize,
+    end: usize,
+) -> Result<(), OutOfMemory>
+    requires one_each { length marks.now ≡ length numbers.now }
+    requires order { first ≤ end }
+    requires inside { end ≤ length numbers.now }
+    ensures { OnOk result (kept.new.items ≡ kept.old.items
+        ++ map (number_if_marked numbers.now marks.now) (range_with_len first (end - first))) }
+{
+    for p in first..end {
+        kept.push(number_if(numbers, marks, p))?;
+    }
+    Ok(())
+}
+
+// The number of a pixel if it is marked, and else that of an undefined one.
+#[inline(always)]
+#[tactic(auto, unfolding(crate::specs::Stored::number_if_marked))]
+fn number_if(numbers: &[i64], marks: &[bool], p: usize) -> i64
+    requires one_each { length marks.now ≡ length numbers.now }
+    requires pixel { p < length numbers.now }
+    ensures { result ≡ number_if_marked numbers.now marks.now p }
+{
+    if marks[p] { numbers[p] } else { UNDEFINED }
+}
+
+// The first of some pixels that is marked, or their end where none is.
+fn first_marked(marks: &[bool], low: usize, high: usize) -> usize
+    requires order { low ≤ high }
+    requires inside { high ≤ length marks.now }
+    ensures low { low ≤ result }
+    ensures high { result ≤ high }
+    ensures none_before { AreUnmarked marks.now low result }
+{
+    let mut first = low;
+    while first < high && !marks[first] {
+        first += 1;
+    }
+    first
+}
+
+// The pixel after the last of some that is marked, or the first where none is.
+fn end_of_marked(marks: &[bool], low: usize, high: usize) -> usize
+    requires order { low ≤ high }
+    requires inside { high ≤ length marks.now }
+    ensures low { low ≤ result }
+    ensures high { result ≤ high }
+    ensures none_behind { AreUnmarked marks.now result high }
+{
+    let mut end = high;
+    while low < end && !marks[end - 1] {
         end -= 1;
     }
     end

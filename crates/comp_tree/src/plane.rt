@@ -164,14 +164,22 @@ impl Plane {
         self.pixels.set(p as usize, number_of(value));
     }
 
-    /// A second plane, in which the pixels that aren't marked are undefined. The one error is that memory was refused.
+    /// A second plane, in which the pixels that aren't marked are undefined. Where few are left it takes little memory. The one error is
+    /// that memory was refused.
     pub fn marked(&self, alloc: Global, marks: &[bool]) -> Result<Plane, OutOfMemory>
         requires one_each { length marks.now ≡ length self.now.values }
         ensures { IfOk result (λ plane. plane ≡ without_unmarked self.now marks.now) }
     {
+        // for its clauses alone: how many pixels there are
+        let _count = self.shape.pixels();
+        if let Some(pixels) = self.pixels.marked_in_blocks(alloc, marks)? {
+            return Ok(Plane {
+                shape: self.shape,
+                pixels,
+            });
+        }
         let mut copy = self.copied(alloc)?;
         copy.clear_unmarked(marks);
-        copy.compact(alloc)?;
         Ok(copy)
     }
 

@@ -125,6 +125,24 @@ fn defined_pixels_are_found(rt: HostRuntime) -> Result<(), Fail> {
     Ok(())
 }
 
+// Of the marked pixels a second plane is made, in blocks where they are few, and with a number for each pixel where they are many.
+#[test]
+fn marked_pixels_stay(rt: HostRuntime) -> Result<(), Fail> {
+    let plane = plane_of_few(rt.alloc())?;
+    let mut marks = vec![in rt.alloc(); false; 70]?;
+    marks[36] = true;
+    marks[37] = true;
+    if plane.shape().pixels() == 70 {
+        let near = plane.marked(rt.alloc(), &marks)?;
+        assert_eq!(rt; sums_of_defined(&near), (37, 8));
+    }
+    let shape = Shape::of(3, 1).ok_or("a shape")?;
+    let full = Plane::of(rt.alloc(), shape, &[Some(4), Some(3), Some(1)])?.ok_or("a plane")?;
+    let part = full.marked(rt.alloc(), &[true, false, true])?;
+    assert_eq!(rt; sums_of_defined(&part), (2, 5));
+    Ok(())
+}
+
 // Where many are defined, it stays as it is.
 #[test]
 fn a_full_plane_stays(rt: HostRuntime) -> Result<(), Fail> {

@@ -7,7 +7,7 @@ use mir.Val.{to_z, of_z}
 use Rattle.comp_tree.specs.declared.shape.Connect.{Connect}
 use Rattle.comp_tree.specs.declared.tree.NodeRow.{NodeRow}
 use Rattle.comp_tree.specs.Limits.{IsWithinRange}
-use Rattle.comp_tree.specs.Raster.{Raster, IsPlane, HasValuesInRange, pixels, value_at}
+use Rattle.comp_tree.specs.Raster.{Raster, IsPlane, HasValuesInRange, HasGap, pixels, value_at}
 use Rattle.comp_tree.specs.ComponentTree.{ComponentTree, no_node}
 use Rattle.comp_tree.specs.Components.{tree_of}
 use Rattle.node_sums.specs.declared.entry.Sums.{Sums}
@@ -131,6 +131,11 @@ pub turn_undefined : (r : Raster) (node_of : List ℕ) (outlines : List Outline)
     → AreOutlinesOf (AreOwnTo r node_of (p + 1)) outlines
 turn_undefined r node_of outlines p h e =
     record { sums = h.sums; outlines_are = h.outlines_are; holds = Passes.to_next_undefined r node_of h.sums p h.holds e }
+
+pub outlines_to_next_defined : (r : Raster) (node_of : List ℕ) (outlines : List Outline) (n m : ℕ) → AreOutlinesOf (AreOwnTo r node_of n) outlines
+    → n ≤ m → HasGap r.values n m → AreOutlinesOf (AreOwnTo r node_of m) outlines
+outlines_to_next_defined r node_of outlines n m h le gap =
+    record { sums = h.sums; outlines_are = h.outlines_are; holds = Passes.to_next_defined r node_of h.sums n m h.holds le gap }
 
 pub outlines_all : (r : Raster) (node_of : List ℕ) (n : ℕ) (outlines : List Outline) → n ≡ length r.values → AreOutlinesOf (AreOwnTo r node_of n) outlines
     → AreOutlinesOf (AreOwn r node_of (pixels r)) outlines

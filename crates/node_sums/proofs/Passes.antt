@@ -15,7 +15,7 @@ use mir.Val.{to_z, of_z}
 use Rattle.comp_tree.specs.declared.shape.Connect.{Connect}
 use Rattle.comp_tree.specs.declared.tree.NodeRow.{NodeRow}
 use Rattle.comp_tree.specs.Limits.{IsWithinRange}
-use Rattle.comp_tree.specs.Raster.{Raster, IsPlane, HasValuesInRange, pixels, is_defined, level, value_at}
+use Rattle.comp_tree.specs.Raster.{Raster, IsPlane, HasValuesInRange, HasGap, pixels, is_defined, level, value_at}
 use Rattle.comp_tree.specs.ComponentTree.{ComponentTree, parent_in, no_node}
 use Rattle.comp_tree.specs.Components.{nodes, node_of, is_in_node, tree_of}
 use Rattle.comp_tree.specs.Nesting.{pixels_of}
@@ -224,9 +224,9 @@ turn_from_code r node_of sums first row column p v got d pixel h begins at withi
     place : p ≡ row * r.shape.width + column
     place = at ∙ ap (λ (n : ℕ). n + column) begins
 
--- a pixel of a row is one of the plane's
-pub in_plane : (r : Raster) (row column : ℕ) → IsPlane r → row < r.shape.height → column < r.shape.width → row * r.shape.width + column < length r.values
-in_plane r row column plane below within =
+-- the pixels of a row are pixels of the plane
+pub row_in_plane : (r : Raster) (row : ℕ) → IsPlane r → row < r.shape.height → row * r.shape.width + r.shape.width ≤ length r.values
+row_in_plane r row plane below =
     let rows : suc row * r.shape.width ≤ r.shape.height * r.shape.width =
     mul-le (suc row) r.shape.width r.shape.height r.shape.width (omega arith) (omega arith) in
     let next : suc row * r.shape.width ≡ row * r.shape.width + r.shape.width = suc-mul row r.shape.width in
@@ -299,6 +299,26 @@ to_next_undefined r node_of sums p h e = record {
   own = turn_undefined r node_of sums p h.own e;
   small = small_undefined r p h.small e;
 }
+
+-- what a pixel without a value carries on, pixels without values carry on
+carried_over : (values : List (Option ℤ)) (Holds : ℕ → Type 0) → ((p : ℕ) → value_at values p ≡ None → Holds p → Holds (p + 1))
+    → (k n : ℕ) → HasGap values n (n + k) → Holds n → Holds (n + k)
+carried_over values Holds step zero n gap h = subst Holds (let same : n ≡ n + 0 = omega arith in same) h
+carried_over values Holds step (suc k) n gap h =
+    subst Holds (let same : n + 1 + k ≡ n + suc k = omega arith in same)
+    (carried_over values Holds step k (n + 1) (λ p low below. gap p (omega (arith, low)) (omega (arith, below)))
+    (step n (gap n (omega arith) (omega arith)) h))
+
+over_gap : (values : List (Option ℤ)) (Holds : ℕ → Type 0) → ((p : ℕ) → value_at values p ≡ None → Holds p → Holds (p + 1))
+    → (n m : ℕ) → n ≤ m → HasGap values n m → Holds n → Holds m
+over_gap values Holds step n m le gap h =
+    let end : n + (m - n) ≡ m = omega arith in
+    subst Holds end (carried_over values Holds step (m - n) n (λ p low below. gap p low (omega (arith, below, end))) h)
+
+pub to_next_defined : (r : Raster) (node_of : List ℕ) (sums : List Sums) (n m : ℕ) → AreOwnTo r node_of n sums → n ≤ m → HasGap r.values n m
+    → AreOwnTo r node_of m sums
+to_next_defined r node_of sums n m h le gap =
+    over_gap r.values (λ k. AreOwnTo r node_of k sums) (λ p e own. to_next_undefined r node_of sums p own e) n m le gap h
 
 -- when all pixels were read, the values are in the range
 pub range_from_small : (r : Raster) (n : ℕ) → length r.values ≤ n → ((q : ℕ) → q < n → IsUpTo value_bound (level r q)) → HasValuesInRange r.values

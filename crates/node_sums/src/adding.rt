@@ -51,7 +51,7 @@ fn add_pixels(plane: &Plane, node_of: &[u32], sums: &mut [Sums])
     }
 }
 
-// Adds the defined pixels of one row, counted from 0. All rows before it were added.
+// Adds the defined pixels of one row, counted from 0, going from one to the next. All rows before it were added.
 fn add_row(plane: &Plane, node_of: &[u32], width: u32, row: u32, sums: &mut [Sums])
     requires nodes { (p : ℕ) → IsTrue (is_defined plane.now p)
         → slice_index node_of.now p < length sums.old }
@@ -63,13 +63,15 @@ fn add_row(plane: &Plane, node_of: &[u32], width: u32, row: u32, sums: &mut [Sum
     ensures { AreOwnTo plane.now node_of.now (row * width + width) sums.new }
 {
     let first = row * width;
-    for column in 0..width {
-        let p = first + column;
+    let end = first + width;
+    let mut p = plane.next_defined(first, end);
+    while p < end {
         if let Some(value) = plane.get(p) {
             let n = node_of[p as usize] as usize;
-            let pixel = Sums::of_pixel(column + 1, row + 1, p, value);
+            let pixel = Sums::of_pixel(p - first + 1, row + 1, p, value);
             sums[n] = sums[n].together(&pixel);
         }
+        p = plane.next_defined(p + 1, end);
     }
 }
 

@@ -1,11 +1,11 @@
 -- Which pixels are canonical, by the links as the code reads them, and the list of these pixels.
 use Rattle.std.proofs.Common.{◌≡◌, ◌≢◌, ℕ, zero, suc, ◌+◌, ◌-◌, ◌<◌, Bool, true, false, cond, ◌&&◌, ◌||◌, not, List, [], ◌∷◌, ◌++◌, length, get_or, refl, sym}
 use Rattle.std.proofs.Common.{ap, ◌∙◌, inl, inr, ◌⊎◌, arith}
-use Rattle.std.specs.Prelude.{IsTrue, IsFalse, ◌==◌, filter}
+use Rattle.std.specs.Prelude.{IsTrue, IsFalse, ◌==◌, ◌≤◌, ℤ, Option, None, is_some, filter}
 use Rattle.std.specs.List.{range_with_len}
 use Rattle.std.proofs.lemmas.Bool.{true≢false, eq-eqb}
 use Rattle.std.proofs.lemmas.List.{get_or_default, append-nil}
-use Rattle.comp_tree.specs.Raster.{Raster, value_at, is_defined, is_at_least, level, pixels}
+use Rattle.comp_tree.specs.Raster.{Raster, HasGap, value_at, is_defined, is_at_least, level, pixels}
 use Rattle.comp_tree.specs.Forest.{no_node, IsWithin, ComesEarlier, link_of, IsForest}
 use Rattle.comp_tree.proofs.Exported.{before_defined}
 use Rattle.tree_canon.specs.Canonical.{is_canonical}
@@ -94,6 +94,25 @@ listed-yes r links n xs e is =
 pub listed-no : (r : Raster) (links : List ℕ) (n : ℕ) (xs : List ℕ) → xs ≡ listed r links n → is_canonical r links n ≡ false → xs ≡ listed r links (n + 1)
 listed-no r links n xs e not_so =
     e ∙ sym (listed_one r links n ∙ ap (λ (b : Bool). listed r links n ++ cond b (n ∷ []) []) not_so ∙ append-nil (listed r links n))
+
+-- an undefined pixel is not canonical
+not_canonical : (r : Raster) (links : List ℕ) (p : ℕ) → value_at r.values p ≡ None → is_canonical r links p ≡ false
+unfolding is_canonical
+not_canonical r links p e =
+    ap (λ (o : Option ℤ). is_some o && (link_of 0 links p == no_node || not (is_at_least r (level r p) (link_of 0 links p)))) e
+
+-- pixels without a value add nothing
+listed_over : (r : Raster) (links : List ℕ) (k n : ℕ) (xs : List ℕ) → HasGap r.values n (n + k) → xs ≡ listed r links n → xs ≡ listed r links (n + k)
+listed_over r links zero n xs gap e = e ∙ ap (listed r links) (let same : n ≡ n + 0 = omega arith in same)
+listed_over r links (suc k) n xs gap e =
+    listed_over r links k (n + 1) xs (λ p low below. gap p (omega (arith, low)) (omega (arith, below)))
+    (listed-no r links n xs e (not_canonical r links n (gap n (omega arith) (omega arith))))
+    ∙ ap (listed r links) (let same : n + 1 + k ≡ n + suc k = omega arith in same)
+
+pub listed-gap : (r : Raster) (links : List ℕ) (n m : ℕ) (xs : List ℕ) → n ≤ m → HasGap r.values n m → xs ≡ listed r links n → xs ≡ listed r links m
+listed-gap r links n m xs le gap e =
+    let end : n + (m - n) ≡ m = omega arith in
+    listed_over r links (m - n) n xs (λ p low below. gap p low (omega (arith, below, end))) e ∙ ap (listed r links) end
 
 pub listed-all : (r : Raster) (links : List ℕ) (n : ℕ) (xs : List ℕ) → n ≡ length r.values → xs ≡ listed r links n
     → xs ≡ filter (is_canonical r links) (pixels r)

@@ -13,7 +13,7 @@ use comp_tree::{NONE, NodeRow, Plane};
 use costs::OutOfMemory;
 use std::alloc::Global;
 
-// The canonical pixels, in the order of pixel numbers.
+// The canonical pixels, in the order of pixel numbers. Each is defined, so it is enough to go from one defined pixel to the next.
 pub(crate) fn find_canonical(
     alloc: Global,
     plane: &Plane,
@@ -24,10 +24,13 @@ pub(crate) fn find_canonical(
     ensures { IfOk result (λ found. found.items ≡ filter (is_canonical_in plane.now links.now) (all_pixels plane.now)) }
 {
     let mut found = Vec::new(alloc);
-    for p in 0..plane.shape().pixels() {
+    let count = plane.shape().pixels();
+    let mut p = plane.next_defined(0, count);
+    while p < count {
         if is_canonical(plane, links, p) {
             found.push(p)?;
         }
+        p = plane.next_defined(p + 1, count);
     }
     Ok(found)
 }

@@ -1,9 +1,14 @@
-use Rattle.std.proofs.Common.{◌≡◌, ◌+◌, length}
+use Rattle.std.proofs.Common.{◌≡◌, ◌-◌, ◌≤◌, length}
 use Rattle.node_sums.specs.Merging.{AreOwnTo}
 use Rattle.node_sums.proofs.adding.add_row.Given as goal
 
-abbrev pub invariant-loop-column : goal.invariant-loop-column
-invariant-loop-column l = record {
-  own : AreOwnTo l.plane l.node_of (l.first + l.column) l.sums;
+abbrev pub invariant-loop-p : goal.invariant-loop-p
+invariant-loop-p l = record {
+  own : AreOwnTo l.plane l.node_of l.p l.sums;
   same_length : length l.sums ≡ length l.fn.sums;
+  low : l.first ≤ l.p;
+  high : l.p ≤ l.end;
 }
+
+abbrev pub decreases-loop-p : goal.decreases-loop-p
+decreases-loop-p l = l.end - l.p

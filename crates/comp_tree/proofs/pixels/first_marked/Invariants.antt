@@ -1,0 +1,13 @@
+use Rattle.comp_tree.specs.Stored.{AreUnmarked}
+use Rattle.std.proofs.Common.{◌≤◌, ◌-◌}
+use Rattle.comp_tree.proofs.pixels.first_marked.Given as goal
+
+abbrev pub invariant-loop-first : goal.invariant-loop-first
+invariant-loop-first l = record {
+  low : l.low ≤ l.first;
+  high : l.first ≤ l.high;
+  none : AreUnmarked l.marks l.low l.first;
+}
+
+abbrev pub decreases-loop-first : goal.decreases-loop-first
+decreases-loop-first l = l.high - l.first
