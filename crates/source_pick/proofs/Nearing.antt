@@ -8,7 +8,6 @@ use Rattle.std.proofs.lemmas.List.{length-map, length-set, get_or-set_same, get_
 use Rattle.std.proofs.lemmas.List.FromFn.{get_or-map-range_with_len, length-range_with_len}
 use Rattle.lemmas.proofs.Exported.{IsAmong, IsWitness, among_from_filter, among_from_range, same_bool, witness_from_any}
 use Rattle.comp_tree.specs.declared.shape.Connect.{Connect}
-use Rattle.comp_tree.specs.declared.shape.Shape.{Shape}
 use Rattle.comp_tree.specs.Raster.{Raster, IsPlane, pixels, value_at, is_defined, is_at_least, without_unmarked}
 use Rattle.comp_tree.specs.Grid.{distance, are_neighbours}
 use Rattle.comp_tree.proofs.Exported.{are_neighbours_comm, defined_from_at_least, below_from_defined}

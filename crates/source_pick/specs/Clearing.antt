@@ -1,8 +1,8 @@
--- Bookkeeping: which pixels have been marked, and which have been made undefined, while those far from the threshold are cleared.
-use Rattle.std.specs.Prelude.{◌≡◌, ℕ, ◌<◌, ◌+◌, ◌-◌, ◌≤◌, Bool, true, false, IsTrue, List, length, ◌⊎◌, slice_index_or, None, ℤ, map, cond}
+-- Bookkeeping: which pixels have been marked so far, while those near the pixels of at least the threshold are looked for.
+use Rattle.std.specs.Prelude.{◌≡◌, ℕ, ◌<◌, ◌+◌, ◌-◌, ◌≤◌, Bool, true, false, IsTrue, List, length, ◌⊎◌, slice_index_or, ℤ}
 use Rattle.comp_tree.specs.declared.shape.Connect.{Connect}
 use Rattle.comp_tree.specs.declared.shape.Connect.TheVariants.{Four, Eight}
-use Rattle.comp_tree.specs.Raster.{Raster, pixels, value_at, is_defined, is_at_least}
+use Rattle.comp_tree.specs.Raster.{Raster, is_defined, is_at_least}
 use Rattle.comp_tree.specs.Grid.{are_neighbours}
 use Rattle.source_pick.specs.Locality.{is_near_high}
 

@@ -40,10 +40,28 @@ pub fn clear_far<R: Threads + Sync>(
     if !has_below(plane, threshold) {
         return Ok(());
     }
+    *plane = near(rt, alloc, plane, connect, threshold, parts)?;
+    Ok(())
+}
+
+/// The plane of the pixels near those of at least the threshold (what `clear_far` leaves), beside the plane itself.
+///
+/// The pixels are looked for in `parts` bands, as by `clear_far`. The one error is that memory was refused.
+pub fn near<R: Threads + Sync>(
+    rt: &R,
+    alloc: Global,
+    plane: &Plane,
+    connect: Connect,
+    threshold: i64,
+    parts: u32,
+) -> Result<Plane, OutOfMemory>
+    ensures kept { IfOk result (λ near. near ≡ kept plane.now connect threshold) }
+    ensures same { IfOk result (λ near. (choice : Choice) → choice.threshold ≡ threshold
+        → HaveSameSources plane.now near connect choice) }
+{
     let size = band_size(plane.shape(), parts);
     let marks = near_marks(rt, alloc, plane, connect, threshold, size)?;
-    *plane = plane.marked(alloc, &marks)?;
-    Ok(())
+    plane.marked(alloc, &marks)
 }
 
 // Whether a defined pixel is below the threshold. Mostly one of the first pixels is.

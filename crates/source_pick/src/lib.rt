@@ -15,6 +15,6 @@ mod tests;
 
 pub use catalogue::{CELLS_IN_ROW, CatRow, cells, row};
 pub use choice::Choice;
-pub use clearing::clear_far;
+pub use clearing::{clear_far, near};
 pub use picking::pick;
 pub use segmenting::{segment, segment_in_parts};

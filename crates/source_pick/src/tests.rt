@@ -242,6 +242,14 @@ fn what_is_left_of_a_sky(rt: HostRuntime) -> Result<(), Fail> {
     ];
     for (number, sky) in skies.iter().enumerate() {
         let mut plane = plane_of(rt.alloc(), 5, 4, &SKY)?;
+        let beside = near(
+            &rt,
+            rt.alloc(),
+            &plane,
+            sky.connect,
+            sky.threshold,
+            sky.parts,
+        )?;
         clear_far(
             &rt,
             rt.alloc(),
@@ -256,6 +264,12 @@ fn what_is_left_of_a_sky(rt: HostRuntime) -> Result<(), Fail> {
                 plane.get(p as u32).unwrap_or(0),
                 *value,
                 "pixel {p} of sky {number}"
+            );
+            assert!(rt; p < beside.shape().pixels() as usize);
+            assert_eq!(rt;
+                beside.get(p as u32).unwrap_or(0),
+                *value,
+                "pixel {p} of sky {number}, beside the sky"
             );
         }
     }
