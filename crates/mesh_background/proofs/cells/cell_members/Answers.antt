@@ -82,7 +82,8 @@ returns c =
     let cell = subst (λ (s : Shape). IsCell g.mesh s.width s.height c.args.cell b.left b.right b.top b.bottom) c.requires.shape c.cell-bounds.ensures in
     let plane : IsPlane r = c.shape-width.ensures.pixels ∙ ap (λ (s : Shape). s.width * s.height) c.shape-width.ensures.same in
     let low : b.top < b.bottom = c.cell-bounds.ensures.some_rows in
-    gather-end r g.mesh c.args.cell b.left b.right b.top b.bottom c.loop-y.y c.loop-y.members.items plane cell (omega (arith, low, c.loop-y.auto.y-end, c.loop-y-test.false)) c.loop-y.invariant
+    let y_is : c.loop-y.y ≡ b.bottom = omega (arith, low, c.loop-y.auto.y-end, c.loop-y-test.false) in
+    gather-end r g.mesh c.args.cell b.left b.right b.top b.bottom c.loop-y.y c.loop-y.members.items plane cell y_is c.loop-y.invariant
 
 pub cell-bounds-requires : goal.cell-bounds-requires
 cell-bounds-requires c = subst (λ (s : Shape). c.args.cell < cell_count c.args.grid.now.mesh s) (sym c.requires.shape) c.requires.cell
