@@ -6,8 +6,8 @@ ghost use Rattle.detect_top.specs.Words.{HasLimits};
 
 use crate::measuring::{measure_sources, put_measured};
 use comp_tree::{Connect, Plane, Shape};
-use detect_top::{Job, Order};
 use costs::OutOfMemory;
+use detect_top::{Job, Order};
 use dev_io::MemSink;
 use source_pick::Choice;
 use std::alloc::Global;

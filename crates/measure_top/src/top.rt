@@ -16,8 +16,8 @@ ghost use Rattle.measure_top.specs.MeasureAnswers.{measured_by, measured_of_two,
 use crate::images::{TwoPlanes, read_two};
 use crate::measuring::{Measured, measure_sources, put_measured};
 use comp_tree::Plane;
-use detect_top::{End, Job, MeasureOrder, Order, Stop, is_measure, read_measure, run, tell};
 use costs::OutOfMemory;
+use detect_top::{End, Job, MeasureOrder, Order, Stop, is_measure, read_measure, run, tell};
 use dev_io::{Sink, Source};
 use std::alloc::Global;
 use std::thread::Threads;
