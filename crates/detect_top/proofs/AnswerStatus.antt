@@ -3,9 +3,9 @@ use Rattle.std.proofs.Common.{ℕ, ◌≤◌, List, arith}
 use Rattle.std.specs.Prelude.{Result, Ok, Err, Option, Some, None}
 use Rattle.comp_tree.specs.Raster.{Raster}
 use Rattle.pixel_plane.specs.Verdicts.{Verdict, image, unfound, unreadable, truncated, out_of_range, verdict_on}
-use Rattle.detect_top.specs.declared.words.Order.{Order}
-use Rattle.detect_top.specs.declared.words.Usage.{Usage as AtFault}
-use Rattle.detect_top.specs.Words.{order_of}
+use Rattle.orders.specs.declared.words.Order.{Order}
+use Rattle.orders.specs.declared.words.Usage.{Usage as AtFault}
+use Rattle.orders.specs.Words.{order_of}
 use Rattle.detect_top.specs.Products.{image_made}
 use Rattle.detect_top.specs.Answers.{end_status, end_of}
 use Rattle.detect_top.specs.Streams.{stop_of}

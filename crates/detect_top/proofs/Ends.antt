@@ -10,7 +10,7 @@ use Rattle.comp_tree.specs.ComponentTree.{ComponentTree}
 use Rattle.comp_tree.specs.Components.{tree_of}
 use Rattle.node_sums.specs.Areas.{areas_in}
 use Rattle.pixel_plane.specs.Verdicts.{Verdict, verdict_on, taken_for}
-use Rattle.detect_top.specs.declared.words.Order.{Order}
+use Rattle.orders.specs.declared.words.Order.{Order}
 use Rattle.detect_top.specs.declared.top.End.{End}
 use Rattle.detect_top.specs.declared.top.End.TheVariants.{Done}
 use Rattle.detect_top.specs.Lines.{tree_lines, node_list}

@@ -8,10 +8,10 @@ use Rattle.comp_tree.specs.Raster.{Raster}
 use Rattle.comp_tree.specs.ComponentTree.{ComponentTree}
 use Rattle.comp_tree.specs.Components.{tree_of}
 use Rattle.mesh_background.specs.Residuals.{residual_of}
-use Rattle.detect_top.specs.declared.words.Order.{Order}
+use Rattle.orders.specs.declared.words.Order.{Order}
 use Rattle.detect_top.specs.declared.product.Product.{Product}
-use Rattle.detect_top.specs.declared.words.Job.{Job}
-use Rattle.detect_top.specs.declared.words.Job.TheVariants.{Tree, Filter, Detect, Trial}
+use Rattle.orders.specs.declared.words.Job.{Job}
+use Rattle.orders.specs.declared.words.Job.TheVariants.{Tree, Filter, Detect, Trial}
 use Rattle.detect_top.specs.Products.{output_of_job, output_of, image_made}
 use Rattle.detect_top.specs.Writables.{bytes_of, SuitsJob}
 use Rattle.detect_top.specs.Trials.{trial_image}

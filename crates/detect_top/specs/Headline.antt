@@ -8,11 +8,11 @@ use Rattle.dev_io.specs.Streams.{Takes, TakesAtMost, AppendsPrefix}
 use Rattle.command_line.specs.Notes.{Noted}
 use Rattle.comp_tree.specs.Raster.{Raster}
 use Rattle.pixel_plane.specs.Verdicts.{Verdict, image, verdict_on, taken_for}
-use Rattle.detect_top.specs.declared.words.Order.{Order}
-use Rattle.detect_top.specs.declared.words.Usage.{Usage as AtFault}
+use Rattle.orders.specs.declared.words.Order.{Order}
+use Rattle.orders.specs.declared.words.Usage.{Usage as AtFault}
 use Rattle.detect_top.specs.declared.top.End.{End}
 use Rattle.detect_top.specs.declared.top.End.TheVariants.{Done, Usage, Refused}
-use Rattle.detect_top.specs.Words.{order_of}
+use Rattle.orders.specs.Words.{order_of}
 use Rattle.detect_top.specs.Faults.{IsCutShort}
 use Rattle.detect_top.specs.Answers.{end_status, note_of, end_of}
 use Rattle.detect_top.specs.Streams.{stop_of, memory_at_verdict}

@@ -1,6 +1,3 @@
-pub mod Options
-pub mod Words
-pub mod Given
 pub mod Faults
 pub mod Lines
 pub mod Catalogues

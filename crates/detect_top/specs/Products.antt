@@ -5,9 +5,9 @@ use Rattle.comp_tree.specs.Raster.{Raster}
 use Rattle.filter_rules.specs.Filtered.{filtered}
 use Rattle.fits_write.specs.Hdus.{plane_hdu}
 use Rattle.mesh_background.specs.Residuals.{residual_of}
-use Rattle.detect_top.specs.declared.words.Order.{Order}
-use Rattle.detect_top.specs.declared.words.Job.{Job}
-use Rattle.detect_top.specs.declared.words.Job.TheVariants.{Tree, Filter, Detect, Trial}
+use Rattle.orders.specs.declared.words.Order.{Order}
+use Rattle.orders.specs.declared.words.Job.{Job}
+use Rattle.orders.specs.declared.words.Job.TheVariants.{Tree, Filter, Detect, Trial}
 use Rattle.detect_top.specs.Lines.{node_list}
 use Rattle.detect_top.specs.Catalogues.{detected_hdus}
 use Rattle.detect_top.specs.Trials.{trial_image, summary_of, trial_line}

@@ -6,8 +6,8 @@ use Rattle.comp_tree.specs.Raster.{Raster}
 use Rattle.fits_write.specs.Columns.{IsTable}
 use Rattle.fits_write.specs.Hdus.{plane_hdu}
 use Rattle.catalogue_form.specs.Columns.{catalogue_columns}
-use Rattle.detect_top.specs.declared.words.Job.{Job}
-use Rattle.detect_top.specs.declared.words.Job.TheVariants.{Tree, Filter, Detect, Trial}
+use Rattle.orders.specs.declared.words.Job.{Job}
+use Rattle.orders.specs.declared.words.Job.TheVariants.{Tree, Filter, Detect, Trial}
 use Rattle.detect_top.specs.declared.product.Product.{Product}
 use Rattle.detect_top.specs.declared.product.Product.TheVariants as made
 use Rattle.detect_top.specs.Lines.{tree_lines}

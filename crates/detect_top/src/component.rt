@@ -3,12 +3,12 @@ ghost use Rattle.std.specs.Prelude.{◌≡◌, ◌≤◌, IfOk};
 ghost use Rattle.comp_tree.specs.Components.{tree_of};
 ghost use Rattle.comp_tree.specs.Raster.{HasValuesInHalfRange};
 ghost use Rattle.mesh_background.specs.Residuals.{residual_of};
-ghost use Rattle.detect_top.specs.Words.{HasLimits};
+ghost use Rattle.orders.specs.Words.{HasLimits};
 
-use crate::Order;
 use comp_tree::{Plane, Tree};
 use costs::OutOfMemory;
 use mesh_background::subtract_background;
+use orders::Order;
 use std::alloc::Global;
 use std::thread::Threads;
 use strip_crew::{Gate, even_cut, flood_all};

@@ -1,8 +1,5 @@
-//! The command `detect`: its words, its map and its catalogue.
+//! The command `detect`: its map and its catalogue.
 use crate::in_memory::{Row, append_cards, append_hdu, compare};
-use crate::{Job, Order, Usage, read_words};
-use comp_tree::Connect;
-use source_pick::Choice;
 use std::alloc::Global;
 use std::process::Abort;
 use std::test::Fail;
@@ -233,41 +230,4 @@ fn an_image_without_pixels_has_an_empty_catalogue(rt: HostRuntime) -> Result<(),
         rows: &[],
     };
     compare_sources(&rt, rt.alloc(), case)
-}
-
-#[test]
-fn words_of_a_detection_are_read(rt: HostRuntime) -> Result<(), Fail> {
-    let cases: [(&[&str], u32); 7] = [
-        (&["detect"], 2),
-        (&["detect", "--threshold"], 3),
-        (&["detect", "--contrast", "5"], 4),
-        (&["detect", "--rule", "min"], 2),
-        (&["detect", "--contrast", "1001"], 3),
-        (&["detect", "--threshold", "137438953473"], 3),
-        (&["detect", "--min-flux", "4611686018427387905"], 3),
-    ];
-    for (words, word) in cases {
-        assert_eq!(rt; read_words(words), Err(Usage { word }));
-    }
-    let order = Order {
-        job: Job::Detect {
-            choice: Choice {
-                threshold: -137438953472,
-                min_area: 1,
-                min_flux: 0,
-                contrast: 5,
-            },
-        },
-        hdu: 0,
-        connect: Connect::Four,
-        strips: 1,
-        workers: 1,
-        mesh: 0,
-        flat: false,
-    };
-    assert_eq!(rt;
-        read_words(&["detect", "--threshold", "-137438953472"]),
-        Ok(order)
-    );
-    Ok(())
 }

@@ -8,11 +8,9 @@ mod image;
 pub mod laws;
 mod lines;
 mod notes;
-mod options;
 mod product;
 mod top;
 mod trial;
-mod words;
 
 pub use component::{component_tree, residual_plane};
 pub use fault::Fault;
@@ -22,7 +20,6 @@ pub use lines::put_tree;
 pub use notes::tell;
 pub use top::{End, run};
 pub use trial::{Summary, put_trial};
-pub use words::{Job, MeasureOrder, Order, Usage, is_measure, read_measure, read_words};
 
 #[cfg(test)]
 mod detection_tests;
@@ -34,8 +31,6 @@ mod filter_tests;
 mod header_tests;
 #[cfg(test)]
 mod in_memory;
-#[cfg(test)]
-mod measure_words_tests;
 #[cfg(test)]
 mod strips_tests;
 #[cfg(test)]

@@ -1,9 +1,10 @@
 //! Flooded and joined strips beside the plain way, and two workers at once.
 use crate::component::component_tree;
 use crate::in_memory::file;
-use crate::{Job, Order, run};
+use crate::run;
 use comp_tree::{Connect, Plane, Shape, plain_tree};
 use dev_io::{MemSink, PlainSource};
+use orders::{Job, Order};
 use std::alloc::Global;
 use std::sync::atomic::AtomicBool;
 use std::sync::atomic::Ordering::SeqCst;

@@ -1,14 +1,6 @@
 //! What `tree` answers: lines, refusals and the bytes taken.
 use crate::in_memory::{Row, compare};
-use crate::{Usage, read_words};
 use std::test::Fail;
-
-// Words that give no order, and the number of the first one at fault.
-#[derive(Clone, Copy)]
-struct WrongWord<'a> {
-    words: &'a [&'a str],
-    word: u32,
-}
 
 // Words that give no order, and the line that says so.
 #[derive(Clone, Copy)]
@@ -549,116 +541,6 @@ fn random_groups_are_refused(rt: HostRuntime) -> Result<(), Fail> {
     ];
     for row in rows {
         compare(&rt, rt.alloc(), row)?;
-    }
-    Ok(())
-}
-
-#[test]
-fn each_wrong_name_is_found(rt: HostRuntime) -> Result<(), Fail> {
-    let cases: [WrongWord; 6] = [
-        WrongWord {
-            words: &[],
-            word: 1,
-        },
-        WrongWord {
-            words: &["draw"],
-            word: 1,
-        },
-        WrongWord {
-            words: &["tree", "--rows", "1"],
-            word: 2,
-        },
-        WrongWord {
-            words: &["tree", "--rule", "min"],
-            word: 2,
-        },
-        WrongWord {
-            words: &["tree", "--hdu", "1", "--hdu", "1"],
-            word: 4,
-        },
-        WrongWord {
-            words: &["tree", "--mesh", "2", "--mesh", "2"],
-            word: 4,
-        },
-    ];
-    for case in cases {
-        assert_eq!(rt; read_words(case.words), Err(Usage { word: case.word }));
-    }
-    Ok(())
-}
-
-#[test]
-fn each_wrong_value_is_found(rt: HostRuntime) -> Result<(), Fail> {
-    let cases: [WrongWord; 9] = [
-        WrongWord {
-            words: &["tree", "--hdu", "65536"],
-            word: 3,
-        },
-        WrongWord {
-            words: &["tree", "--hdu", "+1"],
-            word: 3,
-        },
-        WrongWord {
-            words: &["tree", "--connect", "6"],
-            word: 3,
-        },
-        WrongWord {
-            words: &["tree", "--strips", "0"],
-            word: 3,
-        },
-        WrongWord {
-            words: &["tree", "--workers", "65"],
-            word: 3,
-        },
-        WrongWord {
-            words: &["tree", "--mesh", "65536"],
-            word: 3,
-        },
-        WrongWord {
-            words: &["trial", "--flat", "2"],
-            word: 3,
-        },
-        WrongWord {
-            words: &["filter", "--rule", "middle"],
-            word: 3,
-        },
-        WrongWord {
-            words: &["filter", "--rule", "min", "--min-fill", "1001"],
-            word: 5,
-        },
-    ];
-    for case in cases {
-        assert_eq!(rt; read_words(case.words), Err(Usage { word: case.word }));
-    }
-    Ok(())
-}
-
-#[test]
-fn each_missing_word_is_found(rt: HostRuntime) -> Result<(), Fail> {
-    let cases: [WrongWord; 5] = [
-        WrongWord {
-            words: &["tree", "--hdu"],
-            word: 3,
-        },
-        WrongWord {
-            words: &["tree", "--strips"],
-            word: 3,
-        },
-        WrongWord {
-            words: &["tree", "--hdu", "-0", "--connect"],
-            word: 5,
-        },
-        WrongWord {
-            words: &["filter"],
-            word: 2,
-        },
-        WrongWord {
-            words: &["filter", "--min-area", "2", "--max-area", "2"],
-            word: 6,
-        },
-    ];
-    for case in cases {
-        assert_eq!(rt; read_words(case.words), Err(Usage { word: case.word }));
     }
     Ok(())
 }

@@ -90,27 +90,6 @@ fn a_trial_leaves_the_input(rt: HostRuntime) -> Result<(), Fail> {
     Ok(())
 }
 
-#[test]
-fn each_wrong_word_of_a_trial_is_named(rt: HostRuntime) -> Result<(), Fail> {
-    let cases: [(&[&str], u32); 6] = [
-        (&["trial", "--width", "1", "--height", "1"], 6),
-        (
-            &[
-                "trial", "--seed", "1", "--width", "65535", "--height", "65535",
-            ],
-            8,
-        ),
-        (&["trial", "--seed", "1", "--width", "1"], 6),
-        (&["trial", "--hdu", "0"], 2),
-        (&["trial", "--seed", "4294967296"], 3),
-        (&["tree", "--width", "1"], 2),
-    ];
-    for (words, word) in cases {
-        assert_eq!(rt; read_words(words), Err(Usage { word }));
-    }
-    Ok(())
-}
-
 // The line was found by another program. It doesn't depend on how many strips and workers there are.
 #[test]
 fn a_large_trial_has_one_line(rt: HostRuntime) -> Result<(), Fail> {

@@ -2,9 +2,9 @@
 use Rattle.std.proofs.Common.{◌≡◌, ◌∙◌, ℕ, ◌≤◌, Bool, true, false, cond, List, sym, ap, subst, arith, Result, Ok, Err}
 use Rattle.std.specs.declared.option.Option.{Option}
 use Rattle.dev_io.specs.Streams.{Takes}
-use Rattle.detect_top.specs.declared.words.MeasureOrder.{MeasureOrder}
-use Rattle.detect_top.specs.declared.words.Usage.{Usage as AtFault}
-use Rattle.detect_top.specs.Words.{asks_measure, measure_order_of}
+use Rattle.orders.specs.declared.words.MeasureOrder.{MeasureOrder}
+use Rattle.orders.specs.declared.words.Usage.{Usage as AtFault}
+use Rattle.orders.specs.Words.{asks_measure, measure_order_of}
 use Rattle.detect_top.specs.Answers.{end_status, end_of}
 use Rattle.detect_top.specs.RunEnds.{AllRead}
 use Rattle.detect_top.specs.Headline.{asked_of}

@@ -10,7 +10,7 @@ use Rattle.fits_write.specs.Columns.{IsTable}
 use Rattle.source_pick.specs.declared.choice.Choice.{Choice}
 use Rattle.source_pick.specs.Sources.{sources}
 use Rattle.dual_measure.specs.Measures.{IsPlanesTree}
-use Rattle.detect_top.specs.declared.words.Order.{Order}
+use Rattle.orders.specs.declared.words.Order.{Order}
 use Rattle.measure_top.specs.declared.measuring.Measured.{Measured}
 use Rattle.measure_top.specs.declared.picking_near.PickedNode.{PickedNode}
 use Rattle.measure_top.specs.MeasuredCatalogues.{measured_hdus, rows_with_measures, measured_sources, measured_output}

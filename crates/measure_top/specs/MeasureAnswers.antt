@@ -1,12 +1,12 @@
 -- Model: what words that ask for measuring ask of an input, and what any words ask.
 use Rattle.std.specs.Prelude.{ℕ, true, List, [], min, max, nat_lt, Result, Ok, Err, if◌then◌else◌}
 use Rattle.comp_tree.specs.Raster.{Raster}
-use Rattle.detect_top.specs.declared.words.Order.{Order}
-use Rattle.detect_top.specs.declared.words.Job.{Job}
-use Rattle.detect_top.specs.declared.words.Job.TheVariants.{Detect}
-use Rattle.detect_top.specs.declared.words.MeasureOrder.{MeasureOrder}
-use Rattle.detect_top.specs.declared.words.Usage.{Usage as AtFault}
-use Rattle.detect_top.specs.Words.{asks_measure, measure_order_of}
+use Rattle.orders.specs.declared.words.Order.{Order}
+use Rattle.orders.specs.declared.words.Job.{Job}
+use Rattle.orders.specs.declared.words.Job.TheVariants.{Detect}
+use Rattle.orders.specs.declared.words.MeasureOrder.{MeasureOrder}
+use Rattle.orders.specs.declared.words.Usage.{Usage as AtFault}
+use Rattle.orders.specs.Words.{asks_measure, measure_order_of}
 use Rattle.detect_top.specs.Answers.{end_of}
 use Rattle.detect_top.specs.Headline.{Answer, Asked, asked_nothing, asked_of}
 use Rattle.measure_top.specs.TwoImages.{TwoVerdict, two_images, verdict_on_two, taken_for_two, stop_of_two, memory_at_two}

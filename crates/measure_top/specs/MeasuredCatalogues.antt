@@ -14,7 +14,7 @@ use Rattle.source_pick.specs.Segmentation.{segmentation}
 use Rattle.source_pick.specs.Catalogue.{catalogue_row}
 use Rattle.dual_measure.specs.Measures.{measure_of, back_of}
 use Rattle.dual_measure.specs.Columns.{measured_cells_of}
-use Rattle.detect_top.specs.declared.words.Order.{Order}
+use Rattle.orders.specs.declared.words.Order.{Order}
 
 -- the HDUs one behind the other
 abbrev pub measured_hdus : Shape → List ℕ → List ℤ → List ℕ

@@ -8,7 +8,6 @@ mod measuring;
 mod picking_near;
 mod top;
 
-pub use detect_top::{MeasureOrder, read_measure};
 pub use top::run_all;
 
 #[cfg(test)]

@@ -2,13 +2,13 @@
 ghost use Rattle.std.specs.Prelude.{◌≡◌, IfOk, IfSome};
 ghost use Rattle.comp_tree.specs.Limits.{IsInHalfRange};
 ghost use Rattle.comp_tree.specs.Raster.{HasValuesInHalfRange};
-ghost use Rattle.detect_top.specs.Words.{HasLimits};
+ghost use Rattle.orders.specs.Words.{HasLimits};
 
 use crate::measuring::{measure_sources, put_measured};
 use comp_tree::{Connect, Plane, Shape};
 use costs::OutOfMemory;
-use detect_top::{Job, Order};
 use dev_io::MemSink;
+use orders::{Job, Order};
 use source_pick::Choice;
 use std::alloc::Global;
 use std::process::Abort;

@@ -8,13 +8,14 @@ ghost use Rattle.comp_tree.specs.Laws.{top_of};
 ghost use Rattle.node_sums.specs.Sums.{IsTreeOfPlane, AreTheTrees, ForEachPlaneOf};
 ghost use Rattle.source_pick.specs.Catalogue.{catalogue_row, FitsColumns};
 ghost use Rattle.source_pick.specs.Segmentation.{AreDisjointNodes};
-ghost use Rattle.detect_top.specs.Words.{HasLimits};
+ghost use Rattle.orders.specs.Words.{HasLimits};
 ghost use Rattle.measure_top.specs.Picks.{AreNodesOf, AreSourcesOf, HaveFittingRows, CanBeListed, HaveBasesFrom};
 
 use comp_tree::{Connect, Plane, Tree};
 use costs::OutOfMemory;
-use detect_top::{Order, component_tree};
+use detect_top::component_tree;
 use node_sums::{Sums, sums};
+use orders::Order;
 use source_pick::{CatRow, Choice, near, pick, row, segment_in_parts};
 use std::alloc::Global;
 use std::thread::Threads;

@@ -17,9 +17,9 @@ use Rattle.pixel_plane.specs.Verdicts.{image, truncated, image_unless, image_beh
 use Rattle.mesh_background.specs.Residuals.{residual_of}
 use Rattle.mesh_background.specs.Laws.{ResidualIsPlane, ResidualIsInRange}
 use Rattle.source_pick.specs.declared.choice.Choice.{Choice}
-use Rattle.detect_top.specs.declared.words.Order.{Order}
-use Rattle.detect_top.specs.declared.words.Job.TheVariants.{Detect}
-use Rattle.detect_top.specs.Words.{order_of}
+use Rattle.orders.specs.declared.words.Order.{Order}
+use Rattle.orders.specs.declared.words.Job.TheVariants.{Detect}
+use Rattle.orders.specs.Words.{order_of}
 use Rattle.detect_top.specs.Products.{output_of_job, output_of, image_made}
 use Rattle.detect_top.specs.Answers.{end_status}
 use Rattle.detect_top.specs.Headline.{Answer, answer_to_verdict, asked_for, asked_by, answer_to_words}

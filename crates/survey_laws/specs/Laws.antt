@@ -10,9 +10,9 @@ use Rattle.source_pick.specs.Sources.{sources}
 use Rattle.source_pick.specs.Segmentation.{segmentation}
 use Rattle.mesh_background.specs.Residuals.{residual_of}
 use Rattle.pixel_plane.specs.Verdicts.{image, verdict_on}
-use Rattle.detect_top.specs.declared.words.Order.{Order}
-use Rattle.detect_top.specs.declared.words.Job.TheVariants.{Detect}
-use Rattle.detect_top.specs.Words.{order_of}
+use Rattle.orders.specs.declared.words.Order.{Order}
+use Rattle.orders.specs.declared.words.Job.TheVariants.{Detect}
+use Rattle.orders.specs.Words.{order_of}
 use Rattle.detect_top.specs.Answers.{end_status}
 use Rattle.detect_top.specs.Headline.{answer_to_words}
 use Rattle.detect_top.specs.Catalogues.{catalogue_cells, detected_hdus}

@@ -1,0 +1,4 @@
+mod Places
+mod FewOptions
+mod Limits
+mod Shapes

@@ -1,0 +1,12 @@
+//! What the words ask for: the commands with their options, and the order that the words of a command give, or the first word at fault.
+#![tactic(auto)]
+
+mod options;
+mod words;
+
+pub use words::{Job, MeasureOrder, Order, Usage, is_measure, read_measure, read_words};
+
+#[cfg(test)]
+mod measure_tests;
+#[cfg(test)]
+mod tests;
