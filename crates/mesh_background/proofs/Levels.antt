@@ -3,9 +3,10 @@ use Rattle.std.proofs.Common.{◌≡◌, ℕ, ◌+◌, ◌-◌, ◌*◌, ◌/◌
 use Rattle.std.specs.Prelude.{ℤ, pos, neg_ℤ, ◌+ℤ◌, ◌*ℤ◌, ◌≤ℤ◌, All}
 use Rattle.std.specs.Int.{int_div_euclid}
 use Rattle.std.proofs.lemmas.Bool.{cases_lt}
-use Rattle.std.proofs.lemmas.Int.{ints}
+use Rattle.std.proofs.lemmas.Int.{ints, to_z-of_z}
 use Rattle.std.proofs.lemmas.List.{get_or_past}
 use Rattle.std.proofs.lemmas.Nat.{div-add-mod', mod_below, mul-le, mul-add-lt}
+use mir.Syntax.{w64}
 use native.Mathlib.Nat.{mul-add, add-mul}
 use Rattle.lemmas.proofs.Exported.{floor-from, floor-is, floor-up_to, times-sum, times-times}
 use Rattle.comp_tree.specs.Limits.{IsInHalfRange}
@@ -14,7 +15,7 @@ use Rattle.mesh_background.specs.Lessened.{IsHalfRangeTimes}
 use Rattle.mesh_background.specs.Smoothing.{number_in_grid}
 use Rattle.mesh_background.specs.Interpolation.{pixel_centre, next_cell, past_centre, cell_before, cell_after, part_way, down_column, interpolated}
 use Rattle.mesh_background.proofs.Scaling.{way-from, way-up_to}
-use Rattle.mesh_background.proofs.Fitting.{IsUpTo, up_to-way, up_to-low, up_to-high}
+use Rattle.mesh_background.proofs.Fitting.{IsUpTo, kept, up_to-fits, up_to-way, up_to-low, up_to-high}
 
 -- ---- along a side
 
@@ -142,6 +143,11 @@ half-up_to z h = record { low = h.low; high = h.high }
 pub times-up_to : (whole : ℕ) (z : ℤ) → IsHalfRangeTimes whole z → IsUpTo (whole * 2 ^ 36) z
 times-up_to whole z h = record { low = h.low; high = h.high }
 
+-- such a number fits its type, so it is kept
+pub times-kept : (mesh : ℕ) (z : ℤ) → mesh ≤ 65535 → IsHalfRangeTimes (2 * mesh) z → IsHalfRangeTimes (2 * mesh) (kept w64 z)
+times-kept mesh z few h =
+    subst (λ (y : ℤ). IsHalfRangeTimes (2 * mesh) y) (sym (to_z-of_z w64 z (up_to-fits w64 (2 * mesh * 2 ^ 36) z (omega (arith, few)) (times-up_to (2 * mesh) z h)))) h
+
 pub half-way : (whole part : ℕ) (p q : ℤ) → part ≤ whole → IsInHalfRange p → IsInHalfRange q → IsHalfRangeTimes whole (part_way whole part p q)
 half-way whole part p q le a b =
     let k : IsUpTo (whole * 2 ^ 36) (part_way whole part p q) = up_to-way whole part (2 ^ 36) p q le (half-up_to p a) (half-up_to q b) in
@@ -178,3 +184,10 @@ pub record IsPlaced (count mesh pixel before after past : ℕ) : Type 0 where
   pub before_is : before ≡ cell_before count mesh pixel
   pub after_is : after ≡ cell_after count mesh pixel
   pub past_is : past ≡ past_centre mesh pixel
+
+-- each of the two is a cell of the side
+pub placed-within : (count mesh pixel before after past : ℕ) → 0 < count → IsPlaced count mesh pixel before after past → (before < count) × (after < count)
+placed-within count mesh pixel before after past some h =
+    let b : before ≡ cell_before count mesh pixel = h.before_is in
+    let a : after ≡ cell_after count mesh pixel = h.after_is in
+    (omega (arith, b, some), omega (arith, a, some))

@@ -11,6 +11,7 @@ mod Slopes
 mod Residuals
 mod HalfRanges
 mod Lessening
+mod Rows
 mod Sides
 mod Seeing
 pub mod Exported

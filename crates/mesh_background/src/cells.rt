@@ -106,6 +106,7 @@ fn cell_members(
 }
 
 // Appends the values of the defined pixels from `first` up to `end`.
+#[inline(always)]
 fn push_values(
     plane: &Plane,
     first: u32,

@@ -228,7 +228,7 @@ fn lessen_run(plane: &mut Plane, first: u32, end: u32, number: i64)
 }
 
 // Takes a number away from the value of a pixel, if it is defined.
-#[inline]
+#[inline(always)]
 fn lessen(plane: &mut Plane, p: u32, number: i64)
     requires pixel { p < length plane.old.values }
     requires number { IsInHalfRange number }

@@ -1,4 +1,4 @@
-use Rattle.std.proofs.Common.{rules, ◌≡◌, ◌+◌, ◌-◌, ◌*◌, ◌<◌, ℕ, ℤ, List, length, sym, ap, subst, ◌∙◌, arith}
+use Rattle.std.proofs.Common.{rules, ◌≡◌, ◌+◌, ◌-◌, ◌*◌, ◌<◌, ◌≤◌, ℕ, ℤ, List, length, refl, sym, ap, subst, ◌∙◌, arith}
 use Rattle.std.proofs.lemmas.Int.{to_z-of_z}
 use mir.Syntax.{w64}
 use mir.Val.{SFits}
@@ -9,13 +9,14 @@ use Rattle.mesh_background.specs.declared.slope.Mixed.{Mixed}
 use Rattle.mesh_background.specs.Mesh.{cells_along, cell_count}
 use Rattle.mesh_background.specs.Interpolation.{cell_before, cell_after}
 use Rattle.mesh_background.specs.Residuals.{pixel_level}
-use Rattle.mesh_background.specs.Lessened.{IsLessened}
+use Rattle.mesh_background.specs.Lessened.{IsInHalfRangeFrom, IsLessened}
 use Rattle.mesh_background.specs.Slopes.{steps_on, first_before}
 use Rattle.mesh_background.proofs.Extents.{columns-some}
 use Rattle.mesh_background.proofs.Fitting.{kept}
-use Rattle.mesh_background.proofs.Levels.{past-below, cell-within, half-interpolated, IsPlaced}
+use Rattle.mesh_background.proofs.Levels.{past-below, cell-within, half-interpolated, times-kept, IsPlaced}
 use Rattle.mesh_background.proofs.Slopes.{IsRun, run-is, run-level, run-along}
 use Rattle.mesh_background.proofs.Lessening.{run-lessened}
+use Rattle.mesh_background.proofs.Rows.{place-fits, row-fits, row-inside, columns-few, run-order}
 use Rattle.mesh_background.proofs.subtraction.lessen_run_by_levels.Goals as goal
 
 -- the four cells have numbers
@@ -184,3 +185,124 @@ returns c =
     (c.args.y * r.shape.width + m) c.lessen_slope.new.plane) end
     (subst (λ (m : ℕ). IsLessened r (pixel_level g.mesh r.shape c.args.numbers.now) (c.args.y * r.shape.width + m) (c.args.y * r.shape.width + right)
     c.lessen_slope.new.plane) from all)
+
+pub run_start-left-requires : goal.run_start-left-requires
+run_start-left-requires c = let le : c.args.next ≤ c.args.grid.now.columns = c.requires.next in omega (arith, le)
+
+pub overflow_add-next : goal.overflow_add-next
+overflow_add-next c =
+    let g = c.args.grid.now in
+    let le : c.args.next ≤ g.columns = c.requires.next in
+    omega (arith, le, columns-few g.mesh g.shape.width g.columns g.some g.shape.within_limits.few_columns g.columns_is)
+
+pub run_start-right-requires : goal.run_start-right-requires
+run_start-right-requires c = let le : c.args.next ≤ c.args.grid.now.columns = c.requires.next in omega (arith, le)
+
+pub cells-across-requires-clause-some_cells : goal.cells-across-requires-clause-some_cells
+cells-across-requires-clause-some_cells c =
+    let g = c.args.grid.now in
+    subst (λ (n : ℕ). 0 < n) (sym g.columns_is) (columns-some g.mesh g.shape.width g.some g.shape.within_limits.some_columns)
+
+pub cells-across-requires-clause-some : goal.cells-across-requires-clause-some
+cells-across-requires-clause-some c = c.args.grid.now.some
+
+pub level_between-level-requires-clause-some : goal.level_between-level-requires-clause-some
+level_between-level-requires-clause-some c = c.args.grid.now.some
+
+pub step_between-step-requires-clause-some : goal.step_between-step-requires-clause-some
+step_between-step-requires-clause-some c = c.args.grid.now.some
+
+pub parts_of-requires-clause-some : goal.parts_of-requires-clause-some
+parts_of-requires-clause-some c = c.args.grid.now.some
+
+pub cells-across-requires-clause-few : goal.cells-across-requires-clause-few
+cells-across-requires-clause-few c = c.args.grid.now.few
+
+pub level_between-level-requires-clause-few : goal.level_between-level-requires-clause-few
+level_between-level-requires-clause-few c = c.args.grid.now.few
+
+pub step_between-step-requires-clause-few : goal.step_between-step-requires-clause-few
+step_between-step-requires-clause-few c = c.args.grid.now.few
+
+pub parts_of-requires-clause-few : goal.parts_of-requires-clause-few
+parts_of-requires-clause-few c = c.args.grid.now.few
+
+pub down_column-before-requires-clause-mesh : goal.down_column-before-requires-clause-mesh
+down_column-before-requires-clause-mesh c = c.args.grid.now.few
+
+pub down_column-before-requires-clause-in_range : goal.down_column-before-requires-clause-in_range
+down_column-before-requires-clause-in_range c = c.requires.numbers_in_range
+
+pub down_column-after-requires-clause-mesh : goal.down_column-after-requires-clause-mesh
+down_column-after-requires-clause-mesh c = c.args.grid.now.few
+
+pub down_column-after-requires-clause-in_range : goal.down_column-after-requires-clause-in_range
+down_column-after-requires-clause-in_range c = c.requires.numbers_in_range
+
+pub level_between-level-requires-clause-part : goal.level_between-level-requires-clause-part
+level_between-level-requires-clause-part c = let lt : c.cells-across.result.past < 2 * c.args.grid.now.mesh = c.cells-across.ensures.below in omega (arith, lt)
+
+pub level_between-level-requires-clause-first : goal.level_between-level-requires-clause-first
+level_between-level-requires-clause-first c = times-kept c.args.grid.now.mesh c.down_column-before.result c.args.grid.now.few c.down_column-before.ensures.in_range
+
+pub level_between-level-requires-clause-second : goal.level_between-level-requires-clause-second
+level_between-level-requires-clause-second c = times-kept c.args.grid.now.mesh c.down_column-after.result c.args.grid.now.few c.down_column-after.ensures.in_range
+
+pub step_between-step-requires-clause-first : goal.step_between-step-requires-clause-first
+step_between-step-requires-clause-first c = times-kept c.args.grid.now.mesh c.down_column-before.result c.args.grid.now.few c.down_column-before.ensures.in_range
+
+pub step_between-step-requires-clause-second : goal.step_between-step-requires-clause-second
+step_between-step-requires-clause-second c = times-kept c.args.grid.now.mesh c.down_column-after.result c.args.grid.now.few c.down_column-after.ensures.in_range
+
+pub overflow_mul-first : goal.overflow_mul-first
+overflow_mul-first c =
+    let g = c.args.grid.now in
+    row-fits g.shape.width g.shape.height c.args.y g.shape.within_limits (subst (λ (s : Shape). c.args.y < s.height) (sym c.requires.shape) c.requires.row)
+
+pub overflow_add-first : goal.overflow_add-first
+overflow_add-first c =
+    let g = c.args.grid.now in
+    let order = run-order g.mesh g.shape.width c.args.next _ _ c.run_start-left.ensures c.run_start-right.ensures in
+    place-fits g.shape.width g.shape.height c.args.y _ g.shape.within_limits
+    (subst (λ (s : Shape). c.args.y < s.height) (sym c.requires.shape) c.requires.row) order.1
+
+pub overflow_add-first-2 : goal.overflow_add-first-2
+overflow_add-first-2 c =
+    let g = c.args.grid.now in
+    let order = run-order g.mesh g.shape.width c.args.next _ _ c.run_start-left.ensures c.run_start-right.ensures in
+    place-fits g.shape.width g.shape.height c.args.y _ g.shape.within_limits
+    (subst (λ (s : Shape). c.args.y < s.height) (sym c.requires.shape) c.requires.row) order.2
+
+pub lessen_slope-requires-clause-order : goal.lessen_slope-requires-clause-order
+lessen_slope-requires-clause-order c =
+    let g = c.args.grid.now in
+    let order = run-order g.mesh g.shape.width c.args.next _ _ c.run_start-left.ensures c.run_start-right.ensures in
+    omega (arith, order.0)
+
+pub lessen_slope-requires-clause-within : goal.lessen_slope-requires-clause-within
+lessen_slope-requires-clause-within c =
+    let g = c.args.grid.now in
+    let order = run-order g.mesh g.shape.width c.args.next _ _ c.run_start-left.ensures c.run_start-right.ensures in
+    row-inside g.shape c.args.plane.now c.args.plane.now c.args.y c.run_start-right.result c.requires.shape c.requires.one_each refl c.requires.row order.2
+
+pub lessen_slope-requires-clause-some : goal.lessen_slope-requires-clause-some
+lessen_slope-requires-clause-some c = c.parts_of.ensures.some
+
+pub lessen_slope-requires-clause-few : goal.lessen_slope-requires-clause-few
+lessen_slope-requires-clause-few c = c.parts_of.ensures.few
+
+pub lessen_slope-requires-clause-rest : goal.lessen_slope-requires-clause-rest
+lessen_slope-requires-clause-rest c = subst (λ (n : ℕ). c.level_between-level.result.rest < n) (sym c.parts_of.ensures.parts) c.level_between-level.ensures.rest
+
+pub lessen_slope-requires-clause-step_rest : goal.lessen_slope-requires-clause-step_rest
+lessen_slope-requires-clause-step_rest c = subst (λ (n : ℕ). c.step_between-step.result.rest < n) (sym c.parts_of.ensures.parts) c.step_between-step.ensures.rest
+
+pub lessen_slope-requires-clause-step : goal.lessen_slope-requires-clause-step
+lessen_slope-requires-clause-step c = c.step_between-step.ensures.small
+
+pub lessen_slope-requires-clause-in_range : goal.lessen_slope-requires-clause-in_range
+lessen_slope-requires-clause-in_range c =
+    let g = c.args.grid.now in
+    subst (λ (n : ℕ). IsInHalfRangeFrom (c.args.y * g.shape.width + n) c.args.plane.now.values) (sym c.run_start-left.ensures)
+    (subst (λ (s : Shape). IsInHalfRangeFrom (c.args.y * s.width + first_before g.mesh s.width c.args.next) c.args.plane.now.values)
+    (sym c.requires.shape) c.requires.in_range)
