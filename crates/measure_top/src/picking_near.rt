@@ -8,7 +8,6 @@ ghost use Rattle.comp_tree.specs.Laws.{top_of};
 ghost use Rattle.node_sums.specs.Sums.{IsTreeOfPlane, AreTheTrees, ForEachPlaneOf};
 ghost use Rattle.source_pick.specs.Catalogue.{catalogue_row, FitsColumns};
 ghost use Rattle.source_pick.specs.Segmentation.{AreDisjointNodes};
-ghost use Rattle.source_pick.specs.Locality.{HaveSameSources};
 ghost use Rattle.orders.specs.Words.{HasLimits};
 ghost use Rattle.measure_top.specs.Picks.{AreNodesOf, AreSourcesOf, HaveFittingRows, CanBeListed, HaveBasesFrom};
 
@@ -17,7 +16,7 @@ use costs::OutOfMemory;
 use detect_top::component_tree;
 use node_sums::{Sums, sums};
 use orders::Order;
-use source_pick::{CatRow, Choice, clear_far, pick, row, segment_in_parts};
+use source_pick::{CatRow, Choice, near, pick, row, segment_in_parts};
 use std::alloc::Global;
 use std::thread::Threads;
 use strip_crew::Gate;
@@ -107,25 +106,8 @@ fn pick_of_tree<R: Threads + Sync>(
     Ok(Picked { map, nodes })
 }
 
-// A copy of the plane without the pixels that are far from those of at least the threshold, in little memory. It has the plane's sources.
-fn near_plane<R: Threads + Sync>(
-    rt: &R,
-    alloc: Global,
-    plane: &Plane,
-    connect: Connect,
-    choice: &Choice,
-    workers: u32,
-) -> Result<Plane, OutOfMemory>
-    ensures same { IfOk result (λ near. HaveSameSources plane.now near connect choice.now) }
-    ensures shape { IfOk result (λ near. near.shape ≡ plane.now.shape) }
-{
-    let mut near = plane.copied(alloc)?;
-    clear_far(rt, alloc, &mut near, connect, choice.threshold, workers)?;
-    near.compact(alloc)?;
-    Ok(near)
-}
-
-/// The sources of a plane. A copy of it and the tree of the copy are gone when this returns. The one error is that memory was refused.
+/// The sources of a plane. The plane of the pixels that matter, which is kept in little memory, and its tree are gone when this returns. The one error
+/// is that memory was refused.
 pub(crate) fn pick_near<R: Threads + Sync, G: Gate>(
     rt: &R,
     alloc: Global,
@@ -141,7 +123,14 @@ pub(crate) fn pick_near<R: Threads + Sync, G: Gate>(
     ensures listed { IfOk result
         (λ picked. CanBeListed plane.now.shape picked.map.items picked.nodes.items) }
 {
-    let near = near_plane(rt, alloc, plane, order.connect, choice, order.workers)?;
+    let near = near(
+        rt,
+        alloc,
+        plane,
+        order.connect,
+        choice.threshold,
+        order.workers,
+    )?;
     let tree = component_tree(rt, alloc, &near, order, gate)?;
     pick_of_tree(rt, alloc, &near, &tree, choice, order.workers)
 }

@@ -66,6 +66,20 @@ product-kept w k whole n p le h few small fits =
     ap (λ (z : ℤ). kept w (z *ℤ kept w p)) first ∙ ap (λ (z : ℤ). kept w (pos k *ℤ z)) second
     ∙ to_z-of_z w (pos k *ℤ p) (up_to-fits w (k * n) (pos k *ℤ p) (omega (arith, more, fits)) (up_to-times k n p h))
 
+-- the product before it is kept, of numbers that are equal to these
+pub product-is : (w : Width) (k whole n : ℕ) (m p first : ℤ) → m ≡ pos k → first ≡ p → k ≤ whole → IsUpTo n p → whole < 2 ^ hbits w → n < 2 ^ hbits w
+    → kept w m *ℤ kept w first ≡ pos k *ℤ p
+product-is w k whole n m p first em ep le h few small =
+    (λ i. kept w (em i) *ℤ kept w (ep i))
+    ∙ (λ i. to_z-of_z w (pos k) (up_to-fits w whole (pos k) few (up_to-pos whole k le)) i *ℤ to_z-of_z w p (up_to-fits w n p small h) i)
+
+pub product-fits : (w : Width) (k whole n : ℕ) (m p first : ℤ) → m ≡ pos k → first ≡ p → k ≤ whole → IsUpTo n p → whole < 2 ^ hbits w → n < 2 ^ hbits w
+    → whole * n < 2 ^ hbits w → SFits w (kept w m *ℤ kept w first)
+product-fits w k whole n m p first em ep le h few small fits =
+    let more : k * n ≤ whole * n = mul-le-mul_right n le in
+    subst (λ (z : ℤ). SFits w z) (sym (product-is w k whole n m p first em ep le h few small))
+    (up_to-fits w (k * n) (pos k *ℤ p) (omega (arith, more, fits)) (up_to-times k n p h))
+
 -- what the code adds up on the way from p to q
 pub way-kept : (w : Width) (whole part n : ℕ) (p q : ℤ) → part ≤ whole → IsUpTo n p → IsUpTo n q → whole < 2 ^ hbits w → n < 2 ^ hbits w
     → whole * n < 2 ^ hbits w

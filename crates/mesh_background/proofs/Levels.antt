@@ -7,6 +7,7 @@ use Rattle.std.proofs.lemmas.Int.{ints, to_z-of_z}
 use Rattle.std.proofs.lemmas.List.{get_or_past}
 use Rattle.std.proofs.lemmas.Nat.{div-add-mod', mod_below, mul-le, mul-add-lt}
 use mir.Syntax.{w64}
+use mir.Val.{SFits}
 use native.Mathlib.Nat.{mul-add, add-mul}
 use Rattle.lemmas.proofs.Exported.{floor-from, floor-is, floor-up_to, times-sum, times-times}
 use Rattle.comp_tree.specs.Limits.{IsInHalfRange}
@@ -146,7 +147,8 @@ times-up_to whole z h = record { low = h.low; high = h.high }
 -- such a number fits its type, so it is kept
 pub times-kept : (mesh : ℕ) (z : ℤ) → mesh ≤ 65535 → IsHalfRangeTimes (2 * mesh) z → IsHalfRangeTimes (2 * mesh) (kept w64 z)
 times-kept mesh z few h =
-    subst (λ (y : ℤ). IsHalfRangeTimes (2 * mesh) y) (sym (to_z-of_z w64 z (up_to-fits w64 (2 * mesh * 2 ^ 36) z (omega (arith, few)) (times-up_to (2 * mesh) z h)))) h
+    let fits : SFits w64 z = up_to-fits w64 (2 * mesh * 2 ^ 36) z (omega (arith, few)) (times-up_to (2 * mesh) z h) in
+    subst (λ (y : ℤ). IsHalfRangeTimes (2 * mesh) y) (sym (to_z-of_z w64 z fits)) h
 
 pub half-way : (whole part : ℕ) (p q : ℤ) → part ≤ whole → IsInHalfRange p → IsInHalfRange q → IsHalfRangeTimes whole (part_way whole part p q)
 half-way whole part p q le a b =

@@ -14,21 +14,21 @@ use Rattle.mesh_background.proofs.Lessening.{lessened-none, lessened-more, row-e
 
 -- ---- the pixels of a row
 
-pub row-within : (width height y x : ℕ) → y < height → x ≤ width → y * width + x ≤ width * height
-row-within width height y x down across =
+pub place-within : (width height y x : ℕ) → y < height → x ≤ width → y * width + x ≤ width * height
+place-within width height y x down across =
     let le : (y + 1) * width ≤ height * width = mul-le-mul_right width (omega (arith, down)) in
     omega (arith, le, across, mul_comm width height)
 
 pub place-fits : (width height y x : ℕ) → IsWithinLimits width height → y < height → x ≤ width → Fits w32 (y * width + x)
 place-fits width height y x limits down across =
     let few : width * height ≤ 2 ^ 24 = limits.few_pixels in
-    let le : y * width + x ≤ width * height = row-within width height y x down across in
+    let le : y * width + x ≤ width * height = place-within width height y x down across in
     omega (arith, few, le)
 
 pub row-fits : (width height y : ℕ) → IsWithinLimits width height → y < height → Fits w32 (y * width)
 row-fits width height y limits down =
     let few : width * height ≤ 2 ^ 24 = limits.few_pixels in
-    let le : y * width + 0 ≤ width * height = row-within width height y 0 down (omega arith) in
+    let le : y * width + 0 ≤ width * height = place-within width height y 0 down (omega arith) in
     omega (arith, few, le)
 
 -- of a plane like r, which has as many pixels
@@ -36,7 +36,7 @@ pub row-inside : (own : Shape) (r m : Raster) (y x : ℕ) → own ≡ r.shape �
     → x ≤ own.width → y * own.width + x ≤ length m.values
 row-inside own r m y x same plane long down across =
     let high : y < own.height = subst (λ (s : Shape). y < s.height) (sym same) down in
-    let le : y * own.width + x ≤ own.width * own.height = row-within own.width own.height y x high across in
+    let le : y * own.width + x ≤ own.width * own.height = place-within own.width own.height y x high across in
     subst (λ (n : ℕ). y * own.width + x ≤ n) (sym (long ∙ plane ∙ ap (λ (s : Shape). s.width * s.height) (sym same))) le
 
 -- ---- the cells of a row

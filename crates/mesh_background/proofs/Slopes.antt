@@ -6,6 +6,7 @@ use Rattle.std.proofs.lemmas.Int.{ints, to_z-of_z}
 use Rattle.std.proofs.lemmas.Nat.{div-add-mod', mod_below}
 use Rattle.std.proofs.Math.IntN.{zero-*ℤ, pos-*ℤ-pos}
 use mir.Syntax.{w64, w128}
+use mir.Val.{SFits}
 use Rattle.lemmas.proofs.Exported.{IsFloor, floor-from, floor-is, floor-one, floor-up_to, times-plus, times-suc, times-sum, times-times}
 use Rattle.comp_tree.specs.Limits.{IsInHalfRange}
 use Rattle.comp_tree.proofs.Exported.{row-from}
@@ -13,7 +14,7 @@ use Rattle.mesh_background.specs.declared.slope.Mixed.{Mixed}
 use Rattle.mesh_background.specs.Smoothing.{number_in_grid}
 use Rattle.mesh_background.specs.Interpolation.{pixel_centre, next_cell, past_centre, cell_before, cell_after, part_way, down_column, interpolated}
 use Rattle.mesh_background.specs.Slopes.{in_parts, steps_on, first_before, IsSmallStep, IsSmallTimes}
-use Rattle.mesh_background.proofs.Fitting.{IsUpTo, up_to-fits, up_to-pos, up_to-low, up_to-high, kept, product-kept}
+use Rattle.mesh_background.proofs.Fitting.{IsUpTo, up_to-fits, up_to-pos, up_to-low, up_to-high, kept, product-kept, product-fits}
 use Rattle.mesh_background.proofs.Levels.{past-below, half-up_to, IsPlaced}
 
 -- ---- mixed numbers
@@ -186,28 +187,44 @@ natural parts z q (pos n) e h =
     record { count = n; is = refl; few = omega (arith, ints, e, low, high); whole = omega (arith, ints, e) }
 natural parts z q (negsuc n) e h = let low : _ = h.low in absurd (omega (arith, ints, e, low))
 
+left-computed : (parts : ℕ) (z unit q : ℤ) → parts ≤ 2 ^ 60 → IsSmallTimes parts z → unit ≡ pos parts → IsDivided parts z q
+    → (kept w128 z -ℤ kept w128 (kept w128 unit *ℤ kept w128 q) ≡ z -ℤ pos parts *ℤ q) × IsUpTo parts (z -ℤ pos parts *ℤ q)
+left-computed parts z unit q few h e d =
+    let up : IsUpTo (parts * 2 ^ 60) z = scaled-up_to parts z h in
+    let product : kept w128 (kept w128 unit *ℤ kept w128 q) ≡ pos parts *ℤ q =
+    ap (λ (y : ℤ). kept w128 (kept w128 y *ℤ kept w128 q)) e
+    ∙ product-kept w128 parts parts (2 ^ 60) q (omega arith) (small-up_to q d.small) (omega (arith, few)) (omega arith) (omega (arith, few)) in
+    let low : _ = d.floor.low in
+    let high : _ = d.floor.high in (
+      (λ i. to_z-of_z w128 z (up_to-fits w128 (parts * 2 ^ 60) z (omega (arith, few)) up) i -ℤ product i),
+      record { low = omega (arith, ints, low); high = omega (arith, ints, high) },
+    )
+
 pub left-of : (parts : ℕ) (z unit q : ℤ) → 0 < parts → parts ≤ 2 ^ 60 → IsSmallTimes parts z → unit ≡ pos parts → IsDivided parts z q
     → IsLeft parts z q (kept w128 (kept w128 z -ℤ kept w128 (kept w128 unit *ℤ kept w128 q)))
 left-of parts z unit q some few h e d = natural parts z q _ is d.floor
   where
-    up : IsUpTo (parts * 2 ^ 60) z
-    up = scaled-up_to parts z h
-
-    product : kept w128 (kept w128 unit *ℤ kept w128 q) ≡ pos parts *ℤ q
-    product = ap (λ (y : ℤ). kept w128 (kept w128 y *ℤ kept w128 q)) e
-        ∙ product-kept w128 parts parts (2 ^ 60) q (omega arith) (small-up_to q d.small) (omega (arith, few)) (omega arith) (omega (arith, few))
-
-    bounded : IsUpTo parts (z -ℤ pos parts *ℤ q)
-    bounded =
-        let low : _ = d.floor.low in
-        let high : _ = d.floor.high in
-        record { low = omega (arith, ints, low); high = omega (arith, ints, high) }
-
-    difference : kept w128 z -ℤ kept w128 (kept w128 unit *ℤ kept w128 q) ≡ z -ℤ pos parts *ℤ q
-    difference = (λ i. to_z-of_z w128 z (up_to-fits w128 (parts * 2 ^ 60) z (omega (arith, few)) up) i -ℤ product i)
+    left : (kept w128 z -ℤ kept w128 (kept w128 unit *ℤ kept w128 q) ≡ z -ℤ pos parts *ℤ q) × IsUpTo parts (z -ℤ pos parts *ℤ q)
+    left = left-computed parts z unit q few h e d
 
     is : kept w128 (kept w128 z -ℤ kept w128 (kept w128 unit *ℤ kept w128 q)) ≡ z -ℤ pos parts *ℤ q
-    is = ap (kept w128) difference ∙ to_z-of_z w128 (z -ℤ pos parts *ℤ q) (up_to-fits w128 parts (z -ℤ pos parts *ℤ q) (omega (arith, few)) bounded)
+    is = ap (kept w128) left.0 ∙ to_z-of_z w128 (z -ℤ pos parts *ℤ q) (up_to-fits w128 parts (z -ℤ pos parts *ℤ q) (omega (arith, few)) left.1)
+
+-- the difference, the product and the quotient fit
+pub left-fits : (parts : ℕ) (z unit q : ℤ) → parts ≤ 2 ^ 60 → IsSmallTimes parts z → unit ≡ pos parts → IsDivided parts z q
+    → SFits w128 (kept w128 z -ℤ kept w128 (kept w128 unit *ℤ kept w128 q))
+left-fits parts z unit q few h e d =
+    let left = left-computed parts z unit q few h e d in
+    subst (λ (y : ℤ). SFits w128 y) (sym left.0) (up_to-fits w128 parts (z -ℤ pos parts *ℤ q) (omega (arith, few)) left.1)
+
+pub whole-fits : (parts : ℕ) (unit q : ℤ) → parts ≤ 2 ^ 60 → unit ≡ pos parts → IsSmallStep q → SFits w128 (kept w128 unit *ℤ kept w128 q)
+whole-fits parts unit q few e h =
+    product-fits w128 parts parts (2 ^ 60) unit q q e refl (omega arith) (small-up_to q h) (omega (arith, few)) (omega arith) (omega (arith, few))
+
+pub small-fits : (q : ℤ) → IsSmallStep q → SFits w64 (kept w128 q)
+small-fits q h =
+    subst (λ (y : ℤ). SFits w64 y) (sym (to_z-of_z w128 q (up_to-fits w128 (2 ^ 60) q (omega arith) (small-up_to q h))))
+    (up_to-fits w64 (2 ^ 60) q (omega arith) (small-up_to q h))
 
 -- a small quotient, as it is kept
 pub small-kept : (q : ℤ) → IsSmallStep q → kept w64 (kept w128 q) ≡ q

@@ -51,7 +51,8 @@ fn add_pixels(plane: &Plane, node_of: &[u32], sums: &mut [Sums])
     }
 }
 
-// Adds the defined pixels of one row, counted from 0, going from one to the next. All rows before it were added.
+// Adds the defined pixels of one row, counted from 0. All rows before it were added. Behind an undefined pixel it goes on at the next
+// defined one: so few pixels are passed quickly, and where all are defined, none is looked at twice.
 fn add_row(plane: &Plane, node_of: &[u32], width: u32, row: u32, sums: &mut [Sums])
     requires nodes { (p : ℕ) → IsTrue (is_defined plane.now p)
         → slice_index node_of.now p < length sums.old }
@@ -64,14 +65,16 @@ fn add_row(plane: &Plane, node_of: &[u32], width: u32, row: u32, sums: &mut [Sum
 {
     let first = row * width;
     let end = first + width;
-    let mut p = plane.next_defined(first, end);
+    let mut p = first;
     while p < end {
         if let Some(value) = plane.get(p) {
             let n = node_of[p as usize] as usize;
             let pixel = Sums::of_pixel(p - first + 1, row + 1, p, value);
             sums[n] = sums[n].together(&pixel);
+            p += 1;
+        } else {
+            p = plane.next_defined(p + 1, end);
         }
-        p = plane.next_defined(p + 1, end);
     }
 }
 

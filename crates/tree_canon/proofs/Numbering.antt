@@ -1,17 +1,17 @@
 -- How the pixels get their numbers: those of the rows first, then all others along the links.
-use Rattle.std.proofs.Common.{◌≡◌, ◌≢◌, ℕ, suc, ◌+◌, ◌^◌, ◌<◌, ◌≤◌, Bool, true, false, cond, List, [], ◌∷◌, length, map, get_or, set, replicate, refl}
-use Rattle.std.proofs.Common.{sym, ap, subst, ◌∙◌, inl, inr, arith, Some, slice_get, length-set, get_or-set_same, get_or-set_other}
-use Rattle.std.specs.Prelude.{IsTrue, All, filter, slice_index}
-use Rattle.std.proofs.lemmas.Bool.{true≢false, cases_eq}
+use Rattle.std.proofs.Common.{◌≡◌, ◌≢◌, ℕ, suc, ◌+◌, ◌-◌, ◌^◌, ◌<◌, ◌≤◌, Bool, true, false, cond, List, [], ◌∷◌, length, map, get_or, set, replicate}
+use Rattle.std.proofs.Common.{refl, sym, ap, subst, ◌∙◌, inl, inr, arith, Some, slice_get, length-set, get_or-set_same, get_or-set_other}
+use Rattle.std.specs.Prelude.{IsTrue, All, ℤ, Option, None, is_some, filter, slice_index}
+use Rattle.std.proofs.lemmas.Bool.{true≢false, cases_eq, cases_lt}
 use Rattle.std.proofs.lemmas.Bool.Decides.{leb_tells}
 use Rattle.std.proofs.lemmas.List.{get_or_past, get_or_default, get_or-map, length-map, length-replicate, get_or-replicate}
 use Rattle.std.proofs.lemmas.Option.{slice_get_within, same_Some, slice_get-get_or}
 use Rattle.comp_tree.specs.declared.tree.NodeRow.{NodeRow}
-use Rattle.comp_tree.specs.Raster.{Raster, value_at, level, pixels}
+use Rattle.comp_tree.specs.Raster.{Raster, HasGap, value_at, level, pixels}
 use Rattle.comp_tree.specs.Forest.{no_node, link_of, IsForest}
 use Rattle.comp_tree.proofs.Exported.{value-level, before_level, below_from_defined, among_from_defined, IsAmong, among-filter, among_from_filter}
 use Rattle.comp_tree.proofs.Exported.{length-in_order, length-pixels, ordered-same_place, among_at, among_in_order-from, IsImage, get_is, get-map}
-use Rattle.comp_tree.proofs.Exported.{get_from_map}
+use Rattle.comp_tree.proofs.Exported.{get_from_map, none_is_undefined}
 use Rattle.tree_canon.specs.Canonical.{is_canonical, canonical_pixels, loose_row, node_number_at, IsNumbering}
 use Rattle.tree_canon.specs.Numbers.{HaveOwnPixels, HasRowNumbers, LeadBack, HasLinkNumbers}
 use Rattle.tree_canon.proofs.Finding.{IsPixelLink, pixel_link, link_high}
@@ -62,6 +62,95 @@ pub record IsFollowedTo (links old new : List ℕ) (k : ℕ) : Type 0 where
   pub kept : (p : ℕ) → node_number_at old p ≢ no_node → node_number_at new p ≡ node_number_at old p
   pub followed : (p : ℕ) → p < k → node_number_at old p ≡ no_node → node_number_at new p ≡ node_number_at new (link_of 0 links p)
   pub ahead : (p : ℕ) → k ≤ p → node_number_at new p ≡ node_number_at old p
+
+-- the link of a pixel without a number leads to no pixel whose number is written now or later
+link_below : (links old : List ℕ) (p k : ℕ) → LeadBack links old → p < length links → length links ≤ 2 ^ 24 → node_number_at old p ≡ no_node → p ≤ k
+    → k < length links → link_of 0 links p ≢ k
+link_below links old p k back lt few none le inside e = elim (back p lt none) [
+  | inl far ↦ absurd (omega (arith, far, e, few, inside))
+  | inr near ↦ absurd (omega (arith, near, e, le))
+]
+
+module _ (links old new : List ℕ) (k : ℕ) (back : LeadBack links old) (few : length links ≤ 2 ^ 24) (count : length old ≡ length links)
+    (inside : k < length links) (h : IsFollowedTo links old new k) where
+  -- the next pixel has no number yet
+  pub followed_more : node_number_at new k ≡ no_node → IsFollowedTo links old (set new k (node_number_at new (link_of 0 links k))) (k + 1)
+  followed_more bare = record {
+    one_each = length-set new k number ∙ h.one_each;
+    kept = λ p some. other p (λ e. some (sym (h.ahead p (omega (arith, e))) ∙ ap (node_number_at new) e ∙ bare)) ∙ h.kept p some;
+    followed = λ p lt none. elim (cases_eq p k) [
+      | inl e ↦
+          ap (node_number_at (set new k number)) e
+          ∙ get_or-set_same new k number no_node (omega (arith, inside, count, h.one_each))
+          ∙ ap (λ q. node_number_at new (link_of 0 links q)) (sym e)
+          ∙ sym (other (link_of 0 links p) (link_below links old p k back (omega (arith, e, inside)) few none (omega (arith, e)) inside))
+      | inr ne ↦
+          other p ne ∙ h.followed p (omega (arith, lt, ne)) none
+          ∙ sym (other (link_of 0 links p) (link_below links old p k back (omega (arith, lt, inside)) few none (omega (arith, lt)) inside))
+    ];
+    ahead = λ p from. other p (λ e. absurd (omega (arith, from, e))) ∙ h.ahead p (omega (arith, from));
+  }
+    where
+      number : ℕ
+      number = node_number_at new (link_of 0 links k)
+
+      other : (p : ℕ) → p ≢ k → node_number_at (set new k number) p ≡ node_number_at new p
+      other p ne = get_or-set_other new k p number no_node ne
+
+  -- or it has one
+  pub followed_same : node_number_at new k ≢ no_node → IsFollowedTo links old new (k + 1)
+  followed_same some = record {
+    one_each = h.one_each;
+    kept = h.kept;
+    followed = λ p lt none. elim (cases_eq p k) [
+      | inl e ↦ absurd (some (ap (node_number_at new) (sym e) ∙ h.ahead p (omega (arith, e)) ∙ none))
+      | inr ne ↦ h.followed p (omega (arith, lt, ne)) none
+    ];
+    ahead = λ p from. h.ahead p (omega (arith, from));
+  }
+
+-- an undefined pixel has no link
+link_none : (r : Raster) (links : List ℕ) (p : ℕ) → IsForest r.values 0 links → p < length links → value_at r.values p ≡ None
+    → link_of 0 links p ≡ no_node
+link_none r links p forest lt undefined = elim (cases_eq (link_of 0 links p) no_node) [
+  | inl e ↦ e
+  | inr some ↦
+      let k : IsPixelLink r links p = pixel_link r links p forest lt some in
+      absurd (none_is_undefined (value_at r.values p) (ap (λ (o : Option ℤ). is_some o) undefined) k.defined)
+]
+
+-- so pixels without values have the number of their links, which is none
+pub followed_over : (r : Raster) (links old new : List ℕ) (n m : ℕ) → IsForest r.values 0 links → length links ≤ 2 ^ 24 → length old ≡ length links
+    → n ≤ m → m ≤ length links → HasGap r.values n m → IsFollowedTo links old new n → IsFollowedTo links old new m
+followed_over r links old new n m forest few count le within gap h = record {
+  one_each = h.one_each;
+  kept = h.kept;
+  followed = λ p lt none. elim (cases_lt p n) [
+    | inl before ↦ h.followed p before none
+    | inr from ↦
+        h.ahead p from ∙ none
+        ∙ sym (ap (node_number_at new) (link_none r links p forest (omega (arith, lt, within)) (gap p from lt))
+        ∙ get_or_past new no_node no_node (omega (arith, few, count, h.one_each)))
+  ];
+  ahead = λ p from. h.ahead p (omega (arith, from, le));
+}
+
+pub followed_none : (links old : List ℕ) → IsFollowedTo links old old 0
+followed_none links old = record { one_each = refl; kept = λ p some. refl; followed = λ p lt none. absurd (omega (arith, lt)); ahead = λ p from. refl }
+
+pub followed_all : (links old new : List ℕ) → length links ≤ 2 ^ 24 → length old ≡ length links → IsFollowedTo links old new (length links)
+    → HasLinkNumbers links old new
+followed_all links old new few count h = record {
+  one_each = h.one_each;
+  kept = h.kept;
+  followed = λ p none. elim (cases_lt p (length links)) [
+    | inl lt ↦ h.followed p lt none
+    | inr past ↦
+        h.ahead p past ∙ none
+        ∙ sym (ap (node_number_at new) (get_or_past links (p - 0) no_node (omega (arith, past)))
+        ∙ get_or_past new no_node no_node (omega (arith, few, count, h.one_each)))
+  ];
+}
 
 -- ---- both together
 

@@ -1,10 +1,32 @@
-use Rattle.std.proofs.Common.{◌≡◌, ◌-◌, ◌*◌, ◌<◌, ◌≤◌, ◌^◌, ap, subst, ◌∙◌, arith}
+use Rattle.std.proofs.Common.{◌≡◌, ℕ, ◌+◌, ◌-◌, ◌*◌, ◌<◌, ◌≤◌, ◌^◌, min, Fits, w32, sym, ap, subst, ◌∙◌, arith}
+use Rattle.comp_tree.specs.Limits.{IsWithinLimits}
 use Rattle.comp_tree.specs.declared.shape.Shape.{Shape}
 use Rattle.comp_tree.specs.Raster.{IsPlane}
+use Rattle.mesh_background.specs.Mesh.{cell_count}
 use Rattle.mesh_background.specs.Bounds.{IsCell}
 use Rattle.mesh_background.proofs.Extents.{room-few}
+use Rattle.mesh_background.proofs.Rows.{place-fits, row-fits}
 use Rattle.mesh_background.proofs.Gathering.{gather-start, row-within, gather-row, gather-end}
 use Rattle.mesh_background.proofs.cells.cell_members.Goals as goal
+
+-- the pixels of a cell's row
+record IsFew (width y left right : ℕ) : Type 0 where
+  row : Fits w32 (y * width)
+  first : Fits w32 (y * width + left)
+  end : Fits w32 (y * width + right)
+
+few : (mesh width height k left right top bottom y : ℕ) → IsWithinLimits width height → IsCell mesh width height k left right top bottom → y < bottom
+    → IsFew width y left right
+few mesh width height k left right top bottom y limits c lt =
+    let r : right ≡ min (left + mesh) width = c.right_is in
+    let b : bottom ≡ min (top + mesh) height = c.bottom_is in
+    let across : left < right = c.some_columns in
+    let down : y < height = omega (arith, lt, b) in
+    record {
+      row = row-fits width height y limits down;
+      first = place-fits width height y left limits down (omega (arith, across, r));
+      end = place-fits width height y right limits down (omega (arith, r));
+    }
 
 pub overflow_sub-room : goal.overflow_sub-room
 overflow_sub-room c = omega (arith, c.cell-bounds.ensures.some_columns)
@@ -16,9 +38,9 @@ pub overflow_mul-room : goal.overflow_mul-room
 overflow_mul-room c =
     let g = c.args.grid.now in
     let b = c.cell-bounds.result in
-    let few : (b.right - b.left) * (b.bottom - b.top) ≤ 2 ^ 24 =
+    let most : (b.right - b.left) * (b.bottom - b.top) ≤ 2 ^ 24 =
     room-few g.mesh g.shape.width g.shape.height c.args.cell b.left b.right b.top b.bottom g.shape.within_limits c.cell-bounds.ensures in
-    omega arith
+    omega (arith, most)
 
 pub loop-y-init : goal.loop-y-init
 loop-y-init c =
@@ -60,4 +82,48 @@ returns c =
     let cell = subst (λ (s : Shape). IsCell g.mesh s.width s.height c.args.cell b.left b.right b.top b.bottom) c.requires.shape c.cell-bounds.ensures in
     let plane : IsPlane r = c.shape-width.ensures.pixels ∙ ap (λ (s : Shape). s.width * s.height) c.shape-width.ensures.same in
     let low : b.top < b.bottom = c.cell-bounds.ensures.some_rows in
-    gather-end r g.mesh c.args.cell b.left b.right b.top b.bottom c.loop-y.y c.loop-y.members.items plane cell (omega arith) c.loop-y.invariant
+    let y_is : c.loop-y.y ≡ b.bottom = omega (arith, low, c.loop-y.auto.y-end, c.loop-y-test.false) in
+    gather-end r g.mesh c.args.cell b.left b.right b.top b.bottom c.loop-y.y c.loop-y.members.items plane cell y_is c.loop-y.invariant
+
+pub cell-bounds-requires : goal.cell-bounds-requires
+cell-bounds-requires c = subst (λ (s : Shape). c.args.cell < cell_count c.args.grid.now.mesh s) (sym c.requires.shape) c.requires.cell
+
+pub overflow_cast-room : goal.overflow_cast-room
+overflow_cast-room c =
+    let g = c.args.grid.now in
+    let b = c.cell-bounds.result in
+    let most : (b.right - b.left) * (b.bottom - b.top) ≤ 2 ^ 24 =
+    room-few g.mesh g.shape.width g.shape.height c.args.cell b.left b.right b.top b.bottom g.shape.within_limits c.cell-bounds.ensures in
+    omega (arith, most)
+
+pub overflow_mul-y : goal.overflow_mul-y
+overflow_mul-y c =
+    let b = c.cell-bounds.result in
+    let s : Shape = c.shape-width.result in
+    let cell = subst (λ (t : Shape). IsCell c.args.grid.now.mesh t.width t.height c.args.cell b.left b.right b.top b.bottom)
+    (c.requires.shape ∙ sym c.shape-width.ensures.same) c.cell-bounds.ensures in
+    (few c.args.grid.now.mesh s.width s.height c.args.cell b.left b.right b.top b.bottom c.loop-y.y s.within_limits cell c.loop-y-test.true).row
+
+pub overflow_add-y : goal.overflow_add-y
+overflow_add-y c =
+    let b = c.cell-bounds.result in
+    let s : Shape = c.shape-width.result in
+    let cell = subst (λ (t : Shape). IsCell c.args.grid.now.mesh t.width t.height c.args.cell b.left b.right b.top b.bottom)
+    (c.requires.shape ∙ sym c.shape-width.ensures.same) c.cell-bounds.ensures in
+    (few c.args.grid.now.mesh s.width s.height c.args.cell b.left b.right b.top b.bottom c.loop-y.y s.within_limits cell c.loop-y-test.true).first
+
+pub overflow_mul-y-in-loop-y : goal.overflow_mul-y-in-loop-y
+overflow_mul-y-in-loop-y c =
+    let b = c.cell-bounds.result in
+    let s : Shape = c.shape-width.result in
+    let cell = subst (λ (t : Shape). IsCell c.args.grid.now.mesh t.width t.height c.args.cell b.left b.right b.top b.bottom)
+    (c.requires.shape ∙ sym c.shape-width.ensures.same) c.cell-bounds.ensures in
+    (few c.args.grid.now.mesh s.width s.height c.args.cell b.left b.right b.top b.bottom c.loop-y.y s.within_limits cell c.loop-y-test.true).row
+
+pub overflow_add-y-in-loop-y : goal.overflow_add-y-in-loop-y
+overflow_add-y-in-loop-y c =
+    let b = c.cell-bounds.result in
+    let s : Shape = c.shape-width.result in
+    let cell = subst (λ (t : Shape). IsCell c.args.grid.now.mesh t.width t.height c.args.cell b.left b.right b.top b.bottom)
+    (c.requires.shape ∙ sym c.shape-width.ensures.same) c.cell-bounds.ensures in
+    (few c.args.grid.now.mesh s.width s.height c.args.cell b.left b.right b.top b.bottom c.loop-y.y s.within_limits cell c.loop-y-test.true).end

@@ -7,7 +7,7 @@ use mir.Val.{SFits}
 use Rattle.mesh_background.specs.Interpolation.{part_way}
 use Rattle.mesh_background.specs.Lessened.{IsHalfRangeTimes}
 use Rattle.mesh_background.specs.Slopes.{in_parts, IsSmallTimes}
-use Rattle.mesh_background.proofs.Fitting.{IsUpTo, up_to-fits, up_to-way, kept, way-computed}
+use Rattle.mesh_background.proofs.Fitting.{IsUpTo, up_to-fits, up_to-way, kept, product-fits, way-computed}
 use Rattle.mesh_background.proofs.Levels.{times-up_to}
 use Rattle.mesh_background.proofs.interpolation.level_between.Goals as goal
 
@@ -53,12 +53,58 @@ scaled-small whole part p q h =
 small-same : (parts n : ℕ) (z y : ℤ) → n ≡ parts → y ≡ z → IsSmallTimes parts z → IsSmallTimes n y
 small-same parts n z y e f h = subst (λ (m : ℕ). IsSmallTimes m y) (sym e) (subst (λ (x : ℤ). IsSmallTimes parts x) (sym f) h)
 
+-- each of the two products
+product-is-few : (whole k : ℕ) (m p first : ℤ) → m ≡ pos k → first ≡ kept w64 p → k ≤ whole → whole ≤ 131070 → IsHalfRangeTimes whole p
+    → SFits w128 (kept w128 m *ℤ kept w128 first)
+product-is-few whole k m p first em ep le few h =
+    let most = few-squares whole few in
+    product-fits w128 k whole (whole * 2 ^ 36) m p first em (ep ∙ to_z-of_z w64 p (number-fits whole p few h)) le (times-up_to whole p h)
+    (omega (arith, few)) (omega (arith, few)) (omega (arith, most.1))
+
+less : (whole part : ℕ) → whole - part ≤ whole
+less whole part = omega arith
+
+double : (mesh : ℕ) → mesh ≤ 65535 → 2 * mesh ≤ 131070
+double mesh few = omega (arith, few)
+
+pub overflow_mul-mesh : goal.overflow_mul-mesh
+overflow_mul-mesh c = omega (arith, double c.args.mesh c.requires.few)
+
+pub overflow_sub-mesh : goal.overflow_sub-mesh
+overflow_sub-mesh c = c.requires.part
+
+pub overflow_mul-scaled : goal.overflow_mul-scaled
+overflow_mul-scaled c =
+    let whole : ℕ = 2 * c.args.mesh in
+    product-is-few whole (whole - c.args.part) c.from.result c.args.p c.from-2.result c.from.ensures c.from-2.ensures (less whole c.args.part)
+    (double c.args.mesh c.requires.few) c.requires.first
+
+pub overflow_mul-scaled-2 : goal.overflow_mul-scaled-2
+overflow_mul-scaled-2 c =
+    product-is-few (2 * c.args.mesh) c.args.part c.from-3.result c.args.q c.from-4.result c.from-3.ensures c.from-4.ensures c.requires.part
+    (double c.args.mesh c.requires.few) c.requires.second
+
+pub parts_of-requires-clause-some : goal.parts_of-requires-clause-some
+parts_of-requires-clause-some c = c.requires.some
+
+pub parts_of-requires-clause-few : goal.parts_of-requires-clause-few
+parts_of-requires-clause-few c = c.requires.few
+
+pub of-requires-clause-some : goal.of-requires-clause-some
+of-requires-clause-some c = c.parts_of.ensures.some
+
+pub of-requires-clause-few : goal.of-requires-clause-few
+of-requires-clause-few c = c.parts_of.ensures.few
+
+pub returns-clause-rest : goal.returns-clause-rest
+returns-clause-rest c = subst (λ (n : ℕ). c.of.result.rest < n) c.parts_of.ensures.parts c.of.ensures.rest
+
 pub overflow_add-scaled : goal.overflow_add-scaled
 overflow_add-scaled c =
     let given : IsGiven (2 * c.args.mesh) c.args.part c.args.p c.args.q =
     record {
       some = omega (arith, c.requires.some);
-      few = omega (arith, c.requires.few);
+      few = double c.args.mesh c.requires.few;
       part_of = c.requires.part;
       first = c.requires.first;
       second = c.requires.second;
@@ -73,7 +119,7 @@ of-requires-clause-size c =
     let given : IsGiven (2 * c.args.mesh) c.args.part c.args.p c.args.q =
     record {
       some = omega (arith, c.requires.some);
-      few = omega (arith, c.requires.few);
+      few = double c.args.mesh c.requires.few;
       part_of = c.requires.part;
       first = c.requires.first;
       second = c.requires.second;
@@ -90,7 +136,7 @@ returns-clause-value c =
     let given : IsGiven (2 * c.args.mesh) c.args.part c.args.p c.args.q =
     record {
       some = omega (arith, c.requires.some);
-      few = omega (arith, c.requires.few);
+      few = double c.args.mesh c.requires.few;
       part_of = c.requires.part;
       first = c.requires.first;
       second = c.requires.second;

@@ -5,7 +5,7 @@ use mir.Val.{SFits}
 use Rattle.comp_tree.specs.Limits.{IsInHalfRange}
 use Rattle.mesh_background.specs.Interpolation.{part_way}
 use Rattle.mesh_background.specs.Lessened.{IsHalfRangeTimes}
-use Rattle.mesh_background.proofs.Fitting.{up_to-fits, up_to-way, kept, way-computed}
+use Rattle.mesh_background.proofs.Fitting.{up_to-fits, up_to-way, kept, product-fits, way-computed}
 use Rattle.mesh_background.proofs.Levels.{half-up_to, half-way}
 use Rattle.mesh_background.proofs.interpolation.on_the_way.Goals as goal
 
@@ -17,6 +17,27 @@ way-is : (whole part : ℕ) (m k p q : ℤ) → part ≤ whole → whole ≤ 131
     → kept w64 (kept w64 m *ℤ kept w64 p) +ℤ kept w64 (kept w64 k *ℤ kept w64 q) ≡ part_way whole part p q
 way-is whole part m k p q le few a b em ek =
     way-computed w64 whole part (2 ^ 36) m k p q p q em ek refl refl le (half-up_to p a) (half-up_to q b) (omega arith) (omega arith) (omega arith)
+
+less : (whole part : ℕ) → whole - part ≤ whole
+less whole part = omega arith
+
+-- each of the two products
+part-fits : (whole k : ℕ) (m p : ℤ) → m ≡ pos k → k ≤ whole → whole ≤ 131070 → IsInHalfRange p → SFits w64 (kept w64 m *ℤ kept w64 p)
+part-fits whole k m p em le few h =
+    product-fits w64 k whole (2 ^ 36) m p p em refl le (half-up_to p h) (omega (arith, few)) (omega arith) (omega (arith, few))
+
+pub overflow_sub-whole : goal.overflow_sub-whole
+overflow_sub-whole c = c.requires.part
+
+pub overflow_mul-result : goal.overflow_mul-result
+overflow_mul-result c =
+    let whole : ℕ = c.args.whole in
+    let part : ℕ = c.args.part in
+    let le : whole - part ≤ whole = less whole part in
+    part-fits whole (whole - part) c.from.result c.args.p c.from.ensures le c.requires.whole c.requires.first
+
+pub overflow_mul-result-2 : goal.overflow_mul-result-2
+overflow_mul-result-2 c = part-fits c.args.whole c.args.part c.from-2.result c.args.q c.from-2.ensures c.requires.part c.requires.whole c.requires.second
 
 pub overflow_add-result : goal.overflow_add-result
 overflow_add-result c =

@@ -1,4 +1,5 @@
-use Rattle.std.proofs.Common.{rules, ◌≡◌, ◌+◌, ◌-◌, ◌*◌, ◌/◌, ◌%◌, ◌^◌, ◌<◌, ◌≤◌, ◌++◌, ℕ, Fits, w64, length, zero, suc, min, max, take, drop, refl, ap, ◌∙◌, arith}
+use Rattle.std.proofs.Common.{◌≡◌, ◌+◌, ◌-◌, ◌*◌, ◌/◌, ◌%◌, ◌^◌, ◌<◌, ◌≤◌, ◌++◌, ℕ, Fits, w64, length, zero, suc, min, max, take, drop}
+use Rattle.std.proofs.Common.{refl, ap, ◌∙◌, arith, rules}
 use Rattle.std.proofs.Math.Nat.{mul_comm, mul-le-mul_right}
 use Rattle.std.proofs.lemmas.Nat.{mod_below, div_below, mul-le}
 use Rattle.mesh_background.proofs.Around.{rows-none, rows-next, rows-all}
@@ -93,10 +94,14 @@ returns c =
     (ap (λ (n : ℕ). n - (max (c.args.cell / columns) 1 - 1)) near) c.loop-near.invariant
 
 pub nonzero_rem-column : goal.nonzero_rem-column
-nonzero_rem-column c = let lt : c.args.cell % c.args.columns < c.args.columns = cell-column c.args.columns c.args.rows c.args.cell c.requires.cell in omega (arith, lt)
+nonzero_rem-column c =
+    let lt : c.args.cell % c.args.columns < c.args.columns = cell-column c.args.columns c.args.rows c.args.cell c.requires.cell in
+    omega (arith, lt)
 
 pub nonzero_div-row : goal.nonzero_div-row
-nonzero_div-row c = let lt : c.args.cell % c.args.columns < c.args.columns = cell-column c.args.columns c.args.rows c.args.cell c.requires.cell in omega (arith, lt)
+nonzero_div-row c =
+    let lt : c.args.cell % c.args.columns < c.args.columns = cell-column c.args.columns c.args.rows c.args.cell c.requires.cell in
+    omega (arith, lt)
 
 pub overflow_sub-left : goal.overflow_sub-left
 overflow_sub-left c = omega (arith, c.max-left.ensures)

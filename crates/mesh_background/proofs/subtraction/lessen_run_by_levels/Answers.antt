@@ -240,19 +240,25 @@ pub down_column-after-requires-clause-in_range : goal.down_column-after-requires
 down_column-after-requires-clause-in_range c = c.requires.numbers_in_range
 
 pub level_between-level-requires-clause-part : goal.level_between-level-requires-clause-part
-level_between-level-requires-clause-part c = let lt : c.cells-across.result.past < 2 * c.args.grid.now.mesh = c.cells-across.ensures.below in omega (arith, lt)
+level_between-level-requires-clause-part c =
+    let lt : c.cells-across.result.past < 2 * c.args.grid.now.mesh = c.cells-across.ensures.below in
+    omega (arith, lt)
 
 pub level_between-level-requires-clause-first : goal.level_between-level-requires-clause-first
-level_between-level-requires-clause-first c = times-kept c.args.grid.now.mesh c.down_column-before.result c.args.grid.now.few c.down_column-before.ensures.in_range
+level_between-level-requires-clause-first c =
+    times-kept c.args.grid.now.mesh c.down_column-before.result c.args.grid.now.few c.down_column-before.ensures.in_range
 
 pub level_between-level-requires-clause-second : goal.level_between-level-requires-clause-second
-level_between-level-requires-clause-second c = times-kept c.args.grid.now.mesh c.down_column-after.result c.args.grid.now.few c.down_column-after.ensures.in_range
+level_between-level-requires-clause-second c =
+    times-kept c.args.grid.now.mesh c.down_column-after.result c.args.grid.now.few c.down_column-after.ensures.in_range
 
 pub step_between-step-requires-clause-first : goal.step_between-step-requires-clause-first
-step_between-step-requires-clause-first c = times-kept c.args.grid.now.mesh c.down_column-before.result c.args.grid.now.few c.down_column-before.ensures.in_range
+step_between-step-requires-clause-first c =
+    times-kept c.args.grid.now.mesh c.down_column-before.result c.args.grid.now.few c.down_column-before.ensures.in_range
 
 pub step_between-step-requires-clause-second : goal.step_between-step-requires-clause-second
-step_between-step-requires-clause-second c = times-kept c.args.grid.now.mesh c.down_column-after.result c.args.grid.now.few c.down_column-after.ensures.in_range
+step_between-step-requires-clause-second c =
+    times-kept c.args.grid.now.mesh c.down_column-after.result c.args.grid.now.few c.down_column-after.ensures.in_range
 
 pub overflow_mul-first : goal.overflow_mul-first
 overflow_mul-first c =
@@ -292,10 +298,12 @@ pub lessen_slope-requires-clause-few : goal.lessen_slope-requires-clause-few
 lessen_slope-requires-clause-few c = c.parts_of.ensures.few
 
 pub lessen_slope-requires-clause-rest : goal.lessen_slope-requires-clause-rest
-lessen_slope-requires-clause-rest c = subst (λ (n : ℕ). c.level_between-level.result.rest < n) (sym c.parts_of.ensures.parts) c.level_between-level.ensures.rest
+lessen_slope-requires-clause-rest c =
+    subst (λ (n : ℕ). c.level_between-level.result.rest < n) (sym c.parts_of.ensures.parts) c.level_between-level.ensures.rest
 
 pub lessen_slope-requires-clause-step_rest : goal.lessen_slope-requires-clause-step_rest
-lessen_slope-requires-clause-step_rest c = subst (λ (n : ℕ). c.step_between-step.result.rest < n) (sym c.parts_of.ensures.parts) c.step_between-step.ensures.rest
+lessen_slope-requires-clause-step_rest c =
+    subst (λ (n : ℕ). c.step_between-step.result.rest < n) (sym c.parts_of.ensures.parts) c.step_between-step.ensures.rest
 
 pub lessen_slope-requires-clause-step : goal.lessen_slope-requires-clause-step
 lessen_slope-requires-clause-step c = c.step_between-step.ensures.small
