@@ -6,5 +6,6 @@ mod Placing
 mod Rising
 mod SettingParents
 mod Sorting
+mod Starting
 mod Tallies
 mod Trees
