@@ -97,6 +97,17 @@ turn_size values node_of entries p n entry pixel plane t e g =
     subst HasMeasureSizes (sym (turn_sum values node_of entries p n entry pixel t e g))
     (so_far_small values (λ q. slice_index node_of q == n) (p + 1) plane (omega (arith, t.inside)) (small_next values p t.front.small t.in_range))
 
+-- where a pixel has no node its value isn't read
+pub turn_unread : (values : Raster) (node_of : List ℕ) (entries : List Measure) (p : ℕ) → AreOfFront values node_of p entries
+    → p < length values.values → HasValuesInRange values.values
+    → IsPixelTurn values node_of entries p (measure_at (value_at values.values p))
+turn_unread values node_of entries p front inside range = record {
+  front = front;
+  inside = inside;
+  in_range = λ v e. range p v (slice_get-get_or values.values p None inside ∙ ap (λ (o : Option ℤ). let x : Option (Option ℤ) = Some o in x) e);
+  pixel_is = refl;
+}
+
 pub turn_yes : (values : Raster) (node_of : List ℕ) (entries : List Measure) (p n : ℕ) (entry pixel whole : Measure)
     → IsPixelTurn values node_of entries p pixel
     → slice_index node_of p ≡ n → slice_get entries n ≡ Some entry → whole ≡ combined entry pixel → AreOfFront values node_of (p + 1) (set entries n whole)

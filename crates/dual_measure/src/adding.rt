@@ -57,9 +57,9 @@ fn add_pixels(values: &Plane, node_of: &[u32], entries: &mut [Measure])
 {
     let shape = values.shape();
     for p in 0..shape.pixels() {
-        let pixel = Measure::of_pixel(values.get(p));
         let node = node_of[p as usize] as usize;
         if node < entries.len() {
+            let pixel = Measure::of_pixel(values.get(p));
             entries[node] = entries[node].combined(&pixel);
         }
     }

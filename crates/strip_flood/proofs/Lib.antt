@@ -15,3 +15,4 @@ mod Numbering
 mod Packing
 mod Handing
 mod Adapting
+mod Bounding

@@ -1,10 +1,11 @@
 -- A finished pixel is taken out, and a rank that ran empty is closed.
 use Rattle.std.proofs.Common.{◌≡◌, ℕ, zero, suc, ◌+◌, ◌-◌, ◌<◌, ◌≤◌, List, [], ◌∷◌, length, set, slice_index, Contains, Option, Some, None, MatchOption, ℤ}
-use Rattle.std.proofs.Common.{inl, inr, refl, sym, subst, ap, ◌∙◌, ⊎_elim, arith, get_or-set_same, get_or}
+use Rattle.std.proofs.Common.{inl, inr, refl, sym, subst, ap, ◌∙◌, ⊎_elim, arith, get_or-set_same, get_or-set_other, get_or, drop}
+use Rattle.std.specs.List.{slice_get}
 use Rattle.std.proofs.lemmas.Bool.{cases_eq, cases_lt}
 use Rattle.comp_tree.specs.Forest.{no_node, ComesEarlier}
-use Rattle.level_queue.specs.Queue.{IsEmpty, IsHighestRank, IsFront}
-use Rattle.strip_flood.proofs.Adapting.{IsPopped}
+use Rattle.level_queue.specs.Queue.{Queue, with_list, StandsOnce, IsEmpty, IsHighestRank, IsFront}
+use Rattle.strip_flood.proofs.Adapting.{IsPopped, popped_lists}
 use Rattle.strip_flood.specs.Flood.{Ground, FloodState, state_with, list_at, direction_count, rank_of, cursor_of, IsInQueue, IsEarliestKept, IsOpen, IsRanked}
 use Rattle.strip_flood.specs.Flood.{IsKeptAt, IsFair, IsBusyBut, IsTurning, IsTop, IsAtFront}
 use Rattle.strip_flood.proofs.Flow.{item_read}
@@ -26,6 +27,11 @@ pub popped_front : (result : Option ℕ) (A : Type 0) (old new : List (List ℕ)
     → MatchOption result A (λ x. IsPopped old r x new) → IsFront old r i → IsPopped old r i new
 popped_front None A old new r i no_node m f = let e : list_at old r ≡ [] = no_node m in let e2 : list_at old r ≡ i ∷ f.rest = f.front in absurd (cc)
 popped_front (Some x) A old new r i no_node m f = subst (λ y. IsPopped old r y new) (front_same (list_at old r) x i m.rest f.rest m.front f.front) m
+
+pub front_popped : (q new : Queue) (r i : ℕ) (result : Option ℕ) → StandsOnce q → result ≡ slice_get (list_at q.lists r) 0
+    → new ≡ with_list q r (drop 1 (list_at q.lists r)) → IsFront q.lists r i → IsPopped q.lists r i new.lists
+front_popped q new r i result once first rest front = popped_front result ((list_at q.lists r ≡ []) × (new.lists ≡ q.lists)) q.lists new.lists r i (λ a. a.0)
+    (popped_lists q r new result once first rest) front
 
 -- the front of a rank is a queued pixel
 pub front_queued : (g : Ground) (s : FloodState) → IsFair g s → (r i : ℕ) → IsFront s.lists r i → IsInQueue g s.cursors (g.first + i)
@@ -101,6 +107,27 @@ module _ (g : Ground) (s : FloodState) (ok : IsRanked g) (turning : IsTurning g 
                   ok.up h e p k.inside top.queued.inside (let kr : rank_of g e ≡ r = k.rank in omega arith) (let l : r < g.size =
                   retire_low in omega arith) he.value;
             })
+
+  -- the lists of the other ranks are as they were
+  list_left : (t : ℕ) → (t ≡ r → ⊥) → list_at new t ≡ list_at s.lists t
+  list_left t ne = ap (λ l. list_at l t) popped.left ∙ get_or-set_other s.lists r t popped.rest [] ne
+
+  pub retire_above : (t : ℕ) → r < t → list_at new t ≡ []
+  retire_above t lt = list_left t (λ (e : t ≡ r). omega arith) ∙ top.above t (let e : rank_of g p ≡ r = rank in omega arith)
+
+  pub retire_busy : (cursors earliest links : List ℕ) → ((t : ℕ) → (t ≡ r → ⊥) → slice_index earliest t ≡ slice_index s.earliest t)
+      → IsBusyBut g (state_with new cursors earliest links) r
+  retire_busy cursors earliest links same = record {
+    busy = λ t lt ne some empty. turning.busy t lt (λ e. some (same t ne ∙ e)) (sym (list_left t ne) ∙ empty);
+  }
+
+  -- where p is kept, no other rank's kept pixel changes
+  pub retire_other : (t : ℕ) → (t ≡ r → ⊥) → slice_index (set s.earliest r p) t ≡ slice_index s.earliest t
+  retire_other t ne = get_or-set_other s.earliest r t p 0 ne
+
+  pub retire_kept : slice_index (set s.earliest r p) r ≡ no_node → ⊥
+  retire_kept e = not_none g ok p top.queued.inside (sym (get_or-set_same s.earliest r p 0
+      (let l : r < g.size = retire_low in let n : length s.earliest ≡ g.size = turning.fair.earliest_length in omega arith)) ∙ e)
 
 -- the rank has queued pixels yet
 pub still_turning : (g : Ground) (s : FloodState) (r x : ℕ) → IsFair g s → IsBusyBut g s r → IsFront s.lists r x → IsTurning g s

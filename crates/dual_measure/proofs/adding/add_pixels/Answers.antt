@@ -1,7 +1,7 @@
 use Rattle.std.proofs.Common.{◌∙◌, ◌<◌, ◌*◌, length, refl, ap, arith}
 use Rattle.comp_tree.specs.declared.shape.Shape.{Shape}
 use Rattle.std.proofs.lemmas.Option.{slice_get-get_or}
-use Rattle.dual_measure.proofs.Passing.{turn_from_code, turn_size, turn_yes, turn_no, range_from_front, front_all}
+use Rattle.dual_measure.proofs.Passing.{turn_from_code, turn_unread, turn_size, turn_yes, turn_no, range_from_front, front_all}
 use Rattle.dual_measure.proofs.adding.add_pixels.Goals.{then-node-entries, else-node-entries}
 use Rattle.dual_measure.proofs.adding.add_pixels.Goals as goal
 
@@ -20,14 +20,15 @@ loop-p-preserved c =
     omega (arith, c.loop-p-test.true, c.pixels-p-end.ensures.product, c.shape-shape.ensures.pixels) in
     elim c.if-node-entries.branch [
       | then-node-entries w ↦ record {
-        front = rw w.entries-is (turn_yes c.args.values.now c.args.node_of.now c.loop-p.entries c.loop-p.p _ _ c.of_pixel-pixel.result w.combined.result
-            (turn_from_code _ _ _ _ _ _ c.loop-p.invariant.front inside c.get.ensures.value c.get.ensures.in_range c.of_pixel-pixel.ensures)
+        front = rw w.entries-is (turn_yes c.args.values.now c.args.node_of.now c.loop-p.entries c.loop-p.p _ _ w.of_pixel-pixel.result w.combined.result
+            (turn_from_code _ _ _ _ _ _ c.loop-p.invariant.front inside w.get.ensures.value w.get.ensures.in_range w.of_pixel-pixel.ensures)
             refl (slice_get-get_or _ _ _ w.if-node-entries.true) w.combined.ensures);
         same_length = c.if-node-entries.auto.entries ∙ c.loop-p.invariant.same_length;
       }
       | else-node-entries w ↦ record {
-        front = rw w.entries-is (turn_no c.args.values.now c.args.node_of.now c.loop-p.entries c.loop-p.p c.of_pixel-pixel.result
-            (turn_from_code _ _ _ _ _ _ c.loop-p.invariant.front inside c.get.ensures.value c.get.ensures.in_range c.of_pixel-pixel.ensures)
+        front = rw w.entries-is (turn_no c.args.values.now c.args.node_of.now c.loop-p.entries c.loop-p.p _
+            (turn_unread c.args.values.now c.args.node_of.now c.loop-p.entries c.loop-p.p c.loop-p.invariant.front inside
+            c.shape-shape.ensures.in_range)
             w.if-node-entries.false);
         same_length = c.if-node-entries.auto.entries ∙ c.loop-p.invariant.same_length;
       }

@@ -1,9 +1,10 @@
-use Rattle.std.proofs.Common.{◌≡◌, ◌≤◌, ◌++◌, List, ℕ, length, ap, ap₂, ◌∙◌, sym, subst, arith}
+use Rattle.std.proofs.Common.{◌≡◌, ◌≤◌, ◌++◌, List, [], ℕ, length, ap, ap₂, ◌∙◌, sym, subst, arith}
 use Rattle.std.specs.Mem.Slots.{slots_items}
-use Rattle.comp_tree.specs.Forest.{StandsFor}
+use Rattle.comp_tree.specs.Forest.{IsForest, StandsFor}
 use Rattle.comp_tree.specs.Grid.{IsAdjacency}
 use Rattle.strip_crew.specs.Run.{Plan, Run, IsSized, plan_of, run_with}
-use Rattle.strip_crew.specs.Claims.{run_of, AreReady}
+use Rattle.strip_crew.specs.Claims.{view, run_of, AreReady}
+use Rattle.strip_crew.specs.Counting.{fresh}
 use Rattle.strip_crew.specs.Workers.{AreFlooded}
 use Rattle.strip_crew.specs.Copied.{AreCopied}
 use Rattle.strip_crew.proofs.Keeping.{starts}
@@ -55,3 +56,55 @@ returns-clause-stands g c =
     subst (λ (l : List ℕ). StandsFor plane.values 0 l (IsAdjacency plane.values plane.shape.width c.args.connect))
     (sym (c.of-2.ensures ∙ pasted old.items new old.len old.ok.0 (same ∙ ap (λ (l : List ℕ). length l) are)))
     c.join_cut.ensures.stands
+
+pub recruit-places-requires-clause-table : goal.recruit-places-requires-clause-table
+recruit-places-requires-clause-table g c = c.in-Ok.ensures.ok.2
+
+pub recruit-places-requires-clause-words : goal.recruit-places-requires-clause-words
+recruit-places-requires-clause-words g c = c.in-Ok.ensures.ok.0
+
+pub recruit-places-requires-clause-first : goal.recruit-places-requires-clause-first
+recruit-places-requires-clause-first g c =
+    let run : run_of c.in-Ok.made.0.shared.key ≡ run_with c.of.result.value c.args.connect c.append_links.new.links.items c.args.workers =
+    ap run_of c.in-Ok.ensures.ok.5 in
+    c.in-Ok.ensures.ok.4 ∙ ap (λ (r : Run). (view (fresh c.args.workers) r, [])) (sym run)
+
+pub recruit-places-requires-clause-workers : goal.recruit-places-requires-clause-workers
+recruit-places-requires-clause-workers g c = c.requires.some
+
+pub append_links-requires : goal.append_links-requires
+append_links-requires g c =
+    let none : c.in_ok-rows.rows.len ≡ 0 = c.in_ok-rows.rows.ok.0 ∙ ap (λ (l : List ℕ). length l) c.in_ok-rows.ensures.items in
+    omega (arith, none, c.in_ok-rows.ensures.capacity)
+
+pub recruit-places-requires-clause-empty : goal.recruit-places-requires-clause-empty
+recruit-places-requires-clause-empty g c = c.in_ok-places.places.ok.0 ∙ ap (λ l. length l) c.in_ok-places.ensures.items
+
+pub recruit-places-requires-clause-room : goal.recruit-places-requires-clause-room
+recruit-places-requires-clause-room g c = c.in_ok-places.ensures.capacity
+
+pub dismiss-requires-clause-words : goal.dismiss-requires-clause-words
+dismiss-requires-clause-words g c = c.in-Ok.ensures.ok.0
+
+pub dismiss-requires-clause-some : goal.dismiss-requires-clause-some
+dismiss-requires-clause-some g c = let count : c.recruit-places.result.len ≡ c.args.workers = c.recruit-places.ensures.count in omega (arith, count, c.requires.some)
+
+pub gather_links-links-requires-clause-full : goal.gather_links-links-requires-clause-full
+gather_links-links-requires-clause-full g c = c.close_crew.ensures.full
+
+pub gather_links-links-requires-clause-cut : goal.gather_links-links-requires-clause-cut
+gather_links-links-requires-clause-cut g c = c.requires.cut
+
+pub gather_links-links-requires-clause-empty : goal.gather_links-links-requires-clause-empty
+gather_links-links-requires-clause-empty g c = c.in_ok-room.ensures.empty
+
+pub gather_links-links-requires-clause-room : goal.gather_links-links-requires-clause-room
+gather_links-links-requires-clause-room g c = c.in_ok-room.ensures.room
+
+pub returns-clause-forest : goal.returns-clause-forest
+returns-clause-forest g c =
+    let plane = c.args.plane.now in let old = c.gather_links-links.result in let are = c.deref_mut-2.ensures.value in let new =
+    c.join_cut.new.links in let same : length new ≡ length c.deref_mut-2.result.now = c.join_cut.auto.links in
+    subst (λ (l : List ℕ). IsForest plane.values 0 l)
+    (sym (c.of-2.ensures ∙ pasted old.items new old.len old.ok.0 (same ∙ ap (λ (l : List ℕ). length l) are)))
+    c.join_cut.ensures.forest

@@ -1,6 +1,6 @@
-use Rattle.std.proofs.Common.{◌≡◌, ◌+◌, ◌-◌, ◌<◌, ◌≤◌, length, set, sym, subst, ◌∙◌, arith}
+use Rattle.std.proofs.Common.{◌≡◌, ◌+◌, ◌-◌, ◌<◌, ◌≤◌, length, set, sym, subst, ◌∙◌, arith, length-set, get_or-set_same}
 use Rattle.std.proofs.lemmas.Nat.Bits.{shr_and_one}
-use Rattle.strip_flood.specs.Flood.{state_with, direction_count, cell, cursor_of, IsStep, IsTurning, IsAtFront, IsNeighbour, HasCell}
+use Rattle.strip_flood.specs.Flood.{state_with, direction_count, cell, cursor_of, work, IsStep, IsTurning, IsAtFront, IsNeighbour, HasCell}
 use Rattle.strip_flood.specs.Strips.{ground_of, looking}
 use Rattle.strip_flood.proofs.Flow.{cursor_read}
 use Rattle.strip_flood.proofs.Looking.{same_cursors}
@@ -80,3 +80,77 @@ loop-k-preserved g c =
           (subst (λ j. HasCell c.args.strip.now.width c.args.strip.now.first (length c.args.strip.now.ranks.items) c.args.at.pixel
           (cell c.args.strip.now.connect j)) at there))))
     ]
+
+pub overflow_sub-here : goal.overflow_sub-here
+overflow_sub-here g c = c.requires.front.top.queued.inside.low
+
+pub index-requires : goal.index-requires
+index-requires g c =
+    let low : c.args.strip.now.first ≤ c.args.at.pixel = c.requires.front.top.queued.inside.low in
+    let high : c.args.at.pixel < c.args.strip.now.first + length c.args.strip.now.ranks.items = c.requires.front.top.queued.inside.high in
+    let same : length c.args.self.now.cursors.items ≡ length c.args.strip.now.ranks.items = c.requires.between.turning.fair.cursors_length in
+    omega (arith, low, high, same, c.args.self.now.cursors.ok.0)
+
+pub neighbour-n-requires-clause-strip : goal.neighbour-n-requires-clause-strip
+neighbour-n-requires-clause-strip g c = c.requires.strip
+
+pub see-requires-clause-strip : goal.see-requires-clause-strip
+see-requires-clause-strip g c = c.requires.strip
+
+pub see-requires-clause-looking : goal.see-requires-clause-looking
+see-requires-clause-looking g c = c.loop-k.invariant.around
+
+pub see-requires-clause-front : goal.see-requires-clause-front
+see-requires-clause-front g c = c.loop-k.invariant.front
+
+pub index_mut-requires : goal.index_mut-requires
+index_mut-requires g c =
+    let low : c.args.strip.now.first ≤ c.args.at.pixel = c.requires.front.top.queued.inside.low in
+    let high : c.args.at.pixel < c.args.strip.now.first + length c.args.strip.now.ranks.items = c.requires.front.top.queued.inside.high in
+    let same : length (set c.see.new.self.cursors.items (c.args.at.pixel - c.args.strip.now.first) (c.loop-k.k + 1 + 1)) ≡ length c.args.strip.now.ranks.items =
+    c.see.ensures.look.after.turning.fair.cursors_length in
+    let kept : length (set c.see.new.self.cursors.items (c.args.at.pixel - c.args.strip.now.first) (c.loop-k.k + 1 + 1)) ≡ length c.see.new.self.cursors.items = length-set _ _ _ in
+    omega (arith, low, high, same, kept, c.see.new.self.cursors.ok.0)
+
+pub returns-in-Some-clause-between : goal.returns-in-Some-clause-between
+returns-in-Some-clause-between g c = record { items = c.see.ensures.look.after.items; turning = c.see.ensures.look.after.turning }
+
+pub returns-in-Some-clause-work : goal.returns-in-Some-clause-work
+returns-in-Some-clause-work g c =
+    let less : work (set c.see.new.self.cursors.items (c.args.at.pixel - c.args.strip.now.first) (c.loop-k.k + 1 + 1)) < work (set c.loop-k.self.cursors.items (c.args.at.pixel - c.args.strip.now.first) (c.loop-k.k + 1)) =
+    c.see.ensures.look.less in
+    let most : work (set c.loop-k.self.cursors.items (c.args.at.pixel - c.args.strip.now.first) (c.loop-k.k + 1)) ≤ work c.args.self.now.cursors.items = c.loop-k.invariant.step.work in
+    omega (arith, less, most)
+
+pub returns-in-Some-clause-next : goal.returns-in-Some-clause-next
+returns-in-Some-clause-next g c = c.in-Some.ensures.next
+
+pub index_mut-requires-2 : goal.index_mut-requires-2
+index_mut-requires-2 g c =
+    let low : c.args.strip.now.first ≤ c.args.at.pixel = c.requires.front.top.queued.inside.low in
+    let high : c.args.at.pixel < c.args.strip.now.first + length c.args.strip.now.ranks.items = c.requires.front.top.queued.inside.high in
+    let same : length (set c.loop-k.self.cursors.items (c.args.at.pixel - c.args.strip.now.first) (c.loop-k.k + 1)) ≡ length c.args.strip.now.ranks.items =
+    c.loop-k.invariant.around.turning.fair.cursors_length in
+    let kept : length (set c.loop-k.self.cursors.items (c.args.at.pixel - c.args.strip.now.first) (c.loop-k.k + 1)) ≡ length c.loop-k.self.cursors.items = length-set _ _ _ in
+    omega (arith, low, high, same, kept, c.loop-k.self.cursors.ok.0)
+
+pub returns-clause-between : goal.returns-clause-between
+returns-clause-between g c = record { items = c.loop-k.invariant.around.items; turning = c.loop-k.invariant.around.turning }
+
+pub returns-clause-step : goal.returns-clause-step
+returns-clause-step g c = c.loop-k.invariant.step
+
+pub returns-clause-next : goal.returns-clause-next
+returns-clause-next g c =
+    let all : c.directions-count.result ≡ direction_count c.args.strip.now.connect = c.directions-count.ensures.all in
+    let low : c.args.strip.now.first ≤ c.args.at.pixel = c.requires.front.top.queued.inside.low in
+    let high : c.args.at.pixel < c.args.strip.now.first + length c.args.strip.now.ranks.items = c.requires.front.top.queued.inside.high in
+    let same : length (set c.loop-k.self.cursors.items (c.args.at.pixel - c.args.strip.now.first) (c.loop-k.k + 1)) ≡ length c.args.strip.now.ranks.items =
+    c.loop-k.invariant.around.turning.fair.cursors_length in
+    let kept : length (set c.loop-k.self.cursors.items (c.args.at.pixel - c.args.strip.now.first) (c.loop-k.k + 1)) ≡ length c.loop-k.self.cursors.items = length-set _ _ _ in
+    let most : c.loop-k.k + 1 ≤ direction_count c.args.strip.now.connect + 1 = c.loop-k.invariant.last in
+    let end : c.loop-k.k + 1 ≡ direction_count c.args.strip.now.connect + 1 = omega (arith, all, most, c.loop-k-test.false) in
+    record {
+      current = c.loop-k.invariant.front;
+      turned = get_or-set_same c.loop-k.self.cursors.items (c.args.at.pixel - c.args.strip.now.first) (c.loop-k.k + 1) 0 (omega (arith, low, high, same, kept)) ∙ end;
+    }
