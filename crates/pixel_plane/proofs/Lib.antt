@@ -4,5 +4,6 @@ mod Bounds
 mod Decoding
 mod Planes
 mod Naming
+mod Narrow
 mod ImageData
 pub mod Exported
