@@ -47,6 +47,19 @@ pub low_read : (r : Raster) (c : ℕ) (h : ℤ) (w : Option ℤ) → h ≡ level
 unfolding level
 low_read r c h w e a = subst (λ z. ReachesLevel z w) (sym e) a
 
+-- What is read of a pixel's link, and where that leads.
+module _ (values : List (Option ℤ)) (first : ℕ) (links : List ℕ) (forest : IsForest values first links) (p link : ℕ) (inside : IsWithin first (length links) p)
+    (read : get_or links (p - first) 0 ≡ link) where
+  pub link_told : link_of first links p ≡ link
+  link_told = get_or_default_zero links (p - first) no_node
+      (let low : first ≤ p = inside.low in let high : p < first + length links = inside.high in omega arith) ∙ read
+
+  pub link_leads : (link ≡ no_node → ⊥) → IsWithin first (length links) link × ComesEarlier values link p
+  link_leads some = subst (λ z. IsWithin first (length links) z × ComesEarlier values z p) link_told (⊎_elim
+      (λ (n : link_of first links p ≡ no_node). absurd (some (sym link_told ∙ n)))
+      (λ (f : IsWithin first (length links) (link_of first links p) × ComesEarlier values (link_of first links p) p). f)
+      (forest.earlier p inside))
+
 -- The code reads the links with the default 0.
 module _ (values : List (Option ℤ)) (first : ℕ) (links : List ℕ) (forest : IsForest values first links) (small : first + length links ≤ no_node)
     (a c d : ℕ) (pa : IsPixel values first (length links) a) (link : get_or links (a - first) 0 ≡ c) (linked : c ≡ no_node → ⊥)
