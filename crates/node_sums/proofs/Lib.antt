@@ -1,4 +1,5 @@
 mod Merging
+mod Moments
 mod Sizes
 mod NodePixels
 mod Counting
