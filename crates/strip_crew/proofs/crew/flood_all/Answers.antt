@@ -87,7 +87,8 @@ pub dismiss-requires-clause-words : goal.dismiss-requires-clause-words
 dismiss-requires-clause-words g c = c.in-Ok.ensures.ok.0
 
 pub dismiss-requires-clause-some : goal.dismiss-requires-clause-some
-dismiss-requires-clause-some g c = let count : c.recruit-places.result.len ≡ c.args.workers = c.recruit-places.ensures.count in omega (arith, count, c.requires.some)
+dismiss-requires-clause-some g c = let count : c.recruit-places.result.len ≡ c.args.workers =
+    c.recruit-places.ensures.count in omega (arith, count, c.requires.some)
 
 pub gather_links-links-requires-clause-full : goal.gather_links-links-requires-clause-full
 gather_links-links-requires-clause-full g c = c.close_crew.ensures.full

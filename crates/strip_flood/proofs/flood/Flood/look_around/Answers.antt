@@ -109,7 +109,8 @@ index_mut-requires g c =
     let high : c.args.at.pixel < c.args.strip.now.first + length c.args.strip.now.ranks.items = c.requires.front.top.queued.inside.high in
     let same : length (set c.see.new.self.cursors.items (c.args.at.pixel - c.args.strip.now.first) (c.loop-k.k + 1 + 1)) ≡ length c.args.strip.now.ranks.items =
     c.see.ensures.look.after.turning.fair.cursors_length in
-    let kept : length (set c.see.new.self.cursors.items (c.args.at.pixel - c.args.strip.now.first) (c.loop-k.k + 1 + 1)) ≡ length c.see.new.self.cursors.items = length-set _ _ _ in
+    let kept : length (set c.see.new.self.cursors.items (c.args.at.pixel - c.args.strip.now.first) (c.loop-k.k + 1 + 1)) ≡ length c.see.new.self.cursors.items =
+    length-set _ _ _ in
     omega (arith, low, high, same, kept, c.see.new.self.cursors.ok.0)
 
 pub returns-in-Some-clause-between : goal.returns-in-Some-clause-between
@@ -117,9 +118,11 @@ returns-in-Some-clause-between g c = record { items = c.see.ensures.look.after.i
 
 pub returns-in-Some-clause-work : goal.returns-in-Some-clause-work
 returns-in-Some-clause-work g c =
-    let less : work (set c.see.new.self.cursors.items (c.args.at.pixel - c.args.strip.now.first) (c.loop-k.k + 1 + 1)) < work (set c.loop-k.self.cursors.items (c.args.at.pixel - c.args.strip.now.first) (c.loop-k.k + 1)) =
+    let less : work (set c.see.new.self.cursors.items (c.args.at.pixel - c.args.strip.now.first) (c.loop-k.k + 1 + 1))
+    < work (set c.loop-k.self.cursors.items (c.args.at.pixel - c.args.strip.now.first) (c.loop-k.k + 1)) =
     c.see.ensures.look.less in
-    let most : work (set c.loop-k.self.cursors.items (c.args.at.pixel - c.args.strip.now.first) (c.loop-k.k + 1)) ≤ work c.args.self.now.cursors.items = c.loop-k.invariant.step.work in
+    let most : work (set c.loop-k.self.cursors.items (c.args.at.pixel - c.args.strip.now.first) (c.loop-k.k + 1)) ≤ work c.args.self.now.cursors.items =
+    c.loop-k.invariant.step.work in
     omega (arith, less, most)
 
 pub returns-in-Some-clause-next : goal.returns-in-Some-clause-next
@@ -131,7 +134,8 @@ index_mut-requires-2 g c =
     let high : c.args.at.pixel < c.args.strip.now.first + length c.args.strip.now.ranks.items = c.requires.front.top.queued.inside.high in
     let same : length (set c.loop-k.self.cursors.items (c.args.at.pixel - c.args.strip.now.first) (c.loop-k.k + 1)) ≡ length c.args.strip.now.ranks.items =
     c.loop-k.invariant.around.turning.fair.cursors_length in
-    let kept : length (set c.loop-k.self.cursors.items (c.args.at.pixel - c.args.strip.now.first) (c.loop-k.k + 1)) ≡ length c.loop-k.self.cursors.items = length-set _ _ _ in
+    let kept : length (set c.loop-k.self.cursors.items (c.args.at.pixel - c.args.strip.now.first) (c.loop-k.k + 1)) ≡ length c.loop-k.self.cursors.items =
+    length-set _ _ _ in
     omega (arith, low, high, same, kept, c.loop-k.self.cursors.ok.0)
 
 pub returns-clause-between : goal.returns-clause-between
@@ -147,10 +151,12 @@ returns-clause-next g c =
     let high : c.args.at.pixel < c.args.strip.now.first + length c.args.strip.now.ranks.items = c.requires.front.top.queued.inside.high in
     let same : length (set c.loop-k.self.cursors.items (c.args.at.pixel - c.args.strip.now.first) (c.loop-k.k + 1)) ≡ length c.args.strip.now.ranks.items =
     c.loop-k.invariant.around.turning.fair.cursors_length in
-    let kept : length (set c.loop-k.self.cursors.items (c.args.at.pixel - c.args.strip.now.first) (c.loop-k.k + 1)) ≡ length c.loop-k.self.cursors.items = length-set _ _ _ in
+    let kept : length (set c.loop-k.self.cursors.items (c.args.at.pixel - c.args.strip.now.first) (c.loop-k.k + 1)) ≡ length c.loop-k.self.cursors.items =
+    length-set _ _ _ in
     let most : c.loop-k.k + 1 ≤ direction_count c.args.strip.now.connect + 1 = c.loop-k.invariant.last in
     let end : c.loop-k.k + 1 ≡ direction_count c.args.strip.now.connect + 1 = omega (arith, all, most, c.loop-k-test.false) in
     record {
       current = c.loop-k.invariant.front;
-      turned = get_or-set_same c.loop-k.self.cursors.items (c.args.at.pixel - c.args.strip.now.first) (c.loop-k.k + 1) 0 (omega (arith, low, high, same, kept)) ∙ end;
+      turned =
+          get_or-set_same c.loop-k.self.cursors.items (c.args.at.pixel - c.args.strip.now.first) (c.loop-k.k + 1) 0 (omega (arith, low, high, same, kept)) ∙ end;
     }

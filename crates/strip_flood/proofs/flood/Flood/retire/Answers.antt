@@ -2,7 +2,8 @@ use Rattle.std.proofs.Common.{◌≡◌, ◌-◌, ◌<◌, ◌≤◌, ap, refl, 
 use Rattle.level_queue.specs.Queue.{Queue}
 use Rattle.strip_flood.specs.Flood.{state_with, IsFair}
 use Rattle.strip_flood.specs.Strips.{ground_of, state_of}
-use Rattle.strip_flood.proofs.Retiring.{front_popped, retire_keep, retire_under, retire_over, retire_above, retire_busy, retire_other, retire_kept, earliest_read}
+use Rattle.strip_flood.proofs.Retiring.{front_popped, retire_keep, retire_under, retire_over}
+use Rattle.strip_flood.proofs.Retiring.{retire_above, retire_busy, retire_other, retire_kept, earliest_read}
 use Rattle.strip_flood.proofs.flood.Flood.retire.Goals as goal
 
 pub returns-then-kept-clause-items : goal.returns-then-kept-clause-items
@@ -66,7 +67,8 @@ returns-then-kept-at-clause-fair c =
     (state_with c.pop_front.new.self.lists (set c.args.self.now.cursors.items (c.args.at.pixel - c.args.strip.now.first) 10) c.args.self.now.earliest.items
     (set c.args.self.now.links.items (c.args.at.pixel - c.args.strip.now.first) e))) read
     (retire_under (ground_of c.args.strip.now) (state_of c.args.self.now) c.requires.strip.ranked c.requires.between.turning c.args.at.rank c.args.at.pixel
-    c.pop_front.new.self.lists c.requires.turned.current.top c.requires.turned.current.rank popped c.requires.turned.turned (λ e. c.if-kept.false (sym read ∙ e)) less)
+    c.pop_front.new.self.lists c.requires.turned.current.top c.requires.turned.current.rank popped c.requires.turned.turned
+    (λ e. c.if-kept.false (sym read ∙ e)) less)
 
 pub returns-then-kept-at-clause-busy : goal.returns-then-kept-at-clause-busy
 returns-then-kept-at-clause-busy c =
@@ -114,7 +116,8 @@ returns-clause-fair c =
     (set c.args.self.now.earliest.items c.args.at.rank c.args.at.pixel)
     (set c.args.self.now.links.items (e - c.args.strip.now.first) c.args.at.pixel))) read
     (retire_over (ground_of c.args.strip.now) (state_of c.args.self.now) c.requires.strip.ranked c.requires.between.turning c.args.at.rank c.args.at.pixel
-    c.pop_front.new.self.lists c.requires.turned.current.top c.requires.turned.current.rank popped c.requires.turned.turned (λ e. c.if-kept.false (sym read ∙ e)) more)
+    c.pop_front.new.self.lists c.requires.turned.current.top c.requires.turned.current.rank popped c.requires.turned.turned
+    (λ e. c.if-kept.false (sym read ∙ e)) more)
 
 pub returns-clause-busy : goal.returns-clause-busy
 returns-clause-busy c =
