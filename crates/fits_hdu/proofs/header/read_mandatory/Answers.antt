@@ -30,7 +30,8 @@ returns-in-Err-read_naxis-clause-told g c = λ bytes start takes.
 
 pub returns-in-Err-read_naxis-clause-cause : goal.returns-in-Err-read_naxis-clause-cause
 returns-in-Err-read_naxis-clause-cause g c =
-    caused_more _ _ _ _ c.in-Err-read_naxis.stop (λ x. absurd x) (omega (arith, c.read_first.ensures.later, c.read_bitpix.ensures.later)) c.in-Err-read_naxis.ensures.cause
+    caused_more _ _ _ _ c.in-Err-read_naxis.stop (λ x. absurd x)
+    (omega (arith, c.read_first.ensures.later, c.read_bitpix.ensures.later)) c.in-Err-read_naxis.ensures.cause
 
 pub returns-in-Err-read_naxis-clause-later : goal.returns-in-Err-read_naxis-clause-later
 returns-in-Err-read_naxis-clause-later g c = omega (arith, c.read_first.ensures.later, c.read_bitpix.ensures.later, c.read_naxis.ensures.later)
@@ -44,10 +45,12 @@ returns-in-Err-read_axes-clause-told g c = λ bytes start takes.
 
 pub returns-in-Err-read_axes-clause-cause : goal.returns-in-Err-read_axes-clause-cause
 returns-in-Err-read_axes-clause-cause g c =
-    caused_more _ _ _ _ c.in-Err-read_axes.stop (λ x. absurd x) (omega (arith, c.read_first.ensures.later, c.read_bitpix.ensures.later, c.read_naxis.ensures.later)) c.in-Err-read_axes.ensures.cause
+    caused_more _ _ _ _ c.in-Err-read_axes.stop (λ x. absurd x)
+    (omega (arith, c.read_first.ensures.later, c.read_bitpix.ensures.later, c.read_naxis.ensures.later)) c.in-Err-read_axes.ensures.cause
 
 pub returns-in-Err-read_axes-clause-later : goal.returns-in-Err-read_axes-clause-later
-returns-in-Err-read_axes-clause-later g c = omega (arith, c.read_first.ensures.later, c.read_bitpix.ensures.later, c.read_naxis.ensures.later, c.read_axes.ensures.later)
+returns-in-Err-read_axes-clause-later g c =
+    omega (arith, c.read_first.ensures.later, c.read_bitpix.ensures.later, c.read_naxis.ensures.later, c.read_axes.ensures.later)
 
 pub returns-in-Ok-read_axes-clause-told : goal.returns-in-Ok-read_axes-clause-told
 returns-in-Ok-read_axes-clause-told g c = λ bytes start takes.
@@ -66,4 +69,5 @@ returns-in-Ok-read_axes-clause-told g c = λ bytes start takes.
     }
 
 pub returns-in-Ok-read_axes-clause-later : goal.returns-in-Ok-read_axes-clause-later
-returns-in-Ok-read_axes-clause-later g c = omega (arith, c.read_first.ensures.later, c.read_bitpix.ensures.later, c.read_naxis.ensures.later, c.read_axes.ensures.later)
+returns-in-Ok-read_axes-clause-later g c =
+    omega (arith, c.read_first.ensures.later, c.read_bitpix.ensures.later, c.read_naxis.ensures.later, c.read_axes.ensures.later)
