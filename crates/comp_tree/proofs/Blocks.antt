@@ -5,13 +5,15 @@ use Rattle.std.specs.Prelude.{Result, Ok, Err, IfOk, OnOk}
 use Rattle.std.specs.Prelude.{ℤ, Option, Some, None, IfSome, IsTrue, is_some, slice_set, nat_le, nat_lt, ◌&&◌, if◌then◌else◌}
 use Rattle.std.specs.Option.{option_map}
 use Rattle.std.proofs.lemmas.List.{get_or-map, ext_get_or, length-map, length-set, get_or-set_same, get_or-set_other, set-get_or}
-use Rattle.std.proofs.lemmas.List.{get_or_append_left, get_or_push, get_or_past, get_or-append-add, get_or_default, length-append, get_or-take, get_or-drop, length-take-le, length-drop}
+use Rattle.std.proofs.lemmas.List.{get_or_append_left, get_or_push, get_or_past, get_or-append-add, get_or_default}
+use Rattle.std.proofs.lemmas.List.{length-append, get_or-take, get_or-drop, length-take-le, length-drop}
 use Rattle.std.proofs.lemmas.List.FromFn.{length-map-range_with_len, get_or-map-range_with_len, map-range_with_len_more}
 use Rattle.std.proofs.lemmas.Bool.{eqb-true, eqb-false, cases_lt, le-leb, lt-ltb, le-ltb, lt-leb}
 use Rattle.comp_tree.specs.declared.pixels.Run.{Run}
 use Rattle.comp_tree.proofs.Values.{pixel_of-undefined}
 use Rattle.comp_tree.specs.Raster.{value_at, HasGap}
-use Rattle.comp_tree.specs.Stored.{undefined_number, pixel_of, number_of_pixel, empty_run, run_of_block, place_in_run, kept_place, kept_number, kept_pixels, AreRunsApart, AreKept, AreBlocksOf}
+use Rattle.comp_tree.specs.Stored.{undefined_number, pixel_of, number_of_pixel, empty_run, run_of_block, place_in_run}
+use Rattle.comp_tree.specs.Stored.{kept_place, kept_number, kept_pixels, AreRunsApart, AreKept, AreBlocksOf}
 use Rattle.comp_tree.specs.Stored.{AreUndefined, AreUnmarked, number_if_marked, marked_numbers, marked_values}
 use Rattle.std.specs.List.{range_with_len}
 use Rattle.std.specs.Prelude.{cond, slice_index_or}
@@ -411,7 +413,8 @@ pub masked-values : (numbers : List ℤ) (marks : List Bool) → map pixel_of (m
 unfolding marked_values number_if_marked
 masked-values numbers marks =
     ext_get_or None (map pixel_of (marked_numbers numbers marks)) (marked_values (map pixel_of numbers) marks)
-    (length-map (marked_numbers numbers marks) pixel_of ∙ masked-length numbers marks ∙ sym (length-marked (map pixel_of numbers) marks ∙ length-map numbers pixel_of))
+    (length-map (marked_numbers numbers marks) pixel_of ∙ masked-length numbers marks
+    ∙ sym (length-marked (map pixel_of numbers) marks ∙ length-map numbers pixel_of))
     (λ i within. at i (subst (λ n. i < n) (length-map (marked_numbers numbers marks) pixel_of ∙ masked-length numbers marks) within))
   where
     choose : (b : Bool) (x : ℤ) → pixel_of (cond b x undefined_number) ≡ cond b (pixel_of x) None

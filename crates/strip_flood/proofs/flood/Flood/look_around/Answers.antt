@@ -158,5 +158,7 @@ returns-clause-next g c =
     record {
       current = c.loop-k.invariant.front;
       turned =
-          get_or-set_same c.loop-k.self.cursors.items (c.args.at.pixel - c.args.strip.now.first) (c.loop-k.k + 1) 0 (omega (arith, low, high, same, kept)) ∙ end;
+          get_or-set_same c.loop-k.self.cursors.items (c.args.at.pixel - c.args.strip.now.first) (c.loop-k.k + 1) 0
+          (omega (arith, low, high, same, kept))
+          ∙ end;
     }
