@@ -1,5 +1,5 @@
 -- A group of strips, divided at one of its boundaries, and joined again.
-use Rattle.std.proofs.Common.{◌≡◌, ℕ, ◌+◌, ◌-◌, ◌*◌, ◌/◌, ◌<◌, ◌≤◌, List, ◌++◌, length, get_or, take, drop, Option, ℤ, refl, sym, ap, ◌∙◌, subst, inl, inr}
+use Rattle.std.proofs.Common.{◌≡◌, ℕ, zero, suc, Bool, false, ◌==◌, ◌+◌, ◌-◌, ◌*◌, ◌/◌, ◌<◌, ◌≤◌, List, ◌++◌, length, get_or, take, drop, Option, ℤ, refl, sym, ap, ◌∙◌, subst, inl, inr}
 use Rattle.std.proofs.Common.{⊎_elim, arith, length-append, mul-le-mul_right}
 use Rattle.std.proofs.Math.Nat.{div-lt_iff_lt-mul, le-div_iff_mul-le}
 use Rattle.std.proofs.lemmas.Bool.{cases_eq, cases_lt}
@@ -44,6 +44,11 @@ pair_within values width connect first_row count rows pos are x y pair =
     let x_high : x < (row + 1) * width = (div-lt_iff_lt-mul pos).0 (omega arith) in
     let y_high : y < (row + 1) * width = (div-lt_iff_lt-mul pos).0 (omega arith) in
     (record { low = x_low; high = omega arith }, record { low = y_low; high = omega arith })
+
+-- the middle of some rows
+pub half_inside : (n : ℕ) (none : Bool) → none ≡ (n == 0) → none ≡ false → n / 2 < n
+half_inside zero none is some = absurd (cc)
+half_inside (suc n) none is some = omega arith
 
 -- one of the rows of a group lies below the group's first row, and inside the plane
 pub row_below : (plane : Raster) (first_row : ℕ) (links rows : List ℕ) → IsGroup plane first_row links rows → (k : ℕ) → k < length rows
