@@ -28,4 +28,5 @@ mod Writing
 mod Along
 mod Alike
 mod Windows
+mod Bands
 pub mod Exported

@@ -2,6 +2,7 @@ pub mod Limits
 pub mod Shapes
 pub mod Raster
 pub mod Defined
+pub mod Numbers
 pub mod Stored
 pub mod Grid
 pub mod Joined

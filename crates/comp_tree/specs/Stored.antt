@@ -8,14 +8,7 @@ use Rattle.std.specs.Ordering.{int_eq}
 use Rattle.std.specs.Prelude.{Bool, false, slice_index_or}
 use Rattle.comp_tree.specs.declared.pixels.Run.{Run}
 use Rattle.comp_tree.specs.Raster.{Raster, value_at}
-
--- stands for an undefined pixel: -2 ^ 63, which is below every value
-abbrev pub undefined_number : ℤ
-undefined_number = neg_ℤ (pos (2 ^ 63))
-
--- the pixel that is kept as this number
-unfoldable pub pixel_of : ℤ → Option ℤ
-pixel_of number = cond (int_eq number undefined_number) None (Some number)
+unfoldable pub use Rattle.comp_tree.specs.Numbers.{undefined_number, pixel_of}
 
 -- the number of pixel p out of one for each pixel
 abbrev pub number_of_pixel : List ℤ → ℕ → ℤ

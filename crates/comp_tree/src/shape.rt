@@ -1,6 +1,6 @@
 //! Shapes of images, and connectivity.
 
-ghost use Rattle.std.specs.Prelude.{◌≡◌, ◌*◌, ◌^◌, ◌≤◌, ◌<◌, ◌↔◌, IsSome, IfSome};
+ghost use Rattle.std.specs.Prelude.{◌≡◌, ◌*◌, ◌%◌, ◌^◌, ◌≤◌, ◌<◌, ◌↔◌, IsSome, IfSome};
 ghost use Rattle.comp_tree.specs.Limits.{IsWithinLimits};
 
 /// The width and the height of an image in pixels: each from 1 to 65,535, and their product at most 2^24.
@@ -33,6 +33,15 @@ impl Shape {
         ensures few { result ≤ 2 ^ 24 }
     {
         self.width * self.height
+    }
+
+    /// How many pixels are in each of `parts` bands of whole rows: as many rows in each as there are parts for, and fewer
+    /// in the last. 0 counts as 1.
+    pub fn band_size(self, parts: u32) -> u32
+        ensures some { 0 < result }
+        ensures whole_rows { result % self.width ≡ 0 }
+    {
+        self.height.div_ceil(parts.max(1)) * self.width
     }
 }
 
