@@ -58,6 +58,16 @@ pub count-each : (count : ℕ) (runs : Option (List Run)) (values : List (Option
 count-each count None values kept e = kept
 count-each count (Some runs) values kept e = let wrong : (let o : Option (List Run) = Some runs in o) ≡ None = e in absurd cc
 
+-- with as many others kept in their place, these are all pixels
+pub each-changed : (count : ℕ) (runs : Option (List Run)) (values new : List (Option ℤ)) → AreKept count runs values → runs ≡ None
+    → length new ≡ length values → new ≡ kept_pixels count runs new
+each-changed count None values new kept e all = same-each count None new (all ∙ kept) e
+each-changed count (Some runs) values new kept e all = let wrong : (let o : Option (List Run) = Some runs in o) ≡ None = e in absurd cc
+
+pub none_there : {X Y : Type 0} (f : X → Y) (o : Option X) → is_some o ≡ false → option_map f o ≡ None
+none_there f None e = refl
+none_there f (Some x) e = absurd cc
+
 -- ---- places
 
 -- a place in a run, and none beside it
@@ -229,19 +239,6 @@ unkept-set count runs values p value within e defined =
         → o ≡ get_or (kept_pixels count runs values) p None
     same None h = sym undefined
     same (Some v) h = let wrong : IsTrue (is_some (let o : Option ℤ = None in o)) = subst (λ (o : Option ℤ). IsTrue (is_some o)) undefined h in cc
-
-pub kept-after : (count : ℕ) (runs : Option (List Run)) (values : List (Option ℤ)) (i : ℕ) (value : Option ℤ) → AreKept count runs values
-    → AreKept count runs (set values i value)
-kept-after count None values i value kept = length-set values i value ∙ kept
-kept-after count (Some runs) values i value kept = (
-  kept.0,
-  record {
-    inside = λ b lt.
-        subst (λ n. (run_of_block runs b).start + ((run_of_block runs b).end - (run_of_block runs b).first) ≤ n) (sym (length-set values i value))
-        (kept.1.inside b lt);
-    apart = kept.1.apart;
-  },
-)
 
 -- ---- blocks one after the other
 

@@ -1,8 +1,9 @@
 //! How a plane keeps its pixels: each of them, or, where few are defined, of each block of 32 pixels those from its first defined pixel
 //! to its last.
 
-ghost use Rattle.std.specs.Prelude.{◌≡◌, ℕ, ◌+◌, ◌-◌, ◌*◌, ◌++◌, ◌^◌, ◌<◌, ◌≤◌, None, length, map, IfOk, OnOk, IfSome, IsTrue, is_some, slice_set};
-ghost use Rattle.comp_tree.specs.Raster.{value_at, HasGap};
+ghost use Rattle.std.specs.Prelude.{◌≡◌, ℕ, ◌+◌, ◌-◌, ◌*◌, ◌++◌, ◌^◌, ◌<◌, ◌≤◌, None, length, map, IfOk, OnOk, OnErr, IfSome, IsTrue, is_some, slice_set};
+ghost use Rattle.std.specs.Fork.{AcceptsChunksMut, AllInChunks};
+ghost use Rattle.comp_tree.specs.Raster.{value_at, HasGap, HasValuesInRange};
 ghost use Rattle.std.specs.Option.{option_map};
 ghost use Rattle.comp_tree.specs.Stored.{kept_place, place_in_run as place_in_run_of, AreBlocksOf};
 ghost use Rattle.comp_tree.specs.Stored.{AreUnmarked, value_if_marked, marked_values};
@@ -12,6 +13,8 @@ use crate::pixel::Pixel;
 use costs::OutOfMemory;
 use std::alloc::Global;
 use std::marker::Model;
+use std::thread;
+use std::thread::Threads;
 
 // How many pixels there are in a block.
 const BLOCK: usize = 32;
@@ -97,6 +100,44 @@ impl Pixels {
         }
     }
 
+    // Changes the pixels in bands of `size`, as a plane's `change_bands` does. Those that are kept in blocks are spread out before.
+    pub(crate) fn change_bands<R: Threads + Sync, F: Fn(usize, &mut [Pixel]) + Sync>(
+        &mut self,
+        rt: &R,
+        alloc: Global,
+        size: usize,
+        change: &F,
+    ) -> Result<(), OutOfMemory>
+        requires some { 0 < size }
+        requires in_range { HasValuesInRange self.old }
+        requires accepts { AcceptsChunksMut F.Fn change.now size self.old }
+        ensures one_each { length self.new ≡ length self.old }
+        ensures changed { OnOk result (AllInChunks F.Fn change.now size self.old self.new) }
+        ensures unchanged { OnErr result (self.new ≡ self.old) }
+    {
+        if self.runs.is_none() {
+            change_all(rt, &mut self.kept, size, change);
+            return Ok(());
+        }
+        let mut pixels = self.spread_out(alloc)?;
+        change_all(rt, &mut pixels, size, change);
+        *self = Pixels::of(pixels);
+        Ok(())
+    }
+
+    // All pixels.
+    fn spread_out(&self, alloc: Global) -> Result<Vec<Pixel>, OutOfMemory>
+        requires { HasValuesInRange self.now }
+        ensures { IfOk result (λ pixels. pixels.items ≡ self.now) }
+    {
+        let count = self.count;
+        let mut pixels = Vec::with_capacity(alloc, count)?;
+        for p in 0..count {
+            pixels.push(Pixel::of(self.get(p)))?;
+        }
+        Ok(pixels)
+    }
+
     // The next pixel behind this one that may be defined. Where pixels are kept in blocks, those beside a run are passed over.
     #[inline(always)]
     pub(crate) fn behind(&self, p: usize) -> usize
@@ -137,6 +178,21 @@ impl Pixels {
             Some(_) => Ok(None),
         }
     }
+}
+
+// Changes all pixels in bands of `size`, each in a thread of its own where one can be made.
+fn change_all<R: Threads + Sync, F: Fn(usize, &mut [Pixel]) + Sync>(
+    rt: &R,
+    pixels: &mut Vec<Pixel>,
+    size: usize,
+    change: &F,
+)
+    requires some { 0 < size }
+    requires accepts { AcceptsChunksMut F.Fn change.now size pixels.old.items }
+    ensures one_each { length pixels.new.items ≡ length pixels.old.items }
+    ensures changed { AllInChunks F.Fn change.now size pixels.old.items pixels.new.items }
+{
+    thread::for_each_chunk_mut(rt, pixels, size, change);
 }
 
 // Which of the kept pixels is this one, if one is.

@@ -1,7 +1,9 @@
 //! Planes: images of whole numbers with undefined pixels.
 
-ghost use Rattle.std.specs.Prelude.{◌≡◌, ◌*◌, ◌<◌, ◌≤◌, true, length, is_some, slice_set, IfOk, IfSome, IsTrue};
+ghost use Rattle.std.specs.Prelude.{◌≡◌, ◌*◌, ◌<◌, ◌≤◌, true, length, is_some, slice_set, IfOk, IfSome, OnOk, OnErr, IsTrue};
 ghost use Rattle.std.specs.List.{list_all};
+ghost use Rattle.std.specs.Fork.{AcceptsChunksMut, AllInChunks};
+ghost use Rattle.comp_tree.specs.Bands.{LeavesInRange};
 ghost use Rattle.comp_tree.specs.Limits.{IsWithinRange};
 ghost use Rattle.comp_tree.specs.Raster.{is_pixel_value as may_stand, raster_of};
 ghost use Rattle.comp_tree.specs.Raster.{Raster, HasValuesInRange, HasGap, value_at, is_defined, level, is_at_least, is_earlier, without_unmarked};
@@ -12,6 +14,7 @@ use crate::shape::Shape;
 use costs::OutOfMemory;
 use std::alloc::Global;
 use std::marker::Model;
+use std::thread::Threads;
 
 /// An image of whole numbers from -2^37 to 2^37, in which a pixel may be undefined.
 ///
@@ -193,6 +196,30 @@ impl Plane {
                 self.set(p, None);
             }
         }
+    }
+
+    /// Changes the pixels in bands of `size`, each in a thread of its own where one can be made. `change` is called with the
+    /// number of a band's first pixel, and the band. The last band may have fewer pixels.
+    ///
+    /// The one error is that memory was refused, which only a plane of few pixels takes (it is kept in full afterwards); the
+    /// plane is as it was then.
+    pub fn change_bands<R: Threads + Sync, F: Fn(usize, &mut [Pixel]) + Sync>(
+        &mut self,
+        rt: &R,
+        alloc: Global,
+        size: u32,
+        change: &F,
+    ) -> Result<(), OutOfMemory>
+        requires some { 0 < size }
+        requires accepts { AcceptsChunksMut F.Fn change.now size self.old.values }
+        requires in_range { LeavesInRange F.Fn change.now size self.old.values }
+        ensures shape { self.new.shape ≡ self.old.shape }
+        ensures one_each { length self.new.values ≡ length self.old.values }
+        ensures changed { OnOk result
+            (AllInChunks F.Fn change.now size self.old.values self.new.values) }
+        ensures unchanged { OnErr result (self.new ≡ self.old) }
+    {
+        self.pixels.change_bands(rt, alloc, size as usize, change)
     }
 
     /// Keeps the pixels in less memory, where few of them are defined. For a moment it takes more.
