@@ -8,7 +8,7 @@ use Rattle.orders.specs.declared.words.Usage.{Usage as AtFault}
 use Rattle.orders.specs.Words.{order_of}
 use Rattle.detect_top.specs.Products.{image_made}
 use Rattle.detect_top.specs.Answers.{end_status, end_of}
-use Rattle.detect_top.specs.Streams.{stop_of}
+use Rattle.image_input.specs.Streams.{stop_of}
 use Rattle.detect_top.specs.Headline.{asked_by, asked_for, asked_of}
 use Rattle.detect_top.specs.Laws.{AnswersAreOfWordsAndBytes}
 

@@ -15,7 +15,7 @@ use Rattle.detect_top.specs.declared.top.End.{End}
 use Rattle.detect_top.specs.declared.top.End.TheVariants.{Done}
 use Rattle.detect_top.specs.Lines.{tree_lines, node_list}
 use Rattle.detect_top.specs.Products.{output_of, image_made}
-use Rattle.detect_top.specs.Streams.{ImageRead, memory_at_verdict, stop_of, TakesOneOf}
+use Rattle.image_input.specs.Streams.{ImageRead, memory_at_verdict, stop_of, TakesOneOf}
 use Rattle.detect_top.specs.Answers.{end_status, note_of, end_of}
 use Rattle.detect_top.specs.Headline.{Answer, Asked, output_on, answer_to_verdict, asked_for, asked_by, Tells}
 use Rattle.detect_top.specs.Headline.{Took, TookOneOf, InputUse, OutputUse, IsUnused, Follows, IsRunOf}

@@ -1,7 +1,5 @@
 -- The lemmas of this crate that crates above use. Its other modules of lemmas are its own.
 
--- the verdict on an HDU is the one on what is found, and where nothing is found the reading stops by it, or by another verdict on what is found
-pub use Rattle.detect_top.proofs.Images.{verdict_is, search_stopped, stopped_as}
 -- where all was read, the end that wrote all is the answer's, and one at a write fault wrote a front of its output
 pub use Rattle.detect_top.proofs.Ends.{read_answered, read_cut}
 -- one of some counts of bytes was taken of those that are told; what a run does follows from its end

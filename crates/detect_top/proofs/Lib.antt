@@ -1,4 +1,3 @@
-mod Images
 mod NodeLines
 mod Ends
 mod Products

@@ -13,9 +13,9 @@ use Rattle.orders.specs.declared.words.Usage.{Usage as AtFault}
 use Rattle.detect_top.specs.declared.top.End.{End}
 use Rattle.detect_top.specs.declared.top.End.TheVariants.{Done, Usage, Refused}
 use Rattle.orders.specs.Words.{order_of}
-use Rattle.detect_top.specs.Faults.{IsCutShort}
+use Rattle.image_input.specs.Faults.{IsCutShort}
 use Rattle.detect_top.specs.Answers.{end_status, note_of, end_of}
-use Rattle.detect_top.specs.Streams.{stop_of, memory_at_verdict}
+use Rattle.image_input.specs.Streams.{stop_of, memory_at_verdict}
 use Rattle.detect_top.specs.Products.{output_of, image_made}
 
 -- ---- what words ask

@@ -1,9 +1,7 @@
-pub mod Faults
 pub mod Lines
 pub mod Catalogues
 pub mod Trials
 pub mod Products
-pub mod Streams
 pub mod Answers
 pub mod Headline
 pub mod Laws

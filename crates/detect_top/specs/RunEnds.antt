@@ -6,7 +6,7 @@ use Rattle.dev_io.specs.Causes.{Rose}
 use Rattle.dev_io.specs.Streams.{Takes, AppendsPrefix}
 use Rattle.detect_top.specs.declared.top.End.{End}
 use Rattle.detect_top.specs.declared.top.End.TheVariants.{Done, Usage, Refused, ReadFault, WriteFault, NoMemory}
-use Rattle.detect_top.specs.Faults.{IsCutShort}
+use Rattle.image_input.specs.Faults.{IsCutShort}
 use Rattle.detect_top.specs.Headline.{Answer, Asked, InputUse, OutputUse, Took, TookAtMost, TookOneOf}
 
 -- all was read, and this is the answer's output

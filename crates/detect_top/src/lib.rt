@@ -3,8 +3,6 @@
 
 mod component;
 mod detection;
-mod fault;
-mod image;
 pub mod laws;
 mod lines;
 mod notes;
@@ -13,9 +11,7 @@ mod top;
 mod trial;
 
 pub use component::{component_tree, residual_plane};
-pub use fault::Fault;
 pub use fits_write::WriteFault;
-pub use image::{Stop, read_found};
 pub use lines::put_tree;
 pub use notes::tell;
 pub use top::{End, run};

@@ -5,13 +5,12 @@ ghost use Rattle.dev_io.specs.Streams.{PutAppends};
 ghost use Rattle.detect_top.specs.Answers.{note_of, line_at_place, refusal_line};
 ghost use Rattle.command_line.specs.Notes.{Noted};
 
-use crate::Fault;
-use crate::fault::Place;
 use crate::top::End;
 use command_line::lines::put_line;
 use command_line::notes::put_usage;
 use dev_io::{Failed, Sink};
 use fits_hdu::CardPlace;
+use image_input::{Fault, Place};
 use itoa::Buffer;
 use pixel_plane::PixelPlace;
 

@@ -10,9 +10,9 @@ use Rattle.detect_top.specs.RunEnds.{AllRead}
 use Rattle.detect_top.specs.Headline.{asked_of}
 use Rattle.detect_top.specs.Laws.{AnswersAreOfWordsAndBytes}
 use Rattle.detect_top.proofs.Exported.{by_verdict, status_by_words_and_bytes}
-use Rattle.measure_top.specs.declared.images.TwoPlanes.{TwoPlanes}
-use Rattle.measure_top.specs.TwoImages.{TwoVerdict, two_images, earlier_fault, later_fault, shapes_differ, taken_for_two, stop_of_two}
-use Rattle.measure_top.specs.TwoReads.{TwoRead}
+use Rattle.image_input.specs.declared.two_images.TwoPlanes.{TwoPlanes}
+use Rattle.image_input.specs.TwoImages.{TwoVerdict, two_images, earlier_fault, later_fault, shapes_differ, taken_for_two, stop_of_two}
+use Rattle.image_input.specs.TwoReads.{TwoRead}
 use Rattle.measure_top.specs.MeasureAnswers.{measured_of_two, measure_output, measure_answer_to_verdict, verdict_for, asked_to_measure, asked_of_all}
 
 -- both were read, and what is made of them is the answer's output

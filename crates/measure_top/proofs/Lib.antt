@@ -1,5 +1,4 @@
 mod CutPlanes
-mod TwoHdus
 mod InCut
 mod PickedRows
 mod PickedSources

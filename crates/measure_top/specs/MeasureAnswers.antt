@@ -9,7 +9,7 @@ use Rattle.orders.specs.declared.words.Usage.{Usage as AtFault}
 use Rattle.orders.specs.Words.{asks_measure, measure_order_of}
 use Rattle.detect_top.specs.Answers.{end_of}
 use Rattle.detect_top.specs.Headline.{Answer, Asked, asked_nothing, asked_of}
-use Rattle.measure_top.specs.TwoImages.{TwoVerdict, two_images, verdict_on_two, taken_for_two, stop_of_two, memory_at_two}
+use Rattle.image_input.specs.TwoImages.{TwoVerdict, two_images, verdict_on_two, taken_for_two, stop_of_two, memory_at_two}
 use Rattle.measure_top.specs.MeasuredCatalogues.{measured_output}
 
 -- what is written of an image and of the values; the job of an order to measure is to detect

@@ -2,7 +2,6 @@
 #![tactic(auto)]
 
 mod cutting;
-mod images;
 pub mod laws;
 mod measuring;
 mod picking_near;
@@ -10,8 +9,6 @@ mod top;
 
 pub use top::run_all;
 
-#[cfg(test)]
-mod images_tests;
 #[cfg(test)]
 mod in_memory;
 #[cfg(test)]

@@ -14,7 +14,7 @@ ghost use Rattle.orders.specs.Words.{HasLimits};
 ghost use Rattle.measure_top.specs.Cuts.{cut};
 ghost use Rattle.measure_top.specs.MeasuredCatalogues.{measured_hdus, measured_sources, measured_output};
 ghost use Rattle.catalogue_form.specs.Columns.{measured_columns};
-ghost use Rattle.measure_top.specs.TwoReads.{IsMeasuredDetection};
+ghost use Rattle.measure_top.specs.MeasuredDetections.{IsMeasuredDetection};
 ghost use Rattle.measure_top.specs.Picks.{HaveFittingRows, StandIn, all_cells};
 
 use crate::cutting::cut_below;

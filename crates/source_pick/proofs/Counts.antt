@@ -1,9 +1,10 @@
 -- The steps of the passes that count strong children, and hand splits upwards.
-use Rattle.std.proofs.Common.{◌≡◌, ℕ, ◌+◌, ◌*◌, ◌^◌, ◌<◌, ◌≤◌, Bool, true, false, List, length, refl, sym, ◌∙◌, ap, subst, arith, ◌⊎◌, inl, inr, get_or, set}
+use Rattle.std.proofs.Common.{◌≡◌, ℕ, ◌+◌, ◌*◌, ◌^◌, ◌<◌, ◌≤◌, Bool, true, false, List, length, refl, sym, ◌∙◌, ap, subst, arith, ◌⊎◌, inl, inr}
+use Rattle.std.proofs.Common.{get_or, set, replicate}
 use Rattle.std.specs.Prelude.{slice_get, slice_index_or, Some}
 use Rattle.std.proofs.lemmas.Bool.{cases_lt, cases_eq}
-use Rattle.std.proofs.lemmas.List.{length-set, get_or-set_same, get_or-set_other}
-use Rattle.std.proofs.lemmas.Option.{slice_get_within}
+use Rattle.std.proofs.lemmas.List.{length-set, length-replicate, get_or-replicate, get_or-set_same, get_or-set_other}
+use Rattle.std.proofs.lemmas.Option.{slice_get_within, get_or_from_slice_get}
 use Rattle.comp_tree.specs.declared.tree.NodeRow.{NodeRow}
 use Rattle.comp_tree.specs.ComponentTree.{ComponentTree, IsWellFormed, parent_in, no_node}
 use Rattle.comp_tree.specs.Laws.{IsAncestor, parent, above}
@@ -40,6 +41,20 @@ more rows entries strong k m Zero i h = record { first = k; below = omega arith;
 more rows entries strong k m One i h = record { first = h.first; second = k; apart = h.below; below = omega arith; one = h.one; other = i }
 more rows entries strong k m Several i h =
     record { first = h.first; second = h.second; apart = h.apart; below = omega (arith, h.below); one = h.one; other = h.other }
+
+all_zero : (n m : ℕ) (c : StrongChildren) → slice_get (replicate n Zero) m ≡ Some c → c ≡ Zero
+all_zero n m c e =
+    let l : m < length (replicate n Zero) = slice_get_within (replicate n Zero) m c e in
+    sym (get_or_from_slice_get (replicate n Zero) m c Zero e) ∙ get_or-replicate n m Zero Zero (omega (arith, l, length-replicate n Zero))
+
+pub counted_none : (rows : List NodeRow) (entries : List ℕ) (strong : List Bool) (n : ℕ) (children : List StrongChildren)
+    → children ≡ replicate n Zero → n ≡ length rows → AreStrongChildCounts rows entries strong 0 children
+counted_none rows entries strong n children e f =
+    subst (λ (xs : List StrongChildren). AreStrongChildCounts rows entries strong 0 xs) (sym e) (record {
+      one_each = length-replicate n Zero ∙ f;
+      each = λ m c g. subst (λ (s : StrongChildren). HasStrongChildren rows entries strong 0 m s) (sym (all_zero n m c g))
+          (record { none = λ k l i. absurd (omega arith) });
+    })
 
 pub counted_without : (rows : List NodeRow) (entries : List ℕ) (strong : List Bool) (k : ℕ) (children : List StrongChildren)
     → AreStrongChildCounts rows entries strong k children

@@ -9,6 +9,7 @@ mod Counts
 mod Flags
 mod Marks
 mod Means
+mod Fitting
 mod Rows
 mod CellsFit
 mod HighNodes

@@ -171,7 +171,7 @@ floor_up_to (negsuc n) d m some h =
 -- ---- the centre
 
 -- a thousand times a mean lies between a thousand times the bounds
-thousand_between : (sum area low high : ℕ) → 0 < area → low * area ≤ sum → sum ≤ high * area
+pub thousand_between : (sum area low high : ℕ) → 0 < area → low * area ≤ sum → sum ≤ high * area
     → (1000 * low ≤ 1000 * sum / area) × (1000 * sum / area ≤ 1000 * high)
 thousand_between sum area low high some l h =
     let a : 1000 * low * area ≡ 1000 * (low * area) = mul_assoc 1000 low area in
@@ -309,6 +309,45 @@ spread_fits area products first second k = record {
         (let e : 1000 * (2 ^ 32 * (area * area)) ≡ 1000 * 2 ^ 32 * (area * area) = omega arith in e)
         (times_thousand (2 ^ 32 * (area * area)) (pos (area * products) -ℤ pos (first * second)) above)
 
+square_bound : (area : ℕ) → area ≤ 2 ^ 24 → 2 ^ 32 * (area * area) ≤ 2 ^ 80
+square_bound area h = let l : area * area ≤ 2 ^ 48 = mul-le area area (2 ^ 24) (2 ^ 24) h h in omega arith
+
+thousand_bound : (area : ℕ) → area ≤ 2 ^ 24 → 1000 * 2 ^ 32 * (area * area) ≤ 2 ^ 90
+thousand_bound area h = let l : area * area ≤ 2 ^ 48 = mul-le area area (2 ^ 24) (2 ^ 24) h h in omega arith
+
+narrow : (area products first second : ℕ) → IsSpread area products first second → SFits w128 (pos (area * products) -ℤ pos (first * second))
+narrow area products first second k =
+    fits w128 (2 ^ 80) (pos (area * products) -ℤ pos (first * second))
+    (up_to_more (2 ^ 32 * (area * area)) (2 ^ 80) (pos (area * products) -ℤ pos (first * second)) (spread_fits area products first second k).above
+    (square_bound area k.few)) (lit< tt)
+
+-- a thousand times the difference fits
+pub thousand_fits : (area products first second : ℕ) → IsSpread area products first second
+    → SFits w128 (pos 1000 *ℤ (pos (area * products) -ℤ pos (first * second)))
+thousand_fits area products first second k =
+    fits w128 (2 ^ 90) (pos 1000 *ℤ (pos (area * products) -ℤ pos (first * second)))
+    (up_to_more (1000 * 2 ^ 32 * (area * area)) (2 ^ 90) (pos 1000 *ℤ (pos (area * products) -ℤ pos (first * second)))
+    (spread_fits area products first second k).thousand (thousand_bound area k.few)) (lit< tt)
+
+operands-read : (area products first second : ℕ) → IsSpread area products first second
+    → to_z w128 (area * products) -ℤ to_z w128 (first * second) ≡ pos (area * products) -ℤ pos (first * second)
+operands-read area products first second k =
+    let s : SpreadFits area products first second = spread_fits area products first second k in
+    ap (λ (z : ℤ). z -ℤ to_z w128 (first * second)) (to_z_pos w128 (area * products) s.whole)
+    ∙ ap (λ (z : ℤ). pos (area * products) -ℤ z) (to_z_pos w128 (first * second) s.apart)
+
+pub difference_fits : (area products first second : ℕ) → IsSpread area products first second
+    → SFits w128 (to_z w128 (area * products) -ℤ to_z w128 (first * second))
+difference_fits area products first second k =
+    subst (λ (z : ℤ). SFits w128 z) (sym (operands-read area products first second k)) (narrow area products first second k)
+
+-- the difference as it is computed
+pub difference-read : (area products first second : ℕ) → IsSpread area products first second
+    → to_z w128 (of_z w128 (to_z w128 (area * products) -ℤ to_z w128 (first * second))) ≡ pos (area * products) -ℤ pos (first * second)
+difference-read area products first second k =
+    ap (λ (z : ℤ). to_z w128 (of_z w128 z)) (operands-read area products first second k)
+    ∙ to_z-of_z w128 (pos (area * products) -ℤ pos (first * second)) (narrow area products first second k)
+
 pub spread-result : (area products first second : ℕ) (got : ℤ) → IsSpread area products first second
     → got ≡ int_div_euclid (to_z w128 (of_z w128 (pos 1000 *ℤ to_z w128 (of_z w128 (to_z w128 (area * products) -ℤ to_z w128 (first * second))))))
     (to_z w128 (area * area))
@@ -316,41 +355,15 @@ pub spread-result : (area products first second : ℕ) (got : ℤ) → IsSpread 
 unfolding spread_of
 spread-result area products first second got k e =
     let s : SpreadFits area products first second = spread_fits area products first second k in
-    let w : to_z w128 (area * products) ≡ pos (area * products) = to_z_pos w128 (area * products) s.whole in
-    let a : to_z w128 (first * second) ≡ pos (first * second) = to_z_pos w128 (first * second) s.apart in
-    let d : to_z w128 (area * area) ≡ pos (area * area) = to_z_pos w128 (area * area) (omega (arith, s.square)) in
-    e ∙ ap (λ (z : ℤ). int_div_euclid (to_z w128 (of_z w128 (pos 1000 *ℤ to_z w128 (of_z w128 (z -ℤ to_z w128 (first * second)))))) (to_z w128 (area * area))) w
-    ∙ ap (λ (z : ℤ). int_div_euclid (to_z w128 (of_z w128 (pos 1000 *ℤ to_z w128 (of_z w128 (pos (area * products) -ℤ z))))) (to_z w128 (area * area))) a
-    ∙ ap (λ (z : ℤ). int_div_euclid (to_z w128 (of_z w128 (pos 1000 *ℤ z))) (to_z w128 (area * area)))
-    (to_z-of_z w128 (pos (area * products) -ℤ pos (first * second))
-    (fits w128 (2 ^ 80) (pos (area * products) -ℤ pos (first * second))
-    (up_to_more (2 ^ 32 * (area * area)) (2 ^ 80) (pos (area * products) -ℤ pos (first * second)) s.above (square_bound area k.few)) (lit< tt)))
+    e ∙ ap (λ (z : ℤ). int_div_euclid (to_z w128 (of_z w128 (pos 1000 *ℤ z))) (to_z w128 (area * area))) (difference-read area products first second k)
     ∙ ap (λ (z : ℤ). int_div_euclid z (to_z w128 (area * area)))
-    (to_z-of_z w128 (pos 1000 *ℤ (pos (area * products) -ℤ pos (first * second)))
-    (fits w128 (2 ^ 90) (pos 1000 *ℤ (pos (area * products) -ℤ pos (first * second)))
-    (up_to_more (1000 * 2 ^ 32 * (area * area)) (2 ^ 90) (pos 1000 *ℤ (pos (area * products) -ℤ pos (first * second))) s.thousand (thousand_bound area k.few))
-    (lit< tt)))
-    ∙ ap (int_div_euclid (pos 1000 *ℤ (pos (area * products) -ℤ pos (first * second)))) d
-  where
-    square_bound : (area : ℕ) → area ≤ 2 ^ 24 → 2 ^ 32 * (area * area) ≤ 2 ^ 80
-    square_bound area h = let l : area * area ≤ 2 ^ 48 = mul-le area area (2 ^ 24) (2 ^ 24) h h in omega arith
-
-    thousand_bound : (area : ℕ) → area ≤ 2 ^ 24 → 1000 * 2 ^ 32 * (area * area) ≤ 2 ^ 90
-    thousand_bound area h = let l : area * area ≤ 2 ^ 48 = mul-le area area (2 ^ 24) (2 ^ 24) h h in omega arith
+    (to_z-of_z w128 (pos 1000 *ℤ (pos (area * products) -ℤ pos (first * second))) (thousand_fits area products first second k))
+    ∙ ap (int_div_euclid (pos 1000 *ℤ (pos (area * products) -ℤ pos (first * second)))) (to_z_pos w128 (area * area) (omega (arith, s.square)))
 
 pub spread-fits : (area products first second : ℕ) (got : ℤ) → IsSpread area products first second → got ≡ spread_of area products first second → SFits w64 got
 spread-fits area products first second got k e =
     subst (λ (z : ℤ). SFits w64 z) (sym e) (fits w64 (1000 * 2 ^ 32) (spread_of area products first second) (spread_fits area products first second k).spread
     (lit< tt))
-
-pub difference_fits : (area products first second : ℕ) → IsSpread area products first second
-    → SFits w128 (to_z w128 (area * products) -ℤ to_z w128 (first * second))
-difference_fits area products first second k =
-    let s : SpreadFits area products first second = spread_fits area products first second k in
-    rw (to_z_pos w128 (area * products) s.whole, to_z_pos w128 (first * second) s.apart)
-    (fits w128 (2 ^ 80) (pos (area * products) -ℤ pos (first * second))
-    (up_to_more (2 ^ 32 * (area * area)) (2 ^ 80) (pos (area * products) -ℤ pos (first * second)) s.above
-    (let l : area * area ≤ 2 ^ 48 = mul-le area area (2 ^ 24) (2 ^ 24) k.few k.few in omega arith)) (lit< tt))
 
 -- ---- the centre as it is computed
 
@@ -383,6 +396,11 @@ moment_up_to moment (pos f) h s l u =
     record { low = omega (arith, ints); high = omega (arith, ints) }
 moment_up_to moment (negsuc f) h s l u = absurd (omega (arith, ints))
 
+pub thousand_moments_fit : (moment : ℤ) (sum : ℕ) (flux : ℤ) (area : ℕ) → IsMean moment sum flux area 0 65535 → SFits w128 (pos 1000 *ℤ moment)
+thousand_moments_fit moment sum flux area k =
+    fits w128 (1000 * 2 ^ 78) (pos 1000 *ℤ moment)
+    (times_thousand (2 ^ 78) moment (moment_up_to moment flux k.not_negative k.small k.moment_low k.moment_high)) (lit< tt)
+
 pub centre-with : (moment : ℤ) (sum : ℕ) (flux : ℤ) (area : ℕ) (got : ℤ) → IsMean moment sum flux area 0 65535 → (of_z w64 flux ≡ 0 → ⊥) → SFits w64 flux
     → SFits w128 moment
     → got ≡ int_div_euclid (to_z w128 (of_z w128 (pos 1000 *ℤ to_z w128 (of_z w128 moment)))) (to_z w128 (of_z w128 (to_z w64 (of_z w64 flux))))
@@ -391,21 +409,30 @@ unfolding centre_of
 centre-with moment sum flux area got k some f m e =
     e ∙ ap (λ (z : ℤ). int_div_euclid (to_z w128 (of_z w128 (pos 1000 *ℤ z))) (to_z w128 (of_z w128 (to_z w64 (of_z w64 flux))))) (to_z-of_z w128 moment m)
     ∙ ap (λ (z : ℤ). int_div_euclid z (to_z w128 (of_z w128 (to_z w64 (of_z w64 flux)))))
-    (to_z-of_z w128 (pos 1000 *ℤ moment) (fits w128 (1000 * 2 ^ 78) (pos 1000 *ℤ moment)
-    (times_thousand (2 ^ 78) moment (moment_up_to moment flux k.not_negative k.small k.moment_low k.moment_high)) (lit< tt)))
+    (to_z-of_z w128 (pos 1000 *ℤ moment) (thousand_moments_fit moment sum flux area k))
     ∙ ap (int_div_euclid (pos 1000 *ℤ moment)) (wide flux f)
     ∙ ap (λ (b : Bool). cond b (floor_of (pos (1000 * sum)) (pos area)) (floor_of (pos 1000 *ℤ moment) flux)) (sym other)
   where
     other : int_eq flux (pos 0) ≡ false
     other = false_from_ne_true (int_eq flux (pos 0)) (λ u. some (ap (of_z w64) (int_eq-true flux (pos 0) u)))
 
+pub centre_fits : (moment : ℤ) (sum : ℕ) (flux : ℤ) (area : ℕ) (got : ℤ) → IsMean moment sum flux area 0 65535 → got ≡ centre_of moment sum flux area
+    → SFits w64 got
+centre_fits moment sum flux area got k e =
+    subst (λ (z : ℤ). SFits w64 z) (sym e)
+    (fits w64 65535000 (centre_of moment sum flux area) (centre-small moment sum flux area 0 65535 k) (lit< tt))
+
+pub centre-cast : (moment : ℤ) (sum : ℕ) (flux : ℤ) (area : ℕ) (got : ℤ) → IsMean moment sum flux area 0 65535 → got ≡ centre_of moment sum flux area
+    → SFits w64 (to_z w128 (of_z w128 got))
+centre-cast moment sum flux area got k e =
+    let b : SFits w64 got = centre_fits moment sum flux area got k e in
+    subst (λ (z : ℤ). SFits w64 z) (sym (to_z-of_z w128 got (record { sfits = omega (arith, b.sfits) }))) b
+
 pub centre-read : (moment : ℤ) (sum : ℕ) (flux : ℤ) (area : ℕ) (got : ℤ) → IsMean moment sum flux area 0 65535 → got ≡ centre_of moment sum flux area
     → to_z w64 (of_z w64 (to_z w128 (of_z w128 got))) ≡ centre_of moment sum flux area
 centre-read moment sum flux area got k e =
-    let small : IsUpTo 65535000 (centre_of moment sum flux area) = centre-small moment sum flux area 0 65535 k in
-    let a : SFits w128 got = subst (λ (z : ℤ). SFits w128 z) (sym e) (fits w128 65535000 (centre_of moment sum flux area) small (lit< tt)) in
-    let b : SFits w64 got = subst (λ (z : ℤ). SFits w64 z) (sym e) (fits w64 65535000 (centre_of moment sum flux area) small (lit< tt)) in
-    ap (λ (z : ℤ). to_z w64 (of_z w64 z)) (to_z-of_z w128 got a) ∙ to_z-of_z w64 got b ∙ e
+    let b : SFits w64 got = centre_fits moment sum flux area got k e in
+    ap (λ (z : ℤ). to_z w64 (of_z w64 z)) (to_z-of_z w128 got (record { sfits = omega (arith, b.sfits) })) ∙ to_z-of_z w64 got b ∙ e
 
 pub spread-read : (area products first second : ℕ) (got : ℤ) → IsSpread area products first second → got ≡ spread_of area products first second
     → to_z w64 (of_z w64 (to_z w128 (of_z w128 got))) ≡ spread_of area products first second

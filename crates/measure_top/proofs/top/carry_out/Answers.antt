@@ -1,8 +1,8 @@
 use Rattle.std.proofs.Common.{refl, subst}
-use Rattle.detect_top.specs.declared.image.Stop.{Stop}
+use Rattle.image_input.specs.declared.image.Stop.{Stop}
 use Rattle.detect_top.proofs.Exported.{took_one, read_answered, read_cut}
-use Rattle.measure_top.specs.TwoImages.{memory_at_two}
-use Rattle.measure_top.specs.TwoReads.{TwoStopped}
+use Rattle.image_input.specs.TwoImages.{memory_at_two}
+use Rattle.image_input.specs.TwoReads.{TwoStopped}
 use Rattle.measure_top.specs.MeasureAnswers.{verdict_for}
 use Rattle.measure_top.proofs.top.carry_out.Goals as goal
 

@@ -1,5 +1,5 @@
 use Rattle.std.proofs.Common.{ap₂}
-use Rattle.measure_top.specs.TwoImages.{verdict_on_two}
+use Rattle.image_input.specs.TwoImages.{verdict_on_two}
 use Rattle.measure_top.proofs.Ended.{both_read}
 use Rattle.measure_top.proofs.top.read_and_make.Goals as goal
 

@@ -1,4 +1,6 @@
-use Rattle.std.proofs.Common.{◌∙◌, ℕ, List, sym, subst, length}
+use Rattle.std.proofs.Common.{◌∙◌, ℕ, List, replicate, sym, ap, subst, length}
+use Rattle.std.proofs.lemmas.List.{length-replicate}
+use Rattle.std.proofs.lemmas.Result.{IfOk-from_err}
 use Rattle.node_sums.proofs.Exported.{take_front}
 use Rattle.source_pick.specs.Passes.{AreNumbered}
 use Rattle.source_pick.proofs.Marks.{map_bound}
@@ -20,3 +22,36 @@ returns-clause-few c =
     map_bound c.args.tree.now c.args.sources.now _ c.requires
     (take_front c.number_all.new.map _ _ (c.number_all.auto.map ∙ c.deref_mut.ensures.len)
     ∙ c.number_all.ensures c.args.sources.now c.requires.plane c.requires.connect c.requires numbered c.requires.tree_is)
+
+pub numbers_of_nodes-requires : goal.numbers_of_nodes-requires
+numbers_of_nodes-requires c = c.requires
+
+pub returns-in_err-numbers-clause-exact : goal.returns-in_err-numbers-clause-exact
+returns-in_err-numbers-clause-exact c = IfOk-from_err _ _ c.from_residual.ensures.0
+
+pub returns-in_err-numbers-clause-one_each : goal.returns-in_err-numbers-clause-one_each
+returns-in_err-numbers-clause-one_each c = IfOk-from_err _ _ c.from_residual.ensures.0
+
+pub returns-in_err-numbers-clause-few : goal.returns-in_err-numbers-clause-few
+returns-in_err-numbers-clause-few c = IfOk-from_err _ _ c.from_residual.ensures.0
+
+pub returns-in_err-map-clause-exact : goal.returns-in_err-map-clause-exact
+returns-in_err-map-clause-exact c = IfOk-from_err _ _ c.from_residual-in_err-map.ensures.0
+
+pub returns-in_err-map-clause-one_each : goal.returns-in_err-map-clause-one_each
+returns-in_err-map-clause-one_each c = IfOk-from_err _ _ c.from_residual-in_err-map.ensures.0
+
+pub returns-in_err-map-clause-few : goal.returns-in_err-map-clause-few
+returns-in_err-map-clause-few c = IfOk-from_err _ _ c.from_residual-in_err-map.ensures.0
+
+pub number_all-requires-clause-numbers : goal.number_all-requires-clause-numbers
+number_all-requires-clause-numbers c = ap length c.deref.ensures.value ∙ c.in_ok-numbers.ensures.one_each
+
+pub number_all-requires-clause-blank : goal.number_all-requires-clause-blank
+number_all-requires-clause-blank c =
+    c.deref_mut.ensures.value ∙ c.in_ok-map.ensures ∙ ap (λ (n : ℕ). replicate n 0) (ap length c.node_of.ensures)
+
+pub returns-clause-one_each : goal.returns-clause-one_each
+returns-clause-one_each c =
+    ap length (take_front c.number_all.new.map _ _ (c.number_all.auto.map ∙ c.deref_mut.ensures.len)) ∙ c.number_all.auto.map
+    ∙ ap length (c.deref_mut.ensures.value ∙ c.in_ok-map.ensures) ∙ length-replicate (length c.node_of.result.now) 0 ∙ ap length c.node_of.ensures

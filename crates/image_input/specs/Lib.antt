@@ -1,0 +1,5 @@
+pub mod Faults
+pub mod Streams
+pub mod TwoImages
+pub mod FirstImages
+pub mod TwoReads

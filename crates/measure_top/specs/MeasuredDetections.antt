@@ -1,0 +1,12 @@
+-- Bookkeeping: what stands ready to be written.
+use Rattle.std.specs.Prelude.{◌≡◌, ℕ, ◌*◌, ◌^◌, ◌≤◌, List, length, ℤ}
+use Rattle.std.specs.List.{All}
+use Rattle.comp_tree.specs.declared.shape.Shape.{Shape}
+use Rattle.fits_write.specs.Columns.{IsTable}
+use Rattle.catalogue_form.specs.Columns.{measured_columns}
+
+-- a map and cells that can be written
+pub record IsMeasuredDetection (shape : Shape) (numbers : List ℕ) (cells : List ℤ) : Type 0 where
+  pub one_each : length numbers ≡ shape.width * shape.height
+  pub small : All (λ n. n ≤ 2 ^ 24) numbers
+  pub table : IsTable measured_columns cells
