@@ -142,8 +142,8 @@ place-apart count (Some runs) values p q i kept here there at at' =
         omega (arith, eq, moved.low, moved.place, other.low, other.place)
 
 -- there is a block for each pixel
-pub block-there : {X : Type 0} (items : X → List Run) (count : ℕ) (runs : Option X) (values : List (Option ℤ)) (p : ℕ) → AreKept count (option_map items runs) values
-    → p < count → IfSome runs (λ x. p < length (items x) * 32)
+pub block-there : {X : Type 0} (items : X → List Run) (count : ℕ) (runs : Option X) (values : List (Option ℤ)) (p : ℕ)
+    → AreKept count (option_map items runs) values → p < count → IfSome runs (λ x. p < length (items x) * 32)
 block-there items count None values p kept within = tt
 block-there items count (Some x) values p kept within = omega (arith, within, kept.0)
 

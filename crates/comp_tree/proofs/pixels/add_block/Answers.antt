@@ -14,7 +14,11 @@ returns c =
     min-reaches _ _ _ c.min-high.ensures in
     let most : c.end_of_defined-end.result ≤ c.args.block * 32 + 32 = search rules in
     subst (λ l. AreBlocksOf (c.args.block + 1) c.push.new.self.items l c.args.values.now) (sym c.in_ok-extend_from_slice.ensures.items)
-    (subst (λ l. AreBlocksOf (c.args.block + 1) l (c.args.kept.now.items ++ take (c.end_of_defined-end.result - c.first_defined-first.result) (drop c.first_defined-first.result c.args.values.now)) c.args.values.now) (sym c.in_ok-push.ensures.items)
+    (subst
+    (λ l. AreBlocksOf (c.args.block + 1) l
+    (c.args.kept.now.items ++ take (c.end_of_defined-end.result - c.first_defined-first.result) (drop c.first_defined-first.result c.args.values.now))
+    c.args.values.now)
+    (sym c.in_ok-push.ensures.items)
     (block-added c.args.block c.first_defined-first.result c.end_of_defined-end.result c.args.runs.now.items _ c.args.kept.now.items
     (take (c.end_of_defined-end.result - c.first_defined-first.result) (drop c.first_defined-first.result c.args.values.now)) c.args.values.now
     c.requires.before (c.len.ensures ∙ size) (omega (arith, low)) (omega (arith, low, order)) order most c.first_defined-first.ensures.none_before

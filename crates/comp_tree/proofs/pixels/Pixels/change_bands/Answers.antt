@@ -18,7 +18,8 @@ returns-then-is_none-clause-one_each g c =
     let none : option_map (λ runs. runs.items) c.self.inside.runs ≡ None = none_there (λ runs. runs.items) c.self.inside.runs c.if-is_none.ensures in
     let all : c.self.inside.kept.items ≡ c.args.self.now =
     same-each c.self.inside.count (option_map (λ runs. runs.items) c.self.inside.runs) c.self.inside.kept.items c.self.invariant none ∙ c.self.view_is in
-    let new : c.change_all.new.pixels.items ≡ kept_pixels c.self.inside.count (option_map (λ runs. runs.items) c.self.inside.runs) c.change_all.new.pixels.items =
+    let new : c.change_all.new.pixels.items
+    ≡ kept_pixels c.self.inside.count (option_map (λ runs. runs.items) c.self.inside.runs) c.change_all.new.pixels.items =
     each-changed c.self.inside.count (option_map (λ runs. runs.items) c.self.inside.runs) c.self.inside.kept.items c.change_all.new.pixels.items
     c.self.invariant none c.change_all.ensures.one_each in
     ap length (sym new) ∙ c.change_all.ensures.one_each ∙ ap length all
@@ -28,7 +29,8 @@ returns-then-is_none-clause-changed g c =
     let none : option_map (λ runs. runs.items) c.self.inside.runs ≡ None = none_there (λ runs. runs.items) c.self.inside.runs c.if-is_none.ensures in
     let all : c.self.inside.kept.items ≡ c.args.self.now =
     same-each c.self.inside.count (option_map (λ runs. runs.items) c.self.inside.runs) c.self.inside.kept.items c.self.invariant none ∙ c.self.view_is in
-    let new : c.change_all.new.pixels.items ≡ kept_pixels c.self.inside.count (option_map (λ runs. runs.items) c.self.inside.runs) c.change_all.new.pixels.items =
+    let new : c.change_all.new.pixels.items
+    ≡ kept_pixels c.self.inside.count (option_map (λ runs. runs.items) c.self.inside.runs) c.change_all.new.pixels.items =
     each-changed c.self.inside.count (option_map (λ runs. runs.items) c.self.inside.runs) c.self.inside.kept.items c.change_all.new.pixels.items
     c.self.invariant none c.change_all.ensures.one_each in
     subst (λ (ys : List (Option ℤ)). AllInChunks g.F.Fn c.args.change.now c.args.size c.args.self.now ys) new

@@ -24,7 +24,8 @@ returns-in-Some c =
     let same : c.in-Some.pixels.items ≡ c.args.values.now = rw c.in-Some.is at c.in_ok-pixels.ensures.same in
     let there : true ≡ list_all may_stand c.args.values.now = rw c.in-Some.is at c.in_ok-pixels.ensures.there in
     let count : length c.args.values.now ≡ c.args.shape.width * c.args.shape.height = c.if-values-pixels.false ∙ c.pixels.ensures.product in
-    ap Some c.of_pixels.ensures ∙ ap (λ l. Some (record { shape = c.args.shape; values = l })) same ∙ sym (of_values c.args.shape c.args.values.now count (sym there))
+    ap Some c.of_pixels.ensures ∙ ap (λ l. Some (record { shape = c.args.shape; values = l })) same
+    ∙ sym (of_values c.args.shape c.args.values.now count (sym there))
 
 pub returns-in-None : goal.returns-in-None
 returns-in-None c =
