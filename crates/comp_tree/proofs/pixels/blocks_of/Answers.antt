@@ -4,5 +4,5 @@ use Rattle.comp_tree.proofs.pixels.blocks_of.Goals as goal
 
 pub returns : goal.returns
 returns c =
-    kept-in-blocks c.loop-block.block c.loop-block.runs.items c.loop-block.kept.items c.args.numbers.now
+    kept-in-blocks c.loop-block.block c.loop-block.runs.items c.loop-block.kept.items c.args.values.now
     (omega (arith, c.loop-block-test.false, c.div_ceil-count.ensures)) c.loop-block.invariant

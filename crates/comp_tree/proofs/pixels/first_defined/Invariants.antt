@@ -1,4 +1,4 @@
-use Rattle.comp_tree.specs.Stored.{AreUndefined}
+use Rattle.comp_tree.specs.Raster.{HasGap}
 use Rattle.std.proofs.Common.{◌≤◌, ◌-◌}
 use Rattle.comp_tree.proofs.pixels.first_defined.Given as goal
 
@@ -6,7 +6,7 @@ abbrev pub invariant-loop-first : goal.invariant-loop-first
 invariant-loop-first l = record {
   low : l.low ≤ l.first;
   high : l.first ≤ l.high;
-  none : AreUndefined l.numbers l.low l.first;
+  none : HasGap l.values l.low l.first;
 }
 
 abbrev pub decreases-loop-first : goal.decreases-loop-first

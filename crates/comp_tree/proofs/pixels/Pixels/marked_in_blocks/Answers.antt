@@ -1,23 +1,23 @@
-use Rattle.std.proofs.Common.{◌≡◌, ◌≤◌, ◌∙◌, length, map, ap, sym, subst, arith}
+use Rattle.std.proofs.Common.{◌≡◌, ◌≤◌, ◌∙◌, length, ap, sym, subst, arith}
 use Rattle.std.specs.Prelude.{None}
 use Rattle.std.specs.Option.{option_map}
-use Rattle.comp_tree.specs.Stored.{pixel_of, marked_numbers, marked_values}
-use Rattle.comp_tree.proofs.Blocks.{kept-length, same-each, count-each, if-made, masked-values}
+use Rattle.comp_tree.specs.Stored.{marked_values}
+use Rattle.comp_tree.proofs.Blocks.{kept-length, same-each, count-each, if-made}
 use Rattle.comp_tree.proofs.pixels.Pixels.marked_in_blocks.Goals as goal
 
 pub blocks_of_marked-requires-clause-few : goal.blocks_of_marked-requires-clause-few
 blocks_of_marked-requires-clause-few c =
     let none : option_map (λ runs. runs.items) c.self.inside.runs ≡ None = ap (option_map (λ runs. runs.items)) c.in-None.is in
-    let size : length c.self.inside.numbers.items ≡ c.self.inside.count =
-    count-each c.self.inside.count (option_map (λ runs. runs.items) c.self.inside.runs) c.self.inside.numbers.items c.self.invariant none in
+    let size : length c.self.inside.kept.items ≡ c.self.inside.count =
+    count-each c.self.inside.count (option_map (λ runs. runs.items) c.self.inside.runs) c.self.inside.kept.items c.self.invariant none in
     let few : c.self.inside.count ≤ 16777216 = subst (λ n. n ≤ 16777216) (kept-length _ _ _) (rw (← c.self.view_is) at c.requires.few) in
     omega (arith, ap length c.deref.ensures.value, size, few)
 
 pub blocks_of_marked-requires-clause-one_each : goal.blocks_of_marked-requires-clause-one_each
 blocks_of_marked-requires-clause-one_each c =
     let none : option_map (λ runs. runs.items) c.self.inside.runs ≡ None = ap (option_map (λ runs. runs.items)) c.in-None.is in
-    let size : length c.self.inside.numbers.items ≡ c.self.inside.count =
-    count-each c.self.inside.count (option_map (λ runs. runs.items) c.self.inside.runs) c.self.inside.numbers.items c.self.invariant none in
+    let size : length c.self.inside.kept.items ≡ c.self.inside.count =
+    count-each c.self.inside.count (option_map (λ runs. runs.items) c.self.inside.runs) c.self.inside.kept.items c.self.invariant none in
     let each : length c.args.marks.now ≡ c.self.inside.count =
     subst (λ n. length c.args.marks.now ≡ n) (kept-length _ _ _) (rw (← c.self.view_is) at c.requires.one_each) in
     each ∙ sym (ap length c.deref.ensures.value ∙ size)
@@ -25,12 +25,11 @@ blocks_of_marked-requires-clause-one_each c =
 pub returns-in-None : goal.returns-in-None
 returns-in-None c =
     let none : option_map (λ runs. runs.items) c.self.inside.runs ≡ None = ap (option_map (λ runs. runs.items)) c.in-None.is in
-    if-made c.blocks_of_marked.result (λ pixels. pixels ≡ map pixel_of (marked_numbers c.deref.result.now c.args.marks.now))
+    if-made c.blocks_of_marked.result (λ pixels. pixels ≡ marked_values c.deref.result.now c.args.marks.now)
     (λ pixels. pixels ≡ marked_values c.args.self.now c.args.marks.now)
     (λ pixels made.
-    made ∙ ap (λ numbers. map pixel_of (marked_numbers numbers c.args.marks.now)) c.deref.ensures.value
-    ∙ masked-values c.self.inside.numbers.items c.args.marks.now
-    ∙ ap (λ values. marked_values values c.args.marks.now)
-    (same-each c.self.inside.count (option_map (λ runs. runs.items) c.self.inside.runs) c.self.inside.numbers.items c.self.invariant none
+    made ∙ ap (λ values. marked_values values c.args.marks.now)
+    (c.deref.ensures.value
+    ∙ same-each c.self.inside.count (option_map (λ runs. runs.items) c.self.inside.runs) c.self.inside.kept.items c.self.invariant none
     ∙ c.self.view_is))
     c.blocks_of_marked.ensures
