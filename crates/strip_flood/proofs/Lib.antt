@@ -4,6 +4,7 @@ mod Listing
 mod Directions
 mod Stepping
 mod Counting
+mod Reading
 mod Retiring
 mod Seeing
 mod Looking
