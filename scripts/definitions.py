@@ -53,7 +53,7 @@ def definitions_in(path):
     model = bool(text) and text[0].startswith("-- Model:")
     current, comment = None, []
     for line in text:
-        if not line.strip() or line.startswith(("use ", "mod ", "pub mod ", "pub use ")):
+        if not line.strip() or line.startswith(("use ", "mod ", "module ", "pub mod ", "pub use ")):
             comment = []
         elif line.startswith("--"):
             comment.append(line[2:].strip())

@@ -1,21 +1,21 @@
--- Pixels that are kept in blocks are those that are kept by a number each.
+-- Pixels that are kept in blocks are the same as those of which each is kept.
 use Rattle.std.proofs.Common.{◌≡◌, ◌≢◌, ◌∙◌, ℕ, ◌+◌, ◌-◌, ◌*◌, ◌/◌, ◌%◌, ◌==◌, ◌<◌, ◌≤◌, Bool, true, false, ◌⊎◌, inl, inr, List, [], ◌∷◌, ◌++◌}
-use Rattle.std.proofs.Common.{length, map, min, take, drop, get_or, set, refl, sym, ap, subst, arith}
+use Rattle.std.proofs.Common.{length, map, min, get_or, set, refl, sym, ap, subst, arith}
 use Rattle.std.specs.Prelude.{Result, Ok, Err, IfOk, OnOk}
 use Rattle.std.specs.Prelude.{ℤ, Option, Some, None, IfSome, IsTrue, is_some, slice_set, nat_le, nat_lt, ◌&&◌, if◌then◌else◌}
 use Rattle.std.specs.Option.{option_map}
-use Rattle.std.proofs.lemmas.List.{get_or-map, ext_get_or, length-map, length-set, get_or-set_same, get_or-set_other, set-get_or}
+use Rattle.std.proofs.lemmas.List.{ext_get_or, length-set, get_or-set_same, get_or-set_other, set-get_or}
 use Rattle.std.proofs.lemmas.List.{get_or_append_left, get_or_push, get_or_past, get_or-append-add, get_or_default}
-use Rattle.std.proofs.lemmas.List.{length-append, get_or-take, get_or-drop, length-take-le, length-drop}
+use Rattle.std.proofs.lemmas.List.{length-append}
 use Rattle.std.proofs.lemmas.List.FromFn.{length-map-range_with_len, get_or-map-range_with_len, map-range_with_len_more}
 use Rattle.std.proofs.lemmas.Bool.{eqb-true, eqb-false, cases_lt, le-leb, lt-ltb, le-ltb, lt-leb}
 use Rattle.comp_tree.specs.declared.pixels.Run.{Run}
-use Rattle.comp_tree.proofs.Values.{pixel_of-undefined}
 use Rattle.comp_tree.specs.Raster.{value_at, HasGap}
-use Rattle.comp_tree.specs.Stored.{undefined_number, pixel_of, number_of_pixel, empty_run, run_of_block, place_in_run}
-use Rattle.comp_tree.specs.Stored.{kept_place, kept_number, kept_pixels, AreRunsApart, AreKept, AreBlocksOf}
-use Rattle.comp_tree.specs.Stored.{AreUndefined, AreUnmarked, number_if_marked, marked_numbers, marked_values}
+use Rattle.comp_tree.specs.Stored.{empty_run, run_of_block, place_in_run}
+use Rattle.comp_tree.specs.Stored.{kept_place, kept_value, kept_pixels, AreRunsApart, AreKept, AreBlocksOf}
+use Rattle.comp_tree.specs.Stored.{marked_values, shown_values}
 use Rattle.std.specs.List.{range_with_len}
+use denote.Ref.{Bor}
 use Rattle.std.specs.Prelude.{cond, slice_index_or}
 
 -- ---- the values of marked pixels
@@ -32,36 +32,43 @@ marked-at values marks p lt =
 
 -- ---- one pixel
 
-pub kept-length : (count : ℕ) (runs : Option (List Run)) (numbers : List ℤ) → length (kept_pixels count runs numbers) ≡ count
+pub kept-length : (count : ℕ) (runs : Option (List Run)) (values : List (Option ℤ)) → length (kept_pixels count runs values) ≡ count
 unfolding kept_pixels
-kept-length count runs numbers = length-map-range_with_len (λ p. pixel_of (kept_number numbers (kept_place runs p))) 0 count
+kept-length count runs values = length-map-range_with_len (λ p. kept_value values (kept_place runs p)) 0 count
 
-pub kept-at : (count : ℕ) (runs : Option (List Run)) (numbers : List ℤ) (p : ℕ) → p < count
-    → value_at (kept_pixels count runs numbers) p ≡ pixel_of (kept_number numbers (kept_place runs p))
+pub kept-at : (count : ℕ) (runs : Option (List Run)) (values : List (Option ℤ)) (p : ℕ) → p < count
+    → value_at (kept_pixels count runs values) p ≡ kept_value values (kept_place runs p)
 unfolding kept_pixels
-kept-at count runs numbers p within =
-    get_or-map-range_with_len (λ q. pixel_of (kept_number numbers (kept_place runs q))) 0 count p p None within (omega arith)
+kept-at count runs values p within =
+    get_or-map-range_with_len (λ q. kept_value values (kept_place runs q)) 0 count p p None within (omega arith)
 
--- ---- a number each
+-- ---- each pixel kept
 
-pub kept-each : (numbers : List ℤ) → kept_pixels (length numbers) None numbers ≡ map pixel_of numbers
+pub kept-each : (values : List (Option ℤ)) → kept_pixels (length values) None values ≡ values
 unfolding kept_place
-kept-each numbers =
-    ext_get_or None (kept_pixels (length numbers) None numbers) (map pixel_of numbers)
-    (kept-length (length numbers) None numbers ∙ sym (length-map numbers pixel_of))
-    (λ i within.
-    let lt : i < length numbers = subst (λ n. i < n) (kept-length (length numbers) None numbers) within in
-    kept-at (length numbers) None numbers i lt ∙ sym (get_or-map pixel_of numbers i undefined_number None lt))
+kept-each values =
+    ext_get_or None (kept_pixels (length values) None values) values (kept-length (length values) None values)
+    (λ i within. kept-at (length values) None values i (subst (λ n. i < n) (kept-length (length values) None values) within))
 
-pub same-each : (count : ℕ) (runs : Option (List Run)) (numbers : List ℤ) → AreKept count runs numbers → runs ≡ None
-    → map pixel_of numbers ≡ kept_pixels count runs numbers
-same-each count None numbers kept e = sym (subst (λ n. kept_pixels n None numbers ≡ map pixel_of numbers) kept (kept-each numbers))
-same-each count (Some runs) numbers kept e = let wrong : (let o : Option (List Run) = Some runs in o) ≡ None = e in absurd cc
+pub same-each : (count : ℕ) (runs : Option (List Run)) (values : List (Option ℤ)) → AreKept count runs values → runs ≡ None
+    → values ≡ kept_pixels count runs values
+same-each count None values kept e = sym (subst (λ n. kept_pixels n None values ≡ values) kept (kept-each values))
+same-each count (Some runs) values kept e = let wrong : (let o : Option (List Run) = Some runs in o) ≡ None = e in absurd cc
 
-pub count-each : (count : ℕ) (runs : Option (List Run)) (numbers : List ℤ) → AreKept count runs numbers → runs ≡ None
-    → length numbers ≡ count
-count-each count None numbers kept e = kept
-count-each count (Some runs) numbers kept e = let wrong : (let o : Option (List Run) = Some runs in o) ≡ None = e in absurd cc
+pub count-each : (count : ℕ) (runs : Option (List Run)) (values : List (Option ℤ)) → AreKept count runs values → runs ≡ None
+    → length values ≡ count
+count-each count None values kept e = kept
+count-each count (Some runs) values kept e = let wrong : (let o : Option (List Run) = Some runs in o) ≡ None = e in absurd cc
+
+-- with as many others kept in their place, these are all pixels
+pub each-changed : (count : ℕ) (runs : Option (List Run)) (values new : List (Option ℤ)) → AreKept count runs values → runs ≡ None
+    → length new ≡ length values → new ≡ kept_pixels count runs new
+each-changed count None values new kept e all = same-each count None new (all ∙ kept) e
+each-changed count (Some runs) values new kept e all = let wrong : (let o : Option (List Run) = Some runs in o) ≡ None = e in absurd cc
+
+pub none_there : {X Y : Type 0} (f : X → Y) (o : Option X) → is_some o ≡ false → option_map f o ≡ None
+none_there f None e = refl
+none_there f (Some x) e = absurd cc
 
 -- ---- places
 
@@ -99,12 +106,12 @@ place-told run k i e = go (cases_lt k run.first) (cases_lt k run.end)
         let there : place_in_run run k ≡ Some (run.start + (k - run.first)) = place-in run k low high in
         record { low = low; high = high; place = cc }
 
--- a place is one of the numbers
-pub place-inside : (count : ℕ) (runs : Option (List Run)) (numbers : List ℤ) (p i : ℕ) → AreKept count runs numbers → p < count
-    → kept_place runs p ≡ Some i → i < length numbers
+-- a place is one of the values
+pub place-inside : (count : ℕ) (runs : Option (List Run)) (values : List (Option ℤ)) (p i : ℕ) → AreKept count runs values → p < count
+    → kept_place runs p ≡ Some i → i < length values
 unfolding kept_place
-place-inside count None numbers p i kept within e = let same : p ≡ i = cc in omega (arith, same, within, kept)
-place-inside count (Some runs) numbers p i kept within e =
+place-inside count None values p i kept within e = let same : p ≡ i = cc in omega (arith, same, within, kept)
+place-inside count (Some runs) values p i kept within e =
     let told : IsPlaceIn (run_of_block runs (p / 32)) (p % 32) i = place-told (run_of_block runs (p / 32)) (p % 32) i e in
     let inside : _ = kept.1.inside (p / 32) (omega (arith, within, kept.0)) in
     let low : _ = told.low in
@@ -113,11 +120,11 @@ place-inside count (Some runs) numbers p i kept within e =
     omega (arith, low, high, place, inside)
 
 -- pixels have places apart
-pub place-apart : (count : ℕ) (runs : Option (List Run)) (numbers : List ℤ) (p q i : ℕ) → AreKept count runs numbers → p < count → q < count
+pub place-apart : (count : ℕ) (runs : Option (List Run)) (values : List (Option ℤ)) (p q i : ℕ) → AreKept count runs values → p < count → q < count
     → kept_place runs p ≡ Some i → kept_place runs q ≡ Some i → p ≡ q
 unfolding kept_place
-place-apart count None numbers p q i kept here there at at' = cc
-place-apart count (Some runs) numbers p q i kept here there at at' =
+place-apart count None values p q i kept here there at at' = cc
+place-apart count (Some runs) values p q i kept here there at at' =
     let one : IsPlaceIn (run_of_block runs (p / 32)) (p % 32) i = place-told (run_of_block runs (p / 32)) (p % 32) i at in
     let other : IsPlaceIn (run_of_block runs (q / 32)) (q % 32) i = place-told (run_of_block runs (q / 32)) (q % 32) i at' in
     go one other (cases_lt (p / 32) (q / 32)) (cases_lt (q / 32) (p / 32))
@@ -137,32 +144,32 @@ place-apart count (Some runs) numbers p q i kept here there at at' =
         omega (arith, eq, moved.low, moved.place, other.low, other.place)
 
 -- there is a block for each pixel
-pub block-there : {X : Type 0} (items : X → List Run) (count : ℕ) (runs : Option X) (numbers : List ℤ) (p : ℕ) → AreKept count (option_map items runs) numbers
-    → p < count → IfSome runs (λ x. p < length (items x) * 32)
-block-there items count None numbers p kept within = tt
-block-there items count (Some x) numbers p kept within = omega (arith, within, kept.0)
+pub block-there : {X : Type 0} (items : X → List Run) (count : ℕ) (runs : Option X) (values : List (Option ℤ)) (p : ℕ)
+    → AreKept count (option_map items runs) values → p < count → IfSome runs (λ x. p < length (items x) * 32)
+block-there items count None values p kept within = tt
+block-there items count (Some x) values p kept within = omega (arith, within, kept.0)
 
-pub block-is-there : {X : Type 0} (items : X → List Run) (count : ℕ) (runs : Option X) (x : X) (numbers : List ℤ) (p : ℕ)
-    → AreKept count (option_map items runs) numbers → p < count → runs ≡ Some x → p < length (items x) * 32
-block-is-there items count runs x numbers p kept within e =
-    subst (λ o. IfSome o (λ y. p < length (items y) * 32)) e (block-there items count runs numbers p kept within)
+pub block-is-there : {X : Type 0} (items : X → List Run) (count : ℕ) (runs : Option X) (x : X) (values : List (Option ℤ)) (p : ℕ)
+    → AreKept count (option_map items runs) values → p < count → runs ≡ Some x → p < length (items x) * 32
+block-is-there items count runs x values p kept within e =
+    subst (λ o. IfSome o (λ y. p < length (items y) * 32)) e (block-there items count runs values p kept within)
 
 -- what is read at a place is the pixel, and where there is no place the pixel is undefined
-pub read-at : (count : ℕ) (runs : Option (List Run)) (numbers : List ℤ) (p i : ℕ) (number d : ℤ) → AreKept count runs numbers → p < count
-    → kept_place runs p ≡ Some i → number ≡ get_or numbers i d → pixel_of number ≡ value_at (kept_pixels count runs numbers) p
-read-at count runs numbers p i number d kept within e is =
-    ap pixel_of (is ∙ get_or_default numbers i d undefined_number (place-inside count runs numbers p i kept within e) ∙ sym (ap (kept_number numbers) e))
-    ∙ sym (kept-at count runs numbers p within)
+pub read-at : (count : ℕ) (runs : Option (List Run)) (values : List (Option ℤ)) (p i : ℕ) (value d : Option ℤ) → AreKept count runs values → p < count
+    → kept_place runs p ≡ Some i → value ≡ get_or values i d → value ≡ value_at (kept_pixels count runs values) p
+read-at count runs values p i value d kept within e is =
+    is ∙ get_or_default values i d None (place-inside count runs values p i kept within e) ∙ sym (ap (kept_value values) e)
+    ∙ sym (kept-at count runs values p within)
 
-pub unread-at : (count : ℕ) (runs : Option (List Run)) (numbers : List ℤ) (p : ℕ) → p < count → kept_place runs p ≡ None
-    → value_at (kept_pixels count runs numbers) p ≡ None
-unread-at count runs numbers p within e = kept-at count runs numbers p within ∙ ap (λ o. pixel_of (kept_number numbers o)) e ∙ pixel_of-undefined
+pub unread-at : (count : ℕ) (runs : Option (List Run)) (values : List (Option ℤ)) (p : ℕ) → p < count → kept_place runs p ≡ None
+    → value_at (kept_pixels count runs values) p ≡ None
+unread-at count runs values p within e = kept-at count runs values p within ∙ ap (kept_value values) e
 
 -- behind a pixel nothing is defined up to where its block has a place again
-pub block-gap : (count : ℕ) (runs : List Run) (numbers : List ℤ) (p r : ℕ) (run : Run) → run ≡ get_or runs (p / 32) run → p / 32 < length runs
-    → r ≤ 32 → ((j : ℕ) → p % 32 < j → j < r → place_in_run run j ≡ None) → HasGap (kept_pixels count (Some runs) numbers) (p + 1) (p / 32 * 32 + r)
+pub block-gap : (count : ℕ) (runs : List Run) (values : List (Option ℤ)) (p r : ℕ) (run : Run) → run ≡ get_or runs (p / 32) run → p / 32 < length runs
+    → r ≤ 32 → ((j : ℕ) → p % 32 < j → j < r → place_in_run run j ≡ None) → HasGap (kept_pixels count (Some runs) values) (p + 1) (p / 32 * 32 + r)
 unfolding kept_place
-block-gap count runs numbers p r run is there most none q low high = at (cases_lt q count)
+block-gap count runs values p r run is there most none q low high = at (cases_lt q count)
   where
     same : q / 32 ≡ p / 32
     same = omega (arith, low, high, most)
@@ -173,80 +180,67 @@ block-gap count runs numbers p r run is there most none q low high = at (cases_l
     unplaced : kept_place (Some runs) q ≡ None
     unplaced = ap (λ b. place_in_run b (q % 32)) block ∙ none (q % 32) (omega (arith, low, high, most)) (omega (arith, low, high, most))
 
-    at : (q < count) ⊎ (count ≤ q) → value_at (kept_pixels count (Some runs) numbers) q ≡ None
-    at (inl lt) = unread-at count (Some runs) numbers q lt unplaced
-    at (inr ge) = get_or_past (kept_pixels count (Some runs) numbers) q None (omega (arith, kept-length count (Some runs) numbers, ge))
+    at : (q < count) ⊎ (count ≤ q) → value_at (kept_pixels count (Some runs) values) q ≡ None
+    at (inl lt) = unread-at count (Some runs) values q lt unplaced
+    at (inr ge) = get_or_past (kept_pixels count (Some runs) values) q None (omega (arith, kept-length count (Some runs) values, ge))
 
 -- ---- a write
 
-pub kept-set : (count : ℕ) (runs : Option (List Run)) (numbers : List ℤ) (p i : ℕ) (number : ℤ) → AreKept count runs numbers → p < count
-    → kept_place runs p ≡ Some i → kept_pixels count runs (set numbers i number) ≡ slice_set (kept_pixels count runs numbers) p (pixel_of number)
-kept-set count runs numbers p i number kept within e =
-    ext_get_or None (kept_pixels count runs (set numbers i number)) (set (kept_pixels count runs numbers) p (pixel_of number))
-    (kept-length count runs (set numbers i number) ∙ sym (length-set (kept_pixels count runs numbers) p (pixel_of number) ∙ kept-length count runs numbers))
-    (λ q below. at q (subst (λ n. q < n) (kept-length count runs (set numbers i number)) below))
+pub kept-set : (count : ℕ) (runs : Option (List Run)) (values : List (Option ℤ)) (p i : ℕ) (value : Option ℤ) → AreKept count runs values → p < count
+    → kept_place runs p ≡ Some i → kept_pixels count runs (set values i value) ≡ slice_set (kept_pixels count runs values) p value
+kept-set count runs values p i value kept within e =
+    ext_get_or None (kept_pixels count runs (set values i value)) (set (kept_pixels count runs values) p value)
+    (kept-length count runs (set values i value) ∙ sym (length-set (kept_pixels count runs values) p value ∙ kept-length count runs values))
+    (λ q below. at q (subst (λ n. q < n) (kept-length count runs (set values i value)) below))
   where
-    inside : i < length numbers
-    inside = place-inside count runs numbers p i kept within e
+    inside : i < length values
+    inside = place-inside count runs values p i kept within e
 
-    here : kept_number (set numbers i number) (kept_place runs p) ≡ number
-    here = ap (kept_number (set numbers i number)) e ∙ get_or-set_same numbers i number undefined_number inside
+    here : kept_value (set values i value) (kept_place runs p) ≡ value
+    here = ap (kept_value (set values i value)) e ∙ get_or-set_same values i value None inside
 
-    elsewhere : (q : ℕ) → q < count → p ≢ q → (o : Option ℕ) → kept_place runs q ≡ o → kept_number (set numbers i number) o ≡ kept_number numbers o
+    elsewhere : (q : ℕ) → q < count → p ≢ q → (o : Option ℕ) → kept_place runs q ≡ o → kept_value (set values i value) o ≡ kept_value values o
     elsewhere q lt other None f = refl
     elsewhere q lt other (Some j) f =
-        get_or-set_other numbers i j number undefined_number
-        (λ same. other (place-apart count runs numbers p q i kept within lt e (f ∙ ap (λ (k : ℕ). let o : Option ℕ = Some k in o) same)))
+        get_or-set_other values i j value None
+        (λ same. other (place-apart count runs values p q i kept within lt e (f ∙ ap (λ (k : ℕ). let o : Option ℕ = Some k in o) same)))
 
     at : (q : ℕ) → q < count
-        → get_or (kept_pixels count runs (set numbers i number)) q None ≡ get_or (set (kept_pixels count runs numbers) p (pixel_of number)) q None
+        → get_or (kept_pixels count runs (set values i value)) q None ≡ get_or (set (kept_pixels count runs values) p value) q None
     at q lt = choose (p == q) refl
       where
         choose : (b : Bool) → p == q ≡ b
-            → get_or (kept_pixels count runs (set numbers i number)) q None
-            ≡ get_or (set (kept_pixels count runs numbers) p (pixel_of number)) q None
+            → get_or (kept_pixels count runs (set values i value)) q None
+            ≡ get_or (set (kept_pixels count runs values) p value) q None
         choose true e =
             subst
-            (λ (r : ℕ). get_or (kept_pixels count runs (set numbers i number)) r None
-            ≡ get_or (set (kept_pixels count runs numbers) p (pixel_of number)) r None)
+            (λ (r : ℕ). get_or (kept_pixels count runs (set values i value)) r None
+            ≡ get_or (set (kept_pixels count runs values) p value) r None)
             (eqb-true p q e)
-            (kept-at count runs (set numbers i number) p within ∙ ap pixel_of here
-            ∙ sym (get_or-set_same (kept_pixels count runs numbers) p (pixel_of number) None
-            (subst (λ n. p < n) (sym (kept-length count runs numbers)) within)))
+            (kept-at count runs (set values i value) p within ∙ here
+            ∙ sym (get_or-set_same (kept_pixels count runs values) p value None
+            (subst (λ n. p < n) (sym (kept-length count runs values)) within)))
         choose false e =
             let other : p ≢ q = eqb-false p q e in
-            kept-at count runs (set numbers i number) q lt ∙ ap pixel_of (elsewhere q lt other (kept_place runs q) refl)
-            ∙ sym (kept-at count runs numbers q lt)
-            ∙ sym (get_or-set_other (kept_pixels count runs numbers) p q (pixel_of number) None (λ same. other (sym same)))
+            kept-at count runs (set values i value) q lt ∙ elsewhere q lt other (kept_place runs q) refl
+            ∙ sym (kept-at count runs values q lt)
+            ∙ sym (get_or-set_other (kept_pixels count runs values) p q value None (λ same. other (sym same)))
 
 -- what is not kept stays undefined
-pub unkept-set : (count : ℕ) (runs : Option (List Run)) (numbers : List ℤ) (p : ℕ) (number : ℤ) → p < count → kept_place runs p ≡ None
-    → IfSome (pixel_of number) (λ _. IsTrue (is_some (value_at (kept_pixels count runs numbers) p)))
-    → kept_pixels count runs numbers ≡ slice_set (kept_pixels count runs numbers) p (pixel_of number)
-unkept-set count runs numbers p number within e defined =
-    sym (ap (set (kept_pixels count runs numbers) p) (same (pixel_of number) defined)
-    ∙ set-get_or (kept_pixels count runs numbers) p None)
+pub unkept-set : (count : ℕ) (runs : Option (List Run)) (values : List (Option ℤ)) (p : ℕ) (value : Option ℤ) → p < count → kept_place runs p ≡ None
+    → IfSome value (λ _. IsTrue (is_some (value_at (kept_pixels count runs values) p)))
+    → kept_pixels count runs values ≡ slice_set (kept_pixels count runs values) p value
+unkept-set count runs values p value within e defined =
+    sym (ap (set (kept_pixels count runs values) p) (same value defined)
+    ∙ set-get_or (kept_pixels count runs values) p None)
   where
-    undefined : value_at (kept_pixels count runs numbers) p ≡ None
-    undefined = unread-at count runs numbers p within e
+    undefined : value_at (kept_pixels count runs values) p ≡ None
+    undefined = unread-at count runs values p within e
 
-    same : (o : Option ℤ) → IfSome o (λ _. IsTrue (is_some (value_at (kept_pixels count runs numbers) p)))
-        → o ≡ get_or (kept_pixels count runs numbers) p None
+    same : (o : Option ℤ) → IfSome o (λ _. IsTrue (is_some (value_at (kept_pixels count runs values) p)))
+        → o ≡ get_or (kept_pixels count runs values) p None
     same None h = sym undefined
     same (Some v) h = let wrong : IsTrue (is_some (let o : Option ℤ = None in o)) = subst (λ (o : Option ℤ). IsTrue (is_some o)) undefined h in cc
-
-pub kept-after : (count : ℕ) (runs : Option (List Run)) (numbers : List ℤ) (i : ℕ) (number : ℤ) → AreKept count runs numbers
-    → AreKept count runs (set numbers i number)
-kept-after count None numbers i number kept = length-set numbers i number ∙ kept
-kept-after count (Some runs) numbers i number kept = (
-  kept.0,
-  record {
-    inside = λ b lt.
-        subst (λ n. (run_of_block runs b).start + ((run_of_block runs b).end - (run_of_block runs b).first) ≤ n) (sym (length-set numbers i number))
-        (kept.1.inside b lt);
-    apart = kept.1.apart;
-  },
-)
 
 -- ---- blocks one after the other
 
@@ -258,7 +252,7 @@ run-new : (runs : List Run) (x : Run) (b : ℕ) → length runs ≡ b → run_of
 run-new runs x b e = get_or_push runs x empty_run b e
 
 -- a run behind all others is apart from them
-apart-more : (runs : List Run) (kept more : List ℤ) (x : Run) → AreRunsApart runs kept → x.start ≡ length kept → x.end - x.first ≤ length more
+apart-more : (runs : List Run) (kept more : List (Option ℤ)) (x : Run) → AreRunsApart runs kept → x.start ≡ length kept → x.end - x.first ≤ length more
     → AreRunsApart (runs ++ x ∷ []) (kept ++ more)
 apart-more runs kept more x apart start size = record {
   inside = λ b lt. inside b (cases_lt b (length runs)) (omega (arith, lt, longer));
@@ -286,19 +280,19 @@ apart-more runs kept more x apart start size = record {
         let old : _ = apart.inside a (omega (arith, lt, below)) in
         rw (run-new runs x b (omega (arith, ge, below)), run-before runs x a (omega (arith, lt, below))) (omega (arith, old, start))
 
--- a number that lies before what is added is read as before
-number-before : (kept more : List ℤ) (o : Option ℕ) → IfSome o (λ i. i < length kept) → kept_number (kept ++ more) o ≡ kept_number kept o
-number-before kept more None h = refl
-number-before kept more (Some i) h = get_or_append_left kept more undefined_number i h
+-- a value that lies before what is added is read as before
+value-before : (kept more : List (Option ℤ)) (o : Option ℕ) → IfSome o (λ i. i < length kept) → kept_value (kept ++ more) o ≡ kept_value kept o
+value-before kept more None h = refl
+value-before kept more (Some i) h = get_or_append_left kept more None i h
 
--- the next block's run, with the numbers between its first and its last defined pixel
-pub block-added : (k first end : ℕ) (runs : List Run) (run : Run) (kept more numbers : List ℤ) → AreBlocksOf k runs kept numbers
+-- the next block's run, with the values between its first and its last defined pixel
+pub block-added : (k first end : ℕ) (runs : List Run) (run : Run) (kept more values : List (Option ℤ)) → AreBlocksOf k runs kept values
     → run.start ≡ length kept → k * 32 + run.first ≡ first → k * 32 + run.end ≡ end → first ≤ end → end ≤ k * 32 + 32
-    → AreUndefined numbers (k * 32) first → AreUndefined numbers end (k * 32 + 32)
-    → length more ≡ end - first → ((i : ℕ) → i < end - first → get_or more i undefined_number ≡ number_of_pixel numbers (first + i))
-    → AreBlocksOf (k + 1) (runs ++ run ∷ []) (kept ++ more) numbers
+    → HasGap values (k * 32) first → HasGap values end (k * 32 + 32)
+    → length more ≡ end - first → ((i : ℕ) → i < end - first → get_or more i None ≡ value_at values (first + i))
+    → AreBlocksOf (k + 1) (runs ++ run ∷ []) (kept ++ more) values
 unfolding kept_place
-block-added k first end runs run kept more numbers before start low high order most none_before none_behind size same_there = record {
+block-added k first end runs run kept more values before start low high order most none_before none_behind size same_there = record {
   count = length-append runs (run ∷ []) ∙ ap (λ n. n + 1) before.count;
   few = omega (arith, before.few, length-append kept more, size, most, low);
   apart = apart-more runs kept more run before.apart start (omega (arith, size, low, high));
@@ -313,40 +307,40 @@ block-added k first end runs run kept more numbers before start low high order m
     new p ge lt = run-new runs run (p / 32) (omega (arith, ge, lt, before.count))
 
     beside : (p : ℕ) → k * 32 ≤ p → p < (k + 1) * 32 → (p % 32 < run.first) ⊎ (run.end ≤ p % 32)
-        → kept_number (kept ++ more) (kept_place (Some (runs ++ run ∷ [])) p) ≡ undefined_number
+        → kept_value (kept ++ more) (kept_place (Some (runs ++ run ∷ [])) p) ≡ None
     beside p ge lt out = rw (new p ge lt, place-beside run (p % 32) out) refl
 
     at : (p : ℕ) → k * 32 ≤ p → p < (k + 1) * 32 → (p % 32 < run.first) ⊎ (run.first ≤ p % 32) → (p % 32 < run.end) ⊎ (run.end ≤ p % 32)
-        → kept_number (kept ++ more) (kept_place (Some (runs ++ run ∷ [])) p) ≡ number_of_pixel numbers p
+        → kept_value (kept ++ more) (kept_place (Some (runs ++ run ∷ [])) p) ≡ value_at values p
     at p ge lt (inl out) d = beside p ge lt (inl out) ∙ sym (none_before p ge (omega (arith, out, ge, lt, low)))
     at p ge lt (inr in_low) (inr out) = beside p ge lt (inr out) ∙ sym (none_behind p (omega (arith, out, ge, lt, high)) (omega (arith, lt)))
     at p ge lt (inr in_low) (inl in_high) =
-        ap (λ r. kept_number (kept ++ more) (place_in_run r (p % 32))) (new p ge lt)
-        ∙ ap (kept_number (kept ++ more)) (place-in run (p % 32) in_low in_high)
-        ∙ ap (λ s. get_or (kept ++ more) (s + (p % 32 - run.first)) undefined_number) start
-        ∙ get_or-append-add kept more (p % 32 - run.first) undefined_number
+        ap (λ r. kept_value (kept ++ more) (place_in_run r (p % 32))) (new p ge lt)
+        ∙ ap (kept_value (kept ++ more)) (place-in run (p % 32) in_low in_high)
+        ∙ ap (λ s. get_or (kept ++ more) (s + (p % 32 - run.first)) None) start
+        ∙ get_or-append-add kept more (p % 32 - run.first) None
         ∙ same_there (p % 32 - run.first) (omega (arith, in_low, in_high, low, high))
-        ∙ ap (number_of_pixel numbers) (omega (arith, in_low, ge, lt, low))
+        ∙ ap (value_at values) (omega (arith, in_low, ge, lt, low))
 
     same : (p : ℕ) → p < (k + 1) * 32 → (p < k * 32) ⊎ (k * 32 ≤ p)
-        → kept_number (kept ++ more) (kept_place (Some (runs ++ run ∷ [])) p) ≡ number_of_pixel numbers p
+        → kept_value (kept ++ more) (kept_place (Some (runs ++ run ∷ [])) p) ≡ value_at values p
     same p lt (inl under) =
-        ap (λ r. kept_number (kept ++ more) (place_in_run r (p % 32))) (run-before runs run (p / 32) (omega (arith, under, before.count)))
-        ∙ number-before kept more (kept_place (Some runs) p) (inside p under (kept_place (Some runs) p) refl)
+        ap (λ r. kept_value (kept ++ more) (place_in_run r (p % 32))) (run-before runs run (p / 32) (omega (arith, under, before.count)))
+        ∙ value-before kept more (kept_place (Some runs) p) (inside p under (kept_place (Some runs) p) refl)
         ∙ before.same p under
     same p lt (inr ge) = at p ge lt (cases_lt (p % 32) run.first) (cases_lt (p % 32) run.end)
 
 -- behind the last pixel nothing is defined
-pub undefined-to : (numbers : List ℤ) (end high limit : ℕ) → AreUndefined numbers end high → (limit ≤ high) ⊎ (length numbers ≤ high)
-    → AreUndefined numbers end limit
-undefined-to numbers end high limit none reach p low below = go (cases_lt p high) reach
+pub gap-to : (values : List (Option ℤ)) (end high limit : ℕ) → HasGap values end high → (limit ≤ high) ⊎ (length values ≤ high)
+    → HasGap values end limit
+gap-to values end high limit none reach p low below = go (cases_lt p high) reach
   where
-    go : (p < high) ⊎ (high ≤ p) → (limit ≤ high) ⊎ (length numbers ≤ high) → number_of_pixel numbers p ≡ undefined_number
+    go : (p < high) ⊎ (high ≤ p) → (limit ≤ high) ⊎ (length values ≤ high) → value_at values p ≡ None
     go (inl lt) r = none p low lt
     go (inr ge) (inl all) = absurd (omega (arith, ge, all, below))
-    go (inr ge) (inr past) = get_or_past numbers p undefined_number (omega (arith, ge, past))
+    go (inr ge) (inr past) = get_or_past values p None (omega (arith, ge, past))
 
--- the lesser of two numbers reaches one of them
+-- the lesser of two values reaches one of them
 pub min-reaches : (a b r : ℕ) → r ≡ min a b → (b ≤ r) ⊎ (a ≤ r)
 min-reaches a b r e = go (cases_lt a b)
   where
@@ -354,81 +348,51 @@ min-reaches a b r e = go (cases_lt a b)
     go (inl lt) = inr (omega (arith, e, lt))
     go (inr ge) = inl (omega (arith, e, ge))
 
--- a part of a list
-pub part-length : (n m : ℕ) (xs : List ℤ) → m + n ≤ length xs → length (take n (drop m xs)) ≡ n
-part-length n m xs inside = length-take-le n (drop m xs) (omega (arith, inside, length-drop m xs))
-
-pub part-at : (n m i : ℕ) (xs : List ℤ) → i < n → get_or (take n (drop m xs)) i undefined_number ≡ number_of_pixel xs (m + i)
-part-at n m i xs lt = get_or-take n (drop m xs) i undefined_number lt ∙ get_or-drop m xs i undefined_number
-
 -- blocks for all pixels
-pub kept-in-blocks : (k : ℕ) (runs : List Run) (kept numbers : List ℤ) → length numbers ≤ k * 32 → AreBlocksOf k runs kept numbers
-    → kept_pixels (length numbers) (Some runs) kept ≡ map pixel_of numbers
-kept-in-blocks k runs kept numbers enough blocks =
-    ext_get_or None (kept_pixels (length numbers) (Some runs) kept) (map pixel_of numbers)
-    (kept-length (length numbers) (Some runs) kept ∙ sym (length-map numbers pixel_of))
+pub kept-in-blocks : (k : ℕ) (runs : List Run) (kept values : List (Option ℤ)) → length values ≤ k * 32 → AreBlocksOf k runs kept values
+    → kept_pixels (length values) (Some runs) kept ≡ values
+kept-in-blocks k runs kept values enough blocks =
+    ext_get_or None (kept_pixels (length values) (Some runs) kept) values (kept-length (length values) (Some runs) kept)
     (λ i within.
-    let lt : i < length numbers = subst (λ n. i < n) (kept-length (length numbers) (Some runs) kept) within in
-    kept-at (length numbers) (Some runs) kept i lt ∙ ap pixel_of (blocks.same i (omega (arith, lt, enough)))
-    ∙ sym (get_or-map pixel_of numbers i undefined_number None lt))
+    let lt : i < length values = subst (λ n. i < n) (kept-length (length values) (Some runs) kept) within in
+    kept-at (length values) (Some runs) kept i lt ∙ blocks.same i (omega (arith, lt, enough)))
 
--- ---- marked pixels
+-- ---- pixels as they are shown
 
-pub masked-at : (numbers : List ℤ) (marks : List Bool) (p : ℕ) → p < length numbers
-    → number_of_pixel (marked_numbers numbers marks) p ≡ number_if_marked numbers marks p
-unfolding marked_numbers
-masked-at numbers marks p lt = get_or-map-range_with_len (number_if_marked numbers marks) 0 (length numbers) p p undefined_number lt (omega arith)
+pub length-shown : (values : List (Option ℤ)) (marks : Option (Bor (List Bool))) → length (shown_values values marks) ≡ length values
+unfolding shown_values
+length-shown values None = refl
+length-shown values (Some marks) = length-marked values marks.now
 
-pub masked-length : (numbers : List ℤ) (marks : List Bool) → length (marked_numbers numbers marks) ≡ length numbers
-unfolding marked_numbers
-masked-length numbers marks = length-map-range_with_len (number_if_marked numbers marks) 0 (length numbers)
+pub shown-none : (values : List (Option ℤ)) → shown_values values None ≡ values
+unfolding shown_values
+shown-none values = refl
 
--- what is not marked counts as undefined
-pub undefined-unmarked : (numbers : List ℤ) (marks : List Bool) (first end : ℕ) → AreUnmarked marks first end
-    → AreUndefined (marked_numbers numbers marks) first end
-unfolding number_if_marked
-undefined-unmarked numbers marks first end none p low high = at (cases_lt p (length numbers))
-  where
-    at : (p < length numbers) ⊎ (length numbers ≤ p) → number_of_pixel (marked_numbers numbers marks) p ≡ undefined_number
-    at (inl lt) = masked-at numbers marks p lt ∙ ap (λ b. cond b (number_of_pixel numbers p) undefined_number) (none p low high)
-    at (inr ge) = get_or_past (marked_numbers numbers marks) p undefined_number (omega (arith, ge, masked-length numbers marks))
+pub shown-some : (values : List (Option ℤ)) (marks : Bor (List Bool)) → shown_values values (Some marks) ≡ marked_values values marks.now
+unfolding shown_values
+shown-some values marks = refl
 
--- a part of these numbers
-pub masked-part : (numbers : List ℤ) (marks : List Bool) (first n i : ℕ) → i < n → first + n ≤ length numbers
-    → get_or (map (number_if_marked numbers marks) (range_with_len first n)) i undefined_number
-    ≡ number_of_pixel (marked_numbers numbers marks) (first + i)
-masked-part numbers marks first n i lt inside =
-    get_or-map-range_with_len (number_if_marked numbers marks) first n i (first + i) undefined_number lt (omega arith)
-    ∙ sym (masked-at numbers marks (first + i) (omega (arith, lt, inside)))
+-- a pixel without marks, and one with them
+pub shown-all : (values : List (Option ℤ)) (marks : Option (Bor (List Bool))) (value : Option ℤ) (p : ℕ) → marks ≡ None → p < length values
+    → value ≡ get_or values p value → value ≡ value_at (shown_values values marks) p
+shown-all values marks value p e inside is =
+    is ∙ get_or_default values p value None inside ∙ sym (ap (λ o. value_at (shown_values values o) p) e ∙ ap (λ vs. get_or vs p None) (shown-none values))
 
-pub masked-more : (numbers : List ℤ) (marks : List Bool) (first p : ℕ) → first ≤ p
-    → map (number_if_marked numbers marks) (range_with_len first (p + 1 - first))
-    ≡ map (number_if_marked numbers marks) (range_with_len first (p - first)) ++ number_if_marked numbers marks p ∷ []
-masked-more numbers marks first p low =
-    ap (λ n. map (number_if_marked numbers marks) (range_with_len first n)) (let e : p + 1 - first ≡ p - first + 1 = omega (arith, low) in e)
-    ∙ map-range_with_len_more (number_if_marked numbers marks) first (p - first) p (omega (arith, low))
+pub shown-marked : (values : List (Option ℤ)) (marks : Option (Bor (List Bool))) (m : Bor (List Bool)) (p : ℕ) → marks ≡ Some m → p < length values
+    → cond (slice_index_or m.now p false) (value_at values p) None ≡ value_at (shown_values values marks) p
+shown-marked values marks m p e inside =
+    sym (ap (λ o. value_at (shown_values values o) p) e ∙ ap (λ vs. get_or vs p None) (shown-some values m) ∙ marked-at values m.now p inside)
 
--- the values of marked pixels
-pub masked-values : (numbers : List ℤ) (marks : List Bool) → map pixel_of (marked_numbers numbers marks) ≡ marked_values (map pixel_of numbers) marks
-unfolding marked_values number_if_marked
-masked-values numbers marks =
-    ext_get_or None (map pixel_of (marked_numbers numbers marks)) (marked_values (map pixel_of numbers) marks)
-    (length-map (marked_numbers numbers marks) pixel_of ∙ masked-length numbers marks
-    ∙ sym (length-marked (map pixel_of numbers) marks ∙ length-map numbers pixel_of))
-    (λ i within. at i (subst (λ n. i < n) (length-map (marked_numbers numbers marks) pixel_of ∙ masked-length numbers marks) within))
-  where
-    choose : (b : Bool) (x : ℤ) → pixel_of (cond b x undefined_number) ≡ cond b (pixel_of x) None
-    choose true x = refl
-    choose false x = pixel_of-undefined
+-- a part of some values
+pub part-at : (values : List (Option ℤ)) (first n i : ℕ) → i < n
+    → get_or (map (value_at values) (range_with_len first n)) i None ≡ value_at values (first + i)
+part-at values first n i lt = get_or-map-range_with_len (value_at values) first n i (first + i) None lt (omega arith)
 
-    at : (i : ℕ) → i < length numbers
-        → get_or (map pixel_of (marked_numbers numbers marks)) i None ≡ get_or (marked_values (map pixel_of numbers) marks) i None
-    at i lt =
-        get_or-map pixel_of (marked_numbers numbers marks) i undefined_number None (subst (λ n. i < n) (sym (masked-length numbers marks)) lt)
-        ∙ ap pixel_of (masked-at numbers marks i lt)
-        ∙ choose (slice_index_or marks i false) (number_of_pixel numbers i)
-        ∙ ap (λ (v : Option ℤ). cond (slice_index_or marks i false) v None) (sym (get_or-map pixel_of numbers i undefined_number None lt))
-        ∙ sym (marked-at (map pixel_of numbers) marks i (subst (λ n. i < n) (sym (length-map numbers pixel_of)) lt))
+pub part-more : (values : List (Option ℤ)) (first p : ℕ) → first ≤ p
+    → map (value_at values) (range_with_len first (p + 1 - first)) ≡ map (value_at values) (range_with_len first (p - first)) ++ value_at values p ∷ []
+part-more values first p low =
+    ap (λ n. map (value_at values) (range_with_len first n)) (let e : p + 1 - first ≡ p - first + 1 = omega (arith, low) in e)
+    ∙ map-range_with_len_more (value_at values) first (p - first) p (omega (arith, low))
 
 -- ---- what holds where there is an answer
 

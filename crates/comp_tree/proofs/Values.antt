@@ -1,16 +1,16 @@
 -- Values of a plane stay within their range, and are read as they were kept.
 use Rattle.std.proofs.Common.{◌≡◌, ◌∙◌, ℕ, zero, suc, ◌+◌, ◌*◌, ◌^◌, ◌==◌, ◌≢◌, ◌<◌, Bool, true, false, cond, ◌&&◌, List}
-use Rattle.std.proofs.Common.{[], ◌∷◌, ◌++◌, length, map, take, get_or, set, refl, sym, ap, subst, eq-eqb, arith}
+use Rattle.std.proofs.Common.{[], ◌∷◌, ◌++◌, length, take, get_or, refl, sym, ap, subst, eq-eqb, arith}
 use Rattle.std.specs.Prelude.{ℤ, pos, neg_ℤ, int_le, if◌then◌else◌, Option, Some, None, IfSome, replicate, slice_get, slice_set}
 use Rattle.std.specs.Ordering.{int_eq}
 use Rattle.std.proofs.lemmas.Int.{ints}
 use Rattle.std.specs.List.{list_all}
-use Rattle.std.proofs.lemmas.List.{get_or-map, map-set, map-append, take_more}
+use Rattle.std.proofs.lemmas.List.{take_more}
 use Rattle.std.proofs.lemmas.List.Folds.{list_all_more}
 use Rattle.comp_tree.specs.Limits.{IsWithinRange}
 use Rattle.comp_tree.specs.declared.shape.Shape.{Shape}
 use Rattle.comp_tree.specs.Raster.{Raster, HasValuesInRange, value_at, is_pixel_value, raster_of}
-use Rattle.comp_tree.specs.Stored.{undefined_number, pixel_of}
+use Rattle.comp_tree.specs.Numbers.{undefined_number, pixel_of}
 use Rattle.lemmas.proofs.Exported.{int_eq-true, int_le-true}
 use Rattle.std.proofs.lemmas.Bool.{and_parts, ne_eqb}
 
@@ -46,7 +46,7 @@ in_range-value [] p h = tt
 in_range-value (x ∷ xs) zero h = in_range-get (x ∷ xs) 0 x h refl
 in_range-value (x ∷ xs) (suc p) h = in_range-value xs p (λ j v e. h (suc j) v e)
 
--- ---- pixels as they are kept
+-- ---- pixels as numbers
 
 pub pixel_of-undefined : pixel_of undefined_number ≡ None
 unfolding pixel_of
@@ -64,35 +64,15 @@ pixel_of-in_range v r = go (int_eq v undefined_number) refl
         omega (arith, ints))
     go false e = refl
 
-pub pixels-replicate : (n : ℕ) → map pixel_of (replicate n undefined_number) ≡ replicate n None
-pixels-replicate zero = refl
-pixels-replicate (suc n) = rw (pixel_of-undefined, pixels-replicate n)
+-- ---- pixels that were kept
 
--- what is read at a pixel is within the range
-pub in_range-read : (numbers : List ℤ) (p : ℕ) → HasValuesInRange (map pixel_of numbers) → IfSome (value_at (map pixel_of numbers) p) (λ v. IsWithinRange v)
-in_range-read [] p h = tt
-in_range-read (x ∷ xs) zero h = in_range-get (map pixel_of (x ∷ xs)) 0 (pixel_of x) h refl
-in_range-read (x ∷ xs) (suc p) h = in_range-read xs p (λ j v e. h (suc j) v e)
-
--- the pixel that is kept as this number, read from a plane
-pub in_range-number : (numbers : List ℤ) (p : ℕ) (number d : ℤ) → p < length numbers → HasValuesInRange (map pixel_of numbers) → number ≡ get_or numbers p d
-    → IfSome (pixel_of number) (λ v. IsWithinRange v)
-in_range-number numbers p number d below h e =
-    subst (λ o. IfSome o (λ v. IsWithinRange v)) (get_or-map pixel_of numbers p d None below ∙ ap pixel_of (sym e)) (in_range-read numbers p h)
-
--- a number that was put in is read as the pixel that it was put in for
-pub pixels-set : (numbers : List ℤ) (p : ℕ) (number : ℤ) (value : Option ℤ) → pixel_of number ≡ value
-    → map pixel_of (set numbers p number) ≡ slice_set (map pixel_of numbers) p value
-pixels-set numbers p number value e = map-set pixel_of numbers p number ∙ ap (λ (v : Option ℤ). slice_set (map pixel_of numbers) p v) e
-
--- one value more is kept
-pub kept_more : (numbers : List ℤ) (values : List (Option ℤ)) (i : ℕ) (number : ℤ) (d : Option ℤ) → i < length values
-    → (map pixel_of numbers ≡ take i values) × (list_all is_pixel_value (take i values) ≡ true)
-    → pixel_of number ≡ get_or values i d → is_pixel_value (get_or values i d) ≡ true
-    → (map pixel_of (numbers ++ number ∷ []) ≡ take (i + 1) values) × (list_all is_pixel_value (take (i + 1) values) ≡ true)
-kept_more numbers values i number d within before here may = (
-  map-append pixel_of numbers (number ∷ []) ∙ ap (λ l. l ++ pixel_of number ∷ []) before.0 ∙ ap (λ v. take i values ++ v ∷ []) here
-      ∙ sym (take_more values i d within),
+-- one pixel more
+pub kept_more : (kept values : List (Option ℤ)) (i : ℕ) (value d : Option ℤ) → i < length values
+    → (kept ≡ take i values) × (list_all is_pixel_value (take i values) ≡ true)
+    → value ≡ get_or values i d → is_pixel_value (get_or values i d) ≡ true
+    → (kept ++ value ∷ [] ≡ take (i + 1) values) × (list_all is_pixel_value (take (i + 1) values) ≡ true)
+kept_more kept values i value d within before here may = (
+  ap (λ l. l ++ value ∷ []) before.0 ∙ ap (λ v. take i values ++ v ∷ []) here ∙ sym (take_more values i d within),
   list_all_more is_pixel_value values i d within ∙ ap (λ b. b && is_pixel_value (get_or values i d)) before.1 ∙ may,
 )
 

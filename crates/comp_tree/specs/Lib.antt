@@ -4,6 +4,7 @@ pub mod Raster
 pub mod Defined
 pub mod Numbers
 pub mod Stored
+pub mod Bands
 pub mod Grid
 pub mod Joined
 pub mod Forest

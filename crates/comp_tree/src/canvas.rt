@@ -3,8 +3,8 @@
 ghost use Rattle.std.specs.Prelude.{◌≡◌, ◌*◌, ◌<◌, None, replicate, slice_set, IfOk, IfSome, length};
 ghost use Rattle.comp_tree.specs.Limits.{IsWithinRange};
 
-use crate::pixels::UNDEFINED;
-use crate::plane::{Plane, number_of};
+use crate::pixel::Pixel;
+use crate::plane::Plane;
 use crate::shape::Shape;
 use costs::OutOfMemory;
 use std::alloc::Global;
@@ -12,25 +12,23 @@ use std::marker::Model;
 
 /// A plane that is being painted: each pixel can still get any value.
 ///
-/// It keeps a number for each pixel, where a plane may keep less, so it is here that an undefined pixel becomes a defined one.
+/// It keeps each pixel, where a plane may keep fewer, so it is here that an undefined pixel becomes a defined one.
 #[derive(Drop)]
 pub struct Canvas {
     shape: Shape,
-    // a pixel's value, or `UNDEFINED`
-    numbers: Vec<i64>,
+    pixels: Vec<Pixel>,
 }
 
 impl Model for Canvas {
-    ghost use Rattle.std.specs.Prelude.{◌≡◌, ◌*◌, length, map};
+    ghost use Rattle.std.specs.Prelude.{◌≡◌, ◌*◌, length};
     ghost use Rattle.comp_tree.specs.Raster.{Raster, HasValuesInRange};
-    ghost use Rattle.comp_tree.specs.Stored.{pixel_of};
 
     ghost Value = { Raster };
 
-    ghost view = { λ canvas. record { shape = canvas.shape; values = map pixel_of canvas.numbers.items } };
+    ghost view = { λ canvas. record { shape = canvas.shape; values = canvas.pixels.items } };
 
-    ghost invariant = { λ canvas. (length canvas.numbers.items ≡ canvas.shape.width * canvas.shape.height)
-        × HasValuesInRange (map pixel_of canvas.numbers.items) };
+    ghost invariant = { λ canvas. (length canvas.pixels.items ≡ canvas.shape.width * canvas.shape.height)
+        × HasValuesInRange canvas.pixels.items };
 }
 
 impl Canvas {
@@ -41,8 +39,8 @@ impl Canvas {
             (λ canvas. canvas.values ≡ replicate (shape.width * shape.height) None) }
     {
         let count = shape.pixels() as usize;
-        let numbers = vec![in alloc; UNDEFINED; count]?;
-        Ok(Canvas { shape, numbers })
+        let pixels = vec![in alloc; Pixel::of(None); count]?;
+        Ok(Canvas { shape, pixels })
     }
 
     /// The width and the height. They never change.
@@ -59,13 +57,13 @@ impl Canvas {
         requires in_range { IfSome value (λ v. IsWithinRange v) }
         ensures { self.new ≡ record self.old { values = slice_set self.old.values p value } }
     {
-        self.numbers[p as usize] = number_of(value);
+        self.pixels[p as usize] = Pixel::of(value);
     }
 
     /// The plane that was painted.
     pub fn into_plane(self) -> Plane
         ensures { result ≡ self }
     {
-        Plane::of_numbers(self.shape, self.numbers)
+        Plane::of_pixels(self.shape, self.pixels)
     }
 }

@@ -1,29 +1,30 @@
-//! How a plane keeps its pixels: a number for each of them, or, where few are defined, for each block of 32 pixels the numbers from its
-//! first defined pixel to its last.
+//! How a plane keeps its pixels: each of them, or, where few are defined, of each block of 32 pixels those from its first defined pixel
+//! to its last.
 
-ghost use Rattle.std.specs.Prelude.{◌≡◌, ℕ, ◌+◌, ◌-◌, ◌*◌, ◌++◌, ◌^◌, ◌<◌, ◌≤◌, None, length, map, IfOk, OnOk, IfSome, IsTrue, is_some, slice_set};
-ghost use Rattle.comp_tree.specs.Raster.{value_at, HasGap};
+ghost use Rattle.std.specs.Prelude.{◌≡◌, ℕ, ◌+◌, ◌-◌, ◌*◌, ◌++◌, ◌^◌, ◌<◌, ◌≤◌, None, false, cond, slice_index_or, length};
+ghost use Rattle.std.specs.Prelude.{map, IfOk, OnOk, OnErr, IfSome, IsTrue, is_some, slice_set};
+ghost use Rattle.std.specs.Fork.{AcceptsChunksMut, AllInChunks};
+ghost use Rattle.comp_tree.specs.Raster.{value_at, HasGap, HasValuesInRange};
 ghost use Rattle.std.specs.Option.{option_map};
-ghost use Rattle.comp_tree.specs.Stored.{pixel_of as pixel_kept_as, kept_place, place_in_run as place_in_run_of, AreBlocksOf, AreUndefined};
-ghost use Rattle.comp_tree.specs.Stored.{AreUnmarked, number_if_marked, marked_numbers, marked_values};
+ghost use Rattle.comp_tree.specs.Stored.{kept_place, place_in_run as place_in_run_of, AreBlocksOf};
+ghost use Rattle.comp_tree.specs.Stored.{shown_values};
 ghost use Rattle.std.specs.List.{range_with_len};
 
+use crate::pixel::Pixel;
 use costs::OutOfMemory;
 use std::alloc::Global;
 use std::marker::Model;
-
-// Stands for an undefined pixel. No value is so small, so a pixel takes 8 bytes: an `Option<i64>` would take 16, and
-// reading pixels is most of what flooding does.
-pub(crate) const UNDEFINED: i64 = i64::MIN;
+use std::thread;
+use std::thread::Threads;
 
 // How many pixels there are in a block.
 const BLOCK: usize = 32;
 
-// The run of a block: its numbers from the first defined pixel to the last. `first` and `end` count from the block's first pixel,
+// The run of a block: its pixels from the first defined one to the last. `first` and `end` count from the block's first pixel,
 // and where no pixel is defined they are equal.
 #[derive(Clone, Copy)]
 pub struct Run {
-    // the place of the run's first number among all that are kept
+    // the place of the run's first pixel among all that are kept
     start: u32,
     first: u8,
     end: u8,
@@ -33,10 +34,9 @@ pub struct Run {
 #[derive(Drop)]
 pub(crate) struct Pixels {
     count: usize,
-    // A run for each block, or no list while each pixel has a number.
+    // A run for each block, or no list while each pixel is kept.
     runs: Option<Vec<Run>>,
-    // A pixel's value, or `UNDEFINED`.
-    numbers: Vec<i64>,
+    kept: Vec<Pixel>,
 }
 
 impl Model for Pixels {
@@ -46,20 +46,20 @@ impl Model for Pixels {
 
     ghost Value = { List (Option ℤ) };
 
-    ghost view = { λ pixels. kept_pixels pixels.count (option_map (λ runs. runs.items) pixels.runs) pixels.numbers.items };
+    ghost view = { λ pixels. kept_pixels pixels.count (option_map (λ runs. runs.items) pixels.runs) pixels.kept.items };
 
-    ghost invariant = { λ pixels. AreKept pixels.count (option_map (λ runs. runs.items) pixels.runs) pixels.numbers.items };
+    ghost invariant = { λ pixels. AreKept pixels.count (option_map (λ runs. runs.items) pixels.runs) pixels.kept.items };
 }
 
 impl Pixels {
-    // The pixels that these numbers stand for.
-    pub(crate) fn of(numbers: Vec<i64>) -> Pixels
-        ensures { result ≡ map pixel_kept_as numbers.items }
+    // These pixels.
+    pub(crate) fn of(pixels: Vec<Pixel>) -> Pixels
+        ensures { result ≡ pixels.items }
     {
         Pixels {
-            count: numbers.len(),
+            count: pixels.len(),
             runs: None,
-            numbers,
+            kept: pixels,
         }
     }
 
@@ -68,12 +68,12 @@ impl Pixels {
         ensures { IfOk result (λ copy. copy ≡ self.now) }
     {
         let runs = copy_if_there(alloc, &self.runs)?;
-        let mut numbers = Vec::with_capacity(alloc, self.numbers.len())?;
-        numbers.extend_from_slice(&self.numbers)?;
+        let mut kept = Vec::with_capacity(alloc, self.kept.len())?;
+        kept.extend_from_slice(&self.kept)?;
         Ok(Pixels {
             count: self.count,
             runs,
-            numbers,
+            kept,
         })
     }
 
@@ -84,21 +84,59 @@ impl Pixels {
         ensures { result ≡ value_at self.now p }
     {
         match place_of(&self.runs, p) {
-            Some(place) => pixel_of(self.numbers[place]),
+            Some(place) => self.kept[place].value(),
             None => None,
         }
     }
 
-    // Gives a defined pixel another number, or makes a pixel undefined.
+    // Gives a defined pixel another value, or makes a pixel undefined.
     #[inline]
-    pub(crate) fn set(&mut self, p: usize, number: i64)
-        requires pixel { p < length self.old }
-        requires defined { IfSome (pixel_kept_as number) (λ _. IsTrue (is_some (value_at self.old p))) }
-        ensures { self.new ≡ slice_set self.old p (pixel_kept_as number) }
+    pub(crate) fn set(&mut self, p: usize, pixel: Pixel)
+        requires inside { p < length self.old }
+        requires defined { IfSome pixel (λ _. IsTrue (is_some (value_at self.old p))) }
+        ensures { self.new ≡ slice_set self.old p pixel }
     {
         if let Some(place) = place_of(&self.runs, p) {
-            self.numbers[place] = number;
+            self.kept[place] = pixel;
         }
+    }
+
+    // Changes the pixels in bands of `size`, as a plane's `change_bands` does. Those that are kept in blocks are spread out before.
+    pub(crate) fn change_bands<R: Threads + Sync, F: Fn(usize, &mut [Pixel]) + Sync>(
+        &mut self,
+        rt: &R,
+        alloc: Global,
+        size: usize,
+        change: &F,
+    ) -> Result<(), OutOfMemory>
+        requires some { 0 < size }
+        requires in_range { HasValuesInRange self.old }
+        requires accepts { AcceptsChunksMut F.Fn change.now size self.old }
+        ensures one_each { length self.new ≡ length self.old }
+        ensures changed { OnOk result (AllInChunks F.Fn change.now size self.old self.new) }
+        ensures unchanged { OnErr result (self.new ≡ self.old) }
+    {
+        if self.runs.is_none() {
+            change_all(rt, &mut self.kept, size, change);
+            return Ok(());
+        }
+        let mut pixels = self.spread_out(alloc)?;
+        change_all(rt, &mut pixels, size, change);
+        *self = Pixels::of(pixels);
+        Ok(())
+    }
+
+    // All pixels.
+    fn spread_out(&self, alloc: Global) -> Result<Vec<Pixel>, OutOfMemory>
+        requires { HasValuesInRange self.now }
+        ensures { IfOk result (λ pixels. pixels.items ≡ self.now) }
+    {
+        let count = self.count;
+        let mut pixels = Vec::with_capacity(alloc, count)?;
+        for p in 0..count {
+            pixels.push(Pixel::of(self.get(p)))?;
+        }
+        Ok(pixels)
     }
 
     // The next pixel behind this one that may be defined. Where pixels are kept in blocks, those beside a run are passed over.
@@ -115,48 +153,41 @@ impl Pixels {
         }
     }
 
-    // The same pixels in blocks, if they aren't kept so and at most a quarter of the numbers remains.
-    pub(crate) fn in_blocks(&self, alloc: Global) -> Result<Option<Pixels>, OutOfMemory>
-        requires { length self.now ≤ 2 ^ 24 }
-        ensures { IfOk result (λ made. IfSome made (λ pixels. pixels ≡ self.now)) }
-    {
-        match &self.runs {
-            None => blocks_of(alloc, &self.numbers),
-            Some(_) => Ok(None),
-        }
-    }
-
-    // The marked pixels in blocks, with the others undefined, if these aren't kept so and at most a quarter of the numbers remains.
-    pub(crate) fn marked_in_blocks(
+    // The same pixels in blocks, those undefined that aren't marked, if they aren't kept so and at most a quarter of them remains.
+    // Without marks all are shown.
+    pub(crate) fn in_blocks(
         &self,
         alloc: Global,
-        marks: &[bool],
+        marks: Option<&[bool]>,
     ) -> Result<Option<Pixels>, OutOfMemory>
         requires few { length self.now ≤ 2 ^ 24 }
-        requires one_each { length marks.now ≡ length self.now }
-        ensures { IfOk result (λ made. IfSome made (λ pixels. pixels ≡ marked_values self.now marks.now)) }
+        requires one_each { IfSome marks (λ marks. length marks.now ≡ length self.now) }
+        ensures { IfOk result (λ made. IfSome made
+            (λ pixels. pixels ≡ shown_values self.now marks.entry)) }
     {
         match &self.runs {
-            None => blocks_of_marked(alloc, &self.numbers, marks),
+            None => blocks_of(alloc, &self.kept, marks),
             Some(_) => Ok(None),
         }
     }
 }
 
-// The pixel that is kept as this number.
-#[inline(always)]
-#[tactic(auto, unfolding(crate::specs::Stored::pixel_of))]
-fn pixel_of(number: i64) -> Option<i64>
-    ensures { result ≡ pixel_kept_as number }
+// Changes all pixels in bands of `size`, each in a thread of its own where one can be made.
+fn change_all<R: Threads + Sync, F: Fn(usize, &mut [Pixel]) + Sync>(
+    rt: &R,
+    pixels: &mut Vec<Pixel>,
+    size: usize,
+    change: &F,
+)
+    requires some { 0 < size }
+    requires accepts { AcceptsChunksMut F.Fn change.now size pixels.old.items }
+    ensures one_each { length pixels.new.items ≡ length pixels.old.items }
+    ensures changed { AllInChunks F.Fn change.now size pixels.old.items pixels.new.items }
 {
-    if number == UNDEFINED {
-        None
-    } else {
-        Some(number)
-    }
+    thread::for_each_chunk_mut(rt, pixels, size, change);
 }
 
-// Which of the numbers is that of a pixel, if one is.
+// Which of the kept pixels is this one, if one is.
 #[inline(always)]
 #[tactic(auto, unfolding(crate::specs::Stored::kept_place))]
 fn place_of(runs: &Option<Vec<Run>>, p: usize) -> Option<usize>
@@ -169,7 +200,7 @@ fn place_of(runs: &Option<Vec<Run>>, p: usize) -> Option<usize>
     place_in_run(runs[p / BLOCK], p % BLOCK)
 }
 
-// The place of the number of a block's pixel, if it is one of the run's.
+// The place of a block's pixel, if it is one of the run's.
 #[inline(always)]
 #[tactic(auto, unfolding(crate::specs::Stored::place_in_run))]
 fn place_in_run(run: Run, k: usize) -> Option<usize>
@@ -208,197 +239,138 @@ fn copy_if_there(alloc: Global, runs: &Option<Vec<Run>>) -> Result<Option<Vec<Ru
     Ok(Some(copy))
 }
 
-// The pixels that these numbers stand for, in blocks, if at most a quarter of the numbers remains.
-fn blocks_of(alloc: Global, numbers: &[i64]) -> Result<Option<Pixels>, OutOfMemory>
-    requires { length numbers.now ≤ 2 ^ 24 }
-    ensures { IfOk result (λ made. IfSome made (λ pixels. pixels ≡ map pixel_kept_as numbers.now)) }
+// These pixels in blocks, those undefined that aren't marked, if at most a quarter of them remains. Without marks all are shown.
+fn blocks_of(
+    alloc: Global,
+    pixels: &[Pixel],
+    marks: Option<&[bool]>,
+) -> Result<Option<Pixels>, OutOfMemory>
+    requires few { length pixels.now ≤ 2 ^ 24 }
+    requires one_each { IfSome marks (λ marks. length marks.now ≡ length pixels.now) }
+    ensures { IfOk result (λ made. IfSome made
+        (λ made. made ≡ shown_values pixels.now marks.entry)) }
 {
-    let count = numbers.len().div_ceil(BLOCK);
+    let count = pixels.len().div_ceil(BLOCK);
     let mut runs = Vec::with_capacity(alloc, count)?;
     // room that isn't used takes no memory until it is written to
-    let mut kept = Vec::with_capacity(alloc, numbers.len() / 4)?;
+    let mut kept = Vec::with_capacity(alloc, pixels.len() / 4)?;
     for block in 0..count {
-        add_block(&mut runs, &mut kept, numbers, block)?;
-        if kept.len() > numbers.len() / 4 {
+        add_block(&mut runs, &mut kept, pixels, marks, block)?;
+        if kept.len() > pixels.len() / 4 {
             return Ok(None);
         }
     }
     Ok(Some(Pixels {
-        count: numbers.len(),
+        count: pixels.len(),
         runs: Some(runs),
-        numbers: kept,
+        kept,
     }))
 }
 
 // Adds the next block to the first ones.
 fn add_block(
     runs: &mut Vec<Run>,
-    kept: &mut Vec<i64>,
-    numbers: &[i64],
+    kept: &mut Vec<Pixel>,
+    pixels: &[Pixel],
+    marks: Option<&[bool]>,
     block: usize,
 ) -> Result<(), OutOfMemory>
-    requires few { length numbers.now ≤ 2 ^ 24 }
-    requires inside { block * 32 < length numbers.now }
-    requires before { AreBlocksOf block runs.old.items kept.old.items numbers.now }
-    ensures { OnOk result (AreBlocksOf (block + 1) runs.new.items kept.new.items numbers.now) }
-{
-    let low = block * BLOCK;
-    let high = numbers.len().min(low + BLOCK);
-    let first = first_defined(numbers, low, high);
-    let end = end_of_defined(numbers, first, high);
-    let run = Run {
-        start: kept.len() as u32,
-        first: (first - low) as u8,
-        end: (end - low) as u8,
-    };
-    runs.push(run)?;
-    kept.extend_from_slice(&numbers[first..end])?;
-    Ok(())
-}
-
-// The first of some pixels that is defined, or their end where none is.
-fn first_defined(numbers: &[i64], low: usize, high: usize) -> usize
-    requires order { low ≤ high }
-    requires inside { high ≤ length numbers.now }
-    ensures low { low ≤ result }
-    ensures high { result ≤ high }
-    ensures none_before { AreUndefined numbers.now low result }
-{
-    let mut first = low;
-    while first < high && numbers[first] == UNDEFINED {
-        first += 1;
-    }
-    first
-}
-
-// The pixel after the last of some that is defined, or the first where none is.
-fn end_of_defined(numbers: &[i64], low: usize, high: usize) -> usize
-    requires order { low ≤ high }
-    requires inside { high ≤ length numbers.now }
-    ensures low { low ≤ result }
-    ensures high { result ≤ high }
-    ensures none_behind { AreUndefined numbers.now result high }
-{
-    let mut end = high;
-    while low < end && numbers[end - 1] == UNDEFINED {
-        end -= 1;
-    }
-    end
-}
-
-// The pixels that the numbers of marked pixels stand for, in blocks, if at most a quarter of the numbers remains.
-fn blocks_of_marked(
-    alloc: Global,
-    numbers: &[i64],
-    marks: &[bool],
-) -> Result<Option<Pixels>, OutOfMemory>
-    requires few { length numbers.now ≤ 2 ^ 24 }
-    requires one_each { length marks.now ≡ length numbers.now }
-    ensures { IfOk result (λ made. IfSome made
-        (λ pixels. pixels ≡ map pixel_kept_as (marked_numbers numbers.now marks.now))) }
-{
-    let count = numbers.len().div_ceil(BLOCK);
-    let mut runs = Vec::with_capacity(alloc, count)?;
-    // room that isn't used takes no memory until it is written to
-    let mut kept = Vec::with_capacity(alloc, numbers.len() / 4)?;
-    for block in 0..count {
-        add_marked_block(&mut runs, &mut kept, numbers, marks, block)?;
-        if kept.len() > numbers.len() / 4 {
-            return Ok(None);
-        }
-    }
-    Ok(Some(Pixels {
-        count: numbers.len(),
-        runs: Some(runs),
-        numbers: kept,
-    }))
-}
-
-// Adds the next block of the marked pixels to the first ones.
-fn add_marked_block(
-    runs: &mut Vec<Run>,
-    kept: &mut Vec<i64>,
-    numbers: &[i64],
-    marks: &[bool],
-    block: usize,
-) -> Result<(), OutOfMemory>
-    requires few { length numbers.now ≤ 2 ^ 24 }
-    requires one_each { length marks.now ≡ length numbers.now }
-    requires inside { block * 32 < length numbers.now }
-    requires before { AreBlocksOf block runs.old.items kept.old.items (marked_numbers numbers.now marks.now) }
+    requires few { length pixels.now ≤ 2 ^ 24 }
+    requires one_each { IfSome marks (λ marks. length marks.now ≡ length pixels.now) }
+    requires inside { block * 32 < length pixels.now }
+    requires before { AreBlocksOf block runs.old.items kept.old.items
+        (shown_values pixels.now marks) }
     ensures { OnOk result (AreBlocksOf (block + 1) runs.new.items kept.new.items
-        (marked_numbers numbers.now marks.now)) }
+        (shown_values pixels.now marks.entry)) }
 {
     let low = block * BLOCK;
-    let high = numbers.len().min(low + BLOCK);
-    let first = first_marked(marks, low, high);
-    let end = end_of_marked(marks, first, high);
+    let high = pixels.len().min(low + BLOCK);
+    let first = first_shown(pixels, marks, low, high);
+    let end = end_of_shown(pixels, marks, first, high);
     let run = Run {
         start: kept.len() as u32,
         first: (first - low) as u8,
         end: (end - low) as u8,
     };
     runs.push(run)?;
-    push_marked(kept, numbers, marks, first, end)
+    push_shown(kept, pixels, marks, first, end)
 }
 
-// Adds the numbers of some pixels, the marked ones' own.
-fn push_marked(
-    kept: &mut Vec<i64>,
-    numbers: &[i64],
-    marks: &[bool],
+// Adds some pixels as they are shown.
+fn push_shown(
+    kept: &mut Vec<Pixel>,
+    pixels: &[Pixel],
+    marks: Option<&[bool]>,
     first: usize,
     end: usize,
 ) -> Result<(), OutOfMemory>
-    requires one_each { length marks.now ≡ length numbers.now }
+    requires one_each { IfSome marks (λ marks. length marks.now ≡ length pixels.now) }
     requires order { first ≤ end }
-    requires inside { end ≤ length numbers.now }
+    requires inside { end ≤ length pixels.now }
     ensures { OnOk result (kept.new.items ≡ kept.old.items
-        ++ map (number_if_marked numbers.now marks.now) (range_with_len first (end - first))) }
+        ++ map (value_at (shown_values pixels.now marks.entry))
+        (range_with_len first (end - first))) }
 {
     for p in first..end {
-        kept.push(number_if(numbers, marks, p))?;
+        kept.push(shown(pixels, marks, p))?;
     }
     Ok(())
 }
 
-// The number of a pixel if it is marked, and else that of an undefined one.
-#[inline(always)]
-#[tactic(auto, unfolding(crate::specs::Stored::number_if_marked))]
-fn number_if(numbers: &[i64], marks: &[bool], p: usize) -> i64
-    requires one_each { length marks.now ≡ length numbers.now }
-    requires pixel { p < length numbers.now }
-    ensures { result ≡ number_if_marked numbers.now marks.now p }
-{
-    if marks[p] { numbers[p] } else { UNDEFINED }
-}
-
-// The first of some pixels that is marked, or their end where none is.
-fn first_marked(marks: &[bool], low: usize, high: usize) -> usize
+// The first of some pixels that is shown, or their end where none is.
+fn first_shown(pixels: &[Pixel], marks: Option<&[bool]>, low: usize, high: usize) -> usize
+    requires one_each { IfSome marks (λ marks. length marks.now ≡ length pixels.now) }
     requires order { low ≤ high }
-    requires inside { high ≤ length marks.now }
+    requires inside { high ≤ length pixels.now }
     ensures low { low ≤ result }
     ensures high { result ≤ high }
-    ensures none_before { AreUnmarked marks.now low result }
+    ensures none_before { HasGap (shown_values pixels.now marks.entry)
+        low result }
 {
     let mut first = low;
-    while first < high && !marks[first] {
+    while first < high && shown(pixels, marks, first).value().is_none() {
         first += 1;
     }
     first
 }
 
-// The pixel after the last of some that is marked, or the first where none is.
-fn end_of_marked(marks: &[bool], low: usize, high: usize) -> usize
+// The pixel after the last of some that is shown, or the first where none is.
+fn end_of_shown(pixels: &[Pixel], marks: Option<&[bool]>, low: usize, high: usize) -> usize
+    requires one_each { IfSome marks (λ marks. length marks.now ≡ length pixels.now) }
     requires order { low ≤ high }
-    requires inside { high ≤ length marks.now }
+    requires inside { high ≤ length pixels.now }
     ensures low { low ≤ result }
     ensures high { result ≤ high }
-    ensures none_behind { AreUnmarked marks.now result high }
+    ensures none_behind { HasGap (shown_values pixels.now marks.entry)
+        result high }
 {
     let mut end = high;
-    while low < end && !marks[end - 1] {
+    while low < end && shown(pixels, marks, end - 1).value().is_none() {
         end -= 1;
     }
     end
+}
+
+// A pixel as it is shown: an undefined one where it isn't marked.
+#[inline(always)]
+fn shown(pixels: &[Pixel], marks: Option<&[bool]>, p: usize) -> Pixel
+    requires one_each { IfSome marks (λ marks. length marks.now ≡ length pixels.now) }
+    requires inside { p < length pixels.now }
+    ensures { result
+        ≡ value_at (shown_values pixels.now marks.entry) p }
+{
+    match marks {
+        None => pixels[p],
+        Some(marks) => pixel_if(pixels, marks, p),
+    }
+}
+
+// The pixel if it is marked, and else an undefined one.
+#[inline(always)]
+fn pixel_if(pixels: &[Pixel], marks: &[bool], p: usize) -> Pixel
+    requires one_each { length marks.now ≡ length pixels.now }
+    requires inside { p < length pixels.now }
+    ensures { result ≡ cond (slice_index_or marks.now p false) (value_at pixels.now p) None }
+{
+    if marks[p] { pixels[p] } else { Pixel::of(None) }
 }

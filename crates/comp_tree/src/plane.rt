@@ -1,17 +1,20 @@
 //! Planes: images of whole numbers with undefined pixels.
 
-ghost use Rattle.std.specs.Prelude.{◌≡◌, ◌*◌, ◌<◌, ◌≤◌, true, length, map, None, is_some, slice_set, IfOk, IfSome, IsTrue};
+ghost use Rattle.std.specs.Prelude.{◌≡◌, ◌*◌, ◌<◌, ◌≤◌, true, length, is_some, slice_set, IfOk, IfSome, OnOk, OnErr, IsTrue};
 ghost use Rattle.std.specs.List.{list_all};
+ghost use Rattle.std.specs.Fork.{AcceptsChunksMut, AllInChunks};
+ghost use Rattle.comp_tree.specs.Bands.{LeavesInRange};
 ghost use Rattle.comp_tree.specs.Limits.{IsWithinRange};
-ghost use Rattle.comp_tree.specs.Stored.{pixel_of as pixel_kept_as};
 ghost use Rattle.comp_tree.specs.Raster.{is_pixel_value as may_stand, raster_of};
 ghost use Rattle.comp_tree.specs.Raster.{Raster, HasValuesInRange, HasGap, value_at, is_defined, level, is_at_least, is_earlier, without_unmarked};
 
-use crate::pixels::{Pixels, UNDEFINED};
+use crate::pixel::Pixel;
+use crate::pixels::Pixels;
 use crate::shape::Shape;
 use costs::OutOfMemory;
 use std::alloc::Global;
 use std::marker::Model;
+use std::thread::Threads;
 
 /// An image of whole numbers from -2^37 to 2^37, in which a pixel may be undefined.
 ///
@@ -35,15 +38,15 @@ impl Model for Plane {
 }
 
 impl Plane {
-    // The plane that these numbers stand for, one for each pixel.
-    pub(crate) fn of_numbers(shape: Shape, numbers: Vec<i64>) -> Plane
-        requires one_each { length numbers.items ≡ shape.width * shape.height }
-        requires in_range { HasValuesInRange (map pixel_kept_as numbers.items) }
-        ensures { result ≡ record { shape = shape; values = map pixel_kept_as numbers.items } }
+    // The plane of these pixels, row by row.
+    pub(crate) fn of_pixels(shape: Shape, pixels: Vec<Pixel>) -> Plane
+        requires one_each { length pixels.items ≡ shape.width * shape.height }
+        requires in_range { HasValuesInRange pixels.items }
+        ensures { result ≡ record { shape = shape; values = pixels.items } }
     {
         Plane {
             shape,
-            pixels: Pixels::of(numbers),
+            pixels: Pixels::of(pixels),
         }
     }
 
@@ -59,8 +62,8 @@ impl Plane {
         if values.len() != shape.pixels() as usize {
             return Ok(None);
         }
-        match numbers_of(alloc, values)? {
-            Some(numbers) => Ok(Some(Plane::of_numbers(shape, numbers))),
+        match pixels_of(alloc, values)? {
+            Some(pixels) => Ok(Some(Plane::of_pixels(shape, pixels))),
             None => Ok(None),
         }
     }
@@ -161,7 +164,7 @@ impl Plane {
         requires in_range { IfSome value (λ v. IsWithinRange v) }
         ensures { self.new ≡ record self.old { values = slice_set self.old.values p value } }
     {
-        self.pixels.set(p as usize, number_of(value));
+        self.pixels.set(p as usize, Pixel::of(value));
     }
 
     /// A second plane, in which the pixels that aren't marked are undefined. Where few are left it takes little memory. The one error is
@@ -172,7 +175,7 @@ impl Plane {
     {
         // for its clauses alone: how many pixels there are
         let _count = self.shape.pixels();
-        if let Some(pixels) = self.pixels.marked_in_blocks(alloc, marks)? {
+        if let Some(pixels) = self.pixels.in_blocks(alloc, Some(marks))? {
             return Ok(Plane {
                 shape: self.shape,
                 pixels,
@@ -195,6 +198,30 @@ impl Plane {
         }
     }
 
+    /// Changes the pixels in bands of `size`, each in a thread of its own where one can be made. `change` is called with the
+    /// number of a band's first pixel, and the band. The last band may have fewer pixels.
+    ///
+    /// The one error is that memory was refused, which only a plane of few pixels takes (it is kept in full afterwards); the
+    /// plane is as it was then.
+    pub fn change_bands<R: Threads + Sync, F: Fn(usize, &mut [Pixel]) + Sync>(
+        &mut self,
+        rt: &R,
+        alloc: Global,
+        size: u32,
+        change: &F,
+    ) -> Result<(), OutOfMemory>
+        requires some { 0 < size }
+        requires accepts { AcceptsChunksMut F.Fn change.now size self.old.values }
+        requires in_range { LeavesInRange F.Fn change.now size self.old.values }
+        ensures shape { self.new.shape ≡ self.old.shape }
+        ensures one_each { length self.new.values ≡ length self.old.values }
+        ensures changed { OnOk result
+            (AllInChunks F.Fn change.now size self.old.values self.new.values) }
+        ensures unchanged { OnErr result (self.new ≡ self.old) }
+    {
+        self.pixels.change_bands(rt, alloc, size as usize, change)
+    }
+
     /// Keeps the pixels in less memory, where few of them are defined. For a moment it takes more.
     ///
     /// The one error is that memory was refused.
@@ -203,26 +230,26 @@ impl Plane {
     {
         // for its clauses alone: how many pixels there are
         let _count = self.shape.pixels();
-        if let Some(pixels) = self.pixels.in_blocks(alloc)? {
+        if let Some(pixels) = self.pixels.in_blocks(alloc, None)? {
             self.pixels = pixels;
         }
         Ok(())
     }
 }
 
-// The numbers that pixels with these values are kept as, if they may have them.
-fn numbers_of(alloc: Global, values: &[Option<i64>]) -> Result<Option<Vec<i64>>, OutOfMemory>
-    ensures there { IfOk result (λ numbers. is_some numbers ≡ list_all may_stand values.now) }
-    ensures kept { IfOk result (λ numbers. IfSome numbers (λ v. map pixel_kept_as v.items ≡ values.now)) }
+// The pixels with these values, if they may have them.
+fn pixels_of(alloc: Global, values: &[Option<i64>]) -> Result<Option<Vec<Pixel>>, OutOfMemory>
+    ensures there { IfOk result (λ pixels. is_some pixels ≡ list_all may_stand values.now) }
+    ensures same { IfOk result (λ pixels. IfSome pixels (λ v. v.items ≡ values.now)) }
 {
-    let mut numbers = Vec::with_capacity(alloc, values.len())?;
+    let mut pixels = Vec::with_capacity(alloc, values.len())?;
     for value in values {
         if !is_pixel_value(*value) {
             return Ok(None);
         }
-        numbers.push(number_of(*value))?;
+        pixels.push(Pixel::of(*value))?;
     }
-    Ok(Some(numbers))
+    Ok(Some(pixels))
 }
 
 // Whether a pixel may have this value, or none.
@@ -233,16 +260,5 @@ fn is_pixel_value(value: Option<i64>) -> bool
     match value {
         Some(v) => -(1 << 37) <= v && v <= 1 << 37,
         None => true,
-    }
-}
-
-// The number that a pixel is kept as.
-pub(crate) fn number_of(value: Option<i64>) -> i64
-    requires { IfSome value (λ v. IsWithinRange v) }
-    ensures { pixel_kept_as result ≡ value }
-{
-    match value {
-        Some(v) => v,
-        None => UNDEFINED,
     }
 }

@@ -1,9 +1,13 @@
-ghost use Rattle.std.specs.Prelude.{◌≡◌, ◌<◌};
+ghost use Rattle.std.specs.Prelude.{◌≡◌, ◌^◌, ◌<◌, IfSome};
+ghost use Rattle.comp_tree.specs.Limits.{IsWithinRange};
+ghost use Rattle.comp_tree.specs.Raster.{HasValuesInRange};
 ghost use Rattle.comp_tree.specs.Windows.{Window, in_whole};
 
 use super::*;
+use costs::OutOfMemory;
 use std::alloc::Global;
 use std::test::Fail;
+use std::thread::Threads;
 
 #[derive(Drop)]
 struct Case<'a> {
@@ -115,7 +119,7 @@ fn a_compact_plane_is_changed(rt: HostRuntime) -> Result<(), Fail> {
     Ok(())
 }
 
-// One finds the defined pixels one after the other, with a number for each pixel as in blocks.
+// One finds the defined pixels one after the other, with each pixel kept as in blocks.
 #[test]
 fn defined_pixels_are_found(rt: HostRuntime) -> Result<(), Fail> {
     let mut plane = plane_of_few(rt.alloc())?;
@@ -125,7 +129,7 @@ fn defined_pixels_are_found(rt: HostRuntime) -> Result<(), Fail> {
     Ok(())
 }
 
-// Of the marked pixels a second plane is made, in blocks where they are few, and with a number for each pixel where they are many.
+// Of the marked pixels a second plane is made, in blocks where they are few, and with each pixel kept where they are many.
 #[test]
 fn marked_pixels_stay(rt: HostRuntime) -> Result<(), Fail> {
     let plane = plane_of_few(rt.alloc())?;
@@ -154,6 +158,67 @@ fn a_full_plane_stays(rt: HostRuntime) -> Result<(), Fail> {
     let first = plane.copied(rt.alloc())?;
     plane.compact(rt.alloc())?;
     assert!(rt; are_alike(&plane, &first));
+    Ok(())
+}
+
+// A defined pixel with this number in place of its value, or an undefined one.
+fn numbered(pixel: Pixel, number: usize) -> Pixel
+    requires { number < 2 ^ 24 }
+    ensures { IfSome result (λ v. IsWithinRange v) }
+{
+    match pixel.value() {
+        Some(_) => Pixel::of(Some(number as i64)),
+        None => pixel,
+    }
+}
+
+// Gives the defined pixels of a band the number of its first one.
+fn number_band(start: usize, band: &mut [Pixel])
+    requires few { start < 2 ^ 24 }
+    requires in_range { HasValuesInRange band.old }
+    ensures { HasValuesInRange band.new }
+{
+    for k in 0..band.len() {
+        band[k] = numbered(band[k], start);
+    }
+}
+
+// Does so with each band of this size.
+fn number_bands<R: Threads + Sync>(
+    rt: &R,
+    alloc: Global,
+    plane: &mut Plane,
+    size: u32,
+) -> Result<(), OutOfMemory>
+    requires { 0 < size }
+{
+    // for its clauses alone: how many pixels there are, and that they are in range
+    let _count = plane.shape().pixels();
+    plane.change_bands(
+        rt,
+        alloc,
+        size,
+        &|start: usize, band: &mut [Pixel]|
+            requires { (start < 2 ^ 24) × HasValuesInRange band.now }
+            ensures { HasValuesInRange band.exit.now }
+        { number_band(start, band) },
+    )
+}
+
+// Bands of three pixels are all, and of four the last is shorter. A plane in blocks is changed as well.
+#[test]
+fn pixels_are_changed_in_bands(rt: HostRuntime) -> Result<(), Fail> {
+    let shape = Shape::of(3, 2).ok_or("a shape")?;
+    let values = [Some(5), None, Some(6), Some(5), Some(0), Some(7)];
+    let mut plane = Plane::of(rt.alloc(), shape, &values)?.ok_or("a plane")?;
+    number_bands(&rt, rt.alloc(), &mut plane, 3)?;
+    assert_eq!(rt; sums_of_defined(&plane), (14, 9));
+    number_bands(&rt, rt.alloc(), &mut plane, 4)?;
+    assert_eq!(rt; sums_of_defined(&plane), (14, 8));
+    let mut few = plane_of_few(rt.alloc())?;
+    few.compact(rt.alloc())?;
+    number_bands(&rt, rt.alloc(), &mut few, 32)?;
+    assert_eq!(rt; sums_of_defined(&few), (138, 128));
     Ok(())
 }
 

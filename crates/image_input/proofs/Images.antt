@@ -26,7 +26,7 @@ use Rattle.pixel_plane.specs.Reading.{image_bytes, PlaneRead, PlaneStopped}
 use Rattle.pixel_plane.specs.Stored.{first_out_of_range, stored_plane, stored_at}
 use Rattle.pixel_plane.specs.Verdicts.{Verdict, image, truncated, image_unless, verdict_on, verdict_on_hdu, verdict_on_found, taken_for}
 use Rattle.image_input.specs.declared.image.Stop.{Stop}
-use Rattle.image_input.specs.Faults.{stop_at_hdu, stop_at_plane}
+use Rattle.image_input.specs.Stops.{stop_at_hdu, stop_at_plane}
 use Rattle.image_input.specs.declared.fault.Fault.TheVariants as at_fault
 use Rattle.image_input.specs.declared.image.Stop.TheVariants.{Refused}
 use Rattle.image_input.specs.Streams.{ImageRead, ImageStopped, StoppedBy, TakesOneOf, memory_at_verdict, stop_of}

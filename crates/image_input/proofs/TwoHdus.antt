@@ -21,7 +21,7 @@ use Rattle.pixel_plane.specs.Images.{checked}
 use Rattle.pixel_plane.specs.Reading.{image_bytes}
 use Rattle.pixel_plane.specs.Stored.{first_out_of_range}
 use Rattle.pixel_plane.specs.Verdicts.{image, truncated, image_unless, verdict_on, verdict_on_hdu, verdict_on_found, Verdict, unfound, unreadable, out_of_range}
-use Rattle.image_input.specs.Faults.{stop_at_hdu}
+use Rattle.image_input.specs.Stops.{stop_at_hdu}
 use Rattle.image_input.proofs.Images.{verdict_is, stopped_as}
 use Rattle.lemmas.proofs.Exported.{both_true}
 use Rattle.image_input.specs.TwoImages.{TwoVerdict, shape_found, header_shape, is_other_shape, verdict_beside, combined_verdict, verdict_on_two, taken_for_two}

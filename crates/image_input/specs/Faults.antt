@@ -2,19 +2,15 @@
 use Rattle.std.specs.Prelude.{ℕ, List, Option, None, codes}
 use Rattle.std.specs.Option.{option_map}
 use Rattle.fits_hdu.specs.declared.fault.HduFault.TheVariants.{TruncatedHeader, TruncatedSkip}
-use Rattle.fits_hdu.specs.declared.fault.HduStop.{HduStop}
-use Rattle.fits_hdu.specs.declared.fault.HduStop.TheVariants as at_hdu
 use Rattle.fits_hdu.specs.Faults.{hdu_fault_number, hdu_fault_name, hdu_fault_place}
 use Rattle.pixel_plane.specs.declared.fault.PlaneFault.TheVariants.{TruncatedData}
-use Rattle.pixel_plane.specs.declared.fault.PlaneStop.{PlaneStop}
-use Rattle.pixel_plane.specs.declared.fault.PlaneStop.TheVariants as at_plane
 use Rattle.pixel_plane.specs.Faults.{image_fault_number, image_fault_name, plane_fault_number, plane_fault_name, plane_fault_place}
 use Rattle.image_input.specs.declared.fault.Fault.{Fault}
 use Rattle.image_input.specs.declared.fault.Fault.TheVariants.{Hdu, Image, Plane, ShapeDiffers}
 use Rattle.image_input.specs.declared.fault.Place.{Place}
 use Rattle.image_input.specs.declared.fault.Place.TheVariants.{Card, Pixel}
 use Rattle.image_input.specs.declared.image.Stop.{Stop}
-use Rattle.image_input.specs.declared.image.Stop.TheVariants.{Refused, ReadFault, NoMemory}
+use Rattle.image_input.specs.declared.image.Stop.TheVariants.{Refused}
 
 abbrev pub fault_number : Fault → ℕ
 fault_number (Hdu fault) = hdu_fault_number fault
@@ -33,17 +29,6 @@ abbrev pub place_of : Fault → Option Place
 place_of (Hdu fault) = option_map Card (hdu_fault_place fault)
 place_of (Plane fault) = option_map Pixel (plane_fault_place fault)
 place_of _ = None
-
--- why the reading of an image stops: where its HDU isn't found
-abbrev pub stop_at_hdu : HduStop → Stop
-stop_at_hdu (at_hdu.Fault fault) = Refused (Hdu fault)
-stop_at_hdu at_hdu.ReadFault = ReadFault
-
--- and where its pixels aren't read
-abbrev pub stop_at_plane : PlaneStop → Stop
-stop_at_plane (at_plane.Fault fault) = Refused (Plane fault)
-stop_at_plane at_plane.ReadFault = ReadFault
-stop_at_plane at_plane.OutOfMemory = NoMemory
 
 -- a fault that only the end of the input shows
 abbrev pub IsCutShort : Fault → Type 0

@@ -1,4 +1,5 @@
 pub mod Faults
+pub mod Stops
 pub mod Streams
 pub mod TwoImages
 pub mod FirstImages

@@ -6,7 +6,8 @@ ghost use Rattle.dev_io.specs.Streams.{Takes};
 ghost use Rattle.pixel_plane.specs.Images.{checked};
 ghost use Rattle.comp_tree.specs.Raster.{HasValuesInHalfRange};
 ghost use Rattle.pixel_plane.specs.Verdicts.{verdict_on, verdict_on_hdu};
-ghost use Rattle.image_input.specs.Faults.{stop_at_hdu, stop_at_plane, IsCutStop};
+ghost use Rattle.image_input.specs.Faults.{IsCutStop};
+ghost use Rattle.image_input.specs.Stops.{stop_at_hdu, stop_at_plane};
 ghost use Rattle.image_input.specs.Streams.{ImageRead, ImageStopped};
 
 use crate::fault::Fault;

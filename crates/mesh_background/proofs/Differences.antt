@@ -1,14 +1,14 @@
 -- The value of one pixel less a number: that it fits and lies in the range, and the plane in which it stands.
-use Rattle.std.proofs.Common.{◌≡◌, ℕ, ◌+◌, ◌<◌, ◌^◌, length, sym, ap, subst, ◌∙◌, refl, arith}
-use Rattle.std.specs.Prelude.{ℤ, ◌-ℤ◌, Some, None, slice_set}
+use Rattle.std.proofs.Common.{◌≡◌, ℕ, ◌+◌, ◌<◌, ◌^◌, List, length, get_or, sym, ap, subst, ◌∙◌, refl, arith}
+use Rattle.std.specs.Prelude.{ℤ, ◌-ℤ◌, Option, Some, None, slice_set}
 use Rattle.std.specs.Option.{option_map}
 use Rattle.std.proofs.lemmas.Int.{ints, to_z-of_z}
-use Rattle.std.proofs.lemmas.List.{length-set, get_or-set_other}
+use Rattle.std.proofs.lemmas.List.{length-set, get_or-set_other, get_or_default}
 use Rattle.std.proofs.lemmas.Grind.{get_or-set_at}
 use mir.Syntax.{w64}
 use mir.Val.{SFits}
 use Rattle.comp_tree.specs.Limits.{IsInHalfRange, IsWithinRange}
-use Rattle.comp_tree.specs.Raster.{Raster, value_at}
+use Rattle.comp_tree.specs.Raster.{value_at}
 use Rattle.mesh_background.specs.Lessened.{IsLessened}
 use Rattle.mesh_background.proofs.Fitting.{IsUpTo, kept, up_to-fits}
 use Rattle.mesh_background.proofs.Residuals.{half-fits}
@@ -37,28 +37,23 @@ difference-within v n h k =
     let up : IsUpTo (2 ^ 37) (v -ℤ n) = difference-up_to v n h k in
     subst (λ (z : ℤ). IsWithinRange z) (sym (difference-kept v n h k)) (record { low = up.low; high = up.high })
 
--- an undefined pixel stays as it is
-pub lessened-undefined : (r : Raster) (p : ℕ) (n : ℤ) → value_at r.values p ≡ None → IsLessened r (λ _. n) p (p + 1) r
-lessened-undefined r p n is = record {
-  shape_is = refl;
-  one_each = refl;
-  before = λ q lt. refl;
-  inside = λ q low high.
-      let same : q ≡ p = omega (arith, low, high) in
-      let none : value_at r.values q ≡ None = ap (value_at r.values) same ∙ is in
-      none ∙ sym (ap (option_map (λ v. v -ℤ n)) none);
-  behind = λ q le. refl;
-}
+-- a pixel that was read
+pub pixel-read : (row : List (Option ℤ)) (x : ℕ) (found : Option ℤ) → x < length row → found ≡ get_or row x found → found ≡ value_at row x
+pixel-read row x found lt is = is ∙ get_or_default row x found None lt
 
-pub lessened-set : (r new : Raster) (p : ℕ) (v n : ℤ) → IsInHalfRange v → IsInHalfRange n → p < length r.values → value_at r.values p ≡ Some v
-    → new ≡ record r { values = slice_set r.values p (Some (kept w64 (kept w64 v -ℤ kept w64 n))) } → IsLessened r (λ _. n) p (p + 1) new
-lessened-set r new p v n h k lt is e = subst (λ (m : Raster). IsLessened r (λ _. n) p (p + 1) m) (sym e) (record {
-  shape_is = refl;
-  one_each = length-set r.values p _;
-  before = λ q less. get_or-set_other r.values p q _ None (λ same. absurd (omega (arith, less, same)));
+-- a pixel's value, one that the code took a number from
+pub pixel-less : (pixel : Option ℤ) (v n : ℤ) → pixel ≡ Some v → IsInHalfRange v → IsInHalfRange n
+    → Some (kept w64 (kept w64 v -ℤ kept w64 n)) ≡ option_map (λ z. z -ℤ n) pixel
+pixel-less pixel v n is h k = ap (λ (z : ℤ). Some z) (difference-kept v n h k) ∙ sym (ap (option_map (λ z. z -ℤ n)) is)
+
+-- a list in which it is put in place of the pixel
+pub lessened-set : (old : List (Option ℤ)) (x : ℕ) (n : ℤ) (pixel : Option ℤ) → x < length old → pixel ≡ option_map (λ v. v -ℤ n) (value_at old x)
+    → IsLessened old (λ _. n) x (x + 1) (slice_set old x pixel)
+lessened-set old x n pixel lt is = record {
+  one_each = length-set old x pixel;
+  before = λ q less. get_or-set_other old x q pixel None (λ there. absurd (omega (arith, less, there)));
   inside = λ q low high.
-      let same : q ≡ p = omega (arith, low, high) in
-      get_or-set_at r.values p q _ None same lt ∙ ap (λ (z : ℤ). Some z) (difference-kept v n h k)
-      ∙ sym (ap (option_map (λ z. z -ℤ n)) (ap (value_at r.values) same ∙ is));
-  behind = λ q le. get_or-set_other r.values p q _ None (λ same. absurd (omega (arith, le, same)));
-})
+      let there : q ≡ x = omega (arith, low, high) in
+      get_or-set_at old x q pixel None there lt ∙ is ∙ sym (ap (λ (k : ℕ). option_map (λ v. v -ℤ n) (value_at old k)) there);
+  behind = λ q le. get_or-set_other old x q pixel None (λ there. absurd (omega (arith, le, there)));
+}

@@ -1,4 +1,4 @@
--- Planes from whose values the numbers of their cells are taken away, some pixels at a time.
+-- Rows from whose values the levels of their pixels are taken away, some pixels at a time, and planes of such rows.
 use Rattle.std.proofs.Common.{◌≡◌, ℕ, ◌+◌, ◌-◌, ◌*◌, ◌/◌, ◌%◌, ◌^◌, ◌<◌, ◌≤◌, min, Bool, true, false, List, length, get_or, refl, sym, ap, subst, ◌∙◌}
 use Rattle.std.proofs.Common.{arith, ◌⊎◌, inl, inr}
 use Rattle.std.specs.Prelude.{ℤ, pos, ◌-ℤ◌, Option, Some, None, IfSome}
@@ -12,9 +12,8 @@ use Rattle.comp_tree.specs.declared.shape.Shape.{Shape}
 use Rattle.comp_tree.specs.Raster.{Raster, IsPlane, value_at}
 use Rattle.mesh_background.specs.Mesh.{cells_along, cell_count, mesh_cell_of, mesh_value, values_of_mesh}
 use Rattle.comp_tree.specs.Limits.{IsInHalfRange}
-use Rattle.comp_tree.specs.Raster.{HasValuesInHalfRange}
 use Rattle.comp_tree.specs.Writing.{IsWritten}
-use Rattle.mesh_background.specs.Lessened.{number_of_cell, IsInHalfRangeFrom, IsLessened}
+use Rattle.mesh_background.specs.Lessened.{numbers_under, number_of_cell, level_of, IsInHalfRangeFrom, IsLessened}
 use Rattle.mesh_background.specs.Interpolation.{interpolated}
 use Rattle.mesh_background.specs.Residuals.{filtered_values, pixel_level, background, residual_at, residual_of}
 use Rattle.mesh_background.specs.declared.slope.Mixed.{Mixed}
@@ -25,31 +24,33 @@ use Rattle.mesh_background.proofs.Residuals.{background-flat, background-smooth,
 
 -- ---- one run of pixels after the other
 
-pub lessened-none : (r : Raster) (by : ℕ → ℤ) (n : ℕ) → IsLessened r by n n r
-lessened-none r by n = record { shape_is = refl; one_each = refl; before = λ p lt. refl; inside = λ p le lt. absurd (omega arith); behind = λ p le. refl }
+pub lessened-none : (old : List (Option ℤ)) (by : ℕ → ℤ) (n : ℕ) → IsLessened old by n n old
+lessened-none old by n = record { one_each = refl; before = λ p lt. refl; inside = λ p le lt. absurd (omega arith); behind = λ p le. refl }
 
-pub lessened-more : (r m new : Raster) (by others : ℕ → ℤ) (a b c : ℕ) → IsLessened r by a b m → IsLessened m others b c new → a ≤ b → b ≤ c
-    → ((p : ℕ) → b ≤ p → p < c → others p ≡ by p) → IsLessened r by a c new
-lessened-more r m new by others a b c h k ab bc same = record {
-  shape_is = k.shape_is ∙ h.shape_is;
+pub lessened-more : (old m new : List (Option ℤ)) (by others : ℕ → ℤ) (a b c : ℕ) → IsLessened old by a b m → IsLessened m others b c new → a ≤ b → b ≤ c
+    → ((p : ℕ) → b ≤ p → p < c → others p ≡ by p) → IsLessened old by a c new
+lessened-more old m new by others a b c h k ab bc same = record {
   one_each = k.one_each ∙ h.one_each;
   before = λ p lt. k.before p (omega arith) ∙ h.before p lt;
   inside = λ p le lt. go p le lt (cases_lt p b);
   behind = λ p le. k.behind p le ∙ h.behind p (omega arith);
 }
   where
-    go : (p : ℕ) → a ≤ p → p < c → (p < b) ⊎ (b ≤ p) → value_at new.values p ≡ option_map (λ v. v -ℤ by p) (value_at r.values p)
+    go : (p : ℕ) → a ≤ p → p < c → (p < b) ⊎ (b ≤ p) → value_at new p ≡ option_map (λ v. v -ℤ by p) (value_at old p)
     go p le lt (inl low) = k.before p low ∙ h.inside p le low
-    go p le lt (inr high) = k.inside p high lt ∙ ap (λ (z : ℤ). option_map (λ v. v -ℤ z) (value_at m.values p)) (same p high lt)
+    go p le lt (inr high) = k.inside p high lt ∙ ap (λ (z : ℤ). option_map (λ v. v -ℤ z) (value_at m p)) (same p high lt)
         ∙ ap (option_map (λ v. v -ℤ by p)) (h.behind p high)
+
+-- the same with other words for what is taken away
+pub lessened-same : (old new : List (Option ℤ)) (by others : ℕ → ℤ) (a b : ℕ) → IsLessened old others a b new → a ≤ b
+    → ((p : ℕ) → a ≤ p → p < b → others p ≡ by p) → IsLessened old by a b new
+lessened-same old new by others a b h le same = lessened-more old old new by others a a b (lessened-none old by a) h (omega arith) le same
 
 -- ---- values in half of the range
 
-pub half_from-all : (r : Raster) → HasValuesInHalfRange r.values → IsInHalfRangeFrom 0 r.values
-half_from-all r h = record { each = λ p v le e. half-of r p v h e }
-
-pub half_from-later : (r new : Raster) (by : ℕ → ℤ) (a b : ℕ) → IsInHalfRangeFrom a r.values → IsLessened r by a b new → a ≤ b → IsInHalfRangeFrom b new.values
-half_from-later r new by a b h k le = record { each = λ p v low e. h.each p v (omega arith) (sym (k.behind p low) ∙ e) }
+pub half_from-later : (old new : List (Option ℤ)) (by : ℕ → ℤ) (a b c : ℕ) → IsInHalfRangeFrom a old → IsLessened old by c b new → a ≤ b
+    → IsInHalfRangeFrom b new
+half_from-later old new by a b c h k le = record { each = λ p v low e. h.each p v (omega arith) (sym (k.behind p low) ∙ e) }
 
 pub half_from-at : (values : List (Option ℤ)) (first p : ℕ) → IsInHalfRangeFrom first values → first ≤ p → IfSome (value_at values p) (λ v. IsInHalfRange v)
 half_from-at values first p h le = go (value_at values p) refl
@@ -66,17 +67,13 @@ column-of mesh i x some low high =
     let rest : x ≡ i * mesh + (x - i * mesh) = omega arith in
     ap (λ (n : ℕ). n / mesh) rest ∙ div-mul-add i mesh (x - i * mesh) (omega arith)
 
-pub number-in : (mesh width columns y i p : ℕ) (numbers : List ℤ) → 0 < mesh → columns ≡ cells_along mesh width → y * width + i * mesh ≤ p
-    → p < y * width + i * mesh + mesh
-    → p < y * width + width → get_or numbers (y / mesh * columns + i) (pos 0) ≡ number_of_cell mesh width numbers p
-number-in mesh width columns y i p numbers some c low high end =
-    let x : ℕ = p - y * width in
-    let place : p ≡ y * width + x = omega arith in
-    let column : x / mesh ≡ i = column-of mesh i x some (omega arith) (omega arith) in
+pub number-in : (mesh width columns y i x : ℕ) (numbers : List ℤ) → 0 < mesh → columns ≡ cells_along mesh width → i * mesh ≤ x → x < i * mesh + mesh → x < width
+    → get_or numbers (y / mesh * columns + i) (pos 0) ≡ number_of_cell mesh width numbers (y * width + x)
+number-in mesh width columns y i x numbers some c low high inside =
+    let column : x / mesh ≡ i = column-of mesh i x some low high in
     ap (λ (n : ℕ). get_or numbers (y / mesh * n + i) (pos 0)) c
     ∙ ap (λ (n : ℕ). get_or numbers (y / mesh * cells_along mesh width + n) (pos 0)) (sym column)
-    ∙ ap (λ (n : ℕ). get_or numbers n (pos 0)) (sym (cell-number mesh width x y (omega arith)))
-    ∙ ap (λ (n : ℕ). get_or numbers (mesh_cell_of mesh width n) (pos 0)) (sym place)
+    ∙ ap (λ (n : ℕ). get_or numbers n (pos 0)) (sym (cell-number mesh width x y inside))
 
 -- the place of a row's cell in the list of all
 pub place-few : (mesh width height columns y i : ℕ) → 0 < mesh → IsWithinLimits width height → columns ≡ cells_along mesh width → y < height → i < columns
@@ -93,21 +90,20 @@ column-start mesh width columns i some c il =
     omega arith
 
 -- the next cell of a row
-pub row-next : (r m new : Raster) (mesh width columns y i right : ℕ) (numbers : List ℤ) (number : ℤ) → 0 < mesh → columns ≡ cells_along mesh width → i < columns
-    → number ≡ get_or numbers (y / mesh * columns + i) (pos 0) → right ≡ min (i * mesh + mesh) width
-    → IsLessened r (number_of_cell mesh width numbers) (y * width) (y * width + min (i * mesh) width) m
-    → IsLessened m (λ _. number) (y * width + i * mesh) (y * width + right) new
-    → IsLessened r (number_of_cell mesh width numbers) (y * width) (y * width + min ((i + 1) * mesh) width) new
-row-next r m new mesh width columns y i right numbers number some c il is e h k =
+pub row-next : (old m new : List (Option ℤ)) (mesh width columns y i right : ℕ) (numbers : List ℤ) (number : ℤ) → 0 < mesh → columns ≡ cells_along mesh width
+    → i < columns → number ≡ get_or numbers (y / mesh * columns + i) (pos 0) → right ≡ min (i * mesh + mesh) width
+    → IsLessened old (λ x. number_of_cell mesh width numbers (y * width + x)) 0 (min (i * mesh) width) m
+    → IsLessened m (λ _. number) (i * mesh) right new
+    → IsLessened old (λ x. number_of_cell mesh width numbers (y * width + x)) 0 (min ((i + 1) * mesh) width) new
+row-next old m new mesh width columns y i right numbers number some c il is e h k =
+    let by : ℕ → ℤ = λ x. number_of_cell mesh width numbers (y * width + x) in
     let across : i * mesh < width = along-below mesh width i some (subst (λ (n : ℕ). i < n) c il) in
     let start : min (i * mesh) width ≡ i * mesh = omega arith in
     let next : (i + 1) * mesh ≡ i * mesh + mesh = omega arith in
-    let so_far : IsLessened r (number_of_cell mesh width numbers) (y * width) (y * width + i * mesh) m =
-    subst (λ (n : ℕ). IsLessened r (number_of_cell mesh width numbers) (y * width) (y * width + n) m) start h in
-    subst (λ (n : ℕ). IsLessened r (number_of_cell mesh width numbers) (y * width) (y * width + n) new) (e ∙ ap (λ (n : ℕ). min n width) (sym next))
-    (lessened-more r m new (number_of_cell mesh width numbers) (λ _. number) (y * width) (y * width + i * mesh) (y * width + right) so_far k (omega arith)
-    (omega arith)
-    (λ p low high. is ∙ number-in mesh width columns y i p numbers some c low (omega arith) (omega arith)))
+    let so_far : IsLessened old by 0 (i * mesh) m = subst (λ (n : ℕ). IsLessened old by 0 n m) start h in
+    subst (λ (n : ℕ). IsLessened old by 0 n new) (e ∙ ap (λ (n : ℕ). min n width) (sym next))
+    (lessened-more old m new by (λ _. number) 0 (i * mesh) right so_far k (omega arith) (omega arith)
+    (λ x low high. is ∙ number-in mesh width columns y i x numbers some c low (omega arith) (omega arith)))
 
 pub row-end : (mesh width columns n : ℕ) → 0 < mesh → columns ≡ cells_along mesh width → columns ≤ n → min (n * mesh) width ≡ width
 row-end mesh width columns n some c le =
@@ -127,26 +123,24 @@ level-in mesh shape values columns rows x y c r lt =
     (sym (div-mul-add y shape.width x lt) i))
 
 -- the pixels of a run, where the levels rise evenly
-pub run-lessened : (r new : Raster) (mesh columns rows y next left right : ℕ) (numbers : List ℤ) (level step : Mixed) → 0 < mesh
-    → columns ≡ cells_along mesh r.shape.width
-    → rows ≡ cells_along mesh r.shape.height → left ≡ first_before mesh r.shape.width next → right ≡ first_before mesh r.shape.width (next + 1)
+pub run-lessened : (old new : List (Option ℤ)) (shape : Shape) (mesh columns rows y next left right : ℕ) (numbers : List ℤ) (level step : Mixed) → 0 < mesh
+    → columns ≡ cells_along mesh shape.width → rows ≡ cells_along mesh shape.height
+    → left ≡ first_before mesh shape.width next → right ≡ first_before mesh shape.width (next + 1)
     → IsRun numbers columns rows mesh y left level step
-    → IsLessened r (λ p. steps_on (2 * mesh * (2 * mesh)) level step (p - (y * r.shape.width + left))) (y * r.shape.width + left) (y * r.shape.width + right)
-    new
-    → IsLessened r (pixel_level mesh r.shape numbers) (y * r.shape.width + left) (y * r.shape.width + right) new
-run-lessened r new mesh columns rows y next left right numbers level step some c d l e h k =
-    let width : ℕ = r.shape.width in
-    let first : ℕ = y * width + left in
+    → IsLessened old (λ x. steps_on (2 * mesh * (2 * mesh)) level step (x - left)) left right new
+    → IsLessened old (λ x. pixel_level mesh shape numbers (y * shape.width + x)) left right new
+run-lessened old new shape mesh columns rows y next left right numbers level step some c d l e h k =
+    let width : ℕ = shape.width in
     let rise : first_before mesh width next ≤ first_before mesh width (next + 1) = runs-rise mesh width next in
-    lessened-more r r new (pixel_level mesh r.shape numbers) (λ p. steps_on (2 * mesh * (2 * mesh)) level step (p - first)) first first (y * width + right)
-    (lessened-none r (pixel_level mesh r.shape numbers) first) k (omega arith) (omega (arith, rise, l, e))
-    (λ p low high.
-    let n : ℕ = p - first in
+    lessened-same old new (λ x. pixel_level mesh shape numbers (y * width + x)) (λ x. steps_on (2 * mesh * (2 * mesh)) level step (x - left)) left right k
+    (omega (arith, rise, l, e))
+    (λ x low high.
+    let n : ℕ = x - left in
     let inside : n < first_before mesh width (next + 1) - left = omega (arith, low, high, e) in
     let column : left + n < width = omega (arith, inside, l) in
-    let place : y * width + (left + n) ≡ p = omega (arith, low) in
+    let place : left + n ≡ x = omega (arith, low) in
     run-level numbers columns rows mesh y left (left + n) n level step h (run-along mesh width next left n some l inside)
-    ∙ level-in mesh r.shape numbers columns rows (left + n) y c d column ∙ ap (pixel_level mesh r.shape numbers) place)
+    ∙ level-in mesh shape numbers columns rows (left + n) y c d column ∙ ap (λ (m : ℕ). pixel_level mesh shape numbers (y * width + m)) place)
 
 -- ---- all pixels
 
@@ -166,27 +160,28 @@ lessened-at r mesh p numbers some is lt =
     lt (omega arith)
     ∙ sym (background-flat r mesh p some)
 
+-- the level that the code takes from a pixel is its background
+pub level-is : (r : Raster) (mesh : ℕ) (flat : Bool) (numbers : List ℤ) (p : ℕ) → 0 < mesh → 0 < r.shape.width → IsPlane r
+    → numbers ≡ numbers_under r mesh flat → p < length r.values → level_of flat mesh r.shape numbers p ≡ background r mesh flat p
+level-is r mesh true numbers p some wide plane is lt =
+    lessened-at r mesh p numbers some is (cell-inside mesh r.shape.width r.shape.height p some wide (omega (arith, plane, lt)))
+level-is r mesh false numbers p some wide plane is lt =
+    ap (λ (vs : List ℤ). pixel_level mesh r.shape vs p) is ∙ sym (background-smooth r mesh p some)
+
 -- a plane whose pixels are all less by their background
-lessened-all : (r new : Raster) (mesh : ℕ) (flat : Bool) (n : ℕ) (by : ℕ → ℤ) → IsLessened r by 0 n new → n ≡ length r.values
-    → ((p : ℕ) → p < length r.values → by p ≡ background r mesh flat p) → new ≡ residual_of r mesh flat
+pub lessened-all : (r new : Raster) (mesh : ℕ) (flat : Bool) (numbers : List ℤ) → 0 < mesh → 0 < r.shape.width → IsPlane r
+    → numbers ≡ numbers_under r mesh flat → new.shape ≡ r.shape → length new.values ≡ length r.values
+    → ((p : ℕ) → p < length r.values
+    → value_at new.values p ≡ option_map (λ v. v -ℤ level_of flat mesh r.shape numbers p) (value_at r.values p))
+    → new ≡ residual_of r mesh flat
 unfolding residual_at
-lessened-all r new mesh flat n by h e same = residual-all r new mesh flat n written (omega arith)
+lessened-all r new mesh flat numbers some wide plane is same one_each each =
+    residual-all r new mesh flat (length r.values) written (omega arith)
   where
-    written : IsWritten r (residual_at r mesh flat) n new
+    written : IsWritten r (residual_at r mesh flat) (length r.values) new
     written = record {
-      shape_is = h.shape_is;
-      one_each = h.one_each;
-      written = λ p lt. h.inside p (omega arith) lt ∙ ap (λ (z : ℤ). option_map (λ v. v -ℤ z) (value_at r.values p)) (same p (omega arith));
+      shape_is = same;
+      one_each = one_each;
+      written = λ p lt. each p lt
+          ∙ ap (λ (z : ℤ). option_map (λ v. v -ℤ z) (value_at r.values p)) (level-is r mesh flat numbers p some wide plane is lt);
     }
-
-pub numbers-all : (r new : Raster) (mesh n : ℕ) (numbers : List ℤ) → 0 < mesh → 0 < r.shape.width → IsPlane r → numbers ≡ values_of_mesh r mesh
-    → IsLessened r (number_of_cell mesh r.shape.width numbers) 0 n new → n ≡ length r.values → new ≡ residual_of r mesh true
-numbers-all r new mesh n numbers some wide plane is h e =
-    lessened-all r new mesh true n (number_of_cell mesh r.shape.width numbers) h e
-    (λ p lt. lessened-at r mesh p numbers some is (cell-inside mesh r.shape.width r.shape.height p some wide (omega arith)))
-
-pub levels-all : (r new : Raster) (mesh n : ℕ) (numbers : List ℤ) → 0 < mesh → numbers ≡ filtered_values r mesh
-    → IsLessened r (pixel_level mesh r.shape numbers) 0 n new → n ≡ length r.values → new ≡ residual_of r mesh false
-levels-all r new mesh n numbers some is h e =
-    lessened-all r new mesh false n (pixel_level mesh r.shape numbers) h e
-    (λ p lt. ap (λ (vs : List ℤ). pixel_level mesh r.shape vs p) is ∙ sym (background-smooth r mesh p some))

@@ -12,6 +12,7 @@ mod Residuals
 mod HalfRanges
 mod Lessening
 mod Rows
+mod Bands
 mod Differences
 mod Sides
 mod Seeing

@@ -1,11 +1,8 @@
--- Rows of pixels: where they and their cells stand, that these numbers fit, and planes that are lessened as far as a row's end.
-use Rattle.std.proofs.Common.{◌≡◌, ℕ, ℤ, ◌+◌, ◌*◌, ◌^◌, ◌<◌, ◌≤◌, min, List, length, Fits, w32, refl, sym, ap, subst, ◌∙◌, arith}
+-- Rows of pixels: where they and their cells stand, that these numbers fit, and rows that are lessened as far as their end.
+use Rattle.std.proofs.Common.{◌≡◌, ℕ, ℤ, ◌+◌, ◌*◌, ◌^◌, ◌<◌, ◌≤◌, min, List, Option, Fits, w32, refl, sym, ap, subst, ◌∙◌, arith}
 use Rattle.std.proofs.Math.Nat.{mul_comm, mul-le-mul_right}
-use Rattle.comp_tree.specs.declared.shape.Shape.{Shape}
 use Rattle.comp_tree.specs.Limits.{IsWithinLimits}
-use Rattle.comp_tree.specs.Raster.{Raster, IsPlane}
 use Rattle.mesh_background.specs.Mesh.{cells_along}
-use Rattle.mesh_background.specs.Residuals.{pixel_level}
 use Rattle.mesh_background.specs.Lessened.{IsLessened}
 use Rattle.mesh_background.specs.Slopes.{first_before}
 use Rattle.mesh_background.proofs.Extents.{along-below, along-le}
@@ -31,14 +28,6 @@ row-fits width height y limits down =
     let le : y * width + 0 ≤ width * height = place-within width height y 0 down (omega arith) in
     omega (arith, few, le)
 
--- of a plane like r, which has as many pixels
-pub row-inside : (own : Shape) (r m : Raster) (y x : ℕ) → own ≡ r.shape → IsPlane r → length m.values ≡ length r.values → y < r.shape.height
-    → x ≤ own.width → y * own.width + x ≤ length m.values
-row-inside own r m y x same plane long down across =
-    let high : y < own.height = subst (λ (s : Shape). y < s.height) (sym same) down in
-    let le : y * own.width + x ≤ own.width * own.height = place-within own.width own.height y x high across in
-    subst (λ (n : ℕ). y * own.width + x ≤ n) (sym (long ∙ plane ∙ ap (λ (s : Shape). s.width * s.height) (sym same))) le
-
 -- ---- the cells of a row
 
 pub column-fits : (mesh width columns i : ℕ) → 0 < mesh → mesh ≤ 65535 → width ≤ 65535 → columns ≡ cells_along mesh width → i < columns
@@ -58,40 +47,30 @@ column-within mesh width columns i right some c lt e =
 pub columns-few : (mesh width columns : ℕ) → 0 < mesh → width ≤ 65535 → columns ≡ cells_along mesh width → columns ≤ 65535
 columns-few mesh width columns some narrow c = let le : cells_along mesh width ≤ width = along-le mesh width some in omega (arith, le, narrow, c)
 
--- ---- planes that are lessened
+-- ---- rows that are lessened
 
 -- before the row's first cell, and behind its last
-pub row-none : (r : Raster) (by : ℕ → ℤ) (width mesh y : ℕ) → IsLessened r by (y * width) (y * width + min (0 * mesh) width) r
-row-none r by width mesh y =
-    let none : y * width ≡ y * width + min (0 * mesh) width = omega arith in
-    subst (λ (n : ℕ). IsLessened r by (y * width) n r) none (lessened-none r by (y * width))
+pub row-none : (old : List (Option ℤ)) (by : ℕ → ℤ) (width mesh : ℕ) → IsLessened old by 0 (min (0 * mesh) width) old
+row-none old by width mesh =
+    let none : 0 ≡ min (0 * mesh) width = omega arith in
+    subst (λ (n : ℕ). IsLessened old by 0 n old) none (lessened-none old by 0)
 
-pub row-done : (r new : Raster) (by : ℕ → ℤ) (width mesh columns y n : ℕ) → 0 < mesh → columns ≡ cells_along mesh width → columns ≤ n
-    → IsLessened r by (y * width) (y * width + min (n * mesh) width) new → IsLessened r by (y * width) ((y + 1) * width) new
-row-done r new by width mesh columns y n some c le h =
-    let all : min (n * mesh) width ≡ width = row-end mesh width columns n some c le in
-    let end : y * width + min (n * mesh) width ≡ (y + 1) * width = omega (arith, all) in
-    subst (λ (k : ℕ). IsLessened r by (y * width) k new) end h
+pub row-done : (old new : List (Option ℤ)) (by : ℕ → ℤ) (width mesh columns n : ℕ) → 0 < mesh → columns ≡ cells_along mesh width → columns ≤ n
+    → IsLessened old by 0 (min (n * mesh) width) new → IsLessened old by 0 width new
+row-done old new by width mesh columns n some c le h = subst (λ (k : ℕ). IsLessened old by 0 k new) (row-end mesh width columns n some c le) h
 
 -- the same for runs
-pub runs-none : (r : Raster) (by : ℕ → ℤ) (width mesh y : ℕ) → IsLessened r by (y * width) (y * width + first_before mesh width 0) r
-runs-none r by width mesh y =
-    let none : y * width ≡ y * width + first_before mesh width 0 = omega arith in
-    subst (λ (n : ℕ). IsLessened r by (y * width) n r) none (lessened-none r by (y * width))
+pub runs-none : (old : List (Option ℤ)) (by : ℕ → ℤ) (width mesh : ℕ) → IsLessened old by 0 (first_before mesh width 0) old
+runs-none old by width mesh =
+    let none : 0 ≡ first_before mesh width 0 = omega arith in
+    subst (λ (n : ℕ). IsLessened old by 0 n old) none (lessened-none old by 0)
 
-pub runs-next : (r m new : Raster) (mesh y next : ℕ) (numbers : List ℤ)
-    → IsLessened r (pixel_level mesh r.shape numbers) (y * r.shape.width) (y * r.shape.width + first_before mesh r.shape.width next) m
-    → IsLessened m (pixel_level mesh m.shape numbers) (y * m.shape.width + first_before mesh m.shape.width next)
-    (y * m.shape.width + first_before mesh m.shape.width (next + 1)) new
-    → IsLessened r (pixel_level mesh r.shape numbers) (y * r.shape.width) (y * r.shape.width + first_before mesh r.shape.width (next + 1)) new
-runs-next r m new mesh y next numbers h k =
-    let width : ℕ = r.shape.width in
-    let rise : first_before mesh width next ≤ first_before mesh width (next + 1) = runs-rise mesh width next in
-    let more : IsLessened m (pixel_level mesh r.shape numbers) (y * width + first_before mesh width next) (y * width + first_before mesh width (next + 1)) new =
-    subst (λ (s : Shape). IsLessened m (pixel_level mesh s numbers) (y * s.width + first_before mesh s.width next)
-    (y * s.width + first_before mesh s.width (next + 1)) new) h.shape_is k in
-    lessened-more r m new (pixel_level mesh r.shape numbers) (pixel_level mesh r.shape numbers) (y * width) (y * width + first_before mesh width next)
-    (y * width + first_before mesh width (next + 1)) h more (omega arith) (omega (arith, rise)) (λ p low high. refl)
+pub runs-next : (old m new : List (Option ℤ)) (by : ℕ → ℤ) (mesh width next : ℕ) → IsLessened old by 0 (first_before mesh width next) m
+    → IsLessened m by (first_before mesh width next) (first_before mesh width (next + 1)) new
+    → IsLessened old by 0 (first_before mesh width (next + 1)) new
+runs-next old m new by mesh width next h k =
+    lessened-more old m new by by 0 (first_before mesh width next) (first_before mesh width (next + 1)) h k (omega arith) (runs-rise mesh width next)
+    (λ p low high. refl)
 
 runs-end : (mesh width columns n : ℕ) → 0 < mesh → columns ≡ cells_along mesh width → columns + 1 ≤ n → first_before mesh width n ≡ width
 runs-end mesh width columns n some c le =
@@ -99,12 +78,9 @@ runs-end mesh width columns n some c le =
     let more : (columns + 1) * mesh ≤ n * mesh = mul-le-mul_right mesh le in
     omega (arith, all, more, some)
 
-pub runs-done : (r new : Raster) (by : ℕ → ℤ) (width mesh columns y n : ℕ) → 0 < mesh → columns ≡ cells_along mesh width → columns + 1 ≤ n
-    → IsLessened r by (y * width) (y * width + first_before mesh width n) new → IsLessened r by (y * width) ((y + 1) * width) new
-runs-done r new by width mesh columns y n some c le h =
-    let all : first_before mesh width n ≡ width = runs-end mesh width columns n some c le in
-    let end : y * width + first_before mesh width n ≡ (y + 1) * width = omega (arith, all) in
-    subst (λ (k : ℕ). IsLessened r by (y * width) k new) end h
+pub runs-done : (old new : List (Option ℤ)) (by : ℕ → ℤ) (width mesh columns n : ℕ) → 0 < mesh → columns ≡ cells_along mesh width → columns + 1 ≤ n
+    → IsLessened old by 0 (first_before mesh width n) new → IsLessened old by 0 width new
+runs-done old new by width mesh columns n some c le h = subst (λ (k : ℕ). IsLessened old by 0 k new) (runs-end mesh width columns n some c le) h
 
 -- the first and the last pixel of a run
 pub run-order : (mesh width next left right : ℕ) → left ≡ first_before mesh width next → right ≡ first_before mesh width (next + 1)

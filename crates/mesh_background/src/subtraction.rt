@@ -7,13 +7,15 @@
 //! in whole pixels: half of (2 * next - 1) * mesh - 1, rounded up, is next * mesh less half of mesh + 1, rounded down.
 //! For `next` = 0 this would lie before the row, which starts at 0 then; and no run reaches past the row's end.
 
-ghost use Rattle.std.specs.Prelude.{◌≡◌, ℕ, ◌+◌, ◌-◌, ◌*◌, ◌^◌, ◌<◌, ◌≤◌, true, false, length, All, IfOk, IfSome, OnOk, OnErr};
+ghost use Rattle.std.specs.Prelude.{◌≡◌, ℕ, ◌+◌, ◌-◌, ◌*◌, ◌^◌, ◌<◌, ◌≤◌, ◌-ℤ◌, true, false, length, IfOk, IfSome, OnOk, OnErr};
+ghost use Rattle.std.specs.Option.{option_map};
 ghost use Rattle.comp_tree.specs.Limits.{IsInHalfRange};
-ghost use Rattle.comp_tree.specs.Raster.{IsPlane, HasValuesInHalfRange, value_at};
-ghost use Rattle.mesh_background.specs.Mesh.{cell_count, values_of_mesh};
+ghost use Rattle.comp_tree.specs.Raster.{HasValuesInHalfRange};
+ghost use Rattle.mesh_background.specs.Mesh.{values_of_mesh};
 ghost use Rattle.mesh_background.specs.Residuals.{filtered_values, pixel_level, residual_of};
 ghost use Rattle.mesh_background.specs.Interpolation.{past_centre, cell_before, cell_after};
-ghost use Rattle.mesh_background.specs.Lessened.{number_of_cell, IsInHalfRangeFrom, IsLessened};
+ghost use Rattle.mesh_background.specs.Lessened.{numbers_under, number_of_cell, level_of};
+ghost use Rattle.mesh_background.specs.Lessened.{AreNumbers, IsInHalfRangeFrom, IsBand, IsLessened};
 ghost use Rattle.mesh_background.specs.Slopes.{steps_on, first_before, IsSmallStep};
 
 use crate::cells::mesh_values;
@@ -21,7 +23,7 @@ use crate::grid::Grid;
 use crate::interpolation::{Between, down_column, level_between, parts_of, step_between};
 use crate::slope::Mixed;
 use crate::smoothing::smooth_mesh;
-use comp_tree::Plane;
+use comp_tree::{Pixel, Plane};
 use costs::OutOfMemory;
 use std::alloc::Global;
 use std::thread::Threads;
@@ -33,32 +35,35 @@ use std::thread::Threads;
 /// cells whose centres lie around the pixel's. With mesh 0 it is 0 everywhere, so the residual equals the plane.
 ///
 /// The one error is that memory was refused. Where the plane itself isn't needed any more, `subtract_background` makes
-/// no second one.
+/// no second one. The pixels are lessened in `parts` bands, as by it.
 pub fn residual<R: Threads + Sync>(
     rt: &R,
     alloc: Global,
     plane: &Plane,
     mesh: u32,
     flat: bool,
+    parts: u32,
 ) -> Result<Plane, OutOfMemory>
     requires few { mesh ≤ 65535 }
     requires in_range { HasValuesInHalfRange plane.now.values }
     ensures { IfOk result (λ residual. residual ≡ residual_of plane.now mesh flat) }
 {
     let mut copy = plane.copied(alloc)?;
-    subtract_background(rt, alloc, &mut copy, mesh, flat)?;
+    subtract_background(rt, alloc, &mut copy, mesh, flat, parts)?;
     Ok(copy)
 }
 
 /// Makes of a plane its residual, in place.
 ///
-/// The one error is that memory was refused, for the numbers of the cells; the plane is as it was then.
+/// The pixels are lessened in `parts` bands of whole rows, each in a thread of its own where one can be made; 0 counts
+/// as 1. The one error is that memory was refused; the plane is as it was then.
 pub fn subtract_background<R: Threads + Sync>(
     rt: &R,
     alloc: Global,
     plane: &mut Plane,
     mesh: u32,
     flat: bool,
+    parts: u32,
 ) -> Result<(), OutOfMemory>
     requires few { mesh ≤ 65535 }
     requires in_range { HasValuesInHalfRange plane.old.values }
@@ -74,104 +79,195 @@ pub fn subtract_background<R: Threads + Sync>(
     };
     let grid = Grid::of(plane.shape(), mesh);
     if flat {
-        subtract_numbers(plane, &grid, &numbers);
-        return Ok(());
+        return subtract_numbers(rt, alloc, plane, &grid, &numbers, parts);
     }
     let smooth = match smooth_mesh(alloc, &numbers, grid.columns, grid.rows) {
         Ok(smooth) => smooth,
         Err(error) => return Err(error),
     };
-    subtract_levels(plane, &grid, &smooth);
-    Ok(())
+    subtract_levels(rt, alloc, plane, &grid, &smooth, parts)
 }
 
 // Takes the numbers of the cells away from the values of their pixels.
-fn subtract_numbers(plane: &mut Plane, grid: &Grid, numbers: &[i64])
+fn subtract_numbers<R: Threads + Sync>(
+    rt: &R,
+    alloc: Global,
+    plane: &mut Plane,
+    grid: &Grid,
+    numbers: &[i64],
+    parts: u32,
+) -> Result<(), OutOfMemory>
     requires shape { grid.now.shape ≡ plane.old.shape }
     requires numbers { numbers.now ≡ values_of_mesh plane.old grid.now.mesh }
     requires in_range { HasValuesInHalfRange plane.old.values }
-    ensures { plane.new ≡ residual_of plane.old grid.now.mesh true }
+    ensures subtracted { OnOk result (plane.new ≡ residual_of plane.old grid.now.mesh true) }
+    ensures kept { OnErr result (plane.new ≡ plane.old) }
 {
-    let height = plane.shape().height;
-    for y in 0..height {
-        lessen_row_by_numbers(plane, grid, numbers, y);
+    subtract_by_bands(rt, alloc, plane, grid, numbers, true, parts)
+}
+
+// Takes the levels between the filtered numbers away from the values of the pixels.
+fn subtract_levels<R: Threads + Sync>(
+    rt: &R,
+    alloc: Global,
+    plane: &mut Plane,
+    grid: &Grid,
+    numbers: &[i64],
+    parts: u32,
+) -> Result<(), OutOfMemory>
+    requires shape { grid.now.shape ≡ plane.old.shape }
+    requires numbers { numbers.now ≡ filtered_values plane.old grid.now.mesh }
+    requires in_range { HasValuesInHalfRange plane.old.values }
+    ensures subtracted { OnOk result (plane.new ≡ residual_of plane.old grid.now.mesh false) }
+    ensures kept { OnErr result (plane.new ≡ plane.old) }
+{
+    subtract_by_bands(rt, alloc, plane, grid, numbers, false, parts)
+}
+
+// Both, by bands of whole rows. A band begins with a row, so its rows are found by its first pixel alone.
+fn subtract_by_bands<R: Threads + Sync>(
+    rt: &R,
+    alloc: Global,
+    plane: &mut Plane,
+    grid: &Grid,
+    numbers: &[i64],
+    flat: bool,
+    parts: u32,
+) -> Result<(), OutOfMemory>
+    requires shape { grid.now.shape ≡ plane.old.shape }
+    requires numbers { numbers.now ≡ numbers_under plane.old grid.now.mesh flat }
+    requires in_range { HasValuesInHalfRange plane.old.values }
+    ensures subtracted { OnOk result (plane.new ≡ residual_of plane.old grid.now.mesh flat) }
+    ensures kept { OnErr result (plane.new ≡ plane.old) }
+{
+    let size = plane.shape().band_size(parts);
+    plane.change_bands(
+        rt,
+        alloc,
+        size,
+        &|start: usize, band: &mut [Pixel]|
+            requires { IsBand grid.now.shape start band.now
+                × AreNumbers grid.now.mesh grid.now.shape numbers.now }
+            ensures { IsLessened band.entry.now (λ k. level_of
+                flat grid.entry.now.mesh grid.entry.now.shape numbers.entry.now (start + k))
+                0 (length band.entry.now) band.exit.now }
+        { lessen_band(grid, numbers, flat, start, band) },
+    )
+}
+
+// Lessens the pixels of a band, of which the first one is pixel `start` of the image.
+fn lessen_band(grid: &Grid, numbers: &[i64], flat: bool, start: usize, band: &mut [Pixel])
+    requires band { IsBand grid.now.shape start band.old }
+    requires numbers { AreNumbers grid.now.mesh grid.now.shape numbers.now }
+    ensures { IsLessened band.old
+        (λ k. level_of flat grid.now.mesh grid.now.shape numbers.now (start + k))
+        0 (length band.old) band.new }
+{
+    let width = grid.shape.width as usize;
+    let top = start / width;
+    for row in 0..band.len() / width {
+        lessen_nth_row(grid, numbers, flat, (top + row) as u32, row * width, band);
     }
 }
 
-// The same for one row. The row's pixels in one cell stand side by side, so a number is looked up once for all of them.
-fn lessen_row_by_numbers(plane: &mut Plane, grid: &Grid, numbers: &[i64], y: u32)
-    requires shape { grid.now.shape ≡ plane.old.shape }
-    requires one_each { IsPlane plane.old }
-    requires row { y < plane.old.shape.height }
-    requires numbers { length numbers.now ≡ cell_count grid.now.mesh plane.old.shape }
-    requires numbers_in_range { All IsInHalfRange numbers.now }
-    requires in_range { IsInHalfRangeFrom (y * plane.old.shape.width) plane.old.values }
-    ensures { IsLessened plane.old (number_of_cell grid.now.mesh plane.old.shape.width numbers.now)
-        (y * plane.old.shape.width) ((y + 1) * plane.old.shape.width) plane.new }
+// Lessens those of row `y`, whose pixels stand in the band from place `first` on.
+fn lessen_nth_row(
+    grid: &Grid,
+    numbers: &[i64],
+    flat: bool,
+    y: u32,
+    first: usize,
+    band: &mut [Pixel],
+)
+    requires row { y < grid.now.shape.height }
+    requires inside { first + grid.now.shape.width ≤ length band.old }
+    requires numbers { AreNumbers grid.now.mesh grid.now.shape numbers.now }
+    requires in_range { IsInHalfRangeFrom first band.old }
+    ensures { IsLessened band.old (λ k. level_of
+        flat grid.now.mesh grid.now.shape numbers.now (y * grid.now.shape.width + (k - first)))
+        first (first + grid.now.shape.width) band.new }
 {
-    let first = y * grid.shape.width;
+    let (_, rest) = band.split_at_mut(first);
+    let (row, _) = rest.split_at_mut(grid.shape.width as usize);
+    lessen_row(grid, numbers, flat, y, row);
+}
+
+// Lessens the pixels of row `y`.
+fn lessen_row(grid: &Grid, numbers: &[i64], flat: bool, y: u32, row: &mut [Pixel])
+    requires row { y < grid.now.shape.height }
+    requires one_each { length row.old ≡ grid.now.shape.width }
+    requires numbers { AreNumbers grid.now.mesh grid.now.shape numbers.now }
+    requires in_range { IsInHalfRangeFrom 0 row.old }
+    ensures { IsLessened row.old
+        (λ x. level_of flat grid.now.mesh grid.now.shape numbers.now (y * grid.now.shape.width + x))
+        0 grid.now.shape.width row.new }
+{
+    if !flat {
+        lessen_row_by_levels(grid, numbers, y, row);
+    } else {
+        lessen_row_by_numbers(grid, numbers, y, row);
+    }
+}
+
+// Takes the numbers of the cells away. The row's pixels in one cell stand side by side, so a number is looked up once for
+// all of them.
+fn lessen_row_by_numbers(grid: &Grid, numbers: &[i64], y: u32, row: &mut [Pixel])
+    requires row { y < grid.now.shape.height }
+    requires one_each { length row.old ≡ grid.now.shape.width }
+    requires numbers { AreNumbers grid.now.mesh grid.now.shape numbers.now }
+    requires in_range { IsInHalfRangeFrom 0 row.old }
+    ensures { IsLessened row.old (λ x. number_of_cell
+        grid.now.mesh grid.now.shape.width numbers.now (y * grid.now.shape.width + x))
+        0 grid.now.shape.width row.new }
+{
     let cells = y / grid.mesh * grid.columns;
     for column in 0..grid.columns {
         let left = column * grid.mesh;
         let right = (left + grid.mesh).min(grid.shape.width);
         let number = numbers[(cells + column) as usize];
-        lessen_run(plane, first + left, first + right, number);
+        lessen_run(row, left as usize, right as usize, number);
     }
 }
 
-// Takes the levels between the filtered numbers away from the values of the pixels.
-fn subtract_levels(plane: &mut Plane, grid: &Grid, numbers: &[i64])
-    requires shape { grid.now.shape ≡ plane.old.shape }
-    requires numbers { numbers.now ≡ filtered_values plane.old grid.now.mesh }
-    requires in_range { HasValuesInHalfRange plane.old.values }
-    ensures { plane.new ≡ residual_of plane.old grid.now.mesh false }
-{
-    let height = plane.shape().height;
-    for y in 0..height {
-        lessen_row_by_levels(plane, grid, numbers, y);
-    }
-}
-
-// The same for one row.
-fn lessen_row_by_levels(plane: &mut Plane, grid: &Grid, numbers: &[i64], y: u32)
-    requires shape { grid.now.shape ≡ plane.old.shape }
-    requires one_each { IsPlane plane.old }
-    requires row { y < plane.old.shape.height }
-    requires numbers { length numbers.now ≡ cell_count grid.now.mesh plane.old.shape }
-    requires numbers_in_range { All IsInHalfRange numbers.now }
-    requires in_range { IsInHalfRangeFrom (y * plane.old.shape.width) plane.old.values }
-    ensures { IsLessened plane.old (pixel_level grid.now.mesh plane.old.shape numbers.now)
-        (y * plane.old.shape.width) ((y + 1) * plane.old.shape.width) plane.new }
+// Takes the levels between the cells' numbers away.
+fn lessen_row_by_levels(grid: &Grid, numbers: &[i64], y: u32, row: &mut [Pixel])
+    requires row { y < grid.now.shape.height }
+    requires one_each { length row.old ≡ grid.now.shape.width }
+    requires numbers { AreNumbers grid.now.mesh grid.now.shape numbers.now }
+    requires in_range { IsInHalfRangeFrom 0 row.old }
+    ensures { IsLessened row.old
+        (λ x. pixel_level grid.now.mesh grid.now.shape numbers.now (y * grid.now.shape.width + x))
+        0 grid.now.shape.width row.new }
 {
     let down = Between::cells(grid.rows, grid.mesh, y);
     for next in 0..grid.columns + 1 {
-        lessen_run_by_levels(plane, grid, numbers, y, &down, next);
+        lessen_run_by_levels(grid, numbers, y, &down, next, row);
     }
 }
 
 // The same for those pixels of a row that lie between the same two columns of cells, of which the second one is `next`.
 // There the level rises evenly, so there is no division for each pixel.
 fn lessen_run_by_levels(
-    plane: &mut Plane,
     grid: &Grid,
     numbers: &[i64],
     y: u32,
     down: &Between,
     next: u32,
+    row: &mut [Pixel],
 )
-    requires shape { grid.now.shape ≡ plane.old.shape }
-    requires one_each { IsPlane plane.old }
-    requires row { y < plane.old.shape.height }
+    requires row { y < grid.now.shape.height }
+    requires one_each { length row.old ≡ grid.now.shape.width }
     requires before { down.now.before ≡ cell_before grid.now.rows grid.now.mesh y }
     requires after { down.now.after ≡ cell_after grid.now.rows grid.now.mesh y }
     requires past { down.now.past ≡ past_centre grid.now.mesh y }
     requires next { next ≤ grid.now.columns }
-    requires numbers { length numbers.now ≡ cell_count grid.now.mesh plane.old.shape }
-    requires numbers_in_range { All IsInHalfRange numbers.now }
-    requires in_range { IsInHalfRangeFrom (y * plane.old.shape.width + first_before grid.now.mesh plane.old.shape.width next) plane.old.values }
-    ensures { IsLessened plane.old (pixel_level grid.now.mesh plane.old.shape numbers.now)
-        (y * plane.old.shape.width + first_before grid.now.mesh plane.old.shape.width next)
-        (y * plane.old.shape.width + first_before grid.now.mesh plane.old.shape.width (next + 1)) plane.new }
+    requires numbers { AreNumbers grid.now.mesh grid.now.shape numbers.now }
+    requires in_range { IsInHalfRangeFrom
+        (first_before grid.now.mesh grid.now.shape.width next) row.old }
+    ensures { IsLessened row.old
+        (λ x. pixel_level grid.now.mesh grid.now.shape numbers.now (y * grid.now.shape.width + x))
+        (first_before grid.now.mesh grid.now.shape.width next)
+        (first_before grid.now.mesh grid.now.shape.width (next + 1)) row.new }
 {
     let mesh = grid.mesh;
     let left = grid.run_start(next);
@@ -181,11 +277,10 @@ fn lessen_run_by_levels(
     let after = down_column(numbers, grid.columns, mesh, down, across.after);
     let level = level_between(mesh, across.past, before, after);
     let step = step_between(mesh, before, after);
-    let first = y * grid.shape.width;
     lessen_slope(
-        plane,
-        first + left,
-        first + right,
+        row,
+        left as usize,
+        right as usize,
         level,
         step,
         parts_of(mesh),
@@ -194,48 +289,47 @@ fn lessen_run_by_levels(
 
 // Takes levels away from the values of the pixels from `first` up to `end`: from the first one this one, from the next
 // one a step more, and so on.
-fn lessen_slope(plane: &mut Plane, first: u32, end: u32, level: Mixed, step: Mixed, parts: u64)
+fn lessen_slope(row: &mut [Pixel], first: usize, end: usize, level: Mixed, step: Mixed, parts: u64)
     requires order { first ≤ end }
-    requires within { end ≤ length plane.old.values }
+    requires within { end ≤ length row.old }
     requires some { 0 < parts }
     requires few { parts ≤ 2 ^ 60 }
     requires rest { level.rest < parts }
     requires step_rest { step.rest < parts }
     requires step { IsSmallStep step.floor }
     requires levels { (k : ℕ) → k < end - first → IsInHalfRange (steps_on parts level step k) }
-    requires in_range { IsInHalfRangeFrom first plane.old.values }
-    ensures { IsLessened plane.old
-        (λ p. steps_on parts level step (p - first)) first end plane.new }
+    requires in_range { IsInHalfRangeFrom first row.old }
+    ensures { IsLessened row.old (λ x. steps_on parts level step (x - first)) first end row.new }
 {
     let mut at = level;
-    for p in first..end {
-        lessen(plane, p, at.floor);
+    for x in first..end {
+        row[x] = lessened(row[x], at.floor);
         at = at.plus(step, parts);
     }
 }
 
 // Takes a number away from the values of the pixels from `first` up to `end`.
-fn lessen_run(plane: &mut Plane, first: u32, end: u32, number: i64)
+fn lessen_run(row: &mut [Pixel], first: usize, end: usize, number: i64)
     requires order { first ≤ end }
-    requires within { end ≤ length plane.old.values }
+    requires within { end ≤ length row.old }
     requires number { IsInHalfRange number }
-    requires in_range { IsInHalfRangeFrom first plane.old.values }
-    ensures { IsLessened plane.old (λ _. number) first end plane.new }
+    requires in_range { IsInHalfRangeFrom first row.old }
+    ensures { IsLessened row.old (λ _. number) first end row.new }
 {
-    for p in first..end {
-        lessen(plane, p, number);
+    for x in first..end {
+        row[x] = lessened(row[x], number);
     }
 }
 
-// Takes a number away from the value of a pixel, if it is defined.
+// The pixel less a number, if it is defined.
 #[inline(always)]
-fn lessen(plane: &mut Plane, p: u32, number: i64)
-    requires pixel { p < length plane.old.values }
+fn lessened(pixel: Pixel, number: i64) -> Pixel
     requires number { IsInHalfRange number }
-    requires in_range { IfSome (value_at plane.old.values p) (λ v. IsInHalfRange v) }
-    ensures { IsLessened plane.old (λ _. number) p (p + 1) plane.new }
+    requires in_range { IfSome pixel (λ v. IsInHalfRange v) }
+    ensures { result ≡ option_map (λ v. v -ℤ number) pixel }
 {
-    if let Some(value) = plane.get(p) {
-        plane.set(p, Some(value - number));
+    match pixel.value() {
+        Some(value) => Pixel::of(Some(value - number)),
+        None => pixel,
     }
 }

@@ -60,12 +60,13 @@ fn try_residual<R: Threads + Sync + Abort>(
     plane: &Plane,
     mesh: u32,
     flat: bool,
+    parts: u32,
     wanted: &[i64],
 ) -> Result<(), Fail>
     requires { HasValuesInHalfRange plane.now.values }
 {
     assert!(rt; mesh <= 9);
-    let left = residual(rt, alloc, plane, mesh, flat)?;
+    let left = residual(rt, alloc, plane, mesh, flat, parts)?;
     try_values(rt, &left, wanted);
     Ok(())
 }
@@ -97,7 +98,7 @@ fn an_image_without_defined_pixels_has_zeros(rt: HostRuntime) -> Result<(), Fail
     let plane = plane_of(rt.alloc(), 2, 1, &[U, U])?;
     let values = mesh_values(&rt, rt.alloc(), &plane, 1)?;
     assert_eq!(rt; values.as_slice(), [0, 0].as_slice());
-    try_residual(&rt, rt.alloc(), &plane, 1, false, &[U, U])
+    try_residual(&rt, rt.alloc(), &plane, 1, false, 1, &[U, U])
 }
 
 // The number of a cell is for the whole of it where the background is flat; without a mesh nothing is taken away.
@@ -105,10 +106,10 @@ fn an_image_without_defined_pixels_has_zeros(rt: HostRuntime) -> Result<(), Fail
 fn flat_residual_and_none(rt: HostRuntime) -> Result<(), Fail> {
     let plane = plane_of(rt.alloc(), 5, 2, &[1, 4, U, U, 9, 2, 3, U, U, 7])?;
     let left = [-1, 2, U, U, 2, 0, 1, U, U, 0];
-    try_residual(&rt, rt.alloc(), &plane, 2, true, &left)?;
+    try_residual(&rt, rt.alloc(), &plane, 2, true, 1, &left)?;
     let same = [1, 4, U, U, 9, 2, 3, U, U, 7];
-    try_residual(&rt, rt.alloc(), &plane, 0, true, &same)?;
-    try_residual(&rt, rt.alloc(), &plane, 0, false, &same)
+    try_residual(&rt, rt.alloc(), &plane, 0, true, 1, &same)?;
+    try_residual(&rt, rt.alloc(), &plane, 0, false, 1, &same)
 }
 
 #[test]
@@ -135,10 +136,10 @@ fn the_filter_looks_at_the_rows_above_and_below(rt: HostRuntime) -> Result<(), F
 fn residual_of_a_window(rt: HostRuntime) -> Result<(), Fail> {
     let plane = plane_of(rt.alloc(), 12, 1, &[1, 1, 9, 9, 5, 5, 9, 9, 3, 3, 3, 3])?;
     let left = [0, -1, 5, 3, -3, -3, 3, 5, 0, 0, 0, 0];
-    try_residual(&rt, rt.alloc(), &plane, 2, false, &left)?;
+    try_residual(&rt, rt.alloc(), &plane, 2, false, 1, &left)?;
     let window = plane_of(rt.alloc(), 8, 1, &[5, 5, 9, 9, 3, 3, 3, 3])?;
     let there = [0, 0, 4, 5, 0, 0, 0, 0];
-    try_residual(&rt, rt.alloc(), &window, 2, false, &there)
+    try_residual(&rt, rt.alloc(), &window, 2, false, 1, &there)
 }
 
 // The background is 2 2 2 3 3 in both rows.
@@ -146,22 +147,24 @@ fn residual_of_a_window(rt: HostRuntime) -> Result<(), Fail> {
 fn smooth_residual(rt: HostRuntime) -> Result<(), Fail> {
     let plane = plane_of(rt.alloc(), 5, 2, &[1, 4, U, U, 9, 2, 3, U, U, 7])?;
     let left = [-1, 2, U, U, 6, 0, 1, U, U, 4];
-    try_residual(&rt, rt.alloc(), &plane, 2, false, &left)
+    try_residual(&rt, rt.alloc(), &plane, 2, false, 1, &left)
 }
 
 // The background is -20 -18 -13 -10 -10 -10.
 #[test]
 fn smooth_residual_below_zero(rt: HostRuntime) -> Result<(), Fail> {
     let plane = plane_of(rt.alloc(), 6, 1, &[-20, -20, -10, -10, 0, 0])?;
-    try_residual(&rt, rt.alloc(), &plane, 2, false, &[0, -2, 3, 0, 10, 10])
+    try_residual(&rt, rt.alloc(), &plane, 2, false, 1, &[0, -2, 3, 0, 10, 10])
 }
 
 // The last of three cells has one row, but the centre of a full one. The filtered numbers are 6 6 0, the background 6 6
-// 6 6 6 4 2.
+// 6 6 6 4 2. Bands of three rows, three and one are cut as the cells are, bands of two rows across them.
 #[test]
 fn a_short_last_cell_keeps_its_centre(rt: HostRuntime) -> Result<(), Fail> {
     let plane = plane_of(rt.alloc(), 1, 7, &[6, 6, 6, 9, 9, 9, 0])?;
-    try_residual(&rt, rt.alloc(), &plane, 3, false, &[0, 0, 0, 3, 3, 5, -2])
+    let left = [0, 0, 0, 3, 3, 5, -2];
+    try_residual(&rt, rt.alloc(), &plane, 3, false, 3, &left)?;
+    try_residual(&rt, rt.alloc(), &plane, 3, false, 4, &left)
 }
 
 // Beyond the outer centres a cell's own number stands, or a level on the edge; the last one is -63 / 16, rounded down.
@@ -179,7 +182,7 @@ fn levels_between_four_cells(rt: HostRuntime) -> Result<(), Fail> {
 #[test]
 fn background_is_subtracted_in_place(rt: HostRuntime) -> Result<(), Fail> {
     let mut plane = plane_of(rt.alloc(), 5, 2, &[1, 4, U, U, 9, 2, 3, U, U, 7])?;
-    subtract_background(&rt, rt.alloc(), &mut plane, 2, true)?;
+    subtract_background(&rt, rt.alloc(), &mut plane, 2, true, 2)?;
     try_values(&rt, &plane, &[-1, 2, U, U, 2, 0, 1, U, U, 0]);
     Ok(())
 }
@@ -188,7 +191,7 @@ fn background_is_subtracted_in_place(rt: HostRuntime) -> Result<(), Fail> {
 #[test]
 fn background_is_subtracted_whole_or_not_at_all(rt: HostRuntime) -> Result<(), Fail> {
     let mut plane = plane_of(rt.alloc(), 5, 2, &[1, 4, U, U, 9, 2, 3, U, U, 7])?;
-    match subtract_background(&rt, rt.alloc(), &mut plane, 2, false) {
+    match subtract_background(&rt, rt.alloc(), &mut plane, 2, false, 2) {
         Ok(()) => try_values(&rt, &plane, &[-1, 2, U, U, 6, 0, 1, U, U, 4]),
         Err(_) => try_values(&rt, &plane, &[1, 4, U, U, 9, 2, 3, U, U, 7]),
     }

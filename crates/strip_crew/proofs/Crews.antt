@@ -6,9 +6,13 @@ use native.Mathlib.Decide.{ℕ_discrete}
 use mathlib.Core.Option.{some, some-injective, some-ne-none}
 use lib.ListN.{get_elem?}
 use Rattle.strip_crew.specs.Counting.{fresh}
-use Rattle.strip_crew.specs.Run.{Run}
+use Rattle.comp_tree.specs.declared.shape.Connect.{Connect}
+use Rattle.comp_tree.specs.Raster.{Raster}
+use Rattle.strip_flood.specs.Jobs.{JobView}
+use Rattle.strip_crew.specs.Run.{Plan, Run, IsSized, plan_of, run_with, strips}
 use Rattle.tree_join.specs.Cuts.{IsCut}
-use Rattle.strip_crew.specs.Claims.{view, Seated, split_left}
+use Rattle.strip_crew.specs.Claims.{view, Seated, split_left, IsRunOver, AreReady}
+use Rattle.strip_crew.specs.Workers.{AreFlooded}
 
 module _ {A : Type 0} (P : A → Type 0) where
   pub all_on : (xs : List A) (x : A) → All P xs → P x → All P (xs ++ x ∷ [])
@@ -74,3 +78,28 @@ cut_climbs height cut c (suc i) h = let r = c.rises i (omega arith) in let e : i
 pub cut_fits : (height : ℕ) (cut : List ℕ) → IsCut height cut → length cut ≤ height
 cut_fits height cut c = let n : ℕ = length cut - 1 in let some_strip = c.some in let a = cut_climbs height cut c n (omega arith) in let b =
     c.below n (omega arith) in omega arith
+
+-- what a run's fixed data say of it
+module _ (plane : Raster) (connect : Connect) (cut : List ℕ) (workers : ℕ) (run : Run) (is : run ≡ run_with plane connect cut workers) where
+  plan_same : run.plan ≡ plan_of plane connect cut
+  plan_same = ap (λ (r : Run). r.plan) is
+
+  pub run_sized : IsCut plane.shape.height cut → 0 < workers → workers ≤ 64 → IsSized (strips run) run.workers
+  run_sized cuts some_worker most_workers = subst (λ (r : Run). IsSized (strips r) r.workers) (sym is) (record {
+    some_strip = cuts.some;
+    most_strips = omega (arith, cut_fits plane.shape.height cut cuts, plane.shape.within_limits.few_rows);
+    some_worker = some_worker;
+    most_workers = most_workers;
+  })
+
+  pub run_ready : (jobs : List JobView) → AreReady (plan_of plane connect cut) 0 (length cut) jobs → AreReady run.plan 0 (strips run) jobs
+  run_ready jobs ready = subst (λ (p : Plan). AreReady p 0 (length p.cut) jobs) (sym plan_same) ready
+
+  pub run_over : IsRunOver run plane
+  run_over = ap (λ (p : Plan). p.plane) plan_same
+
+  pub run_by : run.workers ≡ workers
+  run_by = ap (λ (r : Run). r.workers) is
+
+  pub run_flooded : (jobs : List JobView) → AreFlooded run.plan jobs → AreFlooded (plan_of plane connect cut) jobs
+  run_flooded jobs flooded = subst (λ (p : Plan). AreFlooded p jobs) plan_same flooded

@@ -1,5 +1,5 @@
 -- A group of strips, divided at one of its boundaries, and joined again.
-use Rattle.std.proofs.Common.{◌≡◌, ℕ, ◌+◌, ◌-◌, ◌*◌, ◌/◌, ◌<◌, ◌≤◌, List, ◌++◌, length, get_or, take, drop, Option, ℤ, refl, sym, ap, ◌∙◌, subst, inl, inr}
+use Rattle.std.proofs.Common.{◌≡◌, ℕ, zero, suc, Bool, false, ◌==◌, ◌+◌, ◌-◌, ◌*◌, ◌/◌, ◌<◌, ◌≤◌, List, ◌++◌, length, get_or, take, drop, Option, ℤ, refl, sym, ap, ◌∙◌, subst, inl, inr}
 use Rattle.std.proofs.Common.{⊎_elim, arith, length-append, mul-le-mul_right}
 use Rattle.std.proofs.Math.Nat.{div-lt_iff_lt-mul, le-div_iff_mul-le}
 use Rattle.std.proofs.lemmas.Bool.{cases_eq, cases_lt}
@@ -44,6 +44,24 @@ pair_within values width connect first_row count rows pos are x y pair =
     let x_high : x < (row + 1) * width = (div-lt_iff_lt-mul pos).0 (omega arith) in
     let y_high : y < (row + 1) * width = (div-lt_iff_lt-mul pos).0 (omega arith) in
     (record { low = x_low; high = omega arith }, record { low = y_low; high = omega arith })
+
+-- the middle of some rows
+pub half_inside : (n : ℕ) (none : Bool) → none ≡ (n == 0) → none ≡ false → n / 2 < n
+half_inside zero none is some = absurd (cc)
+half_inside (suc n) none is some = omega arith
+
+-- one of the rows of a group lies below the group's first row, and inside the plane
+pub row_below : (plane : Raster) (first_row : ℕ) (links rows : List ℕ) → IsGroup plane first_row links rows → (k : ℕ) → k < length rows
+    → first_row < get_or rows k 0
+row_below plane first_row links rows group k near = group.cut.low k near
+
+pub row_inside : (plane : Raster) (first_row : ℕ) (links rows : List ℕ) → IsGroup plane first_row links rows → (k : ℕ) → k < length rows
+    → get_or rows k 0 * plane.shape.width ≤ length plane.values
+row_inside plane first_row links rows group k near =
+    let row : ℕ = get_or rows k 0 in let width : ℕ = plane.shape.width in
+    let end : (row + 1) * width ≤ first_row * width + length links = group.cut.inside k near in
+    let start : row * width ≤ (row + 1) * width = mul-le-mul_right width (let h : row ≤ row + 1 = omega arith in h) in
+    omega (arith, end, start, group.fits)
 
 module _ (plane : Raster) (connect : Connect) (first_row : ℕ) (links rows : List ℕ) (group : IsGroup plane first_row links rows)
     (k : ℕ) (near : k < length rows)
@@ -181,6 +199,12 @@ module _ (plane : Raster) (connect : Connect) (first_row : ℕ) (links rows : Li
 
     pub halves_length : length (above ++ below) ≡ length links
     halves_length = let a = above_is.same_length in let b = below_is.same_length in omega (arith, counts, length-append above below)
+
+    pub halves_fit : first_row * width + length (above ++ below) ≤ length values
+    halves_fit = omega (arith, halves_length, group.fits)
+
+    pub halves_reach : (row + 1) * width ≤ first_row * width + length (above ++ below)
+    halves_reach = omega (arith, halves_length, group.cut.inside k near)
 
     abbrev Left : ℕ → ℕ → Type 0
     Left = IsLink first left

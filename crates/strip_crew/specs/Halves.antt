@@ -5,6 +5,7 @@ use Rattle.comp_tree.specs.Raster.{Raster}
 use Rattle.comp_tree.specs.Joined.{Or}
 use Rattle.comp_tree.specs.Forest.{no_node, IsLink, IsForest, JoinSame}
 use Rattle.strip_crew.specs.Boundaries.{AreRows, AreApart, IsRowsPair}
+use Rattle.strip_crew.specs.declared.group.Group.{Group}
 
 -- links of a group whose strips are still apart
 pub record IsGroup (plane : Raster) (first_row : ℕ) (links rows : List ℕ) : Type 0 where
@@ -21,3 +22,10 @@ pub record IsGroupJoined (plane : Raster) (connect : Connect) (first_row : ℕ) 
   pub joins : JoinSame plane.values (first_row * plane.shape.width) (length old)
       (IsLink (first_row * plane.shape.width) new)
       (Or (IsLink (first_row * plane.shape.width) old) (IsRowsPair plane.values plane.shape.width connect rows))
+
+-- the same of a group as the program holds it
+abbrev pub IsGroupOf : Group → List ℕ → Type 0
+IsGroupOf group links = IsGroup group.plane.now group.first_row links group.rows.now
+
+abbrev pub IsJoinedGroupOf : Group → List ℕ → List ℕ → Type 0
+IsJoinedGroupOf group old new = IsGroupJoined group.plane.now group.connect group.first_row group.rows.now old new

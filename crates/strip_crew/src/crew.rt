@@ -6,9 +6,9 @@ ghost use Rattle.comp_tree.specs.Grid.{IsAdjacency};
 ghost use Rattle.tree_join.specs.Cuts.{IsCut};
 ghost use Rattle.comp_tree.specs.Forest.{IsForest, StandsFor};
 ghost use Rattle.strip_crew.specs.Copied.{AreCopied};
-ghost use Rattle.strip_crew.specs.Run.{plan_of, run_with};
+ghost use Rattle.strip_crew.specs.Run.{IsSized, plan_of, run_with, strips};
 ghost use Rattle.strip_crew.specs.Counting.{fresh};
-ghost use Rattle.strip_crew.specs.Claims.{view, run_of, IsRunOver};
+ghost use Rattle.strip_crew.specs.Claims.{view, run_of, opening_view, AreReady, IsRunOver};
 ghost use Rattle.strip_crew.specs.Workers.{AreFlooded, IsRecruit, IsVeteran, HasPast, HasSettled};
 
 use crate::claiming::worker;
@@ -208,6 +208,100 @@ fn gather_links(
     copy_links(closed, room, plane, connect, cut)
 }
 
+// The fixed data of a run, with a copy of the cut.
+fn key_of(
+    alloc: Global,
+    plane: &Plane,
+    connect: Connect,
+    cut: &[u32],
+    workers: u32,
+) -> Result<Key, OutOfMemory>
+    ensures { IfOk result (λ key. run_of key ≡ run_with plane.now connect cut.now workers) }
+{
+    let mut rows = Vec::with_capacity(alloc, cut.len())?;
+    append_links(&mut rows, cut);
+    Ok(Key {
+        plane: Snapshot::of(plane),
+        connect,
+        cut: rows,
+        workers,
+    })
+}
+
+// The table of a run, with the jobs in its slots, and its first seat.
+fn open_table(
+    alloc: Global,
+    jobs: Vec<StripJob>,
+    key: &Key,
+) -> Result<(ClaimTable, ClaimSeat), OutOfMemory>
+    requires sized { IsSized (strips (run_of key.now)) key.now.workers }
+    requires ready { AreReady (run_of key.now).plan 0 (strips (run_of key.now)) jobs.items }
+    ensures words { IfOk result (λ made. made.0.shared.table_id.words ≡ 2) }
+    ensures table { IfOk result (λ made. made.1.table_id ≡ made.0.shared.table_id) }
+    ensures run { IfOk result (λ made. run_of made.0.shared.key ≡ run_of key.now) }
+    ensures first { IfOk result
+        (λ made. made.1.me ≡ (opening_view (run_of made.0.shared.key), [])) }
+{
+    match ClaimTable::new(alloc, &[0, 0], jobs, key) {
+        Ok(made) => Ok(made),
+        Err(Refused { slots: _ }) => Err(OutOfMemory),
+    }
+}
+
+// Floods all strips at the table by as many workers as its run has, and closes it.
+fn run_crew<R: Threads + Sync, G: Gate>(
+    rt: &R,
+    table: ClaimTable,
+    seat: ClaimSeat,
+    places: Vec<Option<ClaimSeat>>,
+    workers: u32,
+    plane: &Plane,
+    gate: &G,
+) -> Closed<StripJob, Global>
+    requires table { seat.table_id ≡ table.shared.table_id }
+    requires words { table.shared.table_id.words ≡ 2 }
+    requires first { seat.me ≡ (opening_view (run_of table.shared.key), []) }
+    requires workers { (run_of table.shared.key).workers ≡ workers }
+    requires some { 0 < workers }
+    requires plane { IsRunOver (run_of table.shared.key) plane.now }
+    requires empty { vec_len places ≡ 0 }
+    requires room { workers ≤ vec_capacity places }
+    ensures full { IsFull result.slots }
+    ensures jobs { AreFlooded (run_of table.shared.key).plan (slots_items result.slots) }
+{
+    let mut places = recruit(&table, seat, workers, places);
+    run_workers(rt, &table, &mut places, workers, plane, gate);
+    let Some(last) = dismiss(&table, places) else {
+        unreachable!()
+    };
+    close_crew(table, last)
+}
+
+// The links of all strips, one after the other, each flooded by one of the workers.
+fn flood_strips<R: Threads + Sync, G: Gate>(
+    rt: &R,
+    alloc: Global,
+    plane: &Plane,
+    connect: Connect,
+    cut: &[u32],
+    workers: u32,
+    gate: &G,
+) -> Result<Vec<u32>, OutOfMemory>
+    requires cut { IsCut plane.now.shape.height cut.now }
+    requires some { 0 < workers }
+    requires most { workers ≤ 64 }
+    ensures { IfOk result
+        (λ links. AreCopied (plan_of plane.now connect cut.now) (length cut.now) links.items) }
+{
+    let jobs = prepare_all(rt, alloc, plane, connect, cut, workers)?;
+    let room = room_for_links(alloc, plane, cut)?;
+    let places = Vec::with_capacity(alloc, workers as usize)?;
+    let key = key_of(alloc, plane, connect, cut, workers)?;
+    let (table, seat) = open_table(alloc, jobs, &key)?;
+    let closed = run_crew(rt, table, seat, places, workers, plane, gate);
+    Ok(gather_links(closed, room, plane, connect, cut))
+}
+
 /// Floods the plane in strips and joins them: a forest of the plane that stands for all its adjacencies, whatever the
 /// cut, the number of workers and the schedule.
 ///
@@ -233,27 +327,7 @@ pub fn flood_all<R: Threads + Sync, G: Gate>(
     ensures stands { IfOk result (λ forest. StandsFor plane.now.values 0 forest
         (IsAdjacency plane.now.values plane.now.shape.width connect)) }
 {
-    let jobs = prepare_all(rt, alloc, plane, connect, cut, workers)?;
-    let room = room_for_links(alloc, plane, cut)?;
-    let places = Vec::with_capacity(alloc, workers as usize)?;
-    let mut rows = Vec::with_capacity(alloc, cut.len())?;
-    append_links(&mut rows, cut);
-    let key = Key {
-        plane: Snapshot::of(plane),
-        connect,
-        cut: rows,
-        workers,
-    };
-    let (table, seat) = match ClaimTable::new(alloc, &[0, 0], jobs, &key) {
-        Ok(made) => made,
-        Err(Refused { slots: _ }) => return Err(OutOfMemory),
-    };
-    let mut places = recruit(&table, seat, workers, places);
-    run_workers(rt, &table, &mut places, workers, plane, gate);
-    let Some(last) = dismiss(&table, places) else {
-        unreachable!()
-    };
-    let mut links = gather_links(close_crew(table, last), room, plane, connect, cut);
+    let mut links = flood_strips(rt, alloc, plane, connect, cut, workers, gate)?;
     join_cut(rt, &mut links, plane, connect, cut);
     Ok(Forest::of(links))
 }

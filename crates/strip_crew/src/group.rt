@@ -6,7 +6,7 @@ ghost use Rattle.comp_tree.specs.Joined.{Or, Has};
 ghost use Rattle.comp_tree.specs.Forest.{IsForest, IsLink, StandsFor, JoinSame};
 ghost use Rattle.tree_join.specs.Boundary.{row_start, IsBoundary};
 ghost use Rattle.strip_crew.specs.Boundaries.{AreRows, AreApart, IsRowsPair};
-ghost use Rattle.strip_crew.specs.Halves.{IsGroup, IsGroupJoined};
+ghost use Rattle.strip_crew.specs.Halves.{IsGroupOf, IsJoinedGroupOf};
 
 use crate::gate::Gate;
 use comp_tree::{Connect, Plane};
@@ -85,93 +85,86 @@ fn forks_of_halves(rows: &[u32], forks: u32) -> u32 {
     if rows.len() < 3 { 0 } else { forks }
 }
 
+// A group of strips that lie one below the other: the rows from `first_row` on, the first rows of its strips but the first, and
+// how often it may be divided into halves that are joined at once.
+#[derive(Drop)]
+struct Group<'a> {
+    plane: &'a Plane,
+    connect: Connect,
+    first_row: u32,
+    rows: &'a [u32],
+    forks: u32,
+}
+
 // Joins the strips of a group. The links come last, so that a closure reads all else before it lends them.
 #[cycle(halves)]
 fn join_strips<R: Threads + Sync, J: Gate>(
     rt: &R,
-    plane: &Plane,
-    connect: Connect,
-    first_row: u32,
-    rows: &[u32],
-    forks: u32,
     joins: &J,
+    group: &Group<'_>,
     parents: &mut [u32],
 )
-    requires { IsGroup plane.now first_row parents.old rows.now }
-    ensures { IsGroupJoined plane.now connect first_row rows.now parents.old parents.new }
+    requires { IsGroupOf group.now parents.old }
+    ensures { IsJoinedGroupOf group.now parents.old parents.new }
 {
+    let rows = group.rows;
     if rows.is_empty() {
         return;
     }
     let middle = rows.len() / 2;
     let row = rows[middle];
-    let forks = forks_of_halves(rows, forks);
-    let (above, below) = parents.split_at_mut(pixels_between(plane, first_row, row));
-    join_halves(
-        rt,
-        plane,
-        connect,
-        first_row,
-        &rows[..middle],
-        row,
-        &rows[middle + 1..],
-        forks,
-        joins,
-        above,
-        below,
-    );
+    let forks = forks_of_halves(rows, group.forks);
+    let first = Group {
+        plane: group.plane,
+        connect: group.connect,
+        first_row: group.first_row,
+        rows: &rows[..middle],
+        forks: forks.saturating_sub(1),
+    };
+    let second = Group {
+        plane: group.plane,
+        connect: group.connect,
+        first_row: row,
+        rows: &rows[middle + 1..],
+        forks: forks.saturating_sub(1),
+    };
+    let (above, below) = parents.split_at_mut(pixels_between(group.plane, group.first_row, row));
+    join_halves(rt, joins, forks > 0, &first, &second, above, below);
     joins.enter(row);
-    join_boundary(parents, plane, connect, first_row, row);
+    join_boundary(parents, group.plane, group.connect, group.first_row, row);
 }
 
-// Joins the strips of two neighbouring groups, both at once where `forks` is above 0. A function of its own, so that what
-// the closures require is what it is given.
+// Joins the strips of two neighbouring groups, one after the other or both at once. A function of its own, so that what the
+// closures require is what it is given.
 #[cycle(halves)]
 fn join_halves<R: Threads + Sync, J: Gate>(
     rt: &R,
-    plane: &Plane,
-    connect: Connect,
-    first_row: u32,
-    first_rows: &[u32],
-    row: u32,
-    rows: &[u32],
-    forks: u32,
     joins: &J,
+    at_once: bool,
+    first: &Group<'_>,
+    second: &Group<'_>,
     above: &mut [u32],
     below: &mut [u32],
 )
-    requires above { IsGroup plane.now first_row above.old first_rows.now }
-    requires below { IsGroup plane.now row below.old rows.now }
-    ensures above { IsGroupJoined plane.now connect first_row first_rows.now above.old above.new }
-    ensures below { IsGroupJoined plane.now connect row rows.now below.old below.new }
+    requires above { IsGroupOf first.now above.old }
+    requires below { IsGroupOf second.now below.old }
+    ensures above { IsJoinedGroupOf first.now above.old above.new }
+    ensures below { IsJoinedGroupOf second.now below.old below.new }
 {
-    if forks == 0 {
-        join_strips(rt, plane, connect, first_row, first_rows, 0, joins, above);
-        join_strips(rt, plane, connect, row, rows, 0, joins, below);
+    if !at_once {
+        join_strips(rt, joins, first, above);
+        join_strips(rt, joins, second, below);
         return;
     }
-    let mut first = ||
-        requires { IsSync R.row × IsSync J.row × (0 < forks) × IsGroup plane.now first_row above.now first_rows.now }
-        ensures { IsGroupJoined plane.entry.now connect first_row first_rows.entry.now above.entry.now above.exit.now }
-    {
-        join_strips(
-            rt,
-            plane,
-            connect,
-            first_row,
-            first_rows,
-            forks - 1,
-            joins,
-            above,
-        );
-    };
-    let mut second = ||
-        requires { IsSync R.row × IsSync J.row × (0 < forks) × IsGroup plane.now row below.now rows.now }
-        ensures { IsGroupJoined plane.entry.now connect row rows.entry.now below.entry.now below.exit.now }
-    {
-        join_strips(rt, plane, connect, row, rows, forks - 1, joins, below);
-    };
-    join_mut(rt, &mut first, &mut second);
+    let mut join_above = ||
+        requires { IsSync R.row × IsSync J.row × IsGroupOf first.now above.now }
+        ensures { IsJoinedGroupOf first.entry.now above.entry.now above.exit.now }
+    { join_strips(rt, joins, first, above) };
+    let mut join_below = ||
+        requires { IsSync R.row × IsSync J.row × IsGroupOf second.now below.now }
+        ensures { IsJoinedGroupOf second.entry.now below.entry.now below.exit.now }
+    { join_strips(rt, joins, second, below) };
+    join_mut(rt, &mut join_above, &mut join_below);
 }
 
 /// Joins the strips of a group of rows at their boundaries: the adjacencies between each row of `rows` and the row above
@@ -208,5 +201,12 @@ pub fn join_group<R: Threads + Sync, J: Gate>(
 {
     // for its clauses alone: how many pixels a plane has
     let _shape = plane.shape();
-    join_strips(rt, plane, connect, first_row, rows, forks, joins, parents);
+    let group = Group {
+        plane,
+        connect,
+        first_row,
+        rows,
+        forks,
+    };
+    join_strips(rt, joins, &group, parents);
 }

@@ -1,10 +1,10 @@
 //! The jobs of all strips, prepared in parallel.
 
-ghost use Rattle.std.specs.Prelude.{◌≡◌, ℕ, ◌+◌, ◌*◌, ◌<◌, ◌≤◌, ◌++◌, min, List, IfOk, OnOk, length, vec_len, slice_index};
+ghost use Rattle.std.specs.Prelude.{◌≡◌, ℕ, ◌+◌, ◌*◌, ◌<◌, ◌≤◌, ◌++◌, min, List, IfOk, OnOk, length, slice_index, vec_items};
 ghost use Rattle.tree_join.specs.Cuts.{IsCut};
-ghost use Rattle.strip_crew.specs.Run.{plan_of, row_at};
+ghost use Rattle.strip_crew.specs.Run.{plan_of, row_at, groups_of};
 ghost use Rattle.strip_crew.specs.Claims.{AreReady};
-ghost use Rattle.strip_crew.specs.Workers.{AreGroup};
+ghost use Rattle.strip_crew.specs.Workers.{AreGroup, AreParts};
 
 use comp_tree::{Connect, Plane};
 use costs::OutOfMemory;
@@ -68,6 +68,35 @@ fn prepare_part(
     prepare_group(alloc, plane, connect, cut, first, limit)
 }
 
+// The jobs of all groups, where each group has `size` strips, or fewer at the end.
+fn prepare_parts<R: Threads + Sync>(
+    rt: &R,
+    alloc: Global,
+    plane: &Plane,
+    connect: Connect,
+    cut: &[u32],
+    size: usize,
+) -> Result<Vec<Result<Vec<StripJob>, OutOfMemory>>, OutOfMemory>
+    requires cut { IsCut plane.now.shape.height cut.now }
+    requires some { 0 < size }
+    requires most { size ≤ length cut.now }
+    ensures parts { IfOk result
+        (λ parts. AreParts vec_items (plan_of plane.now connect cut.now) size 0 parts.items) }
+    ensures count { IfOk result (λ parts. length parts.items ≡ groups_of size (length cut.now)) }
+{
+    Ok(thread::map_indices(
+        rt,
+        alloc,
+        cut.len().div_ceil(size),
+        &|group: usize| -> Result<Vec<StripJob>, OutOfMemory>
+            requires { IsCut plane.now.shape.height cut.now
+                × (size ≤ length cut.now)
+                × (group * size < length cut.now) }
+            ensures { IfOk result (λ jobs. AreGroup (plan_of plane.entry.now connect cut.entry.now) size group jobs.items) }
+        { prepare_part(alloc, plane, connect, cut, size, group) },
+    )?)
+}
+
 /// The jobs of all strips, in order. They are prepared in groups of neighbouring strips, at most as many groups as
 /// there are workers, by the runtime's parallel map.
 pub fn prepare_all<R: Threads + Sync>(
@@ -84,18 +113,7 @@ pub fn prepare_all<R: Threads + Sync>(
         (λ jobs. AreReady (plan_of plane.now connect cut.now) 0 (length cut.now) jobs.items) }
 {
     let size = cut.len().div_ceil(workers as usize);
-    let groups = cut.len().div_ceil(size);
-    let parts = thread::map_indices(
-        rt,
-        alloc,
-        groups,
-        &|group: usize| -> Result<Vec<StripJob>, OutOfMemory>
-            requires { IsCut plane.now.shape.height cut.now
-                × (size ≤ length cut.now)
-                × (group * size < length cut.now) }
-            ensures { IfOk result (λ jobs. AreGroup (plan_of plane.entry.now connect cut.entry.now) size group jobs.items) }
-        { prepare_part(alloc, plane, connect, cut, size, group) },
-    )?;
+    let parts = prepare_parts(rt, alloc, plane, connect, cut, size)?;
     let mut jobs = Vec::new(alloc);
     for part in parts {
         let mut part = part?;

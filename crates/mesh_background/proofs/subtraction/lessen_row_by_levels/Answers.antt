@@ -1,10 +1,5 @@
-use Rattle.std.proofs.Common.{◌≡◌, ℕ, ◌+◌, ◌*◌, ◌<◌, ◌≤◌, sym, ap, subst, ◌∙◌, arith}
-use Rattle.comp_tree.specs.declared.shape.Shape.{Shape}
-use Rattle.comp_tree.specs.Raster.{Raster}
-use Rattle.mesh_background.specs.Mesh.{cells_along, cell_count}
+use Rattle.std.proofs.Common.{ℕ, ℤ, ◌≡◌, ◌+◌, ◌*◌, ◌<◌, ◌∙◌, sym, subst, arith}
 use Rattle.mesh_background.specs.Residuals.{pixel_level}
-use Rattle.mesh_background.specs.Lessened.{IsInHalfRangeFrom}
-use Rattle.mesh_background.specs.Slopes.{first_before}
 use Rattle.mesh_background.proofs.Extents.{columns-some}
 use Rattle.mesh_background.proofs.Lessening.{half_from-later}
 use Rattle.mesh_background.proofs.Rows.{columns-few, runs-none, runs-next, runs-done}
@@ -28,18 +23,12 @@ overflow_add-next-end c =
 
 pub loop-next-init : goal.loop-next-init
 loop-next-init c =
-    let r : Raster = c.args.plane.now in
-    runs-none r (pixel_level c.args.grid.now.mesh r.shape c.args.numbers.now) r.shape.width c.args.grid.now.mesh c.args.y
-
-pub lessen_run_by_levels-requires-clause-shape : goal.lessen_run_by_levels-requires-clause-shape
-lessen_run_by_levels-requires-clause-shape c = c.requires.shape ∙ sym c.loop-next.invariant.shape_is
+    let g = c.args.grid.now in
+    let by : ℕ → ℤ = λ x. pixel_level g.mesh g.shape c.args.numbers.now (c.args.y * g.shape.width + x) in
+    runs-none c.args.row.now by g.shape.width g.mesh
 
 pub lessen_run_by_levels-requires-clause-one_each : goal.lessen_run_by_levels-requires-clause-one_each
-lessen_run_by_levels-requires-clause-one_each c =
-    c.loop-next.invariant.one_each ∙ c.requires.one_each ∙ ap (λ (s : Shape). s.width * s.height) (sym c.loop-next.invariant.shape_is)
-
-pub lessen_run_by_levels-requires-clause-row : goal.lessen_run_by_levels-requires-clause-row
-lessen_run_by_levels-requires-clause-row c = subst (λ (s : Shape). c.args.y < s.height) (sym c.loop-next.invariant.shape_is) c.requires.row
+lessen_run_by_levels-requires-clause-one_each c = c.loop-next.invariant.one_each ∙ c.requires.one_each
 
 pub lessen_run_by_levels-requires-clause-before : goal.lessen_run_by_levels-requires-clause-before
 lessen_run_by_levels-requires-clause-before c = c.cells-down.ensures.before
@@ -53,33 +42,22 @@ lessen_run_by_levels-requires-clause-past c = c.cells-down.ensures.past
 pub lessen_run_by_levels-requires-clause-next : goal.lessen_run_by_levels-requires-clause-next
 lessen_run_by_levels-requires-clause-next c = let lt : c.loop-next.next < c.args.grid.now.columns + 1 = c.loop-next-test.true in omega (arith, lt)
 
-pub lessen_run_by_levels-requires-clause-numbers : goal.lessen_run_by_levels-requires-clause-numbers
-lessen_run_by_levels-requires-clause-numbers c =
-    c.requires.numbers ∙ ap (λ (s : Shape). cell_count c.args.grid.now.mesh s) (sym c.loop-next.invariant.shape_is)
-
-pub lessen_run_by_levels-requires-clause-numbers_in_range : goal.lessen_run_by_levels-requires-clause-numbers_in_range
-lessen_run_by_levels-requires-clause-numbers_in_range c = c.requires.numbers_in_range
-
 pub lessen_run_by_levels-requires-clause-in_range : goal.lessen_run_by_levels-requires-clause-in_range
 lessen_run_by_levels-requires-clause-in_range c =
     let g = c.args.grid.now in
-    let r : Raster = c.args.plane.now in
-    let first : ℕ = c.args.y * r.shape.width in
-    let n : ℕ = first + first_before g.mesh r.shape.width c.loop-next.next in
-    let le : first ≤ n = omega arith in
-    subst (λ (s : Shape). IsInHalfRangeFrom (c.args.y * s.width + first_before g.mesh s.width c.loop-next.next) c.loop-next.plane.values)
-    (sym c.loop-next.invariant.shape_is)
-    (half_from-later r c.loop-next.plane (pixel_level g.mesh r.shape c.args.numbers.now) first n c.requires.in_range c.loop-next.invariant le)
+    let by : ℕ → ℤ = λ x. pixel_level g.mesh g.shape c.args.numbers.now (c.args.y * g.shape.width + x) in
+    half_from-later c.args.row.now c.loop-next.row by 0 _ 0 c.requires.in_range c.loop-next.invariant (omega arith)
 
 pub loop-next-preserved : goal.loop-next-preserved
 loop-next-preserved c =
-    runs-next c.args.plane.now c.loop-next.plane c.lessen_run_by_levels.new.plane c.args.grid.now.mesh c.args.y c.loop-next.next c.args.numbers.now
-    c.loop-next.invariant c.lessen_run_by_levels.ensures
+    let g = c.args.grid.now in
+    let by : ℕ → ℤ = λ x. pixel_level g.mesh g.shape c.args.numbers.now (c.args.y * g.shape.width + x) in
+    runs-next c.args.row.now c.loop-next.row c.lessen_run_by_levels.new.row by g.mesh g.shape.width c.loop-next.next c.loop-next.invariant
+    c.lessen_run_by_levels.ensures
 
 pub returns : goal.returns
 returns c =
     let g = c.args.grid.now in
-    let r : Raster = c.args.plane.now in
-    let columns : g.columns ≡ cells_along g.mesh r.shape.width = g.columns_is ∙ ap (λ (s : Shape). cells_along g.mesh s.width) c.requires.shape in
-    runs-done r c.loop-next.plane (pixel_level g.mesh r.shape c.args.numbers.now) r.shape.width g.mesh g.columns c.args.y c.loop-next.next g.some columns
-    c.loop-next-test.false c.loop-next.invariant
+    let by : ℕ → ℤ = λ x. pixel_level g.mesh g.shape c.args.numbers.now (c.args.y * g.shape.width + x) in
+    runs-done c.args.row.now c.loop-next.row by g.shape.width g.mesh g.columns c.loop-next.next g.some g.columns_is c.loop-next-test.false
+    c.loop-next.invariant

@@ -5,5 +5,5 @@ use Rattle.mesh_background.specs.Slopes.{first_before}
 use Rattle.mesh_background.proofs.subtraction.lessen_row_by_levels.Given as goal
 
 abbrev pub invariant-loop-next : goal.invariant-loop-next
-invariant-loop-next l = IsLessened l.fn.plane (pixel_level l.grid.mesh l.fn.plane.shape l.numbers) (l.y * l.fn.plane.shape.width)
-    (l.y * l.fn.plane.shape.width + first_before l.grid.mesh l.fn.plane.shape.width l.next) l.plane
+invariant-loop-next l = IsLessened l.fn.row (λ x. pixel_level l.grid.mesh l.grid.shape l.numbers (l.y * l.grid.shape.width + x)) 0
+    (first_before l.grid.mesh l.grid.shape.width l.next) l.row

@@ -4,7 +4,6 @@ use mir.Syntax.{w64}
 use mir.Val.{SFits}
 use Rattle.comp_tree.specs.declared.shape.Shape.{Shape}
 use Rattle.comp_tree.specs.Limits.{IsInHalfRange}
-use Rattle.comp_tree.specs.Raster.{Raster}
 use Rattle.mesh_background.specs.declared.slope.Mixed.{Mixed}
 use Rattle.mesh_background.specs.Mesh.{cells_along, cell_count}
 use Rattle.mesh_background.specs.Interpolation.{cell_before, cell_after}
@@ -16,7 +15,7 @@ use Rattle.mesh_background.proofs.Fitting.{kept}
 use Rattle.mesh_background.proofs.Levels.{past-below, cell-within, half-interpolated, times-kept, IsPlaced}
 use Rattle.mesh_background.proofs.Slopes.{IsRun, run-is, run-level, run-along}
 use Rattle.mesh_background.proofs.Lessening.{run-lessened}
-use Rattle.mesh_background.proofs.Rows.{place-fits, row-fits, row-inside, columns-few, run-order}
+use Rattle.mesh_background.proofs.Rows.{columns-few, run-order}
 use Rattle.mesh_background.proofs.subtraction.lessen_run_by_levels.Goals as goal
 
 -- the four cells have numbers
@@ -50,16 +49,15 @@ cell-in columns rows mesh x y a b p c d q numbers h k =
       in-grid columns rows mesh x y b d numbers wide high h.long bl dl,
     )
 
-ready : (columns rows mesh y c d q : ℕ) (own shape : Shape) (numbers : List ℤ) → 0 < mesh → columns ≡ cells_along mesh own.width
-    → rows ≡ cells_along mesh own.height → own ≡ shape
-    → length numbers ≡ cell_count mesh shape → IsPlaced rows mesh y c d q → IsReady columns rows mesh y c d q numbers
-ready columns rows mesh y c d q own shape numbers some e f same long placed =
-    let wide : 0 < cells_along mesh own.width = columns-some mesh own.width some own.within_limits.some_columns in
-    let high : 0 < cells_along mesh own.height = columns-some mesh own.height some own.within_limits.some_rows in
+ready : (columns rows mesh y c d q : ℕ) (shape : Shape) (numbers : List ℤ) → 0 < mesh → columns ≡ cells_along mesh shape.width
+    → rows ≡ cells_along mesh shape.height → length numbers ≡ cell_count mesh shape → IsPlaced rows mesh y c d q → IsReady columns rows mesh y c d q numbers
+ready columns rows mesh y c d q shape numbers some e f long placed =
+    let wide : 0 < cells_along mesh shape.width = columns-some mesh shape.width some shape.within_limits.some_columns in
+    let high : 0 < cells_along mesh shape.height = columns-some mesh shape.height some shape.within_limits.some_rows in
     record {
       wide = omega (arith, wide, e);
       high = omega (arith, high, f);
-      long = long ∙ (λ i. cell_count mesh (sym same i)) ∙ (λ i. sym e i * sym f i);
+      long = long ∙ (λ i. sym e i * sym f i);
       placed = placed;
     }
 
@@ -78,8 +76,7 @@ down_column-before-requires-clause-before c =
     let g = c.args.grid.now in
     let down : IsPlaced g.rows g.mesh c.args.y _ _ _ = record { before_is = c.requires.before; after_is = c.requires.after; past_is = c.requires.past } in
     let is =
-    ready g.columns g.rows g.mesh c.args.y _ _ _ g.shape c.args.plane.now.shape c.args.numbers.now g.some g.columns_is g.rows_is c.requires.shape
-    c.requires.numbers down in
+    ready g.columns g.rows g.mesh c.args.y _ _ _ g.shape c.args.numbers.now g.some g.columns_is g.rows_is c.requires.numbers.one_each down in
     let across = c.cells-across.ensures in
     (cell-in g.columns g.rows g.mesh _ c.args.y _ _ _ _ _ _ c.args.numbers.now is
     (record { before_is = across.before; after_is = across.after; past_is = across.past })).0
@@ -89,8 +86,7 @@ down_column-before-requires-clause-after c =
     let g = c.args.grid.now in
     let down : IsPlaced g.rows g.mesh c.args.y _ _ _ = record { before_is = c.requires.before; after_is = c.requires.after; past_is = c.requires.past } in
     let is =
-    ready g.columns g.rows g.mesh c.args.y _ _ _ g.shape c.args.plane.now.shape c.args.numbers.now g.some g.columns_is g.rows_is c.requires.shape
-    c.requires.numbers down in
+    ready g.columns g.rows g.mesh c.args.y _ _ _ g.shape c.args.numbers.now g.some g.columns_is g.rows_is c.requires.numbers.one_each down in
     let across = c.cells-across.ensures in
     (cell-in g.columns g.rows g.mesh _ c.args.y _ _ _ _ _ _ c.args.numbers.now is
     (record { before_is = across.before; after_is = across.after; past_is = across.past })).1
@@ -100,8 +96,7 @@ down_column-after-requires-clause-before c =
     let g = c.args.grid.now in
     let down : IsPlaced g.rows g.mesh c.args.y _ _ _ = record { before_is = c.requires.before; after_is = c.requires.after; past_is = c.requires.past } in
     let is =
-    ready g.columns g.rows g.mesh c.args.y _ _ _ g.shape c.args.plane.now.shape c.args.numbers.now g.some g.columns_is g.rows_is c.requires.shape
-    c.requires.numbers down in
+    ready g.columns g.rows g.mesh c.args.y _ _ _ g.shape c.args.numbers.now g.some g.columns_is g.rows_is c.requires.numbers.one_each down in
     let across = c.cells-across.ensures in
     (cell-in g.columns g.rows g.mesh _ c.args.y _ _ _ _ _ _ c.args.numbers.now is
     (record { before_is = across.before; after_is = across.after; past_is = across.past })).2
@@ -111,8 +106,7 @@ down_column-after-requires-clause-after c =
     let g = c.args.grid.now in
     let down : IsPlaced g.rows g.mesh c.args.y _ _ _ = record { before_is = c.requires.before; after_is = c.requires.after; past_is = c.requires.past } in
     let is =
-    ready g.columns g.rows g.mesh c.args.y _ _ _ g.shape c.args.plane.now.shape c.args.numbers.now g.some g.columns_is g.rows_is c.requires.shape
-    c.requires.numbers down in
+    ready g.columns g.rows g.mesh c.args.y _ _ _ g.shape c.args.numbers.now g.some g.columns_is g.rows_is c.requires.numbers.one_each down in
     let across = c.cells-across.ensures in
     (cell-in g.columns g.rows g.mesh _ c.args.y _ _ _ _ _ _ c.args.numbers.now is
     (record { before_is = across.before; after_is = across.after; past_is = across.past })).3
@@ -120,7 +114,6 @@ down_column-after-requires-clause-after c =
 pub lessen_slope-requires-clause-levels : goal.lessen_slope-requires-clause-levels
 lessen_slope-requires-clause-levels c =
     let g = c.args.grid.now in
-    let r : Raster = c.args.plane.now in
     let left : ℕ = c.run_start-left.result in
     let level : Mixed = c.level_between-level.result in
     let step : Mixed = c.step_between-step.result in
@@ -143,12 +136,11 @@ lessen_slope-requires-clause-levels c =
     ap (λ (n : ℕ). steps_on n level step k) c.parts_of.ensures.parts
     ∙ run-level c.args.numbers.now g.columns g.rows g.mesh c.args.y left (left + k) k level step run along in
     subst (λ (z : ℤ). IsInHalfRange z) (sym is) (half-interpolated c.args.numbers.now g.columns g.rows g.mesh (left + k) c.args.y g.some
-    c.requires.numbers_in_range)
+    c.requires.numbers.in_range)
 
 pub returns : goal.returns
 returns c =
     let g = c.args.grid.now in
-    let r : Raster = c.args.plane.now in
     let left : ℕ = c.run_start-left.result in
     let level : Mixed = c.level_between-level.result in
     let step : Mixed = c.step_between-step.result in
@@ -165,26 +157,15 @@ returns c =
     (to_z-of_z w64 c.down_column-after.result second ∙ c.down_column-after.ensures.value)
     c.level_between-level.ensures.value c.step_between-step.ensures.value in
     let right : ℕ = c.run_start-right.result in
-    let wide : g.shape.width ≡ r.shape.width = ap (λ (s : Shape). s.width) c.requires.shape in
-    let columns : g.columns ≡ cells_along g.mesh r.shape.width = g.columns_is ∙ ap (λ (n : ℕ). cells_along g.mesh n) wide in
-    let rows : g.rows ≡ cells_along g.mesh r.shape.height = g.rows_is ∙ ap (λ (s : Shape). cells_along g.mesh s.height) c.requires.shape in
-    let from : left ≡ first_before g.mesh r.shape.width c.args.next = c.run_start-left.ensures ∙ ap (λ (n : ℕ). first_before g.mesh n c.args.next) wide in
-    let end : right ≡ first_before g.mesh r.shape.width (c.args.next + 1) =
-    c.run_start-right.ensures ∙ ap (λ (n : ℕ). first_before g.mesh n (c.args.next + 1)) wide in
-    let done : IsLessened r (λ p. steps_on parts level step (p - (c.args.y * r.shape.width + left))) (c.args.y * r.shape.width + left)
-    (c.args.y * r.shape.width + right) c.lessen_slope.new.plane =
-    subst (λ (n : ℕ). IsLessened r (λ p. steps_on parts level step (p - (c.args.y * n + left))) (c.args.y * n + left) (c.args.y * n + right)
-    c.lessen_slope.new.plane) wide
-    (subst (λ (m : ℕ). IsLessened r (λ p. steps_on m level step (p - (c.args.y * g.shape.width + left))) (c.args.y * g.shape.width + left)
-    (c.args.y * g.shape.width + right) c.lessen_slope.new.plane)
-    c.parts_of.ensures.parts c.lessen_slope.ensures) in
+    let done : IsLessened c.args.row.now (λ x. steps_on parts level step (x - left)) left right c.lessen_slope.new.row =
+    subst (λ (m : ℕ). IsLessened c.args.row.now (λ x. steps_on m level step (x - left)) left right c.lessen_slope.new.row)
+    c.parts_of.ensures.parts c.lessen_slope.ensures in
     let all =
-    run-lessened r c.lessen_slope.new.plane g.mesh g.columns g.rows c.args.y c.args.next left right c.args.numbers.now level step g.some columns rows from end
-    run done in
-    subst (λ (m : ℕ). IsLessened r (pixel_level g.mesh r.shape c.args.numbers.now) (c.args.y * r.shape.width + first_before g.mesh r.shape.width c.args.next)
-    (c.args.y * r.shape.width + m) c.lessen_slope.new.plane) end
-    (subst (λ (m : ℕ). IsLessened r (pixel_level g.mesh r.shape c.args.numbers.now) (c.args.y * r.shape.width + m) (c.args.y * r.shape.width + right)
-    c.lessen_slope.new.plane) from all)
+    run-lessened c.args.row.now c.lessen_slope.new.row g.shape g.mesh g.columns g.rows c.args.y c.args.next left right c.args.numbers.now level step g.some
+    g.columns_is g.rows_is c.run_start-left.ensures c.run_start-right.ensures run done in
+    let by : ℕ → ℤ = λ x. pixel_level g.mesh g.shape c.args.numbers.now (c.args.y * g.shape.width + x) in
+    subst (λ (m : ℕ). IsLessened c.args.row.now by (first_before g.mesh g.shape.width c.args.next) m c.lessen_slope.new.row) c.run_start-right.ensures
+    (subst (λ (m : ℕ). IsLessened c.args.row.now by m right c.lessen_slope.new.row) c.run_start-left.ensures all)
 
 pub run_start-left-requires : goal.run_start-left-requires
 run_start-left-requires c = let le : c.args.next ≤ c.args.grid.now.columns = c.requires.next in omega (arith, le)
@@ -231,13 +212,13 @@ pub down_column-before-requires-clause-mesh : goal.down_column-before-requires-c
 down_column-before-requires-clause-mesh c = c.args.grid.now.few
 
 pub down_column-before-requires-clause-in_range : goal.down_column-before-requires-clause-in_range
-down_column-before-requires-clause-in_range c = c.requires.numbers_in_range
+down_column-before-requires-clause-in_range c = c.requires.numbers.in_range
 
 pub down_column-after-requires-clause-mesh : goal.down_column-after-requires-clause-mesh
 down_column-after-requires-clause-mesh c = c.args.grid.now.few
 
 pub down_column-after-requires-clause-in_range : goal.down_column-after-requires-clause-in_range
-down_column-after-requires-clause-in_range c = c.requires.numbers_in_range
+down_column-after-requires-clause-in_range c = c.requires.numbers.in_range
 
 pub level_between-level-requires-clause-part : goal.level_between-level-requires-clause-part
 level_between-level-requires-clause-part c =
@@ -260,36 +241,16 @@ pub step_between-step-requires-clause-second : goal.step_between-step-requires-c
 step_between-step-requires-clause-second c =
     times-kept c.args.grid.now.mesh c.down_column-after.result c.args.grid.now.few c.down_column-after.ensures.in_range
 
-pub overflow_mul-first : goal.overflow_mul-first
-overflow_mul-first c =
-    let g = c.args.grid.now in
-    row-fits g.shape.width g.shape.height c.args.y g.shape.within_limits (subst (λ (s : Shape). c.args.y < s.height) (sym c.requires.shape) c.requires.row)
-
-pub overflow_add-first : goal.overflow_add-first
-overflow_add-first c =
-    let g = c.args.grid.now in
-    let order = run-order g.mesh g.shape.width c.args.next _ _ c.run_start-left.ensures c.run_start-right.ensures in
-    place-fits g.shape.width g.shape.height c.args.y _ g.shape.within_limits
-    (subst (λ (s : Shape). c.args.y < s.height) (sym c.requires.shape) c.requires.row) order.1
-
-pub overflow_add-first-2 : goal.overflow_add-first-2
-overflow_add-first-2 c =
-    let g = c.args.grid.now in
-    let order = run-order g.mesh g.shape.width c.args.next _ _ c.run_start-left.ensures c.run_start-right.ensures in
-    place-fits g.shape.width g.shape.height c.args.y _ g.shape.within_limits
-    (subst (λ (s : Shape). c.args.y < s.height) (sym c.requires.shape) c.requires.row) order.2
-
 pub lessen_slope-requires-clause-order : goal.lessen_slope-requires-clause-order
 lessen_slope-requires-clause-order c =
     let g = c.args.grid.now in
-    let order = run-order g.mesh g.shape.width c.args.next _ _ c.run_start-left.ensures c.run_start-right.ensures in
-    omega (arith, order.0)
+    (run-order g.mesh g.shape.width c.args.next _ _ c.run_start-left.ensures c.run_start-right.ensures).0
 
 pub lessen_slope-requires-clause-within : goal.lessen_slope-requires-clause-within
 lessen_slope-requires-clause-within c =
     let g = c.args.grid.now in
     let order = run-order g.mesh g.shape.width c.args.next _ _ c.run_start-left.ensures c.run_start-right.ensures in
-    row-inside g.shape c.args.plane.now c.args.plane.now c.args.y c.run_start-right.result c.requires.shape c.requires.one_each refl c.requires.row order.2
+    omega (arith, order.2, c.requires.one_each)
 
 pub lessen_slope-requires-clause-some : goal.lessen_slope-requires-clause-some
 lessen_slope-requires-clause-some c = c.parts_of.ensures.some
@@ -309,8 +270,4 @@ pub lessen_slope-requires-clause-step : goal.lessen_slope-requires-clause-step
 lessen_slope-requires-clause-step c = c.step_between-step.ensures.small
 
 pub lessen_slope-requires-clause-in_range : goal.lessen_slope-requires-clause-in_range
-lessen_slope-requires-clause-in_range c =
-    let g = c.args.grid.now in
-    subst (λ (n : ℕ). IsInHalfRangeFrom (c.args.y * g.shape.width + n) c.args.plane.now.values) (sym c.run_start-left.ensures)
-    (subst (λ (s : Shape). IsInHalfRangeFrom (c.args.y * s.width + first_before g.mesh s.width c.args.next) c.args.plane.now.values)
-    (sym c.requires.shape) c.requires.in_range)
+lessen_slope-requires-clause-in_range c = subst (λ (n : ℕ). IsInHalfRangeFrom n c.args.row.now) (sym c.run_start-left.ensures) c.requires.in_range

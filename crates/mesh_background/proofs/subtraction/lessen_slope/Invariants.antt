@@ -4,7 +4,7 @@ use Rattle.mesh_background.specs.Lessened.{IsLessened}
 use Rattle.mesh_background.specs.Slopes.{in_parts, steps_on}
 use Rattle.mesh_background.proofs.subtraction.lessen_slope.Given as goal
 
-abbrev pub invariant-loop-p : goal.invariant-loop-p
-invariant-loop-p l = IsLessened l.fn.plane (λ p. steps_on l.parts l.fn.level l.step (p - l.first)) l.first l.p l.plane
-    × (in_parts l.parts l.at ≡ in_parts l.parts l.fn.level +ℤ pos (l.p - l.first) *ℤ in_parts l.parts l.step)
+abbrev pub invariant-loop-x : goal.invariant-loop-x
+invariant-loop-x l = IsLessened l.fn.row (λ x. steps_on l.parts l.fn.level l.step (x - l.first)) l.first l.x l.row
+    × (in_parts l.parts l.at ≡ in_parts l.parts l.fn.level +ℤ pos (l.x - l.first) *ℤ in_parts l.parts l.step)
     × (l.at.rest < l.parts)

@@ -19,7 +19,7 @@ smooth_mesh-requires-clause-one_each g c =
     (c.deref-2.ensures.value ∙ c.in-Ok.ensures ∙ ap (values_of_mesh r) (sym c.of-grid.ensures.mesh))
 
 pub subtract_levels-requires-clause-numbers : goal.subtract_levels-requires-clause-numbers
-subtract_levels-requires-clause-numbers g c =
+subtract_levels-requires-clause-numbers g c = λ κs within.
     let r : Raster = c.args.plane.now in
     let grid = c.of-grid.result in
     grid-smooth r grid.mesh grid.shape grid.columns grid.rows c.deref-2.result.now c.deref-3.result.now

@@ -1,4 +1,4 @@
-use Rattle.std.proofs.Common.{◌≡◌, ℕ, ◌*◌, ◌/◌, ◌<◌, ◌≤◌, ◌++◌, List, [], ◌∷◌, sym, ap, ◌∙◌, subst, arith}
+use Rattle.std.proofs.Common.{◌≡◌, ℕ, ◌*◌, ◌/◌, ◌<◌, ◌≤◌, ◌++◌, List, [], ◌∷◌, sym, ap, ◌∙◌, subst, arith, mul-le-mul_left}
 use Rattle.tree_join.specs.Cuts.{IsCut}
 use Rattle.strip_crew.specs.Run.{rows_of_cut}
 use Rattle.strip_crew.proofs.EvenCuts.{rows_none, rows_more, even_is_cut}
@@ -16,10 +16,24 @@ loop-i-preserved c =
       (let same = push.capacity in let was = inv.2 in omega arith),
     )
 
+pub overflow_mul-i : goal.overflow_mul-i
+overflow_mul-i c =
+    let product : c.loop-i.i * c.args.height ≤ c.loop-i.i * 65535 = mul-le-mul_left c.loop-i.i c.requires.most_rows in
+    omega (arith, product, c.loop-i-test.true, c.min-count.ensures, c.requires.most_strips)
+
+pub nonzero_div-i : goal.nonzero_div-i
+nonzero_div-i c = omega (arith, c.loop-i-test.true)
+
+pub returns-clause-rows : goal.returns-clause-rows
+returns-clause-rows c =
+    let n = c.min-count.result in let all : c.loop-i.i ≡ n = omega (arith, c.loop-i-test.false, c.loop-i.auto.i-end) in
+    c.loop-i.invariant.0
+    ∙ (ap (rows_of_cut c.args.height n) all ∙ ap (λ (k : ℕ). rows_of_cut c.args.height k k) c.min-count.ensures)
+
 pub returns-clause-cut : goal.returns-clause-cut
 returns-clause-cut c =
     let n = c.min-count.result in
-    let all : c.loop-i.i ≡ n = grind arith in
-    let some_strip : 0 < n = grind arith in
-    let few : n ≤ c.args.height = grind arith in
+    let all : c.loop-i.i ≡ n = omega (arith, c.loop-i-test.false, c.loop-i.auto.i-end) in
+    let some_strip : 0 < n = omega (arith, c.min-count.ensures, c.requires.some_row, c.requires.some_strip) in
+    let few : n ≤ c.args.height = omega (arith, c.min-count.ensures) in
     subst (IsCut c.args.height) (sym (c.loop-i.invariant.0 ∙ ap (rows_of_cut c.args.height n) all)) (even_is_cut c.args.height n some_strip few)

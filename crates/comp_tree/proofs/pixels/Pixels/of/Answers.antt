@@ -7,5 +7,5 @@ use Rattle.comp_tree.proofs.pixels.Pixels.of.Goals as goal
 
 pub returns : goal.returns
 returns c =
-    let size : vec_len c.args.numbers ≡ length c.args.numbers.items = search rules in
-    ap (λ n. kept_pixels n None c.args.numbers.items) (c.len.ensures ∙ size) ∙ kept-each c.args.numbers.items
+    let size : vec_len c.args.pixels ≡ length c.args.pixels.items = search rules in
+    ap (λ n. kept_pixels n None c.args.pixels.items) (c.len.ensures ∙ size) ∙ kept-each c.args.pixels.items

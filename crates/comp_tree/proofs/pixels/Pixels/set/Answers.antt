@@ -1,34 +1,32 @@
-use Rattle.std.proofs.Common.{◌≡◌, ◌<◌, ◌∙◌, sym, subst, length, w64, SFits, rules}
+use Rattle.std.proofs.Common.{◌≡◌, ◌<◌, ◌∙◌, sym, subst, length, rules}
 use Rattle.std.specs.Vec.{vec_len}
 use Rattle.std.specs.Option.{option_map}
-use Rattle.std.proofs.lemmas.Int.{to_z-of_z}
 use Rattle.comp_tree.proofs.Blocks.{kept-length, block-there, place-inside, kept-set, unkept-set}
 use Rattle.comp_tree.proofs.pixels.Pixels.set.Goals as goal
 
 pub place_of-requires : goal.place_of-requires
 place_of-requires c =
-    let within : c.args.p < c.self.inside.count = subst (λ n. c.args.p < n) (kept-length _ _ _) (rw (← c.self.view_is) at c.requires.pixel) in
-    block-there (λ runs. runs.items) c.self.inside.count c.self.inside.runs c.self.inside.numbers.items c.args.p c.self.invariant within
+    let within : c.args.p < c.self.inside.count = subst (λ n. c.args.p < n) (kept-length _ _ _) (rw (← c.self.view_is) at c.requires.inside) in
+    block-there (λ runs. runs.items) c.self.inside.count c.self.inside.runs c.self.inside.kept.items c.args.p c.self.invariant within
 
 pub index_mut-requires : goal.index_mut-requires
 index_mut-requires c =
-    let within : c.args.p < c.self.inside.count = subst (λ n. c.args.p < n) (kept-length _ _ _) (rw (← c.self.view_is) at c.requires.pixel) in
-    let size : length c.self.inside.numbers.items ≡ vec_len c.self.inside.numbers = search rules in
+    let within : c.args.p < c.self.inside.count = subst (λ n. c.args.p < n) (kept-length _ _ _) (rw (← c.self.view_is) at c.requires.inside) in
+    let size : length c.self.inside.kept.items ≡ vec_len c.self.inside.kept = search rules in
     subst (λ n. c.in-Some.place < n) size
-    (place-inside c.self.inside.count (option_map (λ runs. runs.items) c.self.inside.runs) c.self.inside.numbers.items c.args.p c.in-Some.place
+    (place-inside c.self.inside.count (option_map (λ runs. runs.items) c.self.inside.runs) c.self.inside.kept.items c.args.p c.in-Some.place
     c.self.invariant within (sym c.place_of.ensures ∙ c.in-Some.is))
 
 pub returns-in-Some : goal.returns-in-Some
 returns-in-Some c =
-    let fits : SFits w64 c.args.number = search rules in
-    let within : c.args.p < c.self.inside.count = subst (λ n. c.args.p < n) (kept-length _ _ _) (rw (← c.self.view_is) at c.requires.pixel) in
-    rw (to_z-of_z w64 c.args.number fits, ← c.self.view_is)
-    (kept-set c.self.inside.count (option_map (λ runs. runs.items) c.self.inside.runs) c.self.inside.numbers.items c.args.p c.in-Some.place
-    c.args.number c.self.invariant within (sym c.place_of.ensures ∙ c.in-Some.is))
+    let within : c.args.p < c.self.inside.count = subst (λ n. c.args.p < n) (kept-length _ _ _) (rw (← c.self.view_is) at c.requires.inside) in
+    rw (← c.self.view_is)
+    (kept-set c.self.inside.count (option_map (λ runs. runs.items) c.self.inside.runs) c.self.inside.kept.items c.args.p c.in-Some.place
+    c.args.pixel c.self.invariant within (sym c.place_of.ensures ∙ c.in-Some.is))
 
 pub returns-in_default : goal.returns-in_default
 returns-in_default c =
-    let within : c.args.p < c.self.inside.count = subst (λ n. c.args.p < n) (kept-length _ _ _) (rw (← c.self.view_is) at c.requires.pixel) in
+    let within : c.args.p < c.self.inside.count = subst (λ n. c.args.p < n) (kept-length _ _ _) (rw (← c.self.view_is) at c.requires.inside) in
     rw (← c.self.view_is)
-    (unkept-set c.self.inside.count (option_map (λ runs. runs.items) c.self.inside.runs) c.self.inside.numbers.items c.args.p c.args.number within
+    (unkept-set c.self.inside.count (option_map (λ runs. runs.items) c.self.inside.runs) c.self.inside.kept.items c.args.p c.args.pixel within
     (sym c.place_of.ensures ∙ c.in_default.is) (rw (← c.self.view_is) at c.requires.defined))

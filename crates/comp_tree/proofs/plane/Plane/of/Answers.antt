@@ -1,7 +1,5 @@
-use Rattle.std.proofs.Common.{◌≡◌, ◌∙◌, ◌*◌, true, false, length, map, Some, ap, sym, subst}
+use Rattle.std.proofs.Common.{◌≡◌, ◌∙◌, ◌*◌, true, false, length, Some, ap, sym, subst}
 use Rattle.std.specs.List.{list_all}
-use Rattle.std.proofs.lemmas.List.{length-map}
-use Rattle.comp_tree.specs.Stored.{pixel_of as pixel_kept_as}
 use Rattle.comp_tree.specs.Raster.{is_pixel_value as may_stand}
 use Rattle.comp_tree.specs.Raster.{HasValuesInRange}
 use Rattle.comp_tree.proofs.Values.{of_other_count, of_other_values, of_values, in_range-of_test}
@@ -10,25 +8,26 @@ use Rattle.comp_tree.proofs.plane.Plane.of.Goals as goal
 pub returns-then-values-pixels : goal.returns-then-values-pixels
 returns-then-values-pixels c = sym (of_other_count c.args.shape c.args.values.now (λ e. c.if-values-pixels.true (e ∙ sym c.pixels.ensures.product)))
 
-pub of_numbers-requires-clause-one_each : goal.of_numbers-requires-clause-one_each
-of_numbers-requires-clause-one_each c =
-    let kept : map pixel_kept_as c.in-Some.numbers.items ≡ c.args.values.now = rw c.in-Some.is at c.in_ok-numbers.ensures.kept in
-    sym (length-map c.in-Some.numbers.items pixel_kept_as) ∙ ap length kept ∙ c.if-values-pixels.false ∙ c.pixels.ensures.product
+pub of_pixels-requires-clause-one_each : goal.of_pixels-requires-clause-one_each
+of_pixels-requires-clause-one_each c =
+    let same : c.in-Some.pixels.items ≡ c.args.values.now = rw c.in-Some.is at c.in_ok-pixels.ensures.same in
+    ap length same ∙ c.if-values-pixels.false ∙ c.pixels.ensures.product
 
-pub of_numbers-requires-clause-in_range : goal.of_numbers-requires-clause-in_range
-of_numbers-requires-clause-in_range c =
-    let kept : map pixel_kept_as c.in-Some.numbers.items ≡ c.args.values.now = rw c.in-Some.is at c.in_ok-numbers.ensures.kept in
-    let there : true ≡ list_all may_stand c.args.values.now = rw c.in-Some.is at c.in_ok-numbers.ensures.there in
-    subst (λ l. HasValuesInRange l) (sym kept) (in_range-of_test c.args.values.now (sym there))
+pub of_pixels-requires-clause-in_range : goal.of_pixels-requires-clause-in_range
+of_pixels-requires-clause-in_range c =
+    let same : c.in-Some.pixels.items ≡ c.args.values.now = rw c.in-Some.is at c.in_ok-pixels.ensures.same in
+    let there : true ≡ list_all may_stand c.args.values.now = rw c.in-Some.is at c.in_ok-pixels.ensures.there in
+    subst (λ l. HasValuesInRange l) (sym same) (in_range-of_test c.args.values.now (sym there))
 
 pub returns-in-Some : goal.returns-in-Some
 returns-in-Some c =
-    let kept : map pixel_kept_as c.in-Some.numbers.items ≡ c.args.values.now = rw c.in-Some.is at c.in_ok-numbers.ensures.kept in
-    let there : true ≡ list_all may_stand c.args.values.now = rw c.in-Some.is at c.in_ok-numbers.ensures.there in
+    let same : c.in-Some.pixels.items ≡ c.args.values.now = rw c.in-Some.is at c.in_ok-pixels.ensures.same in
+    let there : true ≡ list_all may_stand c.args.values.now = rw c.in-Some.is at c.in_ok-pixels.ensures.there in
     let count : length c.args.values.now ≡ c.args.shape.width * c.args.shape.height = c.if-values-pixels.false ∙ c.pixels.ensures.product in
-    ap Some c.of_numbers.ensures ∙ ap (λ l. Some (record { shape = c.args.shape; values = l })) kept ∙ sym (of_values c.args.shape c.args.values.now count (sym there))
+    ap Some c.of_pixels.ensures ∙ ap (λ l. Some (record { shape = c.args.shape; values = l })) same
+    ∙ sym (of_values c.args.shape c.args.values.now count (sym there))
 
 pub returns-in-None : goal.returns-in-None
 returns-in-None c =
-    let there : false ≡ list_all may_stand c.args.values.now = rw c.in-None.is at c.in_ok-numbers.ensures.there in
+    let there : false ≡ list_all may_stand c.args.values.now = rw c.in-None.is at c.in_ok-pixels.ensures.there in
     sym (of_other_values c.args.shape c.args.values.now (sym there))

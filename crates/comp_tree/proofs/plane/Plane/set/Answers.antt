@@ -1,6 +1,5 @@
-use Rattle.std.proofs.Common.{◌≡◌, ◌∙◌, sym, ap, subst, length, w64, SFits, rules}
+use Rattle.std.proofs.Common.{◌≡◌, ◌∙◌, sym, ap, subst, length}
 use Rattle.std.specs.Prelude.{slice_set}
-use Rattle.std.proofs.lemmas.Int.{to_z-of_z}
 use Rattle.std.proofs.lemmas.List.{length-set}
 use Rattle.comp_tree.specs.Raster.{HasValuesInRange}
 use Rattle.comp_tree.proofs.Values.{in_range-set}
@@ -8,9 +7,8 @@ use Rattle.comp_tree.proofs.plane.Plane.set.Goals as goal
 
 pub invariant_of-self : goal.invariant_of-self
 invariant_of-self c =
-    let fits : SFits w64 c.number_of.result = search rules in
     let put : c.set.new.self ≡ slice_set c.self.inside.pixels c.args.p c.args.value =
-    c.set.ensures ∙ ap (slice_set c.self.inside.pixels c.args.p) (rw (to_z-of_z w64 c.number_of.result fits) c.number_of.ensures) in (
+    c.set.ensures ∙ ap (slice_set c.self.inside.pixels c.args.p) c.of.ensures in (
       ap length put ∙ length-set c.self.inside.pixels c.args.p c.args.value ∙ c.self.invariant.0,
       subst HasValuesInRange (sym put) (in_range-set c.self.inside.pixels c.args.p c.args.value c.self.invariant.1 c.requires.in_range),
     )

@@ -1,0 +1,22 @@
+use Rattle.std.proofs.Common.{◌∙◌, take_all, ap, sym, refl}
+use Rattle.std.specs.List.{list_all}
+use Rattle.comp_tree.proofs.Values.{kept_more}
+use Rattle.comp_tree.specs.Raster.{is_pixel_value as may_stand}
+use Rattle.comp_tree.proofs.plane.pixels_of.Goals as goal
+
+pub loop-value-init : goal.loop-value-init
+loop-value-init c = (c.in_ok-pixels.ensures.items, refl)
+
+pub loop-value-preserved : goal.loop-value-preserved
+loop-value-preserved c =
+    let more : _ =
+    kept_more c.loop-value.pixels.items c.args.values.now c.loop-value.value-index c.of.result _ c.loop-value-test.true c.loop-value.invariant
+    c.of.ensures (sym c.if-not-is_pixel_value.ensures.test) in
+    (c.in_ok-push.ensures.items ∙ more.0, more.1)
+
+pub returns-clause-there : goal.returns-clause-there
+returns-clause-there c =
+    sym c.loop-value.invariant.1 ∙ ap (list_all may_stand) (take_all c.loop-value.value-index c.args.values.now c.loop-value-test.false)
+
+pub returns-clause-same : goal.returns-clause-same
+returns-clause-same c = c.loop-value.invariant.0 ∙ take_all c.loop-value.value-index c.args.values.now c.loop-value-test.false
