@@ -1,32 +1,34 @@
 -- Pixels that are kept in blocks are the same as those of which each is kept.
 use Rattle.std.proofs.Common.{◌≡◌, ◌≢◌, ◌∙◌, ℕ, ◌+◌, ◌-◌, ◌*◌, ◌/◌, ◌%◌, ◌==◌, ◌<◌, ◌≤◌, Bool, true, false, ◌⊎◌, inl, inr, List, [], ◌∷◌, ◌++◌}
-use Rattle.std.proofs.Common.{length, map, min, take, drop, get_or, set, refl, sym, ap, subst, arith}
+use Rattle.std.proofs.Common.{length, map, min, get_or, set, refl, sym, ap, subst, arith}
 use Rattle.std.specs.Prelude.{Result, Ok, Err, IfOk, OnOk}
 use Rattle.std.specs.Prelude.{ℤ, Option, Some, None, IfSome, IsTrue, is_some, slice_set, nat_le, nat_lt, ◌&&◌, if◌then◌else◌}
 use Rattle.std.specs.Option.{option_map}
 use Rattle.std.proofs.lemmas.List.{ext_get_or, length-set, get_or-set_same, get_or-set_other, set-get_or}
 use Rattle.std.proofs.lemmas.List.{get_or_append_left, get_or_push, get_or_past, get_or-append-add, get_or_default}
-use Rattle.std.proofs.lemmas.List.{length-append, get_or-take, get_or-drop, length-take-le, length-drop}
+use Rattle.std.proofs.lemmas.List.{length-append}
 use Rattle.std.proofs.lemmas.List.FromFn.{length-map-range_with_len, get_or-map-range_with_len, map-range_with_len_more}
 use Rattle.std.proofs.lemmas.Bool.{eqb-true, eqb-false, cases_lt, le-leb, lt-ltb, le-ltb, lt-leb}
 use Rattle.comp_tree.specs.declared.pixels.Run.{Run}
 use Rattle.comp_tree.specs.Raster.{value_at, HasGap}
 use Rattle.comp_tree.specs.Stored.{empty_run, run_of_block, place_in_run}
 use Rattle.comp_tree.specs.Stored.{kept_place, kept_value, kept_pixels, AreRunsApart, AreKept, AreBlocksOf}
-use Rattle.comp_tree.specs.Stored.{AreUnmarked, value_if_marked, marked_values}
+use Rattle.comp_tree.specs.Stored.{marked_values, shown_values}
 use Rattle.std.specs.List.{range_with_len}
+use denote.Ref.{Bor}
 use Rattle.std.specs.Prelude.{cond, slice_index_or}
 
 -- ---- the values of marked pixels
 
 pub length-marked : (values : List (Option ℤ)) (marks : List Bool) → length (marked_values values marks) ≡ length values
 unfolding marked_values
-length-marked values marks = length-map-range_with_len (value_if_marked values marks) 0 (length values)
+length-marked values marks = length-map-range_with_len (λ p. cond (slice_index_or marks p false) (value_at values p) None) 0 (length values)
 
 pub marked-at : (values : List (Option ℤ)) (marks : List Bool) (p : ℕ) → p < length values
     → value_at (marked_values values marks) p ≡ cond (slice_index_or marks p false) (value_at values p) None
-unfolding marked_values value_if_marked
-marked-at values marks p lt = get_or-map-range_with_len (value_if_marked values marks) 0 (length values) p p None lt (omega arith)
+unfolding marked_values
+marked-at values marks p lt =
+    get_or-map-range_with_len (λ q. cond (slice_index_or marks q false) (value_at values q) None) 0 (length values) p p None lt (omega arith)
 
 -- ---- one pixel
 
@@ -346,13 +348,6 @@ min-reaches a b r e = go (cases_lt a b)
     go (inl lt) = inr (omega (arith, e, lt))
     go (inr ge) = inl (omega (arith, e, ge))
 
--- a part of a list
-pub part-length : (n m : ℕ) (xs : List (Option ℤ)) → m + n ≤ length xs → length (take n (drop m xs)) ≡ n
-part-length n m xs inside = length-take-le n (drop m xs) (omega (arith, inside, length-drop m xs))
-
-pub part-at : (n m i : ℕ) (xs : List (Option ℤ)) → i < n → get_or (take n (drop m xs)) i None ≡ value_at xs (m + i)
-part-at n m i xs lt = get_or-take n (drop m xs) i None lt ∙ get_or-drop m xs i None
-
 -- blocks for all pixels
 pub kept-in-blocks : (k : ℕ) (runs : List Run) (kept values : List (Option ℤ)) → length values ≤ k * 32 → AreBlocksOf k runs kept values
     → kept_pixels (length values) (Some runs) kept ≡ values
@@ -362,31 +357,42 @@ kept-in-blocks k runs kept values enough blocks =
     let lt : i < length values = subst (λ n. i < n) (kept-length (length values) (Some runs) kept) within in
     kept-at (length values) (Some runs) kept i lt ∙ blocks.same i (omega (arith, lt, enough)))
 
--- ---- marked pixels
+-- ---- pixels as they are shown
 
--- what is not marked has no value
-pub gap-unmarked : (values : List (Option ℤ)) (marks : List Bool) (first end : ℕ) → AreUnmarked marks first end
-    → HasGap (marked_values values marks) first end
-gap-unmarked values marks first end none p low high = at (cases_lt p (length values))
-  where
-    at : (p < length values) ⊎ (length values ≤ p) → value_at (marked_values values marks) p ≡ None
-    at (inl lt) = marked-at values marks p lt ∙ ap (λ b. cond b (value_at values p) None) (none p low high)
-    at (inr ge) = get_or_past (marked_values values marks) p None (omega (arith, ge, length-marked values marks))
+pub length-shown : (values : List (Option ℤ)) (marks : Option (Bor (List Bool))) → length (shown_values values marks) ≡ length values
+unfolding shown_values
+length-shown values None = refl
+length-shown values (Some marks) = length-marked values marks.now
 
--- a part of these values
-pub marked-part : (values : List (Option ℤ)) (marks : List Bool) (first n i : ℕ) → i < n → first + n ≤ length values
-    → get_or (map (value_if_marked values marks) (range_with_len first n)) i None ≡ value_at (marked_values values marks) (first + i)
-unfolding marked_values
-marked-part values marks first n i lt inside =
-    get_or-map-range_with_len (value_if_marked values marks) first n i (first + i) None lt (omega arith)
-    ∙ sym (get_or-map-range_with_len (value_if_marked values marks) 0 (length values) (first + i) (first + i) None (omega (arith, lt, inside)) (omega arith))
+pub shown-none : (values : List (Option ℤ)) → shown_values values None ≡ values
+unfolding shown_values
+shown-none values = refl
 
-pub marked-more : (values : List (Option ℤ)) (marks : List Bool) (first p : ℕ) → first ≤ p
-    → map (value_if_marked values marks) (range_with_len first (p + 1 - first))
-    ≡ map (value_if_marked values marks) (range_with_len first (p - first)) ++ value_if_marked values marks p ∷ []
-marked-more values marks first p low =
-    ap (λ n. map (value_if_marked values marks) (range_with_len first n)) (let e : p + 1 - first ≡ p - first + 1 = omega (arith, low) in e)
-    ∙ map-range_with_len_more (value_if_marked values marks) first (p - first) p (omega (arith, low))
+pub shown-some : (values : List (Option ℤ)) (marks : Bor (List Bool)) → shown_values values (Some marks) ≡ marked_values values marks.now
+unfolding shown_values
+shown-some values marks = refl
+
+-- a pixel without marks, and one with them
+pub shown-all : (values : List (Option ℤ)) (marks : Option (Bor (List Bool))) (value : Option ℤ) (p : ℕ) → marks ≡ None → p < length values
+    → value ≡ get_or values p value → value ≡ value_at (shown_values values marks) p
+shown-all values marks value p e inside is =
+    is ∙ get_or_default values p value None inside ∙ sym (ap (λ o. value_at (shown_values values o) p) e ∙ ap (λ vs. get_or vs p None) (shown-none values))
+
+pub shown-marked : (values : List (Option ℤ)) (marks : Option (Bor (List Bool))) (m : Bor (List Bool)) (p : ℕ) → marks ≡ Some m → p < length values
+    → cond (slice_index_or m.now p false) (value_at values p) None ≡ value_at (shown_values values marks) p
+shown-marked values marks m p e inside =
+    sym (ap (λ o. value_at (shown_values values o) p) e ∙ ap (λ vs. get_or vs p None) (shown-some values m) ∙ marked-at values m.now p inside)
+
+-- a part of some values
+pub part-at : (values : List (Option ℤ)) (first n i : ℕ) → i < n
+    → get_or (map (value_at values) (range_with_len first n)) i None ≡ value_at values (first + i)
+part-at values first n i lt = get_or-map-range_with_len (value_at values) first n i (first + i) None lt (omega arith)
+
+pub part-more : (values : List (Option ℤ)) (first p : ℕ) → first ≤ p
+    → map (value_at values) (range_with_len first (p + 1 - first)) ≡ map (value_at values) (range_with_len first (p - first)) ++ value_at values p ∷ []
+part-more values first p low =
+    ap (λ n. map (value_at values) (range_with_len first n)) (let e : p + 1 - first ≡ p - first + 1 = omega (arith, low) in e)
+    ∙ map-range_with_len_more (value_at values) first (p - first) p (omega (arith, low))
 
 -- ---- what holds where there is an answer
 

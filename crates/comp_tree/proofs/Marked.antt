@@ -10,7 +10,7 @@ use Rattle.comp_tree.specs.Limits.{IsWithinRange}
 use Rattle.std.proofs.lemmas.Option.{get_or_from_slice_get, slice_get_within}
 use Rattle.comp_tree.proofs.Values.{in_range-value}
 use Rattle.comp_tree.proofs.Blocks.{length-marked, marked-at}
-use Rattle.comp_tree.specs.Stored.{IsClearedUpTo, marked_values, value_if_marked}
+use Rattle.comp_tree.specs.Stored.{IsClearedUpTo, marked_values}
 
 pub cleared_all : (r plane : Raster) (marks : List Bool) (count : ℕ) → IsClearedUpTo r marks count plane → length r.values ≤ count
     → plane ≡ without_unmarked r marks
@@ -31,7 +31,7 @@ cleared_all r plane marks count h all = ap (λ (s : Shape). let x : Raster = rec
 
 pub from-marked_values : (r : Raster) (marks : List Bool)
     → (let x : Raster = record { shape = r.shape; values = marked_values r.values marks } in x) ≡ without_unmarked r marks
-unfolding without_unmarked marked_values value_if_marked pixels
+unfolding without_unmarked marked_values pixels
 from-marked_values r marks = refl
 
 -- a marked pixel's value is one of the plane's

@@ -1,12 +1,12 @@
--- What is done to the pixels of a plane in bands.
+-- Model: what is done to the pixels of a plane in bands.
 use Rattle.std.specs.Prelude.{ℕ, ℤ, List, Option}
 use Rattle.std.specs.Fork.{IsChunk}
 use denote.Ref.{MutBor}
 use denote.Param.Members.{Shared}
 use Rattle.comp_tree.specs.Raster.{HasValuesInRange}
 
-module _ {F : Type 0} (g : Shared F (ℕ × (MutBor (List (Option ℤ)) × Unit {0})) (Unit {0} × (MutBor (List (Option ℤ)) × Unit {0}))) (f : F) (size : ℕ) where
-  -- whatever a call of f with a band of these values may leave is within the range of pixels
-  abbrev pub LeavesInRange : List (Option ℤ) → Type 0
-  LeavesInRange values = (start : ℕ) (band after : MutBor (List (Option ℤ))) → IsChunk values size start band.now
-      → g.post f (start, (band, tt)) (tt, (after, tt)) → HasValuesInRange after.now
+-- whatever a call of f with a band of these values may leave is within the range of pixels
+abbrev pub LeavesInRange : {F : Type 0} → Shared F (ℕ × (MutBor (List (Option ℤ)) × Unit {0})) (Unit {0} × (MutBor (List (Option ℤ)) × Unit {0}))
+    → F → ℕ → List (Option ℤ) → Type 0
+LeavesInRange g f size values = (start : ℕ) (band after : MutBor (List (Option ℤ))) → IsChunk values size start band.now
+    → g.post f (start, (band, tt)) (tt, (after, tt)) → HasValuesInRange after.now

@@ -13,15 +13,15 @@ unfoldable pub pixel_of : ℤ → Option ℤ
 pixel_of number = cond (int_eq number undefined_number) None (Some number)
 
 -- the number that a pixel with this value is kept as
-abbrev pub number_of : Option ℤ → ℤ
-number_of None = undefined_number
-number_of (Some v) = v
+abbrev pub kept_number : Option ℤ → ℤ
+kept_number None = undefined_number
+kept_number (Some v) = v
 
 -- no number is lost
-pub number_of-pixel_of : (number : ℤ) → number_of (pixel_of number) ≡ number
+pub kept_number-same : (number : ℤ) → kept_number (pixel_of number) ≡ number
 unfolding pixel_of
-number_of-pixel_of number = go (int_eq number undefined_number) refl
+kept_number-same number = go (int_eq number undefined_number) refl
   where
-    go : (b : Bool) → int_eq number undefined_number ≡ b → number_of (cond b None (Some number)) ≡ number
+    go : (b : Bool) → int_eq number undefined_number ≡ b → kept_number (cond b None (Some number)) ≡ number
     go true e = sym (int_eq-true number undefined_number e)
     go false e = refl

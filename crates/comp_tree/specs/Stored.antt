@@ -3,6 +3,7 @@
 use Rattle.std.specs.Prelude.{◌≡◌, ℕ, ◌+◌, ◌-◌, ◌*◌, ◌/◌, ◌%◌, ◌<◌, ◌≤◌, ℤ, List, length, map, slice_index_or, Option, Some, None}
 use Rattle.std.specs.Prelude.{Bool, false, cond, if◌then◌else◌, ◌&&◌, nat_le, nat_lt}
 use Rattle.std.specs.List.{range_with_len}
+use denote.Ref.{Bor}
 use Rattle.comp_tree.specs.declared.pixels.Run.{Run}
 use Rattle.comp_tree.specs.Raster.{Raster, value_at}
 
@@ -57,14 +58,11 @@ pub record IsClearedUpTo (r : Raster) (marks : List Bool) (count : ℕ) (plane :
   pub done : (p : ℕ) → p < count → value_at plane.values p ≡ cond (slice_index_or marks p false) (value_at r.values p) None
   pub rest : (p : ℕ) → count ≤ p → value_at plane.values p ≡ value_at r.values p
 
--- no pixel from the first one up to the end is marked
-abbrev pub AreUnmarked : List Bool → ℕ → ℕ → Type 0
-AreUnmarked marks first end = (p : ℕ) → first ≤ p → p < end → slice_index_or marks p false ≡ false
-
--- the value of pixel p if it is marked, and else none
-unfoldable pub value_if_marked : List (Option ℤ) → List Bool → ℕ → Option ℤ
-value_if_marked values marks p = cond (slice_index_or marks p false) (value_at values p) None
-
 -- the values of the pixels that are marked, and none for the others
 unfoldable pub marked_values : List (Option ℤ) → List Bool → List (Option ℤ)
-marked_values values marks = map (value_if_marked values marks) (range_with_len 0 (length values))
+marked_values values marks = map (λ p. cond (slice_index_or marks p false) (value_at values p) None) (range_with_len 0 (length values))
+
+-- the same, where there are marks, and else the values of all pixels
+unfoldable pub shown_values : List (Option ℤ) → Option (Bor (List Bool)) → List (Option ℤ)
+shown_values values None = values
+shown_values values (Some marks) = marked_values values marks.now

@@ -18,17 +18,17 @@ pub struct Pixel {
 
 impl Model for Pixel {
     ghost use Rattle.std.specs.Prelude.{Option, ℤ};
-    ghost use Rattle.comp_tree.specs.Numbers.{pixel_of, number_of, number_of-pixel_of};
+    ghost use Rattle.comp_tree.specs.Numbers.{pixel_of, kept_number, kept_number-same};
 
     ghost Value = { Option ℤ };
 
     ghost view = { λ pixel. pixel_of pixel.number };
 
-    ghost inverse = { λ value. record { number = number_of value } };
+    ghost inverse = { λ value. record { number = kept_number value } };
 
     ghost use Rattle.std.proofs.Common.{ap};
 
-    ghost inverse_ok = { λ pixel _. ap (λ number. record { number = number }) (number_of-pixel_of pixel.number) };
+    ghost inverse_ok = { λ pixel _. ap (λ number. record { number = number }) (kept_number-same pixel.number) };
 }
 
 impl Pixel {

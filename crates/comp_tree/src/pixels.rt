@@ -1,12 +1,13 @@
 //! How a plane keeps its pixels: each of them, or, where few are defined, of each block of 32 pixels those from its first defined pixel
 //! to its last.
 
-ghost use Rattle.std.specs.Prelude.{◌≡◌, ℕ, ◌+◌, ◌-◌, ◌*◌, ◌++◌, ◌^◌, ◌<◌, ◌≤◌, None, length, map, IfOk, OnOk, OnErr, IfSome, IsTrue, is_some, slice_set};
+ghost use Rattle.std.specs.Prelude.{◌≡◌, ℕ, ◌+◌, ◌-◌, ◌*◌, ◌++◌, ◌^◌, ◌<◌, ◌≤◌, None, false, cond, slice_index_or, length};
+ghost use Rattle.std.specs.Prelude.{map, IfOk, OnOk, OnErr, IfSome, IsTrue, is_some, slice_set};
 ghost use Rattle.std.specs.Fork.{AcceptsChunksMut, AllInChunks};
 ghost use Rattle.comp_tree.specs.Raster.{value_at, HasGap, HasValuesInRange};
 ghost use Rattle.std.specs.Option.{option_map};
 ghost use Rattle.comp_tree.specs.Stored.{kept_place, place_in_run as place_in_run_of, AreBlocksOf};
-ghost use Rattle.comp_tree.specs.Stored.{AreUnmarked, value_if_marked, marked_values};
+ghost use Rattle.comp_tree.specs.Stored.{shown_values};
 ghost use Rattle.std.specs.List.{range_with_len};
 
 use crate::pixel::Pixel;
@@ -152,29 +153,20 @@ impl Pixels {
         }
     }
 
-    // The same pixels in blocks, if they aren't kept so and at most a quarter of them remains.
-    pub(crate) fn in_blocks(&self, alloc: Global) -> Result<Option<Pixels>, OutOfMemory>
-        requires { length self.now ≤ 2 ^ 24 }
-        ensures { IfOk result (λ made. IfSome made (λ pixels. pixels ≡ self.now)) }
-    {
-        match &self.runs {
-            None => blocks_of(alloc, &self.kept),
-            Some(_) => Ok(None),
-        }
-    }
-
-    // The marked pixels in blocks, with the others undefined, if these aren't kept so and at most a quarter of them remains.
-    pub(crate) fn marked_in_blocks(
+    // The same pixels in blocks, those undefined that aren't marked, if they aren't kept so and at most a quarter of them remains.
+    // Without marks all are shown.
+    pub(crate) fn in_blocks(
         &self,
         alloc: Global,
-        marks: &[bool],
+        marks: Option<&[bool]>,
     ) -> Result<Option<Pixels>, OutOfMemory>
         requires few { length self.now ≤ 2 ^ 24 }
-        requires one_each { length marks.now ≡ length self.now }
-        ensures { IfOk result (λ made. IfSome made (λ pixels. pixels ≡ marked_values self.now marks.now)) }
+        requires one_each { IfSome marks (λ marks. length marks.now ≡ length self.now) }
+        ensures { IfOk result (λ made. IfSome made
+            (λ pixels. pixels ≡ shown_values self.now marks.entry)) }
     {
         match &self.runs {
-            None => blocks_of_marked(alloc, &self.kept, marks),
+            None => blocks_of(alloc, &self.kept, marks),
             Some(_) => Ok(None),
         }
     }
@@ -247,23 +239,29 @@ fn copy_if_there(alloc: Global, runs: &Option<Vec<Run>>) -> Result<Option<Vec<Ru
     Ok(Some(copy))
 }
 
-// These pixels in blocks, if at most a quarter of them remains.
-fn blocks_of(alloc: Global, values: &[Pixel]) -> Result<Option<Pixels>, OutOfMemory>
-    requires { length values.now ≤ 2 ^ 24 }
-    ensures { IfOk result (λ made. IfSome made (λ pixels. pixels ≡ values.now)) }
+// These pixels in blocks, those undefined that aren't marked, if at most a quarter of them remains. Without marks all are shown.
+fn blocks_of(
+    alloc: Global,
+    pixels: &[Pixel],
+    marks: Option<&[bool]>,
+) -> Result<Option<Pixels>, OutOfMemory>
+    requires few { length pixels.now ≤ 2 ^ 24 }
+    requires one_each { IfSome marks (λ marks. length marks.now ≡ length pixels.now) }
+    ensures { IfOk result (λ made. IfSome made
+        (λ made. made ≡ shown_values pixels.now marks.entry)) }
 {
-    let count = values.len().div_ceil(BLOCK);
+    let count = pixels.len().div_ceil(BLOCK);
     let mut runs = Vec::with_capacity(alloc, count)?;
     // room that isn't used takes no memory until it is written to
-    let mut kept = Vec::with_capacity(alloc, values.len() / 4)?;
+    let mut kept = Vec::with_capacity(alloc, pixels.len() / 4)?;
     for block in 0..count {
-        add_block(&mut runs, &mut kept, values, block)?;
-        if kept.len() > values.len() / 4 {
+        add_block(&mut runs, &mut kept, pixels, marks, block)?;
+        if kept.len() > pixels.len() / 4 {
             return Ok(None);
         }
     }
     Ok(Some(Pixels {
-        count: values.len(),
+        count: pixels.len(),
         runs: Some(runs),
         kept,
     }))
@@ -273,170 +271,106 @@ fn blocks_of(alloc: Global, values: &[Pixel]) -> Result<Option<Pixels>, OutOfMem
 fn add_block(
     runs: &mut Vec<Run>,
     kept: &mut Vec<Pixel>,
-    values: &[Pixel],
+    pixels: &[Pixel],
+    marks: Option<&[bool]>,
     block: usize,
 ) -> Result<(), OutOfMemory>
-    requires few { length values.now ≤ 2 ^ 24 }
-    requires inside { block * 32 < length values.now }
-    requires before { AreBlocksOf block runs.old.items kept.old.items values.now }
-    ensures { OnOk result (AreBlocksOf (block + 1) runs.new.items kept.new.items values.now) }
+    requires few { length pixels.now ≤ 2 ^ 24 }
+    requires one_each { IfSome marks (λ marks. length marks.now ≡ length pixels.now) }
+    requires inside { block * 32 < length pixels.now }
+    requires before { AreBlocksOf block runs.old.items kept.old.items
+        (shown_values pixels.now marks) }
+    ensures { OnOk result (AreBlocksOf (block + 1) runs.new.items kept.new.items
+        (shown_values pixels.now marks.entry)) }
 {
     let low = block * BLOCK;
-    let high = values.len().min(low + BLOCK);
-    let first = first_defined(values, low, high);
-    let end = end_of_defined(values, first, high);
+    let high = pixels.len().min(low + BLOCK);
+    let first = first_shown(pixels, marks, low, high);
+    let end = end_of_shown(pixels, marks, first, high);
     let run = Run {
         start: kept.len() as u32,
         first: (first - low) as u8,
         end: (end - low) as u8,
     };
     runs.push(run)?;
-    kept.extend_from_slice(&values[first..end])?;
+    push_shown(kept, pixels, marks, first, end)
+}
+
+// Adds some pixels as they are shown.
+fn push_shown(
+    kept: &mut Vec<Pixel>,
+    pixels: &[Pixel],
+    marks: Option<&[bool]>,
+    first: usize,
+    end: usize,
+) -> Result<(), OutOfMemory>
+    requires one_each { IfSome marks (λ marks. length marks.now ≡ length pixels.now) }
+    requires order { first ≤ end }
+    requires inside { end ≤ length pixels.now }
+    ensures { OnOk result (kept.new.items ≡ kept.old.items
+        ++ map (value_at (shown_values pixels.now marks.entry))
+        (range_with_len first (end - first))) }
+{
+    for p in first..end {
+        kept.push(shown(pixels, marks, p))?;
+    }
     Ok(())
 }
 
-// The first of some pixels that is defined, or their end where none is.
-fn first_defined(values: &[Pixel], low: usize, high: usize) -> usize
+// The first of some pixels that is shown, or their end where none is.
+fn first_shown(pixels: &[Pixel], marks: Option<&[bool]>, low: usize, high: usize) -> usize
+    requires one_each { IfSome marks (λ marks. length marks.now ≡ length pixels.now) }
     requires order { low ≤ high }
-    requires inside { high ≤ length values.now }
+    requires inside { high ≤ length pixels.now }
     ensures low { low ≤ result }
     ensures high { result ≤ high }
-    ensures none_before { HasGap values.now low result }
+    ensures none_before { HasGap (shown_values pixels.now marks.entry)
+        low result }
 {
     let mut first = low;
-    while first < high && values[first].value().is_none() {
+    while first < high && shown(pixels, marks, first).value().is_none() {
         first += 1;
     }
     first
 }
 
-// The pixel after the last of some that is defined, or the first where none is.
-fn end_of_defined(values: &[Pixel], low: usize, high: usize) -> usize
+// The pixel after the last of some that is shown, or the first where none is.
+fn end_of_shown(pixels: &[Pixel], marks: Option<&[bool]>, low: usize, high: usize) -> usize
+    requires one_each { IfSome marks (λ marks. length marks.now ≡ length pixels.now) }
     requires order { low ≤ high }
-    requires inside { high ≤ length values.now }
+    requires inside { high ≤ length pixels.now }
     ensures low { low ≤ result }
     ensures high { result ≤ high }
-    ensures none_behind { HasGap values.now result high }
+    ensures none_behind { HasGap (shown_values pixels.now marks.entry)
+        result high }
 {
     let mut end = high;
-    while low < end && values[end - 1].value().is_none() {
+    while low < end && shown(pixels, marks, end - 1).value().is_none() {
         end -= 1;
     }
     end
 }
 
-// The marked ones of these pixels in blocks, with the others undefined, if at most a quarter of them remains.
-fn blocks_of_marked(
-    alloc: Global,
-    values: &[Pixel],
-    marks: &[bool],
-) -> Result<Option<Pixels>, OutOfMemory>
-    requires few { length values.now ≤ 2 ^ 24 }
-    requires one_each { length marks.now ≡ length values.now }
-    ensures { IfOk result (λ made. IfSome made (λ pixels. pixels ≡ marked_values values.now marks.now)) }
+// A pixel as it is shown: an undefined one where it isn't marked.
+#[inline(always)]
+fn shown(pixels: &[Pixel], marks: Option<&[bool]>, p: usize) -> Pixel
+    requires one_each { IfSome marks (λ marks. length marks.now ≡ length pixels.now) }
+    requires inside { p < length pixels.now }
+    ensures { result
+        ≡ value_at (shown_values pixels.now marks.entry) p }
 {
-    let count = values.len().div_ceil(BLOCK);
-    let mut runs = Vec::with_capacity(alloc, count)?;
-    // room that isn't used takes no memory until it is written to
-    let mut kept = Vec::with_capacity(alloc, values.len() / 4)?;
-    for block in 0..count {
-        add_marked_block(&mut runs, &mut kept, values, marks, block)?;
-        if kept.len() > values.len() / 4 {
-            return Ok(None);
-        }
+    match marks {
+        None => pixels[p],
+        Some(marks) => pixel_if(pixels, marks, p),
     }
-    Ok(Some(Pixels {
-        count: values.len(),
-        runs: Some(runs),
-        kept,
-    }))
-}
-
-// Adds the next block of the marked pixels to the first ones.
-fn add_marked_block(
-    runs: &mut Vec<Run>,
-    kept: &mut Vec<Pixel>,
-    values: &[Pixel],
-    marks: &[bool],
-    block: usize,
-) -> Result<(), OutOfMemory>
-    requires few { length values.now ≤ 2 ^ 24 }
-    requires one_each { length marks.now ≡ length values.now }
-    requires inside { block * 32 < length values.now }
-    requires before { AreBlocksOf block runs.old.items kept.old.items (marked_values values.now marks.now) }
-    ensures { OnOk result (AreBlocksOf (block + 1) runs.new.items kept.new.items
-        (marked_values values.now marks.now)) }
-{
-    let low = block * BLOCK;
-    let high = values.len().min(low + BLOCK);
-    let first = first_marked(marks, low, high);
-    let end = end_of_marked(marks, first, high);
-    let run = Run {
-        start: kept.len() as u32,
-        first: (first - low) as u8,
-        end: (end - low) as u8,
-    };
-    runs.push(run)?;
-    push_marked(kept, values, marks, first, end)
-}
-
-// Adds some pixels, with those undefined that aren't marked.
-fn push_marked(
-    kept: &mut Vec<Pixel>,
-    values: &[Pixel],
-    marks: &[bool],
-    first: usize,
-    end: usize,
-) -> Result<(), OutOfMemory>
-    requires one_each { length marks.now ≡ length values.now }
-    requires order { first ≤ end }
-    requires inside { end ≤ length values.now }
-    ensures { OnOk result (kept.new.items ≡ kept.old.items
-        ++ map (value_if_marked values.now marks.now) (range_with_len first (end - first))) }
-{
-    for p in first..end {
-        kept.push(pixel_if(values, marks, p))?;
-    }
-    Ok(())
 }
 
 // The pixel if it is marked, and else an undefined one.
 #[inline(always)]
-#[tactic(auto, unfolding(crate::specs::Stored::value_if_marked))]
-fn pixel_if(values: &[Pixel], marks: &[bool], p: usize) -> Pixel
-    requires one_each { length marks.now ≡ length values.now }
-    requires pixel { p < length values.now }
-    ensures { result ≡ value_if_marked values.now marks.now p }
+fn pixel_if(pixels: &[Pixel], marks: &[bool], p: usize) -> Pixel
+    requires one_each { length marks.now ≡ length pixels.now }
+    requires inside { p < length pixels.now }
+    ensures { result ≡ cond (slice_index_or marks.now p false) (value_at pixels.now p) None }
 {
-    if marks[p] { values[p] } else { Pixel::of(None) }
-}
-
-// The first of some pixels that is marked, or their end where none is.
-fn first_marked(marks: &[bool], low: usize, high: usize) -> usize
-    requires order { low ≤ high }
-    requires inside { high ≤ length marks.now }
-    ensures low { low ≤ result }
-    ensures high { result ≤ high }
-    ensures none_before { AreUnmarked marks.now low result }
-{
-    let mut first = low;
-    while first < high && !marks[first] {
-        first += 1;
-    }
-    first
-}
-
-// The pixel after the last of some that is marked, or the first where none is.
-fn end_of_marked(marks: &[bool], low: usize, high: usize) -> usize
-    requires order { low ≤ high }
-    requires inside { high ≤ length marks.now }
-    ensures low { low ≤ result }
-    ensures high { result ≤ high }
-    ensures none_behind { AreUnmarked marks.now result high }
-{
-    let mut end = high;
-    while low < end && !marks[end - 1] {
-        end -= 1;
-    }
-    end
+    if marks[p] { pixels[p] } else { Pixel::of(None) }
 }

@@ -175,7 +175,7 @@ impl Plane {
     {
         // for its clauses alone: how many pixels there are
         let _count = self.shape.pixels();
-        if let Some(pixels) = self.pixels.marked_in_blocks(alloc, marks)? {
+        if let Some(pixels) = self.pixels.in_blocks(alloc, Some(marks))? {
             return Ok(Plane {
                 shape: self.shape,
                 pixels,
@@ -230,7 +230,7 @@ impl Plane {
     {
         // for its clauses alone: how many pixels there are
         let _count = self.shape.pixels();
-        if let Some(pixels) = self.pixels.in_blocks(alloc)? {
+        if let Some(pixels) = self.pixels.in_blocks(alloc, None)? {
             self.pixels = pixels;
         }
         Ok(())

@@ -53,6 +53,25 @@ fn try_values(rt: &impl Abort, plane: &Plane, wanted: &[i64]) {
     }
 }
 
+// Compares numbers of cells.
+fn try_numbers(rt: &impl Abort, numbers: &[i64], wanted: &[i64]) {
+    assert_eq!(rt; numbers, wanted);
+}
+
+// Compares the numbers of a plane's cells.
+fn try_medians<R: Threads + Sync + Abort>(
+    rt: &R,
+    alloc: Global,
+    plane: &Plane,
+    mesh: u32,
+    wanted: &[i64],
+) -> Result<(), Fail> {
+    assert!(rt; 0 < mesh && mesh <= 65535);
+    let values = mesh_values(rt, alloc, plane, mesh)?;
+    try_numbers(rt, &values, wanted);
+    Ok(())
+}
+
 // Compares the residual of a plane with a table.
 fn try_residual<R: Threads + Sync + Abort>(
     rt: &R,
@@ -75,29 +94,22 @@ fn try_residual<R: Threads + Sync + Abort>(
 #[test]
 fn medians_of_full_short_and_empty_cells(rt: HostRuntime) -> Result<(), Fail> {
     let plane = plane_of(rt.alloc(), 5, 2, &[1, 4, U, U, 9, 2, 3, U, U, 7])?;
-    let values = mesh_values(&rt, rt.alloc(), &plane, 2)?;
-    assert_eq!(rt; values.as_slice(), [2, 3, 7].as_slice());
-    Ok(())
+    try_medians(&rt, rt.alloc(), &plane, 2, &[2, 3, 7])
 }
 
 // 3 and 4 have the lower median 3, the last column stands alone, and a mesh larger than the image has one cell.
 #[test]
 fn medians_of_an_image_under_several_meshes(rt: HostRuntime) -> Result<(), Fail> {
     let plane = plane_of(rt.alloc(), 3, 2, &[4, -7, 5, 3, 20, -6])?;
-    let single = mesh_values(&rt, rt.alloc(), &plane, 1)?;
-    assert_eq!(rt; single.as_slice(), [4, -7, 5, 3, 20, -6].as_slice());
-    let pairs = mesh_values(&rt, rt.alloc(), &plane, 2)?;
-    assert_eq!(rt; pairs.as_slice(), [3, -6].as_slice());
-    let whole = mesh_values(&rt, rt.alloc(), &plane, 65535)?;
-    assert_eq!(rt; whole.as_slice(), [3].as_slice());
-    Ok(())
+    try_medians(&rt, rt.alloc(), &plane, 1, &[4, -7, 5, 3, 20, -6])?;
+    try_medians(&rt, rt.alloc(), &plane, 2, &[3, -6])?;
+    try_medians(&rt, rt.alloc(), &plane, 65535, &[3])
 }
 
 #[test]
 fn an_image_without_defined_pixels_has_zeros(rt: HostRuntime) -> Result<(), Fail> {
     let plane = plane_of(rt.alloc(), 2, 1, &[U, U])?;
-    let values = mesh_values(&rt, rt.alloc(), &plane, 1)?;
-    assert_eq!(rt; values.as_slice(), [0, 0].as_slice());
+    try_medians(&rt, rt.alloc(), &plane, 1, &[0, 0])?;
     try_residual(&rt, rt.alloc(), &plane, 1, false, 1, &[U, U])
 }
 
@@ -115,7 +127,7 @@ fn flat_residual_and_none(rt: HostRuntime) -> Result<(), Fail> {
 #[test]
 fn numbers_of_three_cells_are_filtered(rt: HostRuntime) -> Result<(), Fail> {
     let smooth = smooth_mesh(rt.alloc(), &[2, 3, 7], 3, 1)?;
-    assert_eq!(rt; smooth.as_slice(), [2, 3, 3].as_slice());
+    try_numbers(&rt, &smooth, &[2, 3, 3]);
     Ok(())
 }
 
@@ -123,9 +135,9 @@ fn numbers_of_three_cells_are_filtered(rt: HostRuntime) -> Result<(), Fail> {
 #[test]
 fn the_filter_looks_at_the_rows_above_and_below(rt: HostRuntime) -> Result<(), Fail> {
     let two = smooth_mesh(rt.alloc(), &[5, 3], 1, 2)?;
-    assert_eq!(rt; two.as_slice(), [3, 3].as_slice());
+    try_numbers(&rt, &two, &[3, 3]);
     let three = smooth_mesh(rt.alloc(), &[9, 3, 7], 1, 3)?;
-    assert_eq!(rt; three.as_slice(), [3, 7, 3].as_slice());
+    try_numbers(&rt, &three, &[3, 7, 3]);
     Ok(())
 }
 

@@ -1,5 +1,5 @@
 -- The products of a pixel's column, row and value fit their types.
-use Rattle.std.proofs.Common.{ℕ, ◌*◌, ◌^◌, ◌<◌, ◌≤◌, Fits, arith}
+use Rattle.std.proofs.Common.{ℕ, ◌*◌, ◌≤◌, Fits, arith}
 use Rattle.std.specs.Prelude.{ℤ, pos, ◌*ℤ◌}
 use Rattle.std.proofs.lemmas.Int.{to_z-of_z, to_z_pos}
 use Rattle.std.proofs.Math.Nat.{mul-le-mul_left, mul-le-mul_right}

@@ -1,5 +1,5 @@
 -- The steps of both passes: a pixel is added to its smallest node's entry, and a node's entry to that of its parent.
-use Rattle.std.proofs.Common.{◌≡◌, ℕ, ◌+◌, ◌-◌, ◌*◌, ◌/◌, ◌%◌, ◌<◌, ◌≤◌, zero, suc, Bool, true, false, cond, List, [], ◌∷◌, ◌++◌}
+use Rattle.std.proofs.Common.{◌≡◌, ℕ, ◌+◌, ◌-◌, ◌*◌, ◌^◌, ◌/◌, ◌%◌, ◌<◌, ◌≤◌, zero, suc, Bool, true, false, cond, List, [], ◌∷◌, ◌++◌}
 use Rattle.std.proofs.Common.{length, map, take, refl, sym, ◌∙◌, ap, subst, arith, ◌⊎◌, inl, inr, get_or, set, add-one, lit<}
 use Rattle.std.specs.Prelude.{IsTrue, is_some, ◌==◌, ℤ, Option, Some, None, filter, replicate, slice_get, slice_index, slice_index_or}
 use Rattle.std.specs.List.{range_with_len}
@@ -231,6 +231,24 @@ row_in_plane r row plane below =
     mul-le (suc row) r.shape.width r.shape.height r.shape.width (omega arith) (omega arith) in
     let next : suc row * r.shape.width ≡ row * r.shape.width + r.shape.width = suc-mul row r.shape.width in
     omega (arith, plane, mul_comm r.shape.height r.shape.width)
+
+-- a row of a plane is within it, and its numbers are small
+pub record RowFits (r : Raster) (row width : ℕ) : Type 0 where
+  pub inside : row * width + width ≤ length r.values
+  pub small : row * width + width ≤ 2 ^ 24
+  pub few_columns : width ≤ 65535
+  pub few_rows : row + 1 ≤ 65535
+
+pub row_fits : (r : Raster) (row width : ℕ) → IsPlane r → width ≡ r.shape.width → row < r.shape.height → RowFits r row width
+row_fits r row width plane same below =
+    let inside : row * width + width ≤ length r.values =
+    subst (λ (n : ℕ). row * n + n ≤ length r.values) (sym same) (row_in_plane r row plane below) in
+    record {
+      inside = inside;
+      small = omega (arith, inside, plane, r.shape.within_limits.few_pixels);
+      few_columns = omega (arith, same, r.shape.within_limits.few_columns);
+      few_rows = omega (arith, below, r.shape.within_limits.few_rows);
+    }
 
 pub defined-of : (r : Raster) (p : ℕ) (v : ℤ) → value_at r.values p ≡ Some v → is_defined r p ≡ true
 defined-of r p v e = ap (λ (o : Option ℤ). is_some o) e

@@ -12,7 +12,6 @@ use crate::outline::Outline;
 use comp_tree::{NONE, Tree};
 
 /// The base of a node: the level of its parent, and at a root its own level.
-#[tactic(auto, unfolding(crate::specs::Flux::base_of))]
 pub fn base(tree: &Tree, n: u32) -> i64
     requires { n < length tree.now.rows }
     ensures { result ≡ base_of tree.now n }

@@ -59,3 +59,70 @@ pub returns : goal.returns
 returns c =
     subst (λ n. AreOwnTo c.args.plane.now c.args.node_of.now n c.loop-p.sums)
     (let e : c.loop-p.p ≡ c.args.row * c.args.width + c.args.width = omega (arith, c.loop-p.invariant.high, c.loop-p-test.false) in e) c.loop-p.invariant.own
+
+pub overflow_mul-first : goal.overflow_mul-first
+overflow_mul-first c = record { fits = omega (arith, (Passes.row_fits c.args.plane.now c.args.row c.args.width c.requires.plane c.requires.width c.requires.row).small) }
+
+pub overflow_add-end : goal.overflow_add-end
+overflow_add-end c = record { fits = omega (arith, (Passes.row_fits c.args.plane.now c.args.row c.args.width c.requires.plane c.requires.width c.requires.row).small) }
+
+pub get-requires : goal.get-requires
+get-requires c = omega (arith, c.loop-p-test.true, (Passes.row_fits c.args.plane.now c.args.row c.args.width c.requires.plane c.requires.width c.requires.row).inside)
+
+pub overflow_cast-n : goal.overflow_cast-n
+overflow_cast-n c = record { fits = omega (arith, c.loop-p-test.true, (Passes.row_fits c.args.plane.now c.args.row c.args.width c.requires.plane c.requires.width c.requires.row).small) }
+
+pub offset_bounds-node_of-p : goal.offset_bounds-node_of-p
+offset_bounds-node_of-p c = record { fits = omega (arith, c.loop-p-test.true, (Passes.row_fits c.args.plane.now c.args.row c.args.width c.requires.plane c.requires.width c.requires.row).small) }
+
+pub bounds-node_of-p : goal.bounds-node_of-p
+bounds-node_of-p c = omega (arith, c.loop-p-test.true, (Passes.row_fits c.args.plane.now c.args.row c.args.width c.requires.plane c.requires.width c.requires.row).inside, c.requires.one_each)
+
+pub overflow_sub-p : goal.overflow_sub-p
+overflow_sub-p c = c.loop-p.invariant.low
+
+pub overflow_add-p : goal.overflow_add-p
+overflow_add-p c = record { fits = omega (arith, c.loop-p-test.true, (Passes.row_fits c.args.plane.now c.args.row c.args.width c.requires.plane c.requires.width c.requires.row).small) }
+
+pub overflow_add-row : goal.overflow_add-row
+overflow_add-row c = record { fits = omega (arith, (Passes.row_fits c.args.plane.now c.args.row c.args.width c.requires.plane c.requires.width c.requires.row).few_rows) }
+
+pub of_pixel-pixel-requires-clause-column : goal.of_pixel-pixel-requires-clause-column
+of_pixel-pixel-requires-clause-column c = omega (arith, c.loop-p-test.true, c.loop-p.invariant.low, (Passes.row_fits c.args.plane.now c.args.row c.args.width c.requires.plane c.requires.width c.requires.row).few_columns)
+
+pub of_pixel-pixel-requires-clause-row : goal.of_pixel-pixel-requires-clause-row
+of_pixel-pixel-requires-clause-row c = (Passes.row_fits c.args.plane.now c.args.row c.args.width c.requires.plane c.requires.width c.requires.row).few_rows
+
+pub offset_bounds-sums-n : goal.offset_bounds-sums-n
+offset_bounds-sums-n c = record { fits = omega (arith, (c.type_inv.node_of c.loop-p.p).fits) }
+
+pub bounds-sums-n : goal.bounds-sums-n
+bounds-sums-n c =
+    omega (
+      arith,
+      c.loop-p.invariant.same_length,
+      c.requires.nodes c.loop-p.p (Passes.defined-of c.args.plane.now c.loop-p.p c.in-Some.value (sym c.get.ensures.value ∙ c.in-Some.is)),
+    )
+
+pub offset_bounds-sums-n-in-Some : goal.offset_bounds-sums-n-in-Some
+offset_bounds-sums-n-in-Some c = record { fits = omega (arith, (c.type_inv.node_of c.loop-p.p).fits) }
+
+pub bounds-sums-n-in-Some : goal.bounds-sums-n-in-Some
+bounds-sums-n-in-Some c =
+    omega (
+      arith,
+      c.loop-p.invariant.same_length,
+      c.requires.nodes c.loop-p.p (Passes.defined-of c.args.plane.now c.loop-p.p c.in-Some.value (sym c.get.ensures.value ∙ c.in-Some.is)),
+    )
+
+pub overflow_add-p-in-Some : goal.overflow_add-p-in-Some
+overflow_add-p-in-Some c = record { fits = omega (arith, c.loop-p-test.true, (Passes.row_fits c.args.plane.now c.args.row c.args.width c.requires.plane c.requires.width c.requires.row).small) }
+
+pub overflow_add-p-in_default : goal.overflow_add-p-in_default
+overflow_add-p-in_default c = record { fits = omega (arith, c.loop-p-test.true, (Passes.row_fits c.args.plane.now c.args.row c.args.width c.requires.plane c.requires.width c.requires.row).small) }
+
+pub next_defined-p-requires-clause-order : goal.next_defined-p-requires-clause-order
+next_defined-p-requires-clause-order c = omega (arith, c.loop-p-test.true)
+
+pub next_defined-p-requires-clause-inside : goal.next_defined-p-requires-clause-inside
+next_defined-p-requires-clause-inside c = (Passes.row_fits c.args.plane.now c.args.row c.args.width c.requires.plane c.requires.width c.requires.row).inside

@@ -1,12 +1,13 @@
-use Rattle.comp_tree.specs.Stored.{AreUnmarked}
 use Rattle.std.proofs.Common.{◌≤◌, ◌-◌}
-use Rattle.comp_tree.proofs.pixels.first_marked.Given as goal
+use Rattle.comp_tree.specs.Raster.{HasGap}
+use Rattle.comp_tree.specs.Stored.{shown_values}
+use Rattle.comp_tree.proofs.pixels.first_shown.Given as goal
 
 abbrev pub invariant-loop-first : goal.invariant-loop-first
 invariant-loop-first l = record {
   low : l.low ≤ l.first;
   high : l.first ≤ l.high;
-  none : AreUnmarked l.marks l.low l.first;
+  none : HasGap (shown_values l.pixels l.marks) l.low l.first;
 }
 
 abbrev pub decreases-loop-first : goal.decreases-loop-first

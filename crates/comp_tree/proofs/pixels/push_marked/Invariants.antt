@@ -1,7 +1,0 @@
-use Rattle.std.proofs.Common.{◌≡◌, ◌-◌, ◌++◌, map}
-use Rattle.std.specs.List.{range_with_len}
-use Rattle.comp_tree.specs.Stored.{value_if_marked}
-use Rattle.comp_tree.proofs.pixels.push_marked.Given as goal
-
-abbrev pub invariant-loop-p : goal.invariant-loop-p
-invariant-loop-p l = l.kept.items ≡ l.fn.kept.items ++ map (value_if_marked l.values l.marks) (range_with_len l.first (l.p - l.first))
