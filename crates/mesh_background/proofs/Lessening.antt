@@ -15,12 +15,12 @@ use Rattle.comp_tree.specs.Limits.{IsInHalfRange}
 use Rattle.comp_tree.specs.Writing.{IsWritten}
 use Rattle.mesh_background.specs.Lessened.{numbers_under, number_of_cell, level_of, IsInHalfRangeFrom, IsLessened}
 use Rattle.mesh_background.specs.Interpolation.{interpolated}
-use Rattle.mesh_background.specs.Residuals.{filtered_values, pixel_level, background, residual_at, residual_of}
+use Rattle.mesh_background.specs.Residuals.{pixel_level, background, residual_at, residual_of}
 use Rattle.mesh_background.specs.declared.slope.Mixed.{Mixed}
 use Rattle.mesh_background.specs.Slopes.{steps_on, first_before}
 use Rattle.mesh_background.proofs.Slopes.{IsRun, run-level, run-along, runs-rise}
 use Rattle.mesh_background.proofs.Extents.{cell-below, along-above, along-below, cells_few}
-use Rattle.mesh_background.proofs.Residuals.{background-flat, background-smooth, cell-number, half-of, residual-all}
+use Rattle.mesh_background.proofs.Residuals.{background-flat, background-smooth, cell-number, residual-all}
 
 -- ---- one run of pixels after the other
 

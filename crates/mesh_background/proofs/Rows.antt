@@ -1,5 +1,5 @@
 -- Rows of pixels: where they and their cells stand, that these numbers fit, and rows that are lessened as far as their end.
-use Rattle.std.proofs.Common.{◌≡◌, ℕ, ℤ, ◌+◌, ◌*◌, ◌^◌, ◌<◌, ◌≤◌, min, List, Option, Fits, w32, refl, sym, ap, subst, ◌∙◌, arith}
+use Rattle.std.proofs.Common.{◌≡◌, ℕ, ℤ, ◌+◌, ◌*◌, ◌^◌, ◌<◌, ◌≤◌, min, List, Option, Fits, w32, refl, subst, arith}
 use Rattle.std.proofs.Math.Nat.{mul_comm, mul-le-mul_right}
 use Rattle.comp_tree.specs.Limits.{IsWithinLimits}
 use Rattle.mesh_background.specs.Mesh.{cells_along}

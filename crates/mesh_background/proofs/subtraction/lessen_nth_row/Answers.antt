@@ -1,4 +1,4 @@
-use Rattle.std.proofs.Common.{ℕ, ℤ, ◌+◌, ◌*◌, ◌≡◌, ap, ◌++◌, ◌∙◌, refl, List}
+use Rattle.std.proofs.Common.{ℕ, ℤ, ◌+◌, ◌*◌, ap, ◌++◌, ◌∙◌, refl, List}
 use Rattle.std.specs.Prelude.{Option}
 use Rattle.mesh_background.specs.Lessened.{level_of}
 use Rattle.mesh_background.proofs.Bands.{IsCut, half-row, cut-lessened}

@@ -1,4 +1,4 @@
-use Rattle.std.proofs.Common.{ℕ, ℤ, ◌≡◌, ◌+◌, ◌*◌, ◌<◌, ◌∙◌, sym, subst, arith}
+use Rattle.std.proofs.Common.{ℕ, ℤ, ◌+◌, ◌*◌, ◌<◌, ◌∙◌, sym, subst, arith}
 use Rattle.mesh_background.specs.Residuals.{pixel_level}
 use Rattle.mesh_background.proofs.Extents.{columns-some}
 use Rattle.mesh_background.proofs.Lessening.{half_from-later}
