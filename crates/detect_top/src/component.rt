@@ -14,19 +14,20 @@ use std::thread::Threads;
 use strip_crew::{Gate, even_cut, flood_all};
 use tree_canon::canon;
 
-/// The plane less its background over a mesh, flat or smooth, in the place of the plane. Without a mesh it is the plane itself.
+/// The plane less its background over a mesh, flat or smooth, in the place of the plane. So many workers share the pixels. Without a mesh it is the plane itself.
 pub fn residual_plane<R: Threads + Sync>(
     rt: &R,
     alloc: Global,
     mut plane: Plane,
     mesh: u32,
     flat: bool,
+    workers: u32,
 ) -> Result<Plane, OutOfMemory>
     requires mesh { mesh ≤ 65535 }
     requires in_range { HasValuesInHalfRange plane.values }
     ensures { IfOk result (λ residual. residual ≡ residual_of plane mesh flat) }
 {
-    match subtract_background(rt, alloc, &mut plane, mesh, flat) {
+    match subtract_background(rt, alloc, &mut plane, mesh, flat, workers) {
         Ok(()) => Ok(plane),
         Err(error) => Err(error),
     }

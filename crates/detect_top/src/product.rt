@@ -156,7 +156,7 @@ pub(crate) fn make<R: Threads + Sync, G: Gate>(
     ensures writable { IfOk result (λ product. IsWritable product) }
     ensures bytes { IfOk result (λ product. bytes_of product ≡ output_of order image) }
 {
-    let residual = residual_plane(rt, alloc, image, order.mesh, order.flat)?;
+    let residual = residual_plane(rt, alloc, image, order.mesh, order.flat, order.workers)?;
     let plane = working_plane(rt, alloc, residual, order)?;
     let tree = component_tree(rt, alloc, &plane, order, gate)?;
     make_of(rt, alloc, order.job, order.workers, plane, tree)

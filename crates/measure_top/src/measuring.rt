@@ -197,8 +197,8 @@ pub(crate) fn measure_sources<R: Threads + Sync, G: Gate>(
         (λ found. measured_hdus found.shape found.map.items found.cells.items ≡
         measured_output order choice image values) }
 {
-    let plane = residual_plane(rt, alloc, image, order.mesh, order.flat)?;
-    let values = residual_plane(rt, alloc, values, order.mesh, order.flat)?;
+    let plane = residual_plane(rt, alloc, image, order.mesh, order.flat, order.workers)?;
+    let values = residual_plane(rt, alloc, values, order.mesh, order.flat, order.workers)?;
     measure_residuals(rt, alloc, plane, &values, order, &choice, gate)
 }
 

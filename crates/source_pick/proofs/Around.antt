@@ -212,24 +212,3 @@ around_before connect width height x y row q inside end l a =
             let place : ((y * width + x) / width ≡ y) × ((y * width + x) % width ≡ x) = row_place width x y inside in
             omega (arith, rows.1, place.0)
         go (inr k) = let m : q / width < height = div_below width q height l in omega arith
-
--- ---- bands of rows
-
--- a band has at least a pixel
-pub some_pixels : (width height parts rows : ℕ) → 0 < width → 0 < height → 0 < parts → rows ≡ height / parts + min 1 (height % parts) → 0 < rows * width
-some_pixels width height parts rows wide high some e =
-    let least : 1 * width ≤ rows * width = mul-le-mul_right width one in
-    let same : 1 * width ≡ width = omega arith in
-    omega arith
-  where
-    one : 1 ≤ rows
-    one = go (cases_lt 0 rows)
-      where
-        go : (0 < rows) ⊎ (rows ≤ 0) → 1 ≤ rows
-        go (inl l) = l
-        go (inr l) =
-            let enough : (height ≤ (height / parts + min 1 (height % parts)) * parts) × ((height / parts + min 1 (height % parts)) * parts < height + parts) =
-            div_ceil_times height parts some in
-            let none : height / parts + min 1 (height % parts) ≡ 0 = omega arith in
-            let zero : (height / parts + min 1 (height % parts)) * parts ≡ 0 = ap (λ n. n * parts) none ∙ zero-mul parts in
-            absurd (omega arith)

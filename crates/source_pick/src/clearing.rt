@@ -12,7 +12,6 @@ ghost use Rattle.source_pick.specs.Clearing.{
   AreMarkedNear,
 };
 
-use crate::bands::band_size;
 use comp_tree::{Connect, Plane, Shape};
 use costs::OutOfMemory;
 use std::alloc::Global;
@@ -59,7 +58,7 @@ pub fn near<R: Threads + Sync>(
     ensures same { IfOk result (λ near. (choice : Choice) → choice.threshold ≡ threshold
         → HaveSameSources plane.now near connect choice) }
 {
-    let size = band_size(plane.shape(), parts);
+    let size = plane.shape().band_size(parts);
     let marks = near_marks(rt, alloc, plane, connect, threshold, size)?;
     plane.marked(alloc, &marks)
 }

@@ -1,7 +1,6 @@
 //! Sources, their segmentation map and their catalogue, from the component tree of a plane and the sums over its nodes.
 #![tactic(auto)]
 
-mod bands;
 mod catalogue;
 mod choice;
 mod clearing;

@@ -7,7 +7,6 @@ ghost use Rattle.comp_tree.specs.Components.{tree_of};
 ghost use Rattle.source_pick.specs.Segmentation.{segmentation_of, AreDisjointNodes};
 ghost use Rattle.source_pick.specs.Passes.{AreMarked, AreNumbered, HavePixelNumbers};
 
-use crate::bands::band_size;
 use comp_tree::{NONE, Tree};
 use costs::OutOfMemory;
 use std::alloc::Global;
@@ -48,7 +47,7 @@ pub fn segment_in_parts<R: Threads + Sync>(
 {
     let numbers = numbers_of_nodes(alloc, tree, sources)?;
     let mut map = zeros(alloc, tree.node_of().len())?;
-    number_bands(rt, tree, &numbers, band_size(tree.shape(), parts), &mut map);
+    number_bands(rt, tree, &numbers, tree.shape().band_size(parts), &mut map);
     Ok(map)
 }
 

@@ -6,3 +6,4 @@ pub mod Workers
 pub mod Copied
 pub mod Boundaries
 pub mod Halves
+pub mod Grouping

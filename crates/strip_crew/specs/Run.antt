@@ -1,5 +1,5 @@
 -- Model: the fixed data of a run, and the job of each of its strips.
-use Rattle.std.specs.Prelude.{◌≡◌, ℕ, ◌+◌, ◌*◌, ◌/◌, ◌%◌, ◌<◌, ◌≤◌, List, [], map, min, length, slice_index, slice_index_or}
+use Rattle.std.specs.Prelude.{◌≡◌, ℕ, ◌+◌, ◌*◌, ◌/◌, ◌<◌, ◌≤◌, List, [], map, length, slice_index, slice_index_or}
 use Rattle.std.specs.List.{range_with_len}
 use Rattle.std.proofs.Common.{arith}
 use Rattle.comp_tree.specs.declared.shape.Connect.{Connect}
@@ -60,7 +60,3 @@ rows_of_cut height count n = map (λ i. i * height / count) (range_with_len 0 n)
 -- the first rows of so many strips that have nearly one height
 abbrev pub even_rows : ℕ → ℕ → List ℕ
 even_rows height count = rows_of_cut height count count
-
--- how many groups of so many strips there are among n, where the last may have fewer
-abbrev pub groups_of : ℕ → ℕ → ℕ
-groups_of size n = n / size + min 1 (n % size)

@@ -2,7 +2,8 @@
 
 ghost use Rattle.std.specs.Prelude.{◌≡◌, ℕ, ◌+◌, ◌*◌, ◌<◌, ◌≤◌, ◌++◌, min, List, IfOk, OnOk, length, slice_index, vec_items};
 ghost use Rattle.tree_join.specs.Cuts.{IsCut};
-ghost use Rattle.strip_crew.specs.Run.{plan_of, row_at, groups_of};
+ghost use Rattle.strip_crew.specs.Run.{plan_of, row_at};
+ghost use Rattle.strip_crew.specs.Grouping.{groups_of};
 ghost use Rattle.strip_crew.specs.Claims.{AreReady};
 ghost use Rattle.strip_crew.specs.Workers.{AreGroup, AreParts};
 

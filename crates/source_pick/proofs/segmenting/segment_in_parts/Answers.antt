@@ -57,4 +57,4 @@ returns-clause-one_each g c =
     ∙ ap length (c.deref_mut.ensures.value ∙ c.in_ok-map.ensures) ∙ length-replicate (length c.node_of.result.now) 0 ∙ ap length c.node_of.ensures
 
 pub number_bands-requires-clause-some : goal.number_bands-requires-clause-some
-number_bands-requires-clause-some g c = λ κs l. c.band_size.ensures
+number_bands-requires-clause-some g c = λ κs l. c.band_size.ensures.some
