@@ -1,4 +1,4 @@
-use Rattle.std.proofs.Common.{◌≡◌, ◌<◌, ℕ, [], ap, ◌∙◌, sym, subst, arith}
+use Rattle.std.proofs.Common.{◌≡◌, ℕ, [], ap, ◌∙◌, sym, arith}
 use Rattle.strip_crew.specs.Counting.{fresh}
 use Rattle.strip_crew.specs.Claims.{view, run_of}
 use Rattle.strip_crew.proofs.crew.run_crew.Goals as goal

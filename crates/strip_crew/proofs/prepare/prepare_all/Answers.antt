@@ -2,11 +2,12 @@ use Rattle.std.proofs.Common.{◌≡◌, ℕ, subst, sym, refl, ap, ◌∙◌, �
 use Rattle.std.proofs.Common.{vec_items, IfOk}
 use Rattle.std.specs.Vec.Iter.{into_iter_items}
 use Rattle.strip_flood.specs.Jobs.{JobView}
-use Rattle.strip_crew.specs.Run.{Plan, plan_of, groups_of}
+use Rattle.strip_crew.specs.Grouping.{groups_of}
+use Rattle.strip_crew.specs.Run.{Plan, plan_of}
 use Rattle.strip_crew.specs.Claims.{AreReady}
 use Rattle.strip_crew.specs.Workers.{AreParts}
 use Rattle.strip_crew.proofs.Groups.{group_inside, groups_cover, size_le, size_pos}
-use Rattle.strip_crew.proofs.Jobs.{ready_none, part_joins, parts_all}
+use Rattle.strip_crew.proofs.Jobs.{ready_none, part_joins}
 use Rattle.strip_crew.proofs.prepare.prepare_all.Goals as goal
 
 length_on : {A : Type 0} (xs : List A) (x : A) → length (xs ++ x ∷ []) ≡ length xs + 1

@@ -1,4 +1,4 @@
-use Rattle.std.proofs.Common.{◌≡◌, ℕ, subst, sym, ap, ◌∙◌, ◌<◌, length}
+use Rattle.std.proofs.Common.{ℕ, subst, sym, ◌∙◌, ◌<◌, length}
 use Rattle.std.proofs.Common.{vec_items}
 use Rattle.strip_crew.specs.Run.{plan_of}
 use Rattle.strip_crew.proofs.Groups.{group_inside}
