@@ -14,14 +14,16 @@ import tempfile
 # The first pattern that a function's name has names the step.
 STEPS = [
     ("sorting and looking up numbers", r"sort|binary_search"),
-    ("ranks, flooding and marks", r"strip_flood|std::thread::fork"),
+    ("shared out among workers: ranks, flooding, residual, marks, map", r"strip_flood|std::thread::fork"),
     ("joining rows", r"tree_join|join_strips"),
     ("canonical numbering", r"tree_canon"),
     ("sums and areas", r"node_sums"),
     ("sources and their map", r"source_pick"),
     ("background", r"mesh_background|rayon"),
+    ("reading pixels", r"image_input|pixel_plane"),
+    ("planes of few pixels", r"comp_tree"),
     ("making output", r"product::write|dev_io|fits_write|itoa"),
-    ("the rest of the pipeline, merged into one function", r"detect_top"),
+    ("the rest of the pipeline, merged into a few functions", r"detect_top|measure_top"),
     ("copying and clearing memory", r"mem(move|set|cpy)"),
 ]
 
