@@ -1,6 +1,6 @@
 -- What each command does, by how it ended.
-use Rattle.std.proofs.Common.{◌≡◌, ◌∙◌, ℕ, Bool, true, false, cond, List, [], ◌∷◌, Some, None, refl, sym, ap, subst, arith, Result, Ok, Err, ℤ, not, Ordering, Less}
-use Rattle.std.proofs.Common.{Equal, Greater}
+use Rattle.std.proofs.Common.{◌≡◌, ◌∙◌, ℕ, Bool, true, false, cond, List, [], ◌∷◌, Some, None, refl, sym, ap, subst, arith, Result, Ok, Err}
+use Rattle.std.proofs.Common.{ℤ, not, Ordering, Less, Equal, Greater}
 use Rattle.std.specs.Prelude.{Option, IfErr, is_some, unwrap_or}
 use Rattle.std.specs.Ordering.{is_eq}
 use Rattle.std.proofs.KnownBytes.{Appends-nil}

@@ -92,9 +92,11 @@ pub returns-in-Brightest-clause-cause : goal.returns-in-Brightest-clause-cause
 returns-in-Brightest-clause-cause g c =
     subst
     (λ (x : Command). IfErr c.brightest.result (Cause x (g.S.Source.faults c.args.input.now) (g.S.Source.faults c.args.input.now)
-    (g.O.Sink.faults c.args.output.now) (g.O.Sink.faults c.brightest.new.output) (g.K.Keeper.faults c.args.keeper.now) (g.K.Keeper.faults c.brightest.new.keeper)))
+    (g.O.Sink.faults c.args.output.now) (g.O.Sink.faults c.brightest.new.output) (g.K.Keeper.faults c.args.keeper.now)
+    (g.K.Keeper.faults c.brightest.new.keeper)))
     (sym c.in-Brightest.is)
-    (cause_at c.brightest.result (λ stop m. Cause (Brightest c.in-Brightest.most) m m (g.O.Sink.faults c.args.output.now) (g.O.Sink.faults c.brightest.new.output)
+    (cause_at c.brightest.result (λ stop m. Cause (Brightest c.in-Brightest.most) m m (g.O.Sink.faults c.args.output.now)
+    (g.O.Sink.faults c.brightest.new.output)
     (g.K.Keeper.faults c.args.keeper.now) (g.K.Keeper.faults c.brightest.new.keeper) stop) (g.S.Source.faults c.args.input.now) c.brightest.ensures.cause)
 
 pub returns-in-Brightest-clause-settled : goal.returns-in-Brightest-clause-settled
