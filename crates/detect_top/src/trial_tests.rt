@@ -3,7 +3,10 @@ use crate::in_memory::{NONE_FAILS, compare_end, compare_output, run_in_memory};
 use crate::trial::trial_image;
 use comp_tree::Shape;
 use dev_io::MemSink;
+use std::alloc::Global;
+use std::process::Abort;
 use std::test::Fail;
+use std::thread::Threads;
 
 #[test]
 fn the_image_of_seed_7(rt: HostRuntime) -> Result<(), Fail> {
@@ -36,6 +39,21 @@ fn a_line_tells_of_a_trial(rt: HostRuntime) -> Result<(), Fail> {
         sink.bytes(),
         b"pixels 16777216 nodes 20 roots 3 areas 281474976710656 fluxes 0 sources 4294967295 mapped 7\n".as_slice()
     );
+    Ok(())
+}
+
+// Compares all that a trial shows, which leaves the input.
+fn compare_trial<R: Threads + Sync + Abort>(
+    rt: &R,
+    alloc: Global,
+    words: &[&str],
+    bytes: &[u8],
+    line: &[u8],
+) -> Result<(), Fail> {
+    let found = run_in_memory(rt, alloc, words, bytes, 99, NONE_FAILS)?;
+    compare_end(rt, &found, 0, b"");
+    compare_output(rt, &found, line);
+    assert_eq!(rt; found.left, bytes.len());
     Ok(())
 }
 
@@ -81,10 +99,7 @@ fn a_trial_leaves_the_input(rt: HostRuntime) -> Result<(), Fail> {
         ),
     ];
     for (words, line) in cases {
-        let found = run_in_memory(&rt, alloc, *words, bytes, 99, NONE_FAILS)?;
-        compare_end(&rt, &found, 0, b"");
-        compare_output(&rt, &found, *line);
-        assert_eq!(rt; found.left, bytes.len());
+        compare_trial(&rt, alloc, *words, bytes, *line)?;
     }
     Ok(())
 }
@@ -110,9 +125,7 @@ fn a_large_trial_has_one_line(rt: HostRuntime) -> Result<(), Fail> {
                 "--workers",
                 workers,
             ];
-            let found = run_in_memory(&rt, alloc, &words, &[], 99, NONE_FAILS)?;
-            compare_end(&rt, &found, 0, b"");
-            compare_output(&rt, &found, line);
+            compare_trial(&rt, alloc, &words, &[], line)?;
         }
     }
     Ok(())
@@ -138,9 +151,7 @@ fn a_high_trial_has_one_line(rt: HostRuntime) -> Result<(), Fail> {
             "--workers",
             workers,
         ];
-        let found = run_in_memory(&rt, alloc, &words, &[], 99, NONE_FAILS)?;
-        compare_end(&rt, &found, 0, b"");
-        compare_output(&rt, &found, line);
+        compare_trial(&rt, alloc, &words, &[], line)?;
     }
     Ok(())
 }

@@ -1,6 +1,9 @@
 //! Images of 64-bit integers, also one that `filter` wrote.
-use crate::in_memory::{NONE_FAILS, Row, compare_rows, file, run_in_memory};
+use crate::in_memory::{NONE_FAILS, Row, compare_output, compare_rows, file, run_in_memory};
+use std::alloc::Global;
+use std::process::Abort;
 use std::test::Fail;
+use std::thread::Threads;
 
 const HIGH: [u8; 8] = [0, 0, 0, 16, 0, 0, 0, 0];
 
@@ -77,9 +80,8 @@ fn values_out_of_range_are_refused(rt: HostRuntime) -> Result<(), Fail> {
     compare_rows(&rt, rt.alloc(), rows)
 }
 
-#[test]
-fn a_filtered_plane_is_read_back(rt: HostRuntime) -> Result<(), Fail> {
-    let alloc = rt.alloc();
+// What `filter` writes of the image in one row.
+fn filtered<R: Threads + Sync>(rt: &R, alloc: Global) -> Result<Vec<u8>, Fail> {
     let words = [
         "filter",
         "--rule",
@@ -91,12 +93,26 @@ fn a_filtered_plane_is_read_back(rt: HostRuntime) -> Result<(), Fail> {
     ];
     let header = b"SIMPLE  = T|BITPIX  = 8|NAXIS   = 2|NAXIS1  = 5|NAXIS2  = 1|END|#";
     let image = file(alloc, header, &[0, 1, 3, 2, 0])?;
-    let filtered = run_in_memory(&rt, alloc, &words, &image, 5760, NONE_FAILS)?;
-    let found = run_in_memory(&rt, alloc, &["tree"], &filtered.output, 99, NONE_FAILS)?;
-    assert_eq!(rt;
-        found.output.as_slice(),
-        b"0 0 0 - 5\n1 2 2 0 2\n".as_slice()
-    );
-    assert_eq!(rt; found.left, 2840);
+    let outcome = run_in_memory(rt, alloc, &words, &image, 5760, NONE_FAILS)?;
+    Ok(outcome.output)
+}
+
+// Compares the lines of these bytes, of which so many are left.
+fn compare_lines<R: Threads + Sync + Abort>(
+    rt: &R,
+    alloc: Global,
+    bytes: &[u8],
+    lines: &[u8],
+    left: usize,
+) -> Result<(), Fail> {
+    let found = run_in_memory(rt, alloc, &["tree"], bytes, 99, NONE_FAILS)?;
+    compare_output(rt, &found, lines);
+    assert_eq!(rt; found.left, left);
     Ok(())
+}
+
+#[test]
+fn a_filtered_plane_is_read_back(rt: HostRuntime) -> Result<(), Fail> {
+    let bytes = filtered(&rt, rt.alloc())?;
+    compare_lines(&rt, rt.alloc(), &bytes, b"0 0 0 - 5\n1 2 2 0 2\n", 2840)
 }
