@@ -24,11 +24,18 @@ pub struct FileKeeper<'a> {
     faults: u64,
 }
 
-/// The database of the file, with the table.
+/// The database of the file, with the table. Where a connection is let go, `drop` says so: the proof is then that of a call.
 fn opened(rt: &HostRuntime, path: &str) -> Result<Connection<FileStore<File>>, Error> {
-    let mut conn = Connection::open(rt, path)?;
-    make_table(&mut conn)?;
-    Ok(conn)
+    match Connection::open(rt, path) {
+        Ok(mut conn) => match make_table(&mut conn) {
+            Ok(()) => Ok(conn),
+            Err(error) => {
+                drop(conn);
+                Err(error)
+            }
+        },
+        Err(error) => Err(error),
+    }
 }
 
 impl<'a> FileKeeper<'a> {
@@ -56,11 +63,13 @@ impl<'a> FileKeeper<'a> {
         }
     }
 
-    /// Puts the connection back.
+    /// Puts the connection back. None stands in its place, which `taken` left empty.
     fn put_back(&mut self, conn: Connection<FileStore<File>>)
         ensures { self.new.faults ≡ self.old.faults }
     {
-        self.conn.replace(conn);
+        if let Some(other) = self.conn.replace(conn) {
+            let _ = other.close();
+        }
     }
 
     /// Gives the field this blob.
