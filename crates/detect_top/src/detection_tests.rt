@@ -183,7 +183,7 @@ fn compare_sources<R: Threads + Sync + Abort>(
 // Two sources where each half has its share of the flux, and else one.
 #[test]
 fn sources_have_their_map_and_their_rows(rt: HostRuntime) -> Result<(), Fail> {
-    let cases: [Sources; 3] = [
+    let cases: &[Sources] = &[
         Sources {
             words: &["detect", "--threshold", "2", "--contrast", "300"],
             image: HILLS,
@@ -213,7 +213,7 @@ fn sources_have_their_map_and_their_rows(rt: HostRuntime) -> Result<(), Fail> {
         },
     ];
     for case in cases {
-        compare_sources(&rt, rt.alloc(), case)?;
+        compare_sources(&rt, rt.alloc(), *case)?;
     }
     Ok(())
 }

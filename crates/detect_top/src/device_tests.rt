@@ -1,5 +1,7 @@
 //! Each call of each device failing in turn.
-use crate::in_memory::{Failing, NONE_FAILS, Outcome, ROOM, file, run_in_memory};
+use crate::in_memory::{
+    Failing, NONE_FAILS, Outcome, ROOM, compare_end, compare_output, file, run_in_memory,
+};
 use std::alloc::Global;
 use std::process::Abort;
 use std::test::Fail;
@@ -68,6 +70,11 @@ fn outcome<R: Threads + Sync>(
     run_in_memory(rt, alloc, command.words, &bytes, ROOM, failing)
 }
 
+// What stands on the output is a front of the whole one.
+fn compare_front(rt: &impl Abort, whole: &Outcome, found: &Outcome) {
+    assert!(rt; whole.output.as_slice().starts_with(&found.output));
+}
+
 // Lets each take fail in turn, until a run has none that does. It gives the number of takes.
 fn fail_each_take<R: Threads + Sync + Abort>(
     rt: &R,
@@ -83,9 +90,8 @@ fn fail_each_take<R: Threads + Sync + Abort>(
         if found.status == 0 {
             return Ok(call - 1);
         }
-        assert_eq!(rt; found.status, 3);
-        assert_eq!(rt; found.output.len(), 0);
-        assert_eq!(rt; found.notes.as_slice(), b"read fault\n".as_slice());
+        compare_end(rt, &found, 3, b"read fault\n");
+        compare_output(rt, &found, b"");
     }
     Ok(MANY)
 }
@@ -105,13 +111,12 @@ fn fail_each_put<R: Threads + Sync + Abort>(
             ..NONE_FAILS
         };
         let found = outcome(rt, alloc, command, failing)?;
-        assert!(rt; whole.output.as_slice().starts_with(&found.output));
+        compare_front(rt, &whole, &found);
         if found.status == 0 {
-            assert_eq!(rt; found.output.len(), whole.output.len());
+            compare_output(rt, &found, &whole.output);
             return Ok(call - 1);
         }
-        assert_eq!(rt; found.status, 4);
-        assert_eq!(rt; found.notes.as_slice(), b"write fault\n".as_slice());
+        compare_end(rt, &found, 4, b"write fault\n");
     }
     Ok(MANY)
 }
@@ -144,10 +149,9 @@ fn a_front_of_the_output_stands(rt: HostRuntime) -> Result<(), Fail> {
         ..NONE_FAILS
     };
     let found = outcome(&rt, rt.alloc(), DETECT, failing)?;
-    assert_eq!(rt; found.status, 4);
+    compare_end(&rt, &found, 4, b"write fault\n");
+    compare_front(&rt, &whole, &found);
     assert_eq!(rt; found.output.len(), 2890);
-    assert!(rt; whole.output.as_slice().starts_with(&found.output));
-    assert_eq!(rt; found.notes.as_slice(), b"write fault\n".as_slice());
     Ok(())
 }
 
@@ -162,7 +166,7 @@ fn each_put_that_fails_ends_a_filtering(rt: HostRuntime) -> Result<(), Fail> {
 // Whatever becomes of the line, the status is that of the refusal. The first call has the line, and the second is `done`.
 #[test]
 fn failing_notes_leave_a_refusal(rt: HostRuntime) -> Result<(), Fail> {
-    let cases: [FailingNotes; 4] = [
+    let cases: &[FailingNotes] = &[
         FailingNotes {
             call: 1,
             kept: 0,
@@ -191,9 +195,8 @@ fn failing_notes_leave_a_refusal(rt: HostRuntime) -> Result<(), Fail> {
             ..NONE_FAILS
         };
         let found = outcome(&rt, rt.alloc(), SCALED, failing)?;
-        assert_eq!(rt; found.status, 2);
-        assert_eq!(rt; found.notes.as_slice(), case.notes);
-        assert_eq!(rt; found.output.len(), 0);
+        compare_end(&rt, &found, 2, case.notes);
+        compare_output(&rt, &found, b"");
     }
     Ok(())
 }
@@ -210,9 +213,8 @@ fn failing_notes_leave_an_output(rt: HostRuntime) -> Result<(), Fail> {
                 ..NONE_FAILS
             };
             let found = outcome(&rt, alloc, command, failing)?;
-            assert_eq!(rt; found.status, 0);
-            assert_eq!(rt; found.output.as_slice(), whole.output.as_slice());
-            assert_eq!(rt; found.notes.len(), 0);
+            compare_end(&rt, &found, 0, b"");
+            compare_output(&rt, &found, &whole.output);
         }
     }
     Ok(())

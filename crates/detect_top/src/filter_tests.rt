@@ -74,7 +74,7 @@ fn compare_filtering<R: Threads + Sync + Abort>(
 
 #[test]
 fn each_rule_leaves_its_pixels(rt: HostRuntime) -> Result<(), Fail> {
-    let cases: [Filtering; 6] = [
+    let cases: &[Filtering] = &[
         Filtering {
             rule: "min",
             options: ["--min-area", "2", "--max-area", "2"],
@@ -131,7 +131,7 @@ fn each_rule_leaves_its_pixels(rt: HostRuntime) -> Result<(), Fail> {
         },
     ];
     for case in cases {
-        compare_filtering(&rt, rt.alloc(), case)?;
+        compare_filtering(&rt, rt.alloc(), *case)?;
     }
     Ok(())
 }

@@ -1,5 +1,7 @@
 //! Headers that are made to mislead, each with its answer and the number of bytes that a run takes.
-use crate::in_memory::{NONE_FAILS, append, file, run_in_memory};
+use crate::in_memory::{
+    NONE_FAILS, append, compare_end, compare_output, compare_taken, file, run_in_memory,
+};
 use std::alloc::Global;
 use std::process::Abort;
 use std::test::Fail;
@@ -41,10 +43,9 @@ fn compare<R: Threads + Sync + Abort>(
     taken: usize,
 ) -> Result<(), Fail> {
     let outcome = run_in_memory(rt, alloc, &["tree", "--hdu", hdu], bytes, 99, NONE_FAILS)?;
-    assert_eq!(rt; outcome.status, if note.is_empty() { 0 } else { 2 });
-    assert_eq!(rt; outcome.output.as_slice(), lines);
-    assert_eq!(rt; outcome.notes.as_slice(), note);
-    assert_eq!(rt; bytes.len() - outcome.left.min(bytes.len()), taken);
+    compare_end(rt, &outcome, if note.is_empty() { 0 } else { 2 }, note);
+    compare_output(rt, &outcome, lines);
+    compare_taken(rt, &outcome, bytes.len(), taken);
     Ok(())
 }
 
@@ -57,6 +58,17 @@ fn compare_refused<R: Threads + Sync + Abort>(
     compare(rt, alloc, case.hdu, &bytes, b"", case.notes, case.taken)
 }
 
+fn compare_all_refused<R: Threads + Sync + Abort>(
+    rt: &R,
+    alloc: Global,
+    cases: &[RefusedFile],
+) -> Result<(), Fail> {
+    for case in cases {
+        compare_refused(rt, alloc, *case)?;
+    }
+    Ok(())
+}
+
 fn compare_read<R: Threads + Sync + Abort>(
     rt: &R,
     alloc: Global,
@@ -66,10 +78,21 @@ fn compare_read<R: Threads + Sync + Abort>(
     compare(rt, alloc, case.hdu, &bytes, case.lines, b"", case.taken)
 }
 
+fn compare_all_read<R: Threads + Sync + Abort>(
+    rt: &R,
+    alloc: Global,
+    cases: &[ReadFile],
+) -> Result<(), Fail> {
+    for case in cases {
+        compare_read(rt, alloc, *case)?;
+    }
+    Ok(())
+}
+
 // Bytes that end within a header, and an END that isn't one.
 #[test]
 fn headers_that_end_early(rt: HostRuntime) -> Result<(), Fail> {
-    let cases: [RefusedFile; 6] = [
+    let cases: &[RefusedFile] = &[
         RefusedFile {
             hdu: "0",
             cards: b"SIMPLE  = F",
@@ -107,16 +130,13 @@ fn headers_that_end_early(rt: HostRuntime) -> Result<(), Fail> {
             taken: 2880,
         },
     ];
-    for case in cases {
-        compare_refused(&rt, rt.alloc(), case)?;
-    }
-    Ok(())
+    compare_all_refused(&rt, rt.alloc(), cases)
 }
 
 // A card that isn't the one of its place.
 #[test]
 fn mandatory_cards_out_of_place(rt: HostRuntime) -> Result<(), Fail> {
-    let cases: [RefusedFile; 4] = [
+    let cases: &[RefusedFile] = &[
         RefusedFile {
             hdu: "1",
             cards: b"SIMPLE  = T|BITPIX  = 8|NAXIS   = 0|END|#XTENSION= 'IMAGE'|BITPIX  = 8|PCOUNT  = 0|NAXIS   = 0|END|#",
@@ -142,16 +162,13 @@ fn mandatory_cards_out_of_place(rt: HostRuntime) -> Result<(), Fail> {
             taken: 320,
         },
     ];
-    for case in cases {
-        compare_refused(&rt, rt.alloc(), case)?;
-    }
-    Ok(())
+    compare_all_refused(&rt, rt.alloc(), cases)
 }
 
 // A mandatory card that has no permitted value.
 #[test]
 fn mandatory_cards_with_other_values(rt: HostRuntime) -> Result<(), Fail> {
-    let cases: [RefusedFile; 6] = [
+    let cases: &[RefusedFile] = &[
         RefusedFile {
             hdu: "0",
             cards: b"SIMPLE  = F|BITPIX  = 8|NAXIS   = 0|END|#",
@@ -189,16 +206,13 @@ fn mandatory_cards_with_other_values(rt: HostRuntime) -> Result<(), Fail> {
             taken: 2960,
         },
     ];
-    for case in cases {
-        compare_refused(&rt, rt.alloc(), case)?;
-    }
-    Ok(())
+    compare_all_refused(&rt, rt.alloc(), cases)
 }
 
 // PCOUNT and GCOUNT of an extension that can't be read, or make it no image.
 #[test]
 fn counts_at_fault(rt: HostRuntime) -> Result<(), Fail> {
-    let cases: [RefusedFile; 7] = [
+    let cases: &[RefusedFile] = &[
         RefusedFile {
             hdu: "1",
             cards: b"SIMPLE  = T|BITPIX  = 8|NAXIS   = 0|END|#XTENSION= 'IMAGE'|BITPIX  = 8|NAXIS   = 0|PCOUNT  = -1|END|#",
@@ -242,16 +256,13 @@ fn counts_at_fault(rt: HostRuntime) -> Result<(), Fail> {
             taken: 5768,
         },
     ];
-    for case in cases {
-        compare_refused(&rt, rt.alloc(), case)?;
-    }
-    Ok(())
+    compare_all_refused(&rt, rt.alloc(), cases)
 }
 
 // Behind an HDU stand other bytes, or too few.
 #[test]
 fn bytes_where_no_hdu_begins(rt: HostRuntime) -> Result<(), Fail> {
-    let cases: [RefusedFile; 3] = [
+    let cases: &[RefusedFile] = &[
         RefusedFile {
             hdu: "1",
             cards: b"SIMPLE  = T|BITPIX  = 8|NAXIS   = 0|END|#no HDU begins",
@@ -271,16 +282,13 @@ fn bytes_where_no_hdu_begins(rt: HostRuntime) -> Result<(), Fail> {
             taken: 2881,
         },
     ];
-    for case in cases {
-        compare_refused(&rt, rt.alloc(), case)?;
-    }
-    Ok(())
+    compare_all_refused(&rt, rt.alloc(), cases)
 }
 
 // Faults that a whole header shows.
 #[test]
 fn hdus_that_hold_no_image(rt: HostRuntime) -> Result<(), Fail> {
-    let cases: [RefusedFile; 3] = [
+    let cases: &[RefusedFile] = &[
         RefusedFile {
             hdu: "0",
             cards: b"SIMPLE  = T|BITPIX  = 8|NAXIS   = 3|NAXIS1  = 9223372036854775807|NAXIS2  = 9223372036854775807|NAXIS3  = 9223372036854775807|END|#",
@@ -300,16 +308,13 @@ fn hdus_that_hold_no_image(rt: HostRuntime) -> Result<(), Fail> {
             taken: 5760,
         },
     ];
-    for case in cases {
-        compare_refused(&rt, rt.alloc(), case)?;
-    }
-    Ok(())
+    compare_all_refused(&rt, rt.alloc(), cases)
 }
 
 // BSCALE, BZERO and BLANK with values that they may not have.
 #[test]
 fn scalings_that_cannot_be_read(rt: HostRuntime) -> Result<(), Fail> {
-    let cases: [RefusedFile; 5] = [
+    let cases: &[RefusedFile] = &[
         RefusedFile {
             hdu: "0",
             cards: b"SIMPLE  = T|BITPIX  = 8|NAXIS   = 2|NAXIS1  = 1|NAXIS2  = 1|BZERO   = 1E-99999999999999999999|END|#0",
@@ -341,16 +346,13 @@ fn scalings_that_cannot_be_read(rt: HostRuntime) -> Result<(), Fail> {
             taken: 2880,
         },
     ];
-    for case in cases {
-        compare_refused(&rt, rt.alloc(), case)?;
-    }
-    Ok(())
+    compare_all_refused(&rt, rt.alloc(), cases)
 }
 
 // A primary whose GROUPS is T has random groups. Another HDU with these axes has no image.
 #[test]
 fn groups_that_are_none(rt: HostRuntime) -> Result<(), Fail> {
-    let cases: [RefusedFile; 3] = [
+    let cases: &[RefusedFile] = &[
         RefusedFile {
             hdu: "0",
             cards: b"SIMPLE  = T|BITPIX  = 8|NAXIS   = 1|NAXIS1  = 0|GROUPS  = 'T'|END|#",
@@ -370,15 +372,12 @@ fn groups_that_are_none(rt: HostRuntime) -> Result<(), Fail> {
             taken: 5760,
         },
     ];
-    for case in cases {
-        compare_refused(&rt, rt.alloc(), case)?;
-    }
-    Ok(())
+    compare_all_refused(&rt, rt.alloc(), cases)
 }
 
 #[test]
 fn odd_headers_are_read(rt: HostRuntime) -> Result<(), Fail> {
-    let cases: [ReadFile; 5] = [
+    let cases: &[ReadFile] = &[
         ReadFile {
             hdu: "0",
             cards: b"SIMPLE  = T|BITPIX  = 8|NAXIS   = 2|NAXIS1  = 1|NAXIS2  = 1|PCOUNT  = 'x'|END|#0",
@@ -410,15 +409,12 @@ fn odd_headers_are_read(rt: HostRuntime) -> Result<(), Fail> {
             taken: 2881,
         },
     ];
-    for case in cases {
-        compare_read(&rt, rt.alloc(), case)?;
-    }
-    Ok(())
+    compare_all_read(&rt, rt.alloc(), cases)
 }
 
 #[test]
 fn odd_extensions_are_read(rt: HostRuntime) -> Result<(), Fail> {
-    let cases: [ReadFile; 5] = [
+    let cases: &[ReadFile] = &[
         ReadFile {
             hdu: "1",
             cards: b"SIMPLE  = T|BITPIX  = 8|NAXIS   = 0|END|#XTENSION= 'IMAGE'|BITPIX  = 8|NAXIS   = 2|NAXIS1  = 1|NAXIS2  = 1|PCOUNT  = 0|GCOUNT  = 1|PCOUNT  = 'x'|END|#0",
@@ -450,10 +446,7 @@ fn odd_extensions_are_read(rt: HostRuntime) -> Result<(), Fail> {
             taken: 11521,
         },
     ];
-    for case in cases {
-        compare_read(&rt, rt.alloc(), case)?;
-    }
-    Ok(())
+    compare_all_read(&rt, rt.alloc(), cases)
 }
 
 // These cards, so many comments, this last card, and a block of one pixel.
@@ -511,7 +504,7 @@ fn an_ordinary_frame_has_one_node(rt: HostRuntime) -> Result<(), Fail> {
     let alloc = rt.alloc();
     let bytes = frame(alloc)?;
     assert_eq!(rt; bytes.len(), 8_394_368);
-    let cases: [Meshed; 2] = [
+    let cases: &[Meshed] = &[
         Meshed {
             mesh: "0",
             lines: b"0 32768 0 - 4194304\n",

@@ -134,6 +134,22 @@ pub(crate) fn run_in_memory<R: Threads + Sync>(
     })
 }
 
+/// Compares the status and what stands on the notes.
+pub(crate) fn compare_end(rt: &impl Abort, found: &Outcome, status: u8, notes: &[u8]) {
+    assert_eq!(rt; found.status, status);
+    assert_eq!(rt; found.notes.as_slice(), notes);
+}
+
+/// Compares what stands on the output.
+pub(crate) fn compare_output(rt: &impl Abort, found: &Outcome, output: &[u8]) {
+    assert_eq!(rt; found.output.as_slice(), output);
+}
+
+/// Compares how many bytes a run took of so many.
+pub(crate) fn compare_taken(rt: &impl Abort, found: &Outcome, len: usize, taken: usize) {
+    assert_eq!(rt; len - found.left.min(len), taken);
+}
+
 /// Makes a row's run, and compares all that can be seen.
 pub(crate) fn compare<R: Threads + Sync + Abort>(
     rt: &R,
@@ -142,9 +158,20 @@ pub(crate) fn compare<R: Threads + Sync + Abort>(
 ) -> Result<(), Fail> {
     let bytes = file(alloc, row.header, row.data)?;
     let outcome = run_in_memory(rt, alloc, row.words, &bytes, ROOM, NONE_FAILS)?;
-    assert_eq!(rt; outcome.status, row.status);
-    assert_eq!(rt; outcome.output.as_slice(), row.output);
-    assert_eq!(rt; outcome.notes.as_slice(), row.notes);
-    assert_eq!(rt; bytes.len() - outcome.left.min(bytes.len()), row.taken);
+    compare_end(rt, &outcome, row.status, row.notes);
+    compare_output(rt, &outcome, row.output);
+    compare_taken(rt, &outcome, bytes.len(), row.taken);
+    Ok(())
+}
+
+/// Makes each row's run, and compares all that can be seen.
+pub(crate) fn compare_rows<R: Threads + Sync + Abort>(
+    rt: &R,
+    alloc: Global,
+    rows: &[Row],
+) -> Result<(), Fail> {
+    for row in rows {
+        compare(rt, alloc, *row)?;
+    }
     Ok(())
 }

@@ -1,5 +1,5 @@
 //! What `tree` answers: lines, refusals and the bytes taken.
-use crate::in_memory::{Row, compare};
+use crate::in_memory::{Row, compare, compare_rows};
 use std::test::Fail;
 
 // Words that give no order, and the line that says so.
@@ -11,7 +11,7 @@ struct NoOrder<'a> {
 
 #[test]
 fn small_images_have_their_lines(rt: HostRuntime) -> Result<(), Fail> {
-    let rows: [Row; 5] = [
+    let rows: &[Row] = &[
         Row {
             words: &["tree"],
             header: b"SIMPLE  = T|BITPIX  = 8|NAXIS   = 2|NAXIS1  = 3|NAXIS2  = 1|END|#",
@@ -58,15 +58,12 @@ fn small_images_have_their_lines(rt: HostRuntime) -> Result<(), Fail> {
             taken: 2882,
         },
     ];
-    for row in rows {
-        compare(&rt, rt.alloc(), row)?;
-    }
-    Ok(())
+    compare_rows(&rt, rt.alloc(), rows)
 }
 
 #[test]
 fn connectivity_4_and_8(rt: HostRuntime) -> Result<(), Fail> {
-    let rows: [Row; 4] = [
+    let rows: &[Row] = &[
         Row {
             words: &["tree"],
             header: b"SIMPLE  = T|BITPIX  = 8|NAXIS   = 2|NAXIS1  = 2|NAXIS2  = 2|END|#",
@@ -104,15 +101,12 @@ fn connectivity_4_and_8(rt: HostRuntime) -> Result<(), Fail> {
             taken: 2886,
         },
     ];
-    for row in rows {
-        compare(&rt, rt.alloc(), row)?;
-    }
-    Ok(())
+    compare_rows(&rt, rt.alloc(), rows)
 }
 
 #[test]
 fn numbers_of_16_and_32_bits(rt: HostRuntime) -> Result<(), Fail> {
-    let rows: [Row; 4] = [
+    let rows: &[Row] = &[
         Row {
             words: &["tree", "--hdu", "0"],
             header: b"SIMPLE  = T|BITPIX  = 16|NAXIS   = 2|NAXIS1  = 2|NAXIS2  = 1|BSCALE  = 1.0|BZERO   = 3.276800E+04|END|#",
@@ -152,15 +146,12 @@ fn numbers_of_16_and_32_bits(rt: HostRuntime) -> Result<(), Fail> {
             taken: 2881,
         },
     ];
-    for row in rows {
-        compare(&rt, rt.alloc(), row)?;
-    }
-    Ok(())
+    compare_rows(&rt, rt.alloc(), rows)
 }
 
 #[test]
 fn strips_and_workers_change_nothing(rt: HostRuntime) -> Result<(), Fail> {
-    let rows: [Row; 7] = [
+    let rows: &[Row] = &[
         Row {
             words: &["tree", "--strips", "1", "--workers", "1"],
             header: b"SIMPLE  = T|BITPIX  = 8|NAXIS   = 2|NAXIS1  = 3|NAXIS2  = 3|END|#",
@@ -225,15 +216,12 @@ fn strips_and_workers_change_nothing(rt: HostRuntime) -> Result<(), Fail> {
             taken: 2892,
         },
     ];
-    for row in rows {
-        compare(&rt, rt.alloc(), row)?;
-    }
-    Ok(())
+    compare_rows(&rt, rt.alloc(), rows)
 }
 
 #[test]
 fn background_is_taken_off(rt: HostRuntime) -> Result<(), Fail> {
-    let rows: [Row; 3] = [
+    let rows: &[Row] = &[
         Row {
             words: &["tree", "--mesh", "2", "--flat", "1"],
             header: b"SIMPLE  = T|BITPIX  = 8|NAXIS   = 2|NAXIS1  = 5|NAXIS2  = 2|BLANK   = 255|END|#",
@@ -262,15 +250,12 @@ fn background_is_taken_off(rt: HostRuntime) -> Result<(), Fail> {
             taken: 2886,
         },
     ];
-    for row in rows {
-        compare(&rt, rt.alloc(), row)?;
-    }
-    Ok(())
+    compare_rows(&rt, rt.alloc(), rows)
 }
 
 #[test]
 fn scaling_is_refused(rt: HostRuntime) -> Result<(), Fail> {
-    let rows: [Row; 5] = [
+    let rows: &[Row] = &[
         Row {
             words: &["tree"],
             header: b"SIMPLE  = T|BITPIX  = 8|NAXIS   = 2|NAXIS1  = 1|NAXIS2  = 1|BSCALE  = 2|END|#",
@@ -317,16 +302,13 @@ fn scaling_is_refused(rt: HostRuntime) -> Result<(), Fail> {
             taken: 2880,
         },
     ];
-    for row in rows {
-        compare(&rt, rt.alloc(), row)?;
-    }
-    Ok(())
+    compare_rows(&rt, rt.alloc(), rows)
 }
 
 // A product of 2^40 bytes is the greatest that isn't too long.
 #[test]
 fn sizes_are_refused(rt: HostRuntime) -> Result<(), Fail> {
-    let rows: [Row; 6] = [
+    let rows: &[Row] = &[
         Row {
             words: &["tree"],
             header: b"SIMPLE  = T|BITPIX  = 8|NAXIS   = 2|NAXIS1  = 65536|NAXIS2  = 1|END|#",
@@ -382,15 +364,12 @@ fn sizes_are_refused(rt: HostRuntime) -> Result<(), Fail> {
             taken: 2882,
         },
     ];
-    for row in rows {
-        compare(&rt, rt.alloc(), row)?;
-    }
-    Ok(())
+    compare_rows(&rt, rt.alloc(), rows)
 }
 
 #[test]
 fn headers_that_are_cut_are_refused(rt: HostRuntime) -> Result<(), Fail> {
-    let rows: [Row; 4] = [
+    let rows: &[Row] = &[
         Row {
             words: &["tree"],
             header: b"",
@@ -428,15 +407,12 @@ fn headers_that_are_cut_are_refused(rt: HostRuntime) -> Result<(), Fail> {
             taken: 160,
         },
     ];
-    for row in rows {
-        compare(&rt, rt.alloc(), row)?;
-    }
-    Ok(())
+    compare_rows(&rt, rt.alloc(), rows)
 }
 
 #[test]
 fn an_hdu_is_found_by_its_number(rt: HostRuntime) -> Result<(), Fail> {
-    let rows: [Row; 4] = [
+    let rows: &[Row] = &[
         Row {
             words: &["tree"],
             header: b"SIMPLE  = T|BITPIX  = 8|NAXIS   = 0|EXTEND  = T|COMMENT no value|END|#XTENSION= 'IMAGE'|BITPIX  = 8|NAXIS   = 2|NAXIS1  = 3|NAXIS2  = 1|PCOUNT  = 0|GCOUNT  = 1|EXTNAME = 'SCI'|HIERARCH ESO DET ID = 'a'|CONTINUE  'more'|END|#",
@@ -474,15 +450,12 @@ fn an_hdu_is_found_by_its_number(rt: HostRuntime) -> Result<(), Fail> {
             taken: 5762,
         },
     ];
-    for row in rows {
-        compare(&rt, rt.alloc(), row)?;
-    }
-    Ok(())
+    compare_rows(&rt, rt.alloc(), rows)
 }
 
 #[test]
 fn a_primary_is_skipped(rt: HostRuntime) -> Result<(), Fail> {
-    let rows: [Row; 2] = [
+    let rows: &[Row] = &[
         Row {
             words: &["tree", "--hdu", "1"],
             header: b"SIMPLE  = T|BITPIX  = 8|NAXIS   = 2|NAXIS1  = 3|NAXIS2  = 1|END|#",
@@ -502,15 +475,12 @@ fn a_primary_is_skipped(rt: HostRuntime) -> Result<(), Fail> {
             taken: 2883,
         },
     ];
-    for row in rows {
-        compare(&rt, rt.alloc(), row)?;
-    }
-    Ok(())
+    compare_rows(&rt, rt.alloc(), rows)
 }
 
 #[test]
 fn random_groups_are_refused(rt: HostRuntime) -> Result<(), Fail> {
-    let rows: [Row; 3] = [
+    let rows: &[Row] = &[
         Row {
             words: &["tree", "--hdu", "0"],
             header: b"SIMPLE  = T|BITPIX  = 8|NAXIS   = 1|NAXIS1  = 0|GROUPS  = T|END|#XTENSION= 'IMAGE'|BITPIX  = 8|NAXIS   = 2|NAXIS1  = 3|NAXIS2  = 1|PCOUNT  = 0|GCOUNT  = 1|EXTNAME = 'SCI'|HIERARCH ESO DET ID = 'a'|CONTINUE  'more'|END|#",
@@ -539,15 +509,12 @@ fn random_groups_are_refused(rt: HostRuntime) -> Result<(), Fail> {
             taken: 2880,
         },
     ];
-    for row in rows {
-        compare(&rt, rt.alloc(), row)?;
-    }
-    Ok(())
+    compare_rows(&rt, rt.alloc(), rows)
 }
 
 #[test]
 fn a_wrong_word_ends_the_run(rt: HostRuntime) -> Result<(), Fail> {
-    let cases: [NoOrder; 7] = [
+    let cases: &[NoOrder] = &[
         NoOrder {
             words: &[],
             notes: b"usage: word 1\n",

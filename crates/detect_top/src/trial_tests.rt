@@ -1,5 +1,5 @@
 use super::*;
-use crate::in_memory::{NONE_FAILS, run_in_memory};
+use crate::in_memory::{NONE_FAILS, compare_end, compare_output, run_in_memory};
 use crate::trial::trial_image;
 use comp_tree::Shape;
 use dev_io::MemSink;
@@ -43,7 +43,7 @@ fn a_line_tells_of_a_trial(rt: HostRuntime) -> Result<(), Fail> {
 fn a_trial_leaves_the_input(rt: HostRuntime) -> Result<(), Fail> {
     let alloc = rt.alloc();
     let bytes = b"no image".as_slice();
-    let cases: [(&[&str], &[u8]); 5] = [
+    let cases: &[(&[&str], &[u8])] = &[
         (
             &[
                 "trial", "--seed", "7", "--width", "3", "--height", "2", "--strips", "2",
@@ -81,10 +81,9 @@ fn a_trial_leaves_the_input(rt: HostRuntime) -> Result<(), Fail> {
         ),
     ];
     for (words, line) in cases {
-        let found = run_in_memory(&rt, alloc, words, bytes, 99, NONE_FAILS)?;
-        assert_eq!(rt; found.status, 0);
-        assert_eq!(rt; found.output.as_slice(), line);
-        assert_eq!(rt; found.notes.len(), 0);
+        let found = run_in_memory(&rt, alloc, *words, bytes, 99, NONE_FAILS)?;
+        compare_end(&rt, &found, 0, b"");
+        compare_output(&rt, &found, *line);
         assert_eq!(rt; found.left, bytes.len());
     }
     Ok(())
@@ -112,8 +111,8 @@ fn a_large_trial_has_one_line(rt: HostRuntime) -> Result<(), Fail> {
                 workers,
             ];
             let found = run_in_memory(&rt, alloc, &words, &[], 99, NONE_FAILS)?;
-            assert_eq!(rt; found.status, 0);
-            assert_eq!(rt; found.output.as_slice(), line);
+            compare_end(&rt, &found, 0, b"");
+            compare_output(&rt, &found, line);
         }
     }
     Ok(())
@@ -140,8 +139,8 @@ fn a_high_trial_has_one_line(rt: HostRuntime) -> Result<(), Fail> {
             workers,
         ];
         let found = run_in_memory(&rt, alloc, &words, &[], 99, NONE_FAILS)?;
-        assert_eq!(rt; found.status, 0);
-        assert_eq!(rt; found.output.as_slice(), line);
+        compare_end(&rt, &found, 0, b"");
+        compare_output(&rt, &found, line);
     }
     Ok(())
 }

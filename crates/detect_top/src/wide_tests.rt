@@ -1,12 +1,12 @@
 //! Images of 64-bit integers, also one that `filter` wrote.
-use crate::in_memory::{NONE_FAILS, Row, compare, file, run_in_memory};
+use crate::in_memory::{NONE_FAILS, Row, compare_rows, file, run_in_memory};
 use std::test::Fail;
 
 const HIGH: [u8; 8] = [0, 0, 0, 16, 0, 0, 0, 0];
 
 #[test]
 fn wide_values_have_their_lines(rt: HostRuntime) -> Result<(), Fail> {
-    let rows: [Row; 2] = [
+    let rows: &[Row] = &[
         Row {
             words: &["tree"],
             header: b"SIMPLE  = T|BITPIX  = 64|NAXIS   = 2|NAXIS1  = 3|NAXIS2  = 1|END|#",
@@ -28,10 +28,7 @@ fn wide_values_have_their_lines(rt: HostRuntime) -> Result<(), Fail> {
             taken: 2888,
         },
     ];
-    for row in rows {
-        compare(&rt, rt.alloc(), row)?;
-    }
-    Ok(())
+    compare_rows(&rt, rt.alloc(), rows)
 }
 
 #[test]
@@ -39,7 +36,7 @@ fn values_out_of_range_are_refused(rt: HostRuntime) -> Result<(), Fail> {
     let far: [u8; 24] = [
         0, 0, 0, 0, 0, 0, 0, 0, 0, 0, 0, 0, 0, 0, 0, 0, 0, 0, 0, 16, 0, 0, 0, 1,
     ];
-    let rows: [Row; 4] = [
+    let rows: &[Row] = &[
         Row {
             words: &["tree"],
             header: b"SIMPLE  = T|BITPIX  = 64|NAXIS   = 2|NAXIS1  = 3|NAXIS2  = 1|END|#",
@@ -77,10 +74,7 @@ fn values_out_of_range_are_refused(rt: HostRuntime) -> Result<(), Fail> {
             taken: 2880,
         },
     ];
-    for row in rows {
-        compare(&rt, rt.alloc(), row)?;
-    }
-    Ok(())
+    compare_rows(&rt, rt.alloc(), rows)
 }
 
 #[test]

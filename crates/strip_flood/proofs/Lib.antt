@@ -17,3 +17,6 @@ mod Packing
 mod Handing
 mod Adapting
 mod Bounding
+mod Fitting
+mod Wrapping
+mod Fresh

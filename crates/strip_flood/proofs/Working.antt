@@ -7,7 +7,7 @@ use Rattle.std.specs.List.{slice_get}
 use Rattle.std.proofs.lemmas.Int.{ints}
 use Rattle.std.proofs.lemmas.Nat.{mod-mul-add}
 use Rattle.std.proofs.lemmas.Bool.{cases_eq, cases_lt, and_parts, false_from_ne_true, true≢false}
-use Rattle.std.proofs.lemmas.List.{get_or-map, length-map, get_or-replicate, length-replicate, get_or-append_right}
+use Rattle.std.proofs.lemmas.List.{get_or-map, length-map, length-replicate, get_or-append_right}
 use Rattle.std.proofs.lemmas.Option.{slice_get_past, slice_get-get_or}
 use Rattle.std.specs.declared.alloc.Global.{Global}
 use Rattle.std.specs.declared.vec.Vec.{Vec}
@@ -28,7 +28,6 @@ use Rattle.strip_flood.specs.Jobs.{SuitsStrip, IsStanding}
 use Rattle.strip_flood.specs.JobFields.{view_of, HasJobFields}
 use Rattle.strip_flood.specs.Ranking.{IsRising, AreRanks}
 use Rattle.strip_flood.specs.Strips.{ranked_values, plane_values, values_of, ground_of, state_of, IsStrip, IsBetweenTurns, IsFresh}
-use Rattle.strip_flood.specs.Jobs.{IsAll}
 use Rattle.strip_flood.proofs.Stepping.{not_none}
 use Rattle.strip_flood.proofs.Retiring.{contains_some}
 use Rattle.strip_flood.proofs.Counting.{le_false, true_lt, count_same, sum_same}
@@ -319,13 +318,6 @@ job_flooded width height first_row end_row strip flood after job long forest sta
 }
 
 -- ---- a job is prepared
-
-pub all_of : (xs : List ℕ) (n x : ℕ) → xs ≡ replicate n x → IsAll xs x
-all_of xs n x e =
-    record {
-      each = λ i l. subst (λ ys. get_or ys i 0 ≡ x) (sym e)
-          (get_or-replicate n i x 0 (let m : length xs ≡ n = ap length e ∙ length-replicate n x in omega arith));
-    }
 
 pub rows_times : (width first_row end_row : ℕ) → first_row < end_row → end_row * width - first_row * width ≡ (end_row - first_row) * width
 rows_times width first_row end_row l = by (end_row - first_row) (omega arith) where

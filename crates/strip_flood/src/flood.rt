@@ -12,6 +12,7 @@ ghost use Rattle.level_queue.specs.Queue.{list_at, IsEmpty};
 ghost use Rattle.strip_flood.specs.Flood.{direction_count, rank_of, IsOf, IsNeighbour, IsFair, IsBusyBut, work, seen_count, looks};
 ghost use Rattle.strip_flood.specs.Strips.{ground_of, state_of, values_of, cursor_at, IsStrip, IsBetweenTurns, IsCurrent, IsTurned, IsLooking, IsCurrentWhile, IsLook, IsStepOf, IsFresh, StandsForStrip, defined_in, adjacencies_in};
 
+use crate::filled::filled;
 use crate::strip::{Strip, directions};
 use comp_tree::NONE;
 use costs::{OutOfMemory, Steps};
@@ -48,10 +49,10 @@ impl Flood {
         requires ranks { ranks ≤ 2 ^ 24 }
         ensures fresh { IfOk result (λ flood. IsFresh count ranks flood) }
     {
-        let queue = LevelQueue::new(alloc, count, ranks)?;
+        let links = filled(alloc, NONE, count as usize)?;
+        let earliest = filled(alloc, NONE, ranks as usize)?;
         let cursors = vec![in alloc; 0u8; count as usize]?;
-        let earliest = vec![in alloc; NONE; ranks as usize]?;
-        let links = vec![in alloc; NONE; count as usize]?;
+        let queue = LevelQueue::new(alloc, count, ranks)?;
         Ok(Flood {
             queue,
             cursors,

@@ -3,6 +3,7 @@
 
 mod by_order;
 mod by_table;
+mod filled;
 mod flood;
 mod job;
 mod levels;

@@ -1,5 +1,6 @@
 //! Small strips: the last pixel of at least some value on the walk from a pixel.
-ghost use Rattle.std.specs.Prelude.{◌≡◌, ◌<◌};
+ghost use Rattle.std.specs.Prelude.{◌≡◌, ◌<◌, false};
+ghost use Rattle.strip_flood.specs.Jobs.{SuitsStrip};
 
 use crate::StripJob;
 use crate::by_order::rank_by_order;
@@ -36,6 +37,42 @@ fn last(rt: &impl Abort, plane: &Plane, first: u32, links: &[u32], pixel: u32, v
     NONE
 }
 
+fn plane_of(alloc: Global, case: &Case) -> Result<Plane, Fail> {
+    let shape = Shape::of(case.width, case.height).ok_or("a shape")?;
+    let plane = Plane::of(alloc, shape, case.values)?.ok_or("a plane")?;
+    Ok(plane)
+}
+
+// The links of a job, which is flooded.
+fn links_of<A: Ledger, B: Ledger>(
+    rt: &impl Abort,
+    job: StripJob,
+    plane: &Plane,
+    case: &Case,
+    queued: &mut Steps<A>,
+    looked: &mut Steps<B>,
+) -> Vec<u32>
+    requires fit { SuitsStrip job plane.now }
+    requires unflooded { job.flooded ≡ false }
+{
+    let mut job = job;
+    assert!(rt; !job.is_flooded());
+    job.flood(plane, queued, looked);
+    assert!(rt; job.is_flooded());
+    assert_eq!(rt; job.first_row(), case.first_row);
+    assert_eq!(rt; job.end_row(), case.end_row);
+    let count = job.parents().len();
+    let links = job.into_parents();
+    assert_eq!(rt; links.len(), count);
+    links
+}
+
+fn try_lasts(rt: &impl Abort, plane: &Plane, first: u32, links: &[u32], lasts: &[(u32, i64, u32)]) {
+    for (pixel, value, wanted) in lasts {
+        assert_eq!(rt; last(rt, plane, first, links, *pixel, *value), *wanted);
+    }
+}
+
 fn try_case<A: Ledger, B: Ledger>(
     rt: &impl Abort,
     alloc: Global,
@@ -43,22 +80,12 @@ fn try_case<A: Ledger, B: Ledger>(
     queued: &mut Steps<A>,
     looked: &mut Steps<B>,
 ) -> Result<(), Fail> {
-    let shape = Shape::of(case.width, case.height).ok_or("a shape")?;
-    let plane = Plane::of(alloc, shape, case.values)?.ok_or("a plane")?;
+    let plane = plane_of(alloc, case)?;
     assert!(rt; case.first_row < case.end_row && case.end_row <= plane.shape().height);
-    let mut job = StripJob::prepare(alloc, &plane, case.connect, case.first_row, case.end_row)?;
-    assert!(rt; !job.is_flooded());
-    job.flood(&plane, queued, looked);
-    assert!(rt; job.is_flooded());
-    assert_eq!(rt; job.first_row(), case.first_row);
-    assert_eq!(rt; job.end_row(), case.end_row);
+    let job = StripJob::prepare(alloc, &plane, case.connect, case.first_row, case.end_row)?;
+    let links = links_of(rt, job, &plane, case, queued, looked);
     let first = case.first_row * plane.shape().width;
-    let count = job.parents().len();
-    let links = job.into_parents();
-    assert_eq!(rt; links.len(), count);
-    for (pixel, value, wanted) in case.lasts {
-        assert_eq!(rt; last(rt, &plane, first, &links, *pixel, *value), *wanted);
-    }
+    try_lasts(rt, &plane, first, &links, case.lasts);
     Ok(())
 }
 

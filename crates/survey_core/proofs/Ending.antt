@@ -10,7 +10,7 @@ use Rattle.survey_core.specs.declared.top.End.TheVariants.{Done, Usage, Stopped}
 use Rattle.survey_core.specs.Tables.{Table}
 use Rattle.survey_core.specs.Commands.{read, some_commands, file_words, further, commands_of}
 use Rattle.command_line.specs.Notes.{usage_line}
-use Rattle.survey_core.specs.Answers.{session_answer_by, session_answer, session_status, session_note}
+use Rattle.survey_core.specs.Answers.{session_answer_by, session_status, session_note}
 use Rattle.survey_core.specs.Ends.{SessionAnswers, EndTells, SessionEndCause}
 use Rattle.survey_core.specs.Headline.{IsCutWith}
 
@@ -53,17 +53,6 @@ module _ (words : List (List ℕ)) (bytes : List ℕ) (ts : List Table) (b : Opt
   cut_with (Stopped WriteFault) tells is high = record { stop = WriteFault; status_is = is; cut = tells }
   cut_with (Stopped NoMemory) tells is high = record { stop = NoMemory; status_is = is; cut = tells }
   cut_with (Stopped KeeperFault) tells is high = record { stop = KeeperFault; status_is = is; cut = tells }
-
-  -- a lesser one is the answer's
-  pub answers_end : (end : End) → EndTells (commands_of words) bytes ts b m w u settled end → status ≡ session_status end → status < 3
-      → (session_answer words bytes ts).end ≡ end
-  answers_end Done tells is low = tells.end_is
-  answers_end (Usage usage) tells is low = tells.end_is
-  answers_end (Stopped (Refused fault)) tells is low = tells.end_is
-  answers_end (Stopped ReadFault) tells is low = absurd (omega (arith, is, low))
-  answers_end (Stopped WriteFault) tells is low = absurd (omega (arith, is, low))
-  answers_end (Stopped NoMemory) tells is low = absurd (omega (arith, is, low))
-  answers_end (Stopped KeeperFault) tells is low = absurd (omega (arith, is, low))
 
 -- the line of a word at fault
 pub word_noted : (commands : Result (List Command) ℕ) (at : ℕ) (settled : Bool) (source source' sink sink' keeper keeper' : ℕ) (end : End) → commands ≡ Err at

@@ -12,6 +12,8 @@ mod PartLemmas
 mod Stepping
 mod Going
 mod Ending
+mod RunEnds
+mod Telling
 mod TableLaws
 mod Adding
 pub mod Exported

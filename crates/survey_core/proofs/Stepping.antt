@@ -1,13 +1,13 @@
 -- What each command does, by how it ended.
-use Rattle.std.proofs.Common.{◌≡◌, ◌∙◌, ℕ, Bool, false, cond, List, [], ◌∷◌, Some, None, refl, sym, ap, subst, arith, Err, ℤ, not, Ordering, Less}
-use Rattle.std.proofs.Common.{Equal, Greater}
-use Rattle.std.specs.Prelude.{Option, is_some, unwrap_or}
+use Rattle.std.proofs.Common.{◌≡◌, ◌∙◌, ℕ, Bool, true, false, cond, List, [], ◌∷◌, Some, None, refl, sym, ap, subst, arith, Result, Ok, Err}
+use Rattle.std.proofs.Common.{ℤ, not, Ordering, Less, Equal, Greater}
+use Rattle.std.specs.Prelude.{Option, IfErr, is_some, unwrap_or}
 use Rattle.std.specs.Ordering.{is_eq}
 use Rattle.std.proofs.KnownBytes.{Appends-nil}
 use Rattle.dev_io.specs.Streams.{TakesAtMost}
 use Rattle.survey_core.specs.declared.keeper.Refused.{Refused as Why}
 use Rattle.survey_core.specs.declared.keeper.Refused.TheVariants as why
-use Rattle.survey_core.specs.declared.words.Command.TheVariants.{Add}
+use Rattle.survey_core.specs.declared.words.Command.TheVariants.{Add, Drop}
 use Rattle.survey_core.specs.declared.fault.Stop.{Stop}
 use Rattle.survey_core.specs.declared.fault.Stop.TheVariants.{Refused, ReadFault, WriteFault, NoMemory, KeeperFault}
 use Rattle.survey_core.specs.declared.fault.Fault.TheVariants.{NoSuchField}
@@ -26,6 +26,11 @@ use Rattle.survey_core.proofs.Printing.{none_taken}
 pub becomes_at : (a b : Option (List Table)) (x : List Table) (change : List Table → List Table) → Becomes a b change → a ≡ Some x → b ≡ Some (change x)
 becomes_at None b x change h e = absurd (cc)
 becomes_at (Some y) b x change h e = h ∙ ap (λ o. Some (change (unwrap_or o y))) e
+
+-- what stands behind a stop whatever a count is, stands behind it at this one
+pub cause_at : {A : Type 0} (r : Result Unit Stop) (P : Stop → A → Type 0) (n : A) → IfErr r (λ stop. (k : A) → P stop k) → IfErr r (λ stop. P stop n)
+cause_at (Ok done) P n h = tt
+cause_at (Err stop) P n h = h n
 
 -- ---- add
 
@@ -129,3 +134,63 @@ pub not_there : (field bytes : List ℕ) (ts : List Table) (k : Option (List Tab
 not_there field bytes ts k w found no_it is removed =
     let missing : is_some (cells_of_field field ts) ≡ false = sym is ∙ no_it in
     rw missing (record { stop_is = refl; takes = none_taken bytes; tables_are = removed ∙ ap Some (absent field ts missing); appended = Appends-nil w })
+
+pub there : (field bytes : List ℕ) (ts : List Table) (k : Option (List Table)) (w : Option (List ℕ)) (found : Bool) → found ≡ true
+    → found ≡ is_some (cells_of_field field ts) → k ≡ Some (without_field field ts)
+    → Does (cond (is_some (cells_of_field field ts)) (changes 0 (without_field field ts)) (fails (Refused NoSuchField) 0 ts)) bytes (Some bytes) k w w None
+there field bytes ts k w found it_is is removed =
+    let here : is_some (cells_of_field field ts) ≡ true = sym is ∙ it_is in
+    rw here (record { stop_is = refl; takes = none_taken bytes; tables_are = removed; appended = Appends-nil w })
+
+-- the keeper refused: nothing is done, whether or not the field is there
+pub not_dropped : (field bytes : List ℕ) (ts : List Table) (there : Bool) (k : Option (List Table)) (w : Option (List ℕ)) (refused : Why) (stop : Stop)
+    → stop ≡ stop_at_keeper refused → k ≡ Some ts
+    → Step (cond there (changes 0 (without_field field ts)) (fails (Refused NoSuchField) 0 ts)) (Drop field) bytes ts (Some bytes) k w w (Err stop)
+not_dropped field bytes ts there k w refused stop stop_is is =
+    subst
+    (λ s. Step (cond there (changes 0 (without_field field ts)) (fails (Refused NoSuchField) 0 ts)) (Drop field) bytes ts (Some bytes) k w w (Err s))
+    (sym stop_is) (by refused there)
+  where
+    by : (refused : Why) (there : Bool)
+        → Step (cond there (changes 0 (without_field field ts)) (fails (Refused NoSuchField) 0 ts)) (Drop field) bytes ts (Some bytes) k w w
+        (Err (stop_at_keeper refused))
+    by why.Fault true = record {
+      may_come = tt;
+      lost = record { count = 0; few = omega arith; takes = none_taken bytes };
+      tables_are = is;
+      front = [];
+      back = [];
+      split = refl;
+      appended = Appends-nil w;
+      is_front = refl;
+    }
+    by why.Fault false = record {
+      may_come = tt;
+      lost = record { count = 0; few = omega arith; takes = none_taken bytes };
+      tables_are = is;
+      front = [];
+      back = [];
+      split = refl;
+      appended = Appends-nil w;
+      is_front = refl;
+    }
+    by why.OutOfMemory true = record {
+      may_come = tt;
+      lost = record { count = 0; few = omega arith; takes = none_taken bytes };
+      tables_are = is;
+      front = [];
+      back = [];
+      split = refl;
+      appended = Appends-nil w;
+      is_front = refl;
+    }
+    by why.OutOfMemory false = record {
+      may_come = tt;
+      lost = record { count = 0; few = omega arith; takes = none_taken bytes };
+      tables_are = is;
+      front = [];
+      back = [];
+      split = refl;
+      appended = Appends-nil w;
+      is_front = refl;
+    }

@@ -66,7 +66,7 @@ impl Fault {
 }
 
 /// What a fault names besides itself.
-#[derive(Clone, Copy, Debug, PartialEq, Eq)]
+#[derive(Clone, Copy)]
 pub(crate) enum FaultPlace {
     Card(CardPlace),
     /// The number of the row, from 1.
@@ -74,7 +74,7 @@ pub(crate) enum FaultPlace {
 }
 
 /// What stops a command.
-#[derive(Clone, Copy, Debug, PartialEq, Eq)]
+#[derive(Clone, Copy)]
 pub(crate) enum Stop {
     Refused(Fault),
     ReadFault,

@@ -21,7 +21,7 @@ use dev_io::{Sink, Source};
 use std::alloc::Global;
 
 /// How a session ends.
-#[derive(Clone, Copy, Debug, PartialEq, Eq)]
+#[derive(Clone, Copy)]
 pub(crate) enum End {
     Done,
     Usage(Usage),

@@ -19,7 +19,7 @@ pub(crate) enum Command {
 }
 
 /// There are no commands, and this word is at fault, counted from 1. A word that is missing stands behind the last.
-#[derive(Clone, Copy, Debug, PartialEq, Eq)]
+#[derive(Clone, Copy)]
 pub(crate) struct Usage {
     pub(crate) word: usize,
 }

@@ -1,4 +1,5 @@
 use Rattle.std.proofs.Common.{◌∙◌, take_all, ap, sym, refl}
+use Rattle.std.proofs.lemmas.List.Folds.{list_all_at}
 use Rattle.std.specs.List.{list_all}
 use Rattle.comp_tree.proofs.Values.{kept_more}
 use Rattle.comp_tree.specs.Raster.{is_pixel_value as may_stand}
@@ -20,3 +21,7 @@ returns-clause-there c =
 
 pub returns-clause-same : goal.returns-clause-same
 returns-clause-same c = c.loop-value.invariant.0 ∙ take_all c.loop-value.value-index c.args.values.now c.loop-value-test.false
+
+pub returns-then-not-is_pixel_value-clause-there : goal.returns-then-not-is_pixel_value-clause-there
+returns-then-not-is_pixel_value-clause-there c =
+    sym (list_all_at may_stand c.args.values.now c.loop-value.value-index _ c.loop-value-test.true (sym c.if-not-is_pixel_value.ensures.test))

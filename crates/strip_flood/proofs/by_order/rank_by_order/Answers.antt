@@ -7,11 +7,13 @@ use Rattle.strip_flood.specs.Ranking.{AreRanks}
 use Rattle.strip_flood.specs.Keys.{key_of, IsKey, IsCountWith}
 use Rattle.strip_flood.proofs.Packing.{same_read, place_within, is_low, is_high}
 use Rattle.strip_flood.proofs.Handing.{handing_first, handed, handing_done}
+use Rattle.strip_flood.proofs.Fitting.{gap_fits, count_fits, place_fits, index_within, last_within, last_few}
+use Rattle.std.proofs.lemmas.Result.{IfOk-from_err}
 use Rattle.strip_flood.proofs.by_order.rank_by_order.Goals as goal
 
 pub loop-k-init : goal.loop-k-init
 loop-k-init c =
-    let none : c.in_ok-ranks.ranks.items ≡ replicate (c.args.end - c.args.first) no_node = c.in_ok-ranks.ensures.items_if_clones_equal (λ y e. e) in
+    let none : c.in_ok-ranks.ranks.items ≡ replicate (c.args.end - c.args.first) no_node = c.in_ok-ranks.ensures in
     let as_long : length c.sort_unstable.new.self.items ≡ length c.in_ok-levels.levels.items =
     (sym c.sort_unstable.new.self.ok.0 ∙ (c.sort_unstable.ensures.len ∙ c.in_ok-levels.levels.ok.0)) in
     let few : length c.in_ok-levels.levels.items ≤ c.args.end - c.args.first = c.in_ok-levels.ensures.few in
@@ -101,3 +103,67 @@ returns-clause-ranks c =
     (c.args.end - c.args.first) c.loop-k.levels.items c.loop-k.ranks.items c.loop-k.k c.loop-k.count c.requires.few c.loop-k.invariant.ranks
     (omega arith) (omega arith)
     (let k : c.loop-k.k ≤ c.len-total.result = omega arith in omega arith) c.loop-k.invariant.handing)
+
+pub returns-in_err-levels-clause-rising : goal.returns-in_err-levels-clause-rising
+returns-in_err-levels-clause-rising c = IfOk-from_err _ _ c.from_residual.ensures.0
+
+pub returns-in_err-levels-clause-few : goal.returns-in_err-levels-clause-few
+returns-in_err-levels-clause-few c = IfOk-from_err _ _ c.from_residual.ensures.0
+
+pub returns-in_err-levels-clause-length : goal.returns-in_err-levels-clause-length
+returns-in_err-levels-clause-length c = IfOk-from_err _ _ c.from_residual.ensures.0
+
+pub returns-in_err-levels-clause-ranks : goal.returns-in_err-levels-clause-ranks
+returns-in_err-levels-clause-ranks c = IfOk-from_err _ _ c.from_residual.ensures.0
+
+pub returns-in_err-ranks-clause-rising : goal.returns-in_err-ranks-clause-rising
+returns-in_err-ranks-clause-rising c = IfOk-from_err _ _ c.from_residual-in_err-ranks.ensures.0
+
+pub returns-in_err-ranks-clause-few : goal.returns-in_err-ranks-clause-few
+returns-in_err-ranks-clause-few c = IfOk-from_err _ _ c.from_residual-in_err-ranks.ensures.0
+
+pub returns-in_err-ranks-clause-length : goal.returns-in_err-ranks-clause-length
+returns-in_err-ranks-clause-length c = IfOk-from_err _ _ c.from_residual-in_err-ranks.ensures.0
+
+pub returns-in_err-ranks-clause-ranks : goal.returns-in_err-ranks-clause-ranks
+returns-in_err-ranks-clause-ranks c = IfOk-from_err _ _ c.from_residual-in_err-ranks.ensures.0
+
+pub keys_of-requires-clause-order : goal.keys_of-requires-clause-order
+keys_of-requires-clause-order c = c.requires.order
+
+pub keys_of-requires-clause-inside : goal.keys_of-requires-clause-inside
+keys_of-requires-clause-inside c = c.requires.inside
+
+pub keys_of-requires-clause-few : goal.keys_of-requires-clause-few
+keys_of-requires-clause-few c = c.requires.few
+
+pub overflow_sub-end : goal.overflow_sub-end
+overflow_sub-end c = c.requires.order
+
+pub overflow_cast-end : goal.overflow_cast-end
+overflow_cast-end c = gap_fits c.args.end c.args.first c.ranges.end
+
+pub index-requires : goal.index-requires
+index-requires c = index_within c.loop-k.k c.len-total.result (length c.loop-k.levels.items) c.loop-k.levels.len c.loop-k.levels.ok.0
+    c.loop-k.invariant.size c.loop-k-test.true
+
+pub overflow_sub-count : goal.overflow_sub-count
+overflow_sub-count c = c.counted-count.ensures.some
+
+pub index_mut-requires : goal.index_mut-requires
+index_mut-requires c = last_within c.counted-count.result c.loop-k.count c.loop-k.k c.len-total.result (length c.loop-k.levels.items)
+    c.loop-k.levels.len c.loop-k.levels.ok.0 c.loop-k.invariant.size c.counted-count.ensures.some c.counted-count.ensures.one
+    c.loop-k.invariant.handing.few c.loop-k-test.true
+
+pub overflow_sub-count-in-loop-k : goal.overflow_sub-count-in-loop-k
+overflow_sub-count-in-loop-k c = c.counted-count.ensures.some
+
+pub overflow_cast-count : goal.overflow_cast-count
+overflow_cast-count c = count_fits (c.counted-count.result - 1) (last_few c.counted-count.result c.loop-k.count c.loop-k.k c.len-total.result
+    (c.args.end - c.args.first) c.counted-count.ensures.one c.loop-k.invariant.handing.few c.loop-k-test.true c.loop-k.invariant.few c.requires.few)
+
+pub overflow_cast-key : goal.overflow_cast-key
+overflow_cast-key c = place_fits c.unpack-key.result.place c.unpack-key.ensures.place
+
+pub returns-clause-length : goal.returns-clause-length
+returns-clause-length c = c.loop-k.invariant.ranks

@@ -1,4 +1,5 @@
-use Rattle.std.proofs.Common.{arith, rules}
+use Rattle.std.proofs.Common.{ℕ, arith, rules, subst}
+use Rattle.survey_core.specs.Reads.{AreTableRows}
 use Rattle.survey_core.proofs.CatalogueLemmas.{no_rows, rows_short, rows_more, rows_wanted, cells_more}
 use Rattle.survey_core.proofs.catalogue.read_rows.Goals as goal
 
@@ -24,3 +25,7 @@ pub returns-in-Err-add_row-clause-told : goal.returns-in-Err-add_row-clause-told
 returns-in-Err-add_row-clause-told g c = λ bytes told.
     let rows = c.loop.invariant.told bytes told in
     rows_wanted bytes c.loop.counter c.args.count _ _ _ _ rows c.loop-test.true (c.in_default.ensures.told _ rows.takes.rest)
+
+pub returns-clause-told : goal.returns-clause-told
+returns-clause-told g c = λ bytes told.
+    subst (λ (n : ℕ). AreTableRows bytes n (g.S.Source.left c.loop.src) c.loop.cells.items) (omega arith) (c.loop.invariant.told bytes told)

@@ -28,3 +28,9 @@ returns-clause-told g c = from_some _ _ (λ ts told.
     c.loop-name.invariant.so_far ts told
     ∙ ap (map table_summary) (take_all c.loop-name.name-index ts
     (omega (arith, c.loop-name-test.false, ap length c.deref-name-items.ensures.value, ap length names, names_long ts))))
+
+pub returns-in-Err-cells_kept-clause-kept : goal.returns-in-Err-cells_kept-clause-kept
+returns-in-Err-cells_kept-clause-kept g c = stays_on _ _ _ c.loop-name.invariant.kept c.in-Err-cells_kept.ensures.kept
+
+pub returns-in-Err-cells_kept-clause-later : goal.returns-in-Err-cells_kept-clause-later
+returns-in-Err-cells_kept-clause-later g c = omega (arith, c.loop-name.invariant.later, c.in-Err-cells_kept.ensures.later)

@@ -41,3 +41,15 @@ returns-clause-told g c = from_some _ _ (λ ts told.
     let best = best_of c.args.most _ (ap all_rows all) (c.loop-name.invariant.so_far ts told) in
     best_sorted c.args.most (all_rows ts) _ _ best (rows_differ ts are) c.into_sorted_vec.ensures.permutation (c.into_sorted_vec.ensures.sorted best.heap)
     ∙ places_are ts c.args.most are)
+
+pub returns-in-Err-cells_kept-clause-kept : goal.returns-in-Err-cells_kept-clause-kept
+returns-in-Err-cells_kept-clause-kept g c = stays_on _ _ _ c.loop-name.invariant.kept c.in-Err-cells_kept.ensures.kept
+
+pub returns-in-Err-cells_kept-clause-later : goal.returns-in-Err-cells_kept-clause-later
+returns-in-Err-cells_kept-clause-later g c = omega (arith, c.loop-name.invariant.later, c.in-Err-cells_kept.ensures.later)
+
+pub returns-in-Err-rank_all-clause-kept : goal.returns-in-Err-rank_all-clause-kept
+returns-in-Err-rank_all-clause-kept g c = stays_on _ _ _ c.loop-name.invariant.kept c.in-Ok-cells_kept.ensures.kept
+
+pub returns-in-Err-rank_all-clause-later : goal.returns-in-Err-rank_all-clause-later
+returns-in-Err-rank_all-clause-later g c = omega (arith, c.loop-name.invariant.later, c.in-Ok-cells_kept.ensures.later)

@@ -35,3 +35,17 @@ returns-then-is_none-clause-changed g c =
     c.self.invariant none c.change_all.ensures.one_each in
     subst (λ (ys : List (Option ℤ)). AllInChunks g.F.Fn c.args.change.now c.args.size c.args.self.now ys) new
     (subst (λ (xs : List (Option ℤ)). AllInChunks g.F.Fn c.args.change.now c.args.size xs c.change_all.new.pixels.items) all c.change_all.ensures.changed)
+
+pub change_all-requires-2-clause-accepts : goal.change_all-requires-2-clause-accepts
+change_all-requires-2-clause-accepts g c κs within =
+    subst (λ (xs : List (Option ℤ)). AcceptsChunksMut g.F.Fn c.args.change.now c.args.size xs) (sym c.in_ok-pixels.ensures) c.requires.accepts
+
+pub returns-clause-one_each : goal.returns-clause-one_each
+returns-clause-one_each g c =
+    ap length (c.of-2.view_is ∙ c.of.ensures) ∙ c.change_all-2.ensures.one_each ∙ ap length c.in_ok-pixels.ensures
+
+pub returns-clause-changed : goal.returns-clause-changed
+returns-clause-changed g c =
+    subst (λ (ys : List (Option ℤ)). AllInChunks g.F.Fn c.args.change.now c.args.size c.args.self.now ys) (sym (c.of-2.view_is ∙ c.of.ensures))
+    (subst (λ (xs : List (Option ℤ)). AllInChunks g.F.Fn c.args.change.now c.args.size xs c.change_all-2.new.pixels.items)
+    c.in_ok-pixels.ensures c.change_all-2.ensures.changed)

@@ -1,0 +1,12 @@
+use Rattle.survey_core.specs.Answers.{session_note}
+use Rattle.survey_core.proofs.Telling.{noted_front, noted_line}
+use Rattle.survey_core.proofs.notes.tell.Goals as goal
+
+pub returns-in-Err : goal.returns-in-Err
+returns-in-Err g c = noted_front _ _ _ _ _ (session_note c.args.end) _ c.in-Err.ensures.bytes c.in-Err.ensures.cause
+
+pub returns : goal.returns
+returns g c =
+    let put = c.in_default-put_note.ensures.cause in
+    noted_line _ _ _ _ _ _ _ (session_note c.args.end) c.done.result c.in_default-put_note.ensures.bytes put.later c.done.ensures.bytes
+    c.done.ensures.settled c.done.ensures.cause
