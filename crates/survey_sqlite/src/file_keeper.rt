@@ -1,16 +1,16 @@
 //! Tables in a database file.
-ghost use Rattle.std.specs.Prelude.{◌≡◌, ◌≤◌, IfOk, IfErr, IfSome};
+ghost use Rattle.std.specs.Prelude.{◌≡◌, IfOk, IfSome};
 ghost use Rattle.std.specs.Option.{option_map};
 ghost use Rattle.survey_core.specs.Tables.{IsNumbered, cells_of_field, names_of};
 ghost use Rattle.survey_core.specs.Clauses.{Stays, HasFault};
 ghost use Rattle.survey_sqlite.specs.Steps.{AreRising};
-ghost use Rattle.dev_io.specs.Causes.{Rose};
+ghost use Rattle.survey_sqlite.specs.Blobs.{blob_cells};
 
 use crate::blob::blob_of;
-use crate::reading::Unread;
+use crate::faults::{refused, unshown};
 use crate::shown::{Unshown, cells_shown, names_shown};
 use crate::statements::{make_table, put_row, remove_row};
-use sqlite::{Connection, Error, ErrorCode, File, FileStore};
+use sqlite::{Connection, Error, File, FileStore};
 use std::alloc::Global;
 use std::rt::HostRuntime;
 use survey_core::{Field, Keeper, Refused};
@@ -24,11 +24,18 @@ pub struct FileKeeper<'a> {
     faults: u64,
 }
 
-/// The database of the file, with the table.
+/// The database of the file, with the table. Where a connection is let go, `drop` says so: the proof is then that of a call.
 fn opened(rt: &HostRuntime, path: &str) -> Result<Connection<FileStore<File>>, Error> {
-    let mut conn = Connection::open(rt, path)?;
-    make_table(&mut conn)?;
-    Ok(conn)
+    match Connection::open(rt, path) {
+        Ok(mut conn) => match make_table(&mut conn) {
+            Ok(()) => Ok(conn),
+            Err(error) => {
+                drop(conn);
+                Err(error)
+            }
+        },
+        Err(error) => Err(error),
+    }
 }
 
 impl<'a> FileKeeper<'a> {
@@ -47,28 +54,81 @@ impl<'a> FileKeeper<'a> {
     }
 
     /// Takes the connection out, or makes one.
-    fn taken(&mut self) -> Result<Connection<FileStore<File>>, Refused>
-        ensures later { self.old.faults ≤ self.new.faults }
-        ensures rose { IfErr result (λ why. why ≡ Refused.Fault → Rose self.old.faults self.new.faults) }
+    fn taken(&mut self) -> Result<Connection<FileStore<File>>, Error>
+        ensures { self.new.faults ≡ self.old.faults }
     {
         match self.conn.take() {
             Some(conn) => Ok(conn),
-            None => match opened(self.rt, self.path) {
-                Ok(conn) => Ok(conn),
-                Err(error) => Err(self.refused(error)),
-            },
+            None => opened(self.rt, self.path),
         }
     }
 
-    /// Counts what the database refused, if not for want of memory.
-    fn refused(&mut self, error: Error) -> Refused
-        ensures later { self.old.faults ≤ self.new.faults }
-        ensures rose { result ≡ Refused.Fault → Rose self.old.faults self.new.faults }
+    /// Puts the connection back. None stands in its place, which `taken` left empty.
+    fn put_back(&mut self, conn: Connection<FileStore<File>>)
+        ensures { self.new.faults ≡ self.old.faults }
     {
-        if matches!(error, Error::SqliteFailure(ErrorCode::OutOfMemory)) {
-            return Refused::OutOfMemory;
+        if let Some(other) = self.conn.replace(conn) {
+            let _ = other.close();
         }
-        self.fault()
+    }
+
+    /// Gives the field this blob.
+    fn put(&mut self, field: &Field, blob: &[u8]) -> Result<usize, Error>
+        requires { IsNumbered (blob_cells blob.now) }
+        ensures { self.new.faults ≡ self.old.faults }
+    {
+        match self.taken() {
+            Ok(mut conn) => {
+                let done = put_row(&mut conn, field, blob);
+                self.put_back(conn);
+                done
+            }
+            Err(error) => Err(error),
+        }
+    }
+
+    /// Takes the field out, and answers how many rows that changed.
+    fn take_out(&mut self, field: &Field) -> Result<usize, Error>
+        ensures { self.new.faults ≡ self.old.faults }
+    {
+        match self.taken() {
+            Ok(mut conn) => {
+                let done = remove_row(&mut conn, field);
+                self.put_back(conn);
+                done
+            }
+            Err(error) => Err(error),
+        }
+    }
+
+    /// The fields, in order.
+    fn fields(&mut self, alloc: Global) -> Result<Vec<Field>, Unshown>
+        ensures same { self.new.faults ≡ self.old.faults }
+        ensures rising { IfOk result (λ fields. AreRising fields.items) }
+    {
+        match self.taken() {
+            Ok(mut conn) => {
+                let shown = names_shown(alloc, &mut conn);
+                self.put_back(conn);
+                shown
+            }
+            Err(error) => Err(Unshown::Refused(error)),
+        }
+    }
+
+    /// The cells of the field, if it is there.
+    fn cells(&mut self, alloc: Global, field: &Field) -> Result<Option<Vec<i64>>, Unshown>
+        ensures same { self.new.faults ≡ self.old.faults }
+        ensures numbered { IfOk result (λ cells. IfSome cells (λ cells. IsNumbered cells.items)) }
+    {
+        match self.taken() {
+            Ok(mut conn) => {
+                let shown = cells_shown(alloc, &mut conn, field);
+                self.put_back(conn);
+                shown
+            }
+            Err(error) => Err(Unshown::Refused(error)),
+        }
     }
 
     /// Copies the file's log into it, so that the file alone holds the tables. Where that fails they stay in the log, where the next
@@ -77,25 +137,6 @@ impl<'a> FileKeeper<'a> {
         if let Some(conn) = self.conn {
             let _ = conn.close();
         }
-    }
-
-    fn unshown(&mut self, why: Unshown) -> Refused
-        ensures later { self.old.faults ≤ self.new.faults }
-        ensures rose { result ≡ Refused.Fault → Rose self.old.faults self.new.faults }
-    {
-        match why {
-            Unshown::Refused(error) => self.refused(error),
-            Unshown::Unread(Unread::OutOfMemory) => Refused::OutOfMemory,
-            Unshown::Unread(Unread::Malformed) => self.fault(),
-        }
-    }
-
-    fn fault(&mut self) -> Refused
-        ensures later { self.old.faults ≤ self.new.faults }
-        ensures rose { Rose self.old.faults self.new.faults }
-    {
-        self.faults = self.faults.saturating_add(1);
-        Refused::Fault
     }
 }
 
@@ -111,28 +152,16 @@ impl Keeper for FileKeeper<'_> {
             Ok(blob) => blob,
             Err(_) => return Err(Refused::OutOfMemory),
         };
-        let mut conn = match self.taken() {
-            Ok(conn) => conn,
-            Err(refused) => return Err(refused),
-        };
-        let done = put_row(&mut conn, &field, &blob);
-        self.conn = Some(conn);
-        match done {
+        match self.put(&field, &blob) {
             Ok(_) => Ok(()),
-            Err(error) => Err(self.refused(error)),
+            Err(error) => Err(refused(&mut self.faults, error)),
         }
     }
 
     fn remove(&mut self, _alloc: Global, field: Field) -> Result<bool, Refused> {
-        let mut conn = match self.taken() {
-            Ok(conn) => conn,
-            Err(refused) => return Err(refused),
-        };
-        let done = remove_row(&mut conn, &field);
-        self.conn = Some(conn);
-        match done {
+        match self.take_out(&field) {
             Ok(count) => Ok(count == 1),
-            Err(error) => Err(self.refused(error)),
+            Err(error) => Err(refused(&mut self.faults, error)),
         }
     }
 
@@ -143,15 +172,9 @@ impl Keeper for FileKeeper<'_> {
         // Whatever the file holds, the fields that come of it rise.
         ensures rising { IfOk result (λ fields. AreRising fields.items) }
     {
-        let mut conn = match self.taken() {
-            Ok(conn) => conn,
-            Err(refused) => return Err(refused),
-        };
-        let shown = names_shown(alloc, &mut conn);
-        self.conn = Some(conn);
-        match shown {
+        match self.fields(alloc) {
             Ok(fields) => Ok(fields),
-            Err(why) => Err(self.unshown(why)),
+            Err(why) => Err(unshown(&mut self.faults, why)),
         }
     }
 
@@ -162,15 +185,9 @@ impl Keeper for FileKeeper<'_> {
         // Whatever the file holds, what comes of it is whole rows, each with the number of its place.
         ensures numbered { IfOk result (λ rows. IfSome rows (λ cells. IsNumbered cells.items)) }
     {
-        let mut conn = match self.taken() {
-            Ok(conn) => conn,
-            Err(refused) => return Err(refused),
-        };
-        let shown = cells_shown(alloc, &mut conn, &field);
-        self.conn = Some(conn);
-        match shown {
+        match self.cells(alloc, &field) {
             Ok(cells) => Ok(cells),
-            Err(why) => Err(self.unshown(why)),
+            Err(why) => Err(unshown(&mut self.faults, why)),
         }
     }
 

@@ -2,6 +2,7 @@
 #![tactic(auto)]
 
 mod blob;
+mod faults;
 mod file_keeper;
 mod in_memory;
 mod reading;

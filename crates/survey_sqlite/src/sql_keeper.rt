@@ -1,12 +1,16 @@
 //! Tables in a database in memory.
-ghost use Rattle.std.specs.Prelude.{◌≡◌, ◌≤◌, IfSome, IfOk, IfErr, OnOk, OnErr, List, [], Err, Some};
-ghost use Rattle.dev_io.specs.Causes.{Rose};
+ghost use Rattle.std.specs.Prelude.{◌≡◌, ◌==◌, IfSome, IfOk, OnOk, OnErr, List, [], Some, is_some};
+ghost use Rattle.survey_core.specs.Tables.{IsNumbered, put, without_field, cells_of_field};
+ghost use Rattle.survey_sqlite.specs.Blobs.{blob_cells};
+ghost use Rattle.survey_sqlite.specs.Calls.{are_names};
+ghost use Rattle.survey_sqlite.specs.Rows.{IsCellsOf};
 ghost use Rattle.survey_sqlite.specs.Keepers.{tables_held, Rests};
 
 use crate::blob::blob_of;
+use crate::faults::{refused, unread};
 use crate::in_memory;
-use crate::reading::{Unread, read_cells, read_names};
-use sqlite::{Connection, Error, ErrorCode, MemStore};
+use crate::reading::{read_cells, read_names};
+use sqlite::{Connection, Error, MemStore, Row};
 use std::alloc::Global;
 use survey_core::{Field, Keeper, Refused};
 
@@ -33,52 +37,95 @@ impl SqlKeeper {
     }
 
     /// Takes the connection out, or makes one.
-    fn taken(&mut self, alloc: Global) -> Result<Connection<MemStore>, Refused>
+    fn taken(&mut self, alloc: Global) -> Result<Connection<MemStore>, Error>
         ensures rests { IfOk result (λ conn. ∥ Rests conn ∥₁) }
         ensures tables { IfOk result (λ conn. tables_held (Some conn) ≡ tables_held self.old.conn) }
         ensures kept { OnErr result (tables_held self.new.conn ≡ tables_held self.old.conn) }
-        ensures later { self.old.faults ≤ self.new.faults }
-        ensures rose { IfErr result (λ why. why ≡ Refused.Fault → Rose self.old.faults self.new.faults) }
+        ensures same { self.new.faults ≡ self.old.faults }
     {
         match self.conn.take() {
             Some(conn) => Ok(conn),
-            None => match in_memory::open(alloc) {
-                Ok(conn) => Ok(conn),
-                Err(error) => Err(self.refused(error)),
-            },
+            None => in_memory::open(alloc),
         }
     }
 
-    /// Counts what the database refused, if not for want of memory.
-    fn refused(&mut self, error: Error) -> Refused
-        ensures same { self.new.conn ≡ self.old.conn }
-        ensures later { self.old.faults ≤ self.new.faults }
-        ensures rose { result ≡ Refused.Fault → Rose self.old.faults self.new.faults }
+    /// Puts the connection back.
+    fn put_back(&mut self, conn: Connection<MemStore>)
+        requires { ∥ Rests conn ∥₁ }
+        ensures there { self.new.conn ≡ Some conn }
+        ensures same { self.new.faults ≡ self.old.faults }
     {
-        if matches!(error, Error::SqliteFailure(ErrorCode::OutOfMemory)) {
-            return Refused::OutOfMemory;
-        }
-        self.fault()
+        self.conn.replace(conn);
     }
 
-    fn unread(&mut self, unread: Unread) -> Refused
-        ensures same { self.new.conn ≡ self.old.conn }
-        ensures later { self.old.faults ≤ self.new.faults }
-        ensures rose { result ≡ Refused.Fault → Rose self.old.faults self.new.faults }
+    /// Gives the field this blob.
+    fn put(&mut self, alloc: Global, field: &Field, blob: &[u8]) -> Result<usize, Error>
+        requires { IsNumbered (blob_cells blob.now) }
+        ensures done { OnOk result
+            (tables_held self.new.conn ≡ put field.now (blob_cells blob.now) (tables_held self.old.conn)) }
+        ensures kept { OnErr result (tables_held self.new.conn ≡ tables_held self.old.conn) }
+        ensures same { self.new.faults ≡ self.old.faults }
     {
-        match unread {
-            Unread::OutOfMemory => Refused::OutOfMemory,
-            Unread::Malformed => self.fault(),
+        match self.taken(alloc) {
+            Ok(mut conn) => {
+                let done = in_memory::put(&mut conn, field, blob);
+                self.put_back(conn);
+                done
+            }
+            Err(error) => Err(error),
         }
     }
 
-    fn fault(&mut self) -> Refused
-        ensures same { self.new.conn ≡ self.old.conn }
-        ensures later { self.old.faults ≤ self.new.faults }
-        ensures rose { Rose self.old.faults self.new.faults }
+    /// Takes the field out, and answers how many rows that changed.
+    fn take_out(&mut self, alloc: Global, field: &Field) -> Result<usize, Error>
+        ensures done { OnOk result
+            (tables_held self.new.conn ≡ without_field field.now (tables_held self.old.conn)) }
+        ensures found { IfOk result
+            (λ count. (count == 1) ≡ is_some (cells_of_field field.now (tables_held self.old.conn))) }
+        ensures kept { OnErr result (tables_held self.new.conn ≡ tables_held self.old.conn) }
+        ensures same { self.new.faults ≡ self.old.faults }
     {
-        self.faults = self.faults.saturating_add(1);
-        Refused::Fault
+        match self.taken(alloc) {
+            Ok(mut conn) => {
+                let done = in_memory::remove(&mut conn, field);
+                self.put_back(conn);
+                done
+            }
+            Err(error) => Err(error),
+        }
+    }
+
+    /// The names of the fields, each in a row.
+    fn listed(&mut self, alloc: Global) -> Result<Vec<Row>, Error>
+        ensures names { IfOk result (λ rows. rows.items ≡ are_names (tables_held self.old.conn)) }
+        ensures kept { tables_held self.new.conn ≡ tables_held self.old.conn }
+        ensures same { self.new.faults ≡ self.old.faults }
+    {
+        match self.taken(alloc) {
+            Ok(mut conn) => {
+                let found = in_memory::names(&mut conn);
+                self.put_back(conn);
+                found
+            }
+            Err(error) => Err(error),
+        }
+    }
+
+    /// The rows that have the field's blob.
+    fn found(&mut self, alloc: Global, field: &Field) -> Result<Vec<Row>, Error>
+        ensures cells { IfOk result
+            (λ rows. ∥ IsCellsOf (tables_held self.old.conn) field.now rows.items ∥₁) }
+        ensures kept { tables_held self.new.conn ≡ tables_held self.old.conn }
+        ensures same { self.new.faults ≡ self.old.faults }
+    {
+        match self.taken(alloc) {
+            Ok(mut conn) => {
+                let found = in_memory::find(&mut conn, field);
+                self.put_back(conn);
+                found
+            }
+            Err(error) => Err(error),
+        }
     }
 }
 
@@ -95,62 +142,38 @@ impl Keeper for SqlKeeper {
             Ok(blob) => blob,
             Err(_) => return Err(Refused::OutOfMemory),
         };
-        let mut conn = match self.taken(alloc) {
-            Ok(conn) => conn,
-            Err(refused) => return Err(refused),
-        };
-        let done = in_memory::put(&mut conn, &field, &blob);
-        self.conn = Some(conn);
-        match done {
+        match self.put(alloc, &field, &blob) {
             Ok(_) => Ok(()),
-            Err(error) => Err(self.refused(error)),
+            Err(error) => Err(refused(&mut self.faults, error)),
         }
     }
 
     fn remove(&mut self, alloc: Global, field: Field) -> Result<bool, Refused> {
-        let mut conn = match self.taken(alloc) {
-            Ok(conn) => conn,
-            Err(refused) => return Err(refused),
-        };
-        let done = in_memory::remove(&mut conn, &field);
-        self.conn = Some(conn);
-        match done {
+        match self.take_out(alloc, &field) {
             Ok(count) => Ok(count == 1),
-            Err(error) => Err(self.refused(error)),
+            Err(error) => Err(refused(&mut self.faults, error)),
         }
     }
 
     fn names(&mut self, alloc: Global) -> Result<Vec<Field>, Refused> {
-        let mut conn = match self.taken(alloc) {
-            Ok(conn) => conn,
-            Err(refused) => return Err(refused),
-        };
-        let found = in_memory::names(&mut conn);
-        self.conn = Some(conn);
-        let rows = match found {
+        let rows = match self.listed(alloc) {
             Ok(rows) => rows,
-            Err(error) => return Err(self.refused(error)),
+            Err(error) => return Err(refused(&mut self.faults, error)),
         };
         match read_names(alloc, &rows) {
             Ok(fields) => Ok(fields),
-            Err(unread) => Err(self.unread(unread)),
+            Err(why) => Err(unread(&mut self.faults, why)),
         }
     }
 
     fn rows(&mut self, alloc: Global, field: Field) -> Result<Option<Vec<i64>>, Refused> {
-        let mut conn = match self.taken(alloc) {
-            Ok(conn) => conn,
-            Err(refused) => return Err(refused),
-        };
-        let found = in_memory::find(&mut conn, &field);
-        self.conn = Some(conn);
-        let rows = match found {
+        let rows = match self.found(alloc, &field) {
             Ok(rows) => rows,
-            Err(error) => return Err(self.refused(error)),
+            Err(error) => return Err(refused(&mut self.faults, error)),
         };
         match read_cells(alloc, &rows) {
             Ok(cells) => Ok(cells),
-            Err(unread) => Err(self.unread(unread)),
+            Err(why) => Err(unread(&mut self.faults, why)),
         }
     }
 
