@@ -24,18 +24,11 @@ pub struct FileKeeper<'a> {
     faults: u64,
 }
 
-/// The database of the file, with the table. Where a connection is let go, `drop` says so: the proof is then that of a call.
+/// The database of the file, with the table.
 fn opened(rt: &HostRuntime, path: &str) -> Result<Connection<FileStore<File>>, Error> {
-    match Connection::open(rt, path) {
-        Ok(mut conn) => match make_table(&mut conn) {
-            Ok(()) => Ok(conn),
-            Err(error) => {
-                drop(conn);
-                Err(error)
-            }
-        },
-        Err(error) => Err(error),
-    }
+    let mut conn = Connection::open(rt, path)?;
+    make_table(&mut conn)?;
+    Ok(conn)
 }
 
 impl<'a> FileKeeper<'a> {
