@@ -6,3 +6,5 @@ pub use Rattle.command_line.proofs.LineLemmas.{text_at, text_in, line_is, line_i
 pub use Rattle.command_line.proofs.LineLemmas.{waiting, waiting_cut, all_lines}
 -- what waited was put, or cut short, and nothing waited before
 pub use Rattle.command_line.proofs.LineLemmas.{line_flushed, front_empty}
+-- what the notes got of a line: a front of it, where it was cut short, or all of it, with the call that hands it on
+pub use Rattle.command_line.proofs.Telling.{noted_front, noted_line}

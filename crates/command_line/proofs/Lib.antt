@@ -1,3 +1,4 @@
 mod Numerals
 mod LineLemmas
+mod Telling
 pub mod Exported

@@ -13,7 +13,6 @@ mod Stepping
 mod Going
 mod Ending
 mod RunEnds
-mod Telling
 mod TableLaws
 mod Adding
 pub mod Exported

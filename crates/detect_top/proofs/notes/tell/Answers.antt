@@ -1,5 +1,5 @@
 use Rattle.detect_top.specs.Answers.{note_of}
-use Rattle.detect_top.proofs.Telling.{noted_front, noted_line}
+use Rattle.command_line.proofs.Exported.{noted_front, noted_line}
 use Rattle.detect_top.proofs.notes.tell.Goals as goal
 
 pub returns-in-Err : goal.returns-in-Err

@@ -1,5 +1,5 @@
 use Rattle.survey_core.specs.Answers.{session_note}
-use Rattle.survey_core.proofs.Telling.{noted_front, noted_line}
+use Rattle.command_line.proofs.Exported.{noted_front, noted_line}
 use Rattle.survey_core.proofs.notes.tell.Goals as goal
 
 pub returns-in-Err : goal.returns-in-Err

@@ -1,26 +1,20 @@
 -- What the notes got of a line.
-use Rattle.std.proofs.Common.{◌≡◌, ℕ, ◌≤◌, Bool, List, [], sym, refl, append-nil, arith, Result, Ok, Err, inl, inr}
+use Rattle.std.proofs.Common.{◌≡◌, ℕ, ◌≤◌, Bool, List, [], sym, append-nil, arith, Result, Ok, Err, inl, inr}
 use Rattle.std.specs.Prelude.{is_ok}
 use Rattle.std.specs.declared.option.Option.{Option}
 use Rattle.std.specs.Io.KnownBytes.{Appends, Keeps}
-use Rattle.std.proofs.KnownBytes.{Appends-nil, Appends-kept}
-use Rattle.dev_io.specs.Causes.{HasCause}
+use Rattle.std.proofs.KnownBytes.{Appends-kept}
+use Rattle.dev_io.specs.Causes.{Rose, HasCause}
 use Rattle.dev_io.specs.Streams.{AppendsPrefix}
 use Rattle.command_line.specs.Notes.{Noted}
-use Rattle.detect_top.proofs.Causes.{cause_after}
-
--- no line, and no call
-pub noted_nothing : (a : Option (List ℕ)) (settled : Bool) (faults : ℕ) → Noted a a settled faults faults []
-noted_nothing a settled faults = record {
-  later = omega arith;
-  front = record { front = []; rest = []; split = refl; appended = Appends-nil a };
-  whole = inr (Appends-nil a, λ some. absurd (omega arith));
-}
 
 -- a line that was cut short
 pub noted_front : {T E : Type 0} (a b : Option (List ℕ)) (settled : Bool) (m n : ℕ) (line : List ℕ) (e : E) → AppendsPrefix a b line
     → HasCause {T = T} {E = E} m n (Err e) → Noted a b settled m n line
 noted_front a b settled m n line e front cause = record { later = cause.later; front = front; whole = inl cause.failed }
+
+rose_since : (a b c : ℕ) → a ≤ b → Rose b c → Rose a c
+rose_since a b c before rose = omega (arith, before, rose)
 
 -- a whole line, and the call that hands it on
 pub noted_line : {T E : Type 0} (a b c : Option (List ℕ)) (settled : Bool) (l m n : ℕ) (line : List ℕ) (done : Result T E) → Appends a b line → l ≤ m
@@ -33,5 +27,5 @@ noted_line a b c settled l m n line (Ok x) all later kept is cause = record {
 noted_line a b c settled l m n line (Err e) all later kept is cause = record {
   later = omega (arith, later, cause.later);
   front = record { front = line; rest = []; split = sym (append-nil line); appended = Appends-kept a b c line all kept };
-  whole = inl (let since = cause_after l m n (Err e) later cause in since.failed);
+  whole = inl (rose_since l m n later cause.failed);
 }
