@@ -4,16 +4,11 @@ use Rattle.std.specs.declared.option.Option.{Option}
 use Rattle.std.specs.Io.KnownBytes.{Appends}
 use Rattle.dev_io.specs.Streams.{Takes, AppendsPrefix}
 use Rattle.command_line.specs.Notes.{Noted}
-use Rattle.comp_tree.specs.declared.shape.Connect.{Connect}
 use Rattle.comp_tree.specs.Raster.{Raster}
-use Rattle.comp_tree.specs.ComponentTree.{ComponentTree}
-use Rattle.comp_tree.specs.Components.{tree_of}
-use Rattle.node_sums.specs.Areas.{areas_in}
 use Rattle.pixel_plane.specs.Verdicts.{Verdict, verdict_on, taken_for}
 use Rattle.orders.specs.declared.words.Order.{Order}
 use Rattle.detect_top.specs.declared.top.End.{End}
 use Rattle.detect_top.specs.declared.top.End.TheVariants.{Done}
-use Rattle.detect_top.specs.Lines.{tree_lines, node_list}
 use Rattle.detect_top.specs.Products.{output_of, image_made}
 use Rattle.image_input.specs.Streams.{ImageRead, memory_at_verdict, stop_of, TakesOneOf}
 use Rattle.detect_top.specs.Answers.{end_status, note_of, end_of}
@@ -38,11 +33,6 @@ took_one (n ∷ counts) bytes left left' told (inr one) = inr (took_one counts b
 pub memory_after : (found : Verdict) (bytes : List ℕ) (left : Option (List ℕ)) (plane : Raster) → ImageRead found bytes left plane
     → TakesOneOf (memory_at_verdict found) bytes left
 memory_after found bytes left plane read = subst (λ v. TakesOneOf (memory_at_verdict v) bytes left) (sym read.is_image) (inr (inl read.takes))
-
-pub list_is : (r : Raster) (connect : Connect) (t : ComponentTree) (counts : List ℕ) → t ≡ tree_of r connect → counts ≡ areas_in r connect
-    → tree_lines t.rows counts ≡ node_list r connect
-unfolding node_list
-list_is r connect t counts p q = ap (λ (u : ComponentTree). tree_lines u.rows counts) p ∙ ap (tree_lines (tree_of r connect).rows) q
 
 -- ---- all was read
 

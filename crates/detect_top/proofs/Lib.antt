@@ -1,12 +1,5 @@
-mod NodeLines
 mod Ends
 mod Products
-mod EachArea
-mod Cells
-mod Detections
-mod Trials
-mod Summaries
+mod TrialResiduals
 mod AnswerStatus
-mod Causes
-mod Telling
 pub mod Exported

@@ -14,8 +14,8 @@ use Rattle.orders.specs.declared.words.Job.{Job}
 use Rattle.orders.specs.declared.words.Job.TheVariants.{Tree, Filter, Detect, Trial}
 use Rattle.detect_top.specs.Products.{output_of_job, output_of, image_made}
 use Rattle.detect_top.specs.Writables.{bytes_of, SuitsJob}
-use Rattle.detect_top.specs.Trials.{trial_image}
-use Rattle.detect_top.proofs.Trials.{trial_residual_is_small}
+use Rattle.tree_products.specs.Trials.{trial_image}
+use Rattle.detect_top.proofs.TrialResiduals.{trial_residual_is_small}
 
 pub made_of_image : {E : Type 0} (order : Order) (image plane left : Raster) (tree : ComponentTree) (made : Result Product E)
     → plane ≡ residual_of image order.mesh order.flat

@@ -1,10 +1,6 @@
-pub mod Lines
-pub mod Catalogues
-pub mod Trials
 pub mod Products
 pub mod Answers
 pub mod Headline
 pub mod Laws
 pub mod Writables
 pub mod RunEnds
-pub mod TrialSizes

@@ -8,9 +8,9 @@ use Rattle.mesh_background.specs.Residuals.{residual_of}
 use Rattle.orders.specs.declared.words.Order.{Order}
 use Rattle.orders.specs.declared.words.Job.{Job}
 use Rattle.orders.specs.declared.words.Job.TheVariants.{Tree, Filter, Detect, Trial}
-use Rattle.detect_top.specs.Lines.{node_list}
-use Rattle.detect_top.specs.Catalogues.{detected_hdus}
-use Rattle.detect_top.specs.Trials.{trial_image, summary_of, trial_line}
+use Rattle.tree_products.specs.Lines.{node_list}
+use Rattle.tree_products.specs.Catalogues.{detected_hdus}
+use Rattle.tree_products.specs.Trials.{trial_image, summary_of, trial_line}
 
 -- what a job writes of a plane
 abbrev pub output_of_job : Job → Connect → Raster → List ℕ

@@ -1,25 +1,15 @@
 -- Bookkeeping: what stands ready to be written.
-use Rattle.std.specs.Prelude.{◌≡◌, ℕ, ◌*◌, ◌^◌, ◌≤◌, List, length, ℤ}
-use Rattle.std.specs.List.{All}
-use Rattle.comp_tree.specs.declared.shape.Shape.{Shape}
+use Rattle.std.specs.Prelude.{◌≡◌, ℕ, List, length}
 use Rattle.comp_tree.specs.Raster.{Raster}
-use Rattle.fits_write.specs.Columns.{IsTable}
 use Rattle.fits_write.specs.Hdus.{plane_hdu}
-use Rattle.catalogue_form.specs.Columns.{catalogue_columns}
 use Rattle.orders.specs.declared.words.Job.{Job}
 use Rattle.orders.specs.declared.words.Job.TheVariants.{Tree, Filter, Detect, Trial}
 use Rattle.detect_top.specs.declared.product.Product.{Product}
 use Rattle.detect_top.specs.declared.product.Product.TheVariants as made
-use Rattle.detect_top.specs.Lines.{tree_lines}
-use Rattle.detect_top.specs.Catalogues.{hdus}
-use Rattle.detect_top.specs.Trials.{trial_line}
-use Rattle.detect_top.specs.TrialSizes.{HasSmallValues}
-
--- a map and cells that can be written
-pub record IsDetection (shape : Shape) (numbers : List ℕ) (cells : List ℤ) : Type 0 where
-  pub one_each : length numbers ≡ shape.width * shape.height
-  pub small : All (λ n. n ≤ 2 ^ 24) numbers
-  pub table : IsTable catalogue_columns cells
+use Rattle.tree_products.specs.Lines.{tree_lines}
+use Rattle.tree_products.specs.Catalogues.{hdus, IsDetection}
+use Rattle.tree_products.specs.Trials.{trial_line}
+use Rattle.tree_products.specs.TrialSizes.{HasSmallValues}
 
 -- the values of a trial's plane are small, so that its fluxes can be added up
 abbrev pub SuitsJob : Job → Raster → Type 0

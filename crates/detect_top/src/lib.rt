@@ -2,20 +2,14 @@
 #![tactic(auto)]
 
 mod component;
-mod detection;
 pub mod laws;
-mod lines;
 mod notes;
 mod product;
 mod top;
-mod trial;
 
 pub use component::{component_tree, residual_plane};
-pub use fits_write::WriteFault;
-pub use lines::put_tree;
 pub use notes::tell;
 pub use top::{End, run};
-pub use trial::{Summary, put_trial};
 
 #[cfg(test)]
 mod detection_tests;

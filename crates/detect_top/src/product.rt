@@ -9,27 +9,28 @@ ghost use Rattle.node_sums.specs.Sums.{IsTreeOfPlane};
 ghost use Rattle.comp_tree.specs.Raster.{HasValuesInHalfRange};
 ghost use Rattle.filter_rules.specs.Filtered.{filtered as filtered_of};
 ghost use Rattle.orders.specs.Words.{HasLimits, HasJobLimits};
-ghost use Rattle.detect_top.specs.Catalogues.{detected_hdus};
-ghost use Rattle.detect_top.specs.Lines.{tree_lines, node_list};
+ghost use Rattle.tree_products.specs.Catalogues.{detected_hdus};
+ghost use Rattle.tree_products.specs.Lines.{tree_lines, node_list};
 ghost use Rattle.detect_top.specs.Products.{output_of_job, output_of, image_made};
 ghost use Rattle.detect_top.specs.Writables.{bytes_of, SuitsJob, IsWritable};
-ghost use Rattle.detect_top.specs.Trials.{trial_image as image_of};
+ghost use Rattle.tree_products.specs.Trials.{trial_image as image_of};
 
 use crate::component::{component_tree, residual_plane};
-use crate::detection::{Detection, detect, put_detection};
-use crate::lines::put_tree;
-use crate::trial::{Summary, put_trial, summarize, trial_image};
 use comp_tree::{Connect, Plane, Shape, Tree};
 use costs::OutOfMemory;
 use dev_io::Sink;
 use filter_rules::{Criterion, Rule, filter};
 use fits_write::{WriteFault, put_plane};
-use node_sums::{areas, outlines};
+use node_sums::outlines;
 use orders::{Job, Order};
 use source_pick::{Choice, clear_far};
 use std::alloc::Global;
 use std::thread::Threads;
 use strip_crew::Gate;
+use tree_products::{
+    Detection, Nodes, Summary, detect, node_areas, put_detection, put_tree, put_trial, summarize,
+    trial_image,
+};
 
 /// What is to be written.
 #[derive(Drop)]
@@ -44,37 +45,20 @@ pub(crate) enum Product {
     Told(Summary),
 }
 
-/// A tree, and the area of each of its nodes.
-#[derive(Drop)]
-pub(crate) struct Nodes {
-    pub(crate) tree: Tree,
-    pub(crate) areas: Vec<u32>,
-}
-
-fn node_areas(alloc: Global, plane: &Plane, tree: Tree) -> Result<Nodes, OutOfMemory>
-    requires { IsTreeOfPlane plane.now tree }
-    ensures one_each { IfOk result (λ nodes. length nodes.areas.items ≡ length nodes.tree.rows) }
-    ensures lines { IfOk result (λ nodes. (connect : Connect) → tree ≡ tree_of plane.now connect
-        → tree_lines nodes.tree.rows nodes.areas.items ≡ node_list plane.now connect) }
-{
-    let areas = areas(alloc, plane, &tree)?;
-    Ok(Nodes { tree, areas })
-}
-
 fn filtered(
     alloc: Global,
-    plane: &Plane,
-    tree: &Tree,
+    plane: Plane,
+    tree: Tree,
     rule: Rule,
     criterion: &Criterion,
 ) -> Result<Plane, OutOfMemory>
-    requires of_plane { IsTreeOfPlane plane.now tree.now }
+    requires of_plane { IsTreeOfPlane plane tree }
     requires fill { criterion.now.min_fill ≤ 1000 }
-    ensures { IfOk result (λ left. (connect : Connect) → tree.now ≡ tree_of plane.now connect →
-        left ≡ filtered_of plane.now connect rule criterion.now) }
+    ensures { IfOk result (λ left. (connect : Connect) → tree ≡ tree_of plane connect →
+        left ≡ filtered_of plane connect rule criterion.now) }
 {
-    let outlines = outlines(alloc, plane, tree)?;
-    filter(alloc, plane, tree, outlines, rule, criterion)
+    let outlines = outlines(alloc, &plane, &tree)?;
+    filter(alloc, &plane, &tree, outlines, rule, criterion)
 }
 
 // What a job makes of a plane and its tree.
@@ -94,14 +78,14 @@ fn make_of<R: Threads + Sync>(
         bytes_of product ≡ output_of_job job connect plane) }
 {
     match job {
-        Job::Tree => Ok(Product::Nodes(node_areas(alloc, &plane, tree)?)),
+        Job::Tree => Ok(Product::Nodes(node_areas(alloc, plane, tree)?)),
         Job::Filter { rule, criterion } => Ok(Product::Image(filtered(
-            alloc, &plane, &tree, rule, &criterion,
+            alloc, plane, tree, rule, &criterion,
         )?)),
         Job::Detect { choice } => Ok(Product::Sources(detect(
-            rt, alloc, plane, &tree, &choice, workers,
+            rt, alloc, plane, tree, &choice, workers,
         )?)),
-        Job::Trial { .. } => Ok(Product::Told(summarize(rt, alloc, &plane, &tree, workers)?)),
+        Job::Trial { .. } => Ok(Product::Told(summarize(rt, alloc, plane, tree, workers)?)),
     }
 }
 

@@ -8,7 +8,7 @@ ghost use Rattle.orders.specs.Words.{HasLimits};
 ghost use Rattle.image_input.specs.Faults.{IsCutStop};
 ghost use Rattle.detect_top.specs.Products.{image_made};
 ghost use Rattle.detect_top.specs.Writables.{bytes_of, IsWritable};
-ghost use Rattle.detect_top.specs.Trials.{trial_image as image_of};
+ghost use Rattle.tree_products.specs.Trials.{trial_image as image_of};
 ghost use Rattle.image_input.specs.Streams.{ImageStopped};
 ghost use Rattle.detect_top.specs.Answers.{end_status};
 ghost use Rattle.detect_top.specs.RunEnds.{AllRead, no_use, EndBytes, EndCause};

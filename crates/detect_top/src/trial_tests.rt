@@ -1,46 +1,9 @@
 use super::*;
 use crate::in_memory::{NONE_FAILS, compare_end, compare_output, run_in_memory};
-use crate::trial::trial_image;
-use comp_tree::Shape;
-use dev_io::MemSink;
 use std::alloc::Global;
 use std::process::Abort;
 use std::test::Fail;
 use std::thread::Threads;
-
-#[test]
-fn the_image_of_seed_7(rt: HostRuntime) -> Result<(), Fail> {
-    let values: [i64; 6] = [61, 233, 156, 237, 12, 219];
-    let shape = Shape::of(3, 2).expect(&rt, "a shape");
-    let image = trial_image(rt.alloc(), 7, shape).expect(&rt, "memory");
-    assert!(rt; image.shape() == shape);
-    for (p, value) in values.iter().enumerate() {
-        assert!(rt; p < image.shape().pixels() as usize);
-        assert_eq!(rt; image.get(p as u32), Some(*value));
-    }
-    Ok(())
-}
-
-#[test]
-fn a_line_tells_of_a_trial(rt: HostRuntime) -> Result<(), Fail> {
-    let alloc = rt.alloc();
-    let mut sink = MemSink::new(vec![in alloc; 0; 199]?, &[], 0);
-    let summary = Summary {
-        pixels: 16777216,
-        nodes: 20,
-        roots: 3,
-        areas: 281474976710656,
-        fluxes: 0,
-        sources: 4294967295,
-        mapped: 7,
-    };
-    assert_eq!(rt; put_trial(&mut sink, &summary), Ok(()));
-    assert_eq!(rt;
-        sink.bytes(),
-        b"pixels 16777216 nodes 20 roots 3 areas 281474976710656 fluxes 0 sources 4294967295 mapped 7\n".as_slice()
-    );
-    Ok(())
-}
 
 // Compares all that a trial shows, which leaves the input.
 fn compare_trial<R: Threads + Sync + Abort>(

@@ -15,7 +15,7 @@ use Rattle.node_sums.specs.declared.entry.Sums.{Sums}
 use Rattle.node_sums.specs.Sums.{sums_in}
 use Rattle.node_sums.proofs.Exported.{rows_are}
 use Rattle.source_pick.specs.Catalogue.{catalogue_row, catalogue_of, FitsColumns}
-use Rattle.detect_top.proofs.Exported.{row_more, rows_all}
+use Rattle.tree_products.proofs.Exported.{row_more, rows_all}
 use Rattle.measure_top.specs.declared.picking_near.PickedNode.{PickedNode}
 use Rattle.measure_top.specs.Picks.{AreNodesOf, HaveFittingRows, HaveBasesFrom}
 

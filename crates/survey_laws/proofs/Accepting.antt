@@ -27,7 +27,7 @@ use Rattle.source_pick.specs.Segmentation.{segmentation_of, segmentation}
 use Rattle.survey_core.proofs.Exported.{lt_false, lt_true, many_columns, columns_size}
 use Rattle.survey_core.specs.Catalogues.{most_rows, accepted, too_many_rows, is_catalogue, table_of}
 use Rattle.survey_core.specs.Catalogues.{reading_by, catalogue_in}
-use Rattle.detect_top.specs.Catalogues.{catalogue_cells, detected_hdus}
+use Rattle.tree_products.specs.Catalogues.{catalogue_cells, detected_hdus}
 use Rattle.survey_laws.specs.Laws.{IsRunsPlane}
 use Rattle.survey_laws.proofs.CatalogueRows.{many_cells, none_misnumbered, table_is, cells_are_64}
 

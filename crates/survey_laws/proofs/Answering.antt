@@ -23,7 +23,7 @@ use Rattle.orders.specs.Words.{order_of}
 use Rattle.detect_top.specs.Products.{output_of_job, output_of, image_made}
 use Rattle.detect_top.specs.Answers.{end_status}
 use Rattle.detect_top.specs.Headline.{Answer, answer_to_verdict, asked_for, asked_by, answer_to_words}
-use Rattle.detect_top.specs.Catalogues.{detected_hdus, catalogue_cells}
+use Rattle.tree_products.specs.Catalogues.{detected_hdus, catalogue_cells}
 use Rattle.survey_core.specs.Catalogues.{accepted, catalogue_in}
 use Rattle.survey_laws.specs.Laws.{IsRunsPlane, DetectionIsAccepted, AnswerIsAccepted}
 

@@ -15,7 +15,7 @@ use Rattle.orders.specs.declared.words.Job.TheVariants.{Detect}
 use Rattle.orders.specs.Words.{order_of}
 use Rattle.detect_top.specs.Answers.{end_status}
 use Rattle.detect_top.specs.Headline.{answer_to_words}
-use Rattle.detect_top.specs.Catalogues.{catalogue_cells, detected_hdus}
+use Rattle.tree_products.specs.Catalogues.{catalogue_cells, detected_hdus}
 use Rattle.survey_core.specs.Fields.{is_name}
 use Rattle.survey_core.specs.Tables.{Table}
 use Rattle.survey_core.specs.Catalogues.{most_rows, accepted, too_many_rows, catalogue_in}

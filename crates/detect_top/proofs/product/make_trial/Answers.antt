@@ -4,7 +4,7 @@ use Rattle.mesh_background.specs.Residuals.{residual_of}
 use Rattle.comp_tree.specs.Raster.{HasValuesInHalfRange}
 use Rattle.detect_top.specs.Writables.{SuitsJob}
 use Rattle.detect_top.proofs.Products.{suits_made}
-use Rattle.detect_top.proofs.Trials.{trial_is_storable}
+use Rattle.tree_products.proofs.Exported.{trial_is_storable}
 use Rattle.detect_top.proofs.product.make_trial.Goals as goal
 
 pub make-requires-clause-storable : goal.make-requires-clause-storable

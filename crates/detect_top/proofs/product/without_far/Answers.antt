@@ -2,8 +2,8 @@ use Rattle.std.proofs.Common.{◌∙◌, ap, sym, w64, SFits, rules}
 use Rattle.std.proofs.lemmas.Int.{to_z-of_z}
 use Rattle.comp_tree.specs.Raster.{Raster}
 use Rattle.source_pick.proofs.Exported.{shape-kept}
-use Rattle.detect_top.specs.Catalogues.{detected_hdus}
-use Rattle.detect_top.proofs.Detections.{detection_same}
+use Rattle.tree_products.specs.Catalogues.{detected_hdus}
+use Rattle.tree_products.proofs.Exported.{detection_same}
 use Rattle.detect_top.proofs.product.without_far.Goals as goal
 
 pub returns : goal.returns

@@ -1,5 +1,5 @@
 use Rattle.dev_io.specs.Laws.{AppendsPrefix-more}
-use Rattle.detect_top.proofs.Exported.{all_put, map_cut, cause_after, cause_after_two}
+use Rattle.tree_products.proofs.Exported.{all_put, map_cut, cause_after, cause_after_two}
 use Rattle.measure_top.proofs.measuring.put_hdus.Goals as goal
 
 pub returns-in-Err-clause-bytes : goal.returns-in-Err-clause-bytes

@@ -1,7 +1,7 @@
 use Rattle.std.proofs.Common.{arith}
 use Rattle.std.proofs.lemmas.Option.{slice_get-get_or}
 use Rattle.measure_top.proofs.PickedRows.{no_nodes, node_more, all_nodes}
-use Rattle.detect_top.proofs.Exported.{few_picked}
+use Rattle.tree_products.proofs.Exported.{few_picked}
 use Rattle.measure_top.proofs.picking_near.picked_nodes.Goals as goal
 
 pub overflow_cast-place : goal.overflow_cast-place

@@ -1,7 +1,0 @@
-use Rattle.std.proofs.Common.{◌≡◌, take}
-use Rattle.std.specs.Prelude.{count_by}
-use Rattle.detect_top.specs.Trials.{is_mapped}
-use Rattle.detect_top.proofs.trial.count_mapped.Given as goal
-
-abbrev pub invariant-loop-number : goal.invariant-loop-number
-invariant-loop-number l = l.mapped ≡ count_by is_mapped (take l.number-index l.numbers)

@@ -1,7 +1,0 @@
-use Rattle.std.proofs.Common.{◌≡◌, take}
-use Rattle.std.specs.Prelude.{count_by}
-use Rattle.detect_top.specs.Trials.{is_root_row}
-use Rattle.detect_top.proofs.trial.count_roots.Given as goal
-
-abbrev pub invariant-loop-row : goal.invariant-loop-row
-invariant-loop-row l = l.roots ≡ count_by is_root_row (take l.row-index l.rows)

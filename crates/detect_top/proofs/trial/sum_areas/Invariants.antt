@@ -1,9 +1,0 @@
-use Rattle.std.proofs.Common.{◌≡◌, ◌*◌, ◌^◌, ◌≤◌, take}
-use Rattle.std.specs.Prelude.{sum_by}
-use Rattle.detect_top.proofs.trial.sum_areas.Given as goal
-
-abbrev pub invariant-loop-entry : goal.invariant-loop-entry
-invariant-loop-entry l = record {
-  so_far : l.areas ≡ sum_by (λ s. s.area) (take l.entry-index l.sums);
-  small : l.areas ≤ 2 ^ 32 * l.entry-index;
-}

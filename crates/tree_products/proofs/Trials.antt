@@ -1,0 +1,147 @@
+-- The trial's image: its states, its values, and how large what is made of it is.
+use Rattle.std.proofs.Common.{◌≡◌, ℕ, ◌+◌, ◌*◌, ◌/◌, ◌^◌, ◌<◌, ◌≤◌, zero, suc, List, [], ◌∷◌, length, map}
+use Rattle.std.proofs.Common.{refl, sym, ap, subst, ◌∙◌, arith}
+use Rattle.std.specs.Prelude.{ℤ, pos, ◌-ℤ◌, ◌≤ℤ◌, slice_get, Option, Some, None, unwrap_or}
+use Rattle.std.proofs.lemmas.Int.{ints}
+use Rattle.std.proofs.lemmas.Nat.{mod_below}
+use Rattle.std.proofs.lemmas.List.{length-map}
+use Rattle.std.proofs.lemmas.Option.{slice_get_within}
+use Rattle.comp_tree.specs.declared.shape.Shape.{Shape}
+use Rattle.comp_tree.specs.declared.shape.Connect.{Connect}
+use Rattle.comp_tree.specs.Raster.{Raster, IsPlane, value_at, level}
+use Rattle.comp_tree.specs.ComponentTree.{ComponentTree}
+use Rattle.comp_tree.specs.Components.{nodes, tree_of}
+use Rattle.comp_tree.specs.Laws.{top_of}
+use Rattle.comp_tree.proofs.Exported.{length-rows}
+use Rattle.comp_tree.specs.Raster.{HasValuesInHalfRange}
+use Rattle.node_sums.specs.declared.entry.Sums.{Sums}
+use Rattle.comp_tree.specs.Nesting.{pixels_of}
+use Rattle.node_sums.specs.Sums.{AreOfPlane}
+use Rattle.node_sums.specs.Flux.{base_of, flux_of}
+use Rattle.node_sums.specs.Sizes.{IsUpTo}
+use Rattle.node_sums.proofs.Exported.{few-pixels_of, up_to-minus, total-up_to, BaseCase, at_root, at_child, base-case, flux-is}
+use Rattle.tree_products.specs.Trials.{next_state, states_behind, value_of_state, trial_image}
+use Rattle.tree_products.specs.TrialSizes.{IsSmall, HasSmallValues}
+use Rattle.tree_products.specs.TrialSizes.{HasSmallFluxes, flux_bound}
+use Rattle.tree_products.proofs.EachArea.{length-sums}
+
+-- ---- its states
+
+-- the state k steps behind a state
+abbrev pub state_at : ℕ → ℕ → ℕ
+state_at state zero = state
+state_at state (suc k) = state_at (next_state state) k
+
+pub state-next : (state k : ℕ) → state_at state (suc k) ≡ next_state (state_at state k)
+state-next state zero = refl
+state-next state (suc k) = state-next (next_state state) k
+
+length-states : (state n : ℕ) → length (states_behind state n) ≡ n
+unfolding states_behind
+length-states state zero = refl
+length-states state (suc n) = ap suc (length-states (next_state state) n)
+
+value-of_state : (state n k : ℕ) → k < n → value_at (map value_of_state (states_behind state n)) k ≡ value_of_state (state_at state (suc k))
+unfolding states_behind
+value-of_state state zero k lt = absurd (omega arith)
+value-of_state state (suc n) zero lt = refl
+value-of_state state (suc n) (suc k) lt = value-of_state (next_state state) n k (omega arith)
+
+-- ---- its values
+
+pub trial_length : (seed : ℕ) (shape : Shape) → length (trial_image seed shape).values ≡ shape.width * shape.height
+unfolding trial_image
+trial_length seed shape = length-map (states_behind seed (shape.width * shape.height)) value_of_state ∙ length-states seed (shape.width * shape.height)
+
+pub trial_shape : (seed : ℕ) (shape : Shape) → (trial_image seed shape).shape ≡ shape
+unfolding trial_image
+trial_shape seed shape = refl
+
+pub trial_value : (seed : ℕ) (shape : Shape) (k : ℕ) → k < shape.width * shape.height
+    → value_at (trial_image seed shape).values k ≡ value_of_state (state_at seed (suc k))
+unfolding trial_image
+trial_value seed shape k lt = value-of_state seed (shape.width * shape.height) k lt
+
+next_below : (state : ℕ) → next_state state < 2 ^ 32
+next_below state = mod_below (1664525 * state + 1013904223) (2 ^ 32) (omega arith)
+
+-- a whole number from 0 to 255
+pub record IsByte (value : ℤ) : Type 0 where
+  pub low : pos 0 ≤ℤ value
+  pub high : value ≤ℤ pos 255
+
+byte-of_state : (state : ℕ) → state < 2 ^ 32 → IsByte (pos (state / 2 ^ 24))
+byte-of_state state h = let l : state / 2 ^ 24 ≤ 255 = omega arith in record { low = omega (arith, ints); high = omega (arith, ints) }
+
+bytes-of_states : (state n p : ℕ) (v : ℤ) → slice_get (map value_of_state (states_behind state n)) p ≡ Some (Some v) → IsByte v
+unfolding states_behind
+bytes-of_states state zero p v e = absurd (cc)
+bytes-of_states state (suc n) zero v e =
+    let f : pos (next_state state / 2 ^ 24) ≡ v = cc in subst IsByte f (byte-of_state (next_state state) (next_below state))
+bytes-of_states state (suc n) (suc p) v e = bytes-of_states (next_state state) n p v e
+
+pub trial_bytes : (seed : ℕ) (shape : Shape) (p : ℕ) (v : ℤ) → slice_get (trial_image seed shape).values p ≡ Some (Some v) → IsByte v
+unfolding trial_image
+trial_bytes seed shape p v e = bytes-of_states seed (shape.width * shape.height) p v e
+
+pub trial_is_storable : (seed : ℕ) (shape : Shape) → HasValuesInHalfRange (trial_image seed shape).values
+trial_is_storable seed shape = record {
+  each = λ p v e. let b : IsByte v = trial_bytes seed shape p v e in record { low = omega (arith, ints, b.low); high = omega (arith, ints, b.high) };
+}
+
+pub trial_is_small : (seed : ℕ) (shape : Shape) → HasSmallValues (trial_image seed shape).values
+trial_is_small seed shape = record {
+  each = λ p v e. let b : IsByte v = trial_bytes seed shape p v e in record { low = omega (arith, ints, b.low); high = b.high };
+}
+
+-- ---- the level of a pixel
+
+pub get_from_read : (xs : List (Option ℤ)) (p : ℕ) (v : ℤ) → value_at xs p ≡ Some v → slice_get xs p ≡ Some (Some v)
+get_from_read [] p v e = absurd (cc)
+get_from_read (x ∷ xs) zero v e = ap Some e
+get_from_read (x ∷ xs) (suc p) v e = get_from_read xs p v e
+
+-- what holds of 0 and of the value of a pixel holds of its level
+pub level-from : (P : ℤ → Type 0) (r : Raster) (p : ℕ) → ((v : ℤ) → slice_get r.values p ≡ Some (Some v) → P v) → P (pos 0) → P (level r p)
+unfolding level
+level-from P r p each none = go (value_at r.values p) refl
+  where
+    go : (o : Option ℤ) → value_at r.values p ≡ o → P (unwrap_or o (pos 0))
+    go None e = none
+    go (Some v) e = each v (get_from_read r.values p v e)
+
+-- ---- the fluxes over a plane of small values
+
+small-level : (r : Raster) (p : ℕ) → HasSmallValues r.values → IsUpTo 255 (level r p)
+small-level r p h =
+    level-from (IsUpTo 255) r p (λ v e. let k : IsSmall v = h.each p v e in record { low = k.low; high = k.high })
+    (record { low = omega (arith, ints); high = omega (arith, ints) })
+
+small-base : (r : Raster) (connect : Connect) (n : ℕ) → IsPlane r → HasSmallValues r.values → n < length (nodes r connect)
+    → IsUpTo 255 (base_of (tree_of r connect) n)
+small-base r connect n plane small hn = go (base-case r connect n plane hn)
+  where
+    go : BaseCase r connect n → IsUpTo 255 (base_of (tree_of r connect) n)
+    go (at_root e b) = subst (IsUpTo 255) (sym b) (small-level r (top_of r connect n) small)
+    go (at_child a e ha b l) = subst (IsUpTo 255) (sym b) (small-level r (top_of r connect a) small)
+
+up_to-area : (area : ℕ) (z : ℤ) → area ≤ 2 ^ 24 → IsUpTo (510 * area) z → z ≤ℤ pos flux_bound
+up_to-area area z few h = omega (arith, ints, h.high)
+
+small-flux : (r : Raster) (connect : Connect) (n : ℕ) → IsPlane r → HasSmallValues r.values → n < length (nodes r connect)
+    → flux_of r connect n ≤ℤ pos flux_bound
+unfolding flux_of
+small-flux r connect n plane small hn =
+    up_to-area (length (pixels_of r connect n)) _ (few-pixels_of r connect n plane)
+    (total-up_to (λ p. level r p -ℤ base_of (tree_of r connect) n) 510 (pixels_of r connect n)
+    (λ p m. up_to-minus 255 255 (level r p) (base_of (tree_of r connect) n) (small-level r p small) (small-base r connect n plane small hn)))
+
+pub small_fluxes : (r : Raster) (tree : ComponentTree) (sums : List Sums) → IsPlane r → HasSmallValues r.values → AreOfPlane r tree sums
+    → HasSmallFluxes tree sums
+small_fluxes r tree sums plane small of = record {
+  each = λ n entry g.
+      let inside : n < length (nodes r of.connect) =
+      omega (arith, slice_get_within sums n entry g, ap length of.sums_are, length-sums r of.connect, length-rows r of.connect) in
+      subst (λ (z : ℤ). z ≤ℤ pos flux_bound) (sym (flux-is r of.connect tree sums n entry of.tree_is of.sums_are g))
+      (small-flux r of.connect n plane small inside);
+}

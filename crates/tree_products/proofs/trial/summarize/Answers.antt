@@ -1,0 +1,62 @@
+use Rattle.std.proofs.Common.{◌≡◌, ◌≤◌, ◌^◌, ◌*◌, ℕ, List, length, ap, sym, subst, ◌∙◌, arith}
+use Rattle.std.specs.Prelude.{count_by, sum_by}
+use Rattle.comp_tree.specs.declared.shape.Shape.{Shape}
+use Rattle.comp_tree.specs.Raster.{IsPlane}
+use Rattle.comp_tree.specs.ComponentTree.{ComponentTree}
+use Rattle.node_sums.specs.declared.entry.Sums.{Sums}
+use Rattle.node_sums.proofs.Exported.{trees_rows}
+use Rattle.source_pick.specs.Segmentation.{segmentation_of, segmentation}
+use Rattle.source_pick.proofs.Exported.{few_marked, few_rows, numbers-length}
+use Rattle.tree_products.specs.Trials.{is_root_row, is_mapped, total_area, summary_of}
+use Rattle.tree_products.specs.TrialSizes.{HasSmallFluxes}
+use Rattle.tree_products.proofs.Trials.{small_fluxes}
+use Rattle.tree_products.proofs.trial.summarize.Goals as goal
+
+pub sum_areas-requires : goal.sum_areas-requires
+sum_areas-requires g c =
+    let rows : length c.in_ok-sums.sums.items ≡ length c.args.tree.rows =
+    trees_rows c.args.tree c.in_ok-sums.sums.items c.in_ok-sums.ensures.the_trees in
+    omega (arith, rows, ap length c.deref-3.ensures.value, c.node_count.ensures.all, c.node_count.ensures.few)
+
+pub sum_fluxes-requires-clause-small : goal.sum_fluxes-requires-clause-small
+sum_fluxes-requires-clause-small g c =
+    let plane : IsPlane c.args.plane = c.shape-shape.ensures.pixels ∙ ap (λ (s : Shape). s.width * s.height) c.shape-shape.ensures.same in
+    subst (λ (xs : List Sums). HasSmallFluxes c.args.tree xs) (sym c.deref-4.ensures.value)
+    (small_fluxes c.args.plane c.args.tree c.in_ok-sums.sums.items plane c.requires.small c.in_ok-sums.ensures.of_plane)
+
+pub overflow_cast-result : goal.overflow_cast-result
+overflow_cast-result g c =
+    let d = c.in_ok-sources.ensures.disjoint in
+    let few : length c.in_ok-sources.sources.items ≤ length c.args.tree.rows = few_marked c.args.tree c.in_ok-sources.sources.items d in
+    let rows : length c.args.tree.rows ≤ 2 ^ 24 = few_rows c.args.tree c.in_ok-sources.sources.items d in
+    record { fits = omega (arith, few, rows, c.len.ensures, c.deref-2.ensures.len, ap length c.deref-2.ensures.value) }
+
+pub count_mapped-requires : goal.count_mapped-requires
+count_mapped-requires g c =
+    let long = numbers-length c.args.plane c.requires.of_plane.0 c.args.tree c.requires.of_plane.1 in
+    let few = c.shape-shape.result.within_limits.few_pixels in
+    omega (arith, long, few, c.shape-shape.ensures.pixels, c.in_ok-numbers.ensures.one_each, ap length c.deref-5.ensures.value)
+
+pub returns : goal.returns
+unfolding summary_of total_area segmentation
+returns g c = λ connect is.
+    let plane = c.args.plane in
+    let sums_are = c.in_ok-sums.ensures.exact connect is in
+    let picked_are = c.in_ok-sources.ensures.exact plane connect is (c.deref.ensures.value ∙ sums_are) in
+    let numbers_are = c.in_ok-numbers.ensures.exact plane connect is ∙ ap (segmentation_of plane connect) (c.deref-2.ensures.value ∙ picked_are) in
+    let pixels : c.pixels.result ≡ length plane.values = c.pixels.ensures.product ∙ sym c.shape-shape.ensures.pixels in
+    let nodes = c.node_count.ensures.all ∙ ap (λ (t : ComponentTree). length t.rows) is in
+    let roots = c.count_roots.ensures ∙ ap (count_by is_root_row) (c.rows.ensures ∙ ap (λ (t : ComponentTree). t.rows) is) in
+    let areas = c.sum_areas.ensures ∙ ap (sum_by (λ (s : Sums). s.area)) (c.deref-3.ensures.value ∙ sums_are) in
+    let fluxes = c.sum_fluxes.ensures plane connect is (c.deref-4.ensures.value ∙ sums_are) in
+    let found = c.len.ensures ∙ sym c.deref-2.ensures.len ∙ ap (λ (l : List ℕ). length l) (c.deref-2.ensures.value ∙ picked_are) in
+    let mapped = c.count_mapped.ensures ∙ ap (count_by is_mapped) (c.deref-5.ensures.value ∙ numbers_are) in
+    λ i. record {
+      pixels = pixels i;
+      nodes = nodes i;
+      roots = roots i;
+      areas = areas i;
+      fluxes = fluxes i;
+      sources = found i;
+      mapped = mapped i;
+    }

@@ -1,0 +1,4 @@
+pub mod Lines
+pub mod Catalogues
+pub mod Trials
+pub mod TrialSizes
