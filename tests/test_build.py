@@ -29,6 +29,8 @@ import fcntl, os, pathlib, sys, time
 crate, top, verb = pathlib.Path.cwd().name, pathlib.Path.cwd().parent.parent, sys.argv[1]
 lines = (top / "crates.txt").read_text().splitlines()
 below = {name: rest.split() for name, _, rest in (line.partition(":") for line in lines)}
+if not all((top / "crates" / name / "src").is_dir() for name in below):
+    sys.exit("a crate that is listed isn't there")
 
 def needed(name):
     found = [other for one in below[name] for other in needed(one)]
