@@ -17,8 +17,8 @@ CRATES = {
     "comp_tree": "costs",
     "fits_card": "dev_io",
     "detect_top": "comp_tree fits_card",
-    "measure_top": "detect_top",
-    "maxdetect": "measure_top",
+    "measure_top": "comp_tree fits_card",
+    "maxdetect": "detect_top measure_top",
     "survey_core": "fits_card",
     "survey_sqlite": "survey_core",
     "maxsurvey": "survey_sqlite",
@@ -40,24 +40,22 @@ def tell(text):
     with open(os.environ["RT_LOG"], "a") as log:
         log.write(text + "\\n")
 
-tell(f"{verb} {crate} {top}")
+tell(f"{verb} {crate} {sys.argv[2]}")
 held = [os.open(top / "crates" / name, os.O_RDONLY) for name in needed(crate)]
 for folder in held:
-    fcntl.flock(folder, fcntl.LOCK_EX)
-for name in needed(crate):
-    kept = top / "crates" / name / "out" / ("rlib" if name != crate or verb == "lib" else name)
-    if not kept.exists():
-        time.sleep(float(os.environ.get("RT_TAKES", "0.05")))
-        if name == os.environ.get("RT_FAILS"):
-            print(f"{name} isn't proved")
-            sys.exit(1)
-        kept.parent.mkdir(exist_ok=True)
-        tell(f"proved {name} {top}")
-        if verb != "all" or name != crate:
-            kept.write_text("")
-            kept.chmod(0o755)
-    if verb == "all":
-        print("== " + name, flush=True)
+    fcntl.flock(folder, fcntl.LOCK_EX | fcntl.LOCK_NB)
+for name in below[crate]:
+    if not (top / "crates" / name / "out" / "rlib").exists():
+        sys.exit(f"{name} isn't built")
+made = top / "crates" / crate / "out" / ("rlib" if verb == "lib" else crate)
+if not made.exists():
+    time.sleep(float(os.environ.get("RT_TAKES", "0.05")))
+    if crate == os.environ.get("RT_FAILS"):
+        sys.exit(f"{crate} isn't proved")
+    tell(f"proved {crate}")
+    made.parent.mkdir(exist_ok=True)
+    made.write_text("")
+    made.chmod(0o755)
 """
 
 
@@ -102,30 +100,40 @@ def tree(tmp_path):
     return Tree(tmp_path)
 
 
-def test_the_first_and_the_last_crates_have_an_rt_of_their_own(tree):
+def test_each_crate_is_proved_once_and_behind_those_below_it(tree):
     status, said = tree.build()
     assert status == 0 and tree.is_built("maxdetect") and not tree.is_built("maxsurvey")
     assert said.startswith("build: proving and building maxdetect: 7 crates are left")
-    assert sorted(tree.told("lib")[:2]) == ["comp_tree", "dev_io"]
-    assert tree.told("lib")[2:] == ["detect_top", "measure_top"]
-    assert tree.told("all") == tree.told("run") == ["maxdetect"]
-    assert os.listdir(tree.rooms) == []
+    proved = tree.told("proved")
+    assert sorted(proved) == sorted(
+        ["costs", "dev_io", "comp_tree", "fits_card", "detect_top", "measure_top", "maxdetect"]
+    )
+    assert all(proved.index(low) < proved.index(name) for name in proved for low in CRATES[name].split())
+    assert tree.told("run") == ["maxdetect"]
+    assert os.listdir(tree.rooms) == [] and not (tree.top / "out").exists()
 
 
-def test_the_second_program_is_made_in_a_copy_and_comes_back(tree):
+def test_both_programs_are_made_at_once(tree):
     assert tree.build("maxsurvey", "maxdetect")[0] == 0
     assert tree.is_built("maxdetect") and tree.is_built("maxsurvey")
-    proved = [line.split() for line in tree.log.read_text().splitlines() if line.startswith("proved")]
-    here = [name for _, name, top in proved if top == str(tree.top)]
-    there = [name for _, name, top in proved if top != str(tree.top)]
-    assert "fits_card" in here and set(there) == {"survey_core", "survey_sqlite", "maxsurvey"}
+    assert sorted(tree.told("proved")) == sorted(CRATES)
     assert (tree.top / "crates" / "survey_sqlite" / "out" / "rlib").exists()
-    assert os.listdir(tree.rooms) == []
 
 
-def test_one_survey_program_is_made_in_the_tree(tree):
-    assert tree.build("maxsurvey")[0] == 0
-    assert tree.is_built("maxsurvey") and tree.told("all") == ["maxsurvey"]
+def test_the_longest_chain_goes_first_and_a_large_crate_has_more_jobs(tree):
+    assert tree.build(RT_SLOTS="2")[0] == 0
+    assert sorted(tree.told("lib")[:2]) == ["costs", "dev_io"]
+    lines = tree.log.read_text().splitlines()
+    assert "lib comp_tree --jobs=2" in lines or "lib comp_tree --jobs=1" in lines
+    assert "lib fits_card --jobs=1" in lines
+
+
+def test_what_is_kept_for_the_next_check_stays(tree):
+    kept = tree.top / "crates" / "costs" / "out" / "incremental"
+    kept.mkdir(parents=True)
+    (kept / "work").write_text("work")
+    assert tree.build()[0] == 0
+    assert (kept / "work").read_text() == "work" and (kept.parent / "rlib").exists()
 
 
 def test_what_is_newer_than_the_program_makes_it_anew(tree):
@@ -155,13 +163,14 @@ def test_a_crate_that_fails_is_told(tree, crate):
 
 def test_it_ends_what_it_began(tree):
     running = tree.start("maxdetect", "maxsurvey", RT_TAKES="2")
-    while not tree.told("all"):
+    while not tree.told("lib"):
         time.sleep(0.1)
     running.send_signal(signal.SIGTERM)
     assert running.wait(20) == 143
     proved = tree.told("proved")
     time.sleep(3)
     assert tree.told("proved") == proved
+    assert os.listdir(tree.top / "out") == []
 
 
 def test_words_and_a_missing_rt(tree):

@@ -12,7 +12,7 @@ use Rattle.std.proofs.lemmas.Bool.{eqb-true, eqb-false, cases_lt, le-leb, lt-ltb
 use Rattle.comp_tree.specs.declared.pixels.Run.{Run}
 use Rattle.comp_tree.specs.Raster.{value_at, HasGap}
 use Rattle.comp_tree.specs.Stored.{empty_run, run_of_block, place_in_run}
-use Rattle.comp_tree.specs.Stored.{kept_place, kept_value, kept_pixels, AreRunsApart, AreKept, AreBlocksOf}
+use Rattle.comp_tree.specs.Stored.{kept_place, kept_value, kept_pixels, AreRunsApart, AreKept, AreBlocksOf, AreAllInBlocks}
 use Rattle.comp_tree.specs.Stored.{marked_values, shown_values}
 use Rattle.std.specs.List.{range_with_len}
 use denote.Ref.{Bor}
@@ -356,6 +356,32 @@ kept-in-blocks k runs kept values enough blocks =
     (λ i within.
     let lt : i < length values = subst (λ n. i < n) (kept-length (length values) (Some runs) kept) within in
     kept-at (length values) (Some runs) kept i lt ∙ blocks.same i (omega (arith, lt, enough)))
+
+pub all-in-blocks : (k : ℕ) (runs : List Run) (kept values : List (Option ℤ)) → length values ≤ k * 32 → AreBlocksOf k runs kept values
+    → AreAllInBlocks runs kept values
+all-in-blocks k runs kept values enough blocks = record {
+  apart = (omega (arith, enough, blocks.count), blocks.apart);
+  same = kept-in-blocks k runs kept values enough blocks;
+}
+
+-- no blocks
+pub no-blocks : (runs : List Run) (kept values : List (Option ℤ)) → runs ≡ [] → kept ≡ [] → AreBlocksOf 0 runs kept values
+no-blocks runs kept values e f =
+    let size : length runs ≡ 0 = ap length e in record {
+      count = size;
+      few = omega (arith, ap length f);
+      apart = record { inside = λ b lt. absurd (omega (arith, lt, size)); apart = λ a b lt more. absurd (omega (arith, more, size)) };
+      same = λ p lt. absurd (omega (arith, lt));
+    }
+
+-- the same of as many pixels
+pub count-in-blocks : (n : ℕ) (runs : List Run) (kept values : List (Option ℤ)) → length values ≡ n → AreAllInBlocks runs kept values
+    → AreKept n (Some runs) kept
+count-in-blocks n runs kept values e all = subst (λ m. AreKept m (Some runs) kept) e all.apart
+
+pub these-in-blocks : (n : ℕ) (runs : List Run) (kept values : List (Option ℤ)) → length values ≡ n → AreAllInBlocks runs kept values
+    → kept_pixels n (Some runs) kept ≡ values
+these-in-blocks n runs kept values e all = subst (λ m. kept_pixels m (Some runs) kept ≡ values) e all.same
 
 -- ---- pixels as they are shown
 

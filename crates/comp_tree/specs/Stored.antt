@@ -51,6 +51,11 @@ pub record AreBlocksOf (k : ℕ) (runs : List Run) (kept values : List (Option �
   pub apart : AreRunsApart runs kept
   pub same : (p : ℕ) → p < k * 32 → kept_value kept (kept_place (Some runs) p) ≡ value_at values p
 
+-- all of these pixels, in blocks
+pub record AreAllInBlocks (runs : List Run) (kept values : List (Option ℤ)) : Type 0 where
+  pub apart : AreKept (length values) (Some runs) kept
+  pub same : kept_pixels (length values) (Some runs) kept ≡ values
+
 -- the first count pixels of a plane are those of another one where they are marked, and else undefined
 pub record IsClearedUpTo (r : Raster) (marks : List Bool) (count : ℕ) (plane : Raster) : Type 0 where
   pub same_shape : plane.shape ≡ r.shape

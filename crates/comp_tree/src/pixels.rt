@@ -1,12 +1,12 @@
 //! How a plane keeps its pixels: each of them, or, where few are defined, of each block of 32 pixels those from its first defined pixel
 //! to its last.
 
-ghost use Rattle.std.specs.Prelude.{◌≡◌, ℕ, ◌+◌, ◌-◌, ◌*◌, ◌++◌, ◌^◌, ◌<◌, ◌≤◌, None, false, cond, slice_index_or, length};
+ghost use Rattle.std.specs.Prelude.{◌≡◌, ℕ, [], true, ◌+◌, ◌-◌, ◌*◌, ◌++◌, ◌^◌, ◌<◌, ◌≤◌, None, false, cond, slice_index_or, length};
 ghost use Rattle.std.specs.Prelude.{map, IfOk, OnOk, OnErr, IfSome, IsTrue, is_some, slice_set};
 ghost use Rattle.std.specs.Fork.{AcceptsChunksMut, AllInChunks};
 ghost use Rattle.comp_tree.specs.Raster.{value_at, HasGap, HasValuesInRange};
 ghost use Rattle.std.specs.Option.{option_map};
-ghost use Rattle.comp_tree.specs.Stored.{kept_place, place_in_run as place_in_run_of, AreBlocksOf};
+ghost use Rattle.comp_tree.specs.Stored.{kept_place, place_in_run as place_in_run_of, AreBlocksOf, AreAllInBlocks};
 ghost use Rattle.comp_tree.specs.Stored.{shown_values};
 ghost use Rattle.std.specs.List.{range_with_len};
 
@@ -14,8 +14,8 @@ use crate::pixel::Pixel;
 use costs::OutOfMemory;
 use std::alloc::Global;
 use std::marker::Model;
-use std::thread;
 use std::thread::Threads;
+use std::{mem, thread};
 
 // How many pixels there are in a block.
 const BLOCK: usize = 32;
@@ -67,9 +67,8 @@ impl Pixels {
     pub(crate) fn copied(&self, alloc: Global) -> Result<Pixels, OutOfMemory>
         ensures { IfOk result (λ copy. copy ≡ self.now) }
     {
+        let kept = copy_of(alloc, &self.kept)?;
         let runs = copy_if_there(alloc, &self.runs)?;
-        let mut kept = Vec::with_capacity(alloc, self.kept.len())?;
-        kept.extend_from_slice(&self.kept)?;
         Ok(Pixels {
             count: self.count,
             runs,
@@ -116,14 +115,23 @@ impl Pixels {
         ensures changed { OnOk result (AllInChunks F.Fn change.now size self.old self.new) }
         ensures unchanged { OnErr result (self.new ≡ self.old) }
     {
-        if self.runs.is_none() {
-            change_all(rt, &mut self.kept, size, change);
-            return Ok(());
-        }
-        let mut pixels = self.spread_out(alloc)?;
-        change_all(rt, &mut pixels, size, change);
+        let mut pixels = self.take_each(alloc)?;
+        thread::for_each_chunk_mut(rt, &mut pixels, size, change);
         *self = Pixels::of(pixels);
         Ok(())
+    }
+
+    // Takes all pixels out, so that none is left here.
+    fn take_each(&mut self, alloc: Global) -> Result<Vec<Pixel>, OutOfMemory>
+        requires { HasValuesInRange self.old }
+        ensures taken { IfOk result (λ pixels. pixels.items ≡ self.old) }
+        ensures unchanged { OnErr result (self.new ≡ self.old) }
+    {
+        if self.runs.is_none() {
+            self.count = 0;
+            return Ok(mem::replace(&mut self.kept, Vec::new(alloc)));
+        }
+        self.spread_out(alloc)
     }
 
     // All pixels.
@@ -170,21 +178,6 @@ impl Pixels {
             Some(_) => Ok(None),
         }
     }
-}
-
-// Changes all pixels in bands of `size`, each in a thread of its own where one can be made.
-fn change_all<R: Threads + Sync, F: Fn(usize, &mut [Pixel]) + Sync>(
-    rt: &R,
-    pixels: &mut Vec<Pixel>,
-    size: usize,
-    change: &F,
-)
-    requires some { 0 < size }
-    requires accepts { AcceptsChunksMut F.Fn change.now size pixels.old.items }
-    ensures one_each { length pixels.new.items ≡ length pixels.old.items }
-    ensures changed { AllInChunks F.Fn change.now size pixels.old.items pixels.new.items }
-{
-    thread::for_each_chunk_mut(rt, pixels, size, change);
 }
 
 // Which of the kept pixels is this one, if one is.
@@ -234,9 +227,17 @@ fn copy_if_there(alloc: Global, runs: &Option<Vec<Run>>) -> Result<Option<Vec<Ru
     let Some(runs) = runs else {
         return Ok(None);
     };
-    let mut copy = Vec::with_capacity(alloc, runs.len())?;
-    copy.extend_from_slice(runs)?;
+    let copy = copy_of(alloc, runs)?;
     Ok(Some(copy))
+}
+
+// The same items a second time.
+fn copy_of<T: Copy>(alloc: Global, items: &[T]) -> Result<Vec<T>, OutOfMemory>
+    ensures { IfOk result (λ copy. copy.items ≡ items.now) }
+{
+    let mut copy = Vec::with_capacity(alloc, items.len())?;
+    copy.extend_from_slice(items)?;
+    Ok(copy)
 }
 
 // These pixels in blocks, those undefined that aren't marked, if at most a quarter of them remains. Without marks all are shown.
@@ -250,21 +251,40 @@ fn blocks_of(
     ensures { IfOk result (λ made. IfSome made
         (λ made. made ≡ shown_values pixels.now marks.entry)) }
 {
-    let count = pixels.len().div_ceil(BLOCK);
-    let mut runs = Vec::with_capacity(alloc, count)?;
+    let mut runs = Vec::with_capacity(alloc, pixels.len().div_ceil(BLOCK))?;
     // room that isn't used takes no memory until it is written to
     let mut kept = Vec::with_capacity(alloc, pixels.len() / 4)?;
-    for block in 0..count {
-        add_block(&mut runs, &mut kept, pixels, marks, block)?;
-        if kept.len() > pixels.len() / 4 {
-            return Ok(None);
-        }
+    if !add_blocks(&mut runs, &mut kept, pixels, marks)? {
+        return Ok(None);
     }
     Ok(Some(Pixels {
         count: pixels.len(),
         runs: Some(runs),
         kept,
     }))
+}
+
+// Adds all blocks, or only some where more than a quarter of the pixels remains. Whether all were added.
+fn add_blocks(
+    runs: &mut Vec<Run>,
+    kept: &mut Vec<Pixel>,
+    pixels: &[Pixel],
+    marks: Option<&[bool]>,
+) -> Result<bool, OutOfMemory>
+    requires few { length pixels.now ≤ 2 ^ 24 }
+    requires one_each { IfSome marks (λ marks. length marks.now ≡ length pixels.now) }
+    requires no_runs { runs.old.items ≡ [] }
+    requires none_kept { kept.old.items ≡ [] }
+    ensures { IfOk result (λ all. all ≡ true → AreAllInBlocks runs.new.items kept.new.items
+        (shown_values pixels.now marks.entry)) }
+{
+    for block in 0..pixels.len().div_ceil(BLOCK) {
+        add_block(runs, kept, pixels, marks, block)?;
+        if kept.len() > pixels.len() / 4 {
+            return Ok(false);
+        }
+    }
+    Ok(true)
 }
 
 // Adds the next block to the first ones.

@@ -26,9 +26,19 @@ fn value_of(sign: u8) -> Option<i64> {
 
 // The plane of these digits, row by row.
 fn plane_of(alloc: Global, width: u32, height: u32, signs: &[u8]) -> Option<Plane> {
-    let shape = Shape::of(width, height)?;
     let values = values_of(alloc, signs).ok()?;
-    Plane::of(alloc, shape, &values).ok()?
+    plane_of_values(alloc, width, height, &values)
+}
+
+// The plane of these values, row by row.
+fn plane_of_values(
+    alloc: Global,
+    width: u32,
+    height: u32,
+    values: &[Option<i64>],
+) -> Option<Plane> {
+    let shape = Shape::of(width, height)?;
+    Plane::of(alloc, shape, values).ok()?
 }
 
 // Whether a plane has these values, row by row.
@@ -56,64 +66,99 @@ fn keeps(alloc: Global, values: &[Option<i64>]) -> Result<Option<bool>, OutOfMem
     }
 }
 
+// Whether the plane of these values has just them.
+fn are_kept(alloc: Global, values: &[Option<i64>]) -> bool {
+    matches!(keeps(alloc, values), Ok(Some(true)))
+}
+
+// Whether there is no plane of these values.
+fn are_refused(alloc: Global, values: &[Option<i64>]) -> bool {
+    matches!(keeps(alloc, values), Ok(None))
+}
+
+// The largest value.
+const MOST: i64 = 1 << 37;
+
 // Planes of given values.
 #[test]
 fn planes_of_values(rt: HostRuntime) {
-    let most = 1 << 37;
-    assert!(rt; matches!(keeps(rt.alloc(), &[Some(-7), None]), Ok(Some(true))));
-    assert!(rt;
-        matches!(
-            keeps(rt.alloc(), &[Some(most), Some(-most)]),
-            Ok(Some(true))
-        )
-    );
+    assert!(rt; are_kept(rt.alloc(), &[Some(-7), None]));
+    assert!(rt; are_kept(rt.alloc(), &[Some(MOST), Some(-MOST)]));
 }
 
 // What makes no plane: too few values, and one behind each bound of the range.
 #[test]
 fn values_of_no_plane(rt: HostRuntime) {
-    let most = 1 << 37;
-    assert!(rt; matches!(keeps(rt.alloc(), &[Some(0)]), Ok(None)));
-    assert!(rt; matches!(keeps(rt.alloc(), &[Some(0), Some(most + 1)]), Ok(None)));
-    assert!(rt; matches!(keeps(rt.alloc(), &[Some(-most - 1), Some(0)]), Ok(None)));
+    assert!(rt; are_refused(rt.alloc(), &[Some(0)]));
+    assert!(rt; are_refused(rt.alloc(), &[Some(0), Some(MOST + 1)]));
+    assert!(rt; are_refused(rt.alloc(), &[Some(-MOST - 1), Some(0)]));
 }
 
-// A plane of three pixels, of which two are painted, and one of these once more.
-fn painted(alloc: Global) -> Option<Plane> {
-    let shape = Shape::of(3, 1)?;
-    let mut canvas = Canvas::blank(alloc, shape).ok()?;
+// A blank canvas of one row.
+fn blank_row(alloc: Global, width: u32) -> Option<Canvas> {
+    let shape = Shape::of(width, 1)?;
+    Canvas::blank(alloc, shape).ok()
+}
+
+// Paints two of three pixels, and one of these once more.
+fn paint_two(canvas: &mut Canvas) {
     if canvas.shape().pixels() == 3 {
         canvas.set(0, Some(5));
         canvas.set(2, Some(-6));
         canvas.set(0, None);
     }
+}
+
+// A plane of three pixels that were painted so.
+fn painted(alloc: Global) -> Option<Plane> {
+    let mut canvas = blank_row(alloc, 3)?;
+    paint_two(&mut canvas);
     Some(canvas.into_plane())
+}
+
+// Whether there is a plane, and it has these values, row by row.
+fn is_plane_of(plane: Option<Plane>, wanted: &[Option<i64>]) -> bool {
+    match plane {
+        Some(plane) => has_values(&plane, wanted),
+        None => false,
+    }
 }
 
 // A canvas becomes the plane that was painted on it.
 #[test]
 fn a_canvas_is_painted(rt: HostRuntime) {
-    let plane = painted(rt.alloc()).expect(&rt, "a plane");
-    assert!(rt; has_values(&plane, &[None, None, Some(-6)]));
+    assert!(rt; is_plane_of(painted(rt.alloc()), &[None, None, Some(-6)]));
 }
 
-// A plane of 70 pixels, of which some are defined: two in a block of their own, and the last.
-fn plane_of_few(alloc: Global) -> Option<Plane> {
-    let shape = Shape::of(70, 1)?;
-    let mut canvas = Canvas::blank(alloc, shape).ok()?;
+// Paints some of 70 pixels: two in a block of their own, and the last.
+fn paint_few(canvas: &mut Canvas) {
     if canvas.shape().pixels() == 70 {
         canvas.set(32, Some(7));
         canvas.set(37, Some(8));
         canvas.set(69, Some(-9));
     }
+}
+
+// A plane of 70 pixels, of which these are defined.
+fn plane_of_few(alloc: Global) -> Option<Plane> {
+    let mut canvas = blank_row(alloc, 70)?;
+    paint_few(&mut canvas);
     Some(canvas.into_plane())
 }
 
 // A copy of a plane, kept in less memory where few pixels are defined.
 fn compacted(alloc: Global, plane: &Plane) -> Option<Plane> {
     let mut copy = plane.copied(alloc).ok()?;
-    copy.compact(alloc).ok()?;
-    Some(copy)
+    match copy.compact(alloc) {
+        Ok(()) => Some(copy),
+        Err(_) => None,
+    }
+}
+
+// The plane of few pixels, kept in less memory.
+fn compact_plane_of_few(alloc: Global) -> Option<Plane> {
+    let plane = plane_of_few(alloc)?;
+    compacted(alloc, &plane)
 }
 
 // Whether both planes have the same pixels.
@@ -142,75 +187,119 @@ fn sums_of_defined(plane: &Plane) -> (u32, i64) {
     sums
 }
 
-// Where few pixels are defined, a plane that is kept in less memory has the same ones, also once more and in a copy.
+// Whether a plane that is kept in less memory has the same pixels as the first one.
+fn is_compact_alike(alloc: Global, plane: &Plane, first: &Plane) -> bool {
+    match compacted(alloc, plane) {
+        Some(copy) => are_alike(&copy, first),
+        None => false,
+    }
+}
+
+// Whether the plane keeps its pixels in less memory, also once more and in a copy.
+fn stays_alike(alloc: Global, first: &Plane) -> bool {
+    match compacted(alloc, first) {
+        Some(plane) => are_alike(&plane, first) && is_compact_alike(alloc, &plane, first),
+        None => false,
+    }
+}
+
+// Whether there is a plane, and it does.
+fn is_kept_alike(alloc: Global, first: Option<Plane>) -> bool {
+    match first {
+        Some(first) => stays_alike(alloc, &first),
+        None => false,
+    }
+}
+
+// Where few pixels are defined, a plane that is kept in less memory has the same ones.
 #[test]
 fn a_compact_plane_is_the_same(rt: HostRuntime) {
-    let first = plane_of_few(rt.alloc()).expect(&rt, "a plane");
-    let plane = compacted(rt.alloc(), &first).expect(&rt, "memory");
-    assert!(rt; are_alike(&plane, &first));
-    let copy = compacted(rt.alloc(), &plane).expect(&rt, "memory");
-    assert!(rt; are_alike(&copy, &first));
+    assert!(rt; is_kept_alike(rt.alloc(), plane_of_few(rt.alloc())));
 }
 
 // Where many are defined, it stays as it is.
 #[test]
 fn a_full_plane_stays(rt: HostRuntime) {
-    let first = plane_of(rt.alloc(), 2, 2, b"43.1").expect(&rt, "a plane");
-    let plane = compacted(rt.alloc(), &first).expect(&rt, "memory");
-    assert!(rt; are_alike(&plane, &first));
+    assert!(rt; is_kept_alike(rt.alloc(), plane_of(rt.alloc(), 2, 2, b"43.1")));
 }
 
-// The sums of the compact plane of few pixels, of which one has got another value and one none.
-fn sums_of_changed(alloc: Global) -> Option<(u32, i64)> {
-    let mut plane = compacted(alloc, &plane_of_few(alloc)?)?;
+// Gives one of the few pixels another value, and one none.
+fn change_two(plane: &mut Plane) {
     if plane.shape().pixels() == 70 {
         if plane.is_defined(37) {
             plane.set(37, Some(1));
         }
         plane.set(69, None);
     }
-    Some(sums_of_defined(&plane))
+}
+
+// The compact plane of few pixels after that.
+fn changed_plane(alloc: Global) -> Option<Plane> {
+    let mut plane = compact_plane_of_few(alloc)?;
+    change_two(&mut plane);
+    Some(plane)
+}
+
+// Whether there is a plane, and its sums are these.
+fn has_sums(plane: Option<Plane>, numbers: u32, values: i64) -> bool {
+    match plane {
+        Some(plane) => sums_of_defined(&plane) == (numbers, values),
+        None => false,
+    }
 }
 
 // Its pixels can be changed.
 #[test]
 fn a_compact_plane_is_changed(rt: HostRuntime) {
-    assert!(rt; matches!(sums_of_changed(rt.alloc()), Some((69, 8))));
+    assert!(rt; has_sums(changed_plane(rt.alloc()), 69, 8));
 }
 
 // One finds the defined pixels one after the other, with each pixel kept as in blocks.
 #[test]
 fn defined_pixels_are_found(rt: HostRuntime) {
-    let plane = plane_of_few(rt.alloc()).expect(&rt, "a plane");
-    assert!(rt; sums_of_defined(&plane) == (138, 6));
-    let compact = compacted(rt.alloc(), &plane).expect(&rt, "memory");
-    assert!(rt; sums_of_defined(&compact) == (138, 6));
+    assert!(rt; has_sums(plane_of_few(rt.alloc()), 138, 6));
+    assert!(rt; has_sums(compact_plane_of_few(rt.alloc()), 138, 6));
 }
 
-// The sums of the plane of the marked pixels.
-fn sums_of_marked(alloc: Global, plane: &Plane, marks: &[bool]) -> Option<(u32, i64)> {
+// The plane of the marked pixels.
+fn marked_plane(alloc: Global, plane: &Plane, marks: &[bool]) -> Option<Plane> {
     if plane.shape().pixels() as usize != marks.len() {
         return None;
     }
-    let part = plane.marked(alloc, marks).ok()?;
-    Some(sums_of_defined(&part))
+    plane.marked(alloc, marks).ok()
 }
 
-// The same of the plane of few pixels, with two marks.
-fn sums_of_few(alloc: Global) -> Option<(u32, i64)> {
+// Marks of 70 pixels, of which two are marked.
+fn two_marks(alloc: Global) -> Option<Vec<bool>> {
     let mut marks = vec![in alloc; false; 70].ok()?;
     marks[36] = true;
     marks[37] = true;
-    sums_of_marked(alloc, &plane_of_few(alloc)?, &marks)
+    Some(marks)
+}
+
+// The plane of few pixels, with these marks.
+fn marked_plane_of_few(alloc: Global, marks: &[bool]) -> Option<Plane> {
+    let plane = plane_of_few(alloc)?;
+    marked_plane(alloc, &plane, marks)
+}
+
+// The same with the two marks.
+fn part_of_few(alloc: Global) -> Option<Plane> {
+    let marks = two_marks(alloc)?;
+    marked_plane_of_few(alloc, &marks)
+}
+
+// A plane of three pixels, with the first and the last marked.
+fn part_of_full(alloc: Global) -> Option<Plane> {
+    let full = plane_of(alloc, 3, 1, b"431")?;
+    marked_plane(alloc, &full, &[true, false, true])
 }
 
 // Of the marked pixels a second plane is made, in blocks where they are few, and with each pixel kept where they are many.
 #[test]
 fn marked_pixels_stay(rt: HostRuntime) {
-    assert!(rt; matches!(sums_of_few(rt.alloc()), Some((37, 8))));
-    let full = plane_of(rt.alloc(), 3, 1, b"431").expect(&rt, "a plane");
-    let sums = sums_of_marked(rt.alloc(), &full, &[true, false, true]);
-    assert!(rt; matches!(sums, Some((2, 5))));
+    assert!(rt; has_sums(part_of_few(rt.alloc()), 37, 8));
+    assert!(rt; has_sums(part_of_full(rt.alloc()), 2, 5));
 }
 
 // A defined pixel with this number in place of its value, or an undefined one.
@@ -257,41 +346,43 @@ fn number_bands<R: Threads + Sync>(
     )
 }
 
-// The sums of the plane after that.
-fn sums_of_bands<R: Threads + Sync>(
+// A plane after that, if there is one.
+fn in_bands<R: Threads + Sync>(
     rt: &R,
     alloc: Global,
-    plane: &mut Plane,
+    plane: Option<Plane>,
     size: u32,
-) -> Option<(u32, i64)>
+) -> Option<Plane>
     requires { 0 < size }
 {
-    number_bands(rt, alloc, plane, size).ok()?;
-    Some(sums_of_defined(plane))
+    let mut plane = plane?;
+    match number_bands(rt, alloc, &mut plane, size) {
+        Ok(()) => Some(plane),
+        Err(_) => None,
+    }
+}
+
+// A plane of six pixels in bands of three.
+fn in_threes<R: Threads + Sync>(rt: &R, alloc: Global) -> Option<Plane> {
+    in_bands(rt, alloc, plane_of(alloc, 3, 2, b"5.6507"), 3)
 }
 
 // Bands of three pixels are all, and of four the last is shorter.
 #[test]
 fn pixels_are_changed_in_bands(rt: HostRuntime) {
-    let mut plane = plane_of(rt.alloc(), 3, 2, b"5.6507").expect(&rt, "a plane");
-    assert!(rt; matches!(sums_of_bands(&rt, rt.alloc(), &mut plane, 3), Some((14, 9))));
-    assert!(rt; matches!(sums_of_bands(&rt, rt.alloc(), &mut plane, 4), Some((14, 8))));
+    assert!(rt; has_sums(in_threes(&rt, rt.alloc()), 14, 9));
+    let fours = in_bands(&rt, rt.alloc(), in_threes(&rt, rt.alloc()), 4);
+    assert!(rt; has_sums(fours, 14, 8));
 }
 
 // A plane in blocks is changed as well.
 #[test]
 fn pixels_in_blocks_are_changed(rt: HostRuntime) {
-    let few = plane_of_few(rt.alloc()).expect(&rt, "a plane");
-    let mut plane = compacted(rt.alloc(), &few).expect(&rt, "memory");
-    assert!(rt;
-        matches!(
-            sums_of_bands(&rt, rt.alloc(), &mut plane, 32),
-            Some((138, 128))
-        )
-    );
+    let plane = in_bands(&rt, rt.alloc(), compact_plane_of_few(rt.alloc()), 32);
+    assert!(rt; has_sums(plane, 138, 128));
 }
 
-#[derive(Drop)]
+#[derive(Clone, Copy)]
 struct Case<'a> {
     width: u32,
     height: u32,
@@ -316,18 +407,33 @@ fn has_rows(rows: &[NodeRow], wanted: &[(i64, u32, u32)]) -> bool {
     true
 }
 
-// Whether the tree of the plane is the one that is wanted.
-fn is_met(alloc: Global, case: &Case) -> Option<bool> {
-    let plane = plane_of(alloc, case.width, case.height, case.values)?;
-    let tree = plain_tree(alloc, &plane, case.connect).ok()?;
-    let is_of_plane = tree.shape() == plane.shape();
-    Some(is_of_plane && has_rows(tree.rows(), case.rows) && tree.node_of() == case.node_of)
+// Whether the tree of a plane is the one that is wanted.
+fn is_wanted(tree: &Tree, plane: &Plane, case: &Case) -> bool {
+    tree.shape() == plane.shape()
+        && has_rows(tree.rows(), case.rows)
+        && tree.node_of() == case.node_of
 }
 
-// Whether each of these is.
+// Whether the plane has the tree that is wanted.
+fn has_tree(alloc: Global, plane: &Plane, case: &Case) -> bool {
+    match plain_tree(alloc, plane, case.connect) {
+        Ok(tree) => is_wanted(&tree, plane, case),
+        Err(_) => false,
+    }
+}
+
+// Whether there is the plane, and it has.
+fn is_met(alloc: Global, case: &Case) -> bool {
+    match plane_of(alloc, case.width, case.height, case.values) {
+        Some(plane) => has_tree(alloc, &plane, case),
+        None => false,
+    }
+}
+
+// Whether each of these is met.
 fn are_met(alloc: Global, cases: &[Case]) -> bool {
     for case in cases {
-        if !matches!(is_met(alloc, case), Some(true)) {
+        if !is_met(alloc, case) {
             return false;
         }
     }
@@ -335,99 +441,102 @@ fn are_met(alloc: Global, cases: &[Case]) -> bool {
 }
 
 // Worked examples: a row, one pixel, and pixels that touch at a corner.
+const SMALL: &[Case<'static>] = &[
+    Case {
+        width: 3,
+        height: 1,
+        connect: Connect::Four,
+        values: b"121",
+        rows: &[(1, 0, NONE), (2, 1, 0)],
+        node_of: &[0, 1, 0],
+    },
+    Case {
+        width: 1,
+        height: 1,
+        connect: Connect::Four,
+        values: b"0",
+        rows: &[(0, 0, NONE)],
+        node_of: &[0],
+    },
+    Case {
+        width: 2,
+        height: 2,
+        connect: Connect::Four,
+        values: b"9009",
+        rows: &[(0, 1, NONE), (9, 0, 0), (9, 3, 0)],
+        node_of: &[1, 0, 0, 2],
+    },
+    Case {
+        width: 2,
+        height: 2,
+        connect: Connect::Eight,
+        values: b"9009",
+        rows: &[(0, 1, NONE), (9, 0, 0)],
+        node_of: &[1, 0, 0, 1],
+    },
+];
+
 #[test]
 fn trees_of_small_planes(rt: HostRuntime) {
-    let cases = [
-        Case {
-            width: 3,
-            height: 1,
-            connect: Connect::Four,
-            values: b"121",
-            rows: &[(1, 0, NONE), (2, 1, 0)],
-            node_of: &[0, 1, 0],
-        },
-        Case {
-            width: 1,
-            height: 1,
-            connect: Connect::Four,
-            values: b"0",
-            rows: &[(0, 0, NONE)],
-            node_of: &[0],
-        },
-        Case {
-            width: 2,
-            height: 2,
-            connect: Connect::Four,
-            values: b"9009",
-            rows: &[(0, 1, NONE), (9, 0, 0), (9, 3, 0)],
-            node_of: &[1, 0, 0, 2],
-        },
-        Case {
-            width: 2,
-            height: 2,
-            connect: Connect::Eight,
-            values: b"9009",
-            rows: &[(0, 1, NONE), (9, 0, 0)],
-            node_of: &[1, 0, 0, 1],
-        },
-    ];
-    assert!(rt; are_met(rt.alloc(), &cases));
+    assert!(rt; are_met(rt.alloc(), SMALL));
 }
 
 // Undefined pixels belong to no node, and part the others.
+const PARTED: &[Case<'static>] = &[
+    Case {
+        width: 2,
+        height: 1,
+        connect: Connect::Four,
+        values: b"..",
+        rows: &[],
+        node_of: &[NONE, NONE],
+    },
+    Case {
+        width: 3,
+        height: 1,
+        connect: Connect::Four,
+        values: b"5.5",
+        rows: &[(5, 0, NONE), (5, 2, NONE)],
+        node_of: &[0, NONE, 1],
+    },
+];
+
 #[test]
 fn trees_around_undefined_pixels(rt: HostRuntime) {
-    let cases = [
-        Case {
-            width: 2,
-            height: 1,
-            connect: Connect::Four,
-            values: b"..",
-            rows: &[],
-            node_of: &[NONE, NONE],
-        },
-        Case {
-            width: 3,
-            height: 1,
-            connect: Connect::Four,
-            values: b"5.5",
-            rows: &[(5, 0, NONE), (5, 2, NONE)],
-            node_of: &[0, NONE, 1],
-        },
-    ];
-    assert!(rt; are_met(rt.alloc(), &cases));
+    assert!(rt; are_met(rt.alloc(), PARTED));
 }
 
 // Plateaus, and pixels of other values that touch at a corner.
+const FLAT: &[Case<'static>] = &[
+    Case {
+        width: 3,
+        height: 2,
+        connect: Connect::Four,
+        values: b"151711",
+        rows: &[(1, 0, NONE), (5, 1, 0), (7, 3, 0)],
+        node_of: &[0, 1, 0, 2, 0, 0],
+    },
+    Case {
+        width: 3,
+        height: 2,
+        connect: Connect::Eight,
+        values: b"151711",
+        rows: &[(1, 0, NONE), (5, 1, 0), (7, 3, 1)],
+        node_of: &[0, 1, 0, 2, 0, 0],
+    },
+    Case {
+        width: 3,
+        height: 3,
+        connect: Connect::Four,
+        values: b"506526333",
+        rows: &[(0, 1, NONE), (2, 4, 0), (3, 6, 1), (5, 0, 2), (6, 2, 2)],
+        node_of: &[3, 0, 4, 3, 1, 4, 2, 2, 2],
+    },
+];
+
 #[test]
 fn trees_with_plateaus(rt: HostRuntime) {
-    let cases = [
-        Case {
-            width: 3,
-            height: 2,
-            connect: Connect::Four,
-            values: b"151711",
-            rows: &[(1, 0, NONE), (5, 1, 0), (7, 3, 0)],
-            node_of: &[0, 1, 0, 2, 0, 0],
-        },
-        Case {
-            width: 3,
-            height: 2,
-            connect: Connect::Eight,
-            values: b"151711",
-            rows: &[(1, 0, NONE), (5, 1, 0), (7, 3, 1)],
-            node_of: &[0, 1, 0, 2, 0, 0],
-        },
-        Case {
-            width: 3,
-            height: 3,
-            connect: Connect::Four,
-            values: b"506526333",
-            rows: &[(0, 1, NONE), (2, 4, 0), (3, 6, 1), (5, 0, 2), (6, 2, 2)],
-            node_of: &[3, 0, 4, 3, 1, 4, 2, 2, 2],
-        },
-    ];
-    assert!(rt; are_met(rt.alloc(), &cases));
+    assert!(rt; are_met(rt.alloc(), FLAT));
 }
 
 #[test]
@@ -457,23 +566,34 @@ fn has_order(plane: &Plane) -> bool {
         && !plane.is_earlier(3, 0)
 }
 
+// The values of a plane of three columns and two rows.
+const MIXED: [Option<i64>; 6] = [Some(5), None, Some(6), Some(5), Some(0), Some(7)];
+
+// Whether there is a plane, and it has these values, their levels and their order.
+fn is_mixed(plane: Option<Plane>) -> bool {
+    match plane {
+        Some(plane) => has_values(&plane, &MIXED) && has_levels(&plane) && has_order(&plane),
+        None => false,
+    }
+}
+
 #[test]
 fn pixels_of_a_plane(rt: HostRuntime) {
-    let plane = plane_of(rt.alloc(), 3, 2, b"5.6507").expect(&rt, "a plane");
-    let values = [Some(5), None, Some(6), Some(5), Some(0), Some(7)];
-    assert!(rt; has_values(&plane, &values));
-    assert!(rt; has_levels(&plane));
-    assert!(rt; has_order(&plane));
+    assert!(rt; is_mixed(plane_of(rt.alloc(), 3, 2, b"5.6507")));
+}
+
+// Whether these are the neighbours of pixel 1 of a shape of three columns and two rows.
+fn are_near(connect: Connect, wanted: &[u32]) -> bool {
+    let Some(shape) = Shape::of(3, 2) else {
+        return false;
+    };
+    shape.pixels() == 6 && neighbours(shape, connect, 1).as_slice() == wanted
 }
 
 #[test]
 fn neighbours_in_rising_order(rt: HostRuntime) {
-    let shape = Shape::of(3, 2).expect(&rt, "a shape");
-    assert_eq!(rt; shape.pixels(), 6);
-    let sides = neighbours(shape, Connect::Four, 1);
-    assert!(rt; sides.as_slice() == &[0, 2, 4][..]);
-    let corners = neighbours(shape, Connect::Eight, 1);
-    assert!(rt; corners.as_slice() == &[0, 2, 3, 4, 5][..]);
+    assert!(rt; are_near(Connect::Four, &[0, 2, 4]));
+    assert!(rt; are_near(Connect::Eight, &[0, 2, 3, 4, 5]));
 }
 
 // Whether these links are a forest of the plane.
@@ -485,17 +605,20 @@ fn are_forest(alloc: Global, plane: &Plane, links: &[u32]) -> Option<bool> {
     Some(is_forest(plane, 0, forest.parents()))
 }
 
+// Whether it is known of a row of three pixels, of which the second has a larger value, that these links are its forest, or that they
+// aren't.
+fn is_answer(alloc: Global, links: &[u32], wanted: bool) -> bool {
+    match plane_of(alloc, 3, 1, b"121") {
+        Some(plane) => are_forest(alloc, &plane, links) == Some(wanted),
+        None => false,
+    }
+}
+
 #[test]
 fn links_of_a_forest(rt: HostRuntime) {
-    let plane = plane_of(rt.alloc(), 3, 1, b"121").expect(&rt, "a plane");
-    assert!(rt; matches!(are_forest(rt.alloc(), &plane, &[NONE, 2, 0]), Some(true)));
+    assert!(rt; is_answer(rt.alloc(), &[NONE, 2, 0], true));
     // pixel 1 is later than pixel 2
-    assert!(rt;
-        matches!(
-            are_forest(rt.alloc(), &plane, &[NONE, NONE, 1]),
-            Some(false)
-        )
-    );
+    assert!(rt; is_answer(rt.alloc(), &[NONE, NONE, 1], false));
 }
 
 // The pixel of a plane of four columns that stands at pixel q of its window of this shape, from column 1 of row 0 on.
@@ -527,18 +650,28 @@ fn are_those_of_window(rows: &[NodeRow], part: Shape, seen: &[NodeRow]) -> bool 
 }
 
 fn tree_of(alloc: Global, width: u32, height: u32, signs: &[u8]) -> Option<Tree> {
-    plain_tree(
-        alloc,
-        &plane_of(alloc, width, height, signs)?,
-        Connect::Eight,
-    )
-    .ok()
+    let plane = plane_of(alloc, width, height, signs)?;
+    plain_tree(alloc, &plane, Connect::Eight).ok()
+}
+
+// Whether the nodes of the window's tree are those of this tree.
+fn has_nodes_of_window(alloc: Global, tree: &Tree) -> bool {
+    match tree_of(alloc, 3, 3, b"111179161") {
+        Some(seen) => are_those_of_window(tree.rows(), seen.shape(), seen.rows()),
+        None => false,
+    }
+}
+
+// Whether they are those of the plane's tree.
+fn are_found_in_window(alloc: Global) -> bool {
+    match tree_of(alloc, 4, 3, b"111111791161") {
+        Some(tree) => has_nodes_of_window(alloc, &tree),
+        None => false,
+    }
 }
 
 // The last three columns of a plane: the component of 6, 7 and 9 lies in them with its neighbours, so its nodes are the same, each at its place.
 #[test]
 fn nodes_of_a_window(rt: HostRuntime) {
-    let tree = tree_of(rt.alloc(), 4, 3, b"111111791161").expect(&rt, "a tree");
-    let seen = tree_of(rt.alloc(), 3, 3, b"111179161").expect(&rt, "a tree");
-    assert!(rt; are_those_of_window(tree.rows(), seen.shape(), seen.rows()));
+    assert!(rt; are_found_in_window(rt.alloc()));
 }

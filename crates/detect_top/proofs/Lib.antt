@@ -1,5 +1,3 @@
-mod Ends
-mod Products
-mod TrialResiduals
+mod ImageReads
 mod AnswerStatus
 pub mod Exported

@@ -1,6 +1,1 @@
-pub mod Products
-pub mod Answers
-pub mod Headline
-pub mod Laws
-pub mod Writables
-pub mod RunEnds
+pub mod ImageAnswers

@@ -1,15 +1,11 @@
-//! The command: its words, the image that it reads, and what it writes.
+//! The runs of the words that work on one image: what they read, what they make of it, and what they write.
 #![tactic(auto)]
 
-mod component;
 pub mod laws;
-mod notes;
-mod product;
+mod making;
 mod top;
 
-pub use component::{component_tree, residual_plane};
-pub use notes::tell;
-pub use top::{End, run};
+pub use top::run;
 
 #[cfg(test)]
 mod detection_tests;

@@ -1,79 +1,11 @@
-//! Flooded and joined strips beside the plain way, and two workers at once.
-use crate::component::component_tree;
+//! A run whose two workers flood at once.
 use crate::in_memory::file;
 use crate::run;
-use comp_tree::{Connect, Plane, Shape, plain_tree};
 use dev_io::{MemSink, PlainSource};
-use orders::{Job, Order};
-use std::alloc::Global;
 use std::sync::atomic::AtomicBool;
 use std::sync::atomic::Ordering::SeqCst;
 use std::test::Fail;
-use strip_crew::{Gate, OpenGate};
-
-// The width of each plane, and its pixels row by row: digits are values, and a point is an undefined pixel.
-const PLANES: [(u32, &[u8]); 20] = [
-    (1, b"0"),
-    (2, b".."),
-    (5, b"12321"),
-    (5, b"32123"),
-    (1, b"31323"),
-    (2, b"9009"),
-    (3, b"151711"),
-    (3, b"506526333"),
-    (3, b"5.55.55.5"),
-    (3, b"111191111"),
-    (4, b"1111111111111111"),
-    (4, b"1212212112122121"),
-    (4, b"12341234.2341234"),
-    (5, b"9999990009909099000999999"),
-    (5, b"1111155551511151555111111"),
-    (5, b"9090990909909099090999999"),
-    (5, b"9.9.9.9.9.9.9.9.9.9.9.9.9"),
-    (5, b"1234556789987654321012345"),
-    (5, b"3333321112212122111233333"),
-    (5, b"0123.1234.2345.3456.45678"),
-];
-
-fn plane_of(alloc: Global, width: u32, digits: &[u8]) -> Result<Plane, Fail> {
-    let height = digits.len().min(25) as u32 / width.max(1);
-    let shape = Shape::of(width, height).ok_or("a shape")?;
-    let mut values = Vec::new(alloc);
-    for digit in digits {
-        values.push(if *digit == b'.' {
-            None
-        } else {
-            Some(i64::from(*digit))
-        })?;
-    }
-    Ok(Plane::of(alloc, shape, &values)?.ok_or("a plane")?)
-}
-
-#[test]
-fn strips_have_the_plain_tree(rt: HostRuntime) -> Result<(), Fail> {
-    let alloc = rt.alloc();
-    for (width, digits) in PLANES {
-        let plane = plane_of(alloc, width, digits)?;
-        for connect in [Connect::Four, Connect::Eight] {
-            let plain = plain_tree(alloc, &plane, connect)?;
-            for strips in [1, 2, 5] {
-                let order = Order {
-                    job: Job::Tree,
-                    hdu: 0,
-                    connect,
-                    strips,
-                    workers: 2,
-                    mesh: 0,
-                    flat: false,
-                };
-                let tree = component_tree(&rt, alloc, &plane, order, &OpenGate)?;
-                assert!(rt; tree.rows() == plain.rows());
-                assert!(rt; tree.node_of() == plain.node_of());
-            }
-        }
-    }
-    Ok(())
-}
+use strip_crew::Gate;
 
 // Whether the worker in each of two strips was there, and whether it saw the other.
 #[derive(Drop)]

@@ -6,50 +6,24 @@ ghost use Rattle.pixel_plane.specs.Verdicts.{verdict_on};
 ghost use Rattle.command_line.specs.Lines.{texts};
 ghost use Rattle.orders.specs.Words.{HasLimits};
 ghost use Rattle.image_input.specs.Faults.{IsCutStop};
-ghost use Rattle.detect_top.specs.Products.{image_made};
-ghost use Rattle.detect_top.specs.Writables.{bytes_of, IsWritable};
+ghost use Rattle.job_products.specs.Products.{image_made};
+ghost use Rattle.job_products.specs.Writables.{bytes_of, IsWritable};
 ghost use Rattle.tree_products.specs.Trials.{trial_image as image_of};
 ghost use Rattle.image_input.specs.Streams.{ImageStopped};
-ghost use Rattle.detect_top.specs.Answers.{end_status};
-ghost use Rattle.detect_top.specs.RunEnds.{AllRead, no_use, EndBytes, EndCause};
-ghost use Rattle.detect_top.specs.Headline.{answer_to_verdict, asked_by, asked_of, Tells, use_of_input, use_of_output, IsUnused, IsRunOf};
+ghost use Rattle.run_ends.specs.RunEnds.{AllRead, no_use, EndBytes, EndCause};
+ghost use Rattle.run_ends.specs.Headline.{Tells, use_of_input, use_of_output, IsUnused, IsRunOf};
+ghost use Rattle.detect_top.specs.ImageAnswers.{answer_to_verdict, asked_by, asked_of};
 
-use crate::notes::tell;
-use crate::product::{Product, make, make_trial, write};
+use crate::making::{make, make_trial};
 use comp_tree::Shape;
 use dev_io::{Sink, Source};
-use image_input::{Fault, Stop, read_image};
-use orders::{Job, Order, Usage, read_words};
+use image_input::{Stop, read_image};
+use job_products::{Product, write};
+use orders::{Job, Order, read_words};
+use run_ends::{End, tell};
 use std::alloc::Global;
 use std::thread::Threads;
 use strip_crew::Gate;
-
-/// How a run ends.
-#[derive(Clone, Copy, Debug, PartialEq, Eq)]
-pub enum End {
-    Done,
-    Usage(Usage),
-    Refused(Fault),
-    ReadFault,
-    WriteFault,
-    NoMemory,
-}
-
-impl End {
-    /// Its status.
-    pub fn status(self) -> u8
-        ensures { result ≡ end_status self }
-    {
-        match self {
-            End::Done => 0,
-            End::Usage(_) => 1,
-            End::Refused(_) => 2,
-            End::ReadFault => 3,
-            End::WriteFault => 4,
-            End::NoMemory => 5,
-        }
-    }
-}
 
 // Reads the image, and makes what the order asks for.
 fn read_and_make<R: Threads + Sync, S: Source, G: Gate>(

@@ -2,8 +2,8 @@
 #![tactic(auto)]
 
 use command_line::words::{NO_MEMORY, words};
+use commands::run_all;
 use dev_io::{ReadSource, WriteSink};
-use measure_top::run_all;
 use std::process::ExitCode;
 use strip_crew::OpenGate;
 

@@ -6,3 +6,4 @@ mod CutNodes
 mod Ended
 mod MeasuredRows
 mod MeasuredSources
+pub mod Exported

@@ -1,4 +1,4 @@
--- Model: what words that ask for measuring ask of an input, and what any words ask.
+-- Model: what words that ask for measuring ask of an input.
 use Rattle.std.specs.Prelude.{ℕ, true, List, [], min, max, nat_lt, Result, Ok, Err, if◌then◌else◌}
 use Rattle.comp_tree.specs.Raster.{Raster}
 use Rattle.orders.specs.declared.words.Order.{Order}
@@ -6,9 +6,8 @@ use Rattle.orders.specs.declared.words.Job.{Job}
 use Rattle.orders.specs.declared.words.Job.TheVariants.{Detect}
 use Rattle.orders.specs.declared.words.MeasureOrder.{MeasureOrder}
 use Rattle.orders.specs.declared.words.Usage.{Usage as AtFault}
-use Rattle.orders.specs.Words.{asks_measure, measure_order_of}
-use Rattle.detect_top.specs.Answers.{end_of}
-use Rattle.detect_top.specs.Headline.{Answer, Asked, asked_nothing, asked_of}
+use Rattle.run_ends.specs.Answers.{end_of}
+use Rattle.run_ends.specs.Headline.{Answer, Asked, asked_nothing}
 use Rattle.image_input.specs.TwoImages.{TwoVerdict, two_images, verdict_on_two, taken_for_two, stop_of_two, memory_at_two}
 use Rattle.measure_top.specs.MeasuredCatalogues.{measured_output}
 
@@ -44,7 +43,3 @@ asked_to_measure (Ok order) = record {
   answer = λ bytes. measure_answer_to_verdict order (verdict_for order bytes);
   memory_at = λ bytes. memory_at_two (verdict_for order bytes);
 }
-
--- what words ask: to measure, where the first one asks for it, and else what all other words ask
-abbrev pub asked_of_all : List (List ℕ) → Asked
-asked_of_all words = if asks_measure words then asked_to_measure (measure_order_of words) else asked_of words

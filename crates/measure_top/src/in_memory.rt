@@ -1,7 +1,8 @@
 //! Runs in memory, and the files that they read. For tests alone.
 
-use crate::run_all;
+use crate::run_measure;
 use dev_io::{BLOCK, MemSink, MemSource};
+use orders::is_measure;
 use std::alloc::Global;
 use std::test::Fail;
 use std::thread::Threads;
@@ -56,7 +57,7 @@ pub(crate) fn file(alloc: Global, text: &[u8], data: &[u8]) -> Result<Vec<u8>, F
     Ok(bytes)
 }
 
-/// Runs these words over these bytes, with room for so many bytes of output. The take of the input with this number fails, and the call of the
+/// Runs these words, the first of which is `measure`, over these bytes, with room for so many bytes of output. The take of the input with this number fails, and the call of the
 /// output with that one; none has the number 0.
 pub(crate) fn run_in_memory<R: Threads + Sync>(
     rt: &R,
@@ -71,7 +72,10 @@ pub(crate) fn run_in_memory<R: Threads + Sync>(
     let mut input = MemSource::new(bytes, 1000, &takes);
     let mut output = MemSink::new(vec![in alloc; 0; room]?, &puts, 10);
     let mut notes = MemSink::new(vec![in alloc; 0; 99]?, &[], 0);
-    let status = run_all(
+    if !is_measure(words) {
+        return Err(Fail::from("words that ask for measuring"));
+    }
+    let status = run_measure(
         rt,
         alloc,
         words,

@@ -1,13 +1,12 @@
-//! The sources of one image, measured in a second image of the same file, and the runs of all commands.
+//! The sources of one image, measured in a second image of the same file, and the run that does so.
 #![tactic(auto)]
 
 mod cutting;
-pub mod laws;
 mod measuring;
 mod picking_near;
 mod top;
 
-pub use top::run_all;
+pub use top::run_measure;
 
 #[cfg(test)]
 mod in_memory;

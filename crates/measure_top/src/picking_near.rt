@@ -13,9 +13,9 @@ ghost use Rattle.measure_top.specs.Picks.{AreNodesOf, AreSourcesOf, HaveFittingR
 
 use comp_tree::{Connect, Plane, Tree};
 use costs::OutOfMemory;
-use detect_top::component_tree;
 use node_sums::{Sums, sums};
 use orders::Order;
+use plane_trees::component_tree;
 use source_pick::{CatRow, Choice, near, pick, row, segment_in_parts};
 use std::alloc::Global;
 use std::thread::Threads;

@@ -1,4 +1,4 @@
-//! Runs of `measure`, and of other words.
+//! Runs of `measure`.
 use crate::in_memory::{EXTENSION, file, run_in_memory};
 use std::alloc::Global;
 use std::process::Abort;
@@ -226,7 +226,7 @@ fn each_fault_has_its_line(rt: HostRuntime) -> Result<(), Fail> {
     let narrow =
         b"#XTENSION= 'IMAGE   '|BITPIX  = 8|NAXIS   = 2|NAXIS1  = 4|NAXIS2  = 1|PCOUNT  = 0|GCOUNT  = 1|END|#";
     // the words, the extension, the status, the notes, and the bytes taken
-    let cases: [(&[&str], &[u8], u8, &[u8], usize); 6] = [
+    let cases: [(&[&str], &[u8], u8, &[u8], usize); 5] = [
         (
             &["measure", "--values", "0", "--threshold", "2"],
             narrow,
@@ -262,7 +262,6 @@ fn each_fault_has_its_line(rt: HostRuntime) -> Result<(), Fail> {
             b"refused: 17 TruncatedData\n",
             8644,
         ),
-        (&["measured"], narrow, 1, b"usage: word 1\n", 0),
     ];
     for (words, extension, status, notes, taken) in cases {
         try_refusal(&rt, rt.alloc(), words, extension, status, notes, taken)?;
@@ -285,16 +284,5 @@ fn a_device_fails(rt: HostRuntime) -> Result<(), Fail> {
     assert_eq!(rt; written.status, 4);
     assert_eq!(rt; written.output.len(), 2890);
     assert_eq!(rt; written.notes.as_slice(), b"write fault\n".as_slice());
-    Ok(())
-}
-
-#[test]
-fn other_words_are_those_of_run(rt: HostRuntime) -> Result<(), Fail> {
-    let alloc = rt.alloc();
-    let bytes = file(alloc, b"", &[])?;
-    let found = run_in_memory(&rt, alloc, &["tree"], &bytes, 200, 0, 0)?;
-    assert_eq!(rt; found.status, 0);
-    assert_eq!(rt; found.taken, 2885);
-    assert!(rt; found.output.starts_with(b"0 1 0"));
     Ok(())
 }

@@ -1,4 +1,4 @@
-//! The run as a whole.
+//! The run of words that ask for measuring.
 ghost use Rattle.std.specs.Prelude.{◌≡◌, ℕ, List, true, false, Ok, IfOk, IfErr, MatchResult, IsErrOf, IsTrue};
 ghost use Rattle.std.specs.Option.{ForSome};
 ghost use Rattle.dev_io.specs.Causes.{Rose};
@@ -7,20 +7,20 @@ ghost use Rattle.source_pick.specs.declared.choice.Choice.{Choice};
 ghost use Rattle.command_line.specs.Lines.{texts};
 ghost use Rattle.orders.specs.Words.{asks_measure, measure_order_of, IsMeasureOrder, HasLimits};
 ghost use Rattle.image_input.specs.Faults.{IsCutStop};
-ghost use Rattle.detect_top.specs.Headline.{Tells, use_of_input, use_of_output, IsUnused, IsRunOf};
-ghost use Rattle.detect_top.specs.RunEnds.{AllRead, EndBytes, EndCause};
+ghost use Rattle.run_ends.specs.Headline.{Tells, use_of_input, use_of_output, IsUnused, IsRunOf};
+ghost use Rattle.run_ends.specs.RunEnds.{AllRead, EndBytes, EndCause};
 ghost use Rattle.image_input.specs.TwoReads.{TwoStopped};
 ghost use Rattle.measure_top.specs.MeasuredDetections.{IsMeasuredDetection};
 ghost use Rattle.measure_top.specs.MeasuredCatalogues.{measured_hdus};
-ghost use Rattle.measure_top.specs.MeasureAnswers.{measured_by, measured_of_two, measure_answer_to_verdict, verdict_for, asked_to_measure, asked_of_all};
+ghost use Rattle.measure_top.specs.MeasureAnswers.{measured_by, measured_of_two, measure_answer_to_verdict, verdict_for, asked_to_measure};
 
 use crate::measuring::{Measured, measure_sources, put_measured};
 use comp_tree::Plane;
 use costs::OutOfMemory;
-use detect_top::{End, run, tell};
 use dev_io::{Sink, Source};
 use image_input::{Stop, TwoPlanes, read_two};
-use orders::{Job, MeasureOrder, Order, is_measure, read_measure};
+use orders::{Job, MeasureOrder, Order, read_measure};
+use run_ends::{End, tell};
 use std::alloc::Global;
 use std::thread::Threads;
 use strip_crew::Gate;
@@ -166,8 +166,10 @@ fn work<R: Threads + Sync, S: Source, O: Sink, G: Gate>(
     }
 }
 
-// The run of words that ask for measuring.
-fn run_measure<R: Threads + Sync, S: Source, O: Sink, N: Sink, G: Gate>(
+/// Does what words that ask for measuring say, over this input: sources are detected in one image and measured in another of the same file.
+///
+/// All memory is taken before the first byte of output, which comes in pieces of at most 2,880 bytes.
+pub fn run_measure<R: Threads + Sync, S: Source, O: Sink, N: Sink, G: Gate>(
     rt: &R,
     alloc: Global,
     words: &[&str],
@@ -185,29 +187,4 @@ fn run_measure<R: Threads + Sync, S: Source, O: Sink, N: Sink, G: Gate>(
     let end = work(rt, alloc, words, input, output, gate);
     tell(notes, end);
     end.status()
-}
-
-/// Does what the words say, over this input: with `measure` as the first word, sources are detected in one image and measured in another of the
-/// same file; all other words are those of [`run`].
-///
-/// All memory is taken before the first byte of output, which comes in pieces of at most 2,880 bytes.
-pub fn run_all<R: Threads + Sync, S: Source, O: Sink, N: Sink, G: Gate>(
-    rt: &R,
-    alloc: Global,
-    words: &[&str],
-    input: &mut S,
-    output: &mut O,
-    notes: &mut N,
-    gate: &G,
-) -> u8
-    ensures { IsRunOf (asked_of_all (texts words.now))
-        (use_of_input S.left S.ended S.faults input.old input.new)
-        (use_of_output O.written O.settled O.faults output.old output.new)
-        (use_of_output N.written N.settled N.faults notes.old notes.new) result }
-{
-    if is_measure(words) {
-        run_measure(rt, alloc, words, input, output, notes, gate)
-    } else {
-        run(rt, alloc, words, input, output, notes, gate)
-    }
 }

@@ -1,13 +1,14 @@
 //! A small plane, cut in several ways, one worker alone, two at once, and two halves joined at once.
 
-ghost use Rattle.std.specs.Prelude.{◌≡◌, ◌+◌, length, replicate};
+ghost use Rattle.std.specs.Prelude.{◌≡◌, ◌+◌, ◌<◌, ◌≤◌, length, replicate};
 ghost use Rattle.std.specs.List.{range_with_len};
 ghost use Rattle.tree_join.specs.Cuts.{IsCut};
 
 use crate::prepare::prepare_all;
 use crate::{ClaimTable, Gate, Key, OpenGate, even_cut, flood_all, join_group, worker};
 use atomic_table::Refused;
-use comp_tree::{Canvas, Connect, NONE, Plane, Shape, is_forest};
+use comp_tree::{Canvas, Connect, Forest, NONE, Plane, Shape, is_forest};
+use costs::OutOfMemory;
 use std::alloc::Global;
 use std::process::Abort;
 use std::snapshot::Snapshot;
@@ -18,18 +19,26 @@ use std::thread::Threads;
 
 const TURNS: u32 = 100_000_000;
 
+// An even cut has these first rows.
+fn try_even<R: Abort>(
+    rt: &R,
+    alloc: Global,
+    height: u32,
+    strips: u32,
+    rows: &[u32],
+) -> Result<(), Fail>
+    requires height { (0 < height) × (height ≤ 65535) }
+    requires strips { (0 < strips) × (strips ≤ 65535) }
+{
+    assert_eq!(rt; even_cut(alloc, height, strips)?.as_slice(), rows);
+    Ok(())
+}
+
 #[test]
 fn even_cuts_round_down(rt: HostRuntime) -> Result<(), Fail> {
-    assert_eq!(rt; even_cut(rt.alloc(), 3, 2)?.as_slice(), [0, 1].as_slice());
-    assert_eq!(rt;
-        even_cut(rt.alloc(), 5, 3)?.as_slice(),
-        [0, 1, 3].as_slice()
-    );
-    assert_eq!(rt;
-        even_cut(rt.alloc(), 3, 9)?.as_slice(),
-        [0, 1, 2].as_slice()
-    );
-    Ok(())
+    try_even(&rt, rt.alloc(), 3, 2, &[0, 1])?;
+    try_even(&rt, rt.alloc(), 5, 3, &[0, 1, 3])?;
+    try_even(&rt, rt.alloc(), 3, 9, &[0, 1, 2])
 }
 
 // A plane of 3 x 3 pixels: two hills on a plateau of their own, with a hollow between them.
@@ -62,48 +71,111 @@ fn last(plane: &Plane, links: &[u32], value: i64, pixel: u32) -> u32 {
     NONE
 }
 
+// The forest of a plane that is cut into so many strips.
+fn flood_cut<R: Threads + Sync, G: Gate>(
+    rt: &R,
+    alloc: Global,
+    plane: &Plane,
+    connect: Connect,
+    strips: u32,
+    workers: u32,
+    gate: &G,
+) -> Result<Forest, OutOfMemory>
+    requires strips { (0 < strips) × (strips ≤ 65535) }
+    requires workers { (0 < workers) × (workers ≤ 64) }
+{
+    let cut = even_cut(alloc, plane.shape().height, strips)?;
+    flood_all(rt, alloc, plane, connect, &cut, workers, gate)
+}
+
+// A pixel, a value, and the last pixel of at least this value on its walk.
+type Walk = (u32, i64, u32);
+
+const WALKS_OF_TWO_HILLS: [Walk; 6] = [
+    (3, 5, 0),
+    (5, 6, 2),
+    (8, 3, 6),
+    (0, 2, 4),
+    (8, 2, 4),
+    (2, 0, 1),
+];
+
+// The walks along the links end where they have to.
+fn try_walks<R: Abort>(rt: &R, plane: &Plane, links: &[u32], walks: &[Walk]) {
+    for walk in walks {
+        let (pixel, value, wanted) = *walk;
+        assert_eq!(rt; last(plane, links, value, pixel), wanted);
+    }
+}
+
 fn try_cut<R: Threads + Sync + Abort>(
+    rt: &R,
+    alloc: Global,
+    plane: &Plane,
+    connect: Connect,
+    strips: u32,
+    workers: u32,
+    walks: &[Walk],
+) -> Result<(), Fail>
+    requires strips { (0 < strips) × (strips ≤ 65535) }
+    requires workers { (0 < workers) × (workers ≤ 64) }
+{
+    let forest = flood_cut(rt, alloc, plane, connect, strips, workers, &OpenGate)?;
+    try_walks(rt, plane, forest.parents(), walks);
+    Ok(())
+}
+
+// The plane of two hills, cut into so many strips, stands for one tree.
+fn try_hills<R: Threads + Sync + Abort>(
     rt: &R,
     alloc: Global,
     plane: &Plane,
     strips: u32,
     workers: u32,
+) -> Result<(), Fail>
+    requires strips { (0 < strips) × (strips ≤ 65535) }
+    requires workers { (0 < workers) × (workers ≤ 64) }
+{
+    try_cut(
+        rt,
+        alloc,
+        plane,
+        Connect::Four,
+        strips,
+        workers,
+        &WALKS_OF_TWO_HILLS,
+    )
+}
+
+// The same in several cuts, by several workers.
+fn try_all_cuts<R: Threads + Sync + Abort>(
+    rt: &R,
+    alloc: Global,
+    plane: &Plane,
 ) -> Result<(), Fail> {
-    assert!(rt; 0 < strips && strips <= 9 && 0 < workers && workers <= 9);
-    let cut = even_cut(alloc, plane.shape().height, strips)?;
-    let forest = flood_all(rt, alloc, plane, Connect::Four, &cut, workers, &OpenGate)?;
-    // a pixel, a value, and the last pixel of at least this value on its walk
-    for (pixel, value, wanted) in [
-        (3, 5, 0),
-        (5, 6, 2),
-        (8, 3, 6),
-        (0, 2, 4),
-        (8, 2, 4),
-        (2, 0, 1),
-    ] {
-        assert_eq!(rt; last(plane, forest.parents(), value, pixel), wanted);
-    }
-    Ok(())
+    try_hills(rt, alloc, plane, 1, 1)?;
+    try_hills(rt, alloc, plane, 2, 1)?;
+    try_hills(rt, alloc, plane, 2, 3)?;
+    try_hills(rt, alloc, plane, 3, 3)?;
+    try_hills(rt, alloc, plane, 9, 2)
 }
 
 #[test]
 fn every_cut_stands_for_one_tree(rt: HostRuntime) -> Result<(), Fail> {
     let plane = two_hills(rt.alloc())?;
-    for (strips, workers) in [(1, 1), (2, 1), (2, 3), (3, 3), (9, 2)] {
-        try_cut(&rt, rt.alloc(), &plane, strips, workers)?;
-    }
-    Ok(())
+    try_all_cuts(&rt, rt.alloc(), &plane)
 }
 
 // Two pixels of one value, which touch at a corner alone.
+fn two_corners(alloc: Global) -> Result<Plane, Fail> {
+    let shape = Shape::of(2, 2).ok_or("a shape")?;
+    Ok(Plane::of(alloc, shape, &[Some(5), None, None, Some(5)])?.ok_or("a plane")?)
+}
+
 #[test]
 fn strips_are_joined_at_corners_too(rt: HostRuntime) -> Result<(), Fail> {
-    let shape = Shape::of(2, 2).ok_or("a shape")?;
-    let plane = Plane::of(rt.alloc(), shape, &[Some(5), None, None, Some(5)])?.ok_or("a plane")?;
-    let cut = even_cut(rt.alloc(), plane.shape().height, 2)?;
-    let forest = flood_all(&rt, rt.alloc(), &plane, Connect::Eight, &cut, 1, &OpenGate)?;
-    assert_eq!(rt; last(&plane, forest.parents(), 5, 3), 0);
-    Ok(())
+    let plane = two_corners(rt.alloc())?;
+    try_cut(&rt, rt.alloc(), &plane, Connect::Eight, 2, 1, &[(3, 5, 0)])
 }
 
 // What the claims of a table count to, where one worker makes them all.
@@ -191,13 +263,23 @@ impl Gate for Meeting {
     }
 }
 
+// A plane of 2 x 2 pixels with no value.
+fn blank(alloc: Global) -> Result<Plane, Fail> {
+    let shape = Shape::of(2, 2).ok_or("a shape")?;
+    Ok(Canvas::blank(alloc, shape)?.into_plane())
+}
+
+// Floods the plane of 2 x 2 pixels in two strips, by two workers.
+fn flood_blank<R: Threads + Sync, G: Gate>(rt: &R, alloc: Global, gate: &G) -> Result<(), Fail> {
+    let plane = blank(alloc)?;
+    flood_cut(rt, alloc, &plane, Connect::Four, 2, 2, gate)?;
+    Ok(())
+}
+
 #[test]
 fn two_workers_are_in_two_strips_at_once(rt: HostRuntime) -> Result<(), Fail> {
-    let shape = Shape::of(2, 2).ok_or("a shape")?;
-    let plane = Canvas::blank(rt.alloc(), shape)?.into_plane();
     let gate = Meeting::of(0, 1);
-    let cut = even_cut(rt.alloc(), plane.shape().height, 2)?;
-    flood_all(&rt, rt.alloc(), &plane, Connect::Four, &cut, 2, &gate)?;
+    flood_blank(&rt, rt.alloc(), &gate)?;
     assert!(rt; gate.met());
     Ok(())
 }
@@ -208,23 +290,37 @@ struct Counter {
     entered: AtomicU64,
 }
 
+impl Counter {
+    fn at_none() -> Counter {
+        Counter {
+            entered: AtomicU64::new(0),
+        }
+    }
+}
+
 impl Gate for Counter {
     fn enter(&self, _strip: u32) {
         self.entered.fetch_add(1, SeqCst);
     }
 }
 
+// How many of three strips come to the gate: all, where all memory was there, and else none.
+fn wanted_strips(flooded: bool) -> u64 {
+    if flooded { 3 } else { 0 }
+}
+
+// Whether the plane of two hills was flooded in three strips.
+fn flood_hills<R: Threads + Sync, G: Gate>(rt: &R, alloc: Global, gate: &G) -> Result<bool, Fail> {
+    let plane = two_hills(alloc)?;
+    Ok(flood_cut(rt, alloc, &plane, Connect::Four, 3, 2, gate).is_ok())
+}
+
 // `scripts/growths.py` runs this with each growth of memory refused in turn.
 #[test]
 fn no_strip_comes_to_the_gate_where_memory_is_refused(rt: HostRuntime) -> Result<(), Fail> {
-    let plane = two_hills(rt.alloc())?;
-    let cut = even_cut(rt.alloc(), plane.shape().height, 3)?;
-    let gate = Counter {
-        entered: AtomicU64::new(0),
-    };
-    let flooded = flood_all(&rt, rt.alloc(), &plane, Connect::Four, &cut, 2, &gate);
-    let wanted = if flooded.is_ok() { 3 } else { 0 };
-    assert_eq!(rt; gate.entered.load(SeqCst), wanted);
+    let gate = Counter::at_none();
+    let flooded = flood_hills(&rt, rt.alloc(), &gate)?;
+    assert_eq!(rt; gate.entered.load(SeqCst), wanted_strips(flooded));
     Ok(())
 }
 
@@ -259,12 +355,29 @@ fn join_pixels<R: Threads + Sync + Abort, J: Gate>(
     join_group(rt, links, plane, Connect::Four, 0, rows, forks, joins);
 }
 
+// Joins the pixels of a column of so many rows.
+fn join_column<R: Threads + Sync + Abort, J: Gate>(
+    rt: &R,
+    alloc: Global,
+    count: u32,
+    rows: &[u32],
+    links: &mut [u32],
+    forks: u32,
+    joins: &J,
+) -> Result<(), Fail>
+    requires rows { rows.now ≡ range_with_len 1 (length rows.now) }
+    requires links { links.old ≡ replicate (length rows.now + 1) 4294967295 }
+{
+    let plane = column(alloc, count)?;
+    join_pixels(rt, &plane, rows, links, forks, joins);
+    Ok(())
+}
+
 #[test]
 fn two_halves_are_joined_at_once(rt: HostRuntime) -> Result<(), Fail> {
-    let plane = column(rt.alloc(), 4)?;
     let gate = Meeting::of(1, 3);
     let mut links = [NONE; 4];
-    join_pixels(&rt, &plane, &[1, 2, 3], &mut links, 1, &gate);
+    join_column(&rt, rt.alloc(), 4, &[1, 2, 3], &mut links, 1, &gate)?;
     assert_eq!(rt; links, [NONE, 0, 1, 2]);
     assert!(rt; gate.met());
     Ok(())
@@ -272,9 +385,8 @@ fn two_halves_are_joined_at_once(rt: HostRuntime) -> Result<(), Fail> {
 
 #[test]
 fn without_forks_all_rows_are_joined(rt: HostRuntime) -> Result<(), Fail> {
-    let plane = column(rt.alloc(), 4)?;
     let mut links = [NONE; 4];
-    join_pixels(&rt, &plane, &[1, 2, 3], &mut links, 0, &OpenGate);
+    join_column(&rt, rt.alloc(), 4, &[1, 2, 3], &mut links, 0, &OpenGate)?;
     assert_eq!(rt; links, [NONE, 0, 1, 2]);
     Ok(())
 }
@@ -284,6 +396,15 @@ fn without_forks_all_rows_are_joined(rt: HostRuntime) -> Result<(), Fail> {
 struct Crowd {
     inside: AtomicU64,
     more_than_two: AtomicBool,
+}
+
+impl Crowd {
+    fn of_none() -> Crowd {
+        Crowd {
+            inside: AtomicU64::new(0),
+            more_than_two: AtomicBool::new(false),
+        }
+    }
 }
 
 impl Gate for Crowd {
@@ -300,13 +421,17 @@ impl Gate for Crowd {
 
 #[test]
 fn one_fork_makes_two_groups(rt: HostRuntime) -> Result<(), Fail> {
-    let plane = column(rt.alloc(), 8)?;
-    let gate = Crowd {
-        inside: AtomicU64::new(0),
-        more_than_two: AtomicBool::new(false),
-    };
+    let gate = Crowd::of_none();
     let mut links = [NONE; 8];
-    join_pixels(&rt, &plane, &[1, 2, 3, 4, 5, 6, 7], &mut links, 1, &gate);
+    join_column(
+        &rt,
+        rt.alloc(),
+        8,
+        &[1, 2, 3, 4, 5, 6, 7],
+        &mut links,
+        1,
+        &gate,
+    )?;
     assert_eq!(rt; links, [NONE, 0, 1, 2, 3, 4, 5, 6]);
     assert!(rt; !gate.more_than_two.load(SeqCst));
     Ok(())

@@ -4,6 +4,7 @@ ghost use Rattle.strip_flood.specs.Jobs.{SuitsStrip};
 
 use crate::StripJob;
 use crate::by_order::rank_by_order;
+use crate::levels::Ranking;
 use comp_tree::{Connect, NONE, Plane, Shape};
 use costs::Steps;
 use std::alloc::Global;
@@ -24,6 +25,7 @@ struct Case<'a> {
     lasts: &'a [(u32, i64, u32)],
 }
 
+// The last pixel of at least this value on the walk from a pixel.
 fn last(rt: &impl Abort, plane: &Plane, first: u32, links: &[u32], pixel: u32, value: i64) -> u32 {
     let mut at = pixel;
     for _ in 0..links.len() {
@@ -37,42 +39,75 @@ fn last(rt: &impl Abort, plane: &Plane, first: u32, links: &[u32], pixel: u32, v
     NONE
 }
 
-fn plane_of(alloc: Global, case: &Case) -> Result<Plane, Fail> {
-    let shape = Shape::of(case.width, case.height).ok_or("a shape")?;
-    let plane = Plane::of(alloc, shape, case.values)?.ok_or("a plane")?;
+// A plane of these values.
+fn plane_of(alloc: Global, width: u32, height: u32, values: &[Option<i64>]) -> Result<Plane, Fail> {
+    let Some(shape) = Shape::of(width, height) else {
+        return Err(Fail::from("a shape"));
+    };
+    let Some(plane) = Plane::of(alloc, shape, values)? else {
+        return Err(Fail::from("a plane"));
+    };
     Ok(plane)
 }
 
-// The links of a job, which is flooded.
-fn links_of<A: Ledger, B: Ledger>(
+// A flooded job still has the rows of its case.
+fn try_job(rt: &impl Abort, job: &StripJob, case: &Case) {
+    assert!(rt; job.is_flooded());
+    assert_eq!(rt; job.first_row(), case.first_row);
+    assert_eq!(rt; job.end_row(), case.end_row);
+}
+
+// Floods a job of the rows of a case.
+fn flood_job<A: Ledger, B: Ledger>(
     rt: &impl Abort,
-    job: StripJob,
+    job: &mut StripJob,
     plane: &Plane,
     case: &Case,
     queued: &mut Steps<A>,
     looked: &mut Steps<B>,
-) -> Vec<u32>
-    requires fit { SuitsStrip job plane.now }
-    requires unflooded { job.flooded ≡ false }
+)
+    requires fit { SuitsStrip job.old plane.now }
+    requires unflooded { job.old.flooded ≡ false }
 {
-    let mut job = job;
     assert!(rt; !job.is_flooded());
     job.flood(plane, queued, looked);
-    assert!(rt; job.is_flooded());
-    assert_eq!(rt; job.first_row(), case.first_row);
-    assert_eq!(rt; job.end_row(), case.end_row);
+    try_job(rt, job, case);
+}
+
+// The links of a job, which are as many as it shows.
+fn links_of(rt: &impl Abort, job: StripJob) -> Vec<u32> {
     let count = job.parents().len();
     let links = job.into_parents();
     assert_eq!(rt; links.len(), count);
     links
 }
 
+// The walks from these pixels end at the last pixels that are wanted.
 fn try_lasts(rt: &impl Abort, plane: &Plane, first: u32, links: &[u32], lasts: &[(u32, i64, u32)]) {
     for (pixel, value, wanted) in lasts {
         assert_eq!(rt; last(rt, plane, first, links, *pixel, *value), *wanted);
     }
 }
 
+// Floods the rows of a case, and tries its walks.
+fn try_rows<A: Ledger, B: Ledger>(
+    rt: &impl Abort,
+    alloc: Global,
+    plane: &Plane,
+    case: &Case,
+    queued: &mut Steps<A>,
+    looked: &mut Steps<B>,
+) -> Result<(), Fail> {
+    assert!(rt; case.first_row < case.end_row && case.end_row <= plane.shape().height);
+    let first = case.first_row * plane.shape().width;
+    let mut job = StripJob::prepare(alloc, plane, case.connect, case.first_row, case.end_row)?;
+    flood_job(rt, &mut job, plane, case, queued, looked);
+    let links = links_of(rt, job);
+    try_lasts(rt, plane, first, &links, case.lasts);
+    Ok(())
+}
+
+// Tries one case on a plane of its own.
 fn try_case<A: Ledger, B: Ledger>(
     rt: &impl Abort,
     alloc: Global,
@@ -80,15 +115,25 @@ fn try_case<A: Ledger, B: Ledger>(
     queued: &mut Steps<A>,
     looked: &mut Steps<B>,
 ) -> Result<(), Fail> {
-    let plane = plane_of(alloc, case)?;
-    assert!(rt; case.first_row < case.end_row && case.end_row <= plane.shape().height);
-    let job = StripJob::prepare(alloc, &plane, case.connect, case.first_row, case.end_row)?;
-    let links = links_of(rt, job, &plane, case, queued, looked);
-    let first = case.first_row * plane.shape().width;
-    try_lasts(rt, &plane, first, &links, case.lasts);
+    let plane = plane_of(alloc, case.width, case.height, case.values)?;
+    try_rows(rt, alloc, &plane, case, queued, looked)
+}
+
+// Tries one case after the other.
+fn try_each<A: Ledger, B: Ledger>(
+    rt: &impl Abort,
+    alloc: Global,
+    cases: &[Case],
+    queued: &mut Steps<A>,
+    looked: &mut Steps<B>,
+) -> Result<(), Fail> {
+    for case in cases {
+        try_case(rt, alloc, case, queued, looked)?;
+    }
     Ok(())
 }
 
+// Tries the cases, with counts that begin at 0.
 fn try_cases<A: Ledger, B: Ledger>(
     rt: &impl Abort,
     alloc: Global,
@@ -105,10 +150,7 @@ fn try_cases<A: Ledger, B: Ledger>(
 {
     let mut queued = Steps::<A>::start(first);
     let mut looked = Steps::<B>::start(second);
-    for case in cases {
-        try_case(rt, alloc, case, &mut queued, &mut looked)?;
-    }
-    Ok(())
+    try_each(rt, alloc, cases, &mut queued, &mut looked)
 }
 
 #[test]
@@ -399,88 +441,124 @@ fn values_of(rows: &[u8; 4]) -> [Option<i64>; 20] {
 
 // Small components, each of which comes apart, or is joined with another, where the pixels at some edge, or those at none, look in
 // one direction too few or too many.
+// Each has the connectivity, the rows, and some pixels with the last ones on the walks from them.
+const IMAGES: &[(Connect, [u8; 4], &[(u32, i64, u32)])] = &[
+    (
+        Connect::Four,
+        [0b01011, 0b01001, 0b01111, 0b00000],
+        &[(3, 1, 1)],
+    ),
+    (
+        Connect::Eight,
+        [0b10110, 0b10001, 0b00101, 0b11001],
+        &[(5, 1, 0), (14, 1, 2), (15, 1, 12)],
+    ),
+    (
+        Connect::Eight,
+        [0b01010, 0b10001, 0b10001, 0b01110],
+        &[(3, 1, 1)],
+    ),
+    (
+        Connect::Eight,
+        [0b01001, 0b10010, 0b10000, 0b00000],
+        &[(8, 1, 4)],
+    ),
+    (
+        Connect::Eight,
+        [0b00010, 0b10001, 0b10110, 0b01000],
+        &[(5, 1, 3)],
+    ),
+    (
+        Connect::Eight,
+        [0b00000, 0b00000, 0b00000, 0b11000],
+        &[(16, 1, 15)],
+    ),
+    (
+        Connect::Eight,
+        [0b10110, 0b10001, 0b01001, 0b00110],
+        &[(2, 1, 0)],
+    ),
+    (
+        Connect::Eight,
+        [0b00001, 0b01001, 0b10001, 0b01110],
+        &[(6, 1, 4)],
+    ),
+];
+
+// The image of these rows has these last pixels.
+fn try_image(
+    rt: &impl Abort,
+    alloc: Global,
+    connect: Connect,
+    rows: &[u8; 4],
+    lasts: &[(u32, i64, u32)],
+) -> Result<(), Fail> {
+    let case = Case {
+        width: 5,
+        height: 4,
+        connect,
+        first_row: 0,
+        end_row: 4,
+        values: &values_of(rows),
+        lasts,
+    };
+    try_cases::<Brand, Brand>(rt, alloc, Blank::new(1), Blank::new(1), &[case])
+}
+
 #[test]
 fn looks_in_each_direction(rt: HostRuntime) -> Result<(), Fail> {
-    // the connectivity, the rows, and some pixels with the last ones on the walks from them
-    let images: [(Connect, [u8; 4], &[(u32, i64, u32)]); 8] = [
-        (
-            Connect::Four,
-            [0b01011, 0b01001, 0b01111, 0b00000],
-            &[(3, 1, 1)],
-        ),
-        (
-            Connect::Eight,
-            [0b10110, 0b10001, 0b00101, 0b11001],
-            &[(5, 1, 0), (14, 1, 2), (15, 1, 12)],
-        ),
-        (
-            Connect::Eight,
-            [0b01010, 0b10001, 0b10001, 0b01110],
-            &[(3, 1, 1)],
-        ),
-        (
-            Connect::Eight,
-            [0b01001, 0b10010, 0b10000, 0b00000],
-            &[(8, 1, 4)],
-        ),
-        (
-            Connect::Eight,
-            [0b00010, 0b10001, 0b10110, 0b01000],
-            &[(5, 1, 3)],
-        ),
-        (
-            Connect::Eight,
-            [0b00000, 0b00000, 0b00000, 0b11000],
-            &[(16, 1, 15)],
-        ),
-        (
-            Connect::Eight,
-            [0b10110, 0b10001, 0b01001, 0b00110],
-            &[(2, 1, 0)],
-        ),
-        (
-            Connect::Eight,
-            [0b00001, 0b01001, 0b10001, 0b01110],
-            &[(6, 1, 4)],
-        ),
-    ];
-    for (connect, rows, lasts) in images.iter() {
-        let case = Case {
-            width: 5,
-            height: 4,
-            connect: *connect,
-            first_row: 0,
-            end_row: 4,
-            values: &values_of(rows),
-            lasts,
-        };
-        try_cases::<Brand, Brand>(&rt, rt.alloc(), Blank::new(1), Blank::new(1), &[case])?;
+    for (connect, rows, lasts) in IMAGES {
+        try_image(&rt, rt.alloc(), *connect, rows, lasts)?;
     }
     Ok(())
 }
 
+// These are the levels and the ranks that were found.
+fn try_found(rt: &impl Abort, found: &Ranking, levels: &[i64], ranks: &[u32]) {
+    assert_eq!(rt; &found.levels[..], levels);
+    assert_eq!(rt; &found.ranks[..], ranks);
+}
+
+// Sorting gives the pixels from `first` up to `end` these levels and ranks.
+fn try_sorting(
+    rt: &impl Abort,
+    alloc: Global,
+    plane: &Plane,
+    first: u32,
+    end: u32,
+    levels: &[i64],
+    ranks: &[u32],
+) -> Result<(), Fail> {
+    assert!(rt; first <= end && end <= plane.shape().pixels());
+    let found = rank_by_order(alloc, plane, first, end)?;
+    try_found(rt, &found, levels, ranks);
+    Ok(())
+}
+
+const LEAST: i64 = -(1 << 37);
+
+const MOST: i64 = 1 << 37;
+
+// All pixels but the first, and an undefined one alone.
+fn try_parts(rt: &impl Abort, alloc: Global, plane: &Plane) -> Result<(), Fail> {
+    assert_eq!(rt; plane.shape().pixels(), 8);
+    let ranks = [3, NONE, 1, 0, 3, 2, 1];
+    try_sorting(rt, alloc, plane, 1, 8, &[LEAST, -1, 0, MOST], &ranks)?;
+    try_sorting(rt, alloc, plane, 2, 3, &[], &[NONE])
+}
+
 #[test]
 fn ranks_by_sorting(rt: HostRuntime) -> Result<(), Fail> {
-    let least = -(1i64 << 37);
-    let most = 1i64 << 37;
     let values = [
         Some(7),
-        Some(most),
+        Some(MOST),
         None,
         Some(-1),
-        Some(least),
-        Some(most),
+        Some(LEAST),
+        Some(MOST),
         Some(0),
         Some(-1),
     ];
-    let shape = Shape::of(4, 2).ok_or("a shape")?;
-    let plane = Plane::of(rt.alloc(), shape, &values)?.ok_or("a plane")?;
-    assert_eq!(&rt; plane.shape().pixels(), 8);
-    let found = rank_by_order(rt.alloc(), &plane, 1, 8)?;
-    assert_eq!(&rt; &found.levels[..], &[least, -1, 0, most][..]);
-    assert_eq!(&rt; &found.ranks[..], &[3, NONE, 1, 0, 3, 2, 1][..]);
-    let none = rank_by_order(rt.alloc(), &plane, 2, 3)?;
-    assert_eq!(&rt; none.levels.len(), 0);
-    assert_eq!(&rt; &none.ranks[..], &[NONE][..]);
-    Ok(())
+    let plane = plane_of(rt.alloc(), 4, 2, &values)?;
+    try_parts(&rt, rt.alloc(), &plane)
 }

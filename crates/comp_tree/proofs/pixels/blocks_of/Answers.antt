@@ -1,13 +1,14 @@
-use Rattle.std.proofs.Common.{◌≡◌, ◌∙◌, ap, length, sym, arith}
-use Rattle.std.specs.Prelude.{Some}
-use Rattle.comp_tree.specs.Stored.{kept_pixels, shown_values}
-use Rattle.comp_tree.proofs.Blocks.{kept-in-blocks, length-shown}
+use Rattle.std.proofs.Common.{length}
+use Rattle.comp_tree.specs.Stored.{shown_values}
+use Rattle.comp_tree.proofs.Blocks.{count-in-blocks, these-in-blocks, length-shown}
 use Rattle.comp_tree.proofs.pixels.blocks_of.Goals as goal
+
+pub invariant_of-result : goal.invariant_of-result
+invariant_of-result c =
+    count-in-blocks (length c.args.pixels.now) c.add_blocks.new.runs.items c.add_blocks.new.kept.items (shown_values c.args.pixels.now c.args.marks)
+    (length-shown c.args.pixels.now c.args.marks) (c.in_ok-add_blocks.ensures c.if-not-branch.false)
 
 pub returns : goal.returns
 returns c =
-    let all : length (shown_values c.args.pixels.now c.args.marks) ≡ length c.args.pixels.now =
-    length-shown c.args.pixels.now c.args.marks in
-    ap (λ n. kept_pixels n (Some c.loop-block.runs.items) c.loop-block.kept.items) (sym all)
-    ∙ kept-in-blocks c.loop-block.block c.loop-block.runs.items c.loop-block.kept.items (shown_values c.args.pixels.now c.args.marks)
-    (omega (arith, all, c.loop-block-test.false, c.div_ceil-count.ensures)) c.loop-block.invariant
+    these-in-blocks (length c.args.pixels.now) c.add_blocks.new.runs.items c.add_blocks.new.kept.items (shown_values c.args.pixels.now c.args.marks)
+    (length-shown c.args.pixels.now c.args.marks) (c.in_ok-add_blocks.ensures c.if-not-branch.false)

@@ -1,6 +1,7 @@
 use Rattle.pixel_plane.specs.Verdicts.{verdict_on}
-use Rattle.detect_top.specs.Headline.{answer_to_verdict}
-use Rattle.detect_top.proofs.Ends.{told_read, read_answered, read_cut}
+use Rattle.detect_top.specs.ImageAnswers.{answer_to_verdict}
+use Rattle.run_ends.proofs.Exported.{read_answered, read_cut}
+use Rattle.detect_top.proofs.ImageReads.{told_read}
 use Rattle.detect_top.proofs.top.carry_out.Goals as goal
 
 pub returns-in-Ok-write-clause-bytes : goal.returns-in-Ok-write-clause-bytes

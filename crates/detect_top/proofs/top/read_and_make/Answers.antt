@@ -1,4 +1,4 @@
-use Rattle.detect_top.proofs.Ends.{memory_after, all_read}
+use Rattle.detect_top.proofs.ImageReads.{memory_after, all_read}
 use Rattle.detect_top.proofs.top.read_and_make.Goals as goal
 
 pub returns-in-Err-make-clause-told : goal.returns-in-Err-make-clause-told

@@ -1,6 +1,6 @@
 use Rattle.std.proofs.Common.{refl, subst}
 use Rattle.image_input.specs.declared.image.Stop.{Stop}
-use Rattle.detect_top.proofs.Exported.{took_one, read_answered, read_cut}
+use Rattle.run_ends.proofs.Exported.{took_one, read_answered, read_cut}
 use Rattle.image_input.specs.TwoImages.{memory_at_two}
 use Rattle.image_input.specs.TwoReads.{TwoStopped}
 use Rattle.measure_top.specs.MeasureAnswers.{verdict_for}

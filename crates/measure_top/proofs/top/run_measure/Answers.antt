@@ -1,4 +1,4 @@
-use Rattle.detect_top.proofs.Exported.{run_of_end}
+use Rattle.run_ends.proofs.Exported.{run_of_end}
 use Rattle.measure_top.proofs.top.run_measure.Goals as goal
 
 pub returns : goal.returns

@@ -22,3 +22,12 @@ returns-in-Some-clause-between c = record {
 pub returns-in-Some-clause-next : goal.returns-in-Some-clause-next
 returns-in-Some-clause-next c = front_current (ground_of c.args.strip.now)
     (state_of c.retire.new.self) c.retire.ensures.fair c.args.at.rank c.in-Some.item c.retire.ensures.above c.in-Some.ensures.first
+
+pub retire-requires-clause-strip : goal.retire-requires-clause-strip
+retire-requires-clause-strip c = c.requires.strip
+
+pub retire-requires-clause-between : goal.retire-requires-clause-between
+retire-requires-clause-between c = c.requires.between
+
+pub retire-requires-clause-turned : goal.retire-requires-clause-turned
+retire-requires-clause-turned c = c.requires.turned

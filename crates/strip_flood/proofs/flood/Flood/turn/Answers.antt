@@ -26,3 +26,12 @@ returns-clause-work g c =
     let before : work c.look_around.new.self.cursors.items ≤ work c.args.self.now.cursors.items = c.look_around.ensures.step.work in
     subst (λ n. work n < work c.args.self.now.cursors.items)
     (sym {b = set c.look_around.new.self.cursors.items (c.args.at.pixel - c.args.strip.now.first) 10} c.finish.ensures.cursors) (omega arith)
+
+pub look_around-requires-clause-strip : goal.look_around-requires-clause-strip
+look_around-requires-clause-strip g c = c.requires.strip
+
+pub look_around-requires-clause-between : goal.look_around-requires-clause-between
+look_around-requires-clause-between g c = c.requires.between
+
+pub look_around-requires-clause-front : goal.look_around-requires-clause-front
+look_around-requires-clause-front g c = c.requires.front

@@ -1,5 +1,6 @@
-use Rattle.std.proofs.Common.{◌≡◌, ◌+◌, false, true, sym, subst, ap, ◌∙◌}
-use Rattle.strip_flood.specs.Jobs.{SuitsStrip}
+use Rattle.std.proofs.Common.{◌≡◌, ◌+◌, false, true, sym, subst, ap, ◌∙◌, refl}
+use Rattle.std.proofs.lemmas.List.{length-map}
+use Rattle.strip_flood.specs.Jobs.{SuitsStrip, JobView}
 use Rattle.strip_flood.specs.JobFields.{HasJobFields}
 use Rattle.strip_flood.proofs.Working.{fresh_between, fresh_unseen, fresh_unlooked, job_flooded, fit_after, fit_defined, fit_inner, fit_standing}
 use Rattle.strip_flood.proofs.job.StripJob.flood.Goals as goal
@@ -46,3 +47,33 @@ returns-clause-looked g c = c.run.ensures.looked
     c.self.invariant.start c.run.new.self c.run.ensures.links true c.args.plane.now
     (fit_after c.self.inside.shape.width c.self.inside.shape.height c.self.inside.first_row c.self.inside.end_row c.self.inside.strip c.self.inside.flood
     c.run.new.self c.self.inside.flooded true c.args.plane.now (subst (λ v. SuitsStrip v c.args.plane.now) (sym c.self.view_is) c.requires.fit)))
+
+pub run-requires-clause-strip : goal.run-requires-clause-strip
+run-requires-clause-strip g c = c.self.invariant.known
+
+pub returns-clause-flooded : goal.returns-clause-flooded
+returns-clause-flooded g c = refl
+
+pub returns-clause-width : goal.returns-clause-width
+returns-clause-width g c = ap (λ (v : JobView). v.width) c.self.view_is
+
+pub returns-clause-height : goal.returns-clause-height
+returns-clause-height g c = ap (λ (v : JobView). v.height) c.self.view_is
+
+pub returns-clause-connect : goal.returns-clause-connect
+returns-clause-connect g c = ap (λ (v : JobView). v.connect) c.self.view_is
+
+pub returns-clause-first_row : goal.returns-clause-first_row
+returns-clause-first_row g c = ap (λ (v : JobView). v.first_row) c.self.view_is
+
+pub returns-clause-end_row : goal.returns-clause-end_row
+returns-clause-end_row g c = ap (λ (v : JobView). v.end_row) c.self.view_is
+
+pub returns-clause-values : goal.returns-clause-values
+returns-clause-values g c = ap (λ (v : JobView). v.values) c.self.view_is
+
+pub returns-clause-links : goal.returns-clause-links
+returns-clause-links g c = c.run.ensures.links ∙ sym (length-map _ _)
+
+pub run-requires-clause-empty : goal.run-requires-clause-empty
+run-requires-clause-empty g c = (c.self.invariant.fresh (subst (λ v. v.flooded ≡ false) (sym c.self.view_is) c.requires.unflooded)).empty

@@ -1,7 +1,0 @@
-use Rattle.detect_top.proofs.Products.{made_of_image}
-use Rattle.detect_top.proofs.product.make.Goals as goal
-
-pub returns-clause-bytes : goal.returns-clause-bytes
-returns-clause-bytes g c =
-    made_of_image c.args.order c.args.image _ _ _ c.make_of.result c.in_ok-residual.ensures c.in_ok-plane.ensures.same c.in_ok-tree.ensures
-    c.make_of.ensures.bytes

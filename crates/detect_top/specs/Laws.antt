@@ -1,8 +1,0 @@
--- Model: laws on answers.
-use Rattle.std.specs.Prelude.{ℕ, ◌≤◌, List}
-use Rattle.detect_top.specs.Headline.{Asked}
-use Rattle.detect_top.specs.Answers.{end_status}
-
--- the answer is done, a usage or a refusal: words and bytes alone show no device's fault, and no want of memory
-abbrev pub AnswersAreOfWordsAndBytes : (List (List ℕ) → Asked) → Type 0
-AnswersAreOfWordsAndBytes asks = (words : List (List ℕ)) (bytes : List ℕ) → end_status ((asks words).answer bytes).end ≤ 2

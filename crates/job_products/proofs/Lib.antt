@@ -1,0 +1,3 @@
+mod TrialResiduals
+mod Products
+pub mod Exported

@@ -1,0 +1,36 @@
+-- What is made of an image is what its order writes.
+use Rattle.std.proofs.Common.{◌≡◌, ◌∙◌, ap, ℕ, Bool, Result, Ok, Err, IfOk}
+use Rattle.std.specs.Prelude.{Some}
+use Rattle.std.proofs.lemmas.Option.{none-some}
+use Rattle.comp_tree.specs.declared.shape.Shape.{Shape}
+use Rattle.comp_tree.specs.declared.shape.Connect.{Connect}
+use Rattle.comp_tree.specs.Raster.{Raster}
+use Rattle.comp_tree.specs.ComponentTree.{ComponentTree}
+use Rattle.comp_tree.specs.Components.{tree_of}
+use Rattle.mesh_background.specs.Residuals.{residual_of}
+use Rattle.orders.specs.declared.words.Order.{Order}
+use Rattle.job_products.specs.declared.product.Product.{Product}
+use Rattle.orders.specs.declared.words.Job.{Job}
+use Rattle.orders.specs.declared.words.Job.TheVariants.{Tree, Filter, Detect, Trial}
+use Rattle.job_products.specs.Products.{output_of_job, output_of, image_made}
+use Rattle.job_products.specs.Writables.{bytes_of, SuitsJob}
+use Rattle.tree_products.specs.Trials.{trial_image}
+use Rattle.job_products.proofs.TrialResiduals.{trial_residual_is_small}
+
+pub made_of_image : {E : Type 0} (order : Order) (image plane left : Raster) (tree : ComponentTree) (made : Result Product E)
+    → plane ≡ residual_of image order.mesh order.flat
+    → output_of_job order.job order.connect left ≡ output_of_job order.job order.connect plane → tree ≡ tree_of left order.connect
+    → IfOk made (λ product. (connect : Connect) → tree ≡ tree_of left connect → bytes_of product ≡ output_of_job order.job connect left)
+    → IfOk made (λ product. bytes_of product ≡ output_of order image)
+unfolding output_of
+made_of_image order image plane left tree (Ok product) residual same is bytes =
+    bytes order.connect is ∙ same ∙ ap (output_of_job order.job order.connect) residual
+made_of_image order image plane left tree (Err e) residual same is bytes = tt
+
+-- a trial takes its image less the background
+pub suits_made : (job : Job) (seed : ℕ) (shape : Shape) (mesh : ℕ) (flat : Bool) → image_made job ≡ Some (trial_image seed shape)
+    → SuitsJob job (residual_of (trial_image seed shape) mesh flat)
+suits_made Tree seed shape mesh flat is = absurd (none-some (trial_image seed shape) is)
+suits_made (Filter rule criterion) seed shape mesh flat is = absurd (none-some (trial_image seed shape) is)
+suits_made (Detect choice) seed shape mesh flat is = absurd (none-some (trial_image seed shape) is)
+suits_made (Trial own sides) seed shape mesh flat is = trial_residual_is_small seed shape mesh flat

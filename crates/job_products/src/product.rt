@@ -1,0 +1,152 @@
+//! What a job makes of a plane, whole in memory before the first byte of output.
+ghost use Rattle.std.specs.Prelude.{◌≡◌, ◌≤◌, Some, length, IfOk, OnOk, IsTrue};
+ghost use Rattle.dev_io.specs.Causes.{HasCause};
+ghost use Rattle.dev_io.specs.Streams.{PutAppends};
+ghost use Rattle.comp_tree.specs.declared.shape.Connect.{Connect};
+ghost use Rattle.comp_tree.specs.Components.{tree_of};
+ghost use Rattle.node_sums.specs.Sums.{IsTreeOfPlane};
+ghost use Rattle.filter_rules.specs.Filtered.{filtered as filtered_of};
+ghost use Rattle.orders.specs.Words.{HasJobLimits};
+ghost use Rattle.tree_products.specs.Catalogues.{detected_hdus};
+ghost use Rattle.tree_products.specs.Lines.{tree_lines, node_list};
+ghost use Rattle.job_products.specs.Products.{output_of_job};
+ghost use Rattle.job_products.specs.Writables.{bytes_of, SuitsJob, IsWritable};
+
+use comp_tree::{Connect, Plane, Tree};
+use costs::OutOfMemory;
+use dev_io::Sink;
+use filter_rules::{Criterion, Rule, filter};
+use fits_write::{WriteFault, put_plane};
+use node_sums::outlines;
+use orders::{Job, Order};
+use source_pick::{Choice, clear_far};
+use std::alloc::Global;
+use std::thread::Threads;
+use tree_products::{
+    Detection, Nodes, Summary, detect, node_areas, put_detection, put_tree, put_trial, summarize,
+};
+
+/// What is to be written.
+#[derive(Drop)]
+pub enum Product {
+    /// The node list.
+    Nodes(Nodes),
+    /// A filtered plane.
+    Image(Plane),
+    /// A map and a catalogue.
+    Sources(Detection),
+    /// What is told of a trial.
+    Told(Summary),
+}
+
+fn filtered(
+    alloc: Global,
+    plane: Plane,
+    tree: Tree,
+    rule: Rule,
+    criterion: &Criterion,
+) -> Result<Plane, OutOfMemory>
+    requires of_plane { IsTreeOfPlane plane tree }
+    requires fill { criterion.now.min_fill ≤ 1000 }
+    ensures { IfOk result (λ left. (connect : Connect) → tree ≡ tree_of plane connect →
+        left ≡ filtered_of plane connect rule criterion.now) }
+{
+    let outlines = outlines(alloc, &plane, &tree)?;
+    filter(alloc, &plane, &tree, outlines, rule, criterion)
+}
+
+/// What a job makes of a plane and its tree, which are gone when this returns. So many workers fill a map. The one error is that memory was refused.
+pub fn make_of<R: Threads + Sync>(
+    rt: &R,
+    alloc: Global,
+    job: Job,
+    workers: u32,
+    plane: Plane,
+    tree: Tree,
+) -> Result<Product, OutOfMemory>
+    requires of_plane { IsTreeOfPlane plane tree }
+    requires limits { HasJobLimits job }
+    requires suits { SuitsJob job plane }
+    ensures writable { IfOk result (λ product. IsWritable product) }
+    ensures bytes { IfOk result (λ product. (connect : Connect) → tree ≡ tree_of plane connect →
+        bytes_of product ≡ output_of_job job connect plane) }
+{
+    match job {
+        Job::Tree => Ok(Product::Nodes(node_areas(alloc, plane, tree)?)),
+        Job::Filter { rule, criterion } => Ok(Product::Image(filtered(
+            alloc, plane, tree, rule, &criterion,
+        )?)),
+        Job::Detect { choice } => Ok(Product::Sources(detect(
+            rt, alloc, plane, tree, &choice, workers,
+        )?)),
+        Job::Trial { .. } => Ok(Product::Told(summarize(rt, alloc, plane, tree, workers)?)),
+    }
+}
+
+/// The plane on which a job works, in the place of this one. For the sources of a plane only its pixels near those of at least the threshold matter, so
+/// the others are left out before its tree is made.
+pub fn working_plane<R: Threads + Sync>(
+    rt: &R,
+    alloc: Global,
+    plane: Plane,
+    order: Order,
+) -> Result<Plane, OutOfMemory>
+    requires suits { SuitsJob order.job plane }
+    ensures suits { IfOk result (λ left. SuitsJob order.job left) }
+    ensures same { IfOk result (λ left. output_of_job order.job order.connect left ≡
+        output_of_job order.job order.connect plane) }
+{
+    match order.job {
+        Job::Detect { choice } => {
+            without_far(rt, alloc, plane, order.connect, choice, order.workers)
+        }
+        Job::Tree | Job::Filter { .. } | Job::Trial { .. } => Ok(plane),
+    }
+}
+
+fn without_far<R: Threads + Sync>(
+    rt: &R,
+    alloc: Global,
+    mut plane: Plane,
+    connect: Connect,
+    choice: Choice,
+    workers: u32,
+) -> Result<Plane, OutOfMemory>
+    ensures { IfOk result
+        (λ left. detected_hdus left connect choice ≡ detected_hdus plane connect choice) }
+{
+    clear_far(rt, alloc, &mut plane, connect, choice.threshold, workers)?;
+    plane.compact(alloc)?;
+    Ok(plane)
+}
+
+fn put_product<O: Sink>(output: &mut O, product: &Product) -> Result<(), WriteFault>
+    requires { IsWritable product.now }
+    ensures bytes { PutAppends (O.written output.old) (O.written output.new) result
+        (bytes_of product.now) }
+    ensures cause { HasCause (O.faults output.old) (O.faults output.new) result }
+{
+    match product {
+        Product::Nodes(nodes) => put_tree(output, &nodes.tree, &nodes.areas),
+        Product::Image(plane) => put_plane(output, plane),
+        Product::Sources(found) => put_detection(output, found),
+        Product::Told(summary) => put_trial(output, summary),
+    }
+}
+
+/// Writes it, and hands all of it on.
+pub fn write<O: Sink>(output: &mut O, product: &Product) -> Result<(), WriteFault>
+    requires { IsWritable product.now }
+    ensures bytes { PutAppends (O.written output.old) (O.written output.new) result
+        (bytes_of product.now) }
+    ensures settled { OnOk result (IsTrue (O.settled output.new)) }
+    ensures cause { HasCause (O.faults output.old) (O.faults output.new) result }
+{
+    if let Err(fault) = put_product(output, product) {
+        return Err(fault);
+    }
+    match output.done() {
+        Ok(()) => Ok(()),
+        Err(_) => Err(WriteFault),
+    }
+}

@@ -1,0 +1,3 @@
+mod ByEnd
+mod Statuses
+pub mod Exported

@@ -1,0 +1,4 @@
+pub mod Answers
+pub mod Headline
+pub mod Laws
+pub mod RunEnds
