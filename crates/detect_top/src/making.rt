@@ -11,10 +11,9 @@ use comp_tree::{Plane, Shape};
 use costs::OutOfMemory;
 use job_products::{Product, make_of, working_plane};
 use orders::Order;
-use plane_trees::{component_tree, residual_plane};
 use std::alloc::Global;
 use std::thread::Threads;
-use strip_crew::Gate;
+use strip_crew::{Gate, component_tree};
 use tree_products::trial_image;
 
 /// What an order makes of an image. All memory for it is taken here.
@@ -31,9 +30,24 @@ pub(crate) fn make<R: Threads + Sync, G: Gate>(
     ensures writable { IfOk result (λ product. IsWritable product) }
     ensures bytes { IfOk result (λ product. bytes_of product ≡ output_of order image) }
 {
-    let residual = residual_plane(rt, alloc, image, order.mesh, order.flat, order.workers)?;
+    let residual = mesh_background::residual(
+        rt,
+        alloc,
+        image,
+        order.mesh,
+        order.flat,
+        order.workers,
+    )?;
     let plane = working_plane(rt, alloc, residual, order)?;
-    let tree = component_tree(rt, alloc, &plane, order, gate)?;
+    let tree = component_tree(
+        rt,
+        alloc,
+        &plane,
+        order.connect,
+        order.strips,
+        order.workers,
+        gate,
+    )?;
     make_of(rt, alloc, order.job, order.workers, plane, tree)
 }
 

@@ -25,12 +25,12 @@ use costs::OutOfMemory;
 use dev_io::Sink;
 use dual_measure::{Measure, back, measured_cells, measures};
 use fits_write::{WriteFault, put_empty_primary, put_map, put_table};
+use mesh_background::residual;
 use orders::Order;
-use plane_trees::{component_tree, residual_plane};
 use source_pick::{CatRow, Choice};
 use std::alloc::Global;
 use std::thread::Threads;
-use strip_crew::Gate;
+use strip_crew::{Gate, component_tree};
 
 /// The map, with a number for each pixel, and the cells of the catalogue, row by row.
 #[derive(Drop)]
@@ -138,7 +138,15 @@ fn tree_above<R: Threads + Sync, G: Gate>(
 {
     cut_below(&mut plane, level);
     plane.compact(alloc)?;
-    component_tree(rt, alloc, &plane, order, gate)
+    component_tree(
+        rt,
+        alloc,
+        &plane,
+        order.connect,
+        order.strips,
+        order.workers,
+        gate,
+    )
 }
 
 // The sources of a plane, measured in the values. What is around a source lies at least as high as the lowest base of all, so the second tree is that
@@ -197,8 +205,8 @@ pub(crate) fn measure_sources<R: Threads + Sync, G: Gate>(
         (λ found. measured_hdus found.shape found.map.items found.cells.items ≡
         measured_output order choice image values) }
 {
-    let plane = residual_plane(rt, alloc, image, order.mesh, order.flat, order.workers)?;
-    let values = residual_plane(rt, alloc, values, order.mesh, order.flat, order.workers)?;
+    let plane = residual(rt, alloc, image, order.mesh, order.flat, order.workers)?;
+    let values = residual(rt, alloc, values, order.mesh, order.flat, order.workers)?;
     measure_residuals(rt, alloc, plane, &values, order, &choice, gate)
 }
 

@@ -15,11 +15,10 @@ use comp_tree::{Connect, Plane, Tree};
 use costs::OutOfMemory;
 use node_sums::{Sums, sums};
 use orders::Order;
-use plane_trees::component_tree;
 use source_pick::{CatRow, Choice, near, pick, row, segment_in_parts};
 use std::alloc::Global;
 use std::thread::Threads;
-use strip_crew::Gate;
+use strip_crew::{Gate, component_tree};
 
 /// A node that was picked: its row in the catalogue, and the pixel that represents it in any plane that has the node.
 #[derive(Clone, Copy)]
@@ -131,7 +130,15 @@ pub(crate) fn pick_near<R: Threads + Sync, G: Gate>(
         choice.threshold,
         order.workers,
     )?;
-    let tree = component_tree(rt, alloc, &near, order, gate)?;
+    let tree = component_tree(
+        rt,
+        alloc,
+        &near,
+        order.connect,
+        order.strips,
+        order.workers,
+        gate,
+    )?;
     pick_of_tree(rt, alloc, &near, &tree, choice, order.workers)
 }
 

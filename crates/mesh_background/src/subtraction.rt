@@ -34,23 +34,22 @@ use std::thread::Threads;
 /// filtered, each by the lower median of itself and those around it, and the background is the level between the four
 /// cells whose centres lie around the pixel's. With mesh 0 it is 0 everywhere, so the residual equals the plane.
 ///
-/// The one error is that memory was refused. Where the plane itself isn't needed any more, `subtract_background` makes
-/// no second one. The pixels are lessened in `parts` bands, as by it.
+/// The residual is made in the place of the plane. The one error is that memory was refused. The pixels are lessened in
+/// `parts` bands, as by `subtract_background`.
 pub fn residual<R: Threads + Sync>(
     rt: &R,
     alloc: Global,
-    plane: &Plane,
+    mut plane: Plane,
     mesh: u32,
     flat: bool,
     parts: u32,
 ) -> Result<Plane, OutOfMemory>
     requires few { mesh ≤ 65535 }
-    requires in_range { HasValuesInHalfRange plane.now.values }
-    ensures { IfOk result (λ residual. residual ≡ residual_of plane.now mesh flat) }
+    requires in_range { HasValuesInHalfRange plane.values }
+    ensures { IfOk result (λ residual. residual ≡ residual_of plane mesh flat) }
 {
-    let mut copy = plane.copied(alloc)?;
-    subtract_background(rt, alloc, &mut copy, mesh, flat, parts)?;
-    Ok(copy)
+    subtract_background(rt, alloc, &mut plane, mesh, flat, parts)?;
+    Ok(plane)
 }
 
 /// Makes of a plane its residual, in place.

@@ -85,7 +85,7 @@ fn try_residual<R: Threads + Sync + Abort>(
     requires { HasValuesInHalfRange plane.now.values }
 {
     assert!(rt; mesh <= 9);
-    let left = residual(rt, alloc, plane, mesh, flat, parts)?;
+    let left = residual(rt, alloc, plane.copied(alloc)?, mesh, flat, parts)?;
     try_values(rt, &left, wanted);
     Ok(())
 }

@@ -1,13 +1,15 @@
-//! A small plane, cut in several ways, one worker alone, two at once, and two halves joined at once.
+//! Trees by strips beside the plain way, one worker alone, two at once, and two halves joined at once.
 
 ghost use Rattle.std.specs.Prelude.{◌≡◌, ◌+◌, ◌<◌, ◌≤◌, length, replicate};
 ghost use Rattle.std.specs.List.{range_with_len};
 ghost use Rattle.tree_join.specs.Cuts.{IsCut};
 
 use crate::prepare::prepare_all;
-use crate::{ClaimTable, Gate, Key, OpenGate, even_cut, flood_all, join_group, worker};
+use crate::{
+    ClaimTable, Gate, Key, OpenGate, component_tree, even_cut, flood_all, join_group, worker,
+};
 use atomic_table::Refused;
-use comp_tree::{Canvas, Connect, Forest, NONE, Plane, Shape, is_forest};
+use comp_tree::{Connect, NONE, Plane, Shape, is_forest, plain_tree};
 use costs::OutOfMemory;
 use std::alloc::Global;
 use std::process::Abort;
@@ -41,141 +43,91 @@ fn even_cuts_round_down(rt: HostRuntime) -> Result<(), Fail> {
     try_even(&rt, rt.alloc(), 3, 9, &[0, 1, 2])
 }
 
-// A plane of 3 x 3 pixels: two hills on a plateau of their own, with a hollow between them.
-fn two_hills(alloc: Global) -> Result<Plane, Fail> {
-    let shape = Shape::of(3, 3).ok_or("a shape")?;
-    let values = [
-        Some(5),
-        Some(0),
-        Some(6),
-        Some(5),
-        Some(2),
-        Some(6),
-        Some(3),
-        Some(3),
-        Some(3),
-    ];
+// The width of each plane, and its pixels row by row: digits are values, and a point is an undefined pixel.
+const PLANES: [(u32, &[u8]); 20] = [
+    (1, b"0"),
+    (2, b".."),
+    (5, b"12321"),
+    (5, b"32123"),
+    (1, b"31323"),
+    (2, b"9009"),
+    (2, b"5..5"),
+    (3, b"151711"),
+    (3, b"506526333"),
+    (3, b"5.55.55.5"),
+    (3, b"111191111"),
+    (4, b"1111111111111111"),
+    (4, b"1212212112122121"),
+    (4, b"12341234.2341234"),
+    (5, b"9999990009909099000999999"),
+    (5, b"1111155551511151555111111"),
+    (5, b"9090990909909099090999999"),
+    (5, b"9.9.9.9.9.9.9.9.9.9.9.9.9"),
+    (5, b"3333321112212122111233333"),
+    (5, b"0123.1234.2345.3456.45678"),
+];
+
+fn plane_of(alloc: Global, width: u32, digits: &[u8]) -> Result<Plane, Fail> {
+    let height = digits.len().min(25) as u32 / width.max(1);
+    let shape = Shape::of(width, height).ok_or("a shape")?;
+    let mut values = Vec::new(alloc);
+    for digit in digits {
+        values.push(if *digit == b'.' {
+            None
+        } else {
+            Some(i64::from(*digit))
+        })?;
+    }
     Ok(Plane::of(alloc, shape, &values)?.ok_or("a plane")?)
 }
 
-// The last pixel of at least this value on the walk from `pixel` along the links.
-fn last(plane: &Plane, links: &[u32], value: i64, pixel: u32) -> u32 {
-    let mut at = pixel;
-    for _ in 0..links.len() {
-        let next = links.get(at as usize).copied().unwrap_or(NONE);
-        if next >= plane.shape().pixels() || !plane.is_at_least(value, next) {
-            return at;
-        }
-        at = next;
-    }
-    NONE
-}
-
-// The forest of a plane that is cut into so many strips.
-fn flood_cut<R: Threads + Sync, G: Gate>(
+// Whether the tree by so many strips and workers is the plain one.
+fn has_plain_tree<R: Threads + Sync>(
     rt: &R,
     alloc: Global,
     plane: &Plane,
     connect: Connect,
     strips: u32,
     workers: u32,
-    gate: &G,
-) -> Result<Forest, OutOfMemory>
+) -> Result<bool, OutOfMemory>
     requires strips { (0 < strips) × (strips ≤ 65535) }
     requires workers { (0 < workers) × (workers ≤ 64) }
 {
-    let cut = even_cut(alloc, plane.shape().height, strips)?;
-    flood_all(rt, alloc, plane, connect, &cut, workers, gate)
+    let plain = plain_tree(alloc, plane, connect)?;
+    let tree = component_tree(rt, alloc, plane, connect, strips, workers, &OpenGate)?;
+    Ok(tree.rows() == plain.rows() && tree.node_of() == plain.node_of())
 }
 
-// A pixel, a value, and the last pixel of at least this value on its walk.
-type Walk = (u32, i64, u32);
-
-const WALKS_OF_TWO_HILLS: [Walk; 6] = [
-    (3, 5, 0),
-    (5, 6, 2),
-    (8, 3, 6),
-    (0, 2, 4),
-    (8, 2, 4),
-    (2, 0, 1),
-];
-
-// The walks along the links end where they have to.
-fn try_walks<R: Abort>(rt: &R, plane: &Plane, links: &[u32], walks: &[Walk]) {
-    for walk in walks {
-        let (pixel, value, wanted) = *walk;
-        assert_eq!(rt; last(plane, links, value, pixel), wanted);
-    }
-}
-
-fn try_cut<R: Threads + Sync + Abort>(
+// Whether that is so for one worker, for fewer strips than workers and for more.
+fn has_plain_trees<R: Threads + Sync>(
     rt: &R,
     alloc: Global,
     plane: &Plane,
     connect: Connect,
-    strips: u32,
-    workers: u32,
-    walks: &[Walk],
-) -> Result<(), Fail>
-    requires strips { (0 < strips) × (strips ≤ 65535) }
-    requires workers { (0 < workers) × (workers ≤ 64) }
-{
-    let forest = flood_cut(rt, alloc, plane, connect, strips, workers, &OpenGate)?;
-    try_walks(rt, plane, forest.parents(), walks);
-    Ok(())
-}
-
-// The plane of two hills, cut into so many strips, stands for one tree.
-fn try_hills<R: Threads + Sync + Abort>(
-    rt: &R,
-    alloc: Global,
-    plane: &Plane,
-    strips: u32,
-    workers: u32,
-) -> Result<(), Fail>
-    requires strips { (0 < strips) × (strips ≤ 65535) }
-    requires workers { (0 < workers) × (workers ≤ 64) }
-{
-    try_cut(
-        rt,
-        alloc,
-        plane,
-        Connect::Four,
-        strips,
-        workers,
-        &WALKS_OF_TWO_HILLS,
+) -> Result<bool, OutOfMemory> {
+    Ok(
+        has_plain_tree(rt, alloc, plane, connect, 1, 1)?
+            && has_plain_tree(rt, alloc, plane, connect, 2, 3)?
+            && has_plain_tree(rt, alloc, plane, connect, 3, 1)?
+            && has_plain_tree(rt, alloc, plane, connect, 9, 2)?,
     )
 }
 
-// The same in several cuts, by several workers.
-fn try_all_cuts<R: Threads + Sync + Abort>(
-    rt: &R,
-    alloc: Global,
-    plane: &Plane,
-) -> Result<(), Fail> {
-    try_hills(rt, alloc, plane, 1, 1)?;
-    try_hills(rt, alloc, plane, 2, 1)?;
-    try_hills(rt, alloc, plane, 2, 3)?;
-    try_hills(rt, alloc, plane, 3, 3)?;
-    try_hills(rt, alloc, plane, 9, 2)
-}
-
 #[test]
-fn every_cut_stands_for_one_tree(rt: HostRuntime) -> Result<(), Fail> {
-    let plane = two_hills(rt.alloc())?;
-    try_all_cuts(&rt, rt.alloc(), &plane)
+fn every_cut_has_the_plain_tree(rt: HostRuntime) -> Result<(), Fail> {
+    let alloc = rt.alloc();
+    for (width, digits) in PLANES {
+        let plane = plane_of(alloc, width, digits)?;
+        for connect in [Connect::Four, Connect::Eight] {
+            assert!(rt; has_plain_trees(&rt, alloc, &plane, connect)?);
+        }
+    }
+    Ok(())
 }
 
-// Two pixels of one value, which touch at a corner alone.
-fn two_corners(alloc: Global) -> Result<Plane, Fail> {
-    let shape = Shape::of(2, 2).ok_or("a shape")?;
-    Ok(Plane::of(alloc, shape, &[Some(5), None, None, Some(5)])?.ok_or("a plane")?)
-}
-
-#[test]
-fn strips_are_joined_at_corners_too(rt: HostRuntime) -> Result<(), Fail> {
-    let plane = two_corners(rt.alloc())?;
-    try_cut(&rt, rt.alloc(), &plane, Connect::Eight, 2, 1, &[(3, 5, 0)])
+// A plane of 3 x 3 pixels: two hills on a plateau of their own, with a hollow between them.
+fn two_hills(alloc: Global) -> Result<Plane, Fail> {
+    plane_of(alloc, 3, b"506526333")
 }
 
 // What the claims of a table count to, where one worker makes them all.
@@ -263,16 +215,10 @@ impl Gate for Meeting {
     }
 }
 
-// A plane of 2 x 2 pixels with no value.
-fn blank(alloc: Global) -> Result<Plane, Fail> {
-    let shape = Shape::of(2, 2).ok_or("a shape")?;
-    Ok(Canvas::blank(alloc, shape)?.into_plane())
-}
-
 // Floods the plane of 2 x 2 pixels in two strips, by two workers.
 fn flood_blank<R: Threads + Sync, G: Gate>(rt: &R, alloc: Global, gate: &G) -> Result<(), Fail> {
-    let plane = blank(alloc)?;
-    flood_cut(rt, alloc, &plane, Connect::Four, 2, 2, gate)?;
+    let plane = plane_of(alloc, 2, b"....")?;
+    component_tree(rt, alloc, &plane, Connect::Four, 2, 2, gate)?;
     Ok(())
 }
 
@@ -312,7 +258,8 @@ fn wanted_strips(flooded: bool) -> u64 {
 // Whether the plane of two hills was flooded in three strips.
 fn flood_hills<R: Threads + Sync, G: Gate>(rt: &R, alloc: Global, gate: &G) -> Result<bool, Fail> {
     let plane = two_hills(alloc)?;
-    Ok(flood_cut(rt, alloc, &plane, Connect::Four, 3, 2, gate).is_ok())
+    let cut = even_cut(alloc, plane.shape().height, 3)?;
+    Ok(flood_all(rt, alloc, &plane, Connect::Four, &cut, 2, gate).is_ok())
 }
 
 // `scripts/growths.py` runs this with each growth of memory refused in turn.
@@ -322,18 +269,6 @@ fn no_strip_comes_to_the_gate_where_memory_is_refused(rt: HostRuntime) -> Result
     let flooded = flood_hills(&rt, rt.alloc(), &gate)?;
     assert_eq!(rt; gate.entered.load(SeqCst), wanted_strips(flooded));
     Ok(())
-}
-
-// A plane of one column, whose values rise from row to row.
-fn column(alloc: Global, rows: u32) -> Result<Plane, Fail> {
-    let shape = Shape::of(1, rows).ok_or("a shape")?;
-    let mut canvas = Canvas::blank(alloc, shape)?;
-    for pixel in 0..rows {
-        if pixel < canvas.shape().pixels() {
-            canvas.set(pixel, Some(pixel as i64));
-        }
-    }
-    Ok(canvas.into_plane())
 }
 
 // Joins strips of one pixel each, which have no links yet.
@@ -355,11 +290,11 @@ fn join_pixels<R: Threads + Sync + Abort, J: Gate>(
     join_group(rt, links, plane, Connect::Four, 0, rows, forks, joins);
 }
 
-// Joins the pixels of a column of so many rows.
+// Joins the pixels of a column.
 fn join_column<R: Threads + Sync + Abort, J: Gate>(
     rt: &R,
     alloc: Global,
-    count: u32,
+    column: &[u8],
     rows: &[u32],
     links: &mut [u32],
     forks: u32,
@@ -368,7 +303,7 @@ fn join_column<R: Threads + Sync + Abort, J: Gate>(
     requires rows { rows.now ≡ range_with_len 1 (length rows.now) }
     requires links { links.old ≡ replicate (length rows.now + 1) 4294967295 }
 {
-    let plane = column(alloc, count)?;
+    let plane = plane_of(alloc, 1, column)?;
     join_pixels(rt, &plane, rows, links, forks, joins);
     Ok(())
 }
@@ -377,7 +312,7 @@ fn join_column<R: Threads + Sync + Abort, J: Gate>(
 fn two_halves_are_joined_at_once(rt: HostRuntime) -> Result<(), Fail> {
     let gate = Meeting::of(1, 3);
     let mut links = [NONE; 4];
-    join_column(&rt, rt.alloc(), 4, &[1, 2, 3], &mut links, 1, &gate)?;
+    join_column(&rt, rt.alloc(), b"0123", &[1, 2, 3], &mut links, 1, &gate)?;
     assert_eq!(rt; links, [NONE, 0, 1, 2]);
     assert!(rt; gate.met());
     Ok(())
@@ -386,7 +321,15 @@ fn two_halves_are_joined_at_once(rt: HostRuntime) -> Result<(), Fail> {
 #[test]
 fn without_forks_all_rows_are_joined(rt: HostRuntime) -> Result<(), Fail> {
     let mut links = [NONE; 4];
-    join_column(&rt, rt.alloc(), 4, &[1, 2, 3], &mut links, 0, &OpenGate)?;
+    join_column(
+        &rt,
+        rt.alloc(),
+        b"0123",
+        &[1, 2, 3],
+        &mut links,
+        0,
+        &OpenGate,
+    )?;
     assert_eq!(rt; links, [NONE, 0, 1, 2]);
     Ok(())
 }
@@ -426,7 +369,7 @@ fn one_fork_makes_two_groups(rt: HostRuntime) -> Result<(), Fail> {
     join_column(
         &rt,
         rt.alloc(),
-        8,
+        b"01234567",
         &[1, 2, 3, 4, 5, 6, 7],
         &mut links,
         1,
