@@ -51,8 +51,24 @@ fn filtered(
     ensures { IfOk result (λ left. (connect : Connect) → tree ≡ tree_of plane connect →
         left ≡ filtered_of plane connect rule criterion.now) }
 {
-    let outlines = outlines(alloc, &plane, &tree)?;
-    filter(alloc, &plane, &tree, outlines, rule, criterion)
+    filtered_by(alloc, &plane, &tree, rule, criterion)
+}
+
+// By references, so that no way out drops the plane and its tree: those are proved slowly.
+fn filtered_by(
+    alloc: Global,
+    plane: &Plane,
+    tree: &Tree,
+    rule: Rule,
+    criterion: &Criterion,
+) -> Result<Plane, OutOfMemory>
+    requires of_plane { IsTreeOfPlane plane.now tree.now }
+    requires fill { criterion.now.min_fill ≤ 1000 }
+    ensures { IfOk result (λ left. (connect : Connect) → tree.now ≡ tree_of plane.now connect →
+        left ≡ filtered_of plane.now connect rule criterion.now) }
+{
+    let outlines = outlines(alloc, plane, tree)?;
+    filter(alloc, plane, tree, outlines, rule, criterion)
 }
 
 /// What a job makes of a plane and its tree, which are gone when this returns. So many workers fill a map. The one error is that memory was refused.

@@ -130,7 +130,7 @@ fn sum_fluxes(tree: &Tree, sums: &[Sums]) -> u64
     fluxes
 }
 
-/// What is told of a plane and its tree. So many workers fill the map.
+/// What is told of a plane and its tree, which are gone when this returns. So many workers fill the map.
 pub fn summarize<R: Threads + Sync>(
     rt: &R,
     alloc: Global,
@@ -143,16 +143,32 @@ pub fn summarize<R: Threads + Sync>(
     ensures { IfOk result (λ summary. (connect : Connect) → tree ≡ tree_of plane connect →
         summary ≡ summary_of plane connect) }
 {
+    summary_in(rt, alloc, &plane, &tree, workers)
+}
+
+// By references, so that no way out drops the plane and its tree: those are proved slowly.
+fn summary_in<R: Threads + Sync>(
+    rt: &R,
+    alloc: Global,
+    plane: &Plane,
+    tree: &Tree,
+    workers: u32,
+) -> Result<Summary, OutOfMemory>
+    requires of_plane { IsTreeOfPlane plane.now tree.now }
+    requires small { HasSmallValues plane.now.values }
+    ensures { IfOk result (λ summary. (connect : Connect) → tree.now ≡ tree_of plane.now connect →
+        summary ≡ summary_of plane.now connect) }
+{
     let shape = plane.shape();
-    let sums = sums(alloc, &plane, &tree)?;
-    let sources = pick(alloc, &tree, &sums, &CHOICE)?;
-    let numbers = segment_in_parts(rt, alloc, &tree, &sources, workers)?;
+    let sums = sums(alloc, plane, tree)?;
+    let sources = pick(alloc, tree, &sums, &CHOICE)?;
+    let numbers = segment_in_parts(rt, alloc, tree, &sources, workers)?;
     Ok(Summary {
         pixels: shape.pixels(),
-        nodes: node_count(&tree),
+        nodes: node_count(tree),
         roots: count_roots(tree.rows()),
         areas: sum_areas(&sums),
-        fluxes: sum_fluxes(&tree, &sums),
+        fluxes: sum_fluxes(tree, &sums),
         sources: sources.len() as u32,
         mapped: count_mapped(&numbers),
     })

@@ -10,37 +10,37 @@ use Rattle.source_pick.proofs.Exported.{few_marked, few_rows, numbers-length}
 use Rattle.tree_products.specs.Trials.{is_root_row, is_mapped, total_area, summary_of}
 use Rattle.tree_products.specs.TrialSizes.{HasSmallFluxes}
 use Rattle.tree_products.proofs.Trials.{small_fluxes}
-use Rattle.tree_products.proofs.trial.summarize.Goals as goal
+use Rattle.tree_products.proofs.trial.summary_in.Goals as goal
 
 pub sum_areas-requires : goal.sum_areas-requires
 sum_areas-requires g c =
-    let rows : length c.in_ok-sums.sums.items ≡ length c.args.tree.rows =
-    trees_rows c.args.tree c.in_ok-sums.sums.items c.in_ok-sums.ensures.the_trees in
+    let rows : length c.in_ok-sums.sums.items ≡ length c.args.tree.now.rows =
+    trees_rows c.args.tree.now c.in_ok-sums.sums.items c.in_ok-sums.ensures.the_trees in
     omega (arith, rows, ap length c.deref-3.ensures.value, c.node_count.ensures.all, c.node_count.ensures.few)
 
 pub sum_fluxes-requires-clause-small : goal.sum_fluxes-requires-clause-small
 sum_fluxes-requires-clause-small g c =
-    let plane : IsPlane c.args.plane = c.shape-shape.ensures.pixels ∙ ap (λ (s : Shape). s.width * s.height) c.shape-shape.ensures.same in
-    subst (λ (xs : List Sums). HasSmallFluxes c.args.tree xs) (sym c.deref-4.ensures.value)
-    (small_fluxes c.args.plane c.args.tree c.in_ok-sums.sums.items plane c.requires.small c.in_ok-sums.ensures.of_plane)
+    let plane : IsPlane c.args.plane.now = c.shape-shape.ensures.pixels ∙ ap (λ (s : Shape). s.width * s.height) c.shape-shape.ensures.same in
+    subst (λ (xs : List Sums). HasSmallFluxes c.args.tree.now xs) (sym c.deref-4.ensures.value)
+    (small_fluxes c.args.plane.now c.args.tree.now c.in_ok-sums.sums.items plane c.requires.small c.in_ok-sums.ensures.of_plane)
 
 pub overflow_cast-result : goal.overflow_cast-result
 overflow_cast-result g c =
     let d = c.in_ok-sources.ensures.disjoint in
-    let few : length c.in_ok-sources.sources.items ≤ length c.args.tree.rows = few_marked c.args.tree c.in_ok-sources.sources.items d in
-    let rows : length c.args.tree.rows ≤ 2 ^ 24 = few_rows c.args.tree c.in_ok-sources.sources.items d in
+    let few : length c.in_ok-sources.sources.items ≤ length c.args.tree.now.rows = few_marked c.args.tree.now c.in_ok-sources.sources.items d in
+    let rows : length c.args.tree.now.rows ≤ 2 ^ 24 = few_rows c.args.tree.now c.in_ok-sources.sources.items d in
     record { fits = omega (arith, few, rows, c.len.ensures, c.deref-2.ensures.len, ap length c.deref-2.ensures.value) }
 
 pub count_mapped-requires : goal.count_mapped-requires
 count_mapped-requires g c =
-    let long = numbers-length c.args.plane c.requires.of_plane.0 c.args.tree c.requires.of_plane.1 in
+    let long = numbers-length c.args.plane.now c.requires.of_plane.0 c.args.tree.now c.requires.of_plane.1 in
     let few = c.shape-shape.result.within_limits.few_pixels in
     omega (arith, long, few, c.shape-shape.ensures.pixels, c.in_ok-numbers.ensures.one_each, ap length c.deref-5.ensures.value)
 
 pub returns : goal.returns
 unfolding summary_of total_area segmentation
 returns g c = λ connect is.
-    let plane = c.args.plane in
+    let plane = c.args.plane.now in
     let sums_are = c.in_ok-sums.ensures.exact connect is in
     let picked_are = c.in_ok-sources.ensures.exact plane connect is (c.deref.ensures.value ∙ sums_are) in
     let numbers_are = c.in_ok-numbers.ensures.exact plane connect is ∙ ap (segmentation_of plane connect) (c.deref-2.ensures.value ∙ picked_are) in
