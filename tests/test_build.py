@@ -1,4 +1,4 @@
-"""`scripts/build` over a small tree, with a stand-in for the kit's rt that locks crates as rt does."""
+"""`scripts/build` over a small tree, with a stand-in for the kit."""
 
 import os
 import pathlib
@@ -23,58 +23,57 @@ CRATES = {
     "survey_sqlite": "survey_core",
     "maxsurvey": "survey_sqlite",
 }
-RT = """
-import fcntl, os, pathlib, sys, time
+# The prover tells each crate when it begins and when it is proved; each library that it is given has to be there.
+RATTLE = """
+import os, pathlib, sys, time
 
-crate, top, verb = pathlib.Path.cwd().name, pathlib.Path.cwd().parent.parent, sys.argv[1]
-lines = (top / "crates.txt").read_text().splitlines()
-below = {name: rest.split() for name, _, rest in (line.partition(":") for line in lines)}
-if not all((top / "crates" / name / "src").is_dir() for name in below):
-    sys.exit("a crate that is listed isn't there")
-
-def needed(name):
-    found = [other for one in below[name] for other in needed(one)]
-    return list(dict.fromkeys([*found, name]))
+words = sys.argv[1:]
+crate, made = words[words.index("--crate-name") + 1], pathlib.Path(words[words.index("-o") + 1])
 
 def tell(text):
-    with open(os.environ["RT_LOG"], "a") as log:
+    with open(os.environ["LOG"], "a") as log:
         log.write(text + "\\n")
 
-tell(f"{verb} {crate} {sys.argv[2]}")
-held = [os.open(top / "crates" / name, os.O_RDONLY) for name in needed(crate)]
-for folder in held:
-    fcntl.flock(folder, fcntl.LOCK_EX | fcntl.LOCK_NB)
-for name in below[crate]:
-    if not (top / "crates" / name / "out" / "rlib").exists():
+tell(f"begun {crate} {[word for word in words if word.startswith('--jobs')][0]}")
+given = [words[place + 1].partition("=") for place, word in enumerate(words) if word == "--extern"]
+for name, _, path in given:
+    if not pathlib.Path(path).exists():
         sys.exit(f"{name} isn't built")
-made = top / "crates" / crate / "out" / ("rlib" if verb == "lib" else crate)
-if not made.exists():
-    time.sleep(float(os.environ.get("RT_TAKES", "0.05")))
-    if crate == os.environ.get("RT_FAILS"):
-        sys.exit(f"{crate} isn't proved")
-    tell(f"proved {crate}")
-    made.parent.mkdir(exist_ok=True)
-    made.write_text("")
-    made.chmod(0o755)
+if (pathlib.Path.cwd().name, made.suffix == ".rlib") != (crate, "--statements" in words):
+    sys.exit("a library's statements are wanted, in the crate's folder")
+time.sleep(float(os.environ.get("TAKES", "0.05")))
+if crate == os.environ.get("FAILS"):
+    sys.exit(f"{crate} isn't proved")
+tell(f"proved {crate}")
+made.write_text("")
+"""
+LINK = """
+import pathlib, sys
+
+made = pathlib.Path(sys.argv[sys.argv.index("-o") + 1])
+made.write_text("#!/bin/sh\\nexit 0\\n")
+made.chmod(0o755)
 """
 
 
 class Tree:
-    """A tree of sources with the script, and what was asked of its rt."""
+    """A tree of sources with the script, and what was asked of its kit."""
 
     def __init__(self, top):
-        self.top, self.log, self.rooms = top / "tree", top / "log", top / "tmp"
+        self.top, self.log, self.said, self.kit = top / "tree", top / "log", top / "tmp", top / "kit"
         for name in CRATES:
             (self.top / "crates" / name / "src").mkdir(parents=True)
             (self.top / "crates" / name / "src" / "lib.rt").write_text("")
         (self.top / "crates.txt").write_text("".join(f"{name}: {below}\n" for name, below in CRATES.items()))
         (self.top / "scripts").mkdir()
         shutil.copy(BUILD, self.top / "scripts")
-        (top / "bin").mkdir()
-        (top / "bin" / "rt").write_text(f"#!{sys.executable}{RT}")
-        (top / "bin" / "rt").chmod(0o755)
-        self.rooms.mkdir()
-        self.environment = {"PATH": str(top / "bin"), "RT_LOG": str(self.log), "TMPDIR": str(self.rooms)}
+        for path in (self.kit / "bin", self.kit / "rlibs" / "std.rlib", self.said):
+            path.mkdir(parents=True)
+        (self.kit / "WHAT").write_text("a kit")
+        for name, text in {"rt": "", "rattle": RATTLE, "rattle-link": LINK}.items():
+            (self.kit / "bin" / name).write_text(f"#!{sys.executable}{text}")
+            (self.kit / "bin" / name).chmod(0o755)
+        self.environment = {"PATH": str(self.kit / "bin"), "LOG": str(self.log), "TMPDIR": str(self.said)}
 
     def start(self, *programs, **environment):
         words = [sys.executable, str(self.top / "scripts" / "build"), *programs]
@@ -87,7 +86,7 @@ class Tree:
         return running.returncode, said
 
     def told(self, verb):
-        """The crates of which rt told this, in order."""
+        """The crates of which the prover told this, in order."""
         lines = self.log.read_text().splitlines() if self.log.exists() else []
         return [line.split()[1] for line in lines if line.split()[0] == verb]
 
@@ -109,31 +108,52 @@ def test_each_crate_is_proved_once_and_behind_those_below_it(tree):
         ["costs", "dev_io", "comp_tree", "fits_card", "detect_top", "measure_top", "maxdetect"]
     )
     assert all(proved.index(low) < proved.index(name) for name in proved for low in CRATES[name].split())
-    assert tree.told("run") == ["maxdetect"]
-    assert os.listdir(tree.rooms) == [] and not (tree.top / "out").exists()
+    assert os.listdir(tree.said) == []
+    assert sorted(os.listdir(tree.top / "crates" / "maxdetect" / "out")) == ["maxdetect", "maxdetect.o"]
 
 
 def test_both_programs_are_made_at_once(tree):
     assert tree.build("maxsurvey", "maxdetect")[0] == 0
     assert tree.is_built("maxdetect") and tree.is_built("maxsurvey")
     assert sorted(tree.told("proved")) == sorted(CRATES)
-    assert (tree.top / "crates" / "survey_sqlite" / "out" / "rlib").exists()
 
 
 def test_the_longest_chain_goes_first_and_a_large_crate_has_more_jobs(tree):
     assert tree.build(RT_SLOTS="2")[0] == 0
-    assert sorted(tree.told("lib")[:2]) == ["costs", "dev_io"]
+    assert sorted(tree.told("begun")[:2]) == ["costs", "dev_io"]
     lines = tree.log.read_text().splitlines()
-    assert "lib comp_tree --jobs=2" in lines or "lib comp_tree --jobs=1" in lines
-    assert "lib fits_card --jobs=1" in lines
+    assert "begun comp_tree --jobs=2" in lines or "begun comp_tree --jobs=1" in lines
+    assert "begun fits_card --jobs=1" in lines
 
 
-def test_what_is_kept_for_the_next_check_stays(tree):
+def test_what_rt_made_stays(tree):
     kept = tree.top / "crates" / "costs" / "out" / "incremental"
     kept.mkdir(parents=True)
     (kept / "work").write_text("work")
     assert tree.build()[0] == 0
-    assert (kept / "work").read_text() == "work" and (kept.parent / "rlib").exists()
+    assert os.listdir(kept.parent) == ["incremental"] and (kept / "work").read_text() == "work"
+
+
+def test_only_what_changed_and_the_crates_above_it_are_proved_anew(tree):
+    tree.build()
+    tree.log.unlink()
+    assert tree.build("maxsurvey")[0] == 0
+    assert sorted(tree.told("proved")) == ["maxsurvey", "survey_core", "survey_sqlite"]
+    tree.log.unlink()
+    (tree.top / "crates" / "fits_card" / "src" / "lib.rt").write_text("// changed")
+    later = time.time() + 9
+    os.utime(tree.top / "crates" / "fits_card" / "src" / "lib.rt", (later, later))
+    assert tree.build()[0] == 0
+    assert sorted(tree.told("proved")) == ["detect_top", "fits_card", "maxdetect", "measure_top"]
+
+
+def test_a_library_that_was_made_anew_makes_those_above_it_anew(tree):
+    tree.build()
+    tree.log.unlink()
+    shutil.rmtree(tree.top / "crates" / "maxdetect" / "out")
+    (tree.top / "out" / "build" / "comp_tree.made").unlink()
+    assert tree.build()[0] == 0
+    assert sorted(tree.told("proved")) == ["comp_tree", "detect_top", "maxdetect", "measure_top"]
 
 
 def test_what_is_newer_than_the_program_makes_it_anew(tree):
@@ -148,29 +168,29 @@ def test_what_is_newer_than_the_program_makes_it_anew(tree):
     os.utime(tree.top / "crates" / "survey_core" / "src" / "lib.rt", (later, later))
     assert tree.build() == (0, "") and not tree.log.exists()
     os.utime(tree.top / "crates" / "costs" / "src" / "lib.rt", (later, later))
-    assert tree.build()[0] == 0 and tree.told("run") == ["maxdetect"]
+    assert tree.build()[0] == 0 and tree.told("proved") == ["maxdetect"]
 
 
 @pytest.mark.parametrize("crate", ["comp_tree", "fits_card", "measure_top", "survey_sqlite", "maxsurvey"])
 def test_a_crate_that_fails_is_told(tree, crate):
-    status, said = tree.build("maxdetect", "maxsurvey", RT_FAILS=crate)
+    status, said = tree.build("maxdetect", "maxsurvey", FAILS=crate)
     assert status == 70
     assert f"{crate} isn't proved" in said and "has all that was said" in said
     assert not (tree.is_built("maxdetect") and tree.is_built("maxsurvey"))
-    (kept,) = os.listdir(tree.rooms)
-    assert f"{crate} isn't proved" in (tree.rooms / kept).read_text()
+    (kept,) = os.listdir(tree.said)
+    assert f"{crate} isn't proved" in (tree.said / kept).read_text()
 
 
 def test_it_ends_what_it_began(tree):
-    running = tree.start("maxdetect", "maxsurvey", RT_TAKES="2")
-    while not tree.told("lib"):
+    running = tree.start("maxdetect", "maxsurvey", TAKES="2")
+    while not tree.told("begun"):
         time.sleep(0.1)
     running.send_signal(signal.SIGTERM)
     assert running.wait(20) == 143
     proved = tree.told("proved")
     time.sleep(3)
     assert tree.told("proved") == proved
-    assert os.listdir(tree.top / "out") == []
+    assert not tree.is_built("maxdetect")
 
 
 def test_words_and_a_missing_rt(tree):
