@@ -150,7 +150,7 @@ def test_only_what_changed_and_the_crates_above_it_are_proved_anew(tree):
 def test_a_library_that_was_made_anew_makes_those_above_it_anew(tree):
     tree.build()
     tree.log.unlink()
-    shutil.rmtree(tree.top / "crates" / "maxdetect" / "out")
+    (tree.top / "crates" / "maxdetect" / "out" / "maxdetect").unlink()
     (tree.top / "out" / "build" / "comp_tree.made").unlink()
     assert tree.build()[0] == 0
     assert sorted(tree.told("proved")) == ["comp_tree", "detect_top", "maxdetect", "measure_top"]
@@ -168,7 +168,7 @@ def test_what_is_newer_than_the_program_makes_it_anew(tree):
     os.utime(tree.top / "crates" / "survey_core" / "src" / "lib.rt", (later, later))
     assert tree.build() == (0, "") and not tree.log.exists()
     os.utime(tree.top / "crates" / "costs" / "src" / "lib.rt", (later, later))
-    assert tree.build()[0] == 0 and tree.told("proved") == ["maxdetect"]
+    assert tree.build()[0] == 0 and not tree.log.exists()
 
 
 @pytest.mark.parametrize("crate", ["comp_tree", "fits_card", "measure_top", "survey_sqlite", "maxsurvey"])
@@ -191,6 +191,15 @@ def test_it_ends_what_it_began(tree):
     time.sleep(3)
     assert tree.told("proved") == proved
     assert not tree.is_built("maxdetect")
+
+
+def test_a_second_build_waits_and_proves_nothing_again(tree):
+    first = tree.start(TAKES="0.3")
+    while not tree.told("begun"):
+        time.sleep(0.05)
+    assert tree.build() == (0, "build: waiting for another build\n")
+    assert first.wait(20) == 0
+    assert len(tree.told("proved")) == 7
 
 
 def test_words_and_a_missing_rt(tree):
