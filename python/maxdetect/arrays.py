@@ -1,11 +1,13 @@
 """The whole way of `maxcat` for an image that is there as an array."""
-import typing
+import concurrent.futures
+from typing import Any, Dict, Optional, Tuple
 
 import numpy
 from astropy.io import fits
 from astropy.table import Table
 
 from . import detection, tables
+from .noise import floats
 
 __all__ = ["ArrayPlane", "catalogue"]
 
@@ -23,13 +25,7 @@ class ArrayPlane:
 
     def window(self, rows: slice, columns: slice = slice(None)) -> numpy.ndarray:
         """The pixels of some rows and columns: 32 bits where these hold the numbers, and else 64."""
-        part = self.array[rows, columns]
-        values = numpy.ma.getdata(part)
-        small = values.dtype.itemsize <= 2 or values.dtype.kind == "f" and values.dtype.itemsize == 4
-        values = values.astype("f4" if small else "f8")
-        if numpy.ma.getmask(part) is not numpy.ma.nomask:
-            values[numpy.ma.getmaskarray(part)] = numpy.nan
-        return values
+        return floats(self.array[rows, columns])
 
 
 def _numbers(image, label: str) -> numpy.ndarray:
@@ -40,7 +36,7 @@ def _numbers(image, label: str) -> numpy.ndarray:
     return array
 
 
-def _check(settings: typing.Dict[str, typing.Any]) -> None:
+def _check(settings: Dict[str, Any]) -> None:
     """Raises ValueError for a setting that `maxcat` wouldn't take either."""
     sigmas, least = settings.get("sigmas"), settings.get("min_area", 5)
     if sigmas is not None and not 0 < sigmas <= 1e6:
@@ -52,14 +48,14 @@ def _check(settings: typing.Dict[str, typing.Any]) -> None:
 def catalogue(
     image: numpy.ndarray,
     *,
-    header: typing.Optional[fits.Header] = None,
-    noise: typing.Optional[numpy.ndarray] = None,
+    header: Optional[fits.Header] = None,
+    noise: Optional[numpy.ndarray] = None,
     rms: str = "even",
-    zeropoint: typing.Optional[float] = None,
-    executor=None,
-    program: typing.Optional[str] = None,
+    zeropoint: Optional[float] = None,
+    executor: Optional[concurrent.futures.Executor] = None,
+    program: Optional[str] = None,
     **settings,
-) -> typing.Tuple[Table, numpy.ndarray]:
+) -> Tuple[Table, numpy.ndarray]:
     """The catalogue that `maxcat` writes of an image, and the segmentation map.
 
     `image` has two dimensions and numbers of any kind; it is undefined where it is NaN or masked. `header` has its

@@ -23,6 +23,7 @@ from astropy.utils.exceptions import AstropyWarning
 
 from . import __version__, adding, detection, images, kernel, surveys, tables
 from .errors import Mistake
+from .words import Parser, called, finite, whole
 
 DESCRIPTION = """Finds the sources of an image and writes a catalogue: positions, fluxes with errors, ellipses, flags,
 and sky coordinates where the header has them.
@@ -35,40 +36,7 @@ MOST_WORKERS = 64
 MOST_SIGMAS = 1e6
 
 
-class Parser(argparse.ArgumentParser):
-    """Says what is wrong in one line."""
-
-    def error(self, message):
-        raise Mistake(f"{message} (maxcat --help tells the options)")
-
-
-def _number(least: float, strict: bool = False):
-    """A parser of finite numbers from `least` on, or above it."""
-
-    def parse(text: str) -> float:
-        value = float(text)
-        if not math.isfinite(value) or value < least or (strict and value == least):
-            raise argparse.ArgumentTypeError(
-                f"{text} isn't a number {'above' if strict else 'from'} {least:g}{'' if strict else ' on'}"
-            )
-        return value
-
-    parse.__name__ = "number"
-    return parse
-
-
-def _whole(least: int, most: int):
-    """A parser of whole numbers in a range."""
-
-    def parse(text: str) -> int:
-        if not least <= int(text) <= most:
-            raise argparse.ArgumentTypeError(f"{text} isn't a whole number from {least} to {most}")
-        return int(text)
-
-    parse.__name__ = "whole number"
-    return parse
-
-
+@called("whole number")
 def mesh_side(text: str) -> int:
     """The side of the background's cells, or 0."""
     least, most = detection.LEAST_MESH, detection.MOST_MESH
@@ -77,9 +45,7 @@ def mesh_side(text: str) -> int:
     return int(text)
 
 
-above_zero = _number(0, True)
-
-
+@called("number")
 def sigmas(text: str) -> float:
     """A threshold in deviations of the noise."""
     if not 0 < float(text) <= MOST_SIGMAS:
@@ -87,17 +53,13 @@ def sigmas(text: str) -> float:
     return float(text)
 
 
-def _crop(text: str) -> Tuple[int, ...]:
+@called("part")
+def crop(text: str) -> Tuple[int, ...]:
+    """The part of an image from its first column and row to its last, as four whole numbers from 1."""
     sides = tuple(int(side) for side in text.split(","))
     if len(sides) != 4 or sides[0] > sides[1] or sides[2] > sides[3]:
         raise argparse.ArgumentTypeError(f"{text} isn't XMIN,XMAX,YMIN,YMAX")
     return sides
-
-
-def _finite(text: str) -> float:
-    if not math.isfinite(float(text)):
-        raise argparse.ArgumentTypeError(f"{text} isn't a finite number")
-    return float(text)
 
 
 def _add_written(out) -> None:
@@ -111,16 +73,16 @@ def _add_written(out) -> None:
     out.add_argument("--map", help="the segmentation map, as FITS: for each pixel the number of its source")
     out.add_argument("--regions", metavar="REG", help="ellipses for DS9")
     out.add_argument("--plot", metavar="PNG", help="a picture of the image and its sources")
-    out.add_argument("--crop", type=_crop, metavar="XMIN,XMAX,YMIN,YMAX", help="the part for --plot, in pixels from 1")
+    out.add_argument("--crop", type=crop, metavar="XMIN,XMAX,YMIN,YMAX", help="the part for --plot, in pixels from 1")
     out.add_argument("--survey", metavar="FILE", help="the file of a survey, to which maxsurvey adds what is found")
     out.add_argument("--field", metavar="NAME", help="the field's name there (default: the image's name)")
     out.add_argument(
         "--survey-unit",
-        type=above_zero,
+        type=finite(above=0),
         metavar="U",
         help="a whole number of flux there, in the image's unit (default: 1)",
     )
-    out.add_argument("--zeropoint", type=_finite, metavar="Z", help="the magnitude of a flux of 1: adds magnitudes")
+    out.add_argument("--zeropoint", type=finite(), metavar="Z", help="the magnitude of a flux of 1: adds magnitudes")
 
 
 def _add_read(what) -> None:
@@ -130,7 +92,7 @@ def _add_read(what) -> None:
         metavar="all|N|NAME",
         help="the HDU with the image, or all that have one (default: the first that has one)",
     )
-    what.add_argument("--plane", type=_whole(1, 2**31), metavar="N", help="the plane of a cube, from 1")
+    what.add_argument("--plane", type=whole(1, 2**31), metavar="N", help="the plane of a cube, from 1")
     what.add_argument("--weight", metavar="FILE[:HDU]", help="a map of the noise, or of weights")
     what.add_argument(
         "--weight-type",
@@ -143,11 +105,11 @@ def _add_read(what) -> None:
     )
     what.add_argument(
         "--gain",
-        type=above_zero,
+        type=finite(above=0),
         help="electrons for a unit of the image, for the errors (default: the header's GAIN)",
     )
     what.add_argument(
-        "--saturation", type=_finite, help="pixels from this value on are flagged (default: the header's SATURATE)"
+        "--saturation", type=finite(), help="pixels from this value on are flagged (default: the header's SATURATE)"
     )
 
 
@@ -173,7 +135,7 @@ def _add_how(how) -> None:
     )
     how.add_argument(
         "--min-area",
-        type=_whole(1, 2**24),
+        type=whole(1, 2**24),
         default=5,
         metavar="N",
         help="the least area of a source in pixels (default: 5)",
@@ -183,7 +145,7 @@ def _add_how(how) -> None:
     )
     how.add_argument(
         "--workers",
-        type=_whole(1, MOST_WORKERS),
+        type=whole(1, MOST_WORKERS),
         default=min(4, os.cpu_count() or 1),
         metavar="N",
         help="images and tiles at work at once; 1 takes the least memory (default: as many as processors, at most 4)",

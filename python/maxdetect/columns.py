@@ -1,14 +1,14 @@
 """The columns of the program's catalogues: how many bits their whole numbers have, their units, and what they are."""
-import typing
+from typing import NamedTuple, Optional
 
 __all__ = ["CATALOGUE", "DESCRIPTIONS", "MEASURES", "Column"]
 
 
-class Column(typing.NamedTuple):
+class Column(NamedTuple):
     """A column. `form` is its TFORM, "J" for 32 bits and "K" for 64; `unit` is None where it is the image's own."""
 
     form: str
-    unit: typing.Optional[str]
+    unit: Optional[str]
     text: str
 
 

@@ -3,7 +3,7 @@ at a time.
 """
 import concurrent.futures
 import dataclasses
-from typing import Callable, Optional, Tuple
+from typing import Callable, Optional, Tuple, Union
 
 import numpy
 from astropy.table import Table, hstack
@@ -118,7 +118,7 @@ class Detector:
             shape, self.part, max(tile, self.settings.mesh, 1), margin, self.settings.mesh, with_map=with_map
         )
 
-    def noise(self, rows: slice, columns: slice):
+    def noise(self, rows: slice, columns: slice) -> Union[float, numpy.ndarray]:
         """The noise of the image that is looked at in a window, in its units: one number, or an array."""
         if self.field.weights is not None:
             factor = self.sky.noise if self.settings.weight_type == "weight" else 1

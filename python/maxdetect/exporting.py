@@ -1,34 +1,23 @@
 """The command `python -m maxdetect survey`: the fields of a survey as one table."""
 import argparse
+import contextlib
 import os
 import pathlib
 import sqlite3
-from typing import List, Optional
+from typing import Iterator, List, Optional
 
 import numpy
 from astropy.table import Table
 
 from . import surveys, tables
 from .errors import Mistake
+from .words import Parser, whole
 
 DESCRIPTION = """Reads the file of a survey, as `maxsurvey --file` keeps it, and writes the sources of its fields as one
 table. Nothing of the survey is changed, but for the sums that --seal puts beside it.
 """
 DATABASES = (".db", ".sqlite", ".sqlite3")
 KINDS = {"i": "INTEGER", "f": "REAL", "U": "TEXT"}
-
-
-class Parser(argparse.ArgumentParser):
-    """Says what is wrong in one line."""
-
-    def error(self, message):
-        raise Mistake(f"{message} (python -m maxdetect survey --help tells the options)")
-
-
-def _count(text: str) -> int:
-    if int(text) < 1:
-        raise argparse.ArgumentTypeError(f"{text} isn't a whole number from 1 on")
-    return int(text)
 
 
 def parser() -> argparse.ArgumentParser:
@@ -45,7 +34,7 @@ def parser() -> argparse.ArgumentParser:
     made.add_argument(
         "--sky", metavar="TABLE", help="a table with the columns FIELD and IMAGE, a file with a WCS: adds RA and DEC"
     )
-    made.add_argument("--brightest", type=_count, metavar="K", help="the K sources of the greatest flux alone")
+    made.add_argument("--brightest", type=whole(1), metavar="K", help="the K sources of the greatest flux alone")
     made.add_argument("--seal", action="store_true", help="put a sum of each field's rows into the file")
     made.add_argument("--check", action="store_true", help="tell which fields changed since it was sealed")
     return made
@@ -53,19 +42,29 @@ def parser() -> argparse.ArgumentParser:
 
 def write_database(table: Table, path: str) -> None:
     """Writes a table as the table `sources` of an SQLite database of its own, with an index by field, by flux and,
-    where it has them, by RA and DEC; an earlier file is replaced. Numbers that aren't finite are NULL.
+    where it has them, by RA and DEC; an earlier file is replaced. Numbers that aren't finite are NULL. Raises Mistake
+    where it can't be written.
     """
     kinds = ", ".join(f'"{name}" {KINDS[table[name].dtype.kind]}' for name in table.colnames)
     columns = [_plain_values(table[name]) for name in table.colnames]
-    with tables.whole_file(path) as name:
-        with surveys._Connection(sqlite3.connect(name)) as found, found.connection as writing:
+    places = ", ".join("?" for _ in columns)
+    with tables.whole_file(path) as name, _told(path):
+        with contextlib.closing(sqlite3.connect(name)) as connection, connection as writing:
             writing.execute(f"CREATE TABLE sources ({kinds}) STRICT")
-            places = ", ".join("?" for _ in columns)
             writing.executemany(f"INSERT INTO sources VALUES ({places})", zip(*columns))
             writing.execute("CREATE INDEX sources_by_field ON sources (FIELD, NUMBER)")
             writing.execute("CREATE INDEX sources_by_flux ON sources (FLUX)")
             if {"RA", "DEC"} <= set(table.colnames):
                 writing.execute("CREATE INDEX sources_by_place ON sources (DEC, RA)")
+
+
+@contextlib.contextmanager
+def _told(path: str) -> Iterator[None]:
+    """Whatever SQLite says of a file that can't be written, as one line."""
+    try:
+        yield
+    except sqlite3.Error as error:
+        raise Mistake(f"{path}: {surveys.cause(error)}") from None
 
 
 def _plain_values(column) -> list:

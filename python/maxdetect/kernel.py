@@ -29,6 +29,7 @@ import re
 import shutil
 import subprocess
 import tempfile
+from typing import BinaryIO, Optional, Tuple, Union
 
 import numpy
 from astropy.io import fits
@@ -48,6 +49,8 @@ LARGE_PAGES = (
 
 # Stands for an undefined pixel among 32-bit numbers.
 LEAST = -(2**31)
+
+Path = Union[str, os.PathLike]
 
 # What each refusal of an input means, by its number.
 FAULTS = {
@@ -94,7 +97,7 @@ class Refusal(Mistake):
     usage: connect isn't given a value that it takes
     """
 
-    def __init__(self, status, number, name, text):
+    def __init__(self, status: Optional[int], number: Optional[int], name: str, text: str):
         super().__init__(f"{name}: {text}")
         self.status, self.number, self.name, self.text = status, number, name, text
 
@@ -106,8 +109,10 @@ class NoProgram(Mistake, FileNotFoundError):
     """The program isn't where it was looked for, or can't be run."""
 
 
-def find_program(program=None):
-    """The path of the program: `program`, or where MAXDETECT, the package, the PATH or the repository has it."""
+def find_program(program: Optional[Path] = None) -> str:
+    """The path of the program: `program`, or where MAXDETECT, the package, the PATH or the repository has it. Raises
+    NoProgram where none of them does.
+    """
     named = program or os.environ.get("MAXDETECT")
     if named:
         return os.fspath(named)
@@ -212,7 +217,7 @@ def _checked(image, blank):
     return values, undefined
 
 
-def masked(image, blank=None):
+def masked(image: numpy.ndarray, blank: Optional[int] = None) -> numpy.ma.MaskedArray:
     """An image of whole numbers as a masked array, the pixels with the value `blank` masked too."""
     values, undefined = _checked(image, blank)
     return numpy.ma.MaskedArray(values, mask=numpy.ma.nomask if undefined is None else undefined)
@@ -271,11 +276,12 @@ def _native(array):
     return numpy.ascontiguousarray(array, dtype=array.dtype.newbyteorder("="))
 
 
-def load(file, hdu=0):
+def load(file: Union[Path, BinaryIO], hdu: Union[int, str] = 0) -> numpy.ndarray:
     """The image of an HDU with its whole numbers as they stand in the file, BZERO added: a masked array where the
     header has a BLANK.
 
-    astropy by itself makes floating-point numbers of an image with a BLANK or a BZERO.
+    astropy by itself makes floating-point numbers of an image with a BLANK or a BZERO. Raises ValueError where the HDU
+    has no two-dimensional image of whole numbers, and what astropy raises where it can't read the file.
     """
     with fits.open(file, memmap=False, do_not_scale_image_data=True) as hdus:
         header, stored = hdus[hdu].header, hdus[hdu].data
@@ -286,9 +292,9 @@ def load(file, hdu=0):
     return values if blank is None else numpy.ma.MaskedArray(values, mask=stored == blank)
 
 
-def read(file):
+def read(file: Union[Path, BinaryIO]) -> Tuple[Table, numpy.ndarray]:
     """The catalogue and the segmentation map of what `maxdetect detect` or `measure` wrote: a path, or a file that is
-    open for reading bytes.
+    open for reading bytes. Raises what astropy raises of another file.
     """
     with fits.open(file, memmap=False) as hdus:
         rows, names = hdus["SOURCES"].data, hdus["SOURCES"].columns.names
@@ -333,20 +339,20 @@ def _read_plane(file):
 
 
 def detect(
-    image,
-    threshold,
+    image: numpy.ndarray,
+    threshold: int,
     *,
-    min_area=1,
-    min_flux=0,
-    contrast=5,
-    mesh=0,
-    flat=False,
-    connect=4,
-    strips=1,
-    workers=1,
-    blank=None,
-    program=None,
-):
+    min_area: int = 1,
+    min_flux: int = 0,
+    contrast: int = 5,
+    mesh: int = 0,
+    flat: bool = False,
+    connect: int = 4,
+    strips: int = 1,
+    workers: int = 1,
+    blank: Optional[int] = None,
+    program: Optional[Path] = None,
+) -> Tuple[Table, numpy.ndarray]:
     """The sources of an image: their catalogue, and their segmentation map.
 
     `threshold` is in the image's own units, above the background where `mesh` is not 0. `min_area` is in pixels,
@@ -358,6 +364,9 @@ def detect(
     whole numbers: positions count pixels from 1, XCEN and YCEN in thousandths of a pixel, XVAR, YVAR and XYCOV in
     thousandths of a square pixel. The map is an array of 32-bit numbers of the image's shape, with the source's
     number, or 0.
+
+    Raises ValueError or TypeError where the image isn't as the module says or an option is no whole number, Refusal
+    where the program refuses either, and NoProgram where it isn't found.
 
     >>> import numpy
     >>> image = numpy.full((5, 6), 10)
@@ -378,7 +387,9 @@ def detect(
     return _answer(_run(program, _words("detect", options), _file(image, blank)), numpy.shape(image))
 
 
-def detect_stored(stored, threshold, *, program=None, **options):
+def detect_stored(
+    stored: numpy.ndarray, threshold: int, *, program: Optional[Path] = None, **options: int
+) -> Tuple[Table, numpy.ndarray]:
     """The same as `detect` of an array of 32-bit numbers in which LEAST stands for an undefined pixel, without a look
     at its range.
     """
@@ -388,27 +399,27 @@ def detect_stored(stored, threshold, *, program=None, **options):
 
 
 def measure(
-    image,
-    values,
-    threshold,
+    image: numpy.ndarray,
+    values: numpy.ndarray,
+    threshold: int,
     *,
-    min_area=1,
-    min_flux=0,
-    contrast=5,
-    mesh=0,
-    flat=False,
-    connect=4,
-    strips=1,
-    workers=1,
-    blank=None,
-    program=None,
-):
+    min_area: int = 1,
+    min_flux: int = 0,
+    contrast: int = 5,
+    mesh: int = 0,
+    flat: bool = False,
+    connect: int = 4,
+    strips: int = 1,
+    workers: int = 1,
+    blank: Optional[int] = None,
+    program: Optional[Path] = None,
+) -> Tuple[Table, numpy.ndarray]:
     """The sources of an image, measured in `values`, a second image of the same shape: another band of the same pixels.
 
     All is as in `detect`, with seven columns more: SEEN and MISSING count the source's pixels that have a value in
     the second image and that have none; VSUM, VLOW and VPEAK are the sum, the least and the greatest of these values;
     VMEAN is their mean, and VBACK that around the source, both in thousandths. `mesh`, `flat` and `blank` hold for
-    both images.
+    both images. It raises what `detect` does.
 
     >>> import numpy
     >>> image = numpy.array([[1, 6, 2, 5, 1]])
@@ -429,21 +440,21 @@ def measure(
 
 
 def filter(
-    image,
-    rule,
+    image: numpy.ndarray,
+    rule: str,
     *,
-    min_area=0,
-    max_area=16777216,
-    min_flux=0,
-    min_fill=0,
-    mesh=0,
-    flat=False,
-    connect=4,
-    strips=1,
-    workers=1,
-    blank=None,
-    program=None,
-):
+    min_area: int = 0,
+    max_area: int = 16777216,
+    min_flux: int = 0,
+    min_fill: int = 0,
+    mesh: int = 0,
+    flat: bool = False,
+    connect: int = 4,
+    strips: int = 1,
+    workers: int = 1,
+    blank: Optional[int] = None,
+    program: Optional[Path] = None,
+) -> numpy.ndarray:
     """The image with some nodes of its tree taken out.
 
     `rule` is "min", "max", "direct" or "subtractive"; a node satisfies where its area is from `min_area` to
@@ -451,7 +462,7 @@ def filter(
     With the defaults all nodes stay, so `filter(image, "direct", mesh=64)` is the image less its background.
 
     The answer has the image's shape and 64-bit numbers; it is a masked array where `image` is one or `blank` is
-    given, with the undefined pixels masked, and else an ordinary array.
+    given, with the undefined pixels masked, and else an ordinary array. It raises what `detect` does.
 
     >>> import numpy
     >>> filter(numpy.array([[0, 1, 3, 2, 0]]), "direct", min_area=2).tolist()
@@ -467,12 +478,22 @@ def filter(
     return numpy.ma.MaskedArray(values, mask=numpy.zeros(values.shape, dtype=bool) if undefined is None else undefined)
 
 
-def tree(image, *, mesh=0, flat=False, connect=4, strips=1, workers=1, blank=None, program=None):
+def tree(
+    image: numpy.ndarray,
+    *,
+    mesh: int = 0,
+    flat: bool = False,
+    connect: int = 4,
+    strips: int = 1,
+    workers: int = 1,
+    blank: Optional[int] = None,
+    program: Optional[Path] = None,
+) -> Table:
     """The nodes of an image's max-tree, as a `Table` with the columns NUMBER, LEVEL, REP, PARENT and AREA.
 
     Nodes are numbered from 0, in the order of level and then representative, so the number is the row. REP is the
     least pixel of the component that has this level, with pixels counted from 0 row by row: `image.flat[REP]`. PARENT
-    is -1 at a root. AREA is in pixels.
+    is -1 at a root. AREA is in pixels. It raises what `detect` does.
 
     >>> import numpy
     >>> for node in tree(numpy.array([[1, 2, 1]])):

@@ -10,13 +10,14 @@ The Kron flux is the sum in an ellipse of the source's shape, `kron` times its K
 radius is the mean distance of the light within three times the isophote. Pixels of other sources count as sky there,
 and so they do in the circular aperture.
 """
-import typing
+from typing import Dict, NamedTuple, Optional, Tuple, Union
 
 import numpy
 import sep
 from astropy.table import Table
 
 from .noise import of_array
+from .sky import grown
 
 __all__ = [
     "APERTURE",
@@ -62,10 +63,10 @@ GROWTH = 4
 # Least share of an image that the background is estimated from.
 LEAST_SHARE = 0.4
 
-Numbers = typing.Union[float, numpy.ndarray]
+Numbers = Union[float, numpy.ndarray]
 
 
-class _Pixels(typing.NamedTuple):
+class _Pixels(NamedTuple):
     """The pixels that belong to sources: their places in the flat image, the sources' numbers there, and how long
     a list by number is.
     """
@@ -90,20 +91,7 @@ class _Pixels(typing.NamedTuple):
         return found
 
 
-def _grown(chosen: numpy.ndarray, reach: int) -> numpy.ndarray:
-    """The chosen pixels and all within a square of `reach` pixels around them."""
-    grown, done = chosen.copy(), 0
-    while done < reach:
-        step = min(reach - done, done + 1)
-        for axis in (0, 1):
-            lines, before = numpy.moveaxis(grown, axis, 0), numpy.moveaxis(grown.copy(), axis, 0)
-            lines[step:] |= before[:-step]
-            lines[:-step] |= before[step:]
-        done += step
-    return grown
-
-
-def _undefined(image: numpy.ndarray, mask: typing.Optional[numpy.ndarray]) -> numpy.ndarray:
+def _undefined(image: numpy.ndarray, mask: Optional[numpy.ndarray]) -> numpy.ndarray:
     """Which pixels have no value."""
     undefined = ~numpy.isfinite(numpy.ma.getdata(image)) | numpy.ma.getmaskarray(image)
     return undefined if mask is None else undefined | numpy.asarray(mask, dtype=bool)
@@ -115,7 +103,7 @@ def _left_out(segments: numpy.ndarray, undefined: numpy.ndarray) -> numpy.ndarra
     """
     found = segments != 0
     for reach in range(GROWTH, 0, -1):
-        left_out = _grown(found, reach) | undefined
+        left_out = grown(found, reach) | undefined
         if left_out.mean() <= 1 - LEAST_SHARE:
             return left_out
     return found | undefined
@@ -135,10 +123,10 @@ def sky(
     segments: numpy.ndarray,
     mesh: int = 64,
     *,
-    mask: typing.Optional[numpy.ndarray] = None,
+    mask: Optional[numpy.ndarray] = None,
     local: bool = False,
-    level: typing.Union[None, float, numpy.ndarray] = None,
-) -> typing.Tuple[numpy.ndarray, Numbers]:
+    level: Union[None, float, numpy.ndarray] = None,
+) -> Tuple[numpy.ndarray, Numbers]:
     """The background and the noise of an image beside its sources, in the image's units.
 
     `image` has two dimensions, and NaN or a true `mask` where it is undefined; `segments` is the segmentation map of
@@ -170,7 +158,7 @@ def sky(
     return level + numpy.float32(found.globalback * unit), noise
 
 
-def ellipses(catalogue: Table) -> typing.Tuple[numpy.ndarray, numpy.ndarray, numpy.ndarray]:
+def ellipses(catalogue: Table) -> Tuple[numpy.ndarray, numpy.ndarray, numpy.ndarray]:
     """Half axes A and B in pixels, and the angle of A in degrees from the x axis towards the y axis, of the ellipses
     with a kernel catalogue's moments.
 
@@ -185,7 +173,7 @@ def ellipses(catalogue: Table) -> typing.Tuple[numpy.ndarray, numpy.ndarray, num
     return long, numpy.minimum(short, long), numpy.degrees(numpy.arctan2(2 * xy, xx - yy) / 2)
 
 
-def _noise(noise: Numbers, shape: typing.Tuple[int, int]) -> Numbers:
+def _noise(noise: Numbers, shape: Tuple[int, int]) -> Numbers:
     """The noise as SEP takes it: one number, or an array of the image's shape."""
     if numpy.ndim(noise) == 0:
         return float(noise)
@@ -216,8 +204,8 @@ def _residual(image: numpy.ndarray, background: Numbers, undefined: numpy.ndarra
 
 
 def _isophotal(
-    pixels: _Pixels, residual: numpy.ndarray, noise: Numbers, gain: typing.Optional[float]
-) -> typing.Tuple[numpy.ndarray, numpy.ndarray]:
+    pixels: _Pixels, residual: numpy.ndarray, noise: Numbers, gain: Optional[float]
+) -> Tuple[numpy.ndarray, numpy.ndarray]:
     """The sums over the sources' defined pixels and their errors, by number; NaN where there are none."""
     flux = pixels.summed(residual.ravel()[pixels.places])
     if numpy.ndim(noise) == 0:
@@ -238,7 +226,7 @@ def _flags(pixels, image, undefined, catalogue, numbers, saturation, threshold) 
         xs | ys | (numpy.asarray(catalogue["XMAX"]) == width) | (numpy.asarray(catalogue["YMAX"]) == height)
     )
     if undefined.any():
-        flags |= UNDEFINED * pixels.having(_grown(undefined, 1).ravel()[pixels.places])[numbers]
+        flags |= UNDEFINED * pixels.having(grown(undefined, 1).ravel()[pixels.places])[numbers]
     if saturation is not None:
         flags |= SATURATED * pixels.having(numpy.ma.getdata(image).ravel()[pixels.places] >= saturation)[numbers]
     if len(catalogue):
@@ -272,12 +260,12 @@ def measured(
     segments: numpy.ndarray,
     catalogue: Table,
     *,
-    mask: typing.Optional[numpy.ndarray] = None,
-    gain: typing.Optional[float] = None,
-    saturation: typing.Optional[float] = None,
+    mask: Optional[numpy.ndarray] = None,
+    gain: Optional[float] = None,
+    saturation: Optional[float] = None,
     aperture: float = APERTURE,
     kron: float = KRON,
-    threshold: typing.Optional[int] = None,
+    threshold: Optional[int] = None,
 ) -> Table:
     """The photometry of the sources of a segmentation map, a row for each row of `catalogue`.
 
@@ -325,9 +313,7 @@ def measured(
     return table
 
 
-def _apertures(
-    residual, noise, undefined, segments, catalogue, gain, aperture, kron
-) -> typing.Dict[str, numpy.ndarray]:
+def _apertures(residual, noise, undefined, segments, catalogue, gain, aperture, kron) -> Dict[str, numpy.ndarray]:
     """The columns that SEP measures, and the flags that it tells."""
     numbers = numpy.asarray(catalogue["NUMBER"], dtype="i4")
     x, y = (numpy.asarray(catalogue[name], dtype="f8") / 1000 - 1 for name in ("XCEN", "YCEN"))

@@ -6,7 +6,7 @@ pixels has one. matplotlib is loaded when a picture is drawn, and not before.
 """
 import os
 import pathlib
-import typing
+from typing import Optional, Tuple, Union
 
 import numpy
 from astropy.table import Table
@@ -26,10 +26,10 @@ MOST_ELLIPSES = 5000
 # What is drawn evenly around the sky, in standard deviations of the noise; brighter values go by their logarithm.
 EVEN = 3.0
 
-Crop = typing.Tuple[int, int, int, int]
+Crop = Tuple[int, int, int, int]
 
 
-def _window(shape: typing.Tuple[int, int], crop: typing.Optional[Crop]) -> typing.Tuple[slice, slice]:
+def _window(shape: Tuple[int, int], crop: Optional[Crop]) -> Tuple[slice, slice]:
     """The rows and columns that are drawn."""
     height, width = shape
     if crop is None:
@@ -76,7 +76,7 @@ def _at_rim(segments: numpy.ndarray) -> numpy.ndarray:
     return numpy.where(rim, segments, 0)
 
 
-def outlines(segments: numpy.ndarray) -> typing.Tuple[numpy.ndarray, numpy.ndarray]:
+def outlines(segments: numpy.ndarray) -> Tuple[numpy.ndarray, numpy.ndarray]:
     """The sides of pixels where two numbers meet, as lines.
 
     `segments` is a segmentation map. The answers are an array of shape (lines, 2, 2), with the two ends of each line
@@ -155,11 +155,11 @@ def _draw_ellipses(axes, table: Table, extent) -> int:
 
 def draw(
     image: numpy.ndarray,
-    segments: typing.Optional[numpy.ndarray],
-    table: typing.Optional[Table],
-    path: typing.Union[str, os.PathLike],
+    segments: Optional[numpy.ndarray],
+    table: Optional[Table],
+    path: Union[str, os.PathLike],
     *,
-    crop: typing.Optional[Crop] = None,
+    crop: Optional[Crop] = None,
 ) -> None:
     """Draws an image, and beside it the same with the outlines and the ellipses of its sources, with a scale of the
     values.

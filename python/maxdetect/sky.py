@@ -189,14 +189,16 @@ def box_sums(image: numpy.ndarray) -> numpy.ndarray:
 
 def grown(mask: numpy.ndarray, reach: int) -> numpy.ndarray:
     """The mask with all pixels up to so many columns and rows away."""
-    for axis in (0, 1):
-        for _ in range(reach):
-            wider = mask.copy()
-            later, earlier = _shifted(mask, 1, axis)
-            to_earlier, to_later = _shifted(wider, 1, axis)[::-1]
+    mask, done = mask.copy(), 0
+    while done < reach:
+        # So far that no gap is left, also at an edge, behind which half of what has grown is cut off.
+        step = min(reach - done, done + 1)
+        for axis in (0, 1):
+            later, earlier = _shifted(mask.copy(), step, axis)
+            to_earlier, to_later = _shifted(mask, step, axis)[::-1]
             to_earlier |= later
             to_later |= earlier
-            mask = wider
+        done += step
     return mask
 
 

@@ -5,13 +5,14 @@ whole number of 64 bits for each column, the most significant byte first. Nothin
 which puts a sum of each field's bytes into a table of its own beside it; the program goes on to work with such a file.
 """
 import collections.abc
+import contextlib
 import hashlib
 import os
 import pathlib
 import re
 import sqlite3
 import urllib.parse
-from typing import Dict, Iterable, Iterator, List, Mapping, Optional, Tuple, Union
+from typing import ContextManager, Dict, Iterable, Iterator, List, Mapping, Optional, Tuple, Union
 
 import numpy
 from astropy import units
@@ -55,8 +56,8 @@ class Survey(collections.abc.Mapping):
     def _asked(self, text: str, *values) -> List[Tuple]:
         """The rows that a question gives."""
         try:
-            with _opened(self.path) as found:
-                return list(found.connection.execute(text, values))
+            with _opened(self.path) as connection:
+                return list(connection.execute(text, values))
         except sqlite3.Error as error:
             raise Mistake(f"{self.path}: {cause(error)}") from None
 
@@ -66,7 +67,7 @@ class Survey(collections.abc.Mapping):
     def __len__(self) -> int:
         return self._asked("SELECT count(*) FROM source")[0][0]
 
-    def __contains__(self, name) -> bool:
+    def __contains__(self, name: object) -> bool:
         return isinstance(name, str) and bool(self._asked("SELECT 1 FROM source WHERE field = ?", name))
 
     def __getitem__(self, name: str) -> Table:
@@ -119,7 +120,7 @@ class Survey(collections.abc.Mapping):
         that lost bits, which SQLite itself doesn't tell.
         """
         try:
-            with _Connection(sqlite3.connect(self.path)) as found, found.connection as writing:
+            with contextlib.closing(sqlite3.connect(self.path)) as connection, connection as writing:
                 writing.execute(SUMS)
                 writing.execute("DELETE FROM source_sum")
                 rows = [(name, _sum(cells)) for name, cells in writing.execute("SELECT field, cells FROM source")]
@@ -147,33 +148,21 @@ def survey(path: Union[str, os.PathLike]) -> Survey:
 # ---- the file
 
 
-class _Connection:
-    """A connection that is closed at the end of a block."""
-
-    def __init__(self, connection: sqlite3.Connection):
-        self.connection = connection
-
-    def __enter__(self) -> "_Connection":
-        return self
-
-    def __exit__(self, *error) -> None:
-        self.connection.close()
-
-
-def _opened(path: str) -> _Connection:
-    """The file, open for reading. Where its folder can't be written and no log stands beside it, SQLite is told that
-    nobody else writes.
+def _opened(path: str) -> ContextManager[sqlite3.Connection]:
+    """The file, open for reading within a block. Where its folder can't be written and no log stands beside it, SQLite
+    is told that nobody else writes.
     """
     if not os.path.isfile(path):
         raise Mistake(f"{path} is a folder" if os.path.isdir(path) else f"{path}: there is no such file")
     whole = urllib.parse.quote(os.path.abspath(path))
     folder, log = os.path.dirname(os.path.abspath(path)), path + "-wal"
     alone = not os.access(folder, os.W_OK) and not (os.path.exists(log) and os.path.getsize(log))
-    return _Connection(sqlite3.connect(f"file:{whole}?mode=ro" + ("&immutable=1" if alone else ""), uri=True))
+    how = "mode=ro&immutable=1" if alone else "mode=ro"
+    return contextlib.closing(sqlite3.connect(f"file:{whole}?{how}", uri=True))
 
 
 def cause(error: sqlite3.Error) -> str:
-    """What an error of SQLite means for whoever opened a survey."""
+    """What an error of SQLite means for whoever opened its file."""
     text = str(error)
     if "no such table" in text or "no such column" in text or "not a database" in text:
         return "this is no survey's file"

@@ -13,8 +13,8 @@ import secrets
 import shutil
 import stat
 import tempfile
-import typing
 import warnings
+from typing import Dict, Iterable, Iterator, List, Optional, Tuple, Union
 
 import numpy
 from astropy import units
@@ -98,13 +98,13 @@ STRUCTURE = re.compile(
     r"|T(TYPE|FORM|UNIT|COMM|NULL|DIM)\d+"
 )
 
-Image = typing.Tuple[str, numpy.ndarray, typing.Optional[fits.Header]]
+Image = Tuple[str, numpy.ndarray, Optional[fits.Header]]
 
 
 # ---- sky coordinates
 
 
-def _wcs(header: typing.Union[None, fits.Header, WCS]) -> typing.Optional[WCS]:
+def _wcs(header: Union[None, fits.Header, WCS]) -> Optional[WCS]:
     """The celestial WCS of a header's first two axes, or None where it has none that can be read, which is warned
     of.
     """
@@ -137,7 +137,7 @@ def _frame(wcs: WCS):
         return None
 
 
-def _degrees(wcs: WCS, x: numpy.ndarray, y: numpy.ndarray) -> typing.Tuple[numpy.ndarray, numpy.ndarray]:
+def _degrees(wcs: WCS, x: numpy.ndarray, y: numpy.ndarray) -> Tuple[numpy.ndarray, numpy.ndarray]:
     """Longitudes and latitudes in the WCS's own frame; NaN where a place has none."""
     if not len(x):
         return numpy.zeros(0), numpy.zeros(0)
@@ -146,7 +146,7 @@ def _degrees(wcs: WCS, x: numpy.ndarray, y: numpy.ndarray) -> typing.Tuple[numpy
     return places[:, wcs.wcs.lng], places[:, wcs.wcs.lat]
 
 
-def _own_names(wcs: WCS) -> typing.Tuple[str, str]:
+def _own_names(wcs: WCS) -> Tuple[str, str]:
     """What the frame calls its longitude and latitude, such as ELON and ELAT."""
     return tuple(
         wcs.wcs.ctype[axis].split("-")[0] or name for axis, name in ((wcs.wcs.lng, "LON"), (wcs.wcs.lat, "LAT"))
@@ -159,8 +159,8 @@ def _icrs(wcs: WCS, frame, x: numpy.ndarray, y: numpy.ndarray) -> SkyCoord:
 
 
 def icrs_places(
-    header: typing.Union[fits.Header, WCS], x: numpy.ndarray, y: numpy.ndarray
-) -> typing.Tuple[numpy.ndarray, numpy.ndarray]:
+    header: Union[fits.Header, WCS], x: numpy.ndarray, y: numpy.ndarray
+) -> Tuple[numpy.ndarray, numpy.ndarray]:
     """Right ascensions and declinations in degrees in the ICRS of places in pixels from 1; NaN where the header has no
     celestial coordinates, or astropy doesn't know their frame.
     """
@@ -213,7 +213,7 @@ def _add_magnitudes(table: Table, zeropoint: float) -> None:
         table[f"MAG_{name}"].unit = table[f"MAGERR_{name}"].unit = units.mag
 
 
-def _describe(table: Table, unit: typing.Optional[str]) -> None:
+def _describe(table: Table, unit: Optional[str]) -> None:
     """Units and descriptions for the columns that lack them."""
     flux = units.Unit(unit, parse_strict="silent") if unit else None
     for name in table.colnames:
@@ -227,11 +227,11 @@ def _describe(table: Table, unit: typing.Optional[str]) -> None:
 
 def finished(
     table: Table,
-    header: typing.Union[None, fits.Header, WCS],
+    header: Union[None, fits.Header, WCS],
     *,
-    zeropoint: typing.Optional[float] = None,
-    unit: typing.Optional[str] = None,
-    extension: typing.Union[None, int, str] = None,
+    zeropoint: Optional[float] = None,
+    unit: Optional[str] = None,
+    extension: Union[None, int, str] = None,
 ) -> Table:
     """A copy of a catalogue with all that a reader wants: sky coordinates, magnitudes, and units and descriptions of
     every column.
@@ -267,7 +267,7 @@ def finished(
 
 
 @contextlib.contextmanager
-def whole_file(path: typing.Union[str, os.PathLike]) -> typing.Iterator[str]:
+def whole_file(path: Union[str, os.PathLike]) -> Iterator[str]:
     """The temporary name under which a file is written; it gets the name `path` if all goes well, and else is gone.
 
     Where `path` is something other than a file, such as a pipe or a terminal, all is written to it at the end.
@@ -295,7 +295,7 @@ def whole_file(path: typing.Union[str, os.PathLike]) -> typing.Iterator[str]:
 
 
 @contextlib.contextmanager
-def _renamed(path: typing.Union[str, os.PathLike]) -> typing.Iterator[str]:
+def _renamed(path: Union[str, os.PathLike]) -> Iterator[str]:
     """A new file beside a file, which takes its place at the end, or is gone where that isn't reached."""
     target = pathlib.Path(os.path.realpath(path))
     # With the same end of the name, by which writers choose a form.
@@ -316,7 +316,7 @@ def _renamed(path: typing.Union[str, os.PathLike]) -> typing.Iterator[str]:
 
 
 @contextlib.contextmanager
-def whole_files(paths: typing.Iterable[str]) -> typing.Iterator[typing.Dict[str, str]]:
+def whole_files(paths: Iterable[str]) -> Iterator[Dict[str, str]]:
     """For each of several files the temporary name under which it is written; they get their own names together at
     the end, or are gone.
     """
@@ -326,7 +326,7 @@ def whole_files(paths: typing.Iterable[str]) -> typing.Iterator[typing.Dict[str,
         yield {path: stack.enter_context(whole_file(path)) for path in last}
 
 
-def format_of(path: typing.Union[str, os.PathLike]) -> str:
+def format_of(path: Union[str, os.PathLike]) -> str:
     """How a catalogue of this name is written: fits, csv, ecsv or votable. Raises Mistake for another end of the
     name.
     """
@@ -342,7 +342,7 @@ def _fits_value(value) -> bool:
     )
 
 
-def _fits_unit(unit) -> typing.Optional[str]:
+def _fits_unit(unit) -> Optional[str]:
     """A unit as FITS spells it, or as it stands where FITS has no such unit."""
     if unit is None:
         return None
@@ -377,7 +377,7 @@ def _table_hdus(table: Table) -> fits.HDUList:
     return fits.HDUList([fits.PrimaryHDU(), hdu])
 
 
-def write(table: Table, path: typing.Union[str, os.PathLike]) -> None:
+def write(table: Table, path: Union[str, os.PathLike]) -> None:
     """Writes a catalogue as FITS, CSV, ECSV or VOTable, by the end of its name; an earlier file is replaced.
 
     In FITS each column's description stands in its TCOMM card, and simple values of the table's `meta` in cards.
@@ -401,7 +401,7 @@ def write(table: Table, path: typing.Union[str, os.PathLike]) -> None:
             table.write(name, format=form, overwrite=True, **more)
 
 
-def _region_lines(table: Table) -> typing.Iterator[str]:
+def _region_lines(table: Table) -> Iterator[str]:
     """The lines of a region file: an ellipse for each source."""
     yield "# Region file format: DS9"
     if {"RA", "DEC", "A_SKY", "B_SKY", "PA"} <= set(table.colnames):
@@ -425,7 +425,7 @@ def _region_lines(table: Table) -> typing.Iterator[str]:
             yield form.format(*values, (angle + turn) % 360, number)
 
 
-def regions(table: Table, path: typing.Union[str, os.PathLike]) -> None:
+def regions(table: Table, path: Union[str, os.PathLike]) -> None:
     """Writes a region file for DS9: the sources' ellipses, in sky coordinates where the table has RA and DEC, else
     in pixels.
     """
@@ -433,7 +433,7 @@ def regions(table: Table, path: typing.Union[str, os.PathLike]) -> None:
         pathlib.Path(name).write_text("\n".join(_region_lines(table)) + "\n", encoding="utf-8")
 
 
-def map_hdu(segments: numpy.ndarray, header: typing.Optional[fits.Header], name: str = "SEGMENT") -> fits.ImageHDU:
+def map_hdu(segments: numpy.ndarray, header: Optional[fits.Header], name: str = "SEGMENT") -> fits.ImageHDU:
     """A segmentation map as an image extension, with the WCS of the image's header."""
     cards = fits.Header()
     for card in header.cards if header is not None else ():
@@ -445,9 +445,9 @@ def map_hdu(segments: numpy.ndarray, header: typing.Optional[fits.Header], name:
 
 
 def write_map(
-    segments: typing.Union[numpy.ndarray, typing.List[Image]],
-    header: typing.Optional[fits.Header],
-    path: typing.Union[str, os.PathLike],
+    segments: Union[numpy.ndarray, List[Image]],
+    header: Optional[fits.Header],
+    path: Union[str, os.PathLike],
 ) -> None:
     """Writes a segmentation map as a FITS file of 32-bit integers with the image's WCS, in the primary HDU.
 

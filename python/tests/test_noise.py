@@ -1,6 +1,7 @@
 """The sky and its noise, and the scaling by it."""
 import numpy
 import pytest
+from scipy import ndimage
 
 import maxdetect
 from conftest import add_star
@@ -81,6 +82,14 @@ def test_cells():
     assert sky.quantum(numpy.repeat([0, 2.5, 5], 40)) == 2.5
     grid = numpy.add.outer(numpy.arange(4.0), 3 * numpy.arange(5.0))
     assert (sky.filtered(grid) == grid).all()
+
+
+def test_masks_grow_evenly_also_at_edges():
+    rng = numpy.random.default_rng(3)
+    for height, width, reach in zip(*rng.integers((1, 1, 0), (20, 20, 9), (100, 3)).T):
+        mask = rng.random((height, width)) < 0.05
+        wanted = ndimage.binary_dilation(mask, numpy.ones((2 * reach + 1, 2 * reach + 1)))
+        assert (sky.grown(mask, reach) == wanted).all()
 
 
 def test_prepared_numbers():

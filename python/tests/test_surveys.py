@@ -334,7 +334,7 @@ def test_seal_and_check(two, capsys):
         (["-o", "all.txt"], "a catalogue's name ends in"),
         (["--field", "WEST"], "has no field WEST"),
         (["--sky", "none.csv"], "can't be read"),
-        (["--brightest", "0"], "--brightest"),
+        (["--brightest", "0"], "--brightest: 0 isn't a whole number from 1 on"),
         (["--check"], "was never sealed"),
         (["-o", "two.db"], "is read, so it can't be written"),
     ],
@@ -344,6 +344,20 @@ def test_mistakes_of_the_export(two, monkeypatch, capsys, words, cause):
     status, out, err = exported(capsys, "two.db", *words)
     assert status == 2 and cause in err and err.count("\n") == 1 and out == ""
     assert sorted(name for name in os.listdir(".") if not name.startswith("two.db-")) == ["two.db"]
+
+
+def test_a_database_without_room_is_told_in_one_line(two, tmp_path, monkeypatch, capsys):
+    connect = sqlite3.connect
+
+    def small(*given, **more):
+        connection = connect(*given, **more)
+        connection.execute("PRAGMA max_page_count = 3")
+        return connection
+
+    monkeypatch.setattr(sqlite3, "connect", small)
+    path = tmp_path / "plain.db"
+    assert exported(capsys, two, "-o", path) == (2, "", f"maxdetect survey: {path}: database or disk is full\n")
+    assert not any(name.startswith((".maxdetect", "plain")) for name in os.listdir(tmp_path))
 
 
 def test_the_columns_are_the_programs():
