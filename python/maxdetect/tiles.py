@@ -168,29 +168,29 @@ def _crosses(look: Look, rows: slice, columns: slice, out: numpy.ndarray, at_cor
 
 def _may_reach_out(look: Look, window: Box, inner: Box, plan: Plan) -> bool:
     """Some component of the core may not be all of sure pixels with sure neighbours. What is looked at is a strip on
-    each side of the core, and what leaves a strip sideways counts as out: so for most tiles nothing more has to be
-    known of their components.
+    each side of the core, and what leaves a strip sideways counts as out, also where the strip's own end is sure: it
+    may go on to another side. So for most tiles nothing more has to be known of their components.
     """
     if look.unsure is not None:
         return True
     deep, (height, width) = plan.deep(window), window.shape
+    if deep == Box(0, height, 0, width):
+        return False
     tall, wide = slice(max(inner.top - 1, 0), min(inner.bottom + 1, height)), slice(
         max(inner.left - 1, 0), min(inner.right + 1, width)
     )
     strips = [
-        (deep.top > 0, slice(0, inner.top + 1), wide),
-        (deep.bottom < height, slice(inner.bottom - 1, height), wide),
+        (inner.top > 0, slice(0, inner.top + 1), wide),
+        (inner.bottom < height, slice(inner.bottom - 1, height), wide),
+        (inner.left > 0, tall, slice(0, inner.left + 1)),
+        (inner.right < width, tall, slice(inner.right - 1, width)),
     ]
-    strips += [
-        (deep.left > 0, tall, slice(0, inner.left + 1)),
-        (deep.right < width, tall, slice(inner.right - 1, width)),
-    ]
-    for wanted, rows, columns in strips:
+    for is_there, rows, columns in strips:
         y, x = numpy.ogrid[rows, columns]
         core = (y >= inner.top) & (y < inner.bottom) & (x >= inner.left) & (x < inner.right)
         sideways = (x < inner.left) | (x >= inner.right) if columns is wide else (y < inner.top) | (y >= inner.bottom)
         out = sideways | (y < deep.top) | (y >= deep.bottom) | (x < deep.left) | (x >= deep.right)
-        if wanted and _crosses(look, rows, columns, out, core, plan.connect):
+        if is_there and _crosses(look, rows, columns, out, core, plan.connect):
             return True
     return False
 

@@ -69,6 +69,31 @@ def test_components_that_reach_far_are_made_again():
     are_the_same(maxdetect.detect(image, 50, **options), maxdetect.detect_tiles(image, 50, 16, **options))
 
 
+def test_components_that_go_around_a_corner(monkeypatch):
+    # Out of the first tile's core to the side that its window holds to the image's edge, and there to where it ends.
+    monkeypatch.setattr(tiles, "MARGIN", 8)
+    image = numpy.zeros((60, 20), dtype="i4")
+    image[2, 3:19] = image[2:55, 18] = 100
+    for turned in (image, image[::-1], image[:, ::-1], image.T, image.T[::-1], image.T[:, ::-1]):
+        whole = maxdetect.detect(turned, 50)
+        assert whole[0]["AREA"].tolist() == [68]
+        are_the_same(whole, maxdetect.detect_tiles(turned, 50, 16))
+
+
+@pytest.mark.parametrize("seed", range(8))
+def test_tiles_of_any_shape(seed, monkeypatch):
+    rng = numpy.random.default_rng(seed)
+    monkeypatch.setattr(tiles, "MARGIN", int(rng.choice([2, 8])))
+    for height, width, mesh in zip(*rng.integers(1, 90, (2, 12)), rng.choice([0, 4, 16], 12)):
+        image = rng.integers(0, 10, (height, width)) + numpy.indices((height, width)).sum(axis=0) // 7
+        image = numpy.ma.MaskedArray(image, mask=rng.random(image.shape) < rng.choice([0, 0.1, 0.4]))
+        options = dict(mesh=int(mesh), flat=bool(rng.integers(2)), connect=int(rng.choice([4, 8])))
+        threshold = int(rng.integers(0, 9)) + (0 if mesh else int(image.mean()) if image.count() else 0)
+        are_the_same(
+            maxdetect.detect(image, threshold, **options), maxdetect.detect_tiles(image, threshold, 16, **options)
+        )
+
+
 def test_components_that_no_window_holds_are_cut(monkeypatch):
     monkeypatch.setattr(tiles, "MOST_PIXELS", 90 * 90)
     monkeypatch.setattr(tiles, "MARGIN", 8)
