@@ -125,6 +125,24 @@ class Plan:
         bottom, right = (-(-(high + margin) // step) * step for high in (box.bottom, box.right))
         return Box(top, min(bottom, height), left, min(right, width))
 
+    @property
+    def least_margin(self) -> int:
+        """How far from a window's inner edges pixels have to lie so that all of them are sure with their neighbours."""
+        return 1 if self.flat or not self.mesh else (3 * self.mesh + 1) // 2 + 1
+
+    def next_window(self, box: Box, margin: int, last: Optional[Box]) -> Optional[Box]:
+        """The window around a box with this margin, or with the half of it and so on where the program doesn't take
+        that, as far as it reaches beyond the last one; None where none does.
+        """
+        margin = max(margin, self.least_margin)
+        while True:
+            window = self.around(box, margin)
+            if window.fits() and (last is None or window.within(last).shape != window.shape):
+                return window
+            if margin == self.least_margin:
+                return None
+            margin = max(margin // 2, self.least_margin)
+
     def _sure(self, low: int, high: int, side: int) -> Tuple[int, int]:
         """Of the places along a side, those whose background a window from `low` up to `high` shows."""
         mesh = self.mesh
@@ -252,8 +270,11 @@ def _again(
     """The sources of the core in the component that holds a pixel, of which a part fills a box: from ever larger
     windows. With them the last window, and where the component lies in it.
     """
-    window, margin, last = plan.around(box, plan.margin), plan.margin, None
-    while last is None or (window.fits() and window != last[1]):
+    margin = plan.margin
+    # Where no window holds even the part that was seen, it is seen again in the tile's own.
+    wider = plan.next_window(box, margin, None) or plan.around(core, margin)
+    while wider is not None:
+        window, margin = wider, 2 * margin
         look = look_at(window)
         labels = _labelled(look, plan.connect)
         number = labels[seed[0] - window.top, seed[1] - window.left]
@@ -261,9 +282,7 @@ def _again(
         chosen = component[rows, columns] & in_box(look.catalogue, core.within(window))
         if number not in _reaching_out(labels, look, window, plan):
             return _picked(look, window, plan, chosen, False), window, component
-        last, margin = (look, window, chosen, component), 2 * margin
-        window = plan.around(_moved_box(ndimage.find_objects(component, 1)[0], window), margin)
-    look, window, chosen, component = last
+        wider = plan.next_window(_moved_box(ndimage.find_objects(component, 1)[0], window), margin, window)
     # Of what no window holds each tile has the part that it sees, and on the map what lies in its core.
     inner = core.within(window)
     seen = numpy.unique(look.segments[inner.rows, inner.columns][component[inner.rows, inner.columns]])

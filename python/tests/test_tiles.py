@@ -98,12 +98,37 @@ def test_components_that_no_window_holds_are_cut(monkeypatch):
     monkeypatch.setattr(tiles, "MOST_PIXELS", 90 * 90)
     monkeypatch.setattr(tiles, "MARGIN", 8)
     image = numpy.zeros((200, 200), dtype="i4")
-    image[10, 5:195] = 100
+    image[10, 5:195] = image[10:195, 5] = 100
     image[100:104, 100:104] = 100
     table, segments = maxdetect.detect_tiles(image, 50, 64)
     alone = table[segments[101, 101] - 1]
     assert alone["AREA"] == 16 and alone["NUMBER"] not in table.meta["CUT"]
-    assert set(table.meta["CUT"]) == set(segments[10, 5:195].tolist()) and (segments[10, 5:195] > 0).all()
+    cut = segments[(image > 0) & (segments != alone["NUMBER"])]
+    assert set(table.meta["CUT"]) == set(cut.tolist()) and (cut > 0).all()
+
+
+def test_no_window_is_larger_than_the_program_takes(monkeypatch):
+    monkeypatch.setattr(tiles, "MOST_PIXELS", 80 * 80)
+    monkeypatch.setattr(tiles, "MARGIN", 8)
+    detect, sizes = tiles.kernel.detect, []
+
+    def seen(image, *words, **options):
+        sizes.append(image.size)
+        return detect(image, *words, **options)
+
+    monkeypatch.setattr(tiles.kernel, "detect", seen)
+    table, segments = tiles.detect_tiles(numpy.full((200, 200), 7), 7, 64)
+    assert max(sizes) <= 80 * 80 and len(table) == len(table.meta["CUT"]) == 16 and (segments > 0).all()
+
+
+def test_what_one_tile_holds_is_cut_by_none(monkeypatch):
+    # The part that each tile sees grows to a window that the program doesn't take, where a smaller one holds all.
+    monkeypatch.setattr(tiles, "MOST_PIXELS", 48 * 48)
+    monkeypatch.setattr(tiles, "MARGIN", 8)
+    image = numpy.zeros((96, 96), dtype="i4")
+    image[25, 18:46] = image[25:49, 45] = 100
+    whole = maxdetect.detect(image, 50)
+    are_the_same(whole, maxdetect.detect_tiles(image, 50, 16))
 
 
 class InTurn(concurrent.futures.Executor):
