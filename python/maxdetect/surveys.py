@@ -17,6 +17,7 @@ from typing import ContextManager, Dict, Iterable, Iterator, List, Mapping, Opti
 import numpy
 from astropy import units
 from astropy.io import fits
+from astropy.io.registry import IORegistryError
 from astropy.table import Table
 from astropy.wcs import WCS
 
@@ -237,6 +238,8 @@ def fields_of(path: Union[str, os.PathLike]) -> Dict[str, fits.Header]:
     """
     try:
         listed = Table.read(path)
+    except IORegistryError:
+        raise Mistake(f"{path}: no table that is known by its name's end, as of CSV, ECSV, FITS or VOTable") from None
     except (OSError, ValueError, TypeError) as error:
         raise Mistake(f"{path}: this table can't be read ({' '.join(str(error).split())[:80]})") from None
     if not {"FIELD", "IMAGE"} <= set(listed.colnames):

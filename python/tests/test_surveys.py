@@ -334,6 +334,7 @@ def test_seal_and_check(two, capsys):
         (["-o", "all.txt"], "a catalogue's name ends in"),
         (["--field", "WEST"], "has no field WEST"),
         (["--sky", "none.csv"], "can't be read"),
+        (["--sky", "two.db"], "no table that is known by its name's end"),
         (["--brightest", "0"], "--brightest: 0 isn't a whole number from 1 on"),
         (["--check"], "was never sealed"),
         (["-o", "two.db"], "is read, so it can't be written"),
