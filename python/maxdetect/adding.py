@@ -104,8 +104,8 @@ def _alone(path: str):
 def _why(path: str) -> str:
     """What keeps maxsurvey from a survey's file, as far as it can be told from outside."""
     folder = os.path.dirname(os.path.abspath(path))
-    if not os.path.isdir(folder) or os.path.isdir(path):
-        return "there is no such folder" if not os.path.isdir(folder) else "it is a folder"
+    if not os.path.isdir(folder):
+        return "there is no such folder"
     if not os.access(folder, os.W_OK) or (os.path.exists(path) and not os.access(path, os.W_OK)):
         return "the file, or its folder, can't be written"
     if shutil.disk_usage(folder).free < 2**20:
@@ -141,6 +141,8 @@ def add(
     path = os.fspath(path)
     if not surveys.NAME.fullmatch(field):
         raise Mistake(f"{field!r} is no field's name: 1 to 16 letters, digits, underscores or hyphens")
+    if os.path.isdir(path):
+        raise Mistake(f"{path} is a folder")
     words = [find_survey_program(program), "--file", path, "add", field]
     written = survey_file(table, unit)
     with _alone(path):

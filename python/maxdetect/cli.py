@@ -252,13 +252,15 @@ def _check_names(given: argparse.Namespace, tasks: List[Task]) -> None:
             raise Mistake(f"{output} is to be written twice")
         if not _writable(output):
             raise Mistake(f"{output} can't be written")
+    if given.survey and not _writable(given.survey):
+        raise Mistake(f"{given.survey} can't be written")
     for task in tasks:
         tables.format_of(task.output)
     named = [task.survey_field for task in tasks if task.survey_field]
     for name in named:
         if named.count(name) > 1:
             raise Mistake(f"two images would be the survey's field {name}")
-    if given.crop:
+    if given.crop and tasks:
         (xmin, xmax, ymin, ymax), (height, width) = given.crop, tasks[0].fields[0].shape
         if xmax < 1 or ymax < 1 or xmin > width or ymin > height:
             raise Mistake(f"--crop: it has no pixel of the image of {width} x {height}")

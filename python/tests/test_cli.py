@@ -250,6 +250,7 @@ WRONG = [
     (["flat.fits"], "no noise"),
     (["nothing.fits"], "no pixel"),
     (["text.fits"], "text.fits"),
+    (["text.fits", "--plot", "a.png", "--crop", "1,9,1,9"], "text.fits"),
 ]
 
 

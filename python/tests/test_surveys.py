@@ -209,6 +209,8 @@ def test_what_is_not_added(tmp_path, stars, program, monkeypatch):
     table, _ = maxdetect.catalogue(stars[0])
     with pytest.raises(Mistake, match="no field's name"):
         maxdetect.add(tmp_path / "s.db", "A B", table)
+    with pytest.raises(Mistake, match="is a folder"):
+        maxdetect.add(tmp_path, "A", table)
     with pytest.raises(Mistake, match="no whole number"):
         maxdetect.add(tmp_path / "s.db", "A", table, unit=1e-300)
     assert os.listdir(tmp_path) == []
@@ -267,6 +269,8 @@ def test_maxcat_adds_what_it_found(tmp_path, monkeypatch, stars, program, capsys
         (["--survey", "s.db", "--hdu", "all"], "--survey is for one HDU"),
         (["--survey", "s.db", "--field", "A B"], "no field's name"),
         (["--survey", ""], "--survey has an empty name"),
+        (["--survey", "."], ". can't be written"),
+        (["--survey", "none/s.db"], "none/s.db can't be written"),
         (["--survey", "s.db", "--survey-unit", "0"], "--survey-unit"),
     ],
 )
