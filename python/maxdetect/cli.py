@@ -243,7 +243,8 @@ def _writable(output: str) -> bool:
 
 def _check_names(given: argparse.Namespace, tasks: List[Task]) -> None:
     """No output is an input or another output, and each can be written."""
-    inputs = list(given.images) + [images.split_name(it)[0] for it in (given.weight, given.mask, given.measure) if it]
+    beside = [images.split_name(it)[0] for it in (given.weight, given.mask, given.measure) if it]
+    inputs = [*given.images, *beside, *([given.survey] if given.survey else [])]
     outputs = [task.output for task in tasks] + [it for it in (given.map, given.regions, given.plot) if it]
     for number, output in enumerate(outputs):
         if any(images.same(output, it) for it in inputs):

@@ -270,6 +270,7 @@ def test_maxcat_adds_what_it_found(tmp_path, monkeypatch, stars, program, capsys
         (["--survey", "s.db", "--field", "A B"], "no field's name"),
         (["--survey", ""], "--survey has an empty name"),
         (["--survey", "."], ". can't be written"),
+        (["--survey", "s.db", "--map", "s.db"], "s.db is read, so it can't be written"),
         (["--survey", "none/s.db"], "none/s.db can't be written"),
         (["--survey", "s.db", "--survey-unit", "0"], "--survey-unit"),
     ],
