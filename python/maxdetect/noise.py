@@ -7,7 +7,7 @@ from . import sky
 
 
 def floats(image: numpy.ndarray) -> numpy.ndarray:
-    """An image as floating-point numbers, NaN where it is masked: in 32 bits where they hold it as it is."""
+    """An image as floating-point numbers row by row, NaN where it is masked: in 32 bits where they hold it as it is."""
     values = numpy.ma.getdata(image)
     small = (
         values.dtype.kind in "iub"
@@ -15,7 +15,7 @@ def floats(image: numpy.ndarray) -> numpy.ndarray:
         or values.dtype.kind == "f"
         and values.dtype.itemsize <= 4
     )
-    values = values.astype("f4" if small else "f8")
+    values = values.astype("f4" if small else "f8", order="C")
     if numpy.ma.getmask(image) is not numpy.ma.nomask:
         values[numpy.ma.getmaskarray(image)] = numpy.nan
     return values

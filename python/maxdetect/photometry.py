@@ -92,9 +92,9 @@ class _Pixels(NamedTuple):
 
 
 def _undefined(image: numpy.ndarray, mask: Optional[numpy.ndarray]) -> numpy.ndarray:
-    """Which pixels have no value."""
+    """Which pixels have no value, row by row as SEP wants them."""
     undefined = ~numpy.isfinite(numpy.ma.getdata(image)) | numpy.ma.getmaskarray(image)
-    return undefined if mask is None else undefined | numpy.asarray(mask, dtype=bool)
+    return numpy.ascontiguousarray(undefined if mask is None else undefined | numpy.asarray(mask, dtype=bool))
 
 
 def _left_out(segments: numpy.ndarray, undefined: numpy.ndarray) -> numpy.ndarray:
@@ -145,7 +145,7 @@ def sky(
         return unknown, unknown if local else numpy.nan
     if level is None:
         level = _level(numpy.ma.MaskedArray(numpy.ma.getdata(image), mask=undefined), mesh)
-    left_out = _left_out(numpy.asarray(segments), undefined)
+    left_out = _left_out(numpy.ascontiguousarray(segments), undefined)
     if left_out.all():
         left_out = undefined
     # 32 bits hold the residual, where they may not hold the values themselves.
@@ -194,10 +194,10 @@ def _unit(values: Numbers) -> float:
 
 
 def _residual(image: numpy.ndarray, background: Numbers, undefined: numpy.ndarray) -> numpy.ndarray:
-    """The image less its background in 32 bits, with 0 where it is undefined."""
+    """The image less its background in 32 bits, row by row, with 0 where it is undefined."""
     data = numpy.ma.getdata(image)
     residual = (data - background if data.dtype.kind == "f" else data.astype("f8") - background).astype(
-        "f4", copy=False
+        "f4", order="C", copy=False
     )
     residual[undefined] = 0
     return residual

@@ -5,6 +5,7 @@ from astropy.io import fits
 
 pytest.importorskip("sep", reason="the package wants SEP (Debian: python3-sep)")
 
+from maxdetect import photometry  # noqa: E402
 from maxdetect.arrays import catalogue  # noqa: E402
 
 
@@ -39,6 +40,19 @@ def test_masks_and_nan_are_alike():
     two, second = catalogue(masked.filled(numpy.nan))
     assert (first == second).all() and all((one[name] == two[name]).all() for name in one.colnames)
     assert not first[50:60].any()
+
+
+@pytest.mark.parametrize("mesh", [0, 64])
+@pytest.mark.parametrize("form", ["f4", ">f4", "f8", "i4", "i8"])
+def test_the_order_in_memory_changes_nothing(form, mesh):
+    image = star_field()[0].astype(form)
+    for turned in (image.copy(order="F"), numpy.ma.MaskedArray(image.copy(order="F"), mask=False)):
+        one, first = catalogue(image, mesh=mesh, gain=1.0)
+        two, second = catalogue(turned, mesh=mesh, gain=1.0)
+        assert (first == second).all() and all((one[name] == two[name]).all() for name in one.colnames)
+    background, noise = photometry.sky(turned, first.copy(order="F"), mesh)
+    found = photometry.measured(turned, background, noise, first.copy(order="F"), one, mask=turned.mask)
+    assert numpy.allclose(found["FLUX_KRON"], one["FLUX_KRON"], rtol=1e-2)
 
 
 def test_noise_maps():
