@@ -1,5 +1,6 @@
 """The whole way of `maxcat` for an image that is there as an array."""
 import concurrent.futures
+import math
 from typing import Any, Dict, Optional, Tuple
 
 import numpy
@@ -38,11 +39,17 @@ def _numbers(image, label: str) -> numpy.ndarray:
 
 def _check(settings: Dict[str, Any]) -> None:
     """Raises ValueError for a setting that `maxcat` wouldn't take either."""
-    sigmas, least = settings.get("sigmas"), settings.get("min_area", 5)
+    sigmas, gain, saturation = (settings.get(name) for name in ("sigmas", "gain", "saturation"))
     if sigmas is not None and not 0 < sigmas <= 1e6:
         raise ValueError(f"sigmas is a number above 0 and at most 1e6, not {sigmas}")
-    if least < 1 or least != int(least):
-        raise ValueError(f"min_area is a whole number of pixels from 1 on, not {least}")
+    if gain is not None and not 0 < gain < math.inf:
+        raise ValueError(f"gain is a finite number above 0, not {gain}")
+    if saturation is not None and not math.isfinite(saturation):
+        raise ValueError(f"saturation is a finite number, not {saturation}")
+    for name in ("min_area", "tile", "workers"):
+        count = settings.get(name, 1)
+        if count < 1 or count != int(count):
+            raise ValueError(f"{name} is a whole number from 1 on, not {count}")
 
 
 def catalogue(

@@ -10,8 +10,9 @@ from typing import List, Optional
 from astropy.utils.exceptions import AstropyWarning
 
 from . import images, scaling
-from .cli import Parser, mesh_side, sigmas, told
+from .cli import mesh_side, sigmas, told
 from .errors import Mistake
+from .words import Parser, whole
 
 DESCRIPTION = """Makes an image of whole numbers whose noise is 30, with the sky left in, and prints the command that
 finds its sources. Pixels that aren't finite become BLANK. In the header MAXZERO is the number that was taken off, and
@@ -23,13 +24,13 @@ def run(words: Optional[List[str]] = None) -> None:
     """Does what the words say. Raises Mistake."""
     parser = Parser(prog="prepare.py", description=DESCRIPTION, allow_abbrev=False)
     parser.add_argument("--hdu", help="the number or the name of the image's HDU (default: the first with an image)")
-    parser.add_argument("--plane", type=int, help="the plane of a cube, from 1")
+    parser.add_argument("--plane", type=whole(1), help="the plane of a cube, from 1")
     parser.add_argument("--smooth", action="store_true", help="smooth by 1 2 1 / 2 4 2 / 1 2 1")
     parser.add_argument(
         "--mesh", type=mesh_side, default=64, help="side of the background's cells in pixels (default: 64)"
     )
     parser.add_argument("--sigmas", type=sigmas, help="the threshold (default: 2.25, and 1.375 with --smooth)")
-    parser.add_argument("--min-area", type=int, default=5, help="the least area in the command (default: 5)")
+    parser.add_argument("--min-area", type=whole(1), default=5, help="the least area in the command (default: 5)")
     parser.add_argument("image", metavar="IMAGE")
     parser.add_argument("prepared", metavar="PREPARED")
     given = parser.parse_args(words)

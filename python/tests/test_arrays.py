@@ -78,6 +78,11 @@ def test_what_is_not_taken():
         {"mesh": 4},
         {"min_area": 0},
         {"min_area": 1.5},
+        {"gain": 0},
+        {"gain": numpy.inf},
+        {"saturation": numpy.nan},
+        {"tile": 0},
+        {"workers": 0},
     ):
         with pytest.raises(ValueError):
             catalogue(image, **settings)
