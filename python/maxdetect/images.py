@@ -210,7 +210,7 @@ def matching(text: str, like: Plane, plane: Optional[int] = None, beside: bool =
 def save(image: numpy.ndarray, path: str, header: Optional[fits.Header] = None) -> None:
     """Writes an image as a FITS file that other programs read: whole numbers in 32 bits where they fit (BLANK where
     they are masked), others as 32-bit floating-point numbers (NaN where they are masked). `header` gives the other
-    cards. The file appears whole or not at all.
+    cards. The file appears whole or not at all. Raises ValueError for whole numbers beyond 64 bits.
     """
     from .tables import whole_file
 
@@ -218,8 +218,10 @@ def save(image: numpy.ndarray, path: str, header: Optional[fits.Header] = None) 
     cards = fits.Header() if header is None else _without_layout(header)
     if values.dtype.kind in "iub":
         defined = values[~undefined]
-        wide = defined.size and not -(2**31) < int(defined.min()) <= int(defined.max()) < 2**31
-        values = values.astype("i8" if wide else "i4")
+        low, high = (int(defined.min()), int(defined.max())) if defined.size else (0, 0)
+        if not -(2**63) < low <= high < 2**63:
+            raise ValueError(f"the values from {low} to {high} don't fit 64 bits")
+        values = values.astype("i4" if -(2**31) < low <= high < 2**31 else "i8")
         if undefined.any():
             cards["BLANK"] = int(numpy.iinfo(values.dtype).min)
             values[undefined] = cards["BLANK"]

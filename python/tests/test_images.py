@@ -109,3 +109,6 @@ def test_saved_images_are_small(tmp_path):
         header, found = fits.getheader(path), images.opened(path).window(slice(None))
         assert header["BITPIX"] == bitpix and header["OBJECT"] == "M31" and "BSCALE" not in header
         assert numpy.allclose(found, numpy.ma.filled(image.astype("f8"), numpy.nan), rtol=1e-6, equal_nan=True)
+    with pytest.raises(ValueError, match="64 bits"):
+        maxdetect.save(numpy.array([[2**63]], dtype="u8"), path)
+    assert fits.getheader(path)["BITPIX"] == -32

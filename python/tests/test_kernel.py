@@ -10,6 +10,7 @@ import sys
 
 import numpy
 import pytest
+from astropy.io import fits
 
 import maxdetect
 from conftest import TOP
@@ -102,6 +103,24 @@ def test_images_without_sources_and_without_pixels():
     table, segments = maxdetect.detect(SMALL, 100)
     assert len(table) == 0 and table.colnames == list(CATALOGUE) and not segments.any()
     assert len(maxdetect.tree(numpy.ma.masked_all((2, 2), dtype="i4"))) == 0
+
+
+@pytest.mark.parametrize("form", ["u1", "i1", "u2", "i2", "u4", "i4", "u8", "i8"])
+def test_whole_numbers_are_loaded_as_they_stand(form, tmp_path):
+    least, most = numpy.iinfo(form).min, numpy.iinfo(form).max
+    image = numpy.array([[least, most, least + 1], [1, 2, most - 1]], dtype=form)
+    fits.writeto(tmp_path / "image.fits", image)
+    found = maxdetect.load(tmp_path / "image.fits")
+    assert found.tolist() == image.tolist() and found.dtype.kind in "iu" and found.dtype.itemsize == 8
+
+
+@pytest.mark.parametrize("zero", [-(2.0**63), 1.5, "x"])
+def test_what_is_not_loaded(zero, tmp_path):
+    hdu = fits.PrimaryHDU(numpy.array([[-(2**63), 2**63 - 1]], dtype="i8"))
+    hdu.header["BSCALE"], hdu.header["BZERO"] = 1, zero
+    hdu.writeto(tmp_path / "image.fits", output_verify="ignore")
+    with pytest.raises(ValueError):
+        maxdetect.load(tmp_path / "image.fits")
 
 
 def test_a_refusal_can_be_pickled():
