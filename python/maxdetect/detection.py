@@ -182,12 +182,13 @@ class Detector:
         return seen
 
     def __call__(self, box: Box) -> tiles.Look:
-        """The sources of a window with their photometry, and its map."""
+        """The sources of a window whose first pixels lie in the image, their photometry for the asking, and its map."""
         seen, mesh = self.numbers(box), self.settings.mesh
         options = {"min_area": self.settings.min_area, "mesh": mesh, "connect": self.plan.connect, **self.strips}
         catalogue, segments = kernel.detect_stored(seen, self.settings.threshold, program=self.program, **options)
         above = background.Above(seen, seen == kernel.LEAST, self.settings.threshold, mesh)
-        return tiles.Look(self._measured(box, catalogue, segments), segments, above)
+        catalogue = catalogue[tiles.in_box(catalogue, self.part.within(box))]
+        return tiles.Look(catalogue, segments, above, measured=lambda rows: self._measured(box, rows, segments))
 
     def _level_of(self, rows, columns):
         """The sky's level in the image's units, where it is measured in the image itself; in 64 bits where 32 don't
@@ -198,12 +199,10 @@ class Detector:
         above = self.sky.background(rows, columns)
         return (above if abs(self.sky.zero) < 4096 * self.sky.noise else above.astype("f8")) + self.sky.zero
 
-    def _measured(self, box, catalogue, segments):
-        """The catalogue's rows whose first pixels lie in the image, with the columns of photometry; the window's
-        columns and rows stay.
-        """
+    def _measured(self, box, rows, segments):
+        """Rows of a window's catalogue with the columns of photometry; the window's columns and rows stay."""
         settings, at, part = self.settings, self.part.within(box), box.within(self.part)
-        table = tiles.moved(catalogue[tiles.in_box(catalogue, at)], -at.left, -at.top)
+        table = tiles.moved(rows.copy(), -at.left, -at.top)
         image, own = self.field.to_measure(part.rows, part.columns), numpy.ascontiguousarray(
             segments[at.rows, at.columns]
         )

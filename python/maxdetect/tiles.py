@@ -72,13 +72,14 @@ class Box:
 @dataclasses.dataclass
 class Look:
     """What is seen in a window: its sources, the map with their numbers, where it is at least the threshold, and
-    which pixels of the rest aren't sure.
+    which pixels of the rest aren't sure. `measured` adds to the rows that are wanted of it what else they are to have.
     """
 
     catalogue: Table
     segments: numpy.ndarray
     above: Callable[[slice, slice], numpy.ndarray]
     unsure: Optional[numpy.ndarray] = None
+    measured: Callable[[Table], Table] = lambda rows: rows
 
 
 @dataclasses.dataclass
@@ -250,7 +251,7 @@ def _picked(
 ) -> Piece:
     """The chosen rows of a window as a piece of the whole; of the map the part in a box alone, where one is given."""
     left, top = window.left - plan.part.left, window.top - plan.part.top
-    table = moved(look.catalogue[chosen], left, top)
+    table = moved(look.measured(look.catalogue[chosen]), left, top)
     if not plan.with_map:
         return Piece(table, numpy.zeros(0, dtype="i8"), numpy.zeros(0, dtype="i4"), numpy.full(len(table), cut))
     numbers = numpy.zeros(look.segments.max(initial=0) + 1, dtype="i4")
