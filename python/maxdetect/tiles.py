@@ -62,6 +62,15 @@ class Box:
         """The program takes an image of this size."""
         return self.pixels <= MOST_PIXELS and max(self.shape) <= MOST_SIDE
 
+    def holds(self, other: "Box") -> bool:
+        """Another box lies in it."""
+        return (
+            self.top <= other.top
+            and other.bottom <= self.bottom
+            and self.left <= other.left
+            and other.right <= self.right
+        )
+
     def within(self, outer: "Box") -> "Box":
         """The same box in pixels of another one, as far as it lies there."""
         top, left = max(self.top, outer.top), max(self.left, outer.left)
@@ -126,23 +135,23 @@ class Plan:
         bottom, right = (-(-(high + margin) // step) * step for high in (box.bottom, box.right))
         return Box(top, min(bottom, height), left, min(right, width))
 
-    @property
-    def least_margin(self) -> int:
-        """How far from a window's inner edges pixels have to lie so that all of them are sure with their neighbours."""
-        return 1 if self.flat or not self.mesh else (3 * self.mesh + 1) // 2 + 1
+    def least_window(self, box: Box) -> Box:
+        """The least window in which a box's pixels are sure with their neighbours."""
+        before = after = 1
+        if self.mesh and not self.flat:
+            before, after = 3 * self.mesh // 2 + 1, (3 * self.mesh + 1) // 2 + 1
+        return self.around(Box(box.top - before, box.bottom + after, box.left - before, box.right + after), 0)
 
     def next_window(self, box: Box, margin: int, last: Optional[Box]) -> Optional[Box]:
-        """The window around a box with this margin, or with the half of it and so on where the program doesn't take
-        that, as far as it reaches beyond the last one; None where none does.
+        """The window around a box with this margin, or with the half of it and so on down to the least window, that
+        the program takes and that reaches beyond the last one; None where none does.
         """
-        margin = max(margin, self.least_margin)
-        while True:
-            window = self.around(box, margin)
-            if window.fits() and (last is None or window.within(last).shape != window.shape):
+        least = self.least_window(box)
+        windows = [self.around(box, margin >> times) for times in range(margin.bit_length())]
+        for window in [*(wide for wide in windows if wide.holds(least)), least]:
+            if window.fits() and not (last is not None and last.holds(window)):
                 return window
-            if margin == self.least_margin:
-                return None
-            margin = max(margin // 2, self.least_margin)
+        return None
 
     def _sure(self, low: int, high: int, side: int) -> Tuple[int, int]:
         """Of the places along a side, those whose background a window from `low` up to `high` shows."""
