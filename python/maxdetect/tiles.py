@@ -166,14 +166,20 @@ class Plan:
             (1 - mesh * (2 * last - 3)) // 2
         )
 
-    def deep(self, window: Box) -> Box:
-        """The pixels of a window that are sure with their neighbours, in the window's own columns and rows."""
+    def sure(self, window: Box, within: int = 0) -> Box:
+        """The pixels of a window that are sure, so many pixels or more within the last ones towards other windows, in
+        the window's own columns and rows.
+        """
         bounds = []
         for low, high, side in ((window.top, window.bottom, self.shape[0]), (window.left, window.right, self.shape[1])):
             first, last = self._sure(low, high, side)
-            first, last = first + (low > 0), last - (high < side)
+            first, last = first + within * (low > 0), last - within * (high < side)
             bounds += [first - low, max(first, last) - low]
         return Box(*bounds)
+
+    def deep(self, window: Box) -> Box:
+        """The pixels of a window that are sure with their neighbours, in the window's own columns and rows."""
+        return self.sure(window, 1)
 
 
 # ---- one tile
@@ -274,6 +280,20 @@ def _picked(
     return Piece(table, pixels, owners[rows, columns] - 1, numpy.full(len(table), cut))
 
 
+def _sure_part(component: numpy.ndarray, look: Look, window: Box, seed: Tuple[int, int], plan: Plan) -> Box:
+    """The box of the part of a component that sure pixels join to the seed. What is seen of the rest may be another
+    component in the whole, or none.
+    """
+    sure, part = plan.sure(window), numpy.zeros_like(component)
+    part[sure.rows, sure.columns] = component[sure.rows, sure.columns]
+    if look.unsure is not None:
+        part &= ~look.unsure
+    part[seed[0] - window.top, seed[1] - window.left] = True
+    labels = _label(part, plan.connect)
+    number = labels[seed[0] - window.top, seed[1] - window.left]
+    return _moved_box(ndimage.find_objects(labels == number, 1)[0], window)
+
+
 def _again(
     look_at: Callable[[Box], Look], plan: Plan, core: Box, seed: Tuple[int, int], box: Box
 ) -> Tuple[Piece, Box, numpy.ndarray]:
@@ -292,7 +312,7 @@ def _again(
         chosen = component[rows, columns] & in_box(look.catalogue, core.within(window))
         if number not in _reaching_out(labels, look, window, plan):
             return _picked(look, window, plan, chosen, False), window, component
-        wider = plan.next_window(_moved_box(ndimage.find_objects(component, 1)[0], window), margin, window)
+        wider = plan.next_window(_sure_part(component, look, window, seed, plan), margin, window)
     # Of what no window holds each tile has the part that it sees, and on the map what lies in its core.
     inner = core.within(window)
     seen = numpy.unique(look.segments[inner.rows, inner.columns][component[inner.rows, inner.columns]])
