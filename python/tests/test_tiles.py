@@ -131,6 +131,24 @@ def test_what_one_tile_holds_is_cut_by_none(monkeypatch):
     are_the_same(whole, maxdetect.detect_tiles(image, 50, 16))
 
 
+@pytest.mark.parametrize("mesh", [0, 7, 8])
+def test_what_is_not_cut_is_the_wholes(mesh, monkeypatch):
+    rng = numpy.random.default_rng(20 + mesh)
+    monkeypatch.setattr(tiles, "MARGIN", 8)
+    for height, width in rng.integers(50, 100, (2, 2)):
+        image = rng.integers(0, 10, (height, width))
+        options = dict(mesh=mesh, connect=8, min_area=2)
+        whole, its_map = maxdetect.detect(image, 7 - mesh // 2, **options)
+        with monkeypatch.context() as patched:
+            patched.setattr(tiles, "MOST_PIXELS", 48 * 48)
+            table, segments = maxdetect.detect_tiles(image, 7 - mesh // 2, 16, **options)
+        for row in table:
+            if row["NUMBER"] not in table.meta.get("CUT", []):
+                same = its_map[row["YFIRST"] - 1, row["XFIRST"] - 1]
+                assert list(row)[1:] == list(whole[same - 1])[1:]
+                assert ((segments == row["NUMBER"]) == (its_map == same)).all()
+
+
 class InTurn(concurrent.futures.Executor):
     """Does what it is given at once."""
 
