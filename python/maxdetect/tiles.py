@@ -138,6 +138,7 @@ class Plan:
     def least_window(self, box: Box) -> Box:
         """The least window in which a box's pixels are sure with their neighbours."""
         before = after = 1
+        # A smooth background is sure from a cell and a half within the window's edge.
         if self.mesh and not self.flat:
             before, after = 3 * self.mesh // 2 + 1, (3 * self.mesh + 1) // 2 + 1
         return self.around(Box(box.top - before, box.bottom + after, box.left - before, box.right + after), 0)
@@ -167,8 +168,8 @@ class Plan:
         )
 
     def sure(self, window: Box, within: int = 0) -> Box:
-        """The pixels of a window that are sure, so many pixels or more within the last ones towards other windows, in
-        the window's own columns and rows.
+        """The sure pixels of a window, less so many lines of them on each side that isn't the image's own, in the
+        window's own columns and rows.
         """
         bounds = []
         for low, high, side in ((window.top, window.bottom, self.shape[0]), (window.left, window.right, self.shape[1])):
@@ -594,7 +595,8 @@ def detect_tiles(
     memory-mapped one, that gets the map. `progress` is called with 1 for each tile.
 
     Where a component of the threshold set is too large for any window that the program takes, its sources are cut by
-    the tiles; their numbers stand in the catalogue's `meta["CUT"]`. All others are exactly those of `detect`.
+    the tiles, with those that no window tells from them; their numbers stand in the catalogue's `meta["CUT"]`. All
+    others are exactly those of `detect`.
     """
     if numpy.ndim(image) != 2 or 0 in numpy.shape(image):
         raise ValueError(f"an image has two dimensions and a pixel, not the sides {numpy.shape(image)}")
