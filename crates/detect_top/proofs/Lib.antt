@@ -1,3 +1,3 @@
 mod ImageReads
+mod Jobs
 mod AnswerStatus
-pub mod Exported

@@ -1,1 +1,3 @@
 pub mod ImageAnswers
+pub mod WordAnswers
+pub mod Made

@@ -1,6 +1,6 @@
 //! Runs in memory, and the files that they read. For tests alone.
 
-use crate::run;
+use crate::run_all;
 use dev_io::{BLOCK, MemSink, MemSource};
 use std::alloc::Global;
 use std::process::Abort;
@@ -98,6 +98,15 @@ pub(crate) fn append_hdu(bytes: &mut Vec<u8>, cards: &[&[u8]], data: &[&[u8]]) -
     fill(bytes, BLOCK, 0)
 }
 
+/// A primary HDU with one row of five pixels, and behind it what this text and these data say.
+pub(crate) fn file_of_two(alloc: Global, header: &[u8], data: &[u8]) -> Result<Vec<u8>, Fail> {
+    let first = b"SIMPLE  = T|BITPIX  = 8|NAXIS   = 2|NAXIS1  = 5|NAXIS2  = 1|END|#".as_slice();
+    let mut bytes = Vec::new(alloc);
+    append(&mut bytes, first, &[1, 6, 2, 5, 1])?;
+    append(&mut bytes, header, data)?;
+    Ok(bytes)
+}
+
 /// A file of this text and these data.
 pub(crate) fn file(alloc: Global, header: &[u8], data: &[u8]) -> Result<Vec<u8>, Fail> {
     let mut bytes = Vec::new(alloc);
@@ -117,7 +126,7 @@ pub(crate) fn run_in_memory<R: Threads + Sync>(
     let mut input = MemSource::new(bytes, PIECE, failing.takes);
     let mut output = MemSink::new(vec![in alloc; 0; room]?, failing.puts, failing.kept);
     let mut notes = MemSink::new(vec![in alloc; 0; 99]?, failing.notes, failing.notes_kept);
-    let status = run(
+    let status = run_all(
         rt,
         alloc,
         words,

@@ -1,11 +1,11 @@
-//! The runs of the words that work on one image: what they read, what they make of it, and what they write.
+//! The runs of all words: what they read, what they make of it, and what they write.
 #![tactic(auto)]
 
 pub mod laws;
 mod making;
 mod top;
 
-pub use top::run;
+pub use top::{read_words, run, run_all};
 
 #[cfg(test)]
 mod detection_tests;
@@ -17,6 +17,8 @@ mod filter_tests;
 mod header_tests;
 #[cfg(test)]
 mod in_memory;
+#[cfg(test)]
+mod measure_tests;
 #[cfg(test)]
 mod strips_tests;
 #[cfg(test)]

@@ -1,20 +1,35 @@
-//! What an order makes of an image, whole in memory before the first byte of output.
-ghost use Rattle.std.specs.Prelude.{◌≡◌, Some, IfOk};
+//! What an order makes of its images, whole in memory before the first byte of output.
+ghost use Rattle.std.specs.Prelude.{◌≡◌, IfOk, OnOk, IsTrue};
+ghost use Rattle.dev_io.specs.Causes.{HasCause};
+ghost use Rattle.dev_io.specs.Streams.{PutAppends};
 ghost use Rattle.comp_tree.specs.Raster.{HasValuesInHalfRange};
 ghost use Rattle.mesh_background.specs.Residuals.{residual_of};
 ghost use Rattle.orders.specs.Words.{HasLimits};
-ghost use Rattle.job_products.specs.Products.{output_of, image_made};
+ghost use Rattle.orders.specs.declared.words.Job.TheVariants.{Trial};
+ghost use Rattle.job_products.specs.Products.{output_of};
 ghost use Rattle.job_products.specs.Writables.{bytes_of, SuitsJob, IsWritable};
 ghost use Rattle.tree_products.specs.Trials.{trial_image as image_of};
+ghost use Rattle.detect_top.specs.Made.{made_bytes, IsMade};
 
 use comp_tree::{Plane, Shape};
 use costs::OutOfMemory;
-use job_products::{Product, make_of, working_plane};
+use dev_io::Sink;
+use job_products::{Product, WriteFault, make_of, working_plane, write};
+use measure_top::{Measured, put_measured};
 use orders::Order;
 use std::alloc::Global;
 use std::thread::Threads;
 use strip_crew::{Gate, component_tree};
 use tree_products::trial_image;
+
+/// What stands ready to be written.
+#[derive(Drop)]
+pub(crate) enum Made {
+    /// Of one image.
+    OfOne(Product),
+    /// The sources of one image, measured in another.
+    OfTwo(Measured),
+}
 
 /// What an order makes of an image. All memory for it is taken here.
 pub(crate) fn make<R: Threads + Sync, G: Gate>(
@@ -61,11 +76,25 @@ pub(crate) fn make_trial<R: Threads + Sync, G: Gate>(
     gate: &G,
 ) -> Result<Product, OutOfMemory>
     requires limits { HasLimits order }
-    requires trial { image_made order.job ≡ Some (image_of seed shape) }
+    requires trial { order.job ≡ Trial seed shape }
     ensures writable { IfOk result (λ product. IsWritable product) }
     ensures bytes { IfOk result
         (λ product. bytes_of product ≡ output_of order (image_of seed shape)) }
 {
     let image = trial_image(alloc, seed, shape)?;
     make(rt, alloc, image, order, gate)
+}
+
+/// Writes it, and hands all of it on.
+pub(crate) fn write_made<O: Sink>(output: &mut O, made: &Made) -> Result<(), WriteFault>
+    requires { IsMade made.now }
+    ensures bytes { PutAppends (O.written output.old) (O.written output.new) result
+        (made_bytes made.now) }
+    ensures settled { OnOk result (IsTrue (O.settled output.new)) }
+    ensures cause { HasCause (O.faults output.old) (O.faults output.new) result }
+{
+    match made {
+        Made::OfOne(product) => write(output, product),
+        Made::OfTwo(found) => put_measured(output, found),
+    }
 }

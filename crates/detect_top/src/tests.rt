@@ -1,6 +1,13 @@
 //! What `tree` answers: lines, refusals and the bytes taken.
-use crate::in_memory::{Row, compare, compare_rows};
+use crate::in_memory::{Row, compare, compare_rows, file};
+use crate::{read_words, run};
+use dev_io::{MemSink, PlainSource};
+use orders::Usage;
+use std::alloc::Global;
+use std::process::Abort;
 use std::test::Fail;
+use std::thread::Threads;
+use strip_crew::OpenGate;
 
 // Words that give no order, and the line that says so.
 #[derive(Clone, Copy)]
@@ -556,5 +563,43 @@ fn a_wrong_word_ends_the_run(rt: HostRuntime) -> Result<(), Fail> {
         };
         compare(&rt, rt.alloc(), row)?;
     }
+    Ok(())
+}
+
+// A run that knows no measuring, over an image of one pixel.
+fn try_run<R: Threads + Sync + Abort>(
+    rt: &R,
+    alloc: Global,
+    words: &[&str],
+    status: u8,
+    output: &[u8],
+    notes: &[u8],
+) -> Result<(), Fail> {
+    let header = b"SIMPLE  = T|BITPIX  = 8|NAXIS   = 2|NAXIS1  = 1|NAXIS2  = 1|END|#".as_slice();
+    let bytes = file(alloc, header, &[7])?;
+    let mut input = PlainSource::new(&bytes);
+    let mut written = MemSink::new(vec![in alloc; 0; 99]?, &[], 0);
+    let mut told = MemSink::new(vec![in alloc; 0; 99]?, &[], 0);
+    let found = run(
+        rt,
+        alloc,
+        words,
+        &mut input,
+        &mut written,
+        &mut told,
+        &OpenGate,
+    );
+    assert_eq!(rt; found, status);
+    assert_eq!(rt; written.bytes(), output);
+    assert_eq!(rt; told.bytes(), notes);
+    Ok(())
+}
+
+#[test]
+fn words_of_one_image_do_not_measure(rt: HostRuntime) -> Result<(), Fail> {
+    let measure = ["measure", "--values", "1", "--threshold", "2"];
+    try_run(&rt, rt.alloc(), &["tree"], 0, b"0 7 0 - 1\n", b"")?;
+    try_run(&rt, rt.alloc(), &measure, 1, b"", b"usage: word 1\n")?;
+    assert_eq!(rt; read_words(&measure), Err(Usage { word: 1 }));
     Ok(())
 }

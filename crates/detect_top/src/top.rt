@@ -1,45 +1,39 @@
 //! The run as a whole.
-ghost use Rattle.std.specs.Prelude.{◌≡◌, ℕ, List, Bool, true, false, Option, Ok, Some, None, IfOk, IfErr, MatchResult, IsErrOf, IsTrue};
-ghost use Rattle.std.specs.Option.{ForSome};
+ghost use Rattle.std.specs.Prelude.{◌≡◌, ℕ, List, false, true, Ok, IfOk, IfErr, IsErrOf, IsTrue};
 ghost use Rattle.dev_io.specs.Causes.{Rose};
-ghost use Rattle.pixel_plane.specs.Verdicts.{verdict_on};
 ghost use Rattle.command_line.specs.Lines.{texts};
-ghost use Rattle.orders.specs.Words.{HasLimits};
+ghost use Rattle.orders.specs.Words.{image_order_of, HasLimits};
 ghost use Rattle.image_input.specs.Faults.{IsCutStop};
-ghost use Rattle.job_products.specs.Products.{image_made};
-ghost use Rattle.job_products.specs.Writables.{bytes_of, IsWritable};
-ghost use Rattle.tree_products.specs.Trials.{trial_image as image_of};
-ghost use Rattle.image_input.specs.Streams.{ImageStopped};
-ghost use Rattle.run_ends.specs.RunEnds.{AllRead, no_use, EndBytes, EndCause};
+ghost use Rattle.run_ends.specs.RunEnds.{IsMadeOf, EndBytes, EndCause};
 ghost use Rattle.run_ends.specs.Headline.{Tells, use_of_input, use_of_output, IsUnused, IsRunOf};
-ghost use Rattle.detect_top.specs.ImageAnswers.{answer_to_verdict, asked_by, asked_of};
+ghost use Rattle.detect_top.specs.WordAnswers.{asked_by, asked_of, asked_of_all};
+ghost use Rattle.detect_top.specs.Made.{made_bytes, IsMade, IsOfInput};
 
-use crate::making::{make, make_trial};
-use comp_tree::Shape;
+use crate::making::{Made, make, make_trial, write_made};
 use dev_io::{Sink, Source};
 use image_input::{Stop, read_image};
-use job_products::{Product, write};
-use orders::{Job, Order, read_words};
+use measure_top::measure_input;
+use orders::{Job, Order, Usage, read_order};
 use run_ends::{End, tell};
 use std::alloc::Global;
 use std::thread::Threads;
 use strip_crew::Gate;
 
 // Reads the image, and makes what the order asks for.
-fn read_and_make<R: Threads + Sync, S: Source, G: Gate>(
+fn make_of_input<R: Threads + Sync, S: Source, G: Gate>(
     rt: &R,
     alloc: Global,
     order: Order,
     input: &mut S,
     gate: &G,
-) -> Result<Product, Stop>
+) -> Result<Made, Stop>
     requires limits { HasLimits order }
-    requires reads { image_made order.job ≡ None }
-    ensures told { ForSome (S.left input.old) (λ bytes. MatchResult result
-        (λ product. AllRead (answer_to_verdict order (verdict_on bytes order.hdu)) bytes
-        (S.left input.new) (bytes_of product))
-        (λ stop. ImageStopped (verdict_on bytes order.hdu) bytes (S.left input.new) stop)) }
-    ensures writable { IfOk result (λ product. IsWritable product) }
+    requires of_input { IsOfInput order.job }
+    ensures asks { (asked_by (Ok order)).reads ≡ true }
+    ensures told { (bytes : List ℕ) → Tells (asked_by (Ok order)) (S.left input.old) bytes →
+        IsMadeOf (asked_by (Ok order)) bytes (S.left input.old) (S.left input.new)
+        made_bytes result }
+    ensures writable { IfOk result (λ made. IsMade made) }
     ensures reads { IsErrOf result Stop.ReadFault → Rose (S.faults input.old) (S.faults input.new) }
     ensures ended { IfErr result (λ stop. IsCutStop stop → IsTrue (S.ended input.new)) }
 {
@@ -48,12 +42,48 @@ fn read_and_make<R: Threads + Sync, S: Source, G: Gate>(
         Err(stop) => return Err(stop),
     };
     match make(rt, alloc, image, order, gate) {
-        Ok(product) => Ok(product),
+        Ok(product) => Ok(Made::OfOne(product)),
         Err(_) => Err(Stop::NoMemory),
     }
 }
 
-// Does the work of an order that reads the input.
+// Reads what the order needs, and makes what it asks for.
+fn make_by_order<R: Threads + Sync, S: Source, G: Gate>(
+    rt: &R,
+    alloc: Global,
+    order: Order,
+    input: &mut S,
+    gate: &G,
+) -> Result<Made, Stop>
+    requires limits { HasLimits order }
+    ensures told { (bytes : List ℕ) → Tells (asked_by (Ok order)) (S.left input.old) bytes →
+        IsMadeOf (asked_by (Ok order)) bytes (S.left input.old) (S.left input.new)
+        made_bytes result }
+    ensures writable { IfOk result (λ made. IsMade made) }
+    ensures reads { IsErrOf result Stop.ReadFault → Rose (S.faults input.old) (S.faults input.new)
+        × ((asked_by (Ok order)).reads ≡ true) }
+    ensures ended { IfErr result (λ stop. IsCutStop stop → IsTrue (S.ended input.new)) }
+    ensures untouched { (asked_by (Ok order)).reads ≡ false →
+        IsUnused (use_of_input S.left S.ended S.faults input.old input.new) }
+{
+    match order.job {
+        Job::Tree | Job::Filter { .. } | Job::Detect { .. } => {
+            make_of_input(rt, alloc, order, input, gate)
+        }
+        Job::Trial { seed, shape } => match make_trial(rt, alloc, order, seed, shape, gate) {
+            Ok(product) => Ok(Made::OfOne(product)),
+            Err(_) => Err(Stop::NoMemory),
+        },
+        Job::Measure { choice, values } => {
+            match measure_input(rt, alloc, order, choice, values, input, gate) {
+                Ok(found) => Ok(Made::OfTwo(found)),
+                Err(stop) => Err(stop),
+            }
+        }
+    }
+}
+
+// Does the work of an order.
 fn carry_out<R: Threads + Sync, S: Source, O: Sink, G: Gate>(
     rt: &R,
     alloc: Global,
@@ -63,8 +93,6 @@ fn carry_out<R: Threads + Sync, S: Source, O: Sink, G: Gate>(
     gate: &G,
 ) -> End
     requires limits { HasLimits order }
-    requires reads { image_made order.job ≡ None }
-    ensures reads { (asked_by (Ok order)).reads ≡ true }
     ensures bytes { (bytes : List ℕ) → Tells (asked_by (Ok order)) (S.left input.old) bytes →
         EndBytes (asked_by (Ok order)) bytes
         (use_of_input S.left S.ended S.faults input.old input.new)
@@ -72,79 +100,101 @@ fn carry_out<R: Threads + Sync, S: Source, O: Sink, G: Gate>(
     ensures cause { EndCause (asked_by (Ok order))
         (use_of_input S.left S.ended S.faults input.old input.new)
         (use_of_output O.written O.settled O.faults output.old output.new) result }
+    ensures untouched { (asked_by (Ok order)).reads ≡ false →
+        IsUnused (use_of_input S.left S.ended S.faults input.old input.new) }
 {
-    let product = match read_and_make(rt, alloc, order, input, gate) {
-        Ok(product) => product,
+    let made = match make_by_order(rt, alloc, order, input, gate) {
+        Ok(made) => made,
         Err(Stop::Refused(fault)) => return End::Refused(fault),
         Err(Stop::ReadFault) => return End::ReadFault,
         Err(Stop::NoMemory) => return End::NoMemory,
     };
-    match write(output, &product) {
+    match write_made(output, &made) {
         Ok(()) => End::Done,
         Err(_) => End::WriteFault,
     }
 }
 
-// Does the work of a trial, whatever the input is.
-fn try_out<R: Threads + Sync, O: Sink, G: Gate>(
+fn work<R: Threads + Sync, S: Source, O: Sink, G: Gate>(
     rt: &R,
     alloc: Global,
-    order: Order,
-    seed: u32,
-    shape: Shape,
+    order: Result<Order, Usage>,
+    input: &mut S,
     output: &mut O,
     gate: &G,
 ) -> End
-    requires limits { HasLimits order }
-    requires trial { image_made order.job ≡ Some (image_of seed shape) }
-    ensures bytes { (bytes : List ℕ) (left : Option (List ℕ)) (ended : Bool) (faults : ℕ) →
-        EndBytes (asked_by (Ok order)) bytes (no_use left ended faults)
+    requires { IfOk order HasLimits }
+    ensures bytes { (bytes : List ℕ) → Tells (asked_by order) (S.left input.old) bytes →
+        EndBytes (asked_by order) bytes
+        (use_of_input S.left S.ended S.faults input.old input.new)
         (use_of_output O.written O.settled O.faults output.old output.new) result }
-    ensures cause { (left : Option (List ℕ)) (ended : Bool) (faults : ℕ) →
-        EndCause (asked_by (Ok order)) (no_use left ended faults)
+    ensures cause { EndCause (asked_by order)
+        (use_of_input S.left S.ended S.faults input.old input.new)
         (use_of_output O.written O.settled O.faults output.old output.new) result }
+    ensures untouched { (asked_by order).reads ≡ false →
+        IsUnused (use_of_input S.left S.ended S.faults input.old input.new) }
 {
-    let product = match make_trial(rt, alloc, order, seed, shape, gate) {
-        Ok(product) => product,
-        Err(_) => return End::NoMemory,
-    };
-    if let Err(_) = write(output, &product) {
-        return End::WriteFault;
+    match order {
+        Ok(order) => carry_out(rt, alloc, order, input, output, gate),
+        Err(usage) => End::Usage(usage),
     }
-    End::Done
 }
 
-fn work<R: Threads + Sync, S: Source, O: Sink, G: Gate>(
+// The run of an order, or of words that give none, from its beginning to its end.
+fn run_order<R: Threads + Sync, S: Source, O: Sink, N: Sink, G: Gate>(
+    rt: &R,
+    alloc: Global,
+    order: Result<Order, Usage>,
+    input: &mut S,
+    output: &mut O,
+    notes: &mut N,
+    gate: &G,
+) -> u8
+    requires { IfOk order HasLimits }
+    ensures { IsRunOf (asked_by order)
+        (use_of_input S.left S.ended S.faults input.old input.new)
+        (use_of_output O.written O.settled O.faults output.old output.new)
+        (use_of_output N.written N.settled N.faults notes.old notes.new) result }
+{
+    let end = work(rt, alloc, order, input, output, gate);
+    tell(notes, end);
+    end.status()
+}
+
+/// Does what the words say, over this input: with `measure` as the first word, sources are detected in one image and measured in another of the
+/// same file; all other words work on one image, or make one.
+///
+/// All memory is taken before the first byte of output, which comes in pieces of at most 2,880 bytes.
+pub fn run_all<R: Threads + Sync, S: Source, O: Sink, N: Sink, G: Gate>(
     rt: &R,
     alloc: Global,
     words: &[&str],
     input: &mut S,
     output: &mut O,
+    notes: &mut N,
     gate: &G,
-) -> End
-    ensures bytes { (bytes : List ℕ) → Tells (asked_of (texts words.now)) (S.left input.old) bytes →
-        EndBytes (asked_of (texts words.now)) bytes
+) -> u8
+    ensures { IsRunOf (asked_of_all (texts words.now))
         (use_of_input S.left S.ended S.faults input.old input.new)
-        (use_of_output O.written O.settled O.faults output.old output.new) result }
-    ensures cause { EndCause (asked_of (texts words.now))
-        (use_of_input S.left S.ended S.faults input.old input.new)
-        (use_of_output O.written O.settled O.faults output.old output.new) result }
-    ensures untouched { (asked_of (texts words.now)).reads ≡ false →
-        IsUnused (use_of_input S.left S.ended S.faults input.old input.new) }
+        (use_of_output O.written O.settled O.faults output.old output.new)
+        (use_of_output N.written N.settled N.faults notes.old notes.new) result }
 {
-    let order = match read_words(words) {
-        Ok(order) => order,
-        Err(usage) => return End::Usage(usage),
-    };
-    match order.job {
-        Job::Trial { seed, shape } => try_out(rt, alloc, order, seed, shape, output, gate),
-        _ => carry_out(rt, alloc, order, input, output, gate),
+    let order = read_order(words);
+    run_order(rt, alloc, order, input, output, notes, gate)
+}
+
+/// Reads the words of a command that works on one image, or makes one: `measure` is none of these, and is a word at fault. It takes no memory.
+pub fn read_words(words: &[&str]) -> Result<Order, Usage>
+    ensures order { result ≡ image_order_of (texts words.now) }
+    ensures limits { IfOk result HasLimits }
+{
+    match words.first() {
+        Some(word) if *word == "measure" => Err(Usage { word: 1 }),
+        _ => read_order(words),
     }
 }
 
-/// Does what the words say, over this input.
-///
-/// All memory is taken before the first byte of output, which comes in pieces of at most 2,880 bytes.
+/// Does what words say that work on one image, or make one: `run_all` for these words alone.
 pub fn run<R: Threads + Sync, S: Source, O: Sink, N: Sink, G: Gate>(
     rt: &R,
     alloc: Global,
@@ -159,7 +209,6 @@ pub fn run<R: Threads + Sync, S: Source, O: Sink, N: Sink, G: Gate>(
         (use_of_output O.written O.settled O.faults output.old output.new)
         (use_of_output N.written N.settled N.faults notes.old notes.new) result }
 {
-    let end = work(rt, alloc, words, input, output, gate);
-    tell(notes, end);
-    end.status()
+    let order = read_words(words);
+    run_order(rt, alloc, order, input, output, notes, gate)
 }

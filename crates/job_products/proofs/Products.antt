@@ -1,7 +1,5 @@
 -- What is made of an image is what its order writes.
-use Rattle.std.proofs.Common.{◌≡◌, ◌∙◌, ap, ℕ, Bool, Result, Ok, Err, IfOk}
-use Rattle.std.specs.Prelude.{Some}
-use Rattle.std.proofs.lemmas.Option.{none-some}
+use Rattle.std.proofs.Common.{◌≡◌, ◌∙◌, ap, sym, subst, ℕ, Bool, Result, Ok, Err, IfOk}
 use Rattle.comp_tree.specs.declared.shape.Shape.{Shape}
 use Rattle.comp_tree.specs.declared.shape.Connect.{Connect}
 use Rattle.comp_tree.specs.Raster.{Raster}
@@ -11,8 +9,8 @@ use Rattle.mesh_background.specs.Residuals.{residual_of}
 use Rattle.orders.specs.declared.words.Order.{Order}
 use Rattle.job_products.specs.declared.product.Product.{Product}
 use Rattle.orders.specs.declared.words.Job.{Job}
-use Rattle.orders.specs.declared.words.Job.TheVariants.{Tree, Filter, Detect, Trial}
-use Rattle.job_products.specs.Products.{output_of_job, output_of, image_made}
+use Rattle.orders.specs.declared.words.Job.TheVariants.{Trial}
+use Rattle.job_products.specs.Products.{output_of_job, output_of}
 use Rattle.job_products.specs.Writables.{bytes_of, SuitsJob}
 use Rattle.tree_products.specs.Trials.{trial_image}
 use Rattle.job_products.proofs.TrialResiduals.{trial_residual_is_small}
@@ -28,9 +26,7 @@ made_of_image order image plane left tree (Ok product) residual same is bytes =
 made_of_image order image plane left tree (Err e) residual same is bytes = tt
 
 -- a trial takes its image less the background
-pub suits_made : (job : Job) (seed : ℕ) (shape : Shape) (mesh : ℕ) (flat : Bool) → image_made job ≡ Some (trial_image seed shape)
+pub suits_made : (job : Job) (seed : ℕ) (shape : Shape) (mesh : ℕ) (flat : Bool) → job ≡ Trial seed shape
     → SuitsJob job (residual_of (trial_image seed shape) mesh flat)
-suits_made Tree seed shape mesh flat is = absurd (none-some (trial_image seed shape) is)
-suits_made (Filter rule criterion) seed shape mesh flat is = absurd (none-some (trial_image seed shape) is)
-suits_made (Detect choice) seed shape mesh flat is = absurd (none-some (trial_image seed shape) is)
-suits_made (Trial own sides) seed shape mesh flat is = trial_residual_is_small seed shape mesh flat
+suits_made job seed shape mesh flat is =
+    subst (λ j. SuitsJob j (residual_of (trial_image seed shape) mesh flat)) (sym is) (trial_residual_is_small seed shape mesh flat)

@@ -3,7 +3,7 @@ use Rattle.std.specs.Prelude.{◌≡◌, ℕ, List, length}
 use Rattle.comp_tree.specs.Raster.{Raster}
 use Rattle.fits_write.specs.Hdus.{plane_hdu}
 use Rattle.orders.specs.declared.words.Job.{Job}
-use Rattle.orders.specs.declared.words.Job.TheVariants.{Tree, Filter, Detect, Trial}
+use Rattle.orders.specs.declared.words.Job.TheVariants.{Tree, Filter, Detect, Trial, Measure}
 use Rattle.job_products.specs.declared.product.Product.{Product}
 use Rattle.job_products.specs.declared.product.Product.TheVariants as made
 use Rattle.tree_products.specs.Lines.{tree_lines}
@@ -11,12 +11,13 @@ use Rattle.tree_products.specs.Catalogues.{hdus, IsDetection}
 use Rattle.tree_products.specs.Trials.{trial_line}
 use Rattle.tree_products.specs.TrialSizes.{HasSmallValues}
 
--- the values of a trial's plane are small, so that its fluxes can be added up
+-- the values of a trial's plane are small, so that its fluxes can be added up; no plane by itself suits a job that measures
 abbrev pub SuitsJob : Job → Raster → Type 0
 SuitsJob Tree plane = Unit {0}
 SuitsJob (Filter rule criterion) plane = Unit {0}
 SuitsJob (Detect choice) plane = Unit {0}
 SuitsJob (Trial seed shape) plane = HasSmallValues plane.values
+SuitsJob (Measure choice values) plane = ⊥
 
 -- the bytes that are written of it
 abbrev pub bytes_of : Product → List ℕ

@@ -71,7 +71,7 @@ fn filtered_by(
     filter(alloc, plane, tree, outlines, rule, criterion)
 }
 
-/// What a job makes of a plane and its tree, which are gone when this returns. So many workers fill a map. The one error is that memory was refused.
+/// What a job that works on one plane makes of it and its tree, which are gone when this returns. So many workers fill a map. The one error is that memory was refused.
 pub fn make_of<R: Threads + Sync>(
     rt: &R,
     alloc: Global,
@@ -96,6 +96,7 @@ pub fn make_of<R: Threads + Sync>(
             rt, alloc, plane, tree, &choice, workers,
         )?)),
         Job::Trial { .. } => Ok(Product::Told(summarize(rt, alloc, plane, tree, workers)?)),
+        Job::Measure { .. } => unreachable!(),
     }
 }
 
@@ -116,7 +117,7 @@ pub fn working_plane<R: Threads + Sync>(
         Job::Detect { choice } => {
             without_far(rt, alloc, plane, order.connect, choice, order.workers)
         }
-        Job::Tree | Job::Filter { .. } | Job::Trial { .. } => Ok(plane),
+        Job::Tree | Job::Filter { .. } | Job::Trial { .. } | Job::Measure { .. } => Ok(plane),
     }
 }
 

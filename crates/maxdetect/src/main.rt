@@ -2,7 +2,7 @@
 #![tactic(auto)]
 
 use command_line::words::{NO_MEMORY, words};
-use commands::run_all;
+use detect_top::run_all;
 use dev_io::{ReadSource, WriteSink};
 use std::process::ExitCode;
 use strip_crew::OpenGate;

@@ -1,28 +1,57 @@
--- How a run that measures may end.
-use Rattle.std.proofs.Common.{◌≡◌, ◌∙◌, ℕ, ◌≤◌, List, sym, ap, subst, arith, Result, Ok, Err}
+-- What an order to measure makes of an input.
+use Rattle.std.proofs.Common.{◌≡◌, ◌∙◌, ℕ, ◌≤◌, List, [], refl, sym, ap, subst, arith, Some, inl, inr}
 use Rattle.std.specs.declared.option.Option.{Option}
+use Rattle.std.proofs.lemmas.Option.{none-some}
 use Rattle.dev_io.specs.Streams.{Takes}
-use Rattle.orders.specs.declared.words.MeasureOrder.{MeasureOrder}
-use Rattle.orders.specs.declared.words.Usage.{Usage as AtFault}
+use Rattle.source_pick.specs.declared.choice.Choice.{Choice}
+use Rattle.orders.specs.declared.words.Order.{Order}
 use Rattle.run_ends.specs.Answers.{end_status, end_of}
-use Rattle.run_ends.specs.RunEnds.{AllRead}
-use Rattle.run_ends.proofs.Exported.{by_verdict}
+use Rattle.run_ends.specs.RunEnds.{AllRead, HasStopped}
+use Rattle.run_ends.proofs.Exported.{by_verdict, all_read, has_stopped}
+use Rattle.image_input.specs.declared.image.Stop.{Stop}
+use Rattle.image_input.specs.declared.image.Stop.TheVariants.{NoMemory}
 use Rattle.image_input.specs.declared.two_images.TwoPlanes.{TwoPlanes}
-use Rattle.image_input.specs.TwoImages.{TwoVerdict, two_images, earlier_fault, later_fault, shapes_differ, taken_for_two, stop_of_two}
-use Rattle.image_input.specs.TwoReads.{TwoRead}
+use Rattle.image_input.specs.Streams.{TakesOneOf}
+use Rattle.image_input.specs.TwoImages.{TwoVerdict, two_images, earlier_fault, later_fault, shapes_differ, taken_for_two, stop_of_two, memory_at_two}
+use Rattle.image_input.specs.TwoReads.{TwoRead, TwoStopped}
 use Rattle.measure_top.specs.MeasureAnswers.{measured_of_two, measure_output, measure_answer_to_verdict, verdict_for, asked_to_measure}
 
 -- both were read, and what is made of them is the answer's output
-pub both_read : (order : MeasureOrder) (found : TwoVerdict) (bytes : List ℕ) (left : Option (List ℕ)) (planes : TwoPlanes) (output : List ℕ)
-    → TwoRead found bytes left planes → found ≡ verdict_for order bytes → output ≡ measured_of_two order planes.first planes.second
-    → AllRead (measure_answer_to_verdict order (verdict_for order bytes)) bytes left output
-both_read order found bytes left planes output read same is =
+pub both_read : (order : Order) (choice : Choice) (values : ℕ) (found : TwoVerdict) (bytes : List ℕ) (left left' : Option (List ℕ)) (planes : TwoPlanes)
+    (output : List ℕ) → left ≡ Some bytes → found ≡ verdict_for order values bytes → TwoRead found bytes left' planes
+    → output ≡ measured_of_two order choice values planes.first planes.second
+    → AllRead (measure_answer_to_verdict order choice values (verdict_for order values bytes)) left left' output
+both_read order choice values found bytes left left' planes output told same read is =
     let images = sym same ∙ read.are_images in
-    record {
-      done = ap (λ v. end_of (stop_of_two v)) images;
-      output_is = is ∙ sym (ap (measure_output order) images);
-      takes = subst (Takes bytes left) (sym (ap taken_for_two images)) read.takes;
-    }
+    all_read (measure_answer_to_verdict order choice values (verdict_for order values bytes)) bytes left left' output told
+    (ap (λ v. end_of (stop_of_two v)) images)
+    (is ∙ sym (ap (measure_output order choice values) images))
+    (subst (Takes bytes left') (sym (ap taken_for_two images)) read.takes)
+
+nothing_written : (order : Order) (choice : Choice) (values : ℕ) (found : TwoVerdict) (s : Stop) → stop_of_two found ≡ Some s
+    → measure_output order choice values found ≡ []
+nothing_written order choice values (two_images first head end second head' end') s is = absurd (none-some s is)
+nothing_written order choice values (earlier_fault found) s is = refl
+nothing_written order choice values (later_fault head end found) s is = refl
+nothing_written order choice values (shapes_differ head end head') s is = refl
+
+-- the reading stopped
+pub two_stopped : (order : Order) (choice : Choice) (values : ℕ) (found : TwoVerdict) (bytes : List ℕ) (left left' : Option (List ℕ)) (stop : Stop)
+    → left ≡ Some bytes → found ≡ verdict_for order values bytes → TwoStopped found bytes left' stop
+    → HasStopped (measure_answer_to_verdict order choice values (verdict_for order values bytes)) (memory_at_two (verdict_for order values bytes)) left left' stop
+two_stopped order choice values found bytes left left' stop told same stopped =
+    subst (λ v. HasStopped (measure_answer_to_verdict order choice values v) (memory_at_two v) left left' stop) same
+    (has_stopped (measure_answer_to_verdict order choice values found) (memory_at_two found) bytes (stop_of_two found) left left' stop told refl
+    (nothing_written order choice values found) stopped)
+
+-- memory may be wanted after both were read
+pub memory_after : (order : Order) (choice : Choice) (values : ℕ) (found : TwoVerdict) (bytes : List ℕ) (left left' : Option (List ℕ)) (planes : TwoPlanes)
+    → left ≡ Some bytes → found ≡ verdict_for order values bytes → TwoRead found bytes left' planes
+    → HasStopped (measure_answer_to_verdict order choice values (verdict_for order values bytes)) (memory_at_two (verdict_for order values bytes)) left left'
+    NoMemory
+memory_after order choice values found bytes left left' planes told same read =
+    two_stopped order choice values found bytes left left' NoMemory told same
+    (subst (λ v. TakesOneOf (memory_at_two v) bytes left') (sym read.are_images) (inr (inr (inr (inl read.takes)))))
 
 -- ---- the status of an answer
 
@@ -32,6 +61,6 @@ by_two (earlier_fault found) = by_verdict found
 by_two (later_fault head end found) = by_verdict found
 by_two (shapes_differ head end head') = omega arith
 
-pub status_of_measure : (order : Result MeasureOrder AtFault) (bytes : List ℕ) → end_status ((asked_to_measure order).answer bytes).end ≤ 2
-status_of_measure (Err usage) bytes = omega arith
-status_of_measure (Ok order) bytes = by_two (verdict_for order bytes)
+pub status_of_measure : (order : Order) (choice : Choice) (values : ℕ) (bytes : List ℕ)
+    → end_status ((asked_to_measure order choice values).answer bytes).end ≤ 2
+status_of_measure order choice values bytes = by_two (verdict_for order values bytes)

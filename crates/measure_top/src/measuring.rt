@@ -34,10 +34,10 @@ use strip_crew::{Gate, component_tree};
 
 /// The map, with a number for each pixel, and the cells of the catalogue, row by row.
 #[derive(Drop)]
-pub(crate) struct Measured {
-    pub(crate) shape: Shape,
-    pub(crate) map: Vec<u32>,
-    pub(crate) cells: Vec<i64>,
+pub struct Measured {
+    pub shape: Shape,
+    pub map: Vec<u32>,
+    pub cells: Vec<i64>,
 }
 
 // The cells of a row, of which `n` is the node in this tree. They are a table of one row.
@@ -226,7 +226,7 @@ fn put_hdus<O: Sink>(output: &mut O, found: &Measured) -> Result<(), WriteFault>
 }
 
 /// Writes the primary HDU, the map and the catalogue, and hands all of it on.
-pub(crate) fn put_measured<O: Sink>(output: &mut O, found: &Measured) -> Result<(), WriteFault>
+pub fn put_measured<O: Sink>(output: &mut O, found: &Measured) -> Result<(), WriteFault>
     requires { IsMeasuredDetection found.now.shape found.now.map.items found.now.cells.items }
     ensures bytes { PutAppends (O.written output.old) (O.written output.new) result
         (measured_hdus found.now.shape found.now.map.items found.now.cells.items) }

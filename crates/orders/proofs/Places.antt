@@ -1,7 +1,7 @@
 -- The words at fault in so many pairs of a name and a value.
 use Rattle.std.proofs.Common.{◌≡◌, ◌∙◌, ℕ, ◌+◌, ◌-◌, ◌*◌, ◌/◌, ◌%◌, ◌<◌, ◌≤◌, ◌==◌, ◌≢◌, inl, inr, Bool, true, false, not, cond, nat_lt, List, []}
-use Rattle.std.proofs.Common.{◌∷◌, length, get_or, refl, sym, ap, subst, eq-eqb, arith}
-use Rattle.std.specs.Prelude.{Option, Some, None, is_some, option_and_then}
+use Rattle.std.proofs.Common.{◌∷◌, length, get_or, refl, sym, ap, eq-eqb, arith}
+use Rattle.std.specs.Prelude.{ℤ, Option, Some, None, is_some, option_and_then}
 use Rattle.std.specs.Option.{option_map, MatchOption}
 use Rattle.std.specs.Str.{bytes_eq}
 use Rattle.std.proofs.lemmas.Bool.{cases_lt}
@@ -9,18 +9,17 @@ use Rattle.std.proofs.lemmas.Bool.Decides.{nat_tests}
 use Rattle.std.proofs.lemmas.List.{length-map}
 use denote.Ref.{Bor}
 use Rattle.orders.specs.declared.options.Command.{Command}
-use Rattle.orders.specs.declared.options.Command.TheVariants.{Measure}
 use Rattle.orders.specs.declared.options.Setting.{Setting}
-use Rattle.orders.specs.declared.options.Setting.TheVariants.{Values}
-use Rattle.orders.specs.declared.words.Order.{Order}
+use Rattle.orders.specs.declared.options.Setting.TheVariants.{Threshold, Values}
+use Rattle.source_pick.specs.declared.choice.Choice.{Choice}
 use Rattle.orders.specs.declared.words.Job.{Job}
+use Rattle.orders.specs.declared.words.Job.TheVariants.{Measure}
 use Rattle.lemmas.proofs.Exported.{find_first, find_nothing, find_in_range}
 use Rattle.command_line.proofs.Exported.{text_at, text_in}
-use Rattle.orders.specs.Options.{option_name, option_named, is_value, u16_in}
+use Rattle.orders.specs.Options.{option_name, option_named, is_value, u16_in, threshold_in}
 use Rattle.command_line.specs.Lines.{texts}
 use Rattle.orders.specs.Words.{word_at, names, naming, value_given, is_bad_option, is_bad_name, is_bad_value, is_at_fault, first_at_fault, job_given}
-use Rattle.orders.specs.Words.{order_for, order_unless, order_of, command_of, at_fault, given, asks_measure, measure_apart, measure_given}
-use Rattle.orders.specs.Words.{measure_order_of}
+use Rattle.orders.specs.Words.{order_for, order_unless, order_of, command_of, at_fault, given, hdu_given, choice_given, measure_apart, measuring_given}
 use Rattle.orders.specs.Given.{AreRead, AreAllRead, IsFirstFault}
 
 -- word k is the one at place k - 1
@@ -207,10 +206,6 @@ pub command_there : (words : List (Bor (List ℕ))) (command : Command) → comm
 command_there [] command is = absurd (cc)
 command_there (first ∷ rest) command is = omega arith
 
-pub measure_there : (words : List (Bor (List ℕ))) → asks_measure (texts words) ≡ true → 0 < length words
-measure_there [] asks = absurd (cc)
-measure_there (first ∷ rest) asks = omega arith
-
 pub nothing_read : (command : Command) (words : List (Bor (List ℕ))) → 0 < length words → AreRead command (texts words) 0
 nothing_read command words some = record {
   whole = omega (arith, length-map words (λ (w : Bor (List ℕ)). w.now));
@@ -267,23 +262,14 @@ no_command words none = rw none refl
 
 -- ---- measuring
 
-pub measure_refused_at : (words : List (List ℕ)) (k : ℕ) → IsFirstFault Measure words k → measure_order_of words ≡ at_fault k
-unfolding measure_order_of
-measure_refused_at words k fault = let first = fault_found Measure words k fault in rw first refl
-
--- all words are read: the order to measure by the job and the HDU of the values that are given
-pub measured : (words : List (List ℕ)) (n : ℕ) (job : Option Job) (values : Option ℕ) → AreAllRead Measure words n → job ≡ job_given Measure words n
+pub measuring_by : (words : List (List ℕ)) (n : ℕ) (threshold : Option ℤ) (values : Option ℕ) → threshold ≡ given threshold_in words n Threshold
     → values ≡ given u16_in words n Values
-    → measure_order_of words
-    ≡ order_unless None (2 * n + 2) (option_and_then (λ order. option_and_then (measure_apart order) values) (option_map (order_for words n) job))
-unfolding measure_order_of measure_given
-measured words n job values is p q = rw (no_fault Measure words n is, half_is Measure words n is, end_is Measure words n is, p, q) refl
+    → option_and_then (λ t. option_and_then (measure_apart (hdu_given words n) (choice_given words n t)) values) threshold ≡ measuring_given words n
+unfolding measuring_given
+measuring_by words n threshold values p q = rw (p, q) refl
 
-pub one_hdu : (order order' : Order) (values : ℕ) → order ≡ order' → values ≡ order.hdu → measure_apart order' values ≡ None
-one_hdu order order' values same both = let test = eq-eqb values order'.hdu (both ∙ ap (λ (o : Order). o.hdu) same) in rw test refl
+pub one_hdu : (hdu : ℕ) (choice : Choice) (values : ℕ) → values ≡ hdu → measure_apart hdu choice values ≡ None
+one_hdu hdu choice values both = let test = eq-eqb values hdu both in rw test refl
 
-pub two_hdus : (order order' : Order) (values : ℕ) → order ≡ order' → values ≢ order.hdu
-    → measure_apart order' values ≡ Some (record { order = order; values = values })
-two_hdus order order' values same apart =
-    let test : (values == order.hdu) ≡ false = grind (arith, nat_tests) in
-    subst (λ (o : Order). measure_apart o values ≡ Some (record { order = order; values = values })) same (rw test refl)
+pub two_hdus : (hdu : ℕ) (choice : Choice) (values : ℕ) → values ≢ hdu → measure_apart hdu choice values ≡ Some (Measure choice values)
+two_hdus hdu choice values apart = let test : (values == hdu) ≡ false = grind (arith, nat_tests) in rw test refl

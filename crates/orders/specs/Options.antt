@@ -18,13 +18,14 @@ use Rattle.command_line.specs.Numbers.{number_between}
 
 -- ---- names
 
--- the command that a run knows by this name; it knows none of measuring
+-- the command with this name
 abbrev pub command_named : List ℕ → Option Command
 command_named text =
     if bytes_eq text (codes "tree") then Some Tree
     else (if bytes_eq text (codes "filter") then Some Filter
     else (if bytes_eq text (codes "detect") then Some Detect
-    else (if bytes_eq text (codes "trial") then Some Trial else None)))
+    else (if bytes_eq text (codes "trial") then Some Trial
+    else (if bytes_eq text (codes "measure") then Some Measure else None))))
 
 -- all options
 abbrev pub settings : List Setting

@@ -1,6 +1,6 @@
 -- Model: what the words of the command mean. Words are counted from 1: the first is the command, the even ones behind it name
 -- options, and each odd one is the value of the option that is named before it.
-use Rattle.std.specs.Prelude.{ℕ, ◌<◌, ◌≤◌, ◌+◌, ◌-◌, ◌*◌, ◌/◌, ◌%◌, ◌^◌, Bool, true, false, ◌==◌, ◌≡◌, ◌≢◌, ◌||◌, not, nat_lt, List}
+use Rattle.std.specs.Prelude.{ℕ, ◌<◌, ◌≤◌, ◌+◌, ◌-◌, ◌*◌, ◌/◌, ◌%◌, ◌^◌, Bool, true, false, ◌==◌, ◌≢◌, ◌||◌, not, nat_lt, List}
 use Rattle.std.specs.Prelude.{[], ◌∷◌, length, find, get_or, ℤ, pos, Option, Some, None, is_some, unwrap_or, option_and_then, Result, Ok, Err}
 use Rattle.std.specs.Prelude.{codes, if◌then◌else◌}
 use Rattle.std.specs.Str.{bytes_eq}
@@ -17,7 +17,6 @@ use Rattle.orders.specs.declared.options.Setting.{Setting}
 use Rattle.orders.specs.declared.options.Setting.TheVariants.{Hdu, Connect, Strips, Workers, Mesh, Flat, Rule, MinArea}
 use Rattle.orders.specs.declared.options.Setting.TheVariants.{MaxArea, MinFlux, MinFill, Threshold, Contrast, Seed, Width, Height, Values}
 use Rattle.orders.specs.declared.words.Order.{Order}
-use Rattle.orders.specs.declared.words.MeasureOrder.{MeasureOrder}
 use Rattle.orders.specs.declared.words.Job.{Job}
 use Rattle.orders.specs.declared.words.Job.TheVariants as job
 use Rattle.orders.specs.declared.words.Usage.{Usage}
@@ -98,18 +97,32 @@ shape_given words n = option_and_then (λ width. option_and_then (shape_of width
 abbrev pub detection_given : List (List ℕ) → ℕ → Option Job
 detection_given words n = option_map (λ threshold. job.Detect (choice_given words n threshold)) (given threshold_in words n Threshold)
 
+-- the number of the HDU with the image
+abbrev pub hdu_given : List (List ℕ) → ℕ → ℕ
+hdu_given words n = unwrap_or (given u16_in words n Hdu) 0
+
+-- detection and values stand in two HDUs
+abbrev pub measure_apart : ℕ → Choice → ℕ → Option Job
+measure_apart hdu choice values = if values == hdu then None else Some (job.Measure choice values)
+
+-- sources are to be measured in another HDU, if a threshold and that HDU are given
+unfoldable pub measuring_given : List (List ℕ) → ℕ → Option Job
+measuring_given words n =
+    option_and_then (λ threshold. option_and_then (measure_apart (hdu_given words n) (choice_given words n threshold)) (given u16_in words n Values))
+    (given threshold_in words n Threshold)
+
 -- what is to be done, unless something is missing for it
 unfoldable pub job_given : Command → List (List ℕ) → ℕ → Option Job
 job_given command.Tree words n = Some job.Tree
 job_given command.Filter words n = option_map (λ rule. job.Filter rule (criterion_given words n)) (given rule_in words n Rule)
 job_given command.Detect words n = detection_given words n
 job_given command.Trial words n = option_and_then (λ seed. option_map (job.Trial seed) (shape_given words n)) (given seed_in words n Seed)
-job_given command.Measure words n = detection_given words n
+job_given command.Measure words n = measuring_given words n
 
 unfoldable pub order_for : List (List ℕ) → ℕ → Job → Order
 order_for words n job = record {
   job = job;
-  hdu = unwrap_or (given u16_in words n Hdu) 0;
+  hdu = hdu_given words n;
   connect = unwrap_or (given connect_in words n Connect) Four;
   strips = unwrap_or (given positive_u16_in words n Strips) 1;
   workers = unwrap_or (given workers_in words n Workers) 1;
@@ -148,6 +161,15 @@ HasJobLimits job.Tree = Unit {0}
 HasJobLimits (job.Filter rule criterion) = criterion.min_fill ≤ 1000
 HasJobLimits (job.Detect choice) = choice.contrast ≤ 1000
 HasJobLimits (job.Trial seed shape) = Unit {0}
+HasJobLimits (job.Measure choice values) = choice.contrast ≤ 1000
+
+-- the HDU with this number isn't that of the values, where a job has any
+abbrev pub IsApartFrom : ℕ → Job → Type 0
+IsApartFrom hdu job.Tree = Unit {0}
+IsApartFrom hdu (job.Filter rule criterion) = Unit {0}
+IsApartFrom hdu (job.Detect choice) = Unit {0}
+IsApartFrom hdu (job.Trial seed shape) = Unit {0}
+IsApartFrom hdu (job.Measure choice values) = values ≢ hdu
 
 -- the numbers of an order are within their limits
 pub record HasLimits (order : Order) : Type 0 where
@@ -157,31 +179,15 @@ pub record HasLimits (order : Order) : Type 0 where
   pub most_workers : order.workers ≤ 64
   pub most_mesh : order.mesh ≤ 65535
   pub job : HasJobLimits order.job
+  pub apart : IsApartFrom order.hdu order.job
 
--- ---- measuring
+-- ---- all commands but the one that measures
 
 -- the first word asks for measuring
 abbrev pub asks_measure : List (List ℕ) → Bool
 asks_measure [] = false
 asks_measure (first ∷ rest) = bytes_eq first (codes "measure")
 
--- detection and values stand in two HDUs
-abbrev pub measure_apart : Order → ℕ → Option MeasureOrder
-measure_apart order values = if values == order.hdu then None else Some (record { order = order; values = values })
-
--- the order to measure that n pairs of a name and a value give, none of which is at fault
-unfoldable pub measure_given : List (List ℕ) → ℕ → Option MeasureOrder
-measure_given words n =
-    option_and_then (λ order. option_and_then (measure_apart order) (given u16_in words n Values)) (order_given command.Measure words n)
-
--- the order of words that ask for measuring, or the first word at fault; where something is missing at the end, or one HDU is to be both,
--- that is the one behind the last
-unfoldable pub measure_order_of : List (List ℕ) → Result MeasureOrder Usage
-measure_order_of words =
-    order_unless (first_at_fault command.Measure words) (length words + 1) (measure_given words (length words / 2))
-
--- sources are to be detected in one HDU, and measured in another
-pub record IsMeasureOrder (found : MeasureOrder) : Type 0 where
-  pub limits : HasLimits found.order
-  pub detects : (choice : Choice) × (found.order.job ≡ job.Detect choice)
-  pub apart : found.values ≢ found.order.hdu
+-- the order of words that work on one image, or make one: `measure` is none of their commands
+abbrev pub image_order_of : List (List ℕ) → Result Order Usage
+image_order_of words = if asks_measure words then at_fault 1 else order_of words

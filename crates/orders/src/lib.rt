@@ -4,7 +4,7 @@
 mod options;
 mod words;
 
-pub use words::{Job, MeasureOrder, Order, Usage, is_measure, read_measure, read_words};
+pub use words::{Job, Order, Usage, read_order};
 
 #[cfg(test)]
 mod measure_tests;

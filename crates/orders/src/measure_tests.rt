@@ -1,5 +1,5 @@
 //! What the words of `measure` mean.
-use crate::{Job, MeasureOrder, Order, Usage, is_measure, read_measure, read_words};
+use crate::{Job, Order, Usage, read_order};
 use comp_tree::Connect;
 use source_pick::Choice;
 use std::test::Fail;
@@ -31,15 +31,15 @@ fn every_option_is_read(rt: HostRuntime) -> Result<(), Fail> {
         "--contrast",
         "12",
     ];
-    assert!(rt; is_measure(words));
     let order = Order {
-        job: Job::Detect {
+        job: Job::Measure {
             choice: Choice {
                 threshold: -7,
                 min_area: 6,
                 min_flux: 9,
                 contrast: 12,
             },
+            values: 65535,
         },
         hdu: 3,
         connect: Connect::Eight,
@@ -48,13 +48,7 @@ fn every_option_is_read(rt: HostRuntime) -> Result<(), Fail> {
         mesh: 32,
         flat: true,
     };
-    assert_eq!(rt;
-        read_measure(words),
-        Ok(MeasureOrder {
-            order,
-            values: 65535
-        })
-    );
+    assert_eq!(rt; read_order(words), Ok(order));
     Ok(())
 }
 
@@ -91,8 +85,7 @@ fn each_wrong_word_of_measuring_is_named(rt: HostRuntime) -> Result<(), Fail> {
         (&["measure", "--values", "1", "--seed", "3"], 4),
     ];
     for (words, word) in cases {
-        assert!(rt; is_measure(words));
-        assert_eq!(rt; read_measure(words), Err(Usage { word }));
+        assert_eq!(rt; read_order(words), Err(Usage { word }));
     }
     Ok(())
 }
@@ -100,16 +93,13 @@ fn each_wrong_word_of_measuring_is_named(rt: HostRuntime) -> Result<(), Fail> {
 #[test]
 fn no_other_command_measures(rt: HostRuntime) -> Result<(), Fail> {
     let cases: [(&[&str], u32); 4] = [
-        (&[], 1),
-        (&["measure", "--values", "1", "--threshold", "2"], 1),
+        (&["measures", "--values", "1", "--threshold", "2"], 1),
         (&["detect", "--values", "1", "--threshold", "2"], 2),
+        (&["detect", "measure"], 2),
         (&["trial", "--values", "1"], 2),
     ];
     for (words, word) in cases {
-        assert_eq!(rt; read_words(words), Err(Usage { word }));
+        assert_eq!(rt; read_order(words), Err(Usage { word }));
     }
-    assert!(rt; !is_measure(&[]));
-    assert!(rt; !is_measure(&["detect", "measure"]));
-    assert!(rt; !is_measure(&["measures"]));
     Ok(())
 }

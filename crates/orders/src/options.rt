@@ -20,7 +20,6 @@ pub(crate) enum Command {
     Filter,
     Detect,
     Trial,
-    /// Not known to `named`: `read_measure` reads its words.
     Measure,
 }
 
@@ -33,6 +32,7 @@ impl Command {
             "filter" => Some(Command::Filter),
             "detect" => Some(Command::Detect),
             "trial" => Some(Command::Trial),
+            "measure" => Some(Command::Measure),
             _ => None,
         }
     }

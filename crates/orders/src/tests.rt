@@ -1,5 +1,5 @@
 //! Words that give an order, and words at fault.
-use crate::{Job, Order, Usage, read_words};
+use crate::{Job, Order, Usage, read_order};
 use comp_tree::Connect;
 use source_pick::Choice;
 use std::test::Fail;
@@ -40,7 +40,7 @@ fn each_wrong_name_is_found(rt: HostRuntime) -> Result<(), Fail> {
         },
     ];
     for case in cases {
-        assert_eq!(rt; read_words(case.words), Err(Usage { word: case.word }));
+        assert_eq!(rt; read_order(case.words), Err(Usage { word: case.word }));
     }
     Ok(())
 }
@@ -86,7 +86,7 @@ fn each_wrong_value_is_found(rt: HostRuntime) -> Result<(), Fail> {
         },
     ];
     for case in cases {
-        assert_eq!(rt; read_words(case.words), Err(Usage { word: case.word }));
+        assert_eq!(rt; read_order(case.words), Err(Usage { word: case.word }));
     }
     Ok(())
 }
@@ -116,7 +116,7 @@ fn each_missing_word_is_found(rt: HostRuntime) -> Result<(), Fail> {
         },
     ];
     for case in cases {
-        assert_eq!(rt; read_words(case.words), Err(Usage { word: case.word }));
+        assert_eq!(rt; read_order(case.words), Err(Usage { word: case.word }));
     }
     Ok(())
 }
@@ -133,7 +133,7 @@ fn words_of_a_detection_are_read(rt: HostRuntime) -> Result<(), Fail> {
         (&["detect", "--min-flux", "4611686018427387905"], 3),
     ];
     for (words, word) in cases {
-        assert_eq!(rt; read_words(words), Err(Usage { word }));
+        assert_eq!(rt; read_order(words), Err(Usage { word }));
     }
     let order = Order {
         job: Job::Detect {
@@ -152,7 +152,7 @@ fn words_of_a_detection_are_read(rt: HostRuntime) -> Result<(), Fail> {
         flat: false,
     };
     assert_eq!(rt;
-        read_words(&["detect", "--threshold", "-137438953472"]),
+        read_order(&["detect", "--threshold", "-137438953472"]),
         Ok(order)
     );
     Ok(())
@@ -174,7 +174,7 @@ fn each_wrong_word_of_a_trial_is_named(rt: HostRuntime) -> Result<(), Fail> {
         (&["tree", "--width", "1"], 2),
     ];
     for (words, word) in cases {
-        assert_eq!(rt; read_words(words), Err(Usage { word }));
+        assert_eq!(rt; read_order(words), Err(Usage { word }));
     }
     Ok(())
 }

@@ -1,9 +1,9 @@
 //! The words of the command.
-ghost use Rattle.std.specs.Prelude.{◌≡◌, ◌≤◌, ◌<◌, ◌+◌, ◌*◌, ℕ, IfOk, IfSome, IsTrue, MatchResult, length, is_some};
+ghost use Rattle.std.specs.Prelude.{◌≡◌, ◌≤◌, ◌<◌, ◌+◌, ◌*◌, ℕ, IfOk, IfSome, MatchResult, length, is_some};
 ghost use Rattle.std.specs.Option.{option_map};
 ghost use Rattle.command_line.specs.Lines.{texts};
 ghost use Rattle.orders.specs.Options.{settings};
-ghost use Rattle.orders.specs.Words.{order_of, measure_order_of, asks_measure, HasLimits, IsMeasureOrder, command_of, naming as naming_of, value_given, criterion_given, choice_given, job_given, order_for, order_given, shape_given};
+ghost use Rattle.orders.specs.Words.{order_of, HasLimits, command_of, naming as naming_of, value_given, criterion_given, choice_given, job_given, hdu_given, measuring_given, order_for, order_given, shape_given};
 ghost use Rattle.orders.specs.Given.{AreRead, AreAllRead, IsFirstFault};
 
 use crate::options::{
@@ -44,14 +44,8 @@ pub enum Job {
     Detect { choice: Choice },
     /// The line that tells of the image of this shape that is made from this seed.
     Trial { seed: u32, shape: Shape },
-}
-
-/// An order to detect in one HDU and to measure in another of the same file.
-#[derive(Clone, Copy, Debug, PartialEq, Eq)]
-pub struct MeasureOrder {
-    pub order: Order,
-    /// The number of the HDU that holds the values, from 0.
-    pub values: u16,
+    /// The map and the catalogue of its sources, which are measured in a second image of the same file too: `values` is the number of its HDU, from 0.
+    Measure { choice: Choice, values: u16 },
 }
 
 /// The words give no order: this one, counted from 1, is the first at fault.
@@ -173,6 +167,31 @@ fn shape_for(words: &[&str], pairs: u32) -> Option<Shape>
     Shape::of(width, height)
 }
 
+// The number of the HDU with the image.
+fn hdu_for(words: &[&str], pairs: u32) -> u16
+    requires { 2 * pairs + 1 ≤ length words.now }
+    ensures { result ≡ hdu_given (texts words.now) pairs }
+{
+    value(words, Setting::Hdu, pairs).and_then(hdu).unwrap_or(0)
+}
+
+fn measuring_for(words: &[&str], pairs: u32) -> Option<Job>
+    requires { 2 * pairs + 1 ≤ length words.now }
+    ensures { result ≡ measuring_given (texts words.now) pairs }
+{
+    let Some(threshold) = value(words, Setting::Threshold, pairs).and_then(threshold) else {
+        return None;
+    };
+    let Some(values) = value(words, Setting::Values, pairs).and_then(hdu) else {
+        return None;
+    };
+    if values == hdu_for(words, pairs) {
+        return None;
+    }
+    let choice = choice_for(words, pairs, threshold);
+    Some(Job::Measure { choice, values })
+}
+
 #[tactic(auto, unfolding(crate::specs::Words::job_given))]
 fn job_for(command: Command, words: &[&str], pairs: u32) -> Option<Job>
     requires { 2 * pairs + 1 ≤ length words.now }
@@ -189,7 +208,7 @@ fn job_for(command: Command, words: &[&str], pairs: u32) -> Option<Job>
                 None => None,
             }
         }
-        Command::Detect | Command::Measure => {
+        Command::Detect => {
             match value(words, Setting::Threshold, pairs).and_then(threshold) {
                 Some(threshold) => Some(Job::Detect {
                     choice: choice_for(words, pairs, threshold),
@@ -206,6 +225,7 @@ fn job_for(command: Command, words: &[&str], pairs: u32) -> Option<Job>
                 None => None,
             }
         }
+        Command::Measure => measuring_for(words, pairs),
     }
 }
 
@@ -216,7 +236,7 @@ fn order_of_job(words: &[&str], pairs: u32, job: Job) -> Order
 {
     Order {
         job,
-        hdu: value(words, Setting::Hdu, pairs).and_then(hdu).unwrap_or(0),
+        hdu: hdu_for(words, pairs),
         connect: value(words, Setting::Connect, pairs)
             .and_then(connect)
             .unwrap_or(Connect::Four),
@@ -256,7 +276,7 @@ fn pairs_read(command: Command, words: &[&str]) -> Result<u32, Usage>
 
 /// Reads the words of the command, without the program's name: the command, and behind it options with their values, in
 /// any order and each at most once. It takes no memory.
-pub fn read_words(words: &[&str]) -> Result<Order, Usage>
+pub fn read_order(words: &[&str]) -> Result<Order, Usage>
     ensures order { result ≡ order_of (texts words.now) }
     ensures limits { IfOk result HasLimits }
 {
@@ -272,44 +292,5 @@ pub fn read_words(words: &[&str]) -> Result<Order, Usage>
         None => Err(Usage {
             word: 2 * pairs + 2,
         }),
-    }
-}
-
-/// The words, without the program's name, ask for measuring: the first is `measure`. Then `read_measure` reads them, and else
-/// `read_words`.
-pub fn is_measure(words: &[&str]) -> bool
-    ensures { result ≡ asks_measure (texts words.now) }
-{
-    match words.first() {
-        Some(word) => *word == "measure",
-        None => false,
-    }
-}
-
-/// Reads words that ask for measuring: the options are those of detection and the HDU of the values, which isn't that of
-/// detection. It takes no memory.
-pub fn read_measure(words: &[&str]) -> Result<MeasureOrder, Usage>
-    requires { IsTrue (asks_measure (texts words.now)) }
-    ensures order { result ≡ measure_order_of (texts words.now) }
-    ensures limits { IfOk result IsMeasureOrder }
-{
-    let pairs = match pairs_read(Command::Measure, words) {
-        Ok(pairs) => pairs,
-        Err(usage) => return Err(usage),
-    };
-    let behind = Usage {
-        word: 2 * pairs + 2,
-    };
-    let order = match job_for(Command::Measure, words, pairs) {
-        Some(job) => order_of_job(words, pairs, job),
-        None => return Err(behind),
-    };
-    let Some(values) = value(words, Setting::Values, pairs).and_then(hdu) else {
-        return Err(behind);
-    };
-    if values == order.hdu {
-        Err(behind)
-    } else {
-        Ok(MeasureOrder { order, values })
     }
 }

@@ -1,45 +1,61 @@
 -- How a run may end.
-use Rattle.std.proofs.Common.{arith, ◌≡◌, ℕ, false, List, [], ◌∷◌, refl, subst, Some, inl, inr}
+use Rattle.std.proofs.Common.{arith, ◌≡◌, ℕ, ◌∙◌, append-nil, false, List, [], ◌∷◌, ◌++◌, refl, sym, ap, subst, Some, None, inl, inr}
 use Rattle.std.specs.declared.option.Option.{Option}
 use Rattle.std.specs.Io.KnownBytes.{Appends}
-use Rattle.dev_io.specs.Streams.{Takes, AppendsPrefix}
+use Rattle.dev_io.specs.Streams.{Takes, TakesAtMost}
 use Rattle.command_line.specs.Notes.{Noted}
 use Rattle.run_ends.specs.declared.ends.End.{End}
-use Rattle.run_ends.specs.declared.ends.End.TheVariants.{Done}
-use Rattle.image_input.specs.Streams.{TakesOneOf}
-use Rattle.run_ends.specs.Answers.{end_status, note_of}
+use Rattle.run_ends.specs.declared.ends.End.TheVariants.{Done, Refused}
+use Rattle.image_input.specs.declared.fault.Fault.{Fault}
+use Rattle.image_input.specs.declared.image.Stop.{Stop}
+use Rattle.image_input.specs.declared.image.Stop.TheVariants as at_image
+use Rattle.image_input.specs.Streams.{TakesOneOf, StoppedBy}
+use Rattle.run_ends.specs.Answers.{end_status, end_of, note_of}
 use Rattle.run_ends.specs.Headline.{Answer, Asked, Tells, Took, TookOneOf, InputUse, OutputUse, IsUnused, Follows, IsRunOf}
-use Rattle.run_ends.specs.RunEnds.{AllRead, GivesAnswer, CutsAnswer, EndsBy, EndBytes, EndCause}
+use Rattle.run_ends.specs.RunEnds.{AllRead, HasStopped, GivesAnswer, EndsBy, EndBytes, EndCause}
 
 -- ---- what is taken of the bytes that are told
 
-pub same_bytes : (a b : List ℕ) (left : Option (List ℕ)) → left ≡ Some a → left ≡ Some b → a ≡ b
+same_bytes : (a b : List ℕ) (left : Option (List ℕ)) → left ≡ Some a → left ≡ Some b → a ≡ b
 same_bytes a b left p q = cc
 
 took : (bytes : List ℕ) (left left' : Option (List ℕ)) (n : ℕ) → left ≡ Some bytes → Takes bytes left' n → Took left left' n
 took bytes left left' n told takes = λ x e. subst (λ l. Takes l left' n) (same_bytes bytes x left told e) takes
 
-pub took_one : (counts bytes : List ℕ) (left left' : Option (List ℕ)) → left ≡ Some bytes → TakesOneOf counts bytes left' → TookOneOf left left' counts
+took_one : (counts bytes : List ℕ) (left left' : Option (List ℕ)) → left ≡ Some bytes → TakesOneOf counts bytes left' → TookOneOf left left' counts
 took_one [] bytes left left' told one = one
 took_one (n ∷ counts) bytes left left' told (inl takes) = inl (took bytes left left' n told takes)
 took_one (n ∷ counts) bytes left left' told (inr one) = inr (took_one counts bytes left left' told one)
 
--- ---- all was read
+-- ---- what was read, and what was made of it
 
-pub read_answered : (answer : Answer) (bytes : List ℕ) (i : InputUse) (o : OutputUse) (output : List ℕ) → i.left ≡ Some bytes
-    → AllRead answer bytes i.left' output → Appends o.written o.written' output → GivesAnswer answer i o Done
-read_answered answer bytes i o output told read all = record {
-  end_is = read.done;
-  written_is = subst (Appends o.written o.written') read.output_is all;
-  taken_is = took bytes i.left i.left' answer.taken told read.takes;
-}
+pub all_read : (answer : Answer) (bytes : List ℕ) (left left' : Option (List ℕ)) (output : List ℕ) → left ≡ Some bytes → answer.end ≡ Done
+    → output ≡ answer.output → Takes bytes left' answer.taken → AllRead answer left left' output
+all_read answer bytes left left' output told done is takes =
+    record { done = done; output_is = is; taken_is = took bytes left left' answer.taken told takes }
 
-pub read_cut : (answer : Answer) (bytes : List ℕ) (i : InputUse) (o : OutputUse) (output : List ℕ) → i.left ≡ Some bytes
-    → AllRead answer bytes i.left' output → AppendsPrefix o.written o.written' output → CutsAnswer answer i o
-read_cut answer bytes i o output told read front = record {
-  done = read.done;
-  front = subst (AppendsPrefix o.written o.written') read.output_is front;
-  taken_is = took bytes i.left i.left' answer.taken told read.takes;
+-- by the stop that a verdict shows, where nothing is written then
+pub has_stopped : (answer : Answer) (counts bytes : List ℕ) (shown : Option Stop) (left left' : Option (List ℕ)) (stop : Stop) → left ≡ Some bytes
+    → answer.end ≡ end_of shown → ((s : Stop) → shown ≡ Some s → answer.output ≡ []) → StoppedBy shown answer.taken counts bytes left' stop
+    → HasStopped answer counts left left' stop
+has_stopped answer counts bytes shown left left' (at_image.Refused fault) told ends nothing stopped =
+    (ends ∙ ap end_of stopped.0, nothing (at_image.Refused fault) stopped.0, took bytes left left' answer.taken told stopped.1)
+has_stopped answer counts bytes shown left left' at_image.ReadFault told ends nothing stopped =
+    λ x e. subst (λ l. TakesAtMost l left' answer.taken) (same_bytes bytes x left told e) stopped
+has_stopped answer counts bytes shown left left' at_image.NoMemory told ends nothing stopped = took_one counts bytes left left' told stopped
+
+-- ---- the ends
+
+nothing_more : (written : Option (List ℕ)) (output : List ℕ) → output ≡ [] → Appends written written output
+nothing_more None output none = tt
+nothing_more (Some bytes) output none = sym (ap (λ l. bytes ++ l) none ∙ append-nil bytes)
+
+pub refused_so : (answer : Answer) (counts : List ℕ) (i : InputUse) (o : OutputUse) (fault : Fault) → o.written' ≡ o.written
+    → HasStopped answer counts i.left i.left' (at_image.Refused fault) → GivesAnswer answer i o (Refused fault)
+refused_so answer counts i o fault same stopped = record {
+  end_is = stopped.0;
+  written_is = subst (λ w. Appends o.written w answer.output) (sym same) (nothing_more o.written answer.output stopped.1);
+  taken_is = stopped.2;
 }
 
 -- ---- the run, by its end

@@ -1,19 +1,33 @@
 -- Bookkeeping: what each end of a run says of its source and its sinks.
-use Rattle.std.specs.Prelude.{◌≡◌, ℕ, Bool, true, false, List, IsTrue}
+use Rattle.std.specs.Prelude.{◌≡◌, ℕ, Bool, true, false, List, [], Result, Ok, Err, IsTrue}
 use Rattle.std.specs.declared.option.Option.{Option}
 use Rattle.std.specs.Io.KnownBytes.{Appends, Keeps}
 use Rattle.dev_io.specs.Causes.{Rose}
-use Rattle.dev_io.specs.Streams.{Takes, AppendsPrefix}
+use Rattle.dev_io.specs.Streams.{AppendsPrefix}
 use Rattle.run_ends.specs.declared.ends.End.{End}
 use Rattle.run_ends.specs.declared.ends.End.TheVariants.{Done, Usage, Refused, ReadFault, WriteFault, NoMemory}
+use Rattle.image_input.specs.declared.image.Stop.{Stop}
+use Rattle.image_input.specs.declared.image.Stop.TheVariants as at_image
 use Rattle.image_input.specs.Faults.{IsCutShort}
 use Rattle.run_ends.specs.Headline.{Answer, Asked, InputUse, OutputUse, Took, TookAtMost, TookOneOf}
 
 -- all was read, and this is the answer's output
-pub record AllRead (answer : Answer) (bytes : List ℕ) (left : Option (List ℕ)) (output : List ℕ) : Type 0 where
+pub record AllRead (answer : Answer) (left left' : Option (List ℕ)) (output : List ℕ) : Type 0 where
   pub done : answer.end ≡ Done
   pub output_is : output ≡ answer.output
-  pub takes : Takes bytes left answer.taken
+  pub taken_is : Took left left' answer.taken
+
+-- the making stopped, by the counts at which memory may be wanted: a refusal is the answer's, and its bytes were taken
+abbrev pub HasStopped : Answer → List ℕ → (left left' : Option (List ℕ)) → Stop → Type 0
+HasStopped answer memory_at left left' (at_image.Refused fault) =
+    (answer.end ≡ Refused fault) × (answer.output ≡ []) × Took left left' answer.taken
+HasStopped answer memory_at left left' at_image.ReadFault = TookAtMost left left' answer.taken
+HasStopped answer memory_at left left' at_image.NoMemory = TookOneOf left left' memory_at
+
+-- what was made of these bytes, whose own bytes a definition tells: the answer's output, or it stopped
+abbrev pub IsMadeOf : {M : Type 0} → Asked → List ℕ → (left left' : Option (List ℕ)) → (M → List ℕ) → Result M Stop → Type 0
+IsMadeOf asked bytes left left' output_of (Ok made) = AllRead (asked.answer bytes) left left' (output_of made)
+IsMadeOf asked bytes left left' output_of (Err stop) = HasStopped (asked.answer bytes) (asked.memory_at bytes) left left' stop
 
 -- what an end of its own says of the bytes: it is the answer's, the output was written, and the bytes were taken
 pub record GivesAnswer (answer : Answer) (i : InputUse) (o : OutputUse) (end : End) : Type 0 where

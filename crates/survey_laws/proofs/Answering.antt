@@ -20,8 +20,9 @@ use Rattle.source_pick.specs.declared.choice.Choice.{Choice}
 use Rattle.orders.specs.declared.words.Order.{Order}
 use Rattle.orders.specs.declared.words.Job.TheVariants.{Detect}
 use Rattle.orders.specs.Words.{order_of}
-use Rattle.job_products.specs.Products.{output_of_job, output_of, image_made}
-use Rattle.detect_top.specs.ImageAnswers.{answer_to_verdict, asked_for, asked_by, answer_to_words}
+use Rattle.job_products.specs.Products.{output_of_job, output_of}
+use Rattle.detect_top.specs.ImageAnswers.{answer_to_verdict}
+use Rattle.detect_top.specs.WordAnswers.{asked_for, asked_by, answer_to_words}
 use Rattle.run_ends.specs.Answers.{end_status}
 use Rattle.run_ends.specs.Headline.{Answer}
 use Rattle.tree_products.specs.Catalogues.{detected_hdus, catalogue_cells}
@@ -69,7 +70,7 @@ module _ (words : List (List ℕ)) (bytes : List ℕ) (order : Order) (choice : 
     (order_is : order_of words ≡ Ok order) (job_is : order.job ≡ Detect choice) (image_is : verdict_on bytes order.hdu ≡ image plane head end) where
   answer_is : answer_to_words words bytes ≡ answer_to_verdict order (image plane head end)
   answer_is =
-      ap (λ o. (asked_by o).answer bytes) order_is ∙ ap (λ j. (asked_for order (image_made j)).answer bytes) job_is
+      ap (λ o. (asked_by o).answer bytes) order_is ∙ ap (λ j. (asked_for order j).answer bytes) job_is
       ∙ ap (answer_to_verdict order) image_is
 
   output_is : output_of order plane ≡ detected_hdus (residual_of plane order.mesh order.flat) order.connect choice

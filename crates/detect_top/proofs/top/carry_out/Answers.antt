@@ -1,17 +1,31 @@
-use Rattle.pixel_plane.specs.Verdicts.{verdict_on}
-use Rattle.detect_top.specs.ImageAnswers.{answer_to_verdict}
-use Rattle.run_ends.proofs.Exported.{read_answered, read_cut}
-use Rattle.detect_top.proofs.ImageReads.{told_read}
+use Rattle.std.proofs.Common.{refl, subst}
+use Rattle.image_input.specs.declared.image.Stop.{Stop}
+use Rattle.run_ends.specs.RunEnds.{HasStopped}
+use Rattle.run_ends.proofs.Exported.{refused_so}
+use Rattle.detect_top.specs.WordAnswers.{asked_for}
 use Rattle.detect_top.proofs.top.carry_out.Goals as goal
 
-pub returns-in-Ok-write-clause-bytes : goal.returns-in-Ok-write-clause-bytes
-returns-in-Ok-write-clause-bytes g c = λ x tells.
-    let told = told_read c.args.order _ x c.requires.reads tells in
-    let answer = answer_to_verdict c.args.order (verdict_on x c.args.order.hdu) in
-    rw c.requires.reads (read_answered answer x _ _ _ told (c.in-Ok.ensures.told x told) c.in-Ok-write.ensures.bytes)
+pub returns-in-Err-Refused-clause-bytes : goal.returns-in-Err-Refused-clause-bytes
+returns-in-Err-Refused-clause-bytes g c = λ x tells.
+    let asked = asked_for c.args.order c.args.order.job in
+    let left = g.S.Source.left c.args.input.now in
+    let left' = g.S.Source.left c.make_by_order.new.input in
+    refused_so (asked.answer x) (asked.memory_at x) _ _ c.in-Err-Refused.fault refl
+    (subst (λ (stop : Stop). HasStopped (asked.answer x) (asked.memory_at x) left left' stop) c.in-Err-Refused.field-0-is
+    (c.in-Err-Refused.ensures.told x tells))
 
-pub returns-clause-bytes : goal.returns-clause-bytes
-returns-clause-bytes g c = λ x tells.
-    let told = told_read c.args.order _ x c.requires.reads tells in
-    let answer = answer_to_verdict c.args.order (verdict_on x c.args.order.hdu) in
-    rw c.requires.reads (read_cut answer x _ _ _ told (c.in-Ok.ensures.told x told) c.in-Err.ensures.bytes)
+pub returns-in-Err-ReadFault-clause-bytes : goal.returns-in-Err-ReadFault-clause-bytes
+returns-in-Err-ReadFault-clause-bytes g c = λ x tells.
+    let asked = asked_for c.args.order c.args.order.job in
+    let left = g.S.Source.left c.args.input.now in
+    let left' = g.S.Source.left c.make_by_order.new.input in
+    subst (λ (stop : Stop). HasStopped (asked.answer x) (asked.memory_at x) left left' stop) c.in-Err-ReadFault.field-0-is
+    (c.in-Err-ReadFault.ensures.told x tells)
+
+pub returns-in-Err-NoMemory-clause-bytes : goal.returns-in-Err-NoMemory-clause-bytes
+returns-in-Err-NoMemory-clause-bytes g c = λ x tells.
+    let asked = asked_for c.args.order c.args.order.job in
+    let left = g.S.Source.left c.args.input.now in
+    let left' = g.S.Source.left c.make_by_order.new.input in
+    subst (λ (stop : Stop). HasStopped (asked.answer x) (asked.memory_at x) left left' stop) c.in-Err-NoMemory.field-0-is
+    (c.in-Err-NoMemory.ensures.told x tells)
