@@ -20,7 +20,7 @@ STEPS = [
     ("sums and areas", r"node_sums"),
     ("sources and their map", r"source_pick"),
     ("background", r"mesh_background|rayon"),
-    ("reading pixels", r"image_input|pixel_plane"),
+    ("reading pixels", r"pixel_plane"),
     ("planes of few pixels", r"comp_tree"),
     ("making output", r"product::write|dev_io|fits_write|itoa"),
     ("the rest of the pipeline, merged into a few functions", r"detect_top|measure_top|job_products"),

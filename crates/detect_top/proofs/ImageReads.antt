@@ -6,9 +6,9 @@ use Rattle.dev_io.specs.Streams.{Takes}
 use Rattle.comp_tree.specs.Raster.{Raster}
 use Rattle.pixel_plane.specs.Verdicts.{Verdict, image, unfound, unreadable, truncated, out_of_range, verdict_on, taken_for}
 use Rattle.orders.specs.declared.words.Order.{Order}
-use Rattle.image_input.specs.declared.image.Stop.{Stop}
-use Rattle.image_input.specs.declared.image.Stop.TheVariants.{NoMemory}
-use Rattle.image_input.specs.Streams.{ImageRead, ImageStopped, memory_at_verdict, stop_of, TakesOneOf}
+use Rattle.pixel_plane.specs.declared.image.Stop.{Stop}
+use Rattle.pixel_plane.specs.declared.image.Stop.TheVariants.{NoMemory}
+use Rattle.pixel_plane.specs.Streams.{ImageRead, ImageStopped, memory_at_verdict, stop_of, TakesOneOf}
 use Rattle.run_ends.specs.Answers.{end_of}
 use Rattle.run_ends.specs.RunEnds.{AllRead, HasStopped}
 use Rattle.run_ends.proofs.Exported.{all_read, has_stopped}

@@ -3,7 +3,7 @@ use Rattle.std.specs.Prelude.{ℕ, true, false, List, [], ◌∷◌}
 use Rattle.comp_tree.specs.Raster.{Raster}
 use Rattle.pixel_plane.specs.Verdicts.{Verdict, image, verdict_on, taken_for}
 use Rattle.orders.specs.declared.words.Order.{Order}
-use Rattle.image_input.specs.Streams.{stop_of, memory_at_verdict}
+use Rattle.pixel_plane.specs.Streams.{stop_of, memory_at_verdict}
 use Rattle.run_ends.specs.declared.ends.End.TheVariants.{Done}
 use Rattle.run_ends.specs.Answers.{end_of}
 use Rattle.run_ends.specs.Headline.{Answer, Asked}

@@ -3,7 +3,7 @@ ghost use Rattle.std.specs.Prelude.{◌≡◌, ℕ, List, false, true, Ok, IfOk,
 ghost use Rattle.dev_io.specs.Causes.{Rose};
 ghost use Rattle.command_line.specs.Lines.{texts};
 ghost use Rattle.orders.specs.Words.{image_order_of, HasLimits};
-ghost use Rattle.image_input.specs.Faults.{IsCutStop};
+ghost use Rattle.pixel_plane.specs.InputFaults.{IsCutStop};
 ghost use Rattle.run_ends.specs.RunEnds.{IsMadeOf, EndBytes, EndCause};
 ghost use Rattle.run_ends.specs.Headline.{Tells, use_of_input, use_of_output, IsUnused, IsRunOf};
 ghost use Rattle.detect_top.specs.WordAnswers.{asked_by, asked_of, asked_of_all};
@@ -11,9 +11,9 @@ ghost use Rattle.detect_top.specs.Made.{made_bytes, IsMade, IsOfInput};
 
 use crate::making::{Made, make, make_trial, write_made};
 use dev_io::{Sink, Source};
-use image_input::{Stop, read_image};
 use measure_top::measure_input;
 use orders::{Job, Order, Usage, read_order};
+use pixel_plane::{Stop, read_image};
 use run_ends::{End, tell};
 use std::alloc::Global;
 use std::thread::Threads;

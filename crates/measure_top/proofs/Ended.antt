@@ -8,12 +8,12 @@ use Rattle.orders.specs.declared.words.Order.{Order}
 use Rattle.run_ends.specs.Answers.{end_status, end_of}
 use Rattle.run_ends.specs.RunEnds.{AllRead, HasStopped}
 use Rattle.run_ends.proofs.Exported.{by_verdict, all_read, has_stopped}
-use Rattle.image_input.specs.declared.image.Stop.{Stop}
-use Rattle.image_input.specs.declared.image.Stop.TheVariants.{NoMemory}
-use Rattle.image_input.specs.declared.two_images.TwoPlanes.{TwoPlanes}
-use Rattle.image_input.specs.Streams.{TakesOneOf}
-use Rattle.image_input.specs.TwoImages.{TwoVerdict, two_images, earlier_fault, later_fault, shapes_differ, taken_for_two, stop_of_two, memory_at_two}
-use Rattle.image_input.specs.TwoReads.{TwoRead, TwoStopped}
+use Rattle.pixel_plane.specs.declared.image.Stop.{Stop}
+use Rattle.pixel_plane.specs.declared.image.Stop.TheVariants.{NoMemory}
+use Rattle.pixel_plane.specs.declared.two_images.TwoPlanes.{TwoPlanes}
+use Rattle.pixel_plane.specs.Streams.{TakesOneOf}
+use Rattle.pixel_plane.specs.TwoImages.{TwoVerdict, two_images, earlier_fault, later_fault, shapes_differ, taken_for_two, stop_of_two, memory_at_two}
+use Rattle.pixel_plane.specs.TwoReads.{TwoRead, TwoStopped}
 use Rattle.measure_top.specs.MeasureAnswers.{measured_of_two, measure_output, measure_answer_to_verdict, verdict_for, asked_to_measure}
 
 -- both were read, and what is made of them is the answer's output

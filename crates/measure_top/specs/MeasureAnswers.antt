@@ -5,7 +5,7 @@ use Rattle.source_pick.specs.declared.choice.Choice.{Choice}
 use Rattle.orders.specs.declared.words.Order.{Order}
 use Rattle.run_ends.specs.Answers.{end_of}
 use Rattle.run_ends.specs.Headline.{Answer, Asked}
-use Rattle.image_input.specs.TwoImages.{TwoVerdict, two_images, verdict_on_two, taken_for_two, stop_of_two, memory_at_two}
+use Rattle.pixel_plane.specs.TwoImages.{TwoVerdict, two_images, verdict_on_two, taken_for_two, stop_of_two, memory_at_two}
 use Rattle.measure_top.specs.MeasuredCatalogues.{measured_output}
 
 -- of the images of the HDUs with the lesser and with the greater number: sources are detected in the one that the order names

@@ -3,7 +3,7 @@ ghost use Rattle.std.specs.Prelude.{◌≡◌, ◌≢◌, ◌≤◌, ℕ, List, 
 ghost use Rattle.dev_io.specs.Causes.{Rose};
 ghost use Rattle.comp_tree.specs.Raster.{HasValuesInHalfRange};
 ghost use Rattle.orders.specs.Words.{HasLimits};
-ghost use Rattle.image_input.specs.Faults.{IsCutStop};
+ghost use Rattle.pixel_plane.specs.InputFaults.{IsCutStop};
 ghost use Rattle.run_ends.specs.Headline.{Tells};
 ghost use Rattle.run_ends.specs.RunEnds.{IsMadeOf};
 ghost use Rattle.measure_top.specs.MeasuredDetections.{IsMeasuredDetection, measured_bytes};
@@ -12,8 +12,8 @@ ghost use Rattle.measure_top.specs.MeasureAnswers.{measured_of_two, asked_to_mea
 use crate::measuring::{Measured, measure_sources};
 use costs::OutOfMemory;
 use dev_io::Source;
-use image_input::{Stop, TwoPlanes, read_two};
 use orders::Order;
+use pixel_plane::{Stop, TwoPlanes, read_two};
 use source_pick::Choice;
 use std::alloc::Global;
 use std::thread::Threads;

@@ -6,4 +6,6 @@ mod Planes
 mod Naming
 mod Narrow
 mod ImageData
+mod Images
+mod TwoHdus
 pub mod Exported

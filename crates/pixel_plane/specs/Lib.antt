@@ -5,3 +5,9 @@ pub mod Sizes
 pub mod Reading
 pub mod Decoding
 pub mod Verdicts
+pub mod InputFaults
+pub mod Stops
+pub mod Streams
+pub mod TwoImages
+pub mod FirstImages
+pub mod TwoReads

@@ -6,10 +6,10 @@ use Rattle.dev_io.specs.Streams.{Takes, TakesAtMost}
 use Rattle.command_line.specs.Notes.{Noted}
 use Rattle.run_ends.specs.declared.ends.End.{End}
 use Rattle.run_ends.specs.declared.ends.End.TheVariants.{Done, Refused}
-use Rattle.image_input.specs.declared.fault.Fault.{Fault}
-use Rattle.image_input.specs.declared.image.Stop.{Stop}
-use Rattle.image_input.specs.declared.image.Stop.TheVariants as at_image
-use Rattle.image_input.specs.Streams.{TakesOneOf, StoppedBy}
+use Rattle.pixel_plane.specs.declared.input_fault.Fault.{Fault}
+use Rattle.pixel_plane.specs.declared.image.Stop.{Stop}
+use Rattle.pixel_plane.specs.declared.image.Stop.TheVariants as at_image
+use Rattle.pixel_plane.specs.Streams.{TakesOneOf, StoppedBy}
 use Rattle.run_ends.specs.Answers.{end_status, end_of, note_of}
 use Rattle.run_ends.specs.Headline.{Answer, Asked, Tells, Took, TookOneOf, InputUse, OutputUse, IsUnused, Follows, IsRunOf}
 use Rattle.run_ends.specs.RunEnds.{AllRead, HasStopped, GivesAnswer, EndsBy, EndBytes, EndCause}

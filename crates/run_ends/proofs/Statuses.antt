@@ -2,7 +2,7 @@
 use Rattle.std.proofs.Common.{◌≤◌, arith}
 use Rattle.pixel_plane.specs.Verdicts.{Verdict, image, unfound, unreadable, truncated, out_of_range}
 use Rattle.run_ends.specs.Answers.{end_status, end_of}
-use Rattle.image_input.specs.Streams.{stop_of}
+use Rattle.pixel_plane.specs.Streams.{stop_of}
 
 pub by_verdict : (found : Verdict) → end_status (end_of (stop_of found)) ≤ 2
 by_verdict (image plane head end) = omega arith

@@ -3,14 +3,14 @@ use Rattle.std.specs.Prelude.{ℕ, List, [], ◌∷◌, Option, Some, None, code
 use Rattle.std.specs.List.{concat}
 use Rattle.std.specs.Fmt.{signed_decimal}
 use Rattle.command_line.specs.Notes.{usage_line}
-use Rattle.image_input.specs.declared.fault.Fault.{Fault}
+use Rattle.pixel_plane.specs.declared.input_fault.Fault.{Fault}
 use Rattle.run_ends.specs.declared.ends.End.{End}
 use Rattle.run_ends.specs.declared.ends.End.TheVariants.{Done, Usage, Refused, ReadFault, WriteFault, NoMemory}
-use Rattle.image_input.specs.declared.fault.Place.{Place}
-use Rattle.image_input.specs.declared.fault.Place.TheVariants.{Card, Pixel}
-use Rattle.image_input.specs.declared.image.Stop.{Stop}
-use Rattle.image_input.specs.declared.image.Stop.TheVariants as at_image
-use Rattle.image_input.specs.Faults.{fault_number, fault_name, place_of}
+use Rattle.pixel_plane.specs.declared.input_fault.Place.{Place}
+use Rattle.pixel_plane.specs.declared.input_fault.Place.TheVariants.{Card, Pixel}
+use Rattle.pixel_plane.specs.declared.image.Stop.{Stop}
+use Rattle.pixel_plane.specs.declared.image.Stop.TheVariants as at_image
+use Rattle.pixel_plane.specs.InputFaults.{fault_number, fault_name, place_of}
 
 -- the number and the name of a fault, and the card or the pixel at fault
 abbrev pub line_at_place : List ℕ → List ℕ → Place → List ℕ

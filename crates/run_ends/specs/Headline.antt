@@ -9,7 +9,7 @@ use Rattle.command_line.specs.Notes.{Noted}
 use Rattle.orders.specs.declared.words.Usage.{Usage as AtFault}
 use Rattle.run_ends.specs.declared.ends.End.{End}
 use Rattle.run_ends.specs.declared.ends.End.TheVariants.{Done, Usage, Refused}
-use Rattle.image_input.specs.Faults.{IsCutShort}
+use Rattle.pixel_plane.specs.InputFaults.{IsCutShort}
 use Rattle.run_ends.specs.Answers.{end_status, note_of}
 
 -- ---- what words ask

@@ -6,9 +6,9 @@ use Rattle.dev_io.specs.Causes.{Rose}
 use Rattle.dev_io.specs.Streams.{AppendsPrefix}
 use Rattle.run_ends.specs.declared.ends.End.{End}
 use Rattle.run_ends.specs.declared.ends.End.TheVariants.{Done, Usage, Refused, ReadFault, WriteFault, NoMemory}
-use Rattle.image_input.specs.declared.image.Stop.{Stop}
-use Rattle.image_input.specs.declared.image.Stop.TheVariants as at_image
-use Rattle.image_input.specs.Faults.{IsCutShort}
+use Rattle.pixel_plane.specs.declared.image.Stop.{Stop}
+use Rattle.pixel_plane.specs.declared.image.Stop.TheVariants as at_image
+use Rattle.pixel_plane.specs.InputFaults.{IsCutShort}
 use Rattle.run_ends.specs.Headline.{Answer, Asked, InputUse, OutputUse, Took, TookAtMost, TookOneOf}
 
 -- all was read, and this is the answer's output

@@ -2,8 +2,8 @@
 ghost use Rattle.std.specs.Prelude.{◌≡◌};
 ghost use Rattle.run_ends.specs.Answers.{end_status};
 
-use image_input::Fault;
 use orders::Usage;
+use pixel_plane::Fault;
 
 /// How a run ends.
 #[derive(Clone, Copy, Debug, PartialEq, Eq)]

@@ -10,9 +10,8 @@ use command_line::lines::put_line;
 use command_line::notes::put_usage;
 use dev_io::{Failed, Sink};
 use fits_hdu::CardPlace;
-use image_input::{Fault, Place};
 use itoa::Buffer;
-use pixel_plane::PixelPlace;
+use pixel_plane::{Fault, PixelPlace, Place};
 
 fn put_card<N: Sink>(
     notes: &mut N,

@@ -2,9 +2,8 @@
 use crate::{End, tell};
 use dev_io::MemSink;
 use fits_hdu::HduFault;
-use image_input::Fault;
 use orders::Usage;
-use pixel_plane::PlaneFault;
+use pixel_plane::{Fault, PlaneFault};
 use std::alloc::Global;
 use std::process::Abort;
 use std::test::Fail;

@@ -18,8 +18,8 @@ use Rattle.fits_write.specs.Hdus.{header, table_cards, empty_primary, map_hdu, t
 use Rattle.catalogue_form.specs.Columns.{catalogue_columns, cells_in_row, bytes_in_row}
 use Rattle.catalogue_form.specs.Rows.{table_cells}
 use Rattle.catalogue_form.specs.Laws.{WrittenTableIsReadBack, TableHasItsRowsBytes}
-use Rattle.read_back.proofs.Exported.{filled_size}
-use Rattle.read_back.specs.Laws.{table_said, table_start, WrittenTableIsFound}
+use Rattle.survey_laws.proofs.Places.{filled_size}
+use Rattle.survey_laws.specs.WrittenTables.{table_said, table_start, WrittenTableIsFound}
 use Rattle.source_pick.specs.declared.choice.Choice.{Choice}
 use Rattle.source_pick.specs.Sources.{sources}
 use Rattle.source_pick.specs.Laws.{SourcesAreInOrder, SourcesAreDisjoint}

@@ -1,3 +1,9 @@
+mod Cards
+mod Headers
+mod WrittenCards
+mod Extensions
+mod WrittenHeaders
+mod Places
 mod CatalogueRows
 mod Accepting
 mod Answering

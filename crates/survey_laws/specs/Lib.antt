@@ -1,1 +1,2 @@
+pub mod WrittenTables
 pub mod Laws

@@ -3,9 +3,9 @@
 
 ghost use Rattle.survey_laws.specs.Laws.{DetectionIsAccepted, TooManySourcesAreRefused, AnswerIsAccepted, DetectionsAreAdded};
 
+use crate::written_tables::written_table_is_found;
 use catalogue_form::laws::written_cells_are_read_back;
 use mesh_background::laws::residual_is_a_plane;
-use read_back::laws::written_table_is_found;
 use source_pick::laws::{sources_are_disjoint, sources_are_listed};
 use survey_core::laws::each_add_takes_its_catalogue;
 

@@ -1,5 +1,5 @@
 use Rattle.std.proofs.Common.{refl, subst}
-use Rattle.image_input.specs.declared.image.Stop.{Stop}
+use Rattle.pixel_plane.specs.declared.image.Stop.{Stop}
 use Rattle.run_ends.specs.RunEnds.{HasStopped}
 use Rattle.run_ends.proofs.Exported.{refused_so}
 use Rattle.detect_top.specs.WordAnswers.{asked_for}

@@ -1,5 +1,5 @@
 use Rattle.std.proofs.Common.{ap₂, refl}
-use Rattle.image_input.specs.TwoImages.{verdict_on_two}
+use Rattle.pixel_plane.specs.TwoImages.{verdict_on_two}
 use Rattle.measure_top.proofs.Ended.{both_read, two_stopped, memory_after}
 use Rattle.measure_top.proofs.answer.measure_input.Goals as goal
 

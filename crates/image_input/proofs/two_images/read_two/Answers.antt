@@ -1,5 +1,0 @@
-use Rattle.image_input.proofs.TwoHdus.{first_stopped}
-use Rattle.image_input.proofs.two_images.read_two.Goals as goal
-
-pub returns-in-Err-clause-told : goal.returns-in-Err-clause-told
-returns-in-Err-clause-told g c = λ x e. first_stopped x c.args.first c.args.second _ c.in-Err.stop c.requires (c.in-Err.ensures.told x e)

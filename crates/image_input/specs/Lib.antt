@@ -1,6 +1,0 @@
-pub mod Faults
-pub mod Stops
-pub mod Streams
-pub mod TwoImages
-pub mod FirstImages
-pub mod TwoReads

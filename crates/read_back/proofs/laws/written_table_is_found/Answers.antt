@@ -1,5 +1,0 @@
-use Rattle.read_back.proofs.Places.{third}
-use Rattle.read_back.proofs.laws.written_table_is_found.Goals as goal
-
-pub returns : goal.returns
-returns c = third c.logical_is_read_back.ensures c.integer_is_read_back.ensures.integer c.text_is_read_back.ensures
