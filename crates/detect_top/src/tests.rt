@@ -156,74 +156,43 @@ fn numbers_of_16_and_32_bits(rt: HostRuntime) -> Result<(), Fail> {
     compare_rows(&rt, rt.alloc(), rows)
 }
 
+// The words of a list of nodes with so many strips and workers.
+fn cut_words<'a>(strips: &'a str, workers: &'a str) -> [&'a str; 5] {
+    ["tree", "--strips", strips, "--workers", workers]
+}
+
 #[test]
 fn strips_and_workers_change_nothing(rt: HostRuntime) -> Result<(), Fail> {
-    let rows: &[Row] = &[
-        Row {
-            words: &["tree", "--strips", "1", "--workers", "1"],
-            header: b"SIMPLE  = T|BITPIX  = 8|NAXIS   = 2|NAXIS1  = 3|NAXIS2  = 3|END|#",
-            data: &[5, 0, 6, 5, 2, 6, 3, 3, 3],
-            status: 0,
-            output: b"0 0 1 - 9\n1 2 4 0 8\n2 3 6 1 7\n3 5 0 2 2\n4 6 2 2 2\n",
-            notes: b"",
-            taken: 2889,
-        },
-        Row {
-            words: &["tree", "--strips", "1", "--workers", "3"],
-            header: b"SIMPLE  = T|BITPIX  = 8|NAXIS   = 2|NAXIS1  = 3|NAXIS2  = 3|END|#",
-            data: &[5, 0, 6, 5, 2, 6, 3, 3, 3],
-            status: 0,
-            output: b"0 0 1 - 9\n1 2 4 0 8\n2 3 6 1 7\n3 5 0 2 2\n4 6 2 2 2\n",
-            notes: b"",
-            taken: 2889,
-        },
-        Row {
-            words: &["tree", "--strips", "2", "--workers", "1"],
-            header: b"SIMPLE  = T|BITPIX  = 8|NAXIS   = 2|NAXIS1  = 3|NAXIS2  = 3|END|#",
-            data: &[5, 0, 6, 5, 2, 6, 3, 3, 3],
-            status: 0,
-            output: b"0 0 1 - 9\n1 2 4 0 8\n2 3 6 1 7\n3 5 0 2 2\n4 6 2 2 2\n",
-            notes: b"",
-            taken: 2889,
-        },
-        Row {
-            words: &["tree", "--strips", "2", "--workers", "3"],
-            header: b"SIMPLE  = T|BITPIX  = 8|NAXIS   = 2|NAXIS1  = 3|NAXIS2  = 3|END|#",
-            data: &[5, 0, 6, 5, 2, 6, 3, 3, 3],
-            status: 0,
-            output: b"0 0 1 - 9\n1 2 4 0 8\n2 3 6 1 7\n3 5 0 2 2\n4 6 2 2 2\n",
-            notes: b"",
-            taken: 2889,
-        },
-        Row {
-            words: &["tree", "--strips", "3", "--workers", "1"],
-            header: b"SIMPLE  = T|BITPIX  = 8|NAXIS   = 2|NAXIS1  = 3|NAXIS2  = 3|END|#",
-            data: &[5, 0, 6, 5, 2, 6, 3, 3, 3],
-            status: 0,
-            output: b"0 0 1 - 9\n1 2 4 0 8\n2 3 6 1 7\n3 5 0 2 2\n4 6 2 2 2\n",
-            notes: b"",
-            taken: 2889,
-        },
-        Row {
-            words: &["tree", "--strips", "3", "--workers", "3"],
-            header: b"SIMPLE  = T|BITPIX  = 8|NAXIS   = 2|NAXIS1  = 3|NAXIS2  = 3|END|#",
-            data: &[5, 0, 6, 5, 2, 6, 3, 3, 3],
-            status: 0,
-            output: b"0 0 1 - 9\n1 2 4 0 8\n2 3 6 1 7\n3 5 0 2 2\n4 6 2 2 2\n",
-            notes: b"",
-            taken: 2889,
-        },
-        Row {
-            words: &["tree", "--strips", "3", "--workers", "2"],
-            header: b"SIMPLE  = T|BITPIX  = 8|NAXIS   = 2|NAXIS1  = 4|NAXIS2  = 3|END|#",
-            data: &[6, 6, 6, 6, 6, 6, 6, 6, 6, 6, 6, 6],
-            status: 0,
-            output: b"0 6 0 - 12\n",
-            notes: b"",
-            taken: 2892,
-        },
+    let numbers = [
+        ("1", "1"),
+        ("1", "3"),
+        ("2", "1"),
+        ("2", "3"),
+        ("3", "1"),
+        ("3", "3"),
     ];
-    compare_rows(&rt, rt.alloc(), rows)
+    for (strips, workers) in numbers {
+        let hills = Row {
+            words: &cut_words(strips, workers),
+            header: b"SIMPLE  = T|BITPIX  = 8|NAXIS   = 2|NAXIS1  = 3|NAXIS2  = 3|END|#",
+            data: &[5, 0, 6, 5, 2, 6, 3, 3, 3],
+            status: 0,
+            output: b"0 0 1 - 9\n1 2 4 0 8\n2 3 6 1 7\n3 5 0 2 2\n4 6 2 2 2\n",
+            notes: b"",
+            taken: 2889,
+        };
+        compare(&rt, rt.alloc(), hills)?;
+    }
+    let flat = Row {
+        words: &cut_words("3", "2"),
+        header: b"SIMPLE  = T|BITPIX  = 8|NAXIS   = 2|NAXIS1  = 4|NAXIS2  = 3|END|#",
+        data: &[6; 12],
+        status: 0,
+        output: b"0 6 0 - 12\n",
+        notes: b"",
+        taken: 2892,
+    };
+    compare(&rt, rt.alloc(), flat)
 }
 
 #[test]
