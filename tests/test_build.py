@@ -6,6 +6,7 @@ import shutil
 import signal
 import subprocess
 import sys
+import tempfile
 import time
 
 import pytest
@@ -75,9 +76,10 @@ class Tree:
             (self.kit / "bin" / name).chmod(0o755)
         self.environment = {"PATH": str(self.kit / "bin"), "LOG": str(self.log), "TMPDIR": str(self.said)}
 
-    def start(self, *programs, **environment):
+    def start(self, *programs, user=None, **environment):
         words = [sys.executable, str(self.top / "scripts" / "build"), *programs]
-        return subprocess.Popen(words, env=self.environment | environment, stderr=subprocess.PIPE, text=True)
+        who = {} if user is None else {"user": user, "group": user, "extra_groups": []}
+        return subprocess.Popen(words, env=self.environment | environment, stderr=subprocess.PIPE, text=True, **who)
 
     def build(self, *programs, **environment):
         """The status and what was said."""
@@ -205,4 +207,48 @@ def test_a_second_build_waits_and_proves_nothing_again(tree):
 def test_words_and_a_missing_rt(tree):
     assert tree.build("maxtree") == (64, "usage: scripts/build [maxdetect] [maxsurvey]\n")
     status, said = tree.build(PATH=str(tree.top))
-    assert status == 70 and said.startswith("build: a program isn't built") and said.count("\n") == 1
+    assert (
+        status == 70
+        and said == "build: maxdetect isn't built, and the kit's rt isn't on the PATH; README.md names the kit\n"
+    )
+
+
+@pytest.fixture
+def locked():
+    """A tree that all may read, and a user who may not write it."""
+    with tempfile.TemporaryDirectory() as name:
+        os.chmod(name, 0o755)
+        made = Tree(pathlib.Path(name))
+        assert made.build()[0] == 0
+        os.chmod(made.said, 0o777)
+        places = [made.top, *made.top.rglob("*")]
+        for place in places:
+            place.chmod(place.stat().st_mode & 0o555)
+        yield made, (65534 if os.geteuid() == 0 else None)
+        for place in places:
+            place.chmod(place.stat().st_mode | 0o200)
+
+
+def test_a_checkout_that_cannot_be_written(locked):
+    tree, user = locked
+    try:
+        assert tree.build(user=user) == (0, "")
+    except PermissionError:
+        pytest.skip("the other user can't run this Python")
+    source = tree.top / "crates" / "costs" / "src" / "lib.rt"
+    os.utime(source, (time.time() + 9, time.time() + 9))
+    status, said = tree.build(user=user)
+    assert status == 70 and said.count("\n") == 1 and said.endswith("/out/build/lock: Permission denied\n")
+    assert said.startswith("build: crates/costs/src/lib.rt is newer than crates/maxdetect/out/maxdetect, but ")
+    status, said = tree.build("maxsurvey", user=user)
+    assert status == 70 and said.count("\n") == 1 and said.startswith("build: maxsurvey isn't built, but ")
+
+
+def test_an_interrupt_that_was_held_back_ends_it_in_silence(tree):
+    signal.pthread_sigmask(signal.SIG_BLOCK, [signal.SIGINT])
+    try:
+        running = tree.start(TAKES="2")
+    finally:
+        signal.pthread_sigmask(signal.SIG_UNBLOCK, [signal.SIGINT])
+    running.send_signal(signal.SIGINT)
+    assert running.communicate(timeout=20)[1] == "" and running.returncode == 130

@@ -2,7 +2,10 @@
 import sys
 
 from . import cli, exporting
+from .starting import ended_by_signals
 
 if sys.argv[1:2] == ["survey"]:
-    sys.exit(cli.told("maxdetect survey", exporting.run, sys.argv[2:]))
+    with ended_by_signals():
+        status = cli.told("maxdetect survey", exporting.run, sys.argv[2:])
+    sys.exit(status)
 sys.exit(cli.main())

@@ -9,10 +9,8 @@ import math
 import os
 import pathlib
 import shlex
-import signal
 import sys
 import tempfile
-import threading
 import warnings
 from typing import Callable, Dict, List, Optional, Tuple
 
@@ -23,6 +21,7 @@ from astropy.utils.exceptions import AstropyWarning
 
 from . import __version__, adding, detection, images, kernel, surveys, tables
 from .errors import Mistake
+from .starting import ended_by_signals
 from .words import Parser, called, finite, whole
 
 DESCRIPTION = """Finds the sources of an image and writes a catalogue: positions, fluxes with errors, ellipses, flags,
@@ -525,36 +524,12 @@ def _say(line: str) -> None:
             print(line, file=sys.stderr, flush=True)
 
 
-@contextlib.contextmanager
-def _ended_by_signals():
-    """Within, the signals that batch systems and closed terminals send end the command as an exit does, so that it
-    leaves no half of a file. A signal that is ignored before, as by nohup, stays ignored.
-    """
-    numbers = [getattr(signal, name) for name in ("SIGTERM", "SIGHUP") if hasattr(signal, name)]
-    alone = threading.current_thread() is threading.main_thread()
-    taken = [number for number in numbers if alone and signal.getsignal(number) is signal.SIG_DFL]
-
-    def end(number, frame):
-        # One is enough: another would end the cleaning up.
-        for each in taken:
-            signal.signal(each, signal.SIG_IGN)
-        raise SystemExit(128 + number)
-
-    try:
-        for number in taken:
-            signal.signal(number, end)
-        yield
-    finally:
-        for number in taken:
-            signal.signal(number, signal.SIG_DFL)
-
-
 def main(words: Optional[List[str]] = None) -> int:
     """The command `maxcat`."""
     warnings.simplefilter("ignore", AstropyWarning)
     warnings.simplefilter("ignore", RuntimeWarning)
     warnings.showwarning = lambda message, *rest, **more: _say(f"maxcat: {' '.join(str(message).split())}")
-    with _ended_by_signals():
+    with ended_by_signals():
         return told("maxcat", run, words)
 
 

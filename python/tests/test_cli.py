@@ -349,7 +349,7 @@ def test_bad_images_among_good_ones(here, capsys, workers):
 
 
 @pytest.mark.parametrize("workers, images", [(1, 1), (2, 1), (2, 2)])
-@pytest.mark.parametrize("number", [signal.SIGTERM, signal.SIGHUP])
+@pytest.mark.parametrize("number", [signal.SIGINT, signal.SIGTERM, signal.SIGHUP])
 def test_a_signal_leaves_nothing(here, number, workers, images):
     (here / "slow").write_text("#!/bin/sh\ntouch started\nexec sleep 2\n")
     (here / "slow").chmod(0o755)
@@ -370,7 +370,7 @@ def test_a_signal_leaves_nothing(here, number, workers, images):
     assert sorted(os.listdir(".")) == sorted([*before, "started"])
 
 
-@pytest.mark.parametrize("number", [signal.SIGTERM, signal.SIGHUP])
+@pytest.mark.parametrize("number", [signal.SIGINT, signal.SIGTERM, signal.SIGHUP])
 def test_signals_are_as_before(monkeypatch, number):
     seen = []
     monkeypatch.setattr(cli, "run", lambda words: seen.append(signal.getsignal(number)))
