@@ -1,5 +1,4 @@
 """From a catalogue of `maxcat` to a field of a survey: what `maxsurvey` reads of it, and the call that adds it."""
-import contextlib
 import io
 import os
 import pathlib
@@ -7,13 +6,14 @@ import re
 import shutil
 import sqlite3
 import subprocess
-from typing import Optional, Union
+import time
+from typing import List, Optional, Tuple, Union
 
 import numpy
 from astropy.io import fits
 from astropy.table import Table
 
-from . import surveys
+from . import survey_files, surveys
 from .columns import CATALOGUE
 from .errors import Mistake
 from .kernel import NoProgram
@@ -26,11 +26,13 @@ STRANGE = """
     SELECT CASE WHEN type = 'table' THEN 'virtual table' ELSE type END, name FROM sqlite_master
     WHERE type = 'trigger' OR (type = 'index' AND sql IS NOT NULL AND tbl_name = 'source') OR sql LIKE 'CREATE VIRTUAL%'
 """
+# The status that tells no cause: the tables couldn't be kept.
+KEEPER = 6
 CAUSES = {
     3: "the catalogue couldn't be read",
     4: "its output failed",
     5: "memory is wanted",
-    6: "the file couldn't be opened or written",
+    KEEPER: "the file couldn't be opened or written",
 }
 
 
@@ -82,25 +84,6 @@ def survey_file(table: Table, unit: float = 1.0) -> bytes:
     return written.getvalue()
 
 
-@contextlib.contextmanager
-def _alone(path: str):
-    """Within, no other process that asks so has the file: the lock is the one on `PATH.lock`, which `flock` takes in
-    a shell.
-    """
-    try:
-        import fcntl
-    except ImportError:
-        yield
-        return
-    try:
-        lock = open(path + ".lock", "a", encoding="ascii")
-    except OSError as error:
-        raise Mistake(f"{path}: {error.strerror}") from None
-    with lock:
-        fcntl.flock(lock, fcntl.LOCK_EX)
-        yield
-
-
 def _why(path: str) -> str:
     """What keeps maxsurvey from a survey's file, as far as it can be told from outside."""
     folder = os.path.dirname(os.path.abspath(path))
@@ -110,24 +93,44 @@ def _why(path: str) -> str:
         return "the file, or its folder, can't be written"
     if shutil.disk_usage(folder).free < 2**20:
         return "there is no room on the disk"
-    return _why_not_opened(path) if os.path.exists(path) else CAUSES[6]
+    return _why_not_opened(path) if os.path.exists(path) else CAUSES[KEEPER]
 
 
 def _why_not_opened(path: str) -> str:
     """The same of a file that is there and may be written."""
     connection = sqlite3.connect(path, timeout=0, isolation_level=None)
     try:
+        # As maxsurvey does: beside nobody, readers among them.
+        connection.execute("PRAGMA locking_mode = EXCLUSIVE")
         connection.execute("BEGIN IMMEDIATE")
         strange = connection.execute(STRANGE).fetchone()
         connection.execute("ROLLBACK")
         if strange:
             return f"it has the {strange[0]} {strange[1]}, which maxsurvey doesn't understand"
         sound = connection.execute("PRAGMA quick_check(1)").fetchone()
-        return CAUSES[6] if sound == ("ok",) else "it is damaged"
+        return CAUSES[KEEPER] if sound == ("ok",) else "it is damaged"
     except sqlite3.Error as error:
-        return surveys.cause(error)
+        return survey_files.cause(error)
     finally:
         connection.close()
+
+
+def _answer(words: List[str], written: bytes, path: str) -> Tuple[int, str, str]:
+    """The status of maxsurvey, its note, and the cause. It takes a file that nobody else has at that moment, so it is
+    called again, for some seconds, where another process may have had it.
+    """
+    until, pause, was_busy = time.monotonic() + survey_files.PATIENCE, 0.01, False
+    while True:
+        done = subprocess.run(words, input=written, stdout=subprocess.DEVNULL, stderr=subprocess.PIPE, check=False)
+        note = re.sub(r"\s+", " ", done.stderr.decode("utf-8", "replace")).strip()
+        if done.returncode != KEEPER:
+            return done.returncode, note, CAUSES.get(done.returncode, "refused")
+        why = _why(path)
+        was_busy |= why == survey_files.BUSY
+        if why not in (survey_files.BUSY, CAUSES[KEEPER]) or time.monotonic() > until:
+            return KEEPER, note, survey_files.BUSY if was_busy else why
+        time.sleep(pause)
+        pause = min(2 * pause, 0.3)
 
 
 def add(
@@ -135,8 +138,8 @@ def add(
 ) -> None:
     """Gives a catalogue to a field of the survey in this file, through `maxsurvey`; what the field had is replaced.
 
-    Raises Mistake where the name is none, the program isn't there, or it answers a fault; the survey is then as it
-    was.
+    Other processes are waited for: without end those that add, some seconds those that read. Raises Mistake where the
+    name is none, the program isn't there, or it answers a fault; the survey is then as it was.
     """
     path = os.fspath(path)
     if not surveys.NAME.fullmatch(field):
@@ -145,12 +148,10 @@ def add(
         raise Mistake(f"{path} is a folder")
     words = [find_survey_program(program), "--file", path, "add", field]
     written = survey_file(table, unit)
-    with _alone(path):
+    with survey_files.alone(path):
         try:
-            done = subprocess.run(words, input=written, stdout=subprocess.DEVNULL, stderr=subprocess.PIPE, check=False)
+            status, note, cause = _answer(words, written, path)
         except OSError as error:
             raise NoProgram(f"{words[0]} can't be run: {error.strerror}") from None
-    if done.returncode != 0:
-        note = re.sub(r"\s+", " ", done.stderr.decode("utf-8", "replace")).strip()
-        cause = _why(path) if done.returncode == 6 else CAUSES.get(done.returncode, "refused")
-        raise Mistake(f"{path}: maxsurvey answers {note or done.returncode}: {cause}")
+    if status != 0:
+        raise Mistake(f"{path}: maxsurvey answers {note or status}: {cause}")

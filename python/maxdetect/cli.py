@@ -441,9 +441,13 @@ def _done(task: Task, given: argparse.Namespace, tiles, progress) -> str:
             found.append(_finished(table, field, task, given))
         table = _joined(found)
         _write(table, task, given, maps, names)
-        if task.survey_field:
+    written = f"{len(table)} sources in {shlex.quote(task.output)}"
+    if task.survey_field:
+        try:
             adding.add(given.survey, task.survey_field, table, unit=given.survey_unit or 1.0)
-    return f"{len(table)} sources in {shlex.quote(task.output)}"
+        except Mistake as fault:
+            raise Mistake(f"{fault}; {written}") from None
+    return written
 
 
 def _count(tasks: List[Task]) -> int:

@@ -9,7 +9,7 @@ from typing import Iterator, List, Optional
 import numpy
 from astropy.table import Table
 
-from . import surveys, tables
+from . import survey_files, surveys, tables
 from .errors import Mistake
 from .words import Parser, whole
 
@@ -64,7 +64,7 @@ def _told(path: str) -> Iterator[None]:
     try:
         yield
     except sqlite3.Error as error:
-        raise Mistake(f"{path}: {surveys.cause(error)}") from None
+        raise Mistake(f"{path}: {survey_files.cause(error)}") from None
 
 
 def _plain_values(column) -> list:

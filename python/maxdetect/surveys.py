@@ -11,8 +11,7 @@ import os
 import pathlib
 import re
 import sqlite3
-import urllib.parse
-from typing import ContextManager, Dict, Iterable, Iterator, List, Mapping, Optional, Tuple, Union
+from typing import Dict, Iterable, Iterator, List, Mapping, Optional, Tuple, Union
 
 import numpy
 from astropy import units
@@ -21,7 +20,7 @@ from astropy.io.registry import IORegistryError
 from astropy.table import Table
 from astropy.wcs import WCS
 
-from . import tables
+from . import survey_files, tables
 from .columns import CATALOGUE
 from .errors import Mistake
 
@@ -42,8 +41,8 @@ class Survey(collections.abc.Mapping):
     A catalogue has a row for each source, the columns of `maxdetect detect`, all of them 64-bit whole numbers, and
     X and Y, the centre in pixels from 1; each column has its unit and a description. Iteration gives the names in
     their order. The file is opened read-only at each look, so what another process adds is seen at the next one, and
-    no look makes a file, or locks one for longer than it takes. Raises Mistake where the file isn't a survey's, or a
-    field's rows have another form.
+    no look makes a file, or locks one for longer than it takes. A process that writes is waited for, for some seconds.
+    Raises Mistake where it takes longer, the file isn't a survey's, or a field's rows have another form.
 
     >>> import maxdetect
     >>> opened = maxdetect.survey("survey.db")                                      # doctest: +SKIP
@@ -56,11 +55,7 @@ class Survey(collections.abc.Mapping):
 
     def _asked(self, text: str, *values) -> List[Tuple]:
         """The rows that a question gives."""
-        try:
-            with _opened(self.path) as connection:
-                return list(connection.execute(text, values))
-        except sqlite3.Error as error:
-            raise Mistake(f"{self.path}: {cause(error)}") from None
+        return survey_files.asked(self.path, text, *values)
 
     def __iter__(self) -> Iterator[str]:
         return iter([_name(self.path, name) for name, in self._asked("SELECT field FROM source ORDER BY field")])
@@ -127,7 +122,7 @@ class Survey(collections.abc.Mapping):
                 rows = [(name, _sum(cells)) for name, cells in writing.execute("SELECT field, cells FROM source")]
                 writing.executemany("INSERT INTO source_sum VALUES (?, ?)", rows)
         except sqlite3.Error as error:
-            raise Mistake(f"{self.path}: {cause(error)}") from None
+            raise Mistake(f"{self.path}: {survey_files.cause(error)}") from None
         return len(rows)
 
     def changed(self) -> List[str]:
@@ -146,32 +141,7 @@ def survey(path: Union[str, os.PathLike]) -> Survey:
     return Survey(path)
 
 
-# ---- the file
-
-
-def _opened(path: str) -> ContextManager[sqlite3.Connection]:
-    """The file, open for reading within a block. Where its folder can't be written and no log stands beside it, SQLite
-    is told that nobody else writes.
-    """
-    if not os.path.isfile(path):
-        raise Mistake(f"{path} is a folder" if os.path.isdir(path) else f"{path}: there is no such file")
-    whole = urllib.parse.quote(os.path.abspath(path))
-    folder, log = os.path.dirname(os.path.abspath(path)), path + "-wal"
-    alone = not os.access(folder, os.W_OK) and not (os.path.exists(log) and os.path.getsize(log))
-    how = "mode=ro&immutable=1" if alone else "mode=ro"
-    return contextlib.closing(sqlite3.connect(f"file:{whole}?{how}", uri=True))
-
-
-def cause(error: sqlite3.Error) -> str:
-    """What an error of SQLite means for whoever opened its file."""
-    text = str(error)
-    if "no such table" in text or "no such column" in text or "not a database" in text:
-        return "this is no survey's file"
-    if "locked" in text or "busy" in text:
-        return "another process has the file; try again"
-    if "unable to open" in text or "readonly" in text:
-        return "the file can't be opened"
-    return text
+# ---- catalogues
 
 
 def _name(path: str, name) -> str:
@@ -182,9 +152,6 @@ def _name(path: str, name) -> str:
 
 def _sum(cells) -> str:
     return hashlib.sha256(cells if isinstance(cells, bytes) else str(cells).encode()).hexdigest()
-
-
-# ---- catalogues
 
 
 def _rows(path: str, name: str, cells) -> numpy.ndarray:

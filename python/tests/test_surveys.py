@@ -1,9 +1,14 @@
 """Surveys: reading the file that maxsurvey keeps, adding to it, matching, and exporting."""
+import contextlib
 import os
+import pathlib
 import shutil
 import sqlite3
 import struct
 import subprocess
+import sys
+import tempfile
+import time
 
 import numpy
 import pytest
@@ -12,7 +17,7 @@ from astropy.table import Table
 from astropy.wcs import WCS
 
 import maxdetect
-from maxdetect import adding, cli, exporting, surveys
+from maxdetect import adding, cli, exporting, survey_files, surveys
 from maxdetect.errors import Mistake
 
 SCHEMA = "CREATE TABLE IF NOT EXISTS source (field TEXT NOT NULL PRIMARY KEY, cells BLOB NOT NULL) STRICT"
@@ -39,6 +44,14 @@ def kept(path, **fields):
 @pytest.fixture
 def two(tmp_path):
     return kept(tmp_path / "two.db", SOUTH=cells(row(1, 50), row(2, 70)), NORTH=cells(row(1, 70, 2500, 1500)))
+
+
+@pytest.fixture
+def program():
+    found = os.environ.get("MAXSURVEY") or shutil.which("maxsurvey")
+    if not found:
+        pytest.skip("the environment's MAXSURVEY names no program")
+    return found
 
 
 def sky(at=150.0):
@@ -138,12 +151,97 @@ def test_a_name_that_is_none(tmp_path):
         list(maxdetect.survey(kept(tmp_path / "a.db", **{"A B": b""})))
 
 
-def test_a_file_in_a_folder_that_cannot_be_written(two):
-    os.chmod(two.parent, 0o555)
-    try:
-        assert maxdetect.survey(two)["NORTH"]["FLUX"].tolist() == [70]
-    finally:
-        os.chmod(two.parent, 0o755)
+# What another user sees, who can't write the file or its folder: how many sources there are, at so many looks.
+LOOKS = """
+import os, sys
+sys.path.insert(0, sys.argv[1])
+import maxdetect
+if os.geteuid() == 0:
+    os.setgroups([])
+    os.setgid(65534)
+    os.setuid(65534)
+for turn in range(int(sys.argv[3])):
+    opened = maxdetect.survey(sys.argv[2])
+    print(sum(len(opened[name]) for name in opened))
+"""
+
+
+def seen_by_another(path, turns=1):
+    package = pathlib.Path(maxdetect.__file__).parent.parent
+    words = [sys.executable, "-c", LOOKS, str(package), str(path), str(turns)]
+    done = subprocess.run(words, stdout=subprocess.PIPE, stderr=subprocess.PIPE, text=True, timeout=300)
+    assert (done.returncode, done.stderr) == (0, "")
+    return [int(line) for line in done.stdout.split()]
+
+
+@pytest.fixture
+def shown():
+    """A folder that every user can read."""
+    with tempfile.TemporaryDirectory() as name:
+        os.chmod(name, 0o755)
+        yield pathlib.Path(name)
+        os.chmod(name, 0o755)
+
+
+def killed_within_an_add(path):
+    """Leaves a file and a log that has pages: the field B stands in the log alone."""
+    copy = path.with_name("copy")
+    with contextlib.closing(sqlite3.connect(path, isolation_level=None)) as file:
+        file.execute("PRAGMA journal_mode = WAL")
+        file.execute("INSERT INTO source SELECT 'B', cells FROM source WHERE field = 'A'")
+        for end in ("", "-wal"):
+            shutil.copy(f"{path}{end}", f"{copy}{end}")
+    for end in ("", "-wal"):
+        os.replace(f"{copy}{end}", f"{path}{end}")
+
+
+@pytest.mark.parametrize("left", ["as the program ends", "without its log", "killed", "plain"])
+def test_a_look_makes_no_file_and_needs_no_right_to(shown, stars, program, left):
+    table, path = maxdetect.catalogue(stars[0])[0], shown / "s.db"
+    if left == "plain":
+        kept(path, A=cells(*(row(number + 1, 5) for number in range(len(table)))))
+    else:
+        maxdetect.add(path, "A", table, program=program)
+        os.unlink(shown / "s.db.lock")
+        assert (shown / "s.db-wal").stat().st_size == 41
+    if left == "without its log":
+        os.unlink(shown / "s.db-wal")
+    if left == "killed":
+        killed_within_an_add(path)
+    before = {name: (shown / name).stat() for name in os.listdir(shown)}
+    os.chmod(shown, 0o555)
+    assert seen_by_another(path) == [len(table) * (2 if left == "killed" else 1)]
+    # Who can write the folder leaves as little there.
+    os.chmod(shown, 0o755)
+    assert len(maxdetect.survey(path)["A"]) == len(table)
+    after = {name: (shown / name).stat() for name in os.listdir(shown)}
+    assert {name: (it.st_size, it.st_mtime_ns) for name, it in before.items()} == {
+        name: (it.st_size, it.st_mtime_ns) for name, it in after.items()
+    }
+
+
+@contextlib.contextmanager
+def at_work(program, path, data):
+    """Within, another process adds the catalogue in this file to the survey, over and over; how often it could."""
+    text = 'while [ ! -e "$3" ]; do "$0" --file "$1" add A < "$2" && echo done; done'
+    stop, done = path.with_name("stop"), []
+    words = ["sh", "-c", text, program, path, data, stop]
+    with subprocess.Popen(words, stdout=subprocess.PIPE, stderr=subprocess.DEVNULL) as writing:
+        try:
+            yield done
+        finally:
+            stop.touch()
+            done += writing.communicate()[0].split()
+
+
+@pytest.mark.skipif(os.geteuid() != 0, reason="it wants a writer who isn't the reader")
+def test_who_cannot_write_the_folder_reads_beside_a_writer(shown, stars, program):
+    table, path = maxdetect.catalogue(stars[0])[0], shown / "s.db"
+    maxdetect.add(path, "A", table, program=program)
+    (shown / "a.cat").write_bytes(adding.survey_file(table))
+    with at_work(program, path, shown / "a.cat") as done:
+        assert seen_by_another(path, 200) == [len(table)] * 200
+    assert len(done) > 5
 
 
 def test_sums_tell_what_changed(two):
@@ -175,14 +273,6 @@ def test_sources_at_one_place():
 
 
 # ---- adding
-
-
-@pytest.fixture
-def program():
-    found = os.environ.get("MAXSURVEY") or shutil.which("maxsurvey")
-    if not found:
-        pytest.skip("the environment's MAXSURVEY names no program")
-    return found
 
 
 def listed(program, path):
@@ -226,8 +316,33 @@ def test_what_is_not_added(tmp_path, stars, program, monkeypatch):
         maxdetect.add(tmp_path / "s.db", "A", table)
 
 
-def test_why_the_file_is_not_taken(tmp_path, stars, program):
+@contextlib.contextmanager
+def looking(path):
+    """Within, another process reads the survey by this package, over and over."""
+    package = pathlib.Path(maxdetect.__file__).parent.parent
+    text = LOOKS.replace("if os.geteuid() == 0:", "print('ready', flush=True)\nif False:")
+    words = [sys.executable, "-c", text, str(package), str(path), "1000000000"]
+    with subprocess.Popen(words, stdout=subprocess.PIPE, stderr=subprocess.DEVNULL) as reading:
+        try:
+            assert reading.stdout.readline() == b"ready\n"
+            yield
+        finally:
+            reading.kill()
+            reading.communicate()
+
+
+def test_adds_beside_a_reader(tmp_path, stars, program):
+    table, path = maxdetect.catalogue(stars[0])[0], tmp_path / "s.db"
+    maxdetect.add(path, "A", table)
+    with looking(path), looking(path):
+        for number in range(30):
+            maxdetect.add(path, f"F{number}", table)
+    assert len(maxdetect.survey(path)) == 31
+
+
+def test_why_the_file_is_not_taken(tmp_path, stars, program, monkeypatch):
     table, _ = maxdetect.catalogue(stars[0])
+    monkeypatch.setattr(survey_files, "PATIENCE", 0.5)
 
     def told(path):
         with pytest.raises(Mistake, match="keeper fault") as caught:
@@ -236,17 +351,38 @@ def test_why_the_file_is_not_taken(tmp_path, stars, program):
 
     path = tmp_path / "s.db"
     maxdetect.add(path, "A", table)
+    for begun in ("BEGIN IMMEDIATE", "BEGIN"):
+        held = sqlite3.connect(path, isolation_level=None)
+        held.execute(begun)
+        held.execute("SELECT count(*) FROM source").fetchall()
+        assert "another process has the file" in told(path)
+        held.close()
     held = sqlite3.connect(path, isolation_level=None)
-    held.execute("BEGIN IMMEDIATE")
-    assert "another process has the file" in told(path)
-    held.execute("ROLLBACK")
     held.execute("CREATE TRIGGER t AFTER INSERT ON source BEGIN SELECT 1; END")
     held.close()
-    assert "the trigger t" in told(path)
+    begun = time.monotonic()
+    assert "the trigger t" in told(path) and time.monotonic() < begun + 0.5
     (tmp_path / "text").write_text("no database, but longer than a header of one" * 9)
     assert "no survey's file" in told(tmp_path / "text")
     with pytest.raises(Mistake, match="s.db: No such file"):
         maxdetect.add(tmp_path / "none" / "s.db", "A", table)
+
+
+def test_a_catalogue_is_written_where_the_survey_is_not(tmp_path, monkeypatch, stars, program, capsys):
+    monkeypatch.chdir(tmp_path)
+    monkeypatch.setattr(survey_files, "PATIENCE", 0.3)
+    fits.writeto("a.fits", stars[0])
+    assert cli.main(["a.fits", "--survey", "s.db"]) == 0
+    count = len(Table.read("a.cat.fits"))
+    os.unlink("a.cat.fits")
+    capsys.readouterr()
+    held = sqlite3.connect("s.db", isolation_level=None)
+    held.execute("BEGIN IMMEDIATE")
+    assert cli.main(["a.fits", "--survey", "s.db"]) == 2
+    held.close()
+    told = "maxcat: s.db: maxsurvey answers keeper fault: another process has the file; try again; "
+    assert capsys.readouterr() == ("", f"{told}{count} sources in a.cat.fits\n")
+    assert len(Table.read("a.cat.fits")) == count
 
 
 def test_maxcat_adds_what_it_found(tmp_path, monkeypatch, stars, program, capsys):
