@@ -126,6 +126,11 @@ def others(folder, image, side):
     python = "/usr/bin/python3"
     if side <= 1024 and os.path.exists(python) and subprocess.run([python, "-c", "import skimage, astropy"], capture_output=True).returncode == 0:
         yield "max-tree alone", "scikit-image", [python, "-c", MAX_TREE, image]
+    yield from source_extractor(folder, image)
+
+
+def source_extractor(folder, image, *more):
+    """Source Extractor's background and detection, with further options, where it is installed."""
     extractor = shutil.which("source-extractor") or shutil.which("sex")
     if extractor:
         columns = folder / "columns"
@@ -134,7 +139,7 @@ def others(folder, image, side):
         settings.write_text("")
         options = ["-PARAMETERS_NAME", columns, "-FILTER", "N", "-CATALOG_NAME", folder / "catalogue", "-DETECT_MINAREA", "5"]
         options += ["-CHECKIMAGE_TYPE", "SEGMENTATION", "-CHECKIMAGE_NAME", folder / "segments.fits", "-VERBOSE_TYPE", "QUIET"]
-        yield "detect", YARDSTICKS["detect"], [extractor, image, "-c", settings, *options]
+        yield "detect", YARDSTICKS["detect"], [extractor, image, "-c", settings, *options, *more]
 
 
 def print_rows(title, runs, image, count):
@@ -186,4 +191,5 @@ def main():
     print("All outputs of one job on one image are the same bytes.")
 
 
-main()
+if __name__ == "__main__":
+    main()
