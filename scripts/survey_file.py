@@ -4,8 +4,8 @@ usage: python3 scripts/survey_file.py MAXDETECT MAXSURVEY      (the built progra
 
 Catalogues are made by `maxdetect detect` of `examples/star_field.py`. What is tried: a second process lists what a first one added; Python's
 sqlite3 opens the file, finds it sound, and decodes each blob to the cells of the catalogue; two processes add to one file at once; a process
-is killed at many moments of a series of adds; a table `source` of another form stays as it is; and files that can't be used give status 6. Only Python's own library is needed. Exit status 1
-where an answer differs.
+is killed at many moments of a series of adds; a table `source` of another form stays as it is; what else may stand in the database; and files that can't be used give status 6.
+Only Python's own library is needed. Exit status 1 where an answer differs.
 """
 import os
 import pathlib
@@ -24,6 +24,40 @@ ROW = struct.Struct(">iqqiqqiiiiiiiiqqq")
 CELLS = struct.Struct(">17q")
 SCHEMA = "CREATE TABLE IF NOT EXISTS source (field TEXT NOT NULL PRIMARY KEY, cells BLOB NOT NULL) STRICT"
 KILLS, EACH = 20, 8
+# What another program may have put into the database: with each of the first the program works, and with none of the others.
+TAKEN = """
+    CREATE INDEX i ON source (field)
+    CREATE UNIQUE INDEX i ON source (field DESC, cells)
+    CREATE INDEX i ON source (field COLLATE NOCASE)
+    CREATE TABLE t (a CHECK (a > 0), b DEFAULT (datetime('now')), c AS (a + 1) STORED)
+    CREATE TABLE t (a INTEGER PRIMARY KEY AUTOINCREMENT)
+    CREATE TABLE t (a PRIMARY KEY) WITHOUT ROWID
+    CREATE TABLE t (a, b); CREATE INDEX i ON t (a) WHERE b > 1; CREATE INDEX j ON t (a + b)
+    CREATE TABLE t (a TEXT); CREATE TRIGGER r AFTER INSERT ON t BEGIN INSERT INTO source VALUES (new.a, x''); END
+    CREATE VIEW v AS SELECT count(*) FROM source AS one LEFT JOIN source AS other USING (field) GROUP BY field ORDER BY 1
+    CREATE TABLE t (a REFERENCES source (field))
+    PRAGMA journal_mode = WAL
+    ANALYZE
+"""
+STRANGE = """
+    CREATE INDEX i ON source (field) WHERE field > 'M'
+    CREATE INDEX i ON source (length(cells))
+    CREATE TRIGGER r AFTER INSERT ON source BEGIN SELECT 1; END
+    CREATE VIEW v AS SELECT field FROM source; CREATE TRIGGER r INSTEAD OF INSERT ON v BEGIN SELECT 1; END
+    CREATE VIEW v AS SELECT row_number() OVER (ORDER BY field) FROM source
+    CREATE VIEW v AS VALUES (1), (2)
+    CREATE VIEW v AS SELECT count(*) FILTER (WHERE field > 'M') FROM source
+    CREATE VIEW v AS SELECT * FROM source AS one FULL JOIN source AS other USING (field)
+    CREATE VIEW v AS SELECT * FROM json_each('[1]')
+    CREATE TABLE t (a REFERENCES source (field)); INSERT INTO t VALUES ('NONE')
+"""
+# What stands in front of the table: whether the program works then.
+BEFORE = {
+    **{f"PRAGMA page_size = {size}": True for size in (512, 1024, 8192, 32768, 65536)},
+    "PRAGMA auto_vacuum = FULL": False,
+    "PRAGMA auto_vacuum = INCREMENTAL": False,
+    "PRAGMA encoding = 'UTF-16le'": False,
+}
 
 
 class Wrong(Exception):
@@ -164,6 +198,44 @@ def another_table(maxsurvey, folder, catalogues):
     want("after VACUUM", survey(maxsurvey, ["--file", path, "list"]), (0, line("A", catalogues[0]), ""))
 
 
+def made_with(path, before, behind):
+    """A file of Python's sqlite3 with a field A without rows, and statements before and behind its table."""
+    path.unlink(missing_ok=True)
+    base = sqlite3.connect(path, isolation_level=None)
+    base.executescript(f"{before}; {SCHEMA}; INSERT INTO source VALUES ('A', x''); {behind}")
+    base.close()
+
+
+def what_else_stands_there(maxsurvey, folder, catalogues):
+    """With some things beside the table the program works, and with others it does nothing."""
+    path, count = folder / "else.db", 0
+    cases = [("", line, True) for line in TAKEN.strip().splitlines()] + [("", line, False) for line in STRANGE.strip().splitlines()]
+    for before, behind, is_taken in cases + [(line, "", is_taken) for line, is_taken in BEFORE.items()]:
+        try:
+            made_with(path, before, behind)
+        except sqlite3.Error:
+            # An older library than the statement.
+            continue
+        answers = [survey(maxsurvey, ["--file", path, *words], catalogues[0])[0] for words in (["add", "B"], ["add", "A"], ["list"], ["drop", "A"])]
+        want(f"beside {before or behind.strip()}", answers, [0] * 4 if is_taken else [6] * 4)
+        want("its fields", sorted(records(path)), ["B"] if is_taken else ["A"])
+        count += 1
+    return f"{count} databases"
+
+
+def foreign_keys(maxsurvey, folder, catalogues):
+    """Rows of another table that refer to a field keep it, or go with it; a new catalogue of the field leaves them."""
+    path, fault = folder / "keys.db", (6, "", "keeper fault\n")
+    for clause, answer, rows in (("", fault, [("A",)]), ("ON DELETE CASCADE", (0, "", ""), []), ("ON DELETE SET NULL", (0, "", ""), [(None,)])):
+        made_with(path, "", f"CREATE TABLE t (a TEXT REFERENCES source (field) {clause}); INSERT INTO t VALUES ('A')")
+        want("add", survey(maxsurvey, ["--file", path, "add", "A"], catalogues[0]), (0, "", ""))
+        for words, said, left in ((["list"], (0, line("A", catalogues[0]), ""), [("A",)]), (["drop", "A"], answer, rows)):
+            want(f"{words} {clause}", survey(maxsurvey, ["--file", path, *words]), said)
+            base = sqlite3.connect(path)
+            want(f"the rows {clause}", base.execute("SELECT a FROM t").fetchall(), left)
+            base.close()
+
+
 def at_once(maxsurvey, folder, catalogues):
     """Each add of two processes is there in the end, or was answered as a fault."""
     path, data = folder / "two.db", catalogues[0]
@@ -299,7 +371,7 @@ def main():
         catalogues = [detect(maxdetect, 128, seed) for seed in range(4)]
         print("catalogues of", ", ".join(str(len(catalogue_rows(data))) for data in catalogues), "rows")
         try:
-            for trial in (found_again, written_by_python, another_table, at_once, killed, refused, read_only, full_disk):
+            for trial in (found_again, written_by_python, another_table, what_else_stands_there, foreign_keys, at_once, killed, refused, read_only, full_disk):
                 print(f"{trial.__name__}:", trial(maxsurvey, folder, catalogues) or "done", flush=True)
         except Wrong as wrong:
             print(f"{trial.__name__}: {wrong}")

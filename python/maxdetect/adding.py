@@ -21,10 +21,19 @@ from .kernel import NoProgram
 __all__ = ["add", "find_survey_program", "survey_file"]
 
 GREATEST = 2.0**62
-# What a database may have that keeps maxsurvey out.
+# What a database may have that keeps maxsurvey out, as the man page lists it; of views nothing is told.
 STRANGE = """
-    SELECT CASE WHEN type = 'table' THEN 'virtual table' ELSE type END, name FROM sqlite_master
-    WHERE type = 'trigger' OR (type = 'index' AND sql IS NOT NULL AND tbl_name = 'source') OR sql LIKE 'CREATE VIRTUAL%'
+    SELECT type, name FROM sqlite_master WHERE type = 'trigger'
+    AND (tbl_name LIKE 'source' OR tbl_name IN (SELECT name FROM sqlite_master WHERE type = 'view'))
+    UNION ALL SELECT 'virtual table', name FROM sqlite_master WHERE sql LIKE 'CREATE VIRTUAL%'
+    UNION ALL SELECT 'index', name FROM pragma_index_list('source') AS list
+    WHERE partial OR EXISTS (SELECT 1 FROM pragma_index_info(list.name) WHERE cid < 0)
+    UNION ALL SELECT 'auto_vacuum', '' FROM pragma_auto_vacuum WHERE auto_vacuum
+    UNION ALL SELECT 'encoding', encoding FROM pragma_encoding WHERE encoding <> 'UTF-8'
+    UNION ALL SELECT 'foreign key without a partner in table', "table" FROM pragma_foreign_key_check
+    UNION ALL SELECT 'table source of another form', '' FROM (SELECT group_concat(
+        name || type || "notnull" || ifnull(dflt_value, '-') || pk || hidden) AS form FROM pragma_table_xinfo('source'))
+    WHERE form <> 'fieldTEXT1-10,cellsBLOB1-00'
 """
 # The status that tells no cause: the tables couldn't be kept.
 KEEPER = 6
@@ -106,7 +115,7 @@ def _why_not_opened(path: str) -> str:
         strange = connection.execute(STRANGE).fetchone()
         connection.execute("ROLLBACK")
         if strange:
-            return f"it has the {strange[0]} {strange[1]}, which maxsurvey doesn't understand"
+            return f"it has the {' '.join(strange).strip()}, which maxsurvey doesn't understand"
         sound = connection.execute("PRAGMA quick_check(1)").fetchone()
         return CAUSES[KEEPER] if sound == ("ok",) else "it is damaged"
     except sqlite3.Error as error:

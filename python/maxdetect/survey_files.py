@@ -153,14 +153,15 @@ def asked(path: str, text: str, *values) -> List[Tuple]:
     try:
         if fcntl is not None:
             _let_writers_pass(path, until)
-        while time.monotonic() < until:
+        while True:
             if fcntl is None or os.path.exists(path + "-shm") or not _has_log(path):
                 return _rows(_connected(path, "mode=ro"), text, values)
             before = _state(path)
             rows = _asked_of_file(path, text, values, until)
             if _state(path) == before:
                 return rows
-        raise Mistake(f"{path}: {BUSY}")
+            if time.monotonic() > until:
+                raise Mistake(f"{path}: {BUSY}")
     except sqlite3.Error as error:
         raise Mistake(f"{path}: {cause(error)}") from None
     except OSError as error:

@@ -368,6 +368,42 @@ def test_why_the_file_is_not_taken(tmp_path, stars, program, monkeypatch):
         maxdetect.add(tmp_path / "none" / "s.db", "A", table)
 
 
+@pytest.mark.parametrize(
+    "before, behind, cause",
+    [
+        ("", "CREATE INDEX i ON source (field)", None),
+        ("", "CREATE INDEX i ON source (field) WHERE field > 'M'", "the index i,"),
+        ("", "CREATE INDEX i ON source (length(cells))", "the index i,"),
+        ("", "CREATE TABLE t (a TEXT); CREATE TRIGGER r AFTER INSERT ON t BEGIN SELECT 1; END", None),
+        (
+            "",
+            "CREATE VIEW v AS SELECT 1 AS a; CREATE TRIGGER r INSTEAD OF INSERT ON v BEGIN SELECT 1; END",
+            "trigger r,",
+        ),
+        (
+            "",
+            "CREATE TABLE t (a REFERENCES source); INSERT INTO t VALUES ('NONE')",
+            "foreign key without a partner in table t",
+        ),
+        ("", "DROP TABLE source; CREATE TABLE source (field TEXT, cells BLOB)", "the table source of another form"),
+        ("PRAGMA auto_vacuum = FULL", "", "the auto_vacuum,"),
+        ("PRAGMA encoding = 'UTF-16be'", "", "the encoding UTF-16be,"),
+        ("PRAGMA page_size = 512", "", None),
+    ],
+)
+def test_what_else_stands_in_the_file(tmp_path, stars, program, monkeypatch, before, behind, cause):
+    monkeypatch.setattr(survey_files, "PATIENCE", 0)
+    table, path = maxdetect.catalogue(stars[0])[0], tmp_path / "s.db"
+    with contextlib.closing(sqlite3.connect(path, isolation_level=None)) as file:
+        file.executescript(f"{before}; {SCHEMA}; {behind}")
+    if cause is None:
+        maxdetect.add(path, "A", table)
+        assert len(maxdetect.survey(path)["A"]) == len(table)
+    else:
+        with pytest.raises(Mistake, match=cause):
+            maxdetect.add(path, "A", table)
+
+
 def test_a_catalogue_is_written_where_the_survey_is_not(tmp_path, monkeypatch, stars, program, capsys):
     monkeypatch.chdir(tmp_path)
     monkeypatch.setattr(survey_files, "PATIENCE", 0.3)
