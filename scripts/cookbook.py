@@ -3,7 +3,7 @@
 usage: /usr/bin/python3 scripts/cookbook.py MAXDETECT [DOCUMENT]      (MAXDETECT is the built program)
 
 A block's first line may say what it wants: `# wants: stilts sep`, each the name of a program or of a Python module,
-or `index-files` for those of astrometry.net. A block without a language right behind another one is what that one
+or `index-files` for those of astrometry.net. Lines that install packages, and `.ci/run`, are left out. A block without a language right behind another one is what that one
 prints. Where something is missing the block is skipped, and a line says so. A block that fails ends the run with
 status 1. The commands find `maxcat`, and Python the package, in this repository; MAXDETECT_HOME is its folder.
 """
@@ -19,6 +19,8 @@ import tempfile
 TOP = pathlib.Path(__file__).resolve().parent.parent
 BLOCK = re.compile(r"^```(sh|python)\n(.*?)^```$(?:\s*^```\n(.*?)^```$)?", re.M | re.S)
 INDEX_FILES = pathlib.Path("/usr/share/astrometry")
+# What changes the machine, and what runs this script.
+OUTSIDE = re.compile(r"^(apt-get |\.ci/run$).*\n", re.M)
 
 
 def is_there(name):
@@ -92,7 +94,7 @@ def main():
     with tempfile.TemporaryDirectory() as name:
         environment = surroundings(pathlib.Path(name), program)
         kitchen = furnished(pathlib.Path(name), program)
-        for language, code, told in BLOCK.findall(document.read_text(encoding="utf-8")):
+        for language, code, told in BLOCK.findall(OUTSIDE.sub("", document.read_text(encoding="utf-8"))):
             missing = [name for name in wanted(code) if not is_there(name)]
             if missing:
                 print(f"skipped: a block of {document.name} wants {', '.join(missing)}")

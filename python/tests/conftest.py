@@ -16,7 +16,7 @@ pytest.importorskip("sep")
 
 
 def pytest_collection_modifyitems(items):
-    """Without the program there is nothing to test; building it would take half an hour."""
+    """Without the program there is nothing to test; building it would take many minutes."""
     if not os.environ.get("MAXDETECT") and not shutil.which("maxdetect"):
         for item in items:
             item.add_marker(pytest.mark.skip(reason="the environment's MAXDETECT names no program"))
