@@ -20,7 +20,7 @@ from .kernel import NoProgram
 
 __all__ = ["add", "find_survey_program", "survey_file"]
 
-GREATEST = 2.0**62
+GREATEST = 2**62
 # What a database may have that keeps maxsurvey out, as the man page lists it; of views nothing is told.
 STRANGE = """
     SELECT type, name FROM sqlite_master WHERE type = 'trigger'
@@ -65,9 +65,11 @@ def find_survey_program(program: Optional[str] = None) -> str:
 
 def _whole_fluxes(table: Table, unit: float) -> numpy.ndarray:
     """The fluxes in units of `unit`, as whole numbers."""
-    name = "FLUX_ISO" if "FLUX_ISO" in table.colnames else "FLUX"
-    fluxes = numpy.rint(numpy.ma.asarray(table[name]).filled(0).astype("f8") / unit)
-    if not numpy.all(numpy.abs(fluxes) < GREATEST):
+    fluxes = numpy.ma.asarray(table["FLUX_ISO" if "FLUX_ISO" in table.colnames else "FLUX"]).filled(0)
+    # The program's own are whole, and may have more digits than a floating-point number.
+    if fluxes.dtype.kind != "i" or unit != 1:
+        fluxes = numpy.rint(fluxes.astype("f8") / unit)
+    if not numpy.all((-GREATEST < fluxes) & (fluxes < GREATEST)):
         raise Mistake(f"a flux is no whole number of {unit:g} below 2^62; name another --survey-unit")
     return fluxes.astype("i8")
 
