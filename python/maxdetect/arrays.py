@@ -7,7 +7,7 @@ import numpy
 from astropy.io import fits
 from astropy.table import Table
 
-from . import detection, tables
+from . import detection, stored, tables
 from .noise import floats
 
 __all__ = ["ArrayPlane", "catalogue"]
@@ -23,10 +23,11 @@ class ArrayPlane:
             raise ValueError(f"an image has two dimensions and a pixel, not the sides {numpy.shape(image)}")
         self.array, self.shape, self.label = image, numpy.shape(image), label
         self.header, self.unit = fits.Header(), None
+        self.origin = stored.origin(image)
 
-    def window(self, rows: slice, columns: slice = slice(None)) -> numpy.ndarray:
-        """The pixels of some rows and columns: 32 bits where these hold the numbers, and else 64."""
-        return floats(self.array[rows, columns])
+    def window(self, rows: slice, columns: slice = slice(None), less: int = 0) -> numpy.ndarray:
+        """The pixels of some rows and columns less a whole number: 32 bits where these hold them, and else 64."""
+        return floats(self.array[rows, columns], less)
 
 
 def _numbers(image, label: str) -> numpy.ndarray:

@@ -3,6 +3,7 @@ at a time.
 """
 import concurrent.futures
 import dataclasses
+import math
 from typing import Callable, Optional, Tuple, Union
 
 import numpy
@@ -78,11 +79,11 @@ class Field:
         return self.plane.shape
 
     def image(self, rows: slice, columns: slice = slice(None)) -> numpy.ndarray:
-        """Its pixels in a window, NaN where they are undefined."""
+        """Its pixels in a window less the plane's origin, NaN where they are undefined."""
         return self._masked(self.plane, rows, columns)
 
     def _masked(self, plane, rows, columns):
-        image = plane.window(rows, columns)
+        image = plane.window(rows, columns, plane.origin)
         if self.mask is not None:
             mask = self.mask.window(rows, columns)
             image[(mask != 0) | ~numpy.isfinite(mask)] = numpy.nan
@@ -93,8 +94,15 @@ class Field:
         return relative_noise(self.weights.window(rows, columns), self.settings.weight_type)
 
     def to_measure(self, rows: slice, columns: slice) -> numpy.ndarray:
-        """What fluxes are measured in."""
+        """What fluxes are measured in, less its plane's origin."""
         return self._masked(self.values or self.plane, rows, columns)
+
+    @property
+    def saturation(self) -> Optional[float]:
+        """From which number on pixels of `to_measure` are saturated."""
+        limit, origin = self.settings.saturation, (self.values or self.plane).origin
+        # Where there is an origin the pixels have whole numbers, which 64 bits of floating point don't hold.
+        return math.ceil(limit) - origin if origin and limit is not None else limit
 
 
 class Detector:
@@ -211,7 +219,7 @@ class Detector:
         )
         if self.field.values is None and self.field.weights is not None:
             noise = self.noise(part.rows, part.columns)
-        more = dict(gain=settings.gain, saturation=settings.saturation, threshold=settings.threshold)
+        more = dict(gain=settings.gain, saturation=self.field.saturation, threshold=settings.threshold)
         found = photometry.measured(image, level, noise, own, table, **more)
         return tiles.moved(hstack([table, found]), at.left, at.top)
 

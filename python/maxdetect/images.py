@@ -3,6 +3,7 @@
 HDUs are counted from 0, as astropy does, and planes of a cube from 1, as FITS counts pixels.
 """
 import contextlib
+import functools
 import os
 import pathlib
 import threading
@@ -13,6 +14,7 @@ import numpy
 from astropy.io import fits
 from astropy.utils.exceptions import AstropyWarning
 
+from . import cards, stored
 from .errors import Mistake
 
 Name = Union[int, str, None]
@@ -46,7 +48,7 @@ def _readable(path: str) -> Iterator[None]:
 def _opened(path: str) -> Iterator[fits.HDUList]:
     with _readable(path), warnings.catch_warnings():
         warnings.simplefilter("ignore", AstropyWarning)
-        with fits.open(path, memmap=False, lazy_load_hdus=True) as hdus:
+        with fits.open(path, memmap=False, lazy_load_hdus=True, do_not_scale_image_data=True) as hdus:
             yield hdus
 
 
@@ -59,9 +61,9 @@ def _is_image(hdu) -> bool:
 class Plane:
     """A plane of an image in a file, as floating-point numbers.
 
-    `path`, `number` and `name` say which HDU it is, `shape` is (height, width), `header` the HDU's. It can be
-    pickled, and is then opened anew. Of an uncompressed file only the rows that are asked for are read; others are
-    held as a whole.
+    `path`, `number` and `name` say which HDU it is, `shape` is (height, width), `header` the HDU's. `origin` is a whole
+    number near the values, 0 unless 64 bits of floating point don't hold them. It can be pickled, and is then opened
+    anew. Of an uncompressed file only the rows that are asked for are read; others are held as a whole.
     """
 
     def __init__(self, path: str, hdu, number: int, plane: Optional[int], beside: bool = False):
@@ -77,20 +79,27 @@ class Plane:
             raise Mistake(f"{self.label}: it has {planes} planes; say which with --plane")
         if not 1 <= (plane or 1) <= planes:
             raise Mistake(f"{self.label}: it has no plane {plane}, but {planes}")
-        self._plane, self._values, self._lock = (plane or 1) - 1, None, threading.Lock()
-        self._stored = self._place(hdu)
-        if self._stored and self._stored[1] + self._stored[0].itemsize * planes * self.shape[0] * self.shape[
+        self._plane, self._whole, self._lock = (plane or 1) - 1, None, threading.Lock()
+        self._meaning = self._checked(stored.meaning, hdu)
+        self._place = self._place_in_file(hdu)
+        if self._place and self._place[1] + self._place[0].itemsize * planes * self.shape[0] * self.shape[
             1
         ] > os.path.getsize(self.path):
             raise Mistake(f"{self.label}: the file ends within the image")
 
-    def _place(self, hdu):
-        """Type, first byte, BSCALE, BZERO and BLANK of an image that stands in the file as it is; None for others."""
+    def _checked(self, read, *given):
+        """What a function reads of the header; a card that is wrong is told with the image's name."""
+        try:
+            return read(*given)
+        except ValueError as error:
+            raise Mistake(f"{self.label}: {error}") from None
+
+    def _place_in_file(self, hdu) -> Optional[Tuple[numpy.dtype, int]]:
+        """Type and first byte of an image that stands in the file as it is; None for others."""
         if isinstance(hdu, fits.CompImageHDU) or hdu._file is None or hdu._file.compression:
             return None
         dtype = {8: "u1", 16: ">i2", 32: ">i4", 64: ">i8", -32: ">f4", -64: ">f8"}[hdu._orig_bitpix]
-        blank = hdu._orig_blank if hdu._orig_bitpix > 0 else None
-        return numpy.dtype(dtype), hdu._data_offset, hdu._orig_bscale, hdu._orig_bzero, blank
+        return numpy.dtype(dtype), hdu._data_offset
 
     @property
     def label(self) -> str:
@@ -99,48 +108,47 @@ class Plane:
 
     @property
     def unit(self) -> Optional[str]:
-        """BUNIT, where the header has one."""
-        return str(self.header.get("BUNIT", "")).strip() or None
+        """BUNIT, where the header has one. Raises Mistake for one that can't be read."""
+        return self._checked(cards.unit, self.header)
+
+    def positive(self, keyword: str) -> Optional[float]:
+        """The header's number of this name, or None where it has none or one that isn't positive. Raises Mistake for
+        what is no number.
+        """
+        value = self._checked(cards.number, self.header, keyword)
+        return float(value) if value is not None and value > 0 else None
+
+    @functools.cached_property
+    def origin(self) -> int:
+        """The whole number near its values."""
+        return stored.origin(self._numbers(slice(None), slice(None)), self._meaning)
 
     def __getstate__(self):
-        return {**self.__dict__, "_values": None, "_lock": None}
+        return {**self.__dict__, "_whole": None, "_lock": None}
 
     def __setstate__(self, state):
         self.__dict__.update(state, _lock=threading.Lock())
 
-    def window(self, rows: slice, columns: slice = slice(None)) -> numpy.ndarray:
-        """The pixels of some rows and columns, NaN where they are undefined: 32 bits where these hold the stored
-        numbers, and else 64.
+    def window(self, rows: slice, columns: slice = slice(None), less: int = 0) -> numpy.ndarray:
+        """The pixels of some rows and columns less a whole number, NaN where they are undefined: 32 bits where these
+        hold the values, and else 64.
         """
-        if self._stored:
-            return self._mapped(rows, columns)
+        return self._checked(stored.values, self._numbers(rows, columns), self._meaning, less)
+
+    def _numbers(self, rows, columns) -> numpy.ndarray:
+        """The stored numbers of some rows and columns."""
+        if self._place:
+            dtype, offset = self._place
+            first, last, _ = rows.indices(self.shape[0])
+            offset += dtype.itemsize * self.shape[1] * (self._plane * self.shape[0] + first)
+            with _readable(self.path):
+                return numpy.memmap(self.path, dtype, "r", offset, (max(last - first, 0), self.shape[1]))[:, columns]
         # Threads share it; one of them reads it.
         with self._lock:
-            if self._values is None:
+            if self._whole is None:
                 with _opened(self.path) as hdus:
-                    data = hdus[self.number].data
-                    self._values = _floats(data.reshape((-1,) + self.shape)[self._plane])
-        return self._values[rows, columns].copy()
-
-    def _mapped(self, rows, columns):
-        dtype, offset, scale, zero, blank = self._stored
-        first, last, _ = rows.indices(self.shape[0])
-        offset += dtype.itemsize * self.shape[1] * (self._plane * self.shape[0] + first)
-        with _readable(self.path):
-            stored = numpy.memmap(self.path, dtype, "r", offset, (max(last - first, 0), self.shape[1]))[:, columns]
-            values = stored.astype("f4" if dtype.itemsize <= 2 or dtype == ">f4" else "f8")
-        if scale != 1:
-            values *= scale
-        if zero != 0:
-            values += zero
-        if blank is not None:
-            values[stored == blank] = numpy.nan
-        return values
-
-
-def _floats(data: numpy.ndarray) -> numpy.ndarray:
-    small = data.dtype.itemsize <= 2 or data.dtype.kind == "f" and data.dtype.itemsize == 4
-    return numpy.ascontiguousarray(data, dtype="f4" if small else "f8")
+                    self._whole = stored.raw(hdus[self.number]).reshape((-1,) + self.shape)[self._plane]
+        return self._whole[rows, columns]
 
 
 def _number(hdus: fits.HDUList, path: str, which: Name) -> int:

@@ -37,6 +37,7 @@ from astropy.table import Table
 
 from .columns import DESCRIPTIONS
 from .errors import Mistake
+from .stored import meaning, raw, sums
 
 __all__ = ["NoProgram", "Refusal", "detect", "filter", "find_program", "load", "measure", "read", "tree"]
 
@@ -284,24 +285,12 @@ def load(file: Union[Path, BinaryIO], hdu: Union[int, str] = 0) -> numpy.ndarray
     has no two-dimensional image of whole numbers, and what astropy raises where it can't read the file.
     """
     with fits.open(file, memmap=False, do_not_scale_image_data=True) as hdus:
-        header, stored = hdus[hdu].header, hdus[hdu].data
-        zero, scale, blank = header.get("BZERO", 0), header.get("BSCALE", 1), header.get("BLANK")
-        is_whole = isinstance(zero, (int, float)) and zero == int(zero) and scale == 1
-        if stored is None or stored.ndim != 2 or stored.dtype.kind not in "iu" or not is_whole:
-            raise ValueError("not a two-dimensional image of whole numbers; maxdetect.scaling makes one of others")
-        values = _sums(stored, int(zero))
-    return values if blank is None else numpy.ma.MaskedArray(values, mask=stored == blank)
-
-
-def _sums(stored, zero):
-    """The stored numbers and BZERO, in 64 bits, without a sign where they reach beyond 2^63."""
-    low, high = (int(stored.min()) + zero, int(stored.max()) + zero) if stored.size else (0, 0)
-    if low < -(2**63) or high >= (2**63 if low < 0 else 2**64):
-        raise ValueError(f"the values from {low} to {high} don't fit 64 bits")
-    # BZERO may pass 64 bits where no sum does: what is carried out on the way is carried back.
-    values = stored.astype("i8").view("u8")
-    values += numpy.uint64(zero % 2**64)
-    return values if high >= 2**63 else values.view("i8")
+        means = meaning(hdus[hdu]) if hdus[hdu].is_image else None
+        numbers = raw(hdus[hdu])
+    if means is None or numbers is None or numbers.ndim != 2 or numbers.dtype.kind not in "iu" or not means.is_whole:
+        raise ValueError("not a two-dimensional image of whole numbers; maxdetect.scaling makes one of others")
+    values = sums(numbers, int(means.zero), means.blank)
+    return values if means.blank is None else numpy.ma.MaskedArray(values, mask=numbers == means.blank)
 
 
 def read(file: Union[Path, BinaryIO]) -> Tuple[Table, numpy.ndarray]:

@@ -3,19 +3,14 @@ from typing import Optional
 
 import numpy
 
-from . import sky
+from . import sky, stored
 
 
-def floats(image: numpy.ndarray) -> numpy.ndarray:
-    """An image as floating-point numbers row by row, NaN where it is masked: in 32 bits where they hold it as it is."""
-    values = numpy.ma.getdata(image)
-    small = (
-        values.dtype.kind in "iub"
-        and values.dtype.itemsize <= 2
-        or values.dtype.kind == "f"
-        and values.dtype.itemsize <= 4
-    )
-    values = values.astype("f4" if small else "f8", order="C")
+def floats(image: numpy.ndarray, less: int = 0) -> numpy.ndarray:
+    """An image less a whole number as floating-point numbers row by row, NaN where it is masked: in 32 bits where they
+    hold it as it is.
+    """
+    values = stored.values(numpy.ma.getdata(image), less=less)
     if numpy.ma.getmask(image) is not numpy.ma.nomask:
         values[numpy.ma.getmaskarray(image)] = numpy.nan
     return values
