@@ -13,13 +13,8 @@ def _value(header: fits.Header, keyword: str):
     try:
         value = header.get(keyword)
     except (fits.VerifyError, ValueError):
-        raise ValueError(f"{keyword} can't be read: {_as_it_stands(header, keyword)}") from None
+        raise ValueError(f"{keyword} can't be read") from None
     return None if isinstance(value, fits.card.Undefined) else value
-
-
-def _as_it_stands(header: fits.Header, keyword: str) -> str:
-    """What stands behind the keyword in the file."""
-    return " ".join(header.cards[keyword].image[9:].split())
 
 
 def number(header: fits.Header, keyword: str) -> Union[None, int, float]:

@@ -167,11 +167,12 @@ def parser() -> argparse.ArgumentParser:
 
 @dataclasses.dataclass
 class Task:
-    """An image file, its fields, and where its catalogue goes."""
+    """An image file, its fields, the units that these are measured in, and where its catalogue goes."""
 
     path: str
     output: str
     fields: List[detection.Field]
+    units: List[Optional[str]]
     survey_field: Optional[str] = None
 
 
@@ -181,16 +182,6 @@ def _default_output(path: str) -> str:
     while base.suffix.lower() in (".gz", ".fz", ".bz2", ".fits", ".fit", ".fts"):
         base = base.with_suffix("")
     return os.fspath(base) + ".cat.fits"
-
-
-def _from_header(plane: images.Plane, keyword: str) -> Optional[float]:
-    """A positive number that the header has, or None."""
-    value = plane.header.get(keyword)
-    return (
-        float(value)
-        if isinstance(value, (int, float)) and not isinstance(value, bool) and math.isfinite(value) and value > 0
-        else None
-    )
 
 
 def _field(plane: images.Plane, given: argparse.Namespace) -> detection.Field:
@@ -206,8 +197,8 @@ def _field(plane: images.Plane, given: argparse.Namespace) -> detection.Field:
         min_area=given.min_area,
         weight_type=given.weight_type or "weight",
         local=given.rms == "local",
-        gain=given.gain or _from_header(measured, "GAIN"),
-        saturation=given.saturation if given.saturation is not None else _from_header(measured, "SATURATE"),
+        gain=given.gain or measured.positive("GAIN"),
+        saturation=given.saturation if given.saturation is not None else measured.positive("SATURATE"),
         workers=1 if beside or len(given.images) > 1 else given.workers,
     )
     return detection.Field(plane, settings, **others)
@@ -216,10 +207,12 @@ def _field(plane: images.Plane, given: argparse.Namespace) -> detection.Field:
 def _task(path: str, given: argparse.Namespace) -> Task:
     every = given.hdu == "all"
     planes = images.all_opened(path, given.plane) if every else [images.opened(path, given.hdu, given.plane)]
+    fields = [_field(plane, given) for plane in planes]
     return Task(
         path,
         given.output or _default_output(path),
-        [_field(plane, given) for plane in planes],
+        fields,
+        [(field.values or field.plane).unit for field in fields],
         _survey_field(path, given) if given.survey else None,
     )
 
@@ -399,12 +392,11 @@ def _extension(field: detection.Field, task: Task) -> str:
     return name if name and alone else str(field.plane.number)
 
 
-def _finished(table: Table, field: detection.Field, task: Task, given: argparse.Namespace) -> Table:
-    plane = field.plane
+def _finished(table: Table, number: int, task: Task, given: argparse.Namespace) -> Table:
+    """What was found in one of the fields, with all that a reader wants."""
+    field, unit = task.fields[number], task.units[number]
     extension = _extension(field, task) if given.hdu == "all" else None
-    return tables.finished(
-        table, plane.header, zeropoint=given.zeropoint, unit=(field.values or plane).unit, extension=extension
-    )
+    return tables.finished(table, field.plane.header, zeropoint=given.zeropoint, unit=unit, extension=extension)
 
 
 def _joined(found: List[Table]) -> Table:
@@ -436,9 +428,9 @@ def _done(task: Task, given: argparse.Namespace, tiles, progress) -> str:
     wanted = [task.output, *(it for it in (given.map, given.regions, given.plot) if it)]
     with _about(task.output), tables.whole_files(wanted) as names, _maps(task, given, names.get(given.map)) as maps:
         found = []
-        for field, segments in zip(task.fields, maps):
+        for number, (field, segments) in enumerate(zip(task.fields, maps)):
             table = detection.sources(field, tiles, segments=segments, progress=progress)
-            found.append(_finished(table, field, task, given))
+            found.append(_finished(table, number, task, given))
         table = _joined(found)
         _write(table, task, given, maps, names)
     written = f"{len(table)} sources in {shlex.quote(task.output)}"
@@ -465,13 +457,28 @@ def _attempted(work: Callable, *given):
         return fault
 
 
+def with_image(path: str, work: Callable, *given):
+    """What some work on an image gives. Raises Mistake, in one line, whatever comes in its way, so that the others are
+    done; a fault of the system that names a file stays as it is.
+    """
+    try:
+        with _about(path):
+            return work(*given)
+    except (Mistake, OSError):
+        raise
+    except MemoryError:
+        raise Mistake(f"{path}: memory is wanted") from None
+    except Exception as error:  # noqa: BLE001  A file may be wrong in ways that nobody thought of.
+        raise Mistake(f"{path}: {type(error).__name__}: {' '.join(str(error).split())}") from error
+
+
 def run(words: Optional[List[str]] = None) -> bool:
     """Does what the words say, and tells for each image what came of it: False where one of several wasn't done.
     Raises Mistake.
     """
     given = parser().parse_intermixed_args(words)
     _check(given)
-    tasks = [_attempted(_task, path, given) for path in given.images]
+    tasks = [_attempted(with_image, path, _task, path, given) for path in given.images]
     good = [task for task in tasks if isinstance(task, Task)]
     _check_names(given, good)
     if good:
@@ -487,7 +494,8 @@ def run(words: Optional[List[str]] = None) -> bool:
         stack.callback(progress.close)
 
         def work(task):
-            return _attempted(_done, task, given, pool, progress) if isinstance(task, Task) else task
+            done = isinstance(task, Task)
+            return _attempted(with_image, task.path, _done, task, given, pool, progress) if done else task
 
         for answer in detection.tiles.each(files, work, tasks):
             if isinstance(answer, str):

@@ -4,6 +4,7 @@ HDUs are counted from 0, as astropy does, and planes of a cube from 1, as FITS c
 """
 import contextlib
 import functools
+import itertools
 import os
 import pathlib
 import threading
@@ -14,7 +15,7 @@ import numpy
 from astropy.io import fits
 from astropy.utils.exceptions import AstropyWarning
 
-from . import cards, stored
+from . import cards, headers, stored
 from .errors import Mistake
 
 Name = Union[int, str, None]
@@ -22,34 +23,42 @@ Name = Union[int, str, None]
 
 @contextlib.contextmanager
 def _readable(path: str) -> Iterator[None]:
-    """Whatever astropy says of a file that can't be read, as one line."""
+    """Whatever is wrong with a file that can't be read, as one line."""
     try:
         yield
     except Mistake:
         raise
     except OSError as error:
         raise Mistake(f"{path}: {error.strerror or ' '.join(str(error).split()) or 'it can not be read'}") from None
-    except (
-        ValueError,
-        TypeError,
-        KeyError,
-        IndexError,
-        EOFError,
-        AttributeError,
-        RuntimeError,
-        fits.VerifyError,
-    ) as error:
+    except MemoryError:
+        raise Mistake(f"{path}: memory is wanted") from None
+    except Exception as error:  # noqa: BLE001  astropy and the decompressors raise many kinds.
         raise Mistake(
             f"{path}: not a FITS file that can be read ({' '.join(str(error).split()) or type(error).__name__})"
         ) from None
 
 
 @contextlib.contextmanager
-def _opened(path: str) -> Iterator[fits.HDUList]:
-    with _readable(path), warnings.catch_warnings():
+def _opened(path: str) -> Iterator[Iterator[Tuple[int, object]]]:
+    """The HDUs of a file with their numbers, one by one, each after its header was looked at. Raises Mistake."""
+    with _readable(path), warnings.catch_warnings(), contextlib.closing(headers.walked(path)) as looked_at:
         warnings.simplefilter("ignore", AstropyWarning)
+        first = next(looked_at)
         with fits.open(path, memmap=False, lazy_load_hdus=True, do_not_scale_image_data=True) as hdus:
-            yield hdus
+            yield ((number, hdus[number]) for number in itertools.chain([first], looked_at))
+
+
+def _state(path: str) -> Tuple[int, int]:
+    """What another state of the file has otherwise."""
+    with _readable(path):
+        found = os.stat(path)
+    return found.st_mtime_ns, found.st_size
+
+
+@functools.lru_cache(maxsize=64)
+def _check_sums(path, *state):
+    """Looks at a compressed file's checksum, once for all its images."""
+    headers.check_sums(path)
 
 
 def _is_image(hdu) -> bool:
@@ -82,10 +91,6 @@ class Plane:
         self._plane, self._whole, self._lock = (plane or 1) - 1, None, threading.Lock()
         self._meaning = self._checked(stored.meaning, hdu)
         self._place = self._place_in_file(hdu)
-        if self._place and self._place[1] + self._place[0].itemsize * planes * self.shape[0] * self.shape[
-            1
-        ] > os.path.getsize(self.path):
-            raise Mistake(f"{self.label}: the file ends within the image")
 
     def _checked(self, read, *given):
         """What a function reads of the header; a card that is wrong is told with the image's name."""
@@ -147,25 +152,22 @@ class Plane:
         with self._lock:
             if self._whole is None:
                 with _opened(self.path) as hdus:
-                    self._whole = stored.raw(hdus[self.number]).reshape((-1,) + self.shape)[self._plane]
+                    _, hdu = _found(self.path, hdus, self.number)
+                    self._whole = stored.raw(hdu).reshape((-1,) + self.shape)[self._plane]
+                    _check_sums(self.path, *_state(self.path))
         return self._whole[rows, columns]
 
 
-def _number(hdus: fits.HDUList, path: str, which: Name) -> int:
-    """The number of an HDU that is named by its number or its name, or of the first one with an image."""
+def _found(path: str, hdus: Iterator[Tuple[int, object]], which: Name):
+    """An HDU that is named by its number or its name, or the first one with an image, and its number."""
+    count, name = 0, str(which).strip().upper()
+    for number, hdu in hdus:
+        if _is_image(hdu) if which is None else number == int(name) if name.isdecimal() else hdu.name.upper() == name:
+            return number, hdu
+        count = number + 1
     if which is None:
-        found = next((number for number, hdu in enumerate(hdus) if _is_image(hdu)), None)
-        if found is None:
-            raise Mistake(f"{path}: it has no image")
-        return found
-    try:
-        number = int(which) if str(which).lstrip("-").isdigit() else hdus.index_of(str(which))
-    except KeyError:
-        raise Mistake(f"{path}: it has no HDU {which}") from None
-    hdus.readall()
-    if not 0 <= number < len(hdus):
-        raise Mistake(f"{path}: it has no HDU {which}, but {len(hdus)} HDUs")
-    return number
+        raise Mistake(f"{path}: it has no image")
+    raise Mistake(f"{path}: it has no HDU {which}, but {count} HDUs")
 
 
 def opened(path: str, which: Name = None, plane: Optional[int] = None, beside: bool = False) -> Plane:
@@ -173,16 +175,16 @@ def opened(path: str, which: Name = None, plane: Optional[int] = None, beside: b
     cubes alone. Raises Mistake.
     """
     with _opened(path) as hdus:
-        number = _number(hdus, path, which)
-        if not _is_image(hdus[number]):
+        number, hdu = _found(path, hdus, which)
+        if not _is_image(hdu):
             raise Mistake(f"{path}: its HDU {which if which is not None else number} has no image of two axes")
-        return Plane(path, hdus[number], number, plane, beside)
+        return Plane(path, hdu, number, plane, beside)
 
 
 def all_opened(path: str, plane: Optional[int] = None) -> List[Plane]:
     """All images of a file, in its order. Raises Mistake where there is none."""
     with _opened(path) as hdus:
-        planes = [Plane(path, hdu, number, plane) for number, hdu in enumerate(hdus) if _is_image(hdu)]
+        planes = [Plane(path, hdu, number, plane) for number, hdu in hdus if _is_image(hdu)]
     if not planes:
         raise Mistake(f"{path}: it has no image")
     return planes

@@ -10,7 +10,7 @@ from typing import List, Optional
 from astropy.utils.exceptions import AstropyWarning
 
 from . import images, scaling
-from .cli import mesh_side, sigmas, told
+from .cli import mesh_side, sigmas, told, with_image
 from .errors import Mistake
 from .words import Parser, whole
 
@@ -45,7 +45,7 @@ def run(words: Optional[List[str]] = None) -> None:
     header.remove("BUNIT", ignore_missing=True)
     header["MAXZERO"] = (zero, "taken off before scaling")
     header["MAXSCALE"] = (scale, "numbers for one unit of the image")
-    images.save(numbers, given.prepared, header)
+    with_image(given.image, images.save, numbers, given.prepared, header)
     threshold = scaling.threshold(given.sigmas if given.sigmas is not None else 1.375 if given.smooth else 2.25)
     command = [
         "maxdetect",
