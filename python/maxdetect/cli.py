@@ -188,7 +188,7 @@ def _field(plane: images.Plane, given: argparse.Namespace) -> detection.Field:
     """An image with what belongs to it."""
     beside = given.hdu == "all"
     texts = (("mask", given.mask), ("weights", given.weight), ("values", given.measure))
-    others = {name: images.matching(text, plane, given.plane, beside) for name, text in texts if text}
+    others = {name: images.matching(text, plane, given.plane) for name, text in texts if text}
     measured = others.get("values", plane)
     settings = detection.Settings(
         sigmas=given.sigmas,

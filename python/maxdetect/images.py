@@ -9,7 +9,7 @@ import os
 import pathlib
 import threading
 import warnings
-from typing import Iterator, List, Optional, Tuple, Union
+from typing import Dict, Iterator, List, Optional, Tuple, Union
 
 import numpy
 from astropy.io import fits
@@ -205,16 +205,51 @@ def same(one: str, other: str) -> bool:
     return os.path.realpath(one) == os.path.realpath(other)
 
 
-def matching(text: str, like: Plane, plane: Optional[int] = None, beside: bool = False) -> Plane:
-    """The image that FILE[:HDU] names, of the same shape as another; where no HDU is named and `beside` is set, that
-    of the same number.
+def matching(text: str, like: Plane, plane: Optional[int] = None) -> Plane:
+    """The image that FILE[:HDU] names, of the same shape as another; where no HDU is named, the only one of the file or
+    the other's counterpart. Raises Mistake.
     """
     path, which = split_name(text)
-    other = opened(path, like.number if which is None and beside else which, plane, True)
+    other = opened(path, _counterpart(path, like) if which is None else which, plane, True)
     if other.shape != like.shape:
         sides = [f"{it.label} {it.shape[1]} x {it.shape[0]}" for it in (other, like)]
         raise Mistake(f"the images differ in width or height: {sides[0]}, {sides[1]}")
     return other
+
+
+def _images_in(path: str) -> Dict[int, Optional[Tuple[str, int]]]:
+    """For the number of each image in a file its name and version; None where it has no name of its own."""
+    return _images_then_in(path, *_state(path))
+
+
+@functools.lru_cache(maxsize=16)
+def _images_then_in(path, *state):
+    """The same for a state of the file, once for all its images."""
+    with _opened(path) as hdus:
+        return {number: _own_name(hdu) for number, hdu in hdus if _is_image(hdu)}
+
+
+def _own_name(hdu) -> Optional[Tuple[str, int]]:
+    """EXTNAME and EXTVER, or None where there is no name but those that astropy and fpack give."""
+    name = hdu.name.strip().upper()
+    return None if name in ("", "PRIMARY", "COMPRESSED_IMAGE") else (name, hdu.ver)
+
+
+def _counterpart(path: str, like: Plane) -> int:
+    """The number of a file's only image, or of that which belongs to an image of another file: by the same name and
+    version, or by the same number where the files have no name in common. Raises Mistake where none does.
+    """
+    there = _images_in(path)
+    if len(there) == 1:
+        return next(iter(there))
+    own = _images_in(like.path)
+    found = [number for number, name in there.items() if name and name == own.get(like.number)]
+    if len(found) != 1:
+        apart = not {name for name in there.values() if name} & {name for name in own.values() if name}
+        found = [number for number in found or (there if apart else []) if number == like.number]
+    if not found or (same(path, like.path) and found == [like.number]):
+        raise Mistake(f"{path}: which of its {len(there)} images belongs to {like.label}? Name it, as {path}:HDU")
+    return found[0]
 
 
 def save(image: numpy.ndarray, path: str, header: Optional[fits.Header] = None) -> None:

@@ -129,6 +129,22 @@ def test_several_ccds_at_once(here, stars):
     assert (alone["FLUX"] == table[table["EXTENSION"] == "B"]["FLUX"]).all()
 
 
+@pytest.mark.parametrize("beside", ["weight", "mask", "measure"])
+def test_what_belongs_to_a_ccd_that_is_named(here, stars, capsys, beside):
+    other = {"weight": numpy.full((256, 256), 4.0), "mask": stars[0] > 1500, "measure": 3 * stars[0]}[beside]
+    wrong = numpy.zeros((256, 256)) if beside == "mask" else stars[0][::-1]
+    for name, pixels in (("image", [stars[0][::-1], stars[0]]), ("beside", [wrong, other])):
+        hdus = [fits.ImageHDU(part.astype("f4"), name=f"CCD{number}") for number, part in enumerate(pixels, 1)]
+        fits.HDUList([fits.PrimaryHDU(), *hdus]).writeto(f"{name}.fits", overwrite=True)
+    words = ["image.fits", "--hdu", "CCD2", "-o", "cat.fits"]
+    wanted = catalogue(*words, f"--{beside}", "beside.fits:CCD2")
+    found = catalogue(*words, f"--{beside}", "beside.fits")
+    assert len(found) == len(wanted) > 5 and (found["FLUX_ISO"] == wanted["FLUX_ISO"]).all()
+    fits.delval("beside.fits", "EXTNAME", 2)
+    capsys.readouterr()
+    assert "which of its 2 images belongs to image.fits[CCD2]" in told(capsys, *words, f"--{beside}", "beside.fits")
+
+
 def test_hdus_without_a_name_of_their_own(here, stars):
     part = stars[0][:100]
     hdus = [

@@ -77,11 +77,47 @@ def test_names_with_an_hdu(several, tmp_path):
     assert images.split_name("a.fits:2") == ("a.fits", "2") and images.split_name("a.fits") == ("a.fits", None)
     like = images.opened(several, "CCD1")
     assert images.matching(several + ":CCD2", like).number == 4
-    assert images.matching(several, like, beside=True).number == 3
     fits.writeto(tmp_path / "odd:1", WHOLE.astype("i2")[1:])
     assert images.split_name(str(tmp_path / "odd:1"))[1] is None
     with pytest.raises(maxdetect.Mistake, match="differ in width or height"):
         images.matching(str(tmp_path / "odd:1"), like)
+
+
+def mosaic(path, *names, first=0, version=()):
+    """A file with an image for each name, the first pixel of which is its number and `first`."""
+    hdus = [fits.PrimaryHDU()]
+    for number, name in enumerate(names, 1):
+        hdus.append(fits.ImageHDU(WHOLE.astype("i2"), name=name or None))
+        hdus[-1].data[0, 0] = first + number
+        if version:
+            hdus[-1].header["EXTVER"] = version[number - 1]
+    fits.HDUList(hdus).writeto(path)
+    return str(path)
+
+
+def test_the_image_of_another_file_that_belongs_to_one(tmp_path):
+    image = mosaic(tmp_path / "image.fits", "CCD1", "CCD2", "CCD3")
+    second = images.opened(image, "CCD2")
+
+    def belonging(name, *names, to=second, **more):
+        return images.matching(mosaic(tmp_path / name, *names, first=10, **more), to).window(slice(None))[0, 0]
+
+    assert belonging("alone.fits", "WHT") == 11
+    assert belonging("turned.fits", "CCD3", "ccd2 ", "CCD1") == 12
+    assert belonging("numbered.fits", "W1", "W2", "W3") == 12
+    assert belonging("nameless.fits", None, None) == 12
+    for name, names in [("gap.fits", ("CCD1", "CCD3")), ("few.fits", ("CCD1", "W2", "CCD3"))]:
+        with pytest.raises(maxdetect.Mistake, match=f"{name}: which of its . images belongs to .*CCD2"):
+            belonging(name, *names)
+    with pytest.raises(maxdetect.Mistake, match="which of its 2 images"):
+        belonging("short.fits", "A", "B", to=images.opened(image, 3))
+    twice = mosaic(tmp_path / "twice.fits", "SCI", "SCI", "SCI", version=(3, 1, 2))
+    assert belonging("versions.fits", "SCI", "SCI", "SCI", version=(1, 2, 3), to=images.opened(twice, 3)) == 12
+    alike = mosaic(tmp_path / "alike.fits", "SCI", "SCI")
+    assert belonging("both.fits", "SCI", "SCI", to=images.opened(alike, 2)) == 12
+    with pytest.raises(maxdetect.Mistake, match="which of its 3 images"):
+        images.matching(image, second)
+    assert images.matching(image + ":CCD2", second).number == 2
 
 
 def test_files_that_can_not_be_read(tmp_path):
