@@ -33,6 +33,8 @@ READ = re.compile(
 # A byte of a compressed tile stands for no more pixels than this: PLIO says 4095 in two bytes, deflate 1032 in one.
 # HCOMPRESS has no such bound.
 MOST_PIXELS = 2048
+# An image is seldom compressed to less than one over this.
+PLAUSIBLE = 100
 
 Cards = Dict[str, object]
 
@@ -54,12 +56,22 @@ def walked(path: str) -> Iterator[int]:
                 cards = _cards(header)
                 length = _data_bytes(cards, number)
                 _check_tiles(cards)
-                if size is not None and start + length > size:
+                if not _holds(path, file, size, start, length):
                     raise ValueError(f"the file ends within its data, {length} bytes by its header")
             except ValueError as error:
                 raise Mistake(f"{path}: HDU {number}: {error}") from None
             yield number
             number, start = number + 1, start + -(-length // BLOCK) * BLOCK
+
+
+def _holds(path: str, file: BinaryIO, size: Optional[int], start: int, length: int) -> bool:
+    """Whether a file has so many bytes from here on. A compressed one is read for it where they are many for it."""
+    if size is not None:
+        return start + length <= size
+    if length <= PLAUSIBLE * os.path.getsize(path):
+        return True
+    file.seek(start + length - 1)
+    return len(file.read(1)) == 1
 
 
 def check_sums(path: str) -> None:

@@ -12,13 +12,22 @@ TILED = ("RICE_1", "GZIP_1", "GZIP_2", "HCOMPRESS_1", "PLIO_1")
 FORMS = (*PACKED, *TILED)
 
 
+def in_runs(stored: numpy.ndarray) -> numpy.ndarray:
+    """The image with each eighth pixel of a row in the place of the seven behind it. PLIO is for such images: astropy
+    writes beyond its memory where a row of noise takes more room than it had.
+    """
+    return numpy.repeat(stored[..., ::8], 8, axis=-1)[..., : stored.shape[-1]]
+
+
 def holds(form: str, stored: numpy.ndarray) -> bool:
     """Whether a form has room for such numbers."""
     whole, size = stored.dtype.kind in "iu", stored.dtype.itemsize
     if form in PACKED:
         return True
     if form == "PLIO_1":
-        return whole and size < 8 and stored.size > 0 and stored.min() >= 0 and stored.max() < 2**15
+        changes = (numpy.diff(stored.astype("i8"), axis=-1) != 0).sum(axis=-1)
+        small = stored.size > 0 and stored.min() >= 0 and stored.max() < 2**15
+        return whole and size < 8 and small and changes.max() <= stored.shape[-1] // 4
     if form == "HCOMPRESS_1" and (stored.ndim != 2 or min(stored.shape) < 4):
         return False
     return whole and size < 8 if form in ("RICE_1", "HCOMPRESS_1") else size < 8 or not whole

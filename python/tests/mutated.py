@@ -7,6 +7,8 @@ from typing import Callable, Dict, List, Tuple
 import numpy
 from astropy.io import fits
 
+from forms import in_runs
+
 # What stands behind a keyword in a card that was changed.
 VALUES = (
     *(
@@ -79,7 +81,8 @@ def corpus() -> Dict[str, Tuple[Callable[[bytes], bytes], bytes]]:
         "cube": _bytes(fits.PrimaryHDU(numpy.stack([_image(6, "f4")] * 2))),
     }
     for form in ("RICE_1", "GZIP_1", "GZIP_2", "HCOMPRESS_1", "PLIO_1"):
-        found[form] = _bytes(fits.CompImageHDU(_image(7, "i4"), compression_type=form), BLANK=100, **sky)
+        image = in_runs(_image(7, "i4")) if form == "PLIO_1" else _image(7, "i4")
+        found[form] = _bytes(fits.CompImageHDU(image, compression_type=form), BLANK=100, **sky)
     for form, level in (("RICE_1", 16), ("GZIP_1", 0), ("HCOMPRESS_1", 8)):
         image = _image(8, "f4")
         image[3, 4] = numpy.nan
@@ -107,8 +110,8 @@ def card_places(content: bytes) -> List[int]:
 
 
 def changed(content: bytes, changes: List[Change]) -> bytes:
-    """The bytes with these changes: a card has another value, stands twice, or is gone; a byte is another; the end is
-    cut off.
+    """The bytes with these changes: a card has another value, stands twice, or is gone; a byte is another one, of all
+    or behind the last header; the end is cut off.
     """
     for kind, place, what in changes:
         cards = card_places(content) or [0]
@@ -120,7 +123,9 @@ def changed(content: bytes, changes: List[Change]) -> bytes:
             content = content[: card + 80] + content[card : card + 80] + content[card + 80 :]
         elif kind == "gone":
             content = content[:card] + content[card + 80 :]
-        elif kind == "byte":
+        elif kind in ("byte", "data"):
+            if kind == "data":
+                byte = max(cards[-1] + 160, 0) + place % max(len(content) - cards[-1] - 160, 1)
             content = content[:byte] + bytes([what % 256]) + content[byte + 1 :]
         elif kind == "cut":
             content = content[:byte]

@@ -20,7 +20,7 @@ MEANINGS = {
 
 def numbers(kind, blank, shape=(20, 31)):
     """Stored numbers between 10 and 200, two of them another one."""
-    found = numpy.random.default_rng(3).integers(10, 200, shape).astype(kind)
+    found = forms.in_runs(numpy.random.default_rng(3).integers(10, 200, shape).astype(kind))
     found[..., 3, 4] = found[..., 11, 30] = blank
     return found
 
@@ -132,7 +132,8 @@ def test_the_same_sources(field, form):
     words = []
     for name, numbers_of in stored.items():
         cards = {"BLANK": 32 if name == "mask" else 32001}
-        path = forms.written(folder / f"{name}.{form}.fits", numbers_of, cards, form)
+        own = form if forms.holds(form, numbers_of) else "plain"
+        path = forms.written(folder / f"{name}.{form}.fits", numbers_of, cards, own)
         fits.writeto(folder / f"{name}.float.fits", forms.values(numbers_of, cards), overwrite=True)
         words += [path] if name == "image" else [f"--{name}", path]
     assert cli.main([*words, "-o", str(folder / "cat.fits")]) == 0

@@ -25,6 +25,13 @@ HOSTILE = [
     ("floats", "NAXIS", "1000000", "HDU 0: NAXIS isn't a whole number from 0 to 999: 1000000"),
     ("floats in gz", "NAXIS", "1000000", "HDU 0: NAXIS isn't a whole number from 0 to 999: 1000000"),
     ("shorts in bz2", "NAXIS2", "-48", "HDU 0: NAXIS2 isn't a whole number from 0 on: -48"),
+    ("shorts in bz2", "NAXIS2", "2147483647", "HDU 0: the file ends within its data, 274877906816 bytes by its header"),
+    (
+        "floats in gz",
+        "NAXIS2",
+        "999999999999",
+        "HDU 0: the file ends within its data, 255999999999744 bytes by its header",
+    ),
     ("floats", "NAXIS1", "-1", "HDU 0: NAXIS1 isn't a whole number from 0 on: -1"),
     ("floats", "NAXIS1", "(1, 2)", "HDU 0: NAXIS1 isn't a whole number from 0 on: (1+2j)"),
     ("floats", "NAXIS1", "64.5", "HDU 0: NAXIS1 isn't a whole number from 0 on: 64.5"),
