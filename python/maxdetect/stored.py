@@ -4,7 +4,9 @@ astropy applies BLANK to some forms of a file and not to others, and adds BZERO 
 read as it is stored, and one function makes the values of all of them.
 """
 import dataclasses
+import math
 import re
+import zlib
 from typing import Optional, Union
 
 import numpy
@@ -67,6 +69,7 @@ def raw(hdu) -> Optional[numpy.ndarray]:
     """The stored numbers of an HDU that astropy opened with `do_not_scale_image_data`, compressed or not."""
     if isinstance(hdu, fits.CompImageHDU):
         _check_heap(hdu)
+        _check_streams(hdu)
         # astropy scales compressed images all the same.
         hdu._orig_bscale, hdu._orig_bzero = 1, 0
     return hdu.data
@@ -87,6 +90,23 @@ def _check_heap(hdu) -> None:
             beyond = (places < 0) | (places > room) | (lengths < 0)
             if (beyond | (lengths > (room - places) // SIZES.get(variable[1], 1))).any():
                 raise ValueError("a compressed tile lies beyond the end of its table")
+
+
+def _check_streams(hdu) -> None:
+    """Looks at the gzip streams of a compressed image: of one that is broken astropy's decompressor never comes to the
+    end. Raises ValueError.
+    """
+    table, rows = _table_header(hdu), hdu.compressed_data
+    gzipped = ["GZIP_COMPRESSED_DATA", *(["COMPRESSED_DATA"] if table.get("ZCMPTYPE") in ("GZIP_1", "GZIP_2") else [])]
+    most = 8 * math.prod(table[f"ZTILE{axis}"] for axis in range(1, table["ZNAXIS"] + 1))
+    for tile in (tile for name in rows.columns.names if name.upper() in gzipped for tile in rows.field(name)):
+        stream = zlib.decompressobj(16 + zlib.MAX_WBITS)
+        try:
+            stream.decompress(tile.tobytes(), most)
+        except zlib.error as error:
+            raise ValueError(f"a compressed tile is broken ({error})") from None
+        if len(tile) and not stream.eof:
+            raise ValueError("a compressed tile is broken")
 
 
 def _table_header(hdu) -> fits.Header:
@@ -136,10 +156,9 @@ def values(stored: numpy.ndarray, means: Meaning = Meaning(), less: int = 0) -> 
 
 def _moved(stored: numpy.ndarray, by: int) -> numpy.ndarray:
     """Whole numbers and another one as floating-point numbers, added before they are rounded where 64 bits hold it."""
-    found = stored.astype("f8", order="C") + float(by)
-    near = numpy.abs(found) < 2**62
-    found[near] = _carried(stored, by).view("i8")[near]
-    return found
+    rough, carried = stored.astype("f8", order="C") + float(by), _carried(stored, by)
+    exact = numpy.where(rough < 2**62, carried.view("i8").astype("f8"), carried.astype("f8"))
+    return numpy.where(numpy.abs(exact - rough) < 2**60, exact, rough)
 
 
 def origin(image: numpy.ndarray, means: Meaning = Meaning()) -> int:

@@ -111,6 +111,10 @@ def damaged(name):
         return pack(content)[:900] + bytes(200) + pack(content)[1100:]
     if name == "another byte in a deflate stream":
         return pack(content[:6000] + b"x" + content[6001:])[:-8] + pack(content)[-8:]
+    if name == "a broken gzip tile":
+        content = FILES["GZIP_1"][1]
+        at = content.index(b"\x1f\x8b", 8640)
+        return content[: at + 12] + bytes([content[at + 12] ^ 64]) + content[at + 13 :]
     content = FILES["RICE_1"][1]
     if name == "a tile beyond the heap":
         at = len(content) - 5760 + 2880
@@ -125,6 +129,7 @@ def damaged(name):
     [
         "a broken deflate stream",
         "another byte in a deflate stream",
+        "a broken gzip tile",
         "a tile beyond the heap",
         "a tile that isn't RICE",
         "a form that isn't",
