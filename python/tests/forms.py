@@ -28,8 +28,13 @@ def holds(form: str, stored: numpy.ndarray) -> bool:
         changes = (numpy.diff(stored.astype("i8"), axis=-1) != 0).sum(axis=-1)
         small = stored.size > 0 and stored.min() >= 0 and stored.max() < 2**15
         return whole and size < 8 and small and changes.max() <= stored.shape[-1] // 4
-    if form == "HCOMPRESS_1" and (stored.ndim != 2 or min(stored.shape) < 4):
-        return False
+    if form == "HCOMPRESS_1":
+        if stored.ndim != 2 or min(stored.shape) < 16:
+            return False
+        # astropy makes tiles of so many rows; the last one has 4 or more.
+        rows = 16 if stored.shape[0] > 30 else stored.shape[1]
+        if 0 < stored.shape[0] % rows < 4:
+            return False
     return whole and size < 8 if form in ("RICE_1", "HCOMPRESS_1") else size < 8 or not whole
 
 
