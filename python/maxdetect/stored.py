@@ -4,22 +4,17 @@ astropy applies BLANK to some forms of a file and not to others, and adds BZERO 
 read as it is stored, and one function makes the values of all of them.
 """
 import dataclasses
-import math
-import re
-import zlib
 from typing import Optional, Union
 
 import numpy
 from astropy.io import fits
 
-from . import cards
+from . import cards, compressed
 
 __all__ = ["Meaning", "meaning", "origin", "raw", "sums", "values"]
 
 # Whole numbers up to this one have no rounding in 32 bits of floating point, and in 64.
 EXACT_32, EXACT_64 = 2**24, 2**53
-# Bytes for an element of a column, by the letter of its form, where it isn't one.
-SIZES = {"I": 2, "J": 4, "K": 8, "E": 4, "D": 8, "C": 8, "M": 16}
 
 
 @dataclasses.dataclass(frozen=True)
@@ -54,7 +49,7 @@ def _blank(hdu) -> Optional[int]:
     blank = None
     if isinstance(hdu, fits.CompImageHDU):
         # The image's header hasn't the table's own cards.
-        table = _table_header(hdu)
+        table = compressed.table_header(hdu)
         columns = range(1, int(cards.number(table, "TFIELDS") or 0) + 1)
         if any(str(table.get(f"TTYPE{column}")).strip().upper() == "ZBLANK" for column in columns):
             raise ValueError("a column ZBLANK of compressed whole numbers isn't read")
@@ -68,50 +63,10 @@ def _blank(hdu) -> Optional[int]:
 def raw(hdu) -> Optional[numpy.ndarray]:
     """The stored numbers of an HDU that astropy opened with `do_not_scale_image_data`, compressed or not."""
     if isinstance(hdu, fits.CompImageHDU):
-        _check_heap(hdu)
-        _check_streams(hdu)
+        compressed.check(hdu)
         # astropy scales compressed images all the same.
         hdu._orig_bscale, hdu._orig_bzero = 1, 0
     return hdu.data
-
-
-def _check_heap(hdu) -> None:
-    """Looks at where the table of a compressed image has its tiles: the decompressor takes memory for whatever length
-    stands there. Raises ValueError where a tile lies beyond the table's end.
-    """
-    table, rows = _table_header(hdu), hdu.compressed_data
-    fixed = table["NAXIS1"] * table["NAXIS2"]
-    room = table["PCOUNT"] - int(cards.number(table, "THEAP") or fixed) + fixed
-    plain = rows.view(numpy.ndarray)
-    for name, form in zip(plain.dtype.names, rows.columns.formats):
-        variable = re.fullmatch(r"[01]?[PQ]([A-Z])(\(\d*\))?", form)
-        if variable:
-            lengths, places = plain[name].astype("i8").reshape(-1, 2).T
-            beyond = (places < 0) | (places > room) | (lengths < 0)
-            if (beyond | (lengths > (room - places) // SIZES.get(variable[1], 1))).any():
-                raise ValueError("a compressed tile lies beyond the end of its table")
-
-
-def _check_streams(hdu) -> None:
-    """Looks at the gzip streams of a compressed image: of one that is broken astropy's decompressor never comes to the
-    end. Raises ValueError.
-    """
-    table, rows = _table_header(hdu), hdu.compressed_data
-    gzipped = ["GZIP_COMPRESSED_DATA", *(["COMPRESSED_DATA"] if table.get("ZCMPTYPE") in ("GZIP_1", "GZIP_2") else [])]
-    most = 8 * math.prod(table[f"ZTILE{axis}"] for axis in range(1, table["ZNAXIS"] + 1))
-    for tile in (tile for name in rows.columns.names if name.upper() in gzipped for tile in rows.field(name)):
-        stream = zlib.decompressobj(16 + zlib.MAX_WBITS)
-        try:
-            stream.decompress(tile.tobytes(), most)
-        except zlib.error as error:
-            raise ValueError(f"a compressed tile is broken ({error})") from None
-        if len(tile) and not stream.eof:
-            raise ValueError("a compressed tile is broken")
-
-
-def _table_header(hdu) -> fits.Header:
-    """The header of a compressed image's table; newer releases of astropy keep the table apart."""
-    return getattr(hdu, "_bintable", hdu)._header
 
 
 def sums(stored: numpy.ndarray, zero: int, blank: Optional[int] = None) -> numpy.ndarray:

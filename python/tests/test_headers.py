@@ -111,6 +111,10 @@ def damaged(name):
         return pack(content)[:900] + bytes(200) + pack(content)[1100:]
     if name == "another byte in a deflate stream":
         return pack(content[:6000] + b"x" + content[6001:])[:-8] + pack(content)[-8:]
+    if name == "a tile of HCOMPRESS that says it is wider":
+        content = FILES["HCOMPRESS_1"][1]
+        at = content.index(b"\xdd\x99", 8640) + 9
+        return content[:at] + bytes([content[at] + 50]) + content[at + 1 :]
     if name == "a broken gzip tile":
         content = FILES["GZIP_1"][1]
         at = content.index(b"\x1f\x8b", 8640)
@@ -130,6 +134,7 @@ def damaged(name):
         "a broken deflate stream",
         "another byte in a deflate stream",
         "a broken gzip tile",
+        "a tile of HCOMPRESS that says it is wider",
         "a tile beyond the heap",
         "a tile that isn't RICE",
         "a form that isn't",
