@@ -1,11 +1,12 @@
 """The tiles of a compressed image, looked at before astropy's decompressor sees them.
 
-That one takes memory for whatever length a table says, never comes to the end of some broken gzip streams, and writes
-beyond its memory where an HCOMPRESS tile says that it is larger than it is. No exception tells of that.
+That one takes memory for whatever length a table says, never comes to the end of some broken gzip streams, and leaves
+its memory where an HCOMPRESS or PLIO tile says that it is larger than it is. No exception tells of that.
 """
 import math
 import re
 import zlib
+from typing import List
 
 import numpy
 from astropy.io import fits
@@ -34,6 +35,9 @@ def check(hdu) -> None:
     if method == "HCOMPRESS_1" and "COMPRESSED_DATA" in names:
         for tile, count in zip(rows.field(names["COMPRESSED_DATA"]), pixels):
             _check_hcompress(tile.tobytes(), int(count))
+    if method == "PLIO_1" and "COMPRESSED_DATA" in names:
+        for tile in rows.field(names["COMPRESSED_DATA"]):
+            _check_plio(tile.tolist())
 
 
 def _pixels(table: fits.Header) -> numpy.ndarray:
@@ -61,6 +65,17 @@ def _check_hcompress(tile: bytes, count: int) -> None:
     """Looks at how large an HCOMPRESS tile says it is."""
     sides = [int.from_bytes(tile[at : at + 4], "big", signed=True) for at in (2, 6)]
     if tile and (tile[:2] != HCOMPRESS or len(tile) < BEFORE or min(sides) < 1 or math.prod(sides) != count):
+        raise ValueError(BROKEN)
+
+
+def _check_plio(words: List[int]) -> None:
+    """Looks at where a PLIO line begins and ends: its head has three words, or says how many it has."""
+    if not words:
+        return
+    if len(words) < 5:
+        raise ValueError(BROKEN)
+    first, last = (3, words[2]) if words[2] > 0 else (words[1], (words[4] << 15) + words[3])
+    if not 0 <= first <= len(words) or not 0 <= last <= len(words):
         raise ValueError(BROKEN)
 
 

@@ -115,6 +115,10 @@ def damaged(name):
         content = FILES["HCOMPRESS_1"][1]
         at = content.index(b"\xdd\x99", 8640) + 9
         return content[:at] + bytes([content[at] + 50]) + content[at + 1 :]
+    if name == "a line of PLIO that says it is longer":
+        content = FILES["PLIO_1"][1]
+        at = content.index(bytes.fromhex("00000007ff9c"), 5760)
+        return content[: at + 6] + b"\x7f" + content[at + 7 :]
     if name == "a broken gzip tile":
         content = FILES["GZIP_1"][1]
         at = content.index(b"\x1f\x8b", 8640)
@@ -134,6 +138,7 @@ def damaged(name):
         "a broken deflate stream",
         "another byte in a deflate stream",
         "a broken gzip tile",
+        "a line of PLIO that says it is longer",
         "a tile of HCOMPRESS that says it is wider",
         "a tile beyond the heap",
         "a tile that isn't RICE",
