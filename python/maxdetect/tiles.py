@@ -3,8 +3,11 @@
 An image is cut into tiles, and each is looked at in a window with a margin around it. A source belongs to the tile
 whose core holds its first pixel. It is the same source in the window as in the whole image where the component of the
 threshold set in which it lies has all its neighbours among the window's sure pixels: those whose background is made
-of cells that lie whole in the window. A component that reaches further is looked at again in a window that holds it;
-where that would have more pixels than the program takes, its sources are cut.
+of cells that lie whole in the window. All pixels of the core are sure, so the window shows which of them are at least
+the threshold, and in which of its components they lie; and one of these that is all of sure pixels with sure
+neighbours is one of the whole. Of a component that reaches further the window shows a part: what sure pixels join.
+It is looked at again in ever larger windows (`_held`), until one holds it. Its sources are cut where the least window
+that holds it has more pixels than the program takes, and nowhere else: each tile finds so by itself.
 
 That such tiles give the catalogue and the map of the whole is a law, for images that the program could take as a whole:
 `pieces_give_the_catalogue` of the crate `tile_laws`. This module isn't proved to keep its premises; tests compare tiles
@@ -23,6 +26,7 @@ from scipy import ndimage
 
 from . import kernel
 from .background import Above, lower_median, undefined_cells
+from .sky import cells_along
 
 # What the program takes.
 MOST_PIXELS, MOST_SIDE = 2**24, 65535
@@ -80,14 +84,13 @@ class Box:
 
 @dataclasses.dataclass
 class Look:
-    """What is seen in a window: its sources, the map with their numbers, where it is at least the threshold, and
-    which pixels of the rest aren't sure. `measured` adds to the rows that are wanted of it what else they are to have.
+    """What is seen in a window: its sources, the map with their numbers, and where it is at least the threshold.
+    `measured` adds to the rows that are wanted of it what else they are to have.
     """
 
     catalogue: Table
     segments: numpy.ndarray
     above: Callable[[slice, slice], numpy.ndarray]
-    unsure: Optional[numpy.ndarray] = None
     measured: Callable[[Table], Table] = lambda rows: rows
 
 
@@ -119,6 +122,11 @@ class Plan:
     connect: int = 8
     with_map: bool = True
 
+    @property
+    def whole(self) -> Box:
+        """All of the image."""
+        return Box(0, self.shape[0], 0, self.shape[1])
+
     def cores(self) -> List[Box]:
         """The cores of the tiles, row by row."""
         part = self.part
@@ -143,16 +151,20 @@ class Plan:
             before, after = 3 * self.mesh // 2 + 1, (3 * self.mesh + 1) // 2 + 1
         return self.around(Box(box.top - before, box.bottom + after, box.left - before, box.right + after), 0)
 
-    def next_window(self, box: Box, margin: int, last: Optional[Box]) -> Optional[Box]:
-        """The window around a box with this margin, or with the half of it and so on down to the least window, that
-        the program takes and that reaches beyond the last one; None where none does.
+    def window_holding(self, box: Box, margin: int) -> Optional[Box]:
+        """The window around a box with this margin, or with the half of it and so on down to the least one in which
+        its pixels are sure with their neighbours, that the program takes; None where it takes none of them.
         """
         least = self.least_window(box)
         windows = [self.around(box, margin >> times) for times in range(margin.bit_length())]
-        for window in [*(wide for wide in windows if wide.holds(least)), least]:
-            if window.fits() and not (last is not None and last.holds(window)):
-                return window
-        return None
+        return next((it for it in [*windows, least] if it.fits() and it.holds(least)), None)
+
+    def widest_window(self, box: Box) -> Box:
+        """The window around a box with the margin, or with twice as much and so on as far as the program takes it."""
+        margin = self.margin
+        while self.around(box, 2 * margin).fits() and self.around(box, margin) != self.whole:
+            margin *= 2
+        return self.around(box, margin)
 
     def _sure(self, low: int, high: int, side: int) -> Tuple[int, int]:
         """Of the places along a side, those whose background a window from `low` up to `high` shows."""
@@ -206,8 +218,6 @@ def _may_reach_out(look: Look, window: Box, inner: Box, plan: Plan) -> bool:
     each side of the core, and what leaves a strip sideways counts as out, also where the strip's own end is sure: it
     may go on to another side. So for most tiles nothing more has to be known of their components.
     """
-    if look.unsure is not None:
-        return True
     deep, (height, width) = plan.deep(window), window.shape
     if deep == Box(0, height, 0, width):
         return False
@@ -230,14 +240,12 @@ def _may_reach_out(look: Look, window: Box, inner: Box, plan: Plan) -> bool:
     return False
 
 
-def _reaching_out(labels: numpy.ndarray, look: Look, window: Box, plan: Plan) -> numpy.ndarray:
+def _reaching_out(labels: numpy.ndarray, window: Box, plan: Plan) -> numpy.ndarray:
     """The numbers of the components of a window that aren't all of sure pixels with sure neighbours, in order."""
     if window.shape == plan.shape:
         return numpy.zeros(0, dtype=labels.dtype)
     deep = plan.deep(window)
     parts = [labels[: deep.top], labels[deep.bottom :], labels[deep.rows, : deep.left], labels[deep.rows, deep.right :]]
-    if look.unsure is not None:
-        parts.append(labels[look.unsure])
     numbers = numpy.unique(numpy.concatenate([numpy.unique(part) for part in parts]))
     return numbers[numbers > 0]
 
@@ -262,80 +270,95 @@ def in_box(catalogue: Table, box: Box) -> numpy.ndarray:
     return (rows >= box.top) & (rows < box.bottom) & (columns >= box.left) & (columns < box.right)
 
 
-def _picked(
-    look: Look, window: Box, plan: Plan, chosen: numpy.ndarray, cut: bool, within: Optional[Box] = None
-) -> Piece:
-    """The chosen rows of a window as a piece of the whole; of the map the part in a box alone, where one is given."""
+def _picked(look: Look, window: Box, plan: Plan, chosen: numpy.ndarray, among: Optional[numpy.ndarray] = None) -> Piece:
+    """The chosen rows of a window as a piece of the whole. Where they are cut, `among` says which of the window's
+    pixels the map is to have.
+    """
     left, top = window.left - plan.part.left, window.top - plan.part.top
     table = moved(look.measured(look.catalogue[chosen]), left, top)
+    cut = numpy.full(len(table), among is not None)
     if not plan.with_map:
-        return Piece(table, numpy.zeros(0, dtype="i8"), numpy.zeros(0, dtype="i4"), numpy.full(len(table), cut))
+        return Piece(table, numpy.zeros(0, dtype="i8"), numpy.zeros(0, dtype="i4"), cut)
     numbers = numpy.zeros(look.segments.max(initial=0) + 1, dtype="i4")
     numbers[numpy.asarray(look.catalogue["NUMBER"])[chosen]] = numpy.arange(1, chosen.sum() + 1)
-    part = within or Box(0, window.shape[0], 0, window.shape[1])
-    owners = numbers[look.segments[part.rows, part.columns]]
+    owners = numbers[look.segments]
+    if among is not None:
+        owners *= among
     rows, columns = numpy.nonzero(owners)
-    pixels = (rows + (top + part.top)).astype("i8") * (plan.part.right - plan.part.left) + (
-        columns + (left + part.left)
-    )
-    return Piece(table, pixels, owners[rows, columns] - 1, numpy.full(len(table), cut))
+    pixels = (rows + top).astype("i8") * (plan.part.right - plan.part.left) + (columns + left)
+    return Piece(table, pixels, owners[rows, columns] - 1, cut)
 
 
-def _sure_part(component: numpy.ndarray, look: Look, window: Box, seed: Tuple[int, int], plan: Plan) -> Box:
-    """The box of the part of a component that sure pixels join to the seed. What is seen of the rest may be another
-    component in the whole, or none.
+@dataclasses.dataclass(frozen=True)
+class Part:
+    """Pixels of a component of the whole that a window's sure pixels join: those of them in the core, as rows and
+    columns of the whole, and the box of all.
     """
-    sure, part = plan.sure(window), numpy.zeros_like(component)
-    part[sure.rows, sure.columns] = component[sure.rows, sure.columns]
-    if look.unsure is not None:
-        part &= ~look.unsure
-    part[seed[0] - window.top, seed[1] - window.left] = True
-    labels = _label(part, plan.connect)
-    number = labels[seed[0] - window.top, seed[1] - window.left]
-    return _moved_box(ndimage.find_objects(labels == number, 1)[0], window)
+
+    places: numpy.ndarray
+    box: Box
 
 
-def _again(
-    look_at: Callable[[Box], Look], plan: Plan, core: Box, seed: Tuple[int, int], box: Box
-) -> Tuple[Piece, Box, numpy.ndarray]:
-    """The sources of the core in the component that holds a pixel, of which a part fills a box: from ever larger
-    windows. With them the last window, and where the component lies in it.
+def _sure_parts(components: numpy.ndarray, window: Box, plan: Plan) -> numpy.ndarray:
+    """The parts of some components of a window that sure pixels join, numbered. Each is of one component of the whole;
+    what is seen of the rest may be of another one, or of none.
     """
-    margin = plan.margin
-    # Where no window holds even the part that was seen, it is seen again in the tile's own.
-    wider = plan.next_window(box, margin, None) or plan.around(core, margin)
-    while wider is not None:
-        window, margin = wider, 2 * margin
-        look = look_at(window)
+    sure, parts = plan.sure(window), numpy.zeros(components.shape, dtype=bool)
+    parts[sure.rows, sure.columns] = components[sure.rows, sure.columns]
+    return _label(parts, plan.connect)
+
+
+def _held(look_at: Callable[[Box], Look], plan: Plan, part: Part) -> Optional[Tuple[Look, Box, numpy.ndarray]]:
+    """A look at a window that holds the component of which a part is known, with its neighbours, among its sure
+    pixels; the window; and which of its pixels the component has. None where the program takes no such window.
+
+    What is known of the component is a part of it, joined to one pixel, and the box around that part. Each window
+    holds the box with its neighbours among its sure pixels. So what it shows is joined to all that was known before;
+    and where the component ends within the sure pixels that have sure neighbours, it is seen whole. Where it doesn't,
+    a pixel beyond the box belongs to it, as the part would else have no neighbour, and the box grows: at last to that
+    of the component. A box that the program takes no window for lies in that of the component, so that it takes none
+    for this one either.
+    """
+    seed, box, margin = part.places[0], part.box, 2 * plan.margin
+    while True:
+        window = plan.window_holding(box, margin)
+        if window is None:
+            return None
+        look, at = look_at(window), tuple(seed - (window.top, window.left))
         labels = _labelled(look, plan.connect)
-        number = labels[seed[0] - window.top, seed[1] - window.left]
-        component, (rows, columns) = labels == number, _firsts(look.catalogue)
-        chosen = component[rows, columns] & in_box(look.catalogue, core.within(window))
-        if number not in _reaching_out(labels, look, window, plan):
-            return _picked(look, window, plan, chosen, False), window, component
-        wider = plan.next_window(_sure_part(component, look, window, seed, plan), margin, window)
-    # Of what no window holds each tile has the part that it sees, and on the map what lies in its core.
-    inner = core.within(window)
-    seen = numpy.unique(look.segments[inner.rows, inner.columns][component[inner.rows, inner.columns]])
-    chosen = numpy.isin(look.catalogue["NUMBER"], seen[seen > 0])
-    return _picked(look, window, plan, chosen, True, inner), window, component
+        component = labels == labels[at]
+        if labels[at] not in _reaching_out(labels, window, plan):
+            return look, window, component
+        parts = _sure_parts(component, window, plan)
+        box, margin = _moved_box(ndimage.find_objects(parts)[parts[at] - 1], window), 2 * margin
 
 
-def _all_again(look_at: Callable[[Box], Look], plan: Plan, core: Box, components: list) -> Iterator[Piece]:
-    """The same for all components that hold places of the core, of which these parts are seen. Several parts may turn
-    out to be of one component, and one part of several.
+def _all_held(look_at: Callable[[Box], Look], plan: Plan, core: Box, parts: List[Part]) -> Iterator[Piece]:
+    """The sources of the core in the components of which parts are known, each from a window that holds it, and those
+    that no window holds as the widest one around the core shows them. Several parts may be of one component.
     """
-    if not components:
-        return
-    places = numpy.concatenate([places for places, _ in components])
-    parts = numpy.repeat(numpy.arange(len(components)), [len(places) for places, _ in components])
-    while len(places):
-        piece, window, component = _again(look_at, plan, core, tuple(places[0]), components[parts[0]][1])
-        yield piece
-        done = (places >= (window.top, window.left)).all(axis=1) & (places < (window.bottom, window.right)).all(axis=1)
-        done[done] = component[tuple((places[done] - (window.top, window.left)).T)]
-        done[0] = True
-        places, parts = places[~done], parts[~done]
+    found, cut = numpy.zeros(core.shape, dtype=bool), []
+    for part in parts:
+        if found[tuple(part.places[0] - (core.top, core.left))]:
+            continue
+        held = _held(look_at, plan, part)
+        if held is None:
+            cut.append(part.places)
+            continue
+        look, window, component = held
+        (rows, columns), inner, here = _firsts(look.catalogue), core.within(window), window.within(core)
+        yield _picked(look, window, plan, component[rows, columns] & in_box(look.catalogue, inner))
+        found[here.rows, here.columns] |= component[inner.rows, inner.columns]
+    if cut:
+        yield _cut(look_at, plan, core, numpy.concatenate(cut))
+
+
+def _cut(look_at: Callable[[Box], Look], plan: Plan, core: Box, places: numpy.ndarray) -> Piece:
+    """The sources that have some places of the core, in the widest window around it, and on the map these places."""
+    window = plan.widest_window(core)
+    look, among = look_at(window), numpy.zeros(window.shape, dtype=bool)
+    among[tuple((places - (window.top, window.left)).T)] = True
+    return _picked(look, window, plan, numpy.isin(look.catalogue["NUMBER"], look.segments[among]), among)
 
 
 def _moved_box(at: Tuple[slice, slice], window: Box) -> Box:
@@ -358,53 +381,45 @@ def joined(pieces: Iterable[Piece]) -> Piece:
     )
 
 
-@dataclasses.dataclass
-class Rest:
-    """What a tile's window doesn't hold: components, as their places in the core and the box of the part that is
-    seen; and whether there are pixels in the middle that aren't sure.
-    """
-
-    components: List[Tuple[numpy.ndarray, Box]] = dataclasses.field(default_factory=list)
-    holes: bool = False
-
-
-def look_over(look_at: Callable[[Box], Look], plan: Plan, core: Box, margin: int) -> Tuple[Piece, Rest]:
+def look_over(look_at: Callable[[Box], Look], plan: Plan, core: Box, margin: int) -> Tuple[Piece, List[Part]]:
     """The sources that belong to a tile, seen with a margin, but for those in components that the window doesn't
-    hold.
+    hold; and the parts of these that are seen.
     """
     window = plan.around(core, margin)
     look, inner = look_at(window), core.within(window)
     own = in_box(look.catalogue, inner)
     if window.shape == plan.shape or not _may_reach_out(look, window, inner, plan):
-        return _picked(look, window, plan, own, False), Rest()
+        return _picked(look, window, plan, own), []
     labels = _labelled(look, plan.connect)
-    out = _reaching_out(labels, look, window, plan)
+    out = _reaching_out(labels, window, plan)
     rows, columns = _firsts(look.catalogue)
-    piece = _picked(look, window, plan, own & ~numpy.isin(labels[rows, columns], out), False)
-    unsure = numpy.intersect1d(out, labels[inner.rows, inner.columns])
-    boxes, components = ndimage.find_objects(labels) if len(unsure) else [], []
-    for number in unsure:
-        # All pixels of the core are sure. In the whole they may belong to several components.
-        places = numpy.argwhere(labels[inner.rows, inner.columns] == number) + (core.top, core.left)
-        components.append((places, _moved_box(boxes[number - 1], window)))
-    return piece, Rest(components, look.unsure is not None)
+    piece = _picked(look, window, plan, own & ~numpy.isin(labels[rows, columns], out))
+    unheld = numpy.intersect1d(out, labels[inner.rows, inner.columns])
+    return piece, _parts(numpy.isin(labels, unheld), window, core, plan) if len(unheld) else []
 
 
-def complete(look_at: Callable[[Box], Look], plan: Plan, core: Box, piece: Piece, rest: Rest) -> Piece:
+def _parts(components: numpy.ndarray, window: Box, core: Box, plan: Plan) -> List[Part]:
+    """What is known of some components that a window doesn't hold: all pixels of the core are sure."""
+    inner, parts = core.within(window), _sure_parts(components, window, plan)
+    at_core, boxes = parts[inner.rows, inner.columns], ndimage.find_objects(parts)
+    return [
+        Part(numpy.argwhere(at_core == number) + (core.top, core.left), _moved_box(boxes[number - 1], window))
+        for number in numpy.unique(at_core[at_core > 0])
+    ]
+
+
+def complete(look_at: Callable[[Box], Look], plan: Plan, core: Box, piece: Piece, parts: List[Part]) -> Piece:
     """A tile's piece with the sources that its window didn't hold: from a larger window of the tile where they are
     many, or from windows of their own.
     """
-    whole = Box(0, plan.shape[0], 0, plan.shape[1])
-    if rest.holes and whole.fits():
-        return look_over(look_at, plan, core, max(plan.shape))[0]
     margin = 2 * plan.margin
-    while rest.components:
+    while parts:
         wider = plan.around(core, margin)
-        if not wider.fits() or wider.pixels > sum(plan.around(box, plan.margin).pixels for _, box in rest.components):
+        if not wider.fits() or wider.pixels > sum(plan.around(part.box, margin).pixels for part in parts):
             break
-        piece, rest = look_over(look_at, plan, core, margin)
+        piece, parts = look_over(look_at, plan, core, margin)
         margin *= 2
-    return joined([piece, *_all_again(look_at, plan, core, rest.components)])
+    return joined([piece, *_all_held(look_at, plan, core, parts)])
 
 
 def tile_sources(look_at: Callable[[Box], Look], plan: Plan, core: Box) -> Piece:
@@ -483,11 +498,11 @@ def gathered(
 
 
 class _Windows:
-    """Looks at windows of an array by the program, where `image` is a part of the whole.
+    """Looks at windows of an array by the program, where `image` is a part of the whole. What lies beyond it is
+    undefined.
 
     A cell without a defined pixel would take the median of the window, not that of the whole, `fill`. So it gets one
-    defined pixel with that value, where all pixels around are undefined. Pixels near cells that have no place for one
-    aren't sure.
+    defined pixel with that value, where all pixels around are undefined.
     """
 
     def __init__(self, image: numpy.ndarray, part: Box, threshold: int, options: dict, fill: Optional[int]):
@@ -496,34 +511,36 @@ class _Windows:
     def __call__(self, box: Box) -> Look:
         at = box.within(self.part)
         window = kernel.masked(self.image[at.rows, at.columns], self.options.get("blank"))
+        if window.shape != box.shape:
+            window = _extended(window, box.shape)
         options = {name: value for name, value in self.options.items() if name != "blank"}
-        seen, unsure = (window, None) if self.fill is None else self._filled(window)
+        seen = window if self.fill is None else self._filled(window)
         catalogue, segments = kernel.detect(seen, self.threshold, **options)
         if seen is not window:
             catalogue = _without_fill(catalogue, segments, window)
         undefined = None if numpy.ma.getmask(seen) is numpy.ma.nomask else numpy.ma.getmaskarray(seen)
         above = Above(numpy.ma.getdata(seen), undefined, self.threshold, options["mesh"], options["flat"])
-        return Look(catalogue, segments, above, unsure)
+        return Look(catalogue, segments, above)
 
     def _filled(self, window):
-        """The window with these pixels, and where it isn't sure."""
+        """The window with these pixels."""
         mesh, undefined = self.options["mesh"], numpy.ma.getmaskarray(window)
         empty = undefined_cells(undefined, mesh)
         if empty is None:
-            return window, None
-        lone, seen, unsure = ndimage.binary_erosion(undefined, numpy.ones((3, 3)), border_value=1), window.copy(), None
+            return window
+        lone, seen = ndimage.binary_erosion(undefined, numpy.ones((3, 3)), border_value=1), window.copy()
         for down, across in numpy.argwhere(empty):
-            cell = slice(down * mesh, (down + 1) * mesh), slice(across * mesh, (across + 1) * mesh)
-            free = numpy.argwhere(lone[cell])
-            if len(free):
-                y, x = free[len(free) // 2]
-                seen[y + down * mesh, x + across * mesh] = self.fill
-            else:
-                unsure = numpy.zeros(window.shape, dtype=bool) if unsure is None else unsure
-                # What depends on the cell, and one pixel more: a component must have no neighbour there.
-                around = [slice(max(0, (at - 2) * mesh - 1), (at + 3) * mesh + 1) for at in (down, across)]
-                unsure[around[0], around[1]] = True
-        return seen, unsure
+            free = numpy.argwhere(lone[down * mesh : (down + 1) * mesh, across * mesh : (across + 1) * mesh])
+            y, x = free[len(free) // 2]
+            seen[y + down * mesh, x + across * mesh] = self.fill
+        return seen
+
+
+def _extended(window: numpy.ma.MaskedArray, shape: Tuple[int, int]) -> numpy.ma.MaskedArray:
+    """A window with undefined pixels behind its last row and column."""
+    whole = numpy.ma.MaskedArray(numpy.zeros(shape, dtype=window.dtype), mask=True)
+    whole[: window.shape[0], : window.shape[1]] = window
+    return whole
 
 
 def _without_fill(catalogue: Table, segments: numpy.ndarray, window: numpy.ma.MaskedArray) -> Table:
@@ -539,14 +556,51 @@ def _without_fill(catalogue: Table, segments: numpy.ndarray, window: numpy.ma.Ma
     return kept
 
 
-def _fill(image: numpy.ndarray, blank: Optional[int], mesh: int) -> Optional[int]:
-    """The lower median of an image with cells that have no defined pixel; None of others."""
+def _empty_cells(image: numpy.ndarray, blank: Optional[int], mesh: int) -> Optional[numpy.ndarray]:
+    """Which cells of an image have no defined pixel; None where none is so."""
     if not mesh or (blank is None and numpy.ma.getmask(image) is numpy.ma.nomask):
         return None
-    bands = [slice(top, top + mesh) for top in range(0, len(image), mesh)]
-    if all(undefined_cells(numpy.ma.getmaskarray(kernel.masked(image[rows], blank)), mesh) is None for rows in bands):
-        return None
-    return lower_median(numpy.concatenate([kernel.masked(image[rows], blank).compressed() for rows in bands]))
+    found = []
+    for rows in _bands(image, mesh):
+        undefined = numpy.ma.getmaskarray(kernel.masked(image[rows], blank))
+        empty = undefined_cells(undefined, mesh)
+        found.append(numpy.zeros((1, cells_along(image.shape[1], mesh)), dtype=bool) if empty is None else empty)
+    found = numpy.concatenate(found)
+    return found if found.any() else None
+
+
+def _bands(image: numpy.ndarray, mesh: int) -> List[slice]:
+    return [slice(top, top + mesh) for top in range(0, len(image), mesh)]
+
+
+def _tight(image: numpy.ndarray, empty: numpy.ndarray, mesh: int) -> bool:
+    """Some cell without a defined pixel may have none either whose neighbours are all undefined: cells of one or two
+    pixels, or cells of one at the image's end.
+    """
+    height, width = image.shape
+    return mesh < 3 or height % mesh == 1 and empty[-1].any() or width % mesh == 1 and empty[:, -1].any()
+
+
+def _median(image: numpy.ndarray, blank: Optional[int], mesh: int) -> int:
+    """The lower median of an image's defined pixels."""
+    return lower_median(numpy.concatenate([kernel.masked(image[it], blank).compressed() for it in _bands(image, mesh)]))
+
+
+def plan_of(
+    image: numpy.ndarray, tile: int, mesh: int, flat: bool, connect: int, blank: Optional[int]
+) -> Tuple[Plan, Optional[int]]:
+    """How an array is cut, and the lower median of its defined pixels where cells have none of them."""
+    margin, whole, fill = 2 * mesh or MARGIN, Box(0, image.shape[0], 0, image.shape[1]), None
+    side, shape, empty = _tile_of(tile, margin, mesh), image.shape, _empty_cells(image, blank, mesh)
+    if empty is not None and whole.fits() and _tight(image, empty, mesh):
+        side = max(shape)
+    elif empty is not None:
+        if mesh < 3:
+            raise ValueError(f"cells of {mesh} pixels have no defined one, in an image that no window holds")
+        fill = _median(image, blank, mesh)
+        # Two lines of undefined pixels more belong to a last cell of one.
+        shape = tuple(side + 2 if side % mesh == 1 else side for side in shape)
+    return Plan(shape, whole, side, margin, mesh, flat, connect), fill
 
 
 class _ArrayTile:
@@ -555,7 +609,7 @@ class _ArrayTile:
     def __init__(self, plan: Plan, threshold: int, options: dict, fill: Optional[int]):
         self.plan, self.threshold, self.options, self.fill = plan, threshold, options, fill
 
-    def __call__(self, item: Tuple[Box, Box, numpy.ndarray]) -> Tuple[Box, Piece, Rest]:
+    def __call__(self, item: Tuple[Box, Box, numpy.ndarray]) -> Tuple[Box, Piece, List[Part]]:
         core, window, image = item
         return core, *look_over(
             _Windows(image, window, self.threshold, self.options, self.fill), self.plan, core, self.plan.margin
@@ -595,26 +649,25 @@ def detect_tiles(
     memory-mapped one, that gets the map. `progress` is called with 1 for each tile.
 
     Where a component of the threshold set is too large for any window that the program takes, its sources are cut by
-    the tiles, with those that no window tells from them; their numbers stand in the catalogue's `meta["CUT"]`. All
-    others are exactly those of `detect`.
+    the tiles; their numbers stand in the catalogue's `meta["CUT"]`. All others are exactly those of `detect`. An image
+    whose cells have one or two pixels, and some of them no defined one, is looked at as a whole; ValueError is raised
+    where the program doesn't take that.
     """
     if numpy.ndim(image) != 2 or 0 in numpy.shape(image):
         raise ValueError(f"an image has two dimensions and a pixel, not the sides {numpy.shape(image)}")
-    margin, whole = 2 * mesh or MARGIN, Box(0, image.shape[0], 0, image.shape[1])
-    plan = Plan(image.shape, whole, _tile_of(tile, margin, mesh), margin, mesh, bool(flat), connect)
-    fill = _fill(image, blank, mesh)
+    plan, fill = plan_of(image, tile, mesh, bool(flat), connect, blank)
     options.update(mesh=mesh, flat=bool(flat), connect=connect, blank=blank)
     segments = numpy.zeros(image.shape, dtype="i4") if segments is None else segments
     windows = (
         (core, window, image[window.rows, window.columns])
         for core in plan.cores()
-        for window in [plan.around(core, margin)]
+        for window in [plan.around(core, plan.margin)]
     )
-    everything = _Windows(image, whole, threshold, options, fill)
+    everything = _Windows(image, plan.part, threshold, options, fill)
     with contextlib.ExitStack() as stack:
         pool = executor or stack.enter_context(concurrent.futures.ThreadPoolExecutor(os.cpu_count()))
         looked = each(pool, _ArrayTile(plan, threshold, options, fill), windows)
-        pieces = (complete(everything, plan, core, piece, rest) for core, piece, rest in looked)
+        pieces = (complete(everything, plan, core, piece, parts) for core, piece, parts in looked)
         table, cut = gathered(pieces, segments, progress)
     if cut.any():
         table.meta["CUT"] = numpy.asarray(table["NUMBER"])[cut].tolist()

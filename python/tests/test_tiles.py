@@ -149,6 +149,32 @@ def test_what_is_not_cut_is_the_wholes(mesh, monkeypatch):
                 assert ((segments == row["NUMBER"]) == (its_map == same)).all()
 
 
+def test_cells_without_a_pixel_that_only_a_wider_window_shows():
+    # The first window around a component shows none of the cells that have no defined pixel, a wider one does.
+    rows = [
+        [9, 89, 84, 33, 82, 7],
+        [76, 62, 47, 0, 14, 72],
+        [17, 45, 43, 47, 20, 9],
+        [67, 18, 7, 85, 20, 45],
+        [97, 25, 29, 29, 38, 65],
+    ]
+    image, options = numpy.ma.masked_equal(rows, 0), dict(mesh=1, connect=8, contrast=100)
+    are_the_same(maxdetect.detect(image, 20, **options), maxdetect.detect_tiles(image, 20, 2, **options))
+
+
+@pytest.mark.parametrize("shape", [(65, 65), (65, 60), (71, 65)])
+def test_a_last_cell_of_one_pixel_without_a_value(shape, monkeypatch):
+    image = numpy.ma.MaskedArray(rough(shape, 4, 0.7), mask=False)
+    image[:, -1] = image[-1] = numpy.ma.masked
+    options = dict(mesh=4, connect=8)
+    whole = maxdetect.detect(image, 90, **options)
+    monkeypatch.setattr(tiles, "MOST_PIXELS", 56 * 56)
+    are_the_same(whole, maxdetect.detect_tiles(image, 90, 16, **options))
+    assert whole[0]["XMAX"].max() == shape[1] - 1 and whole[0]["YMAX"].max() == shape[0] - 1
+    with pytest.raises(ValueError, match="cells of 2 pixels"):
+        maxdetect.detect_tiles(image, 90, 16, mesh=2)
+
+
 class InTurn(concurrent.futures.Executor):
     """Does what it is given at once."""
 
