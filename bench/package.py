@@ -216,27 +216,10 @@ def tile_rows():
     whole, whole_map = catalogue(image, tile=4096)
     for tile in (1024, 512, 256):
         table, segments = catalogue(image, tile=tile)
-        same = len(table) == len(whole) and all((table[it] == whole[it]).all() for it in KERNEL_COLUMNS)
-        apart = numpy.abs((table["FLUX_KRON"] - whole["FLUX_KRON"]) / whole["FLUXERR_KRON"]).max() if same else math.nan
+        names = whole.colnames
+        same = all(numpy.array(table[it]).tobytes() == numpy.array(whole[it]).tobytes() for it in names)
         told = ["yes" if so else "no" for so in (same, (segments == whole_map).all())]
-        yield [f"{tile} x {tile}", str(len(table)), *told, f"{apart:.2f}"]
-
-
-KERNEL_COLUMNS = (
-    "NUMBER",
-    "AREA",
-    "XMIN",
-    "XMAX",
-    "YMIN",
-    "YMAX",
-    "XCEN",
-    "YCEN",
-    "XVAR",
-    "YVAR",
-    "XYCOV",
-    "FLUX",
-    "BASE",
-)
+        yield [f"{tile} x {tile}", str(len(table)), *told]
 
 
 def tables(table):
@@ -255,5 +238,5 @@ def tables(table):
     halves = [f"noise {noise}: {what}" for noise in (guide.SIGMA, NOISY) for what in (deep, false)]
     table("Three times the noise in one half", ["program", *halves], uneven_rows())
     table("A sky that rises by half, by program", ["program", deep, false], slope_rows())
-    heads = ["tiles of", "sources", "same rows", "same map", "greatest change of FLUX_KRON, in its errors"]
+    heads = ["tiles of", "sources", "same rows, all columns", "same map"]
     table("One crowd in tiles", heads, tile_rows())

@@ -1,5 +1,5 @@
-"""From an opened image to its sources: the sky, what the program is to see, its sources, and their photometry, a tile
-at a time.
+"""From an opened image to its sources: the sky, what the program is to see, and its sources, a tile at a time; and
+then their photometry.
 """
 import concurrent.futures
 import dataclasses
@@ -9,7 +9,7 @@ from typing import Callable, Optional, Tuple, Union
 import numpy
 from astropy.table import Table, hstack
 
-from . import background, kernel, photometry, scaling, sky, tiles
+from . import background, kernel, measuring, photometry, scaling, sky, tiles
 from .errors import Mistake
 from .images import Plane
 from .tiles import Box
@@ -112,7 +112,7 @@ class Detector:
     image's in both directions.
     """
 
-    def __init__(self, field: Field, found: sky.Sky, program: Optional[str] = None, with_map: bool = True):
+    def __init__(self, field: Field, found: sky.Sky, program: Optional[str] = None):
         self.field, self.settings, self.program = field, field.settings, program
         self.sky = found if self.settings.mesh else found.flat()
         self.even = field.weights is None and not self.settings.local
@@ -122,9 +122,7 @@ class Detector:
         self.strips = {}
         tile = self.settings.tile // (self.settings.mesh or 1) * (self.settings.mesh or 1)
         shape, margin = (height + 2 * beyond, width + 2 * beyond), beyond or tiles.MARGIN
-        self.plan = tiles.Plan(
-            shape, self.part, max(tile, self.settings.mesh, 1), margin, self.settings.mesh, with_map=with_map
-        )
+        self.plan = tiles.Plan(shape, self.part, max(tile, self.settings.mesh, 1), margin, self.settings.mesh)
 
     def noise(self, rows: slice, columns: slice) -> Union[float, numpy.ndarray]:
         """The noise of the image that is looked at in a window, in its units: one number, or an array."""
@@ -137,7 +135,8 @@ class Detector:
         """The sky as the program is to see it."""
         if not self.even or not self.settings.mesh:
             return numpy.zeros((rows.stop - rows.start, columns.stop - columns.start), dtype="f4")
-        return self.sky.background(rows, columns) * numpy.float32(scaling.SIGMA / self.sky.noise)
+        level = sky.anywhere(self.sky.levels, self.sky.mesh, rows, columns)
+        return level * numpy.float32(scaling.SIGMA / self.sky.noise)
 
     def numbers(self, box: Box) -> numpy.ndarray:
         """What the program is to see of a window: 32-bit numbers, kernel.LEAST where it is undefined."""
@@ -190,38 +189,13 @@ class Detector:
         return seen
 
     def __call__(self, box: Box) -> tiles.Look:
-        """The sources of a window whose first pixels lie in the image, their photometry for the asking, and its map."""
+        """The sources of a window whose first pixels lie in the image, and its map."""
         seen, mesh = self.numbers(box), self.settings.mesh
         options = {"min_area": self.settings.min_area, "mesh": mesh, "connect": self.plan.connect, **self.strips}
         catalogue, segments = kernel.detect_stored(seen, self.settings.threshold, program=self.program, **options)
         above = background.Above(seen, seen == kernel.LEAST, self.settings.threshold, mesh)
         catalogue = catalogue[tiles.in_box(catalogue, self.part.within(box))]
-        return tiles.Look(catalogue, segments, above, measured=lambda rows: self._measured(box, rows, segments))
-
-    def _level_of(self, rows, columns):
-        """The sky's level in the image's units, where it is measured in the image itself; in 64 bits where 32 don't
-        hold it.
-        """
-        if self.field.values is not None:
-            return None
-        above = self.sky.background(rows, columns)
-        return (above if abs(self.sky.zero) < 4096 * self.sky.noise else above.astype("f8")) + self.sky.zero
-
-    def _measured(self, box, rows, segments):
-        """Rows of a window's catalogue with the columns of photometry; the window's columns and rows stay."""
-        settings, at, part = self.settings, self.part.within(box), box.within(self.part)
-        table = tiles.moved(rows.copy(), -at.left, -at.top)
-        image, own = self.field.to_measure(part.rows, part.columns), numpy.ascontiguousarray(
-            segments[at.rows, at.columns]
-        )
-        level, noise = photometry.sky(
-            image, own, settings.mesh, local=settings.local, level=self._level_of(part.rows, part.columns)
-        )
-        if self.field.values is None and self.field.weights is not None:
-            noise = self.noise(part.rows, part.columns)
-        more = dict(gain=settings.gain, saturation=self.field.saturation, threshold=settings.threshold)
-        found = photometry.measured(image, level, noise, own, table, **more)
-        return tiles.moved(hstack([table, found]), at.left, at.top)
+        return tiles.Look(catalogue, segments, above)
 
 
 def sky_of(field: Field) -> sky.Sky:
@@ -249,16 +223,19 @@ def sources(
 ) -> Table:
     """The sources of a field with their photometry, in columns and rows of the image, numbered by their first pixels.
 
-    Tiles run in the executor. `segments`, an array of the image's shape full of zeros, gets the map. `progress` is
-    called with 1 for each tile, after a first call with 0. The table's meta has the program's threshold (THRESH), and
-    the noise (SIGMA) where there is no weight map.
+    Tiles and photometry run in the executor. `segments`, an array of the image's shape full of zeros, gets the map.
+    `progress` is called with 1 for each tile, after a first call with 0, and with 0 now and then. The table's meta has
+    the program's threshold (THRESH), and the noise (SIGMA) where there is no weight map.
     """
-    detector = Detector(field, sky_of(field), program, segments is not None)
+    detector = Detector(field, sky_of(field), program)
+    segments = numpy.zeros(field.shape, dtype="i4") if segments is None else segments
     cores = detector.plan.cores()
     if len(cores) == 1 and field.settings.workers > 1:
         detector.strips = {"strips": 16, "workers": field.settings.workers}
     progress(0)
     table, cut = tiles.gathered(tiles.each(executor, _Tile(detector), cores), segments, progress)
+    beside = measuring.sky_beside(detector, segments, executor)
+    table = hstack([table, measuring.measured(detector, beside, table, segments, executor, progress)])
     table["FLAGS"] |= numpy.where(cut, photometry.CUT, 0).astype(table["FLAGS"].dtype)
     table.meta["THRESH"] = field.settings.threshold
     # With a weight map the sky's noise is a factor, and no noise of the image.

@@ -10,12 +10,14 @@ The Kron flux is the sum in an ellipse of the source's shape, `kron` times its K
 radius is the mean distance of the light within three times the isophote. Pixels of other sources count as sky there,
 and so they do in the circular aperture.
 """
-from typing import Dict, NamedTuple, Optional, Tuple, Union
+from typing import Callable, Dict, NamedTuple, Optional, Tuple, Union
 
 import numpy
 import sep
 from astropy.table import Table
 
+from . import beside
+from .beside import unit_of
 from .noise import of_array
 from .sky import grown
 
@@ -58,10 +60,6 @@ KRON_REACH = 6.0
 # The radius of the circular aperture in pixels, and how many Kron radii the Kron ellipse reaches.
 APERTURE = 5.0
 KRON = 4.0
-# How far a source's light reaches beyond its pixels, when the background is estimated.
-GROWTH = 4
-# Least share of an image that the background is estimated from.
-LEAST_SHARE = 0.4
 
 Numbers = Union[float, numpy.ndarray]
 
@@ -97,27 +95,6 @@ def _undefined(image: numpy.ndarray, mask: Optional[numpy.ndarray]) -> numpy.nda
     return numpy.ascontiguousarray(undefined if mask is None else undefined | numpy.asarray(mask, dtype=bool))
 
 
-def _left_out(segments: numpy.ndarray, undefined: numpy.ndarray) -> numpy.ndarray:
-    """Pixels that tell nothing of the sky: those without a value, and those of sources and around them, as far as
-    enough others are left.
-    """
-    found = segments != 0
-    for reach in range(GROWTH, 0, -1):
-        left_out = grown(found, reach) | undefined
-        if left_out.mean() <= 1 - LEAST_SHARE:
-            return left_out
-    return found | undefined
-
-
-def _level(image: numpy.ndarray, mesh: int) -> numpy.ndarray:
-    """The level of the sky by the package's own estimate."""
-    found = of_array(image, mesh or 64)
-    window = tuple(slice(0, side) for side in found.shape)
-    above = (found if mesh else found.flat()).background(*window)
-    # 32 bits hold the level where it isn't far from 0 beside its noise.
-    return (above if abs(found.zero) < 4096 * found.noise else above.astype("f8")) + found.zero
-
-
 def sky(
     image: numpy.ndarray,
     segments: numpy.ndarray,
@@ -125,17 +102,16 @@ def sky(
     *,
     mask: Optional[numpy.ndarray] = None,
     local: bool = False,
-    level: Union[None, float, numpy.ndarray] = None,
 ) -> Tuple[numpy.ndarray, Numbers]:
     """The background and the noise of an image beside its sources, in the image's units.
 
     `image` has two dimensions, and NaN or a true `mask` where it is undefined; `segments` is the segmentation map of
-    the same shape. `level` is a first estimate of the background, by default the package's own in cells of `mesh` by
-    `mesh` pixels (with `mesh` 0 it is one number): means, which the light of faint sources draws up. By how much SEP
-    tells, from the residual's pixels that lie at least four pixels from every source, or closer where these are too
-    few; the median over its cells is taken off everywhere. The background is an array of the image's shape. The noise
-    is one standard deviation of a pixel: one number, or with `local` an array. Where no pixel has a value both are
-    NaN.
+    the same shape. The first estimate of the background is the package's own in cells of `mesh` by `mesh` pixels (with
+    `mesh` 0 it is one number): means, which the light of faint sources draws up. By how much SEP tells, from the
+    residual's pixels that lie at least four pixels from every source, or closer where these are too few in a row of
+    cells; the median over the cells is taken off everywhere. The background is an array of the image's shape. The
+    noise is one standard deviation of a pixel: one number, or with `local` an array. Where no pixel has a value both
+    are NaN.
     """
     if mesh < 0:
         raise ValueError(f"mesh is 0 or a number of pixels, not {mesh}")
@@ -143,19 +119,11 @@ def sky(
     if undefined.all():
         unknown = numpy.full(undefined.shape, numpy.nan, dtype="f4")
         return unknown, unknown if local else numpy.nan
-    if level is None:
-        level = _level(numpy.ma.MaskedArray(numpy.ma.getdata(image), mask=undefined), mesh)
-    left_out = _left_out(numpy.ascontiguousarray(segments), undefined)
-    if left_out.all():
-        left_out = undefined
-    # 32 bits hold the residual, where they may not hold the values themselves.
-    residual = _residual(image, level, undefined)
-    unit = _unit(numpy.abs(residual[::7, ::7][~left_out[::7, ::7]]))
-    residual *= numpy.float32(1 / unit)
-    side = mesh or max(residual.shape)
-    found = sep.Background(residual, mask=left_out, bw=side, bh=side)
-    noise = found.rms(dtype="f4") * numpy.float32(unit) if local else found.globalrms * unit
-    return level + numpy.float32(found.globalback * unit), noise
+    found = of_array(numpy.ma.MaskedArray(numpy.ma.getdata(image), mask=undefined), mesh or 64)
+    found, everywhere = found if mesh else found.flat(), tuple(slice(0, side) for side in found.shape)
+    residual = residual_of(image, found.level(*everywhere), undefined)
+    found = beside.of_array(residual, undefined, numpy.asarray(segments), found)
+    return found.level(*everywhere), found.noises(*everywhere) if local else found.noise
 
 
 def ellipses(catalogue: Table) -> Tuple[numpy.ndarray, numpy.ndarray, numpy.ndarray]:
@@ -173,6 +141,11 @@ def ellipses(catalogue: Table) -> Tuple[numpy.ndarray, numpy.ndarray, numpy.ndar
     return long, numpy.minimum(short, long), numpy.degrees(numpy.arctan2(2 * xy, xx - yy) / 2)
 
 
+def reach(catalogue: Table) -> numpy.ndarray:
+    """How far from their centres sources are looked at, in pixels, before their Kron radii are known."""
+    return numpy.maximum(KRON_REACH * ellipses(catalogue)[0] / 2, APERTURE) + 2
+
+
 def _noise(noise: Numbers, shape: Tuple[int, int]) -> Numbers:
     """The noise as SEP takes it: one number, or an array of the image's shape."""
     if numpy.ndim(noise) == 0:
@@ -182,19 +155,10 @@ def _noise(noise: Numbers, shape: Tuple[int, int]) -> Numbers:
     return numpy.ascontiguousarray(noise, dtype="f4")
 
 
-def _unit(values: Numbers) -> float:
-    """The power of two next to the median of what is positive, or 1 where nothing is.
-
-    SEP squares numbers of 32 bits, which have no room for the squares of an image in very small or very large units.
-    Over a power of two all numbers keep their digits.
+def residual_of(image: numpy.ndarray, background: Numbers, undefined: numpy.ndarray) -> numpy.ndarray:
+    """The image less its background in 32 bits, which hold it where they may not hold the values themselves; row by
+    row, with 0 where it is undefined.
     """
-    values = numpy.asarray(values, dtype="f8").ravel()
-    values = values[numpy.isfinite(values) & (values > 0)]
-    return 2.0 ** round(float(numpy.log2(numpy.median(values)))) if values.size else 1.0
-
-
-def _residual(image: numpy.ndarray, background: Numbers, undefined: numpy.ndarray) -> numpy.ndarray:
-    """The image less its background in 32 bits, row by row, with 0 where it is undefined."""
     data = numpy.ma.getdata(image)
     residual = (data - background if data.dtype.kind == "f" else data.astype("f8") - background).astype(
         "f4", order="C", copy=False
@@ -247,10 +211,35 @@ def _half_light(residual, x, y, reach, flux, alone) -> numpy.ndarray:
     return half
 
 
-def _where_seen(flux, error, told):
-    """What SEP tells of apertures, with NaN for those of which no pixel has a value."""
-    seen = (told & sep.APER_ALLMASKED) == 0
-    return numpy.where(seen, flux, numpy.nan), numpy.where(seen, error, numpy.nan), told
+class _Apertures:
+    """Sums in apertures of sources. Pixels of other sources count as sky there, and undefined ones, which are 0 in the
+    residual, as the mean of all others. `sums` is a function of SEP with what it wants behind the image, a number for
+    each source; each sum depends on the pixels in its aperture alone.
+    """
+
+    def __init__(self, sums: Callable, places: tuple, subpix: int):
+        self.sums, self.places, self.subpix = sums, places, subpix
+
+    def _sum(self, image, chosen=slice(None), **how):
+        return self.sums(image, *(it[chosen] for it in self.places), subpix=self.subpix, **how)
+
+    def fluxes(self, residual, noise, gain, undefined, alone) -> Tuple[numpy.ndarray, ...]:
+        """Fluxes, their errors, SEP's flags, and which apertures have undefined pixels; fluxes are NaN where no pixel
+        has a value.
+        """
+        flux, error, told = self._sum(residual, err=noise, **alone)
+        holed = numpy.zeros(len(flux), dtype=bool)
+        if undefined.any():
+            unseen, _, _ = self._sum(undefined.astype("f4"))
+            holed = unseen > 0
+            area, _, _ = self._sum(numpy.ones(undefined.shape, dtype="f4"), holed)
+            with numpy.errstate(divide="ignore"):
+                times = numpy.where(area > unseen[holed], area / (area - unseen[holed]), numpy.nan)
+            flux[holed], error[holed] = flux[holed] * times, error[holed] * numpy.sqrt(times)
+        if gain:
+            error = numpy.sqrt(error**2 + numpy.maximum(flux, 0) / gain)
+        lost = (told & sep.APER_ALLMASKED) != 0
+        return numpy.where(lost, numpy.nan, flux), numpy.where(lost, numpy.nan, error), told, holed
 
 
 def measured(
@@ -292,13 +281,13 @@ def measured(
         unknown = ~numpy.isfinite(noise)
         if unknown.any():
             undefined, noise = undefined | unknown, numpy.where(unknown, 0, noise)
-    residual = _residual(image, background, undefined)
+    residual = residual_of(image, background, undefined)
     segments = numpy.ascontiguousarray(segments, dtype="i4")
     places = numpy.flatnonzero(segments.ravel() != 0)
     numbers = numpy.asarray(catalogue["NUMBER"], dtype="i4")
     within = segments.ravel()[places]
     pixels = _Pixels(places, within, int(max(within.max(initial=0), numbers.max(initial=0))) + 1)
-    unit = _unit(noise)
+    unit = unit_of(noise)
     residual *= numpy.float32(1 / unit)
     noise, gain = noise / (unit if numpy.ndim(noise) == 0 else numpy.float32(unit)), gain and gain * unit
     flux, error = _isophotal(pixels.among(~undefined), residual, noise, gain)
@@ -321,17 +310,16 @@ def _apertures(residual, noise, undefined, segments, catalogue, gain, aperture, 
     # SEP takes standard deviations along the axes, which are half of the half axes, and radians.
     shape = (x, y, long / 2, short / 2, numpy.clip(numpy.radians(angle), -numpy.pi / 2, numpy.pi / 2))
     alone = {"segmap": segments, "seg_id": numbers}
-    if undefined.any():
-        alone["mask"] = undefined
     radius, _ = sep.kron_radius(residual, *shape, KRON_REACH, **alone)
     # Noise may leave no light to average over, or a mean that lies outside of where it was sought.
     radius = numpy.where(numpy.isfinite(radius) & (radius > 0), numpy.minimum(radius, KRON_REACH), 0)
     radius = numpy.maximum(kron * radius, kron)
-    how = {"err": noise, "gain": gain, **alone}
-    flux, error, told = _where_seen(*sep.sum_ellipse(residual, *shape, radius, subpix=1, **how))
-    in_circle, circle_error, _ = _where_seen(*sep.sum_circle(residual, x, y, aperture, subpix=5, **how))
+    how = (residual, noise, gain, undefined, alone)
+    flux, error, told, holed = _Apertures(sep.sum_ellipse, (*shape, radius), 1).fluxes(*how)
+    circle = (x, y, numpy.full(len(x), float(aperture)))
+    in_circle, circle_error, _, _ = _Apertures(sep.sum_circle, circle, 5).fluxes(*how)
     half = _half_light(residual, x, y, radius * long / 2, numpy.nan_to_num(flux), alone)
-    flags = CROWDED * ((told & sep.APER_HASMASKED) != 0) | BEYOND * ((told & sep.APER_TRUNC) != 0)
+    flags = CROWDED * (((told & sep.APER_HASMASKED) != 0) | holed) | BEYOND * ((told & sep.APER_TRUNC) != 0)
     return {
         "FLUX_KRON": flux,
         "FLUXERR_KRON": error,

@@ -38,7 +38,8 @@ def smoothed(image: numpy.ndarray) -> numpy.ndarray:
     finite = numpy.isfinite(image)
     filled = image if finite.all() else numpy.where(finite, image, image.dtype.type(0))
     total = _along(_along(filled, 0), 1)
-    total /= _along(_along(finite.astype(image.dtype), 0), 1)
+    with numpy.errstate(invalid="ignore"):
+        total /= _along(_along(finite.astype(image.dtype), 0), 1)
     total[~finite] = numpy.nan
     return total
 

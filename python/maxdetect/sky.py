@@ -24,6 +24,11 @@ ENOUGH = 0.1
 # The noise that 32-bit floating-point numbers have room for.
 LEAST_NOISE, MOST_NOISE = 1e-30, 1e30
 
+
+class Undefined(ValueError):
+    """An image has no pixel with a value."""
+
+
 Reader = Callable[[slice], numpy.ndarray]
 
 
@@ -51,7 +56,7 @@ def filtered(grid: numpy.ndarray) -> numpy.ndarray:
     return ndimage.median_filter(_carried_on(grid), size=3, mode="nearest")[1:-1, 1:-1]
 
 
-def _filled(grid: numpy.ndarray, known: numpy.ndarray) -> numpy.ndarray:
+def filled(grid: numpy.ndarray, known: numpy.ndarray) -> numpy.ndarray:
     """The grid with each number that isn't known replaced by the nearest one that is."""
     if known.all() or not known.any():
         return grid
@@ -70,10 +75,17 @@ def _along(grid: numpy.ndarray, mesh: int, places: slice, dtype: str) -> numpy.n
     return (grid[before] * (1 - part) + grid[after] * part).astype(dtype)
 
 
+def anywhere(grid: numpy.ndarray, mesh: int, rows: slice, columns: slice) -> numpy.ndarray:
+    """A grid's numbers at the pixels of a window, which may lie beyond it, as 32-bit floating-point numbers of its
+    shape. A pixel has the same number in each window.
+    """
+    return _along(numpy.ascontiguousarray(_along(grid, mesh, rows, "f8").T), mesh, columns, "f4").T
+
+
 def between(grid: numpy.ndarray, mesh: int, rows: slice, columns: slice) -> numpy.ndarray:
-    """A grid's numbers at the pixels of a window, as 32-bit floating-point numbers of its shape."""
+    """The same, quicker for windows whose columns lie within the grid; the last digit may be another there."""
     if columns.start < 0 or columns.stop > grid.shape[1] * mesh:
-        return _along(numpy.ascontiguousarray(_along(grid, mesh, rows, "f8").T), mesh, columns, "f4").T
+        return anywhere(grid, mesh, rows, columns)
     if grid.size == 1:
         return numpy.full((rows.stop - rows.start, columns.stop - columns.start), grid[0, 0], dtype="f4")
     down = _along(grid, mesh, rows, "f8")
@@ -161,9 +173,9 @@ def _guess(rows: list, shape: Tuple[int, int], mesh: int, least: float) -> Tuple
     if not known.any():
         known = count[whole] > 0
     more = [(0, cells_along(side, mesh) - _whole_cells(side, mesh)) for side in shape]
-    level = filtered(_filled(middle[whole], known))
+    level = filtered(filled(middle[whole], known))
     level = _carried_on(level)[1:, 1:][: len(level) + more[0][1], : level.shape[1] + more[1][1]]
-    deviation = ndimage.median_filter(_filled(deviation[whole], known), size=3, mode="nearest")
+    deviation = ndimage.median_filter(filled(deviation[whole], known), size=3, mode="nearest")
     return level, numpy.pad(deviation, more, mode="edge")
 
 
@@ -264,6 +276,11 @@ class Sky:
         """The level above `zero` at the pixels of a window, as 32-bit floating-point numbers."""
         return between(self.levels, self.mesh, rows, columns)
 
+    def level(self, rows: slice, columns: slice) -> numpy.ndarray:
+        """The level in the image's units there, in 64 bits where 32 don't hold it beside the noise."""
+        above = self.background(rows, columns)
+        return (above if abs(self.zero) < 4096 * self.noise else above.astype("f8")) + self.zero
+
     def noises(self, rows: slice, columns: slice) -> numpy.ndarray:
         """The noise at the pixels of a window, by its cells."""
         return numpy.maximum(
@@ -292,7 +309,7 @@ def of(read: Reader, shape: Tuple[int, int], mesh: int = 64, relative: Optional[
     ]
     zero = numpy.concatenate([row[0] for row in first])
     if not numpy.isfinite(zero).any():
-        raise ValueError("no pixel of the image is defined")
+        raise Undefined("no pixel of the image is defined")
     zero = float(numpy.nanmedian(zero))
     guess, deviation = _guess(
         [(row[0] - zero, *row[1:]) for row in first], shape, mesh, ENOUGH * min(mesh, SAMPLED) ** 2
@@ -325,7 +342,7 @@ def _in_units(deviation: numpy.ndarray, relative: Reader, bands: list, mesh: int
         cells = numpy.sort(cells.reshape(len(cells), -1), axis=1)
         medians.append(cells[numpy.arange(len(cells)), numpy.isfinite(cells).sum(axis=1) // 2])
     medians = numpy.array(medians)
-    return deviation / _filled(medians, numpy.isfinite(medians))
+    return deviation / filled(medians, numpy.isfinite(medians))
 
 
 def _joined(guess, mean, spread, count, there):
@@ -338,6 +355,6 @@ def _joined(guess, mean, spread, count, there):
         known = count > 0
     if not known.any():
         return filtered(guess), numpy.zeros_like(guess), 0.0
-    level = numpy.where(there >= least, _filled(guess + mean, known), guess + _filled(mean, known))
-    deviations = ndimage.median_filter(_filled(spread, known), size=3, mode="nearest")
+    level = numpy.where(there >= least, filled(guess + mean, known), guess + filled(mean, known))
+    deviations = ndimage.median_filter(filled(spread, known), size=3, mode="nearest")
     return filtered(numpy.where(known, guess + mean, level)), deviations, float(numpy.median(spread[known]))

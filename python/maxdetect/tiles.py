@@ -84,14 +84,11 @@ class Box:
 
 @dataclasses.dataclass
 class Look:
-    """What is seen in a window: its sources, the map with their numbers, and where it is at least the threshold.
-    `measured` adds to the rows that are wanted of it what else they are to have.
-    """
+    """What is seen in a window: its sources, the map with their numbers, and where it is at least the threshold."""
 
     catalogue: Table
     segments: numpy.ndarray
     above: Callable[[slice, slice], numpy.ndarray]
-    measured: Callable[[Table], Table] = lambda rows: rows
 
 
 @dataclasses.dataclass
@@ -120,7 +117,6 @@ class Plan:
     mesh: int = 0
     flat: bool = False
     connect: int = 8
-    with_map: bool = True
 
     @property
     def whole(self) -> Box:
@@ -275,10 +271,8 @@ def _picked(look: Look, window: Box, plan: Plan, chosen: numpy.ndarray, among: O
     pixels the map is to have.
     """
     left, top = window.left - plan.part.left, window.top - plan.part.top
-    table = moved(look.measured(look.catalogue[chosen]), left, top)
+    table = moved(look.catalogue[chosen], left, top)
     cut = numpy.full(len(table), among is not None)
-    if not plan.with_map:
-        return Piece(table, numpy.zeros(0, dtype="i8"), numpy.zeros(0, dtype="i4"), cut)
     numbers = numpy.zeros(look.segments.max(initial=0) + 1, dtype="i4")
     numbers[numpy.asarray(look.catalogue["NUMBER"])[chosen]] = numpy.arange(1, chosen.sum() + 1)
     owners = numbers[look.segments]
@@ -477,20 +471,18 @@ def renumber(segments: numpy.ndarray, places: numpy.ndarray) -> None:
 
 
 def gathered(
-    pieces: Iterable[Piece], segments: Optional[numpy.ndarray], progress: Callable[[int], None]
+    pieces: Iterable[Piece], segments: numpy.ndarray, progress: Callable[[int], None]
 ) -> Tuple[Table, numpy.ndarray]:
     """The rows of all pieces, numbered, and which of them are cut. `segments`, an array full of zeros, gets the map."""
     tables, cut, count = [], [], 0
     for piece in pieces:
-        if segments is not None:
-            segments.reshape(-1)[piece.pixels] = piece.owners + (count + 1)
+        segments.reshape(-1)[piece.pixels] = piece.owners + (count + 1)
         count += len(piece.catalogue)
         tables.append(piece.catalogue)
         cut.append(piece.cut)
         progress(1)
     table, places = numbered(tables)
-    if segments is not None:
-        renumber(segments, places)
+    renumber(segments, places)
     return table, numpy.concatenate(cut)[places]
 
 

@@ -159,6 +159,17 @@ def test_undefined_pixels_have_no_part_in_the_sums():
     assert by_nan["FLUX_KRON"][0] == pytest.approx(10000, rel=0.05)
 
 
+def test_an_undefined_pixel_far_away_changes_nothing():
+    both = SKY + gaussian(100, 100, 20000.0) + gaussian(111, 100, 20000.0)
+    segments, catalogue = found(both, 130)
+    holed = both.copy()
+    holed[10, 10] = numpy.nan
+    one, two = (photometry.measured(it, SKY, SIGMA, segments, catalogue, gain=2.0) for it in (both, holed))
+    assert len(one) == 2 and one["FLAGS"][0] & photometry.CROWDED
+    for name in one.colnames:
+        assert (one[name] == two[name]).all(), name
+
+
 def test_pixels_without_noise_are_undefined():
     image = SKY + gaussian(100, 100, 10000.0)
     noise = numpy.full(image.shape, SIGMA)

@@ -1,0 +1,98 @@
+"""The sky beside sources that are found: by how much a level is off, and the noise, by SEP's clipped statistics of the
+cells of a mesh. A row of cells is looked at by itself, so all of it is one function of the image and its map.
+"""
+import dataclasses
+from typing import Iterable, List, Tuple
+
+import numpy
+import sep
+from scipy import ndimage
+
+from .sky import Sky, filled, grown
+
+# How far a source's light reaches beyond its pixels.
+GROWTH = 4
+# Least share of a row of cells that they are looked at without what lies near sources, and of a cell that has to be
+# left.
+LEAST_SHARE, ENOUGH = 0.4, 0.5
+
+
+def unit_of(values: numpy.ndarray) -> float:
+    """The power of two next to the median of what is positive, or 1 where nothing is.
+
+    SEP squares numbers of 32 bits, which have no room for the squares of an image in very small or very large units.
+    Over a power of two all numbers keep their digits.
+    """
+    values = numpy.asarray(values, dtype="f8").ravel()
+    values = values[numpy.isfinite(values) & (values > 0)]
+    return 2.0 ** round(float(numpy.log2(numpy.median(values)))) if values.size else 1.0
+
+
+def bands(height: int, mesh: int) -> List[Tuple[slice, slice]]:
+    """The rows of each row of cells, and those of the map that tell what lies near sources there."""
+    rows = [slice(top, min(top + mesh, height)) for top in range(0, height, mesh)]
+    return [(it, slice(max(0, it.start - GROWTH), min(height, it.stop + GROWTH))) for it in rows]
+
+
+def _left_out(segments: numpy.ndarray, within: slice, undefined: numpy.ndarray) -> numpy.ndarray:
+    """Pixels that tell nothing of the sky: those without a value, and those of sources and around them, as far as
+    enough others are left.
+    """
+    found = segments != 0
+    for reach in range(GROWTH, 0, -1):
+        left_out = grown(found, reach)[within] | undefined
+        if left_out.mean() <= 1 - LEAST_SHARE:
+            return left_out
+    return found[within] | undefined
+
+
+def _of_cell(values: numpy.ndarray, left_out: numpy.ndarray) -> Tuple[float, float]:
+    """The level of a cell and its noise."""
+    if left_out.mean() > 1 - ENOUGH:
+        return numpy.nan, numpy.nan
+    seen = values[~left_out]
+    if seen.min() == seen.max():
+        return float(seen[0]), 0.0
+    found = sep.Background(values, mask=left_out, bw=values.shape[1], bh=values.shape[0], fw=1, fh=1)
+    return found.globalback, found.globalrms
+
+
+def of_row(
+    residual: numpy.ndarray, undefined: numpy.ndarray, segments: numpy.ndarray, within: slice, mesh: int
+) -> numpy.ndarray:
+    """Level and noise of the cells in one row of them, two rows of numbers; NaN where a cell has too few pixels beside
+    sources. The residual, in 32 bits, and what is undefined of it are those of the rows `within` the map.
+    """
+    left_out = _left_out(segments, within, undefined)
+    unit = unit_of(numpy.abs(residual[::7, ::7][~left_out[::7, ::7]]))
+    scaled, cells = residual * numpy.float32(1 / unit), []
+    for left in range(0, residual.shape[1], mesh):
+        columns = slice(left, left + mesh)
+        cells.append(
+            _of_cell(numpy.ascontiguousarray(scaled[:, columns]), numpy.ascontiguousarray(left_out[:, columns]))
+        )
+    return numpy.array(cells).T * unit
+
+
+def joined(rows: Iterable[numpy.ndarray], found: Sky) -> Sky:
+    """A sky moved by its level beside sources, with the noise there, from the rows of cells: medians over the cells,
+    each the median of itself and its neighbours. The same sky where all cells have too few pixels.
+    """
+    levels, deviations = (numpy.array(grid) for grid in zip(*rows))
+    known = numpy.isfinite(levels)
+    if not known.any():
+        return found
+    levels, deviations = (
+        ndimage.median_filter(filled(grid, known), size=3, mode="nearest") for grid in (levels, deviations)
+    )
+    offset, noise = float(numpy.median(levels)), float(numpy.median(deviations))
+    return dataclasses.replace(found, levels=found.levels + offset, deviations=deviations, noise=noise)
+
+
+def of_array(residual: numpy.ndarray, undefined: numpy.ndarray, segments: numpy.ndarray, found: Sky) -> Sky:
+    """The same of an image that is there as an array, less its level."""
+    rows = []
+    for own, seen in bands(len(residual), found.mesh):
+        within = slice(own.start - seen.start, own.stop - seen.start)
+        rows.append(of_row(residual[own], undefined[own], segments[seen], within, found.mesh))
+    return joined(rows, found)

@@ -1,0 +1,148 @@
+"""The photometry of a field's sources once all of them are known: each in a window that the image and its sources tell,
+so that no column depends on how the image was cut into tiles.
+
+Sources are measured by blocks of the image; those that reach further than a block's window, each in a window of its
+own.
+"""
+import concurrent.futures
+import itertools
+from typing import TYPE_CHECKING, Callable, Iterator, List, Optional, Tuple
+
+import numpy
+from astropy.table import Table
+
+from . import beside, photometry, sky, tiles
+from .errors import Mistake
+from .tiles import Box
+
+if TYPE_CHECKING:
+    from .detection import Detector
+
+# The side of a block, and how far its window reaches beyond it, in pixels.
+BLOCK, REACH = 1024, 128
+
+Executor = Optional[concurrent.futures.Executor]
+
+
+class _Row:
+    """The sky beside sources in one row of cells: of its rows, those of the map around, and the map there."""
+
+    def __init__(self, detector: "Detector", found: sky.Sky):
+        self.detector, self.found = detector, found
+
+    def __call__(self, item: Tuple[slice, slice, numpy.ndarray]) -> numpy.ndarray:
+        rows, seen, segments = item
+        columns, within = slice(0, self.found.shape[1]), slice(rows.start - seen.start, rows.stop - seen.start)
+        image = self.detector.field.to_measure(rows, columns)
+        undefined = ~numpy.isfinite(image)
+        residual = photometry.residual_of(image, self.found.level(rows, columns), undefined)
+        return beside.of_row(residual, undefined, segments, within, self.found.mesh)
+
+
+def sky_beside(detector: "Detector", segments: numpy.ndarray, executor: Executor = None) -> Optional[sky.Sky]:
+    """The sky of what a field is measured in, beside the sources of its map; None where no pixel of that is defined.
+
+    Raises Mistake where it has none to speak of.
+    """
+    field, found = detector.field, detector.sky
+    if field.values is not None:
+        try:
+            found = sky.of(lambda rows: field.to_measure(rows, slice(None)), field.shape, found.mesh)
+        except sky.Undefined:
+            return None
+        except ValueError as error:
+            raise Mistake(f"{field.values.label}: {error}") from None
+        found = found if field.settings.mesh else found.flat()
+    rows = ((own, seen, numpy.asarray(segments[seen])) for own, seen in beside.bands(field.shape[0], found.mesh))
+    return beside.joined(tiles.each(executor, _Row(detector, found), rows), found)
+
+
+class _Window:
+    """Measures sources in a window of a field, given with their rows and the map there."""
+
+    def __init__(self, detector: "Detector", found: Optional[sky.Sky]):
+        self.detector, self.found = detector, found
+
+    def _sky(self, box: Box) -> Tuple[photometry.Numbers, photometry.Numbers]:
+        """The level and the noise there, in the units of what is measured."""
+        if self.found is None:
+            return numpy.nan, numpy.nan
+        field, level = self.detector.field, self.found.level(box.rows, box.columns)
+        if field.values is None and field.weights is not None:
+            return level, self.detector.noise(box.rows, box.columns)
+        return level, self.found.noises(box.rows, box.columns) if field.settings.local else self.found.noise
+
+    def __call__(self, item: Tuple[Box, Table, numpy.ndarray]) -> Table:
+        box, rows, segments = item
+        field, settings = self.detector.field, self.detector.settings
+        found = photometry.measured(
+            field.to_measure(box.rows, box.columns),
+            *self._sky(box),
+            segments,
+            tiles.moved(rows.copy(), -box.left, -box.top),
+            gain=settings.gain,
+            saturation=field.saturation,
+            threshold=settings.threshold,
+        )
+        return tiles.moved(found, box.left, box.top)
+
+
+def _needed(table: Table, reach: numpy.ndarray, shape: Tuple[int, int]) -> List[Box]:
+    """For each source the box of the image that holds it with its neighbours, and all that is so near its centre."""
+    sides = []
+    for name, side in zip("YX", shape):
+        centre = numpy.asarray(table[f"{name}CEN"]) / 1000 - 1
+        low = numpy.minimum(numpy.asarray(table[f"{name}MIN"]) - 2, numpy.floor(centre - reach))
+        high = numpy.maximum(numpy.asarray(table[f"{name}MAX"]) + 1, numpy.ceil(centre + reach) + 1)
+        sides += [numpy.clip(low, 0, side).astype(int).tolist(), numpy.clip(high, 0, side).astype(int).tolist()]
+    return [Box(*bounds) for bounds in zip(*sides)]
+
+
+def _blocks(table: Table, shape: Tuple[int, int]) -> Iterator[Tuple[Box, numpy.ndarray]]:
+    """The windows of the blocks that have sources, each with the places of their rows."""
+    at = [
+        numpy.clip((numpy.asarray(table[name]) - 1000) // (1000 * BLOCK), 0, (side - 1) // BLOCK)
+        for name, side in zip(("YCEN", "XCEN"), shape)
+    ]
+    numbers = at[0] * ((shape[1] - 1) // BLOCK + 1) + at[1]
+    order = numpy.argsort(numbers, kind="stable")
+    for places in numpy.split(order, numpy.flatnonzero(numpy.diff(numbers[order])) + 1):
+        top, left = (int(it[places[0]]) * BLOCK for it in at)
+        yield Box(
+            max(0, top - REACH),
+            min(shape[0], top + BLOCK + REACH),
+            max(0, left - REACH),
+            min(shape[1], left + BLOCK + REACH),
+        ), places
+
+
+def measured(
+    detector: "Detector",
+    found: Optional[sky.Sky],
+    table: Table,
+    segments: numpy.ndarray,
+    executor: Executor = None,
+    progress: Callable[[int], None] = lambda count: None,
+) -> Table:
+    """The columns of photometry for the sources of a field, whose map this is, above this sky."""
+    shape, work = detector.field.shape, _Window(detector, found)
+    if not len(table):
+        return work((Box(0, 1, 0, 1), table, numpy.zeros((1, 1), dtype="i4")))
+    reach, answers, where = photometry.reach(table), [], []
+    waiting = _blocks(table, shape)
+    while True:
+        windows = []
+        ahead, behind = itertools.tee(waiting)
+        items = ((box, table[places], numpy.asarray(segments[box.rows, box.columns])) for box, places in ahead)
+        for (box, places), answer in zip(behind, tiles.each(executor, work, items)):
+            progress(0)
+            boxes = _needed(table[places], numpy.maximum(reach[places], answer["KRON_RADIUS"] + 2), shape)
+            held = numpy.array([box.holds(it) for it in boxes])
+            answers.append(answer[held])
+            where.append(places[held])
+            windows += [(boxes[number], places[[number]]) for number in numpy.flatnonzero(~held)]
+        if not windows:
+            break
+        waiting = iter(windows)
+    order = numpy.argsort(numpy.concatenate(where))
+    return Table({name: numpy.concatenate([it[name] for it in answers])[order] for name in answers[0].colnames})
