@@ -211,14 +211,30 @@ def _half_light(residual, x, y, reach, flux, alone) -> numpy.ndarray:
     return half
 
 
+def _near(undefined: numpy.ndarray, x: numpy.ndarray, y: numpy.ndarray, reach: numpy.ndarray) -> numpy.ndarray:
+    """The places of the sources that have an undefined pixel so near their centres, by columns and rows."""
+    if not undefined.any():
+        return numpy.zeros(0, dtype=int)
+    sums = numpy.zeros([side + 1 for side in undefined.shape], dtype="i4")
+    numpy.cumsum(numpy.cumsum(undefined, axis=0, dtype="i4"), axis=1, out=sums[1:, 1:])
+    bounds = [
+        numpy.clip(at, 0, side).astype(int)
+        for centre, side in zip((y, x), undefined.shape)
+        for at in (numpy.floor(centre - reach) - 1, numpy.ceil(centre + reach) + 2)
+    ]
+    top, bottom, left, right = bounds
+    return numpy.flatnonzero(sums[bottom, right] - sums[top, right] - sums[bottom, left] + sums[top, left])
+
+
 class _Apertures:
     """Sums in apertures of sources. Pixels of other sources count as sky there, and undefined ones, which are 0 in the
     residual, as the mean of all others. `sums` is a function of SEP with what it wants behind the image, a number for
-    each source; each sum depends on the pixels in its aperture alone.
+    each source, and none reaches further than `reach` from its centre; each sum depends on the pixels in its aperture
+    alone.
     """
 
-    def __init__(self, sums: Callable, places: tuple, subpix: int):
-        self.sums, self.places, self.subpix = sums, places, subpix
+    def __init__(self, sums: Callable, places: tuple, reach: numpy.ndarray, subpix: int):
+        self.sums, self.places, self.reach, self.subpix = sums, places, reach, subpix
 
     def _sum(self, image, chosen=slice(None), **how):
         return self.sums(image, *(it[chosen] for it in self.places), subpix=self.subpix, **how)
@@ -228,14 +244,14 @@ class _Apertures:
         has a value.
         """
         flux, error, told = self._sum(residual, err=noise, **alone)
-        holed = numpy.zeros(len(flux), dtype=bool)
-        if undefined.any():
-            unseen, _, _ = self._sum(undefined.astype("f4"))
-            holed = unseen > 0
-            area, _, _ = self._sum(numpy.ones(undefined.shape, dtype="f4"), holed)
+        holed, near = numpy.zeros(len(flux), dtype=bool), _near(undefined, *self.places[:2], self.reach)
+        if near.size:
+            unseen, _, _ = self._sum(undefined.astype("f4"), near)
+            area, _, _ = self._sum(numpy.ones(undefined.shape, dtype="f4"), near)
             with numpy.errstate(divide="ignore"):
-                times = numpy.where(area > unseen[holed], area / (area - unseen[holed]), numpy.nan)
-            flux[holed], error[holed] = flux[holed] * times, error[holed] * numpy.sqrt(times)
+                times = numpy.where(area > unseen, area / (area - unseen), numpy.nan)
+            times, near = times[unseen > 0], near[unseen > 0]
+            flux[near], error[near], holed[near] = flux[near] * times, error[near] * numpy.sqrt(times), True
         if gain:
             error = numpy.sqrt(error**2 + numpy.maximum(flux, 0) / gain)
         lost = (told & sep.APER_ALLMASKED) != 0
@@ -315,9 +331,9 @@ def _apertures(residual, noise, undefined, segments, catalogue, gain, aperture, 
     radius = numpy.where(numpy.isfinite(radius) & (radius > 0), numpy.minimum(radius, KRON_REACH), 0)
     radius = numpy.maximum(kron * radius, kron)
     how = (residual, noise, gain, undefined, alone)
-    flux, error, told, holed = _Apertures(sep.sum_ellipse, (*shape, radius), 1).fluxes(*how)
+    flux, error, told, holed = _Apertures(sep.sum_ellipse, (*shape, radius), radius * long / 2, 1).fluxes(*how)
     circle = (x, y, numpy.full(len(x), float(aperture)))
-    in_circle, circle_error, _, _ = _Apertures(sep.sum_circle, circle, 5).fluxes(*how)
+    in_circle, circle_error, _, _ = _Apertures(sep.sum_circle, circle, circle[2], 5).fluxes(*how)
     half = _half_light(residual, x, y, radius * long / 2, numpy.nan_to_num(flux), alone)
     flags = CROWDED * (((told & sep.APER_HASMASKED) != 0) | holed) | BEYOND * ((told & sep.APER_TRUNC) != 0)
     return {
