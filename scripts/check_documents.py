@@ -2,10 +2,11 @@
 
 usage: python3 scripts/check_documents.py      (at the top of the repository; exit status 1 where something is amiss)
 
-Each crate is named in docs/PROVED.md and docs/ARCHITECTURE.md; each name that docs/DEFINITIONS.md explains is a
-definition's; each file that a document links to or names is there; and no two documents share a paragraph. What is
-amiss among the definitions themselves `scripts/definitions.py --check` says.
+The crates stand in docs/ARCHITECTURE.md, docs/PROVED.md and bench/RESULTS.md as crates.txt has them, in its order; each
+name that docs/DEFINITIONS.md explains is a definition's; each file that a document links to or names is there; and no
+two documents share a paragraph. What is amiss among the definitions themselves `scripts/definitions.py --check` says.
 """
+import itertools
 import pathlib
 import re
 import sys
@@ -16,12 +17,18 @@ TOP = pathlib.Path(__file__).resolve().parent.parent
 LONG = 12
 
 
+# On this crate most others stand; it has no code, and isn't told of.
+UNTOLD = "lemmas"
+
+
 def crates():
-    """The names in crates.txt, without what stands behind them."""
+    """The crates of crates.txt in their order, each with those that it stands on."""
+    found = {}
     for line in (TOP / "crates.txt").read_text(encoding="utf-8").splitlines():
-        entry = line.split("#")[0].split(":")[0].split()
-        if entry:
-            yield entry[0]
+        entry, _, below = line.split("#")[0].partition(":")
+        if entry.split():
+            found[entry.split()[0]] = below.split()
+    return found
 
 
 def documents():
@@ -40,12 +47,30 @@ def paragraphs(text):
             yield " ".join(words)
 
 
-def missing_names(text):
-    """What the crates have and the documents don't name."""
-    for crate in crates():
-        for name in ("docs/PROVED.md", "docs/ARCHITECTURE.md"):
-            if f"`{crate}`" not in text[name]:
-                yield f"{name} says nothing of the crate {crate}"
+def rows(text, heading):
+    """The rows of the table with this heading that begin with a crate: its name and the other cells."""
+    table = text[text.index(heading) :].split("\n\n")[0]
+    for line in table.splitlines():
+        found = re.match(r"\| `(\w+)` \|(.*)\|$", line)
+        if found:
+            yield found[1], [cell.strip() for cell in found[2].split("|")]
+
+
+def other_crates(text):
+    """Where documents have other crates than crates.txt, another order, or other crates that one stands on."""
+    wanted = crates()
+    told = {
+        "docs/ARCHITECTURE.md": [name for name, _ in rows(text["docs/ARCHITECTURE.md"], "| Crate | Stands on |")],
+        "docs/PROVED.md": re.findall(r"^## `(\w+)`", text["docs/PROVED.md"], flags=re.M),
+        "bench/RESULTS.md": [name for name, _ in rows(text["bench/RESULTS.md"], "| Crate | Build |")],
+    }
+    for name, found in told.items():
+        if found != list(wanted):
+            first = next((a or b for a, b in itertools.zip_longest(found, wanted) if a != b), None)
+            yield f"{name} hasn't the crates of crates.txt in their order: look at {first}"
+    for name, (below, *_) in rows(text["docs/ARCHITECTURE.md"], "| Crate | Stands on |"):
+        if re.findall(r"`(\w+)`", below) != [one for one in wanted.get(name, []) if one != UNTOLD]:
+            yield f"docs/ARCHITECTURE.md says of {name} that it stands on others than crates.txt does"
 
 
 def unknown_names(text):
@@ -80,11 +105,11 @@ def shared_paragraphs(text):
 
 def main():
     text = dict(documents())
-    found = [*missing_names(text), *unknown_names(text), *broken_links(text), *shared_paragraphs(text)]
+    found = [*other_crates(text), *unknown_names(text), *broken_links(text), *shared_paragraphs(text)]
     for line in found:
         print(line)
     if not found:
-        print("the documents name each crate, explain definitions that are there, and share no paragraph")
+        print("the documents have the crates of crates.txt, explain definitions that are there, and share no paragraph")
     return 1 if found else 0
 
 
