@@ -47,8 +47,12 @@ def _check(settings: Dict[str, Any]) -> None:
         raise ValueError(f"gain is a finite number above 0, not {gain}")
     if saturation is not None and not math.isfinite(saturation):
         raise ValueError(f"saturation is a finite number, not {saturation}")
+    for name, least, most in (("fwhm", 0, 50), ("contrast", 0, 1000), ("split_sigmas", 0, 1e6)):
+        value = settings.get(name)
+        if value is not None and not least <= value <= most:
+            raise ValueError(f"{name} is a number from {least} to {most:g}, not {value}")
     for name in ("min_area", "tile", "workers"):
-        count = settings.get(name, 1)
+        count = settings.get(name) or 1
         if count < 1 or count != int(count):
             raise ValueError(f"{name} is a whole number from 1 on, not {count}")
 
@@ -68,7 +72,8 @@ def catalogue(
 
     `image` has two dimensions and numbers of any kind; it is undefined where it is NaN or masked. `header` has its
     WCS and its BUNIT. `noise` is a map of the noise in the image's units; without one it is taken as even, or by
-    cells with `rms="local"`. The settings are `detection.Settings`'s: `sigmas`, `smooth`, `mesh`, `min_area`, `gain`,
+    cells with `rms="local"`. The settings are `detection.Settings`'s: `sigmas`, `fwhm`, `mesh`, `min_area`, `contrast`,
+    `split_sigmas`, `clean`, `gain`,
     `saturation`, `tile` and `workers`. Tiles run in the executor, if there is one. Raises Mistake where the image has
     no noise.
     """

@@ -33,6 +33,7 @@ with status 2; nothing is written then. Where one of several images is at fault,
 """
 MOST_WORKERS = 64
 MOST_SIGMAS = 1e6
+LEAST_WIDTH, MOST_WIDTH = 0.5, 50.0
 
 
 @called("whole number")
@@ -49,6 +50,22 @@ def sigmas(text: str) -> float:
     """A threshold in deviations of the noise."""
     if not 0 < float(text) <= MOST_SIGMAS:
         raise argparse.ArgumentTypeError(f"{text} isn't a number above 0 and up to {MOST_SIGMAS:g}")
+    return float(text)
+
+
+@called("number")
+def deviations(text: str) -> float:
+    """So many deviations of the noise, or 0."""
+    if not 0 <= float(text) <= MOST_SIGMAS:
+        raise argparse.ArgumentTypeError(f"{text} isn't a number from 0 to {MOST_SIGMAS:g}")
+    return float(text)
+
+
+@called("number")
+def width(text: str) -> float:
+    """A width in pixels, 0 for none."""
+    if float(text) != 0 and not LEAST_WIDTH <= float(text) <= MOST_WIDTH:
+        raise argparse.ArgumentTypeError(f"{text} is neither 0 nor a number from {LEAST_WIDTH:g} to {MOST_WIDTH:g}")
     return float(text)
 
 
@@ -118,12 +135,34 @@ def _add_how(how) -> None:
         "--sigmas",
         type=sigmas,
         metavar="S",
-        help="the threshold, in deviations of the noise (default: 2.25; 1.375 with --smooth)",
+        help="the threshold, in deviations of the noise of the smoothed image (default: 4.4; 2.25 with --no-smooth)",
     )
     how.add_argument(
-        "--smooth",
-        action="store_true",
-        help="smooth by 1 2 1 / 2 4 2 / 1 2 1 before: shows fainter sources, and fewer close pairs",
+        "--fwhm",
+        type=width,
+        metavar="W",
+        help="the width of point sources in pixels, by which the image is smoothed (default: as the image shows it)",
+    )
+    how.add_argument("--no-smooth", action="store_const", const=0.0, dest="fwhm", help="don't smooth the image")
+    how.add_argument(
+        "--split-sigmas",
+        type=deviations,
+        default=2.0,
+        metavar="K",
+        help="how many deviations of the noise a part of a component stands above where it meets another one, if it is "
+        "a source of its own (default: 2)",
+    )
+    how.add_argument(
+        "--contrast",
+        type=whole(0, 1000),
+        metavar="C",
+        help="split by the program's contrast instead, in thousandths of the whole component's flux",
+    )
+    how.add_argument(
+        "--no-clean",
+        action="store_false",
+        dest="clean",
+        help="keep the peaks of noise on faint light, as on a galaxy's halo",
     )
     how.add_argument(
         "--mesh",
@@ -135,9 +174,9 @@ def _add_how(how) -> None:
     how.add_argument(
         "--min-area",
         type=whole(1, 2**24),
-        default=5,
         metavar="N",
-        help="the least area of a source in pixels (default: 5)",
+        help="the least area of a source in pixels (default: by the width of the smoothing, 3 for 3.4 pixels; 5 with "
+        "--no-smooth)",
     )
     how.add_argument(
         "--rms", choices=("even", "local"), default="even", help="local: the noise is taken by cells (default: even)"
@@ -192,9 +231,12 @@ def _field(plane: images.Plane, given: argparse.Namespace) -> detection.Field:
     measured = others.get("values", plane)
     settings = detection.Settings(
         sigmas=given.sigmas,
-        smooth=given.smooth,
+        fwhm=given.fwhm,
         mesh=given.mesh,
         min_area=given.min_area,
+        contrast=given.contrast,
+        split_sigmas=given.split_sigmas,
+        clean=given.clean,
         weight_type=given.weight_type or "weight",
         local=given.rms == "local",
         gain=given.gain or measured.positive("GAIN"),

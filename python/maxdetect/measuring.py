@@ -53,7 +53,7 @@ def sky_beside(detector: "Detector", segments: numpy.ndarray, executor: Executor
         except ValueError as error:
             raise Mistake(f"{field.values.label}: {error}") from None
         found = found if field.settings.mesh else found.flat()
-    rows = ((own, seen, numpy.asarray(segments[seen])) for own, seen in beside.bands(field.shape[0], found.mesh))
+    rows = ((own, seen, tiles.without_gaps(segments[seen])) for own, seen in beside.bands(field.shape[0], found.mesh))
     return beside.joined(tiles.each(executor, _Row(detector, found), rows), found)
 
 
@@ -82,7 +82,7 @@ class _Window:
             tiles.moved(rows.copy(), -box.left, -box.top),
             gain=settings.gain,
             saturation=field.saturation,
-            threshold=settings.threshold,
+            threshold=self.detector.how.threshold,
         )
         return tiles.moved(found, box.left, box.top)
 
@@ -133,7 +133,7 @@ def measured(
     while True:
         windows = []
         ahead, behind = itertools.tee(waiting)
-        items = ((box, table[places], numpy.asarray(segments[box.rows, box.columns])) for box, places in ahead)
+        items = ((box, table[places], tiles.without_gaps(segments[box.rows, box.columns])) for box, places in ahead)
         for (box, places), answer in zip(behind, tiles.each(executor, work, items)):
             progress(0)
             boxes = _needed(table[places], numpy.maximum(reach[places], answer["KRON_RADIUS"] + 2), shape)

@@ -54,19 +54,19 @@ def whole_numbers(scaled: numpy.ndarray) -> numpy.ma.MaskedArray:
     return numpy.ma.MaskedArray(scaled.astype("i4"), mask=undefined if some else numpy.ma.nomask)
 
 
-def detectable(
-    image: numpy.ndarray, background: numpy.ndarray, noise: Union[float, numpy.ndarray], smooth: bool = False
-) -> numpy.ma.MaskedArray:
-    """What the program is to see of an image: what stands above the background, in thirtieths of the noise.
+def deviations(
+    image: numpy.ndarray, background: Union[float, numpy.ndarray], noise: Union[float, numpy.ndarray], times: float = 1
+) -> numpy.ndarray:
+    """What stands above the background, in so many parts of the noise, as 32-bit floating-point numbers.
 
-    The three are in the image's units, the last two of its shape or one number; with `smooth` it is smoothed. Pixels
-    whose value or noise isn't defined are masked.
+    The three are in the image's units, the last two of its shape or one number. Pixels whose value or noise isn't
+    defined aren't finite.
     """
     scaled = numpy.subtract(image, background, dtype="f4" if numpy.asarray(image).dtype == "f4" else "f8")
     scaled = scaled.astype("f4", copy=False)
     with numpy.errstate(divide="ignore", invalid="ignore"):
-        scaled *= (SIGMA / numpy.asarray(noise)).astype("f4")
-    return whole_numbers(smoothed(scaled) if smooth else scaled)
+        scaled *= (times / numpy.asarray(noise)).astype("f4")
+    return scaled
 
 
 def prepared(
@@ -81,4 +81,5 @@ def prepared(
     found = of_array(image, mesh or 64)
     if not found.noise > 0:
         raise ValueError("the image has no noise to scale by")
-    return detectable(floats(image), found.zero, found.noise, smooth), found.zero, SIGMA / found.noise
+    scaled = deviations(floats(image), found.zero, found.noise, SIGMA)
+    return whole_numbers(smoothed(scaled) if smooth else scaled), found.zero, SIGMA / found.noise

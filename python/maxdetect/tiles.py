@@ -84,22 +84,26 @@ class Box:
 
 @dataclasses.dataclass
 class Look:
-    """What is seen in a window: its sources, the map with their numbers, and where it is at least the threshold."""
+    """What is seen in a window: its sources, the map with their numbers, and where it is at least the threshold. Where
+    the map has gaps, `labels` is one without: each pixel of a component belongs to one of its sources.
+    """
 
     catalogue: Table
     segments: numpy.ndarray
     above: Callable[[slice, slice], numpy.ndarray]
+    labels: Optional[numpy.ndarray] = None
 
 
 @dataclasses.dataclass
 class Piece:
     """The sources of a tile, in columns and rows of the whole; the pixels of the whole, counted row by row, that
-    belong to one, and to which row; and which rows are cut.
+    belong to one, to which row, and whether the map has them; and which rows are cut.
     """
 
     catalogue: Table
     pixels: numpy.ndarray
     owners: numpy.ndarray
+    shown: numpy.ndarray
     cut: numpy.ndarray
 
 
@@ -107,7 +111,7 @@ class Piece:
 class Plan:
     """How an image is cut: its shape, the part of it whose sources are wanted, the side of a tile's core, the margin,
     the mesh of the program's background, and which pixels are neighbours. The sources' columns and rows are those of
-    the part.
+    the part. What is made of a component depends on the pixels up to `reach` columns and rows from it.
     """
 
     shape: Tuple[int, int]
@@ -117,6 +121,7 @@ class Plan:
     mesh: int = 0
     flat: bool = False
     connect: int = 8
+    reach: int = 1
 
     @property
     def whole(self) -> Box:
@@ -141,7 +146,7 @@ class Plan:
 
     def least_window(self, box: Box) -> Box:
         """The least window in which a box's pixels are sure with their neighbours."""
-        before = after = 1
+        before = after = self.reach
         # A smooth background is sure from a cell and a half within the window's edge.
         if self.mesh and not self.flat:
             before, after = 3 * self.mesh // 2 + 1, (3 * self.mesh + 1) // 2 + 1
@@ -188,7 +193,7 @@ class Plan:
 
     def deep(self, window: Box) -> Box:
         """The pixels of a window that are sure with their neighbours, in the window's own columns and rows."""
-        return self.sure(window, 1)
+        return self.sure(window, self.reach)
 
 
 # ---- one tile
@@ -273,14 +278,15 @@ def _picked(look: Look, window: Box, plan: Plan, chosen: numpy.ndarray, among: O
     left, top = window.left - plan.part.left, window.top - plan.part.top
     table = moved(look.catalogue[chosen], left, top)
     cut = numpy.full(len(table), among is not None)
-    numbers = numpy.zeros(look.segments.max(initial=0) + 1, dtype="i4")
+    labels = look.segments if look.labels is None else look.labels
+    numbers = numpy.zeros(labels.max(initial=0) + 1, dtype="i4")
     numbers[numpy.asarray(look.catalogue["NUMBER"])[chosen]] = numpy.arange(1, chosen.sum() + 1)
-    owners = numbers[look.segments]
+    owners = numbers[labels]
     if among is not None:
         owners *= among
     rows, columns = numpy.nonzero(owners)
     pixels = (rows + top).astype("i8") * (plan.part.right - plan.part.left) + (columns + left)
-    return Piece(table, pixels, owners[rows, columns] - 1, cut)
+    return Piece(table, pixels, owners[rows, columns] - 1, look.segments[rows, columns] != 0, cut)
 
 
 @dataclasses.dataclass(frozen=True)
@@ -371,6 +377,7 @@ def joined(pieces: Iterable[Piece]) -> Piece:
         table,
         numpy.concatenate([piece.pixels for piece in pieces]),
         numpy.concatenate(owners),
+        numpy.concatenate([piece.shown for piece in pieces]),
         numpy.concatenate([it.cut for it in pieces]),
     )
 
@@ -461,22 +468,38 @@ def numbered(tables: List[Table]) -> Tuple[Table, numpy.ndarray]:
 
 
 def renumber(segments: numpy.ndarray, places: numpy.ndarray) -> None:
-    """A map whose numbers count the rows as they stood, in place by those that `numbered` gives."""
-    numbers = numpy.zeros(len(places) + 1, dtype=segments.dtype)
+    """A map whose numbers count the rows as they stood, in place by those that `numbered` gives; those below 0 too."""
+    numbers = numpy.zeros(2 * len(places) + 1, dtype=segments.dtype)
     numbers[places + 1] = numpy.arange(1, len(places) + 1)
-    if (numbers[1:] == numpy.arange(1, len(places) + 1)).all():
+    # A number below 0 is the place of its row from the end.
+    numbers[-places - 1] = -numpy.arange(1, len(places) + 1)
+    if (numbers[1 : len(places) + 1] == numpy.arange(1, len(places) + 1)).all():
         return
     for top in range(0, len(segments), 256):
         segments[top : top + 256] = numbers[segments[top : top + 256]]
 
 
+def without_gaps(segments: numpy.ndarray) -> numpy.ndarray:
+    """A part of a map that `gathered` filled, as a map without gaps."""
+    return numpy.abs(numpy.asarray(segments))
+
+
+def hide(segments: numpy.ndarray) -> None:
+    """Takes out of a map that `gathered` filled, in place, the pixels that it isn't to show."""
+    for top in range(0, len(segments), 256):
+        segments[top : top + 256] = numpy.maximum(segments[top : top + 256], 0)
+
+
 def gathered(
     pieces: Iterable[Piece], segments: numpy.ndarray, progress: Callable[[int], None]
 ) -> Tuple[Table, numpy.ndarray]:
-    """The rows of all pieces, numbered, and which of them are cut. `segments`, an array full of zeros, gets the map."""
+    """The rows of all pieces, numbered, and which of them are cut. `segments`, an array full of zeros, gets the map,
+    and the numbers below 0 of the sources to which pixels belong that the map isn't to show.
+    """
     tables, cut, count = [], [], 0
     for piece in pieces:
-        segments.reshape(-1)[piece.pixels] = piece.owners + (count + 1)
+        numbers = piece.owners + (count + 1)
+        segments.reshape(-1)[piece.pixels] = numpy.where(piece.shown, numbers, -numbers)
         count += len(piece.catalogue)
         tables.append(piece.catalogue)
         cut.append(piece.cut)

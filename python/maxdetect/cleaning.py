@@ -1,0 +1,100 @@
+"""Which sources are but the peaks of noise on faint light: on a galaxy's halo, a nebula, a fringe of the sky.
+
+A source stays where the least area of its pixels would have passed the threshold above the light around it too: the
+mean of those pixels of a box that lie beside all sources. Where few such pixels are there, as amid a crowd, nothing is
+known of the light around, and the source stays.
+
+Beside sources lie the pixels below the threshold, but for those next to a component, and those of the source's own
+component that lie away from all of its sources. So what is made of a component depends on its own pixels and on those
+near it alone.
+"""
+from typing import Iterator, NamedTuple, Tuple
+
+import numpy
+from scipy import ndimage
+
+from .sky import grown
+
+__all__ = ["kept", "reach"]
+
+# How far sources reach beyond their pixels, in their component and out of it, and the least share of a box that has to
+# lie beside them.
+BESIDE, CLOSE, LEAST_SHARE = 2, 1, 0.1
+# Half of a box's side, in widths of a point source, and the least of it in pixels.
+HALF, LEAST_HALF = 3.5, 8
+
+
+def reach(width: float) -> int:
+    """Up to how many pixels from a source count for it."""
+    return _half(width) + BESIDE + 1
+
+
+def _half(width: float) -> int:
+    return max(LEAST_HALF, round(HALF * width))
+
+
+class _Around(NamedTuple):
+    """For each pixel how many pixels of its box lie beside sources, and the sum of their numbers."""
+
+    count: numpy.ndarray
+    total: numpy.ndarray
+
+
+def _box_sums(image: numpy.ndarray, half: int) -> numpy.ndarray:
+    """The sums over boxes around each pixel, as far as the image goes: in whole numbers, so that they are the same in
+    every window.
+    """
+    sums = numpy.zeros([side + 1 for side in image.shape], dtype="i8")
+    numpy.cumsum(numpy.cumsum(image, axis=0, dtype="i8"), axis=1, out=sums[1:, 1:])
+    (top, bottom), (left, right) = (
+        (numpy.maximum(numpy.arange(side) - half, 0), numpy.minimum(numpy.arange(side) + half + 1, side))
+        for side in image.shape
+    )
+    rows = sums[bottom] - sums[top]
+    return rows[:, right] - rows[:, left]
+
+
+def _around(numbers: numpy.ndarray, beside: numpy.ndarray, half: int) -> _Around:
+    return _Around(_box_sums(beside, half), _box_sums(numpy.where(beside, numbers, 0), half))
+
+
+def _halos(above: numpy.ndarray, labels: numpy.ndarray, segments: numpy.ndarray) -> Iterator[Tuple]:
+    """The components that have pixels away from the sources that stand on them: where each is, its pixels there, and
+    those away from sources.
+    """
+    away = (labels != 0) & ~grown(segments != 0, BESIDE)
+    if not away.any():
+        return
+    components, _ = ndimage.label(above, numpy.ones((3, 3)))
+    boxes = ndimage.find_objects(components)
+    for number in numpy.unique(components[away]).tolist():
+        at = boxes[number - 1]
+        own = components[at] == number
+        yield at, own, away[at] & own
+
+
+def kept(
+    numbers: numpy.ndarray,
+    segments: numpy.ndarray,
+    labels: numpy.ndarray,
+    threshold: int,
+    area: int,
+    width: float,
+) -> numpy.ndarray:
+    """Whether each source of a map stays, by number. `numbers` are those of the window in which the program found them
+    with this threshold and this least area, the least 32-bit number where undefined; `labels` is the map without gaps,
+    and the width that of a point source.
+    """
+    half, above = _half(width), numbers >= threshold
+    undefined = numbers == numpy.iinfo(numbers.dtype).min
+    around = _around(numbers, ~grown(labels != 0, CLOSE) & ~above & ~undefined, half)
+    for at, own, away in _halos(above, labels, segments):
+        more = _around(numbers[at], away, half)
+        around.count[at][own] += more.count[own]
+        around.total[at][own] += more.total[own]
+    places = numpy.flatnonzero(segments)
+    count, total = around.count.ravel()[places], around.total.ravel()[places]
+    known = count >= LEAST_SHARE * (2 * half + 1) ** 2
+    light = numpy.where(known, numpy.maximum(total / numpy.maximum(count, 1), 0), 0)
+    stand_out = numbers.ravel()[places] >= threshold + light
+    return numpy.bincount(segments.ravel()[places], stand_out, int(labels.max(initial=0)) + 1)[1:] >= area

@@ -1,0 +1,123 @@
+"""An image with what belongs to it, and how its sources are looked for."""
+import dataclasses
+import math
+from typing import Optional, Tuple, Union
+
+import numpy
+
+from . import sky
+from .errors import Mistake
+from .images import Plane
+
+__all__ = ["KINDS", "LEAST_MESH", "MOST_MESH", "TILE", "Field", "Settings", "noise_of", "sky_of"]
+
+# The side of a tile's core, in pixels.
+TILE = 2048
+# The cells' sides: noise is told from fewer pixels badly, and of wider ones an image has few.
+LEAST_MESH, MOST_MESH = 8, 512
+# What a weight map has.
+KINDS = ("rms", "variance", "weight")
+
+
+@dataclasses.dataclass(frozen=True)
+class Settings:
+    """How sources are looked for.
+
+    `sigmas` is the threshold in deviations of the noise of what is looked at, `fwhm` the width of the Gaussian that
+    smooths the image before, in pixels: by default that of its point sources, 0 for none. `mesh` is the side of the
+    cells of the background, 0 for one level; `min_area` is in pixels. `contrast` is the program's, in thousandths;
+    without one a component is split as far as its parts stand `split_sigmas` deviations above where they meet. `clean`
+    leaves out the peaks of noise on faint light. `weight_type` says what the weight map has, and `local` takes the
+    noise by cells. `gain` is in electrons for a unit of the image, and from `saturation` on pixels are saturated.
+    """
+
+    sigmas: Optional[float] = None
+    fwhm: Optional[float] = None
+    mesh: int = 64
+    min_area: Optional[int] = None
+    contrast: Optional[int] = None
+    split_sigmas: float = 2.0
+    clean: bool = True
+    weight_type: str = "weight"
+    local: bool = False
+    gain: Optional[float] = None
+    saturation: Optional[float] = None
+    tile: int = TILE
+    workers: int = 1
+
+    def __post_init__(self):
+        if self.mesh and not LEAST_MESH <= self.mesh <= MOST_MESH:
+            raise ValueError(f"mesh is 0, or from {LEAST_MESH} to {MOST_MESH}, not {self.mesh}")
+
+
+def relative_noise(weights: numpy.ndarray, kind: str) -> numpy.ndarray:
+    """The noise that a weight map tells, up to a factor for weights; NaN where there is none."""
+    with numpy.errstate(divide="ignore", invalid="ignore"):
+        noise = weights if kind == "rms" else numpy.sqrt(weights) if kind == "variance" else 1 / numpy.sqrt(weights)
+    return numpy.where(numpy.isfinite(noise) & (noise > 0), noise, numpy.nan).astype("f4")
+
+
+@dataclasses.dataclass
+class Field:
+    """An image with what belongs to it: a mask, whose pixels other than 0 are undefined, a weight map, and another
+    image to measure in.
+    """
+
+    plane: Plane
+    settings: Settings
+    mask: Optional[Plane] = None
+    weights: Optional[Plane] = None
+    values: Optional[Plane] = None
+
+    @property
+    def shape(self) -> Tuple[int, int]:
+        return self.plane.shape
+
+    def image(self, rows: slice, columns: slice = slice(None)) -> numpy.ndarray:
+        """Its pixels in a window less the plane's origin, NaN where they are undefined."""
+        return self._masked(self.plane, rows, columns)
+
+    def _masked(self, plane, rows, columns):
+        image = plane.window(rows, columns, plane.origin)
+        if self.mask is not None:
+            mask = self.mask.window(rows, columns)
+            image[(mask != 0) | ~numpy.isfinite(mask)] = numpy.nan
+        return image
+
+    def relative(self, rows: slice, columns: slice = slice(None)) -> numpy.ndarray:
+        """Its noise in a window, up to a factor."""
+        return relative_noise(self.weights.window(rows, columns), self.settings.weight_type)
+
+    def to_measure(self, rows: slice, columns: slice) -> numpy.ndarray:
+        """What fluxes are measured in, less its plane's origin."""
+        return self._masked(self.values or self.plane, rows, columns)
+
+    @property
+    def saturation(self) -> Optional[float]:
+        """From which number on pixels of `to_measure` are saturated."""
+        limit, origin = self.settings.saturation, (self.values or self.plane).origin
+        # Where there is an origin the pixels have whole numbers, which 64 bits of floating point don't hold.
+        return math.ceil(limit) - origin if origin and limit is not None else limit
+
+
+def noise_of(field: Field, found: sky.Sky, rows: slice, columns: slice) -> Union[float, numpy.ndarray]:
+    """The noise of a field's pixels in a window, in the image's units: one number, or an array."""
+    if field.weights is not None:
+        factor = found.noise if field.settings.weight_type == "weight" else 1
+        return field.relative(rows, columns) * numpy.float32(factor)
+    return found.noises(rows, columns) if field.settings.local else found.noise
+
+
+def sky_of(field: Field) -> sky.Sky:
+    """The sky of a field. Raises Mistake where it has none to speak of."""
+    try:
+        found = sky.of(
+            field.image, field.shape, field.settings.mesh or 64, None if field.weights is None else field.relative
+        )
+    except ValueError as error:
+        beside = [other.label for other in (field.mask, field.weights) if other is not None]
+        with_them = f" (with {' and '.join(beside)})" if beside else ""
+        raise Mistake(f"{field.plane.label}{with_them}: {error}") from None
+    if not found.noise > 0:
+        raise Mistake(f"{field.plane.label}: it has no noise to tell sources from")
+    return found

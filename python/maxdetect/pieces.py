@@ -1,0 +1,194 @@
+"""Which parts of a component are sources of their own.
+
+Without a contrast the program splits a component wherever two parts with the least area each stand above the level at
+which they meet. Some of these parts are peaks of noise on what they stand on. So parts are joined again, from the
+highest meeting place down, as long as one of two has less light above it than so many deviations of the noise there.
+What is left are nodes of the same tree: each reaches down to where it meets the next one. So what is made of a
+component depends on its own pixels alone.
+"""
+from typing import Callable, List, NamedTuple, Tuple
+
+import numpy
+from astropy.table import Table
+
+from . import nodes
+
+__all__ = ["Parts", "Significance", "sources"]
+
+# How many deviations of the noise so much light is that so many pixels have above a level: area, light, level.
+Significance = Callable[[int, float, int], float]
+# The neighbours of a pixel that come behind it, as rows and columns further on.
+BEHIND = ((0, 1), (1, -1), (1, 0), (1, 1))
+
+
+class _Grid:
+    """A window's numbers in a flat array with a line of others around it, so that each pixel has eight neighbours."""
+
+    def __init__(self, numbers: numpy.ndarray, segments: numpy.ndarray, threshold: int):
+        height, width = numbers.shape
+        self.shape, self.stride = (height, width), width + 2
+        least = numpy.iinfo(numbers.dtype).min
+        self.numbers = numpy.pad(numbers, 1, constant_values=least).ravel()
+        self.labels = numpy.pad(segments, 1).ravel()
+        self.places = numpy.flatnonzero(self.numbers >= threshold)
+
+    def steps(self, all_around: bool) -> List[int]:
+        behind = [down * self.stride + across for down, across in BEHIND]
+        return behind + [-step for step in behind] if all_around else behind
+
+    def map(self) -> numpy.ndarray:
+        height, width = self.shape
+        return numpy.ascontiguousarray(self.labels.reshape(height + 2, self.stride)[1:-1, 1:-1])
+
+
+def _share_out(grid: _Grid) -> None:
+    """Gives each pixel of the threshold set that no source has to the one to which the way uphill leads, and what a
+    peak without a source holds to the neighbour that stands highest.
+    """
+    places = grid.places
+    best, up = grid.numbers[places], places.copy()
+    for step in grid.steps(True):
+        beside = grid.numbers[places + step]
+        higher = beside > best
+        best[higher], up[higher] = beside[higher], (places + step)[higher]
+    way = numpy.zeros(len(grid.numbers), dtype="i8")
+    way[places] = numpy.where(grid.labels[places] != 0, places, up)
+    at = places
+    while True:
+        further = way[at]
+        if (further == at).all():
+            break
+        at = further
+    grid.labels[places] = grid.labels[at]
+    rest = places[grid.labels[places] == 0]
+    while rest.size:
+        best, label = numpy.full(rest.size, numpy.iinfo(grid.numbers.dtype).min), numpy.zeros(rest.size, dtype="i4")
+        for step in grid.steps(True):
+            beside = rest + step
+            higher = (grid.labels[beside] != 0) & (grid.numbers[beside] > best)
+            best[higher], label[higher] = grid.numbers[beside][higher], grid.labels[beside][higher]
+        if not label.any():
+            break
+        grid.labels[rest] = label
+        rest = rest[label == 0]
+
+
+class _Meetings(NamedTuple):
+    """Which parts are neighbours, and the greatest number at which they meet: from the greatest down."""
+
+    ones: List[int]
+    others: List[int]
+    levels: List[int]
+
+
+def _meetings(grid: _Grid) -> _Meetings:
+    """Where parts meet. Two pixels side by side meet at the lesser of their numbers."""
+    inside = grid.places[grid.labels[grid.places] != 0]
+    found = []
+    for step in grid.steps(False):
+        one, other = grid.labels[inside], grid.labels[inside + step]
+        touch = (other != 0) & (one != other)
+        at = inside[touch]
+        pair = numpy.sort(numpy.stack([one[touch], other[touch]]), axis=0)
+        found.append(numpy.concatenate([pair, numpy.minimum(grid.numbers[at], grid.numbers[at + step])[None, :]]))
+    one, other, level = numpy.concatenate(found, axis=1).astype("i8")
+    order = numpy.lexsort((other, one, -level))
+    one, other, level = one[order], other[order], level[order]
+    _, first = numpy.unique(one * (int(grid.labels.max(initial=0)) + 1) + other, return_index=True)
+    first.sort()
+    return _Meetings(one[first].tolist(), other[first].tolist(), level[first].tolist())
+
+
+class _Light:
+    """How many pixels of a part stand above a level, and how much light they have there."""
+
+    def __init__(self, grid: _Grid, count: int):
+        inside = grid.places[grid.labels[grid.places] != 0]
+        labels, numbers = grid.labels[inside], grid.numbers[inside]
+        order = numpy.lexsort((-numbers.astype("i8"), labels))
+        self.falling = -numbers[order].astype("i8")
+        self.sums = numpy.concatenate([[0], -numpy.cumsum(self.falling)])
+        self.starts = numpy.searchsorted(labels[order], numpy.arange(count + 2))
+
+    def above(self, part: int, level: int) -> Tuple[int, int]:
+        begin, end = self.starts[part], self.starts[part + 1]
+        area = int(numpy.searchsorted(self.falling[begin:end], -level))
+        return area, int(self.sums[begin + area] - self.sums[begin]) - area * level
+
+
+def _owners(meetings: _Meetings, light: _Light, count: int, significance: Significance, least: float) -> numpy.ndarray:
+    """For each part the number of the one to which it belongs in the end."""
+    owner = list(range(count + 1))
+    members = {part: [part] for part in owner}
+
+    def above(group: int, level: int) -> Tuple[int, int]:
+        areas, fluxes = zip(*(light.above(part, level) for part in members[group]))
+        return sum(areas), sum(fluxes)
+
+    for one, other, level in zip(*meetings):
+        one, other = owner[one], owner[other]
+        if one == other:
+            continue
+        of_one, of_other = above(one, level), above(other, level)
+        if min(significance(*of_one, level), significance(*of_other, level)) < least:
+            kept, gone = (one, other) if of_one[1] >= of_other[1] else (other, one)
+            for part in members.pop(gone):
+                owner[part] = kept
+                members[kept].append(part)
+    return numpy.array(owner)
+
+
+class Parts(NamedTuple):
+    """The sources of a window: their rows and map as the program writes them, and a map without gaps, in which each
+    pixel of a source's component belongs to a source.
+    """
+
+    catalogue: Table
+    segments: numpy.ndarray
+    labels: numpy.ndarray
+
+
+def sources(
+    numbers: numpy.ndarray,
+    catalogue: Table,
+    segments: numpy.ndarray,
+    threshold: int,
+    significance: Significance,
+    least: float,
+) -> Parts:
+    """The sources of a window's whole numbers, of which the program found these rows and this map.
+
+    Parts with less than `least` deviations of the noise are joined with what they stand on; with 0 none are.
+    """
+    count, grid = len(catalogue), _Grid(numbers, segments, threshold)
+    _share_out(grid)
+    meetings = _meetings(grid)
+    owner = _owners(meetings, _Light(grid, count), count, significance, least) if least > 0 else numpy.arange(count + 1)
+    if (owner == numpy.arange(count + 1)).all():
+        return Parts(catalogue, segments, grid.map())
+    grid.labels = owner.astype("i4")[grid.labels]
+    labels = grid.map()
+    level = {}
+    for one, other, at in zip(*meetings):
+        one, other = owner[one], owner[other]
+        if one != other:
+            level[one], level[other] = max(at, level.get(one, at)), max(at, level.get(other, at))
+    several = numpy.flatnonzero(numpy.bincount(owner[1:], minlength=count + 1) > 1)
+    changed, whole = nodes.rows(numbers, labels, several, [level.get(int(part)) for part in several])
+    return _with_changed(catalogue, segments, labels, owner, changed, whole)
+
+
+def _with_changed(catalogue, segments, labels, owner, changed: Table, whole: numpy.ndarray) -> Parts:
+    """The rows and the maps with the nodes that parts make together, numbered by their first pixels."""
+    alone = owner == numpy.arange(len(owner))
+    alone[0] = False
+    alone[numpy.asarray(changed["NUMBER"])] = False
+    joined = numpy.isin(owner, changed["NUMBER"])
+    segments = numpy.where(joined[segments] | (whole != 0), whole, segments)
+    rows = catalogue[alone[numpy.asarray(catalogue["NUMBER"])]]
+    rows = nodes.stacked(rows, changed)
+    rows = rows[numpy.lexsort((rows["XFIRST"], rows["YFIRST"]))]
+    new = numpy.zeros(len(owner), dtype="i4")
+    new[numpy.asarray(rows["NUMBER"])] = numpy.arange(1, len(rows) + 1)
+    rows["NUMBER"] = numpy.arange(1, len(rows) + 1, dtype=rows["NUMBER"].dtype)
+    return Parts(rows, new[segments], new[labels])

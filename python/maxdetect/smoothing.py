@@ -1,0 +1,72 @@
+"""Smoothing by a Gaussian, the same in every window of an image, and the noise that is left behind it."""
+import math
+from typing import Callable
+
+import numpy
+from scipy import ndimage
+
+from . import sky
+
+__all__ = ["correlated", "margin", "noise_behind", "smoothed"]
+
+# A Gaussian's width over its deviation, and how many deviations it reaches.
+WIDTH, REACH = 2 * math.sqrt(2 * math.log(2)), 4.0
+# The noise is told in cells of so many widths, and at least so many pixels, along a side: so narrow that a sky which
+# is uneven isn't noise. So many rows of cells tell enough.
+CELL, LEAST_CELL, MOST_BANDS = 6, 16, 24
+
+
+def margin(width: float) -> int:
+    """How many pixels around a pixel count for its smoothed value."""
+    return int(REACH * width / WIDTH + 0.5)
+
+
+def correlated(width: float) -> float:
+    """How many pixels share their noise in an image with white noise that is smoothed."""
+    return max(1.0, 4 * math.pi * (width / WIDTH) ** 2)
+
+
+def smoothed(image: numpy.ndarray, width: float) -> numpy.ndarray:
+    """An image smoothed by a Gaussian of this full width at half of its height, as 32-bit floating-point numbers.
+
+    Pixels that aren't finite count for nothing, and are NaN. Sums are taken over the root of the summed squares of the
+    weights that count, so that white noise keeps its deviation, also at edges and beside undefined pixels.
+    """
+    reach = margin(width)
+    weights = numpy.exp(-0.5 * (numpy.arange(-reach, reach + 1) * WIDTH / width) ** 2)
+    finite = numpy.isfinite(image)
+    defined = bool(finite.all())
+    total = _along_both(image if defined else numpy.where(finite, image, numpy.float32(0)), weights)
+    if defined:
+        down, across = (
+            ndimage.correlate1d(numpy.ones(side), weights**2, mode="constant").astype("f4") for side in image.shape
+        )
+        total /= numpy.sqrt(down)[:, None]
+        total /= numpy.sqrt(across)[None, :]
+        return total
+    squares = _along_both(finite.astype("f4"), weights**2)
+    with numpy.errstate(divide="ignore", invalid="ignore"):
+        total /= numpy.sqrt(squares)
+    total[~finite] = numpy.nan
+    return total
+
+
+def _along_both(image: numpy.ndarray, weights: numpy.ndarray) -> numpy.ndarray:
+    """The sums over the neighbours, weighted along rows and columns; beyond the edge is nothing."""
+    for axis in (0, 1):
+        image = ndimage.correlate1d(image, weights, axis, output="f4", mode="constant")
+    return image
+
+
+def noise_behind(read: Callable[[slice], numpy.ndarray], height: int, width: float) -> float:
+    """The standard deviation of a smoothed image, beside its sources.
+
+    `read` gives some of its rows. It is looked at in narrow cells, of rows of cells that lie evenly over the image.
+    """
+    side = max(LEAST_CELL, math.ceil(CELL * width))
+    tops = numpy.arange(0, max(height - side, 0) + 1, side)
+    chosen = tops[numpy.linspace(0, len(tops) - 1, min(len(tops), MOST_BANDS)).astype(int)]
+    bands = numpy.concatenate([read(slice(top, min(top + side, height))) for top in chosen.tolist()])
+    # A cell's own mean takes a part of what its few pixels vary together.
+    lost = min(0.9, correlated(width) / side**2)
+    return sky.of(lambda rows: bands[rows], bands.shape, side).noise / math.sqrt(1 - lost)
