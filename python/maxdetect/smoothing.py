@@ -36,17 +36,19 @@ def smoothed(image: numpy.ndarray, width: float) -> numpy.ndarray:
     weights = numpy.exp(-0.5 * (numpy.arange(-reach, reach + 1) * WIDTH / width) ** 2)
     finite = numpy.isfinite(image)
     defined = bool(finite.all())
-    total = _along_both(image if defined else numpy.where(finite, image, numpy.float32(0)), weights)
+    sums = _along_both(image if defined else numpy.where(finite, image, numpy.float32(0)), weights)
+    down, across = (
+        numpy.sqrt(ndimage.correlate1d(numpy.ones(side), weights**2, mode="constant")).astype("f4")
+        for side in image.shape
+    )
+    total = sums / down[:, None]
+    total /= across[None, :]
     if defined:
-        down, across = (
-            ndimage.correlate1d(numpy.ones(side), weights**2, mode="constant").astype("f4") for side in image.shape
-        )
-        total /= numpy.sqrt(down)[:, None]
-        total /= numpy.sqrt(across)[None, :]
         return total
-    squares = _along_both(finite.astype("f4"), weights**2)
+    # Only beside undefined pixels, so that all others have the same value in every window to the last digit.
+    near = sky.grown(~finite, reach)
     with numpy.errstate(divide="ignore", invalid="ignore"):
-        total /= numpy.sqrt(squares)
+        total[near] = sums[near] / numpy.sqrt(_along_both(finite.astype("f4"), weights**2)[near])
     total[~finite] = numpy.nan
     return total
 
