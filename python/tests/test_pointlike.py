@@ -1,0 +1,116 @@
+"""The width of point sources and how their light grows, told from images."""
+import numpy
+import pytest
+from conftest import add_star
+from scipy import ndimage
+
+from maxdetect import pointlike
+
+UNLIMITED = numpy.inf
+
+
+def noise(side=700, seed=1):
+    return numpy.random.default_rng(seed).normal(0, 1, (side, side))
+
+
+def star(width, parts=7, side=121):
+    """A star of light 1 in the middle pixel of an image, averaged over each pixel, moved by parts of one."""
+
+    def drawn(down, across):
+        fine = numpy.zeros((side * parts, side * parts))
+        middle = (side * parts - 1) / 2
+        add_star(fine, middle + across * parts, middle + down * parts, 1.0, width * parts)
+        return fine.reshape(side, parts, side, parts).sum(axis=(1, 3))
+
+    return drawn
+
+
+def with_stars(width, count=30, side=700, seed=1, shape=None):
+    """A field in deviations of its noise with stars of this width, far from its edges; they may lie side by side."""
+    image, rng = noise(side, seed), numpy.random.default_rng(seed + 1)
+    drawn = [shape(*rng.uniform(-0.5, 0.5, 2)) for _ in range(3)] if shape else None
+    drawn = drawn or [star(width, 7 if width < 3 else 3)(*rng.uniform(-0.5, 0.5, 2)) for _ in range(6)]
+    half = drawn[0].shape[0] // 2
+    for number in range(count):
+        y, x = rng.integers(half, side - half, 2)
+        image[y - half : y + half + 1, x - half : x + half + 1] += drawn[number % len(drawn)] * 10 ** rng.uniform(
+            3.7, 5
+        )
+    return image
+
+
+def told(image, limit=UNLIMITED):
+    return pointlike.of([(image.astype("f4"), limit)])
+
+
+@pytest.mark.parametrize("width", [1.3, 1.7, 2.2, 3.0, 4.5, 6.0, 8.0])
+def test_the_width_of_stars(width):
+    found = told(with_stars(width))
+    # The width is that which pixels show: they sum up a star's light, and circles share out the pixels.
+    assert found.width == pytest.approx(numpy.sqrt(width**2 + 1.5), rel=0.1) and found.count >= 8
+    assert width < 3 or found.width == pytest.approx(width, rel=0.1)
+    assert (numpy.diff(found.shares) > -0.01).all() and found.shares[-1] == 1
+    assert found.share(found.half / 2) == pytest.approx(0.5, abs=0.01)
+
+
+def test_how_light_grows():
+    width = 3.4
+    found = told(with_stars(width, count=40))
+    core = (width / 2) ** 2 / (2 ** (1 / 3) - 1)
+    whole = 1 - (1 + found.radii[-1] ** 2 / core) ** -2
+    expected = (1 - (1 + found.radii**2 / core) ** -2) / whole
+    assert found.shares == pytest.approx(expected, abs=0.02)
+
+
+def test_stars_among_galaxies_and_cosmic_rays():
+    width, rng = 3.2, numpy.random.default_rng(3)
+    image = with_stars(width, count=25)
+    alone = told(image).width
+    light = numpy.zeros(image.shape)
+    for y, x in rng.integers(40, 660, (45, 2)):
+        disc = numpy.exp(-numpy.hypot(*numpy.mgrid[-60:61, -60:61]) / rng.uniform(2, 5))
+        part = light[max(0, y - 60) : y + 61, max(0, x - 60) : x + 61]
+        top, left = max(0, 60 - y), max(0, 60 - x)
+        part += (disc / disc.sum() * 10 ** rng.uniform(4, 5))[top : top + part.shape[0], left : left + part.shape[1]]
+    image += ndimage.gaussian_filter(light, width / 2.355)
+    for y, x in rng.integers(40, 660, (50, 2)):
+        for step in numpy.arange(0, rng.exponential(4) + 1, 0.5):
+            image[int(y + step * rng.uniform(0.5, 1)), int(x + step)] += rng.uniform(50, 3000)
+    found = told(image)
+    assert found.width == pytest.approx(width, rel=0.1) and found.width == pytest.approx(alone, rel=0.07)
+
+
+def test_saturated_stars_do_not_count():
+    image = with_stars(3.0, count=25)
+    limit = numpy.sort(image[ndimage.maximum_filter(image, 9) == image])[-12]
+    cut = numpy.minimum(image, limit)
+    assert told(cut, limit).width == pytest.approx(3.0, rel=0.1)
+    assert told(cut, limit).count < told(image).count
+
+
+def test_fields_without_enough_stars():
+    assert told(noise()) is None and told(noise(9)) is None and pointlike.of([]) is None
+    assert told(numpy.full((99, 99), numpy.nan)) is None
+    assert told(with_stars(3.0, count=pointlike.FEWEST - 1)) is None
+    # Cosmic rays alone are of no size that most have, or are no source at all.
+    image, rng = noise(), numpy.random.default_rng(4)
+    for y, x in rng.integers(40, 660, (pointlike.FEWEST - 1, 2)):
+        image[y : y + 2, x : x + 2] += 500
+    assert told(image) is None
+
+
+def test_windows_and_undefined_pixels():
+    image = with_stars(3.0, count=60, side=900, seed=5)
+    whole = told(image)
+    halves = pointlike.of([(numpy.ascontiguousarray(part.astype("f4")), UNLIMITED) for part in numpy.hsplit(image, 2)])
+    assert halves.width == pytest.approx(whole.width, rel=0.05) and halves.count <= whole.count
+    image[numpy.random.default_rng(6).random(image.shape) < 0.01] = numpy.nan
+    with_gaps = told(image)
+    assert with_gaps is None or with_gaps.width == pytest.approx(whole.width, rel=0.1)
+
+
+def test_the_value_around_which_most_lie():
+    rng = numpy.random.default_rng(7)
+    values = numpy.concatenate([rng.normal(2, 0.01, 40), rng.uniform(0, 10, 50), rng.normal(0.5, 0.05, 20)])
+    assert pointlike._most_common(values) == pytest.approx(2, abs=0.03)
+    assert pointlike._most_common(numpy.array([3.0])) == 3 and pointlike._most_common(numpy.array([1.0, 2.0])) == 1.5
