@@ -49,10 +49,6 @@ def _greatest_beside(numbers: numpy.ndarray, own: numpy.ndarray, part: Tuple[sli
     return None if greatest == numpy.iinfo(numbers.dtype).min else int(greatest)
 
 
-def _floor(above: int, below: int) -> int:
-    return above // below
-
-
 def _row(number: int, numbers, own, base: Optional[int], part) -> Dict[str, int]:
     """The row of a node; positions count from 1."""
     y, x = numpy.nonzero(own)
@@ -64,10 +60,12 @@ def _row(number: int, numbers, own, base: Optional[int], part) -> Dict[str, int]
     row = {"NUMBER": number, "LEVEL": level, "BASE": base, "AREA": area, "FLUX": flux, "PEAK": int(values.max())}
     row.update(XMIN=int(x.min()), XMAX=int(x.max()), YMIN=int(y.min()), YMAX=int(y.max()))
     row.update(XFIRST=int(x[0]), YFIRST=int(y[0]))
-    for name, places in (("XCEN", x), ("YCEN", y)):
-        # Without light all pixels count alike.
-        weights = values - base if flux else numpy.ones_like(values)
-        row[name] = 1000 * int((weights * places).sum()) // int(weights.sum())
+    # Without light all pixels count alike.
+    weights = numpy.where(own, numbers.astype("i8") - base if flux else 1, 0)
+    for name, axis, begin in (("XCEN", 0, part[1].start + 1), ("YCEN", 1, part[0].start + 1)):
+        # Sums along rows and columns fit in 64 bits; times places they may not.
+        sums = weights.sum(axis=axis).tolist()
+        row[name] = 1000 * sum(place * weight for place, weight in enumerate(sums, begin)) // (flux or area)
     for name, one, other in (("XVAR", x, x), ("YVAR", y, y), ("XYCOV", x, y)):
         # From the box's corner, so that sums of products stay small.
         one, other = one - row["XMIN" if one is x else "YMIN"], other - row["XMIN" if other is x else "YMIN"]
