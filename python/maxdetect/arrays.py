@@ -52,8 +52,8 @@ def _check(settings: Dict[str, Any]) -> None:
         if value is not None and not least <= value <= most:
             raise ValueError(f"{name} is a number from {least} to {most:g}, not {value}")
     for name in ("min_area", "tile", "workers"):
-        count = settings.get(name) or 1
-        if count < 1 or count != int(count):
+        count = settings.get(name)
+        if count is not None and (count < 1 or count != int(count)):
             raise ValueError(f"{name} is a whole number from 1 on, not {count}")
 
 
@@ -73,9 +73,8 @@ def catalogue(
     `image` has two dimensions and numbers of any kind; it is undefined where it is NaN or masked. `header` has its
     WCS and its BUNIT. `noise` is a map of the noise in the image's units; without one it is taken as even, or by
     cells with `rms="local"`. The settings are `detection.Settings`'s: `sigmas`, `fwhm`, `mesh`, `min_area`, `contrast`,
-    `split_sigmas`, `clean`, `gain`,
-    `saturation`, `tile` and `workers`. Tiles run in the executor, if there is one. Raises Mistake where the image has
-    no noise.
+    `split_sigmas`, `clean`, `gain`, `saturation`, `tile` and `workers`. Tiles run in the executor, if there is one.
+    Raises Mistake where the image has no noise.
     """
     if rms not in ("even", "local"):
         raise ValueError(f"rms is even or local, not {rms}")

@@ -28,7 +28,9 @@ class Settings:
     cells of the background, 0 for one level; `min_area` is in pixels. `contrast` is the program's, in thousandths;
     without one a component is split as far as its parts stand `split_sigmas` deviations above where they meet. `clean`
     leaves out the peaks of noise on faint light. `weight_type` says what the weight map has, and `local` takes the
-    noise by cells. `gain` is in electrons for a unit of the image, and from `saturation` on pixels are saturated.
+    noise by cells. `gain` is in electrons for a unit of the image, and from `saturation` on pixels are saturated: both
+    those of the image that is measured in. Where that is another one than sources are looked for in, `own_gain` and
+    `own_saturation` are those of the latter.
     """
 
     sigmas: Optional[float] = None
@@ -42,6 +44,8 @@ class Settings:
     local: bool = False
     gain: Optional[float] = None
     saturation: Optional[float] = None
+    own_gain: Optional[float] = None
+    own_saturation: Optional[float] = None
     tile: int = TILE
     workers: int = 1
 
@@ -95,9 +99,23 @@ class Field:
     @property
     def saturation(self) -> Optional[float]:
         """From which number on pixels of `to_measure` are saturated."""
-        limit, origin = self.settings.saturation, (self.values or self.plane).origin
-        # Where there is an origin the pixels have whole numbers, which 64 bits of floating point don't hold.
-        return math.ceil(limit) - origin if origin and limit is not None else limit
+        return _less_origin(self.settings.saturation, self.values or self.plane)
+
+    @property
+    def own_saturation(self) -> Optional[float]:
+        """From which number on pixels of `image` are saturated."""
+        return self.saturation if self.values is None else _less_origin(self.settings.own_saturation, self.plane)
+
+    @property
+    def own_gain(self) -> Optional[float]:
+        """The electrons for a unit of `image`."""
+        return self.settings.gain if self.values is None else self.settings.own_gain
+
+
+def _less_origin(limit: Optional[float], plane: Plane) -> Optional[float]:
+    """A number of a plane's pixels less its origin."""
+    # Where there is an origin the pixels have whole numbers, which 64 bits of floating point don't hold.
+    return math.ceil(limit) - plane.origin if plane.origin and limit is not None else limit
 
 
 def noise_of(field: Field, found: sky.Sky, rows: slice, columns: slice) -> Union[float, numpy.ndarray]:

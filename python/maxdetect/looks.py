@@ -98,8 +98,8 @@ def _point_sources(field: Field, found: sky.Sky) -> Optional[pointlike.PointSour
     def looked_at() -> Iterator[Tuple[numpy.ndarray, float]]:
         for rows, columns in _windows(field.shape):
             limit = numpy.inf
-            if field.saturation is not None and field.values is None:
-                limit = float((field.saturation - found.zero) / found.noise)
+            if field.own_saturation is not None:
+                limit = float((field.own_saturation - found.zero) / found.noise)
             yield seen(field, found, 0, rows, columns), limit
 
     return pointlike.of(looked_at())
@@ -117,12 +117,12 @@ def _noise_behind(field: Field, found: sky.Sky, smooth: float) -> float:
 
 def _electrons(field: Field, found: sky.Sky) -> Optional[float]:
     """The noise of a pixel in electrons: about the middle of the image where it isn't even."""
-    if not field.settings.gain or field.values is not None:
+    if not field.own_gain:
         return None
     middle = field.shape[0] // 2
     noise = numpy.asarray(noise_of(field, found, slice(middle, middle + 1), slice(0, field.shape[1])))
     noise = noise[numpy.isfinite(noise)]
-    return field.settings.gain * float(numpy.median(noise)) if noise.size else None
+    return field.own_gain * float(numpy.median(noise)) if noise.size else None
 
 
 def _skewed(sigmas: float, electrons: Optional[float], smooth: float) -> float:

@@ -74,7 +74,13 @@ def test_a_star_field(here, stars, capsys):
     assert not [name for name in os.listdir(".") if name.endswith(".part")]
 
 
-@pytest.mark.parametrize("words", [[], ["--smooth"], ["--rms", "local"], ["--mesh", 0], ["--mesh", 30]])
+@pytest.mark.parametrize(
+    "words",
+    [
+        *([], ["--no-smooth"], ["--fwhm", 5], ["--no-clean"], ["--contrast", 5], ["--split-sigmas", 0]),
+        *(["--rms", "local"], ["--mesh", 0], ["--mesh", 30]),
+    ],
+)
 def test_tiles_give_what_the_whole_gives(here, monkeypatch, words):
     whole = catalogue("image.fits", "-o", "whole.fits", "--map", "whole.map.fits", *words)
     monkeypatch.setattr(detection, "TILE", 90)
@@ -160,7 +166,7 @@ def test_hdus_without_a_name_of_their_own(here, stars):
 
 
 def test_the_card_with_the_noise(here, stars):
-    hdus = [fits.ImageHDU(scale * stars[0], name=name) for scale, name in ((1, "A"), (2, "B"))]
+    hdus = [fits.ImageHDU(scale * stars[0], header(GAIN=1 / scale), name=name) for scale, name in ((1, "A"), (2, "B"))]
     fits.HDUList([fits.PrimaryHDU(), *hdus]).writeto("mosaic.fits")
     fits.writeto("noise.fits", numpy.full((256, 256), 30, dtype="f4"))
     one, all_of_them, weighted = (
@@ -168,7 +174,9 @@ def test_the_card_with_the_noise(here, stars):
         for words in (["image.fits"], ["mosaic.fits", "--hdu", "all"], ["image.fits", "--weight", "noise.fits"])
     )
     assert one["SIGMA"] == pytest.approx(30, rel=0.1) and not {"SIGMA"} & {*all_of_them, *weighted}
-    assert one["THRESH"] == all_of_them["THRESH"] == weighted["THRESH"] == 68
+    assert (
+        one["THRESH"] == all_of_them["THRESH"] == weighted["THRESH"] == 134
+    )  # 4.4 deviations, and a little more for 30 electrons
 
 
 def test_a_plane_of_a_cube(here, stars, capsys):
@@ -239,6 +247,14 @@ WRONG = [
     (["image.fits", "--sigmas", "-2"], "--sigmas"),
     (["image.fits", "--sigmas", "nan"], "--sigmas"),
     (["image.fits", "--sigmas", "1e300"], "--sigmas"),
+    (["image.fits", "--fwhm", "60"], "--fwhm: 60 is neither 0 nor a number from 0.5 to 50"),
+    (["image.fits", "--fwhm", "nan"], "--fwhm"),
+    (["image.fits", "--fwhm", "wide"], "--fwhm: invalid number value: 'wide'"),
+    (["image.fits", "--contrast", "1001"], "--contrast: 1001 isn't a whole number from 0 to 1000"),
+    (["image.fits", "--split-sigmas", "-1"], "--split-sigmas: -1 isn't a number from 0 to 1e+06"),
+    (["image.fits", "--split-sigmas", "nan"], "--split-sigmas"),
+    (["image.fits", "--min-area", "0"], "--min-area"),
+    (["image.fits", "--smooth"], "--smooth"),
     (["image.fits", "--mesh", "1"], "--mesh"),
     (["image.fits", "--mesh", "1024"], "--mesh"),
     (["image.fits", "--weight", ""], "--weight has an empty name"),

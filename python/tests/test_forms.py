@@ -106,8 +106,9 @@ def test_values_that_differ_by_one_far_out(tmp_path, monkeypatch, stars, form, k
     assert len(far) > 20
     for found in (far, arrays):
         for name in near.colnames:
-            loose = 1e-5 if near[name].dtype.kind == "f" else 0
-            assert numpy.allclose(found[name], near[name], rtol=loose, atol=loose), name
+            # What the program sees is rounded to whole numbers: of the same light, less another level, at times apart.
+            loose = 1e-5 if near[name].dtype.kind == "f" else 2 if name in ("FLUX", "PEAK", "LEVEL", "BASE") else 0
+            assert numpy.allclose(found[name], near[name], rtol=min(loose, 1e-5), atol=loose), name
 
 
 @pytest.fixture(scope="module")

@@ -203,9 +203,15 @@ def test_the_gain_tells_the_electrons():
     assert counted.electrons == pytest.approx(math.sqrt(3), rel=0.05) and 150 < counted.threshold < 175
     assert way(image, gain=100.0).threshold < 134
     assert way(image, gain=1.0, sigmas=4.0).threshold == 120
-    it, found = field(image, gain=1.0)
-    it.values = ArrayPlane(image)
-    assert looks.way(it, found).threshold == 132
+
+
+def test_another_image_that_is_measured_in_changes_nothing():
+    image = numpy.random.default_rng(6).poisson(3, (256, 256)).astype("f4")
+    for own in ({}, {"own_gain": 1.0, "own_saturation": 90.0}):
+        alone = way(image, gain=own.get("own_gain"), saturation=own.get("own_saturation"))
+        it, found = field(image, gain=7.0, saturation=3.0, **own)
+        it.values = ArrayPlane(2 * image)
+        assert looks.way(it, found) == alone
 
 
 # ---- significance

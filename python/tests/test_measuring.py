@@ -33,7 +33,14 @@ def are_the_same(first, second):
     assert (segments == its_map).all()
 
 
-WAYS = [{}, {"mesh": 0}, {"smooth": True, "gain": 2.0}, {"rms": "local", "mesh": 32}]
+WAYS = [
+    {},
+    {"mesh": 0},
+    {"fwhm": 0, "gain": 2.0},
+    {"fwhm": 5.0, "clean": False},
+    {"contrast": 5},
+    {"rms": "local", "mesh": 32},
+]
 
 
 @pytest.mark.parametrize("settings", [*WAYS, {"noise": numpy.linspace(28, 34, 280) + numpy.zeros((300, 280))}])
@@ -59,4 +66,5 @@ def test_blocks_hold_all_that_is_looked_at(crowd, monkeypatch):
     found, _ = maxdetect.catalogue(crowd, mesh=32)
     assert (whole["FLAGS"] == found["FLAGS"]).all()
     for name in ("FLUX_ISO", "FLUX_KRON", "FLUX_APER", "FLUXERR_KRON", "KRON_RADIUS", "FWHM"):
-        assert whole[name] == pytest.approx(found[name], rel=1e-5, nan_ok=True), name
+        # A circle's edge goes through a place that a pixel is looked at in, or beside it, by the last digit.
+        assert whole[name] == pytest.approx(found[name], rel=1e-4, nan_ok=True), name

@@ -135,9 +135,12 @@ def fields(rng):
     if rng.random() < 0.3:
         image[int(rng.integers(shape[0])) :][: int(rng.integers(1, 40))] = numpy.nan
     settings = dict(
-        mesh=int(rng.choice([0, 8, 16, 32])), smooth=bool(rng.integers(2)), rms=str(rng.choice(["even", "local"]))
+        mesh=int(rng.choice([0, 8, 16, 32])), clean=bool(rng.integers(2)), rms=str(rng.choice(["even", "local"]))
     )
-    settings.update(sigmas=float(rng.uniform(1.2, 4)), min_area=int(rng.integers(1, 7)))
+    settings.update(sigmas=float(rng.uniform(1.2, 6)), min_area=int(rng.integers(1, 7)))
+    # Most fields have too few point sources to tell their width.
+    settings.update(fwhm=(None, 0, 1.3, 3.0, 6.0)[rng.integers(5)], split_sigmas=(0, 2, 5)[rng.integers(3)])
+    settings.update(contrast=(None, None, 0, 5, 100)[rng.integers(5)])
     return image, settings
 
 
