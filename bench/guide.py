@@ -145,7 +145,7 @@ def by_maxdetect(sigmas, **options):
 
 
 def by_maxdetect_smoothed(sigmas, **options):
-    """The same with the image smoothed and scaled as `maxcat --smooth` does it."""
+    """The same with the image smoothed and scaled as `examples/prepare.py --smooth` does it."""
 
     def run(image, mask=None):
         values = image.astype("f8")
@@ -154,6 +154,17 @@ def by_maxdetect_smoothed(sigmas, **options):
         numbers, _, scale = scaling.prepared(values, smooth=True)
         table, _ = maxdetect.detect(numbers, scaling.threshold(sigmas), **{"mesh": 64, **options})
         return centres(table), isophotal(table) / scale, table
+
+    return run
+
+
+def by_maxcat(**settings):
+    """The whole way of `maxcat`, with its defaults but for these settings."""
+
+    def run(image, mask=None):
+        masked = numpy.ma.MaskedArray(image, mask=numpy.ma.nomask if mask is None else mask)
+        table, _ = maxdetect.catalogue(masked, **settings)
+        return numpy.column_stack([table["X"], table["Y"]]) - 1, numpy.asarray(table["FLUX_ISO"]), table
 
     return run
 
@@ -184,6 +195,8 @@ def ways():
         1.5, connect=8, min_area=3, min_flux=10 * SIGMA, mesh=0
     )
     yield "smoothed, `--connect 8 --min-area 5`, 1.375 sigma", by_maxdetect_smoothed(1.375, connect=8, min_area=5)
+    yield "`maxcat`", by_maxcat()
+    yield "`maxcat --no-smooth`", by_maxcat(fwhm=0)
     if sep:
         yield "SEP's defaults: its kernel, 1.5 sigma, 5 pixels", by_sep(1.5)
         yield "SEP without a kernel, 2.25 sigma, 5 pixels", by_sep(2.25, kernel=False)
@@ -298,11 +311,11 @@ def option_rows():
 PAIRS = [(4, 0), (4, 1), (5, 1), (6, 1), (6, 2), (8, 2)]
 
 
-def smoothing_rows():
-    """Thresholds for smoothed images, in sigmas of the noise before smoothing."""
+def threshold_rows():
+    """Thresholds of `maxcat`, in sigmas of the smoothed noise."""
     empty, stars = empty_fields(), [sparse(rng) for rng in seeds(20, 4)]
-    for sigmas in (1.125, 1.25, 1.375, 1.5):
-        run = by_maxdetect_smoothed(sigmas, connect=8, min_area=5)
+    for sigmas in (3.8, 4.0, 4.2, 4.4, 4.6, 5.0):
+        run = by_maxcat(sigmas=sigmas)
         seen = numpy.mean(numpy.concatenate([matches(true, run(image)[0]) >= 0 for image, true, _ in stars]))
         yield [str(sigmas), few(numpy.mean([len(run(image)[0]) for image in empty])), f"{21 + 4 * seen:.2f}"]
 
@@ -402,10 +415,13 @@ def flux_rows():
 
 
 def centre_rows():
-    """Root mean square distances of centres from the truth, in thousandths of a pixel, at one threshold."""
+    """Root mean square distances of centres from the truth, in thousandths of a pixel, at one threshold but for
+    `maxcat`.
+    """
     runs = {
         "maxdetect": by_maxdetect(2.25, connect=8, min_area=5),
         "smoothed": by_maxdetect_smoothed(2.25, connect=8, min_area=5),
+        "maxcat": by_maxcat(),
     }
     if sep:
         runs["SEP"] = by_sep(2.25, kernel=False)
@@ -487,7 +503,7 @@ def main():
         ],
         option_rows(),
     )
-    table("Smoothed images, `--connect 8 --min-area 5`", ["threshold in sigmas", empty, deep], smoothing_rows())
+    table("Thresholds of `maxcat`", ["`--sigmas`", empty, deep], threshold_rows())
     table(
         "Pairs of which both stars are found, by distance in pixels and difference in magnitude",
         ["options", *(f"{apart}, {fainter}" for apart, fainter in PAIRS)],
@@ -510,7 +526,7 @@ def main():
     )
     table(
         "Root mean square distance of centres from the truth at 2.25 sigma, in thousandths of a pixel",
-        ["magnitude", "XCEN, YCEN", "the same, smoothed", *(["SEP's x, y"] if sep else [])],
+        ["magnitude", "XCEN, YCEN", "the same, smoothed", "`maxcat`: X, Y", *(["SEP's x, y"] if sep else [])],
         centre_rows(),
     )
     table(

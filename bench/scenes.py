@@ -7,7 +7,7 @@ It prints tables as docs/GUIDE.md has them: of each scene (bench/fields.py) what
 what of it is false, and what is a piece of something else; how faint half of the stars and galaxies are found; fluxes,
 their errors, and places. Programs run at their defaults; `--depth` also at the thresholds that give one false source
 a field of white noise; `--empty` counts what is found in fields without sources. With `--maxcat` other words are given
-to `maxcat`, as `--maxcat="--smooth"`.
+to `maxcat`, as `--maxcat="--no-smooth"`.
 """
 import argparse
 import shlex
@@ -25,7 +25,7 @@ FAINT = 0.3
 BISECTIONS = 6
 # The word that sets a program's threshold, and between which values it is looked for.
 THRESHOLDS = {
-    "maxcat": ("--threshold={}", 1.0, 8.0),
+    "maxcat": ("--sigmas={}", 3.0, 6.0),
     "source-extractor": ("-DETECT_THRESH {}", 0.7, 4.0),
     "photutils": ("{}", 0.7, 4.0),
 }
