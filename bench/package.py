@@ -2,8 +2,9 @@
 SEP stands beside it.
 
 bench/guide.py prints these tables with its own, and compares them with docs/GUIDE.md. Fluxes are compared with a
-star's whole light. For the pulls they are compared with what the same pixels hold in the field without noise, so that
-only the errors are asked about, and not what an aperture leaves out; the electrons are counted, so the gain is 1.
+star's whole light. For the pulls all but the total ones are compared with what the same pixels hold in the field
+without noise, so that only the errors are asked about, and not what an aperture leaves out; the electrons are counted,
+so the gain is 1.
 """
 import math
 
@@ -21,6 +22,8 @@ except ImportError:
 # SEP's own recipe for a Kron flux: 2.5 Kron radii, and at least 3.5 standard deviations of the source.
 SEP_KRON, SEP_LEAST = 2.5, 3.5
 NOISY = 3 * guide.SIGMA
+# The package's fluxes.
+OWN = ("ISO", "AUTO", "TOTAL", "APER")
 FLUX_FIELDS, UNEVEN_FIELDS = 24, 4
 
 
@@ -64,7 +67,7 @@ def star_fields(count, first=200):
 
 
 def same_pixels(light, table, segments):
-    """What a field without noise has on the pixels of the three fluxes."""
+    """What a field without noise has on the pixels of the three sums."""
     numbers = numpy.asarray(table["NUMBER"], dtype="i4")
     isophotal = numpy.bincount(segments.ravel(), light.ravel(), len(table) + 1)[numbers]
     alone = {"segmap": segments.astype("i4"), "seg_id": numbers}
@@ -73,7 +76,7 @@ def same_pixels(light, table, segments):
     shape = (half, numpy.asarray(table["B"]) / 2, numpy.radians(numpy.asarray(table["THETA"])))
     kron, _, _ = sep.sum_ellipse(light, x, y, *shape, numpy.asarray(table["KRON_RADIUS"]) / half, subpix=1, **alone)
     circle, _, _ = sep.sum_circle(light, x, y, photometry.APERTURE, **alone)
-    return {"ISO": isophotal, "KRON": kron, "APER": circle}
+    return {"ISO": isophotal, "AUTO": kron, "APER": circle}
 
 
 class Collected:
@@ -100,10 +103,10 @@ def flux_and_pull_rows():
         own = guide.matches(stars, located(table))
         seen, rows = magnitudes[own >= 0], own[own >= 0]
         true = same_pixels(light, table, segments)
-        for name in ("ISO", "KRON", "APER"):
-            flux, error = (numpy.asarray(table[f"{part}_{name}"]) for part in ("FLUX", "FLUXERR"))
-            shares.add(seen, name, flux[rows] / guide.electrons(seen))
-            pulls.add(seen, name, ((flux - true[name]) / error)[rows])
+        for name in OWN:
+            flux, error = (numpy.asarray(table[f"{part}_{name}"])[rows] for part in ("FLUX", "FLUXERR"))
+            shares.add(seen, name, flux / guide.electrons(seen))
+            pulls.add(seen, name, (flux - (true[name][rows] if name in true else guide.electrons(seen))) / error)
         found, segments, residual = by_sep(image)
         own = guide.matches(stars, numpy.column_stack([found["x"], found["y"]]))
         seen, rows = magnitudes[own >= 0], own[own >= 0]
@@ -113,8 +116,8 @@ def flux_and_pull_rows():
         within, _, _ = sep.sum_ellipse(light, *ellipse, reach, subpix=1, **alone)
         pulls.add(seen, "SEP KRON", ((flux - within) / error)[rows])
     return (
-        list(shares.rows(["ISO", "KRON", "APER", "SEP ISO", "SEP KRON"], lambda values: f"{numpy.median(values):.3f}")),
-        list(pulls.rows(["ISO", "KRON", "APER", "SEP KRON"], lambda values: f"{numpy.std(values):.2f}")),
+        list(shares.rows([*OWN, "SEP ISO", "SEP KRON"], lambda values: f"{numpy.median(values):.3f}")),
+        list(pulls.rows([*OWN, "SEP KRON"], lambda values: f"{numpy.std(values):.2f}")),
     )
 
 
@@ -231,7 +234,7 @@ def tables(table):
     )
     if sep:
         shares, pulls = flux_and_pull_rows()
-        heads = ["magnitude", "FLUX_ISO", "FLUX_KRON", "FLUX_APER"]
+        heads = ["magnitude", *(f"FLUX_{name}" for name in OWN)]
         table("Median parts of a star's light", [*heads, "SEP: isophotal", "SEP: Kron"], shares)
         table("Standard deviations of pulls", [*heads, "SEP: Kron"], pulls)
     deep, false = "stars: half found at", "false"

@@ -72,8 +72,7 @@ def maxcat(image: numpy.ndarray, *words: str) -> Found:
         words = [sys.executable, "-m", "maxdetect.cli", "image.fits", "-o", "found.fits", "--gain", "1", *words]
         seconds = _run(words, folder, env=environment)
         table = Table.read(folder / "found.fits")
-        total = "TOTAL" if "FLUX_TOTAL" in table.colnames else "KRON"
-        return _columns(table, ("X", "Y", f"FLUX_{total}", f"FLUXERR_{total}", "AREA"), seconds)
+        return _columns(table, ("X", "Y", "FLUX_TOTAL", "FLUXERR_TOTAL", "AREA"), seconds)
 
 
 def source_extractor(image: numpy.ndarray, *words: str) -> Found:

@@ -78,7 +78,8 @@ def sources(
     Tiles and photometry run in the executor. `segments`, an array of the image's shape full of zeros, gets the map.
     `progress` is called with 1 for each tile, after a first call with 0, and with 0 now and then. The table's meta has
     the program's threshold (THRESH), the width by which the image was smoothed (SMOOTH) and that of its point sources
-    (FWHM, where it has enough of them), and the noise (SIGMA) where there is no weight map.
+    (FWHM, where it has enough of them), whether FLUX_TOTAL is told by point sources (GROWTH), and the noise (SIGMA)
+    where there is no weight map.
     """
     found = sky_of(field)
     detector = Detector(field, found, looks.way(field, found), program)
@@ -92,7 +93,7 @@ def sources(
     table = hstack([table, measuring.measured(detector, beside, table, segments, executor, progress)])
     table["FLAGS"] |= numpy.where(cut, photometry.CUT, 0).astype(table["FLAGS"].dtype)
     tiles.hide(segments)
-    table.meta.update(detector.how.meta)
+    table.meta.update(detector.how.meta, GROWTH=measuring.points_of(detector) is not None)
     # With a weight map the sky's noise is a factor, and no noise of the image.
     if field.weights is None:
         table.meta["SIGMA"] = detector.sky.noise

@@ -11,7 +11,7 @@ from typing import TYPE_CHECKING, Callable, Iterator, List, Optional, Tuple
 import numpy
 from astropy.table import Table
 
-from . import beside, photometry, sky, tiles
+from . import beside, photometry, pointlike, sky, tiles
 from .errors import Mistake
 from .tiles import Box
 
@@ -57,11 +57,16 @@ def sky_beside(detector: "Detector", segments: numpy.ndarray, executor: Executor
     return beside.joined(tiles.each(executor, _Row(detector, found), rows), found)
 
 
+def points_of(detector: "Detector") -> Optional[pointlike.PointSources]:
+    """The point sources of what a field is measured in, or None where they aren't known."""
+    return detector.how.points if detector.field.values is None else None
+
+
 class _Window:
     """Measures sources in a window of a field, given with their rows and the map there."""
 
     def __init__(self, detector: "Detector", found: Optional[sky.Sky]):
-        self.detector, self.found = detector, found
+        self.detector, self.found, self.points = detector, found, points_of(detector)
 
     def _sky(self, box: Box) -> Tuple[photometry.Numbers, photometry.Numbers]:
         """The level and the noise there, in the units of what is measured."""
@@ -82,6 +87,7 @@ class _Window:
             tiles.moved(rows.copy(), -box.left, -box.top),
             gain=settings.gain,
             saturation=field.saturation,
+            points=self.points,
             threshold=self.detector.how.threshold,
         )
         return tiles.moved(found, box.left, box.top)
@@ -128,12 +134,12 @@ def measured(
     shape, work = detector.field.shape, _Window(detector, found)
     if not len(table):
         return work((Box(0, 1, 0, 1), table, numpy.zeros((1, 1), dtype="i4")))
-    reach, answers, where = photometry.reach(table), [], []
+    reach, answers, where = photometry.reach(table, work.points), [], []
     waiting = _blocks(table, shape)
     while True:
         windows = []
         ahead, behind = itertools.tee(waiting)
-        items = ((box, table[places], tiles.without_gaps(segments[box.rows, box.columns])) for box, places in ahead)
+        items = ((box, table[places], segments[box.rows, box.columns]) for box, places in ahead)
         for (box, places), answer in zip(behind, tiles.each(executor, work, items)):
             progress(0)
             boxes = _needed(table[places], numpy.maximum(reach[places], answer["KRON_RADIUS"] + 2), shape)

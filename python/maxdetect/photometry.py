@@ -6,9 +6,10 @@ It works in floating point, with SEP (the library form of Source Extractor) and 
 Places count pixels from 1, as FITS does. The ellipse of a source comes from the second moments of its pixels without
 weights: A and B are the half axes of a full ellipse with these moments, so they tell how far the isophote reaches.
 
-The Kron flux is the sum in an ellipse of the source's shape, `kron` times its Kron radius large, where the Kron
-radius is the mean distance of the light within three times the isophote. Pixels of other sources count as sky there,
-and so they do in the circular aperture.
+FLUX_AUTO is the sum in an ellipse of the source's shape as Source Extractor takes it: 2.5 Kron radii large, where the
+Kron radius is the mean distance of the light, and at least 3.5 standard deviations of the light of the source's
+pixels. FLUX_TOTAL has besides what point sources of the same image have further out (`totals`). Pixels of other
+sources count as sky in each aperture.
 """
 from typing import Callable, Dict, NamedTuple, Optional, Tuple, Union
 
@@ -16,14 +17,14 @@ import numpy
 import sep
 from astropy.table import Table
 
-from . import beside
+from . import beside, totals
 from .beside import unit_of
 from .noise import of_array
+from .pointlike import PointSources
 from .sky import grown
 
 __all__ = [
     "APERTURE",
-    "KRON",
     "EDGE",
     "UNDEFINED",
     "SATURATED",
@@ -55,11 +56,11 @@ FLAGS = {
     BEYOND: "its Kron ellipse reaches beyond the image",
 }
 
-# The Kron radius is sought within this many standard deviations of the source's pixels, as Source Extractor seeks it.
-KRON_REACH = 6.0
-# The radius of the circular aperture in pixels, and how many Kron radii the Kron ellipse reaches.
+# The Kron radius is sought within this many standard deviations of a source's light; how many Kron radii its ellipse
+# reaches, and how many standard deviations at least. Source Extractor takes the same.
+KRON_REACH, KRON, LEAST_KRON = 6.0, 2.5, 3.5
+# The radius of the circular aperture in pixels.
 APERTURE = 5.0
-KRON = 4.0
 
 Numbers = Union[float, numpy.ndarray]
 
@@ -141,9 +142,10 @@ def ellipses(catalogue: Table) -> Tuple[numpy.ndarray, numpy.ndarray, numpy.ndar
     return long, numpy.minimum(short, long), numpy.degrees(numpy.arctan2(2 * xy, xx - yy) / 2)
 
 
-def reach(catalogue: Table) -> numpy.ndarray:
+def reach(catalogue: Table, points: Optional[PointSources] = None) -> numpy.ndarray:
     """How far from their centres sources are looked at, in pixels, before their Kron radii are known."""
-    return numpy.maximum(KRON_REACH * ellipses(catalogue)[0] / 2, APERTURE) + 2
+    circle = max(APERTURE, totals.reach(points))
+    return numpy.maximum(KRON_REACH * ellipses(catalogue)[0] / 2, circle) + 2
 
 
 def _noise(noise: Numbers, shape: Tuple[int, int]) -> Numbers:
@@ -199,8 +201,35 @@ def _flags(pixels, image, undefined, catalogue, numbers, saturation, threshold) 
     return flags
 
 
+def _gathered(pixels: _Pixels, residual: numpy.ndarray, catalogue: Table) -> numpy.ndarray:
+    """By how much closer to the centre of its ellipse the light of a source lies than its pixels do: by root mean
+    squares, in the catalogue's order, and 1 where it doesn't.
+    """
+    numbers = numpy.asarray(catalogue["NUMBER"])
+    long, short, angle = ellipses(catalogue)
+    turned = numpy.radians(angle)
+
+    def here(values):
+        """The sources' values at their pixels."""
+        listed = numpy.ones(pixels.length)
+        listed[numbers] = values
+        return listed[pixels.numbers]
+
+    rows, columns = numpy.divmod(pixels.places, residual.shape[1])
+    right = columns - here(numpy.asarray(catalogue["XCEN"]) / 1000 - 1)
+    down = rows - here(numpy.asarray(catalogue["YCEN"]) / 1000 - 1)
+    along = (right * here(numpy.cos(turned)) + down * here(numpy.sin(turned))) / here(long)
+    across = (down * here(numpy.cos(turned)) - right * here(numpy.sin(turned))) / here(short)
+    light = numpy.maximum(residual.ravel()[pixels.places], 0).astype("f8")
+    with numpy.errstate(invalid="ignore"):
+        mean = (pixels.summed(light * (along**2 + across**2)) / pixels.summed(light))[numbers]
+    # A pixel is a square of side 1, whose own variance is a twelfth. Of a full ellipse this is a half.
+    mean += (1 / long**2 + 1 / short**2) / 12
+    return numpy.sqrt(numpy.where(numpy.isfinite(mean), numpy.minimum(2 * mean, 1), 1))
+
+
 def _half_light(residual, x, y, reach, flux, alone) -> numpy.ndarray:
-    """The radii that hold half of the Kron fluxes, sought close to the centres first, since that is quicker."""
+    """The radii that hold half of these fluxes, sought close to the centres first, since that is quicker."""
     half, _ = sep.flux_radius(residual, x, y, 0.4 * reach, 0.5, normflux=flux, subpix=3, **alone)
     further = numpy.flatnonzero(half >= 0.39 * reach)
     if further.size:
@@ -269,7 +298,7 @@ def measured(
     gain: Optional[float] = None,
     saturation: Optional[float] = None,
     aperture: float = APERTURE,
-    kron: float = KRON,
+    points: Optional[PointSources] = None,
     threshold: Optional[int] = None,
 ) -> Table:
     """The photometry of the sources of a segmentation map, a row for each row of `catalogue`.
@@ -278,16 +307,17 @@ def measured(
     isn't finite. `background` and `noise`, the standard deviation of a pixel, are in the same units, each one number
     or an array of the image's shape; `sky` estimates both. `segments` and `catalogue` are what the kernel answers for
     this image, of whatever scale: of the catalogue's values NUMBER, centres, boxes and moments are used, and LEVEL
-    and BASE for a flag. With `gain`, in electrons for a unit of the image, the errors have the sources' own noise
-    too. Pixels from `saturation` on are saturated. `aperture` is the radius of the circle in pixels. `kron` says how
-    many Kron radii the ellipse reaches, and how many standard deviations of the source's pixels at least. `threshold`
-    is the one that the kernel was given; by default it is taken for the least LEVEL.
+    and BASE for a flag. Where a source's number is below 0 in the map, the pixel is none of the source's own, but is
+    shared out to it, and counts as another source's for the others. With `gain`, in electrons for a unit of the
+    image, the errors have the sources' own noise too. Pixels from `saturation` on are saturated. `aperture` is the
+    radius of the circle in pixels. `points` are the image's point sources: without them FLUX_TOTAL is FLUX_AUTO.
+    `threshold` is the one that the kernel was given; by default it is taken for the least LEVEL.
 
-    Columns: X, Y, FLUX_ISO, FLUXERR_ISO, FLUX_KRON, FLUXERR_KRON, KRON_RADIUS (half the long axis of the ellipse, in
-    pixels), FLUX_APER, FLUXERR_APER, A, B, THETA, FWHM (the diameter that holds half of the Kron flux: that of a
-    Gaussian is its full width at half its height; NaN where there is none) and FLAGS, a sum of the bits in `FLAGS`.
-    Errors are standard deviations; they know nothing of the background's error. Fluxes are NaN where no pixel has a
-    value.
+    Columns: X, Y, FLUX_ISO, FLUXERR_ISO, FLUX_AUTO, FLUXERR_AUTO, FLUX_TOTAL, FLUXERR_TOTAL, KRON_RADIUS (half the
+    long axis of the ellipse of FLUX_AUTO, in pixels), FLUX_APER, FLUXERR_APER, A, B, THETA, FWHM (the diameter that
+    holds half of FLUX_AUTO: that of a Gaussian is its full width at half its height; NaN where there is none) and
+    FLAGS, a sum of the bits in `FLAGS`. Errors are standard deviations; they know nothing of the background's error.
+    Fluxes are NaN where no pixel has a value.
     """
     shape = numpy.shape(image)
     if numpy.shape(segments) != shape:
@@ -299,16 +329,19 @@ def measured(
             undefined, noise = undefined | unknown, numpy.where(unknown, 0, noise)
     residual = residual_of(image, background, undefined)
     segments = numpy.ascontiguousarray(segments, dtype="i4")
-    places = numpy.flatnonzero(segments.ravel() != 0)
+    places = numpy.flatnonzero(segments.ravel() > 0)
     numbers = numpy.asarray(catalogue["NUMBER"], dtype="i4")
     within = segments.ravel()[places]
     pixels = _Pixels(places, within, int(max(within.max(initial=0), numbers.max(initial=0))) + 1)
     unit = unit_of(noise)
     residual *= numpy.float32(1 / unit)
     noise, gain = noise / (unit if numpy.ndim(noise) == 0 else numpy.float32(unit)), gain and gain * unit
-    flux, error = _isophotal(pixels.among(~undefined), residual, noise, gain)
+    defined = pixels.among(~undefined)
+    flux, error = _isophotal(defined, residual, noise, gain)
     flags = _flags(pixels, image, undefined, catalogue, numbers, saturation, threshold)
-    apertures = _apertures(residual, noise, undefined, segments, catalogue, gain, aperture, kron)
+    gathered = _gathered(defined, residual, catalogue)
+    how = (residual, noise, gain, undefined)
+    apertures = _apertures(how, numpy.abs(segments), catalogue, gathered, aperture, points)
     table = Table({"X": numpy.asarray(catalogue["XCEN"]) / 1000, "Y": numpy.asarray(catalogue["YCEN"]) / 1000})
     table["FLUX_ISO"], table["FLUXERR_ISO"] = flux[numbers] * unit, error[numbers] * unit
     more = apertures.pop("FLAGS")
@@ -318,28 +351,36 @@ def measured(
     return table
 
 
-def _apertures(residual, noise, undefined, segments, catalogue, gain, aperture, kron) -> Dict[str, numpy.ndarray]:
+def _apertures(how, segments, catalogue, gathered, aperture, points) -> Dict[str, numpy.ndarray]:
     """The columns that SEP measures, and the flags that it tells."""
-    numbers = numpy.asarray(catalogue["NUMBER"], dtype="i4")
+    numbers, residual = numpy.asarray(catalogue["NUMBER"], dtype="i4"), how[0]
     x, y = (numpy.asarray(catalogue[name], dtype="f8") / 1000 - 1 for name in ("XCEN", "YCEN"))
     long, short, angle = ellipses(catalogue)
     # SEP takes standard deviations along the axes, which are half of the half axes, and radians.
-    shape = (x, y, long / 2, short / 2, numpy.clip(numpy.radians(angle), -numpy.pi / 2, numpy.pi / 2))
+    axes = (long / 2 * gathered, short / 2 * gathered)
+    shape = (x, y, *axes, numpy.clip(numpy.radians(angle), -numpy.pi / 2, numpy.pi / 2))
     alone = {"segmap": segments, "seg_id": numbers}
     radius, _ = sep.kron_radius(residual, *shape, KRON_REACH, **alone)
     # Noise may leave no light to average over, or a mean that lies outside of where it was sought.
     radius = numpy.where(numpy.isfinite(radius) & (radius > 0), numpy.minimum(radius, KRON_REACH), 0)
-    radius = numpy.maximum(kron * radius, kron)
-    how = (residual, noise, gain, undefined, alone)
-    flux, error, told, holed = _Apertures(sep.sum_ellipse, (*shape, radius), radius * long / 2, 1).fluxes(*how)
-    circle = (x, y, numpy.full(len(x), float(aperture)))
-    in_circle, circle_error, _, _ = _Apertures(sep.sum_circle, circle, circle[2], 5).fluxes(*how)
-    half = _half_light(residual, x, y, radius * long / 2, numpy.nan_to_num(flux), alone)
+    radius = numpy.maximum(KRON * radius, LEAST_KRON)
+    flux, error, told, holed = _Apertures(sep.sum_ellipse, (*shape, radius), radius * axes[0], 1).fluxes(*how, alone)
+
+    def circle(size: float) -> Tuple[numpy.ndarray, numpy.ndarray]:
+        """The fluxes in circles of this radius, and their errors."""
+        sizes = numpy.full(len(x), float(size))
+        return _Apertures(sep.sum_circle, (x, y, sizes), sizes, 5).fluxes(*how, alone)[:2]
+
+    in_circle, circle_error = circle(aperture)
+    total, total_error = totals.of(points, circle, flux, error, radius * numpy.sqrt(axes[0] * axes[1]))
+    half = _half_light(residual, x, y, radius * axes[0], numpy.nan_to_num(flux), alone)
     flags = CROWDED * (((told & sep.APER_HASMASKED) != 0) | holed) | BEYOND * ((told & sep.APER_TRUNC) != 0)
     return {
-        "FLUX_KRON": flux,
-        "FLUXERR_KRON": error,
-        "KRON_RADIUS": radius * long / 2,
+        "FLUX_AUTO": flux,
+        "FLUXERR_AUTO": error,
+        "FLUX_TOTAL": total,
+        "FLUXERR_TOTAL": total_error,
+        "KRON_RADIUS": radius * axes[0],
         "FLUX_APER": in_circle,
         "FLUXERR_APER": circle_error,
         "A": long,

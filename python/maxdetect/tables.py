@@ -51,8 +51,13 @@ FORMATS = {
     ".vot": "votable",
     ".votable": "votable",
 }
-# The fluxes that `measured` gives, and what each is the sum over.
-SUMS = {"ISO": "the source's pixels", "KRON": "the Kron ellipse", "APER": "a circle"}
+# The fluxes that `measured` gives, and what each is.
+FLUXES = {
+    "ISO": "sum over the source's pixels",
+    "AUTO": "sum over the Kron ellipse",
+    "TOTAL": "total flux",
+    "APER": "sum over a circle",
+}
 
 
 def _as_seen(column: Column) -> str:
@@ -68,15 +73,17 @@ COLUMNS = {
     "Y": ("pix", "row of the centre in pixels, from 1"),
     "FLUX_ISO": ("FLUX", "sum above the background over the source's pixels"),
     "FLUXERR_ISO": ("FLUX", "its standard deviation"),
-    "FLUX_KRON": ("FLUX", "sum above the background over the Kron ellipse"),
-    "FLUXERR_KRON": ("FLUX", "its standard deviation"),
+    "FLUX_AUTO": ("FLUX", "sum above the background over the Kron ellipse, as Source Extractor takes it"),
+    "FLUXERR_AUTO": ("FLUX", "its standard deviation"),
+    "FLUX_TOTAL": ("FLUX", "total flux: of a circle or the Kron ellipse, and what point sources have beyond it"),
+    "FLUXERR_TOTAL": ("FLUX", "its standard deviation"),
     "KRON_RADIUS": ("pix", "half the long axis of the Kron ellipse"),
     "FLUX_APER": ("FLUX", "sum above the background over a circle around the centre"),
     "FLUXERR_APER": ("FLUX", "its standard deviation"),
     "A": ("pix", "half the long axis of the ellipse with the moments of the source's pixels"),
     "B": ("pix", "half its short axis"),
     "THETA": ("deg", "angle of its long axis from the x axis towards the y axis"),
-    "FWHM": ("pix", "diameter that holds half of the Kron flux"),
+    "FWHM": ("pix", "diameter that holds half of FLUX_AUTO"),
     "FLAGS": (None, "sum of: " + ", ".join(f"{bit} {text}" for bit, text in FLAGS.items())),
     "RA": ("deg", "right ascension of the centre in the ICRS"),
     "DEC": ("deg", "declination of the centre in the ICRS"),
@@ -201,14 +208,14 @@ def _add_sky(table: Table, wcs: WCS) -> None:
 
 def _add_magnitudes(table: Table, zeropoint: float) -> None:
     """Magnitudes and their errors; NaN where a flux isn't positive."""
-    for name, pixels in SUMS.items():
+    for name, text in FLUXES.items():
         if f"FLUX_{name}" not in table.colnames:
             continue
         flux, error = (numpy.asarray(table[f"{part}_{name}"], dtype="f8") for part in ("FLUX", "FLUXERR"))
         positive = numpy.where(flux > 0, flux, numpy.nan)
         table[f"MAG_{name}"] = zeropoint - 2.5 * numpy.log10(positive)
         table[f"MAGERR_{name}"] = 2.5 / numpy.log(10) * error / positive
-        table[f"MAG_{name}"].description = f"magnitude of the sum over {pixels}, {zeropoint:g} for a flux of 1"
+        table[f"MAG_{name}"].description = f"magnitude of the {text}, {zeropoint:g} for a flux of 1"
         table[f"MAGERR_{name}"].description = "its standard deviation"
         table[f"MAG_{name}"].unit = table[f"MAGERR_{name}"].unit = units.mag
 

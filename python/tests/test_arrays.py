@@ -28,8 +28,8 @@ def test_catalogue_of_an_array():
     assert len(table) == len(places) and segments.max() == len(places)
     found = sorted((round(y) - 1, round(x) - 1) for x, y in table["X", "Y"])
     assert found == sorted((y, x) for x, y in places)
-    assert numpy.median(table["FLUX_KRON"]) == pytest.approx(5000, rel=0.02)
-    assert {"RA", "DEC", "MAG_KRON"} <= set(table.colnames) and str(table["FLUX_KRON"].unit) == "adu"
+    assert numpy.median(table["FLUX_AUTO"]) == pytest.approx(5000, rel=0.02)
+    assert {"RA", "DEC", "MAG_AUTO"} <= set(table.colnames) and str(table["FLUX_AUTO"].unit) == "adu"
 
 
 def test_masks_and_nan_are_alike():
@@ -52,7 +52,7 @@ def test_the_order_in_memory_changes_nothing(form, mesh):
         assert (first == second).all() and all((one[name] == two[name]).all() for name in one.colnames)
     background, noise = photometry.sky(turned, first.copy(order="F"), mesh)
     found = photometry.measured(turned, background, noise, first.copy(order="F"), one, mask=turned.mask)
-    assert numpy.allclose(found["FLUX_KRON"], one["FLUX_KRON"], rtol=1e-2)
+    assert numpy.allclose(found["FLUX_AUTO"], one["FLUX_AUTO"], rtol=1e-2)
 
 
 def test_noise_maps():
@@ -98,5 +98,5 @@ def test_images_in_very_small_and_very_large_units(stars, unit):
     base, its_map = catalogue(stars[0])
     found, segments = catalogue((stars[0].astype("f8") * unit).astype("f4"))
     assert (segments == its_map).all() and len(found) == 25
-    for name in ("FLUX_ISO", "FLUXERR_ISO", "FLUX_KRON", "FLUXERR_KRON", "FLUX_APER", "FLUXERR_APER"):
+    for name in ("FLUX_ISO", "FLUXERR_ISO", "FLUX_AUTO", "FLUXERR_AUTO", "FLUX_APER", "FLUXERR_APER"):
         assert numpy.allclose(found[name] / unit, base[name], rtol=1e-3), name

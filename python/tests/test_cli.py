@@ -62,9 +62,9 @@ def test_a_star_field(here, stars, capsys):
     _, places, fluxes = stars
     own, apart = nearest(table, places)
     assert 25 <= len(table) <= 27 and apart.max() < 0.3
-    assert numpy.asarray(own["FLUX_KRON"]) / fluxes == pytest.approx(1, abs=0.15)
-    assert numpy.median(own["FLUX_KRON"] / fluxes) == pytest.approx(1, abs=0.02)
-    assert numpy.asarray(own["MAG_KRON"]) == pytest.approx(30 - 2.5 * numpy.log10(own["FLUX_KRON"]))
+    assert numpy.asarray(own["FLUX_AUTO"]) / fluxes == pytest.approx(1, abs=0.15)
+    assert numpy.median(own["FLUX_AUTO"] / fluxes) == pytest.approx(1, abs=0.02)
+    assert numpy.asarray(own["MAG_AUTO"]) == pytest.approx(30 - 2.5 * numpy.log10(own["FLUX_AUTO"]))
     right, declination = WCS(header()).all_pix2world(own["X"], own["Y"], 1)
     assert numpy.asarray(own["RA"]) == pytest.approx(right) and numpy.asarray(own["DEC"]) == pytest.approx(declination)
     segments = fits.getdata("map.fits")
@@ -116,7 +116,7 @@ def test_undefined_pixels_and_a_mask(here, stars):
     one = catalogue("nan.fits", "-o", "one.fits", "--gain", 1)
     assert nearest(one, places[12:13])[1] > 5 and nearest(one, numpy.delete(places, 12, 0))[1].max() < 0.3
     other = catalogue("image.fits", "-o", "other.fits", "--mask", "mask.fits")
-    assert len(one) == len(other) and numpy.allclose(one["FLUX_KRON"], other["FLUX_KRON"], rtol=1e-4)
+    assert len(one) == len(other) and numpy.allclose(one["FLUX_AUTO"], other["FLUX_AUTO"], rtol=1e-4)
 
 
 def test_several_ccds_at_once(here, stars):

@@ -65,6 +65,6 @@ def test_blocks_hold_all_that_is_looked_at(crowd, monkeypatch):
     monkeypatch.setattr(measuring, "REACH", 10)
     found, _ = maxdetect.catalogue(crowd, mesh=32)
     assert (whole["FLAGS"] == found["FLAGS"]).all()
-    for name in ("FLUX_ISO", "FLUX_KRON", "FLUX_APER", "FLUXERR_KRON", "KRON_RADIUS", "FWHM"):
-        # A circle's edge goes through a place that a pixel is looked at in, or beside it, by the last digit.
-        assert whole[name] == pytest.approx(found[name], rel=1e-4, nan_ok=True), name
+    # Which parts of a pixel a circle holds, by its centre, may hang on a place's last digit.
+    for name in ("FLUX_ISO", "FLUX_AUTO", "FLUX_TOTAL", "FLUX_APER", "FLUXERR_AUTO", "KRON_RADIUS", "FWHM"):
+        assert whole[name] == pytest.approx(found[name], rel=2e-4, nan_ok=True), name

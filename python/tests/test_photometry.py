@@ -6,9 +6,10 @@ from scipy import ndimage
 
 sep = pytest.importorskip("sep", reason="photometry wants SEP (Debian: python3-sep)")
 
-from maxdetect import photometry  # noqa: E402
+from maxdetect import photometry, pointlike, totals  # noqa: E402
 
 SKY, SIGMA, SIDE = 100.0, 2.0, 200
+FLUXES = [f"{name}_{of}" for of in ("ISO", "AUTO", "TOTAL", "APER") for name in ("FLUX", "FLUXERR")]
 
 
 def gaussian(x, y, flux, wide=1.8, narrow=1.8, angle=0.0, shape=(SIDE, SIDE)):
@@ -41,6 +42,13 @@ def found(image, threshold):
     return segments.astype("i4"), Table(numpy.array(rows, dtype="i8").reshape(count, len(names)), names=names)
 
 
+def points(wide):
+    """Point sources that are Gaussians with this standard deviation."""
+    radii = pointlike.RADII[pointlike.RADII <= 6 * wide]
+    shares = 1 - numpy.exp(-((radii / wide) ** 2) / 2)
+    return pointlike.PointSources(2.3548 * wide, radii, shares / shares[-1], 50)
+
+
 def one_star(**options):
     image = SKY + gaussian(80.25, 120.5, 10000.0)
     segments, catalogue = found(image, 105)
@@ -53,7 +61,8 @@ def test_fluxes_of_a_star_without_noise():
     assert len(table) == 1
     assert (star["X"], star["Y"]) == pytest.approx((81.25, 121.5), abs=0.01)
     assert star["FLUX_ISO"] == pytest.approx((image - SKY)[segments == 1].sum(), rel=1e-6)
-    assert star["FLUX_KRON"] == pytest.approx(10000, rel=2e-3)
+    assert star["FLUX_AUTO"] == pytest.approx(10000, rel=1e-2)
+    assert star["FLUX_TOTAL"] == star["FLUX_AUTO"] and star["FLUXERR_TOTAL"] == star["FLUXERR_AUTO"]
     assert star["FLUX_APER"] == pytest.approx(10000 * (1 - numpy.exp(-25 / 2 / 1.8**2)), rel=5e-3)
     assert star["FWHM"] == pytest.approx(2.3548 * 1.8, rel=0.02)
     assert star["FLAGS"] == 0
@@ -67,7 +76,98 @@ def test_errors_are_those_of_the_pixels_and_the_electrons():
     counted, _, _ = one_star(gain=2.0)
     variance = pixels * SIGMA**2 + table["FLUX_ISO"][0] / 2
     assert counted["FLUXERR_ISO"][0] == pytest.approx(numpy.sqrt(variance), rel=1e-6)
-    assert counted["FLUXERR_KRON"][0] > table["FLUXERR_KRON"][0]
+    assert counted["FLUXERR_AUTO"][0] > table["FLUXERR_AUTO"][0]
+
+
+@pytest.mark.parametrize("part, expected", [(0.003, 3.5), (0.5, 2.5 * numpy.sqrt(numpy.pi / 2))])
+@pytest.mark.parametrize("wide, narrow, angle", [(1.8, 1.8, 0), (6.0, 3.0, 30)])
+def test_the_ellipse_is_the_one_that_source_extractor_takes(part, expected, wide, narrow, angle):
+    """Its half axes, over the standard deviations of a Gaussian whose pixels above a part of its height are a source's:
+    3.5, but where these show little of its light 2.5 times the mean distance of all.
+    """
+    image = gaussian(100.25, 100.5, 1e6, wide, narrow, angle)
+    table = photometry.measured(image, 0, SIGMA, *found(image, part * image.max()))
+    assert table["KRON_RADIUS"][0] == pytest.approx(expected * wide, rel=0.04)
+    assert table["FLUX_AUTO"][0] == pytest.approx(1e6 * (1 - numpy.exp(-(expected**2) / 2)), rel=0.004)
+
+
+def test_an_ellipse_without_light_has_three_and_a_half_deviations_of_the_pixels():
+    image = gaussian(100, 100, 1000.0)
+    segments, catalogue = found(image, 40)
+    assert (segments == 1).sum() == 5
+    table = photometry.measured(image - 30, 0, SIGMA, segments, catalogue)
+    light = image[100, 100] - 30, image[100, 101] - 30
+    variance = 2 * light[1] / (light[0] + 4 * light[1]) + 1 / 12
+    assert table["KRON_RADIUS"][0] == pytest.approx(3.5 * numpy.sqrt(variance), rel=1e-3)
+
+
+def test_a_source_of_one_pixel_has_an_ellipse():
+    image = gaussian(100, 100, 1000.0)
+    segments, catalogue = found(image, 48)
+    table = photometry.measured(image, 0, SIGMA, segments, catalogue, points=points(1.8))
+    assert (segments == 1).sum() == 1
+    assert table["KRON_RADIUS"][0] >= 3.5 * 12**-0.5 and table["FLUX_TOTAL"][0] == pytest.approx(1000, rel=0.01)
+
+
+@pytest.mark.parametrize("peak", [60, 4000])
+def test_the_total_flux_of_a_point_source_is_whole(peak):
+    image = gaussian(100.25, 100.5, peak * 2 * numpy.pi * 1.8**2)
+    table = photometry.measured(image, 0, SIGMA, *found(image, 10), points=points(1.8))
+    assert table["FLUX_TOTAL"][0] == pytest.approx(image.sum(), rel=5e-3)
+    assert table["FLUXERR_TOTAL"][0] < table["FLUXERR_AUTO"][0]
+
+
+def test_the_total_flux_of_a_wide_source_is_the_ellipse_s():
+    image = gaussian(100.25, 100.5, 1e5, 6.0, 3.0, 30)
+    table = photometry.measured(image, 0, SIGMA, *found(image, 10), points=points(1.8))
+    assert table["FLUX_TOTAL"][0] == table["FLUX_AUTO"][0] and table["FLUXERR_TOTAL"][0] == table["FLUXERR_AUTO"][0]
+
+
+def test_the_total_flux_has_no_step_between_point_sources_and_wider_ones():
+    fluxes = []
+    for wide in numpy.linspace(1.8, 2.6, 33):
+        image = gaussian(100, 100, 1e5, wide, wide)
+        table = photometry.measured(image, 0, SIGMA, *found(image, 10), points=points(1.8))
+        fluxes.append(table["FLUX_TOTAL"][0])
+    assert numpy.abs(numpy.diff(fluxes)).max() < 0.015 * 1e5 and numpy.ptp(fluxes) < 0.08 * 1e5
+
+
+def test_a_neighbour_hardly_changes_a_total_flux():
+    """A larger aperture would have more of its light."""
+    alone = gaussian(100, 100, 20000.0)
+    both = alone + gaussian(108, 100, 20000.0)
+    table = photometry.measured(both, 0, SIGMA, *found(both, 200), points=points(1.8))
+    assert len(table) == 2 and table["FLUX_TOTAL"] == pytest.approx(20000, rel=0.01)
+
+
+def test_total_fluxes_have_the_errors_of_what_they_are_told_by():
+    near, wide = numpy.array([100.0, 100.0, -5.0, numpy.nan]), numpy.array([110.0, 150.0, 100.0, numpy.nan])
+    sizes, curve = [], points(1.8)
+
+    def circle(radius):
+        sizes.append(radius)
+        flux = near if len(sizes) == 1 else near * [1.0, 2.0, 1.0, 1.0]
+        return flux * curve.share(radius), numpy.full(4, 3.0) * curve.share(radius)
+
+    flux, error = totals.of(curve, circle, wide, numpy.full(4, 5.0), numpy.full(4, 100.0))
+    assert sizes == pytest.approx([curve.width, 1.5 * curve.width]) and totals.reach(curve) == max(sizes)
+    assert flux[:3] == pytest.approx([100, 150, -5]) and error[:3] == pytest.approx([3, 5, 3]) and numpy.isnan(flux[3])
+    assert totals.of(None, circle, wide, error, wide) == (wide, error) and totals.reach(None) == 0
+
+
+def test_pixels_that_are_shared_out_count_as_a_neighbour_s():
+    """They are none of the source's own, and no sky of another one either."""
+    image = gaussian(95, 100, 20000.0) + gaussian(101, 100, 20000.0)
+    segments, catalogue = found(image, 700)
+    assert len(catalogue) == 2
+    shared = segments.copy()
+    left = (segments == 0) & (image > 10) & (numpy.arange(SIDE) < 98)
+    right = (segments == 0) & (image > 10) & (numpy.arange(SIDE) >= 98)
+    shared[left], shared[right] = -segments[100, 95], -segments[100, 101]
+    gaps, none = (photometry.measured(image, 0, SIGMA, it, catalogue, points=points(1.8)) for it in (segments, shared))
+    assert (gaps["FLUX_ISO"] == none["FLUX_ISO"]).all() and (gaps["FLUXERR_ISO"] == none["FLUXERR_ISO"]).all()
+    assert (gaps["FLUX_AUTO"] > 22000).all() and none["FLUX_AUTO"] == pytest.approx(20000, rel=0.07)
+    assert none["FLUX_TOTAL"] == pytest.approx(20000, rel=0.07)
 
 
 def test_noise_and_background_as_arrays_and_as_numbers():
@@ -88,11 +188,11 @@ def test_errors_are_true():
     """The fluxes of one star under many noises scatter by their errors."""
     rng = numpy.random.default_rng(3)
     clean = sum(gaussian(x, y, 3000.0, shape=(400, 400)) for x in range(20, 400, 40) for y in range(20, 400, 40))
-    pulls = {"KRON": [], "APER": []}
+    pulls = {"AUTO": [], "TOTAL": [], "APER": []}
     for _ in range(4):
         image = rng.poisson(SKY + clean) + 0.0
         segments, catalogue = found(image, 160)
-        table = photometry.measured(image, SKY, SKY**0.5, segments, catalogue, gain=1.0)
+        table = photometry.measured(image, SKY, SKY**0.5, segments, catalogue, gain=1.0, points=points(1.8))
         table = table[table["FLUX_ISO"] > 1000]
         assert len(table) == 100
         for name, of in pulls.items():
@@ -120,10 +220,10 @@ def test_a_single_row_has_an_ellipse():
 
 def test_a_neighbour_counts_as_sky():
     alone = SKY + gaussian(100, 100, 20000.0)
-    both = alone + gaussian(111, 100, 20000.0)
-    single, pair = (photometry.measured(it, SKY, SIGMA, *found(it, 130)) for it in (alone, both))
+    both = alone + gaussian(109, 100, 20000.0)
+    single, pair = (photometry.measured(it, SKY, SIGMA, *found(it, 230)) for it in (alone, both))
     assert len(single) == 1 and len(pair) == 2
-    assert pair["FLUX_KRON"][0] == pytest.approx(single["FLUX_KRON"][0], rel=0.02)
+    assert pair["FLUX_AUTO"][0] == pytest.approx(single["FLUX_AUTO"][0], rel=0.03)
     assert pair["FLAGS"][0] & photometry.CROWDED and not single["FLAGS"][0] & photometry.CROWDED
 
 
@@ -156,12 +256,12 @@ def test_undefined_pixels_have_no_part_in_the_sums():
     by_nan, by_mask = (photometry.measured(it, SKY, SIGMA, segments, catalogue) for it in (holed, masked))
     for name in by_nan.colnames:
         assert by_nan[name][0] == by_mask[name][0]
-    assert by_nan["FLUX_KRON"][0] == pytest.approx(10000, rel=0.05)
+    assert by_nan["FLUX_AUTO"][0] == pytest.approx(10000, rel=0.05)
 
 
 def test_an_undefined_pixel_far_away_changes_nothing():
-    both = SKY + gaussian(100, 100, 20000.0) + gaussian(111, 100, 20000.0)
-    segments, catalogue = found(both, 130)
+    both = SKY + gaussian(100, 100, 20000.0) + gaussian(109, 100, 20000.0)
+    segments, catalogue = found(both, 230)
     holed = both.copy()
     holed[10, 10] = numpy.nan
     one, two = (photometry.measured(it, SKY, SIGMA, segments, catalogue, gain=2.0) for it in (both, holed))
@@ -189,8 +289,8 @@ def test_sources_without_a_value():
     segments, catalogue = found(image, 110)
     for other in (numpy.where(numpy.arange(SIDE) < 100, image, numpy.nan), image * numpy.nan):
         background, noise = photometry.sky(other, segments)
-        table = photometry.measured(other, background, noise, segments, catalogue, gain=1.0)
-        for name in ("FLUX_ISO", "FLUXERR_ISO", "FLUX_KRON", "FLUXERR_KRON", "FLUX_APER", "FLUXERR_APER", "FWHM"):
+        table = photometry.measured(other, background, noise, segments, catalogue, gain=1.0, points=points(1.8))
+        for name in (*FLUXES, "FWHM"):
             assert numpy.isnan(table[name][1]) and numpy.isnan(table[name][0]) == numpy.isnan(other).all()
         assert table["FLAGS"][1] & photometry.UNDEFINED
     assert table["X"][0] == pytest.approx(61, abs=0.01)

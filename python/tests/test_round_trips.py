@@ -35,7 +35,7 @@ tried = settings(
 )
 
 SIZES = {"J": 32, "K": 64}
-MEASURED = "X Y FLUX_ISO FLUXERR_ISO FLUX_KRON FLUXERR_KRON KRON_RADIUS A B THETA FWHM RA DEC A_SKY B_SKY PA".split()
+MEASURED = "X Y FLUX_ISO FLUXERR_ISO FLUX_AUTO FLUXERR_AUTO KRON_RADIUS A B THETA FWHM RA DEC A_SKY B_SKY PA".split()
 # A header's strings have no other characters, and no spaces at their ends.
 NAMES = st.text(st.characters(min_codepoint=32, max_codepoint=126), min_size=1, max_size=20).map(str.strip)
 NAMES = NAMES.filter(bool)

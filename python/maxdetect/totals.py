@@ -1,0 +1,60 @@
+"""Total fluxes: what an aperture holds, and what point sources of the same image have beyond it.
+
+A source as narrow as point sources gets its flux from a circle about as wide as these, which holds more of its light
+for its noise than a larger one, and takes in less of its neighbours'. A wider source gets its flux from its ellipse.
+Which of them a source is two circles tell: a wider source has more light between them. Sources in between get a part
+of both, so that no flux depends on a step.
+"""
+from typing import Callable, Optional, Tuple
+
+import numpy
+
+from .pointlike import PointSources
+
+__all__ = ["of", "reach"]
+
+# The radii of the circle from which a point source gets its flux, and of the one that tells whether a source is wider,
+# in widths of a point source.
+NEAR, FAR = 1.0, 1.5
+# By which part of its flux a source has more light in the outer circle than point sources have, where it begins to be
+# taken for a wider one, and where it is taken for nothing else.
+NARROW, WIDE = 0.04, 0.16
+
+Fluxes = Tuple[numpy.ndarray, numpy.ndarray]
+
+
+def reach(points: Optional[PointSources]) -> float:
+    """The radius of the largest circle, in pixels."""
+    return FAR * points.width if points else 0.0
+
+
+def _wide(near: numpy.ndarray, far: numpy.ndarray) -> numpy.ndarray:
+    """From 0 for point sources to 1 for wider ones, by what two circles tell of the whole light."""
+    with numpy.errstate(invalid="ignore", divide="ignore"):
+        part = numpy.clip((far / near - 1 - NARROW) / (WIDE - NARROW), 0, 1)
+    # Where there is no light to compare, the circle is the steadier.
+    return numpy.where((near > 0) & numpy.isfinite(part), part**2 * (3 - 2 * part), 0)
+
+
+def of(
+    points: Optional[PointSources],
+    circle: Callable[[float], Fluxes],
+    flux: numpy.ndarray,
+    error: numpy.ndarray,
+    radius: numpy.ndarray,
+) -> Fluxes:
+    """The total fluxes of sources, and their errors.
+
+    `circle` gives the fluxes of all sources within circles of a radius in pixels, and their errors; `flux` and `error`
+    are those within their ellipses, whose mean radii are given. Without `points` these are the total ones.
+    """
+    if points is None:
+        return flux, error
+    (near, near_error), (far, _) = (
+        tuple(it / points.share(times * points.width) for it in circle(times * points.width)) for times in (NEAR, FAR)
+    )
+    flux, error = (it / points.share(radius) for it in (flux, error))
+    wide = _wide(near, far)
+    # The circle lies within the ellipse, and its noise is a part of that one's.
+    variance = near_error**2 + wide**2 * numpy.maximum(error**2 - near_error**2, 0)
+    return near + wide * (flux - near), numpy.sqrt(variance)
