@@ -90,10 +90,11 @@ def sources(
     progress(0)
     table, cut = tiles.gathered(tiles.each(executor, _Tile(detector), cores), segments, progress)
     beside = measuring.sky_beside(detector, segments, executor)
-    table = hstack([table, measuring.measured(detector, beside, table, segments, executor, progress)])
+    points = measuring.points_of(detector, beside)
+    table = hstack([table, measuring.measured(detector, beside, points, table, segments, executor, progress)])
     table["FLAGS"] |= numpy.where(cut, photometry.CUT, 0).astype(table["FLAGS"].dtype)
     tiles.hide(segments)
-    table.meta.update(detector.how.meta, GROWTH=measuring.points_of(detector) is not None)
+    table.meta.update(detector.how.meta, GROWTH=points is not None)
     # With a weight map the sky's noise is a factor, and no noise of the image.
     if field.weights is None:
         table.meta["SIGMA"] = detector.sky.noise

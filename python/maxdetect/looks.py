@@ -11,7 +11,7 @@ import numpy
 from . import pointlike, scaling, sky, smoothing
 from .fields import Field, noise_of
 
-__all__ = ["Way", "seen", "way"]
+__all__ = ["Way", "point_sources", "seen", "way"]
 
 # Thresholds in deviations of the noise: with smoothing, and without, where as many false sources are found.
 SMOOTHED, UNSMOOTHED = 4.4, 2.25
@@ -92,8 +92,8 @@ def _windows(shape: Tuple[int, int]) -> List[Tuple[slice, slice]]:
     return [(rows, columns) for rows in sides[0] for columns in sides[1]]
 
 
-def _point_sources(field: Field, found: sky.Sky) -> Optional[pointlike.PointSources]:
-    """What the point sources of a field look like."""
+def point_sources(field: Field, found: sky.Sky) -> Optional[pointlike.PointSources]:
+    """What the point sources of a field with this sky look like, or None where it has too few."""
 
     def looked_at() -> Iterator[Tuple[numpy.ndarray, float]]:
         for rows, columns in _windows(field.shape):
@@ -142,7 +142,7 @@ def way(field: Field, found: sky.Sky) -> Way:
     """How a field with this sky is looked at, by its settings and by what it shows itself."""
     settings = field.settings
     found = found if settings.mesh else found.flat()
-    points = _point_sources(field, found)
+    points = point_sources(field, found)
     width = settings.fwhm or (points.width if points else USUAL)
     smooth = 0.0 if settings.fwhm == 0 else max(PART * width, min(width, NARROW))
     noise, area = 1.0, UNSMOOTHED_AREA

@@ -5,13 +5,14 @@ Sources are measured by blocks of the image; those that reach further than a blo
 own.
 """
 import concurrent.futures
+import dataclasses
 import itertools
 from typing import TYPE_CHECKING, Callable, Iterator, List, Optional, Tuple
 
 import numpy
 from astropy.table import Table
 
-from . import beside, photometry, pointlike, sky, tiles
+from . import beside, looks, photometry, pointlike, sky, tiles
 from .errors import Mistake
 from .tiles import Box
 
@@ -57,16 +58,21 @@ def sky_beside(detector: "Detector", segments: numpy.ndarray, executor: Executor
     return beside.joined(tiles.each(executor, _Row(detector, found), rows), found)
 
 
-def points_of(detector: "Detector") -> Optional[pointlike.PointSources]:
-    """The point sources of what a field is measured in, or None where they aren't known."""
-    return detector.how.points if detector.field.values is None else None
+def points_of(detector: "Detector", found: Optional[sky.Sky]) -> Optional[pointlike.PointSources]:
+    """The point sources of what a field is measured in, above this sky; None where it has too few."""
+    field = detector.field
+    if field.values is None:
+        return detector.how.points
+    if found is None or not found.noise > 0:
+        return None
+    return looks.point_sources(dataclasses.replace(field, plane=field.values, values=None, weights=None), found)
 
 
 class _Window:
     """Measures sources in a window of a field, given with their rows and the map there."""
 
-    def __init__(self, detector: "Detector", found: Optional[sky.Sky]):
-        self.detector, self.found, self.points = detector, found, points_of(detector)
+    def __init__(self, detector: "Detector", found: Optional[sky.Sky], points: Optional[pointlike.PointSources]):
+        self.detector, self.found, self.points = detector, found, points
 
     def _sky(self, box: Box) -> Tuple[photometry.Numbers, photometry.Numbers]:
         """The level and the noise there, in the units of what is measured."""
@@ -125,16 +131,19 @@ def _blocks(table: Table, shape: Tuple[int, int]) -> Iterator[Tuple[Box, numpy.n
 def measured(
     detector: "Detector",
     found: Optional[sky.Sky],
+    points: Optional[pointlike.PointSources],
     table: Table,
     segments: numpy.ndarray,
     executor: Executor = None,
     progress: Callable[[int], None] = lambda count: None,
 ) -> Table:
-    """The columns of photometry for the sources of a field, whose map this is, above this sky."""
-    shape, work = detector.field.shape, _Window(detector, found)
+    """The columns of photometry for the sources of a field, whose map this is, above this sky and by these point
+    sources.
+    """
+    shape, work = detector.field.shape, _Window(detector, found, points)
     if not len(table):
         return work((Box(0, 1, 0, 1), table, numpy.zeros((1, 1), dtype="i4")))
-    reach, answers, where = photometry.reach(table, work.points), [], []
+    reach, answers, where = photometry.reach(table, points), [], []
     waiting = _blocks(table, shape)
     while True:
         windows = []

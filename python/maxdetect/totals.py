@@ -28,12 +28,16 @@ def reach(points: Optional[PointSources]) -> float:
     return FAR * points.width if points else 0.0
 
 
-def _wide(near: numpy.ndarray, far: numpy.ndarray) -> numpy.ndarray:
-    """From 0 for point sources to 1 for wider ones, by what two circles tell of the whole light."""
+def _wide(near: numpy.ndarray, far: numpy.ndarray) -> Tuple[numpy.ndarray, numpy.ndarray]:
+    """From 0 for point sources to 1 for wider ones, by what two circles tell of the whole light; and by how much it
+    grows with the outer circle's flux.
+    """
     with numpy.errstate(invalid="ignore", divide="ignore"):
         part = numpy.clip((far / near - 1 - NARROW) / (WIDE - NARROW), 0, 1)
+        slope = 6 * part * (1 - part) / (WIDE - NARROW) / near
     # Where there is no light to compare, the circle is the steadier.
-    return numpy.where((near > 0) & numpy.isfinite(part), part**2 * (3 - 2 * part), 0)
+    known = (near > 0) & numpy.isfinite(part)
+    return numpy.where(known, part**2 * (3 - 2 * part), 0), numpy.where(known, slope, 0)
 
 
 def of(
@@ -50,11 +54,13 @@ def of(
     """
     if points is None:
         return flux, error
-    (near, near_error), (far, _) = (
+    (near, near_error), (far, far_error) = (
         tuple(it / points.share(times * points.width) for it in circle(times * points.width)) for times in (NEAR, FAR)
     )
     flux, error = (it / points.share(radius) for it in (flux, error))
-    wide = _wide(near, far)
-    # The circle lies within the ellipse, and its noise is a part of that one's.
-    variance = near_error**2 + wide**2 * numpy.maximum(error**2 - near_error**2, 0)
+    wide, slope = _wide(near, far)
+    # The circles lie within the ellipse: its noise is that of the inner one, that of the ring around it, which tells
+    # too how wide the source is taken to be, and that of the rest.
+    ring, rest = (numpy.maximum(it, 0) for it in (far_error**2 - near_error**2, error**2 - far_error**2))
+    variance = near_error**2 + ring * (wide + slope * (flux - near)) ** 2 + rest * wide**2
     return near + wide * (flux - near), numpy.sqrt(variance)

@@ -6,7 +6,8 @@ import pytest
 from scipy import ndimage
 
 import maxdetect
-from maxdetect import measuring
+from maxdetect import detection, measuring
+from maxdetect.arrays import ArrayPlane
 
 
 @pytest.fixture(scope="module")
@@ -68,3 +69,40 @@ def test_blocks_hold_all_that_is_looked_at(crowd, monkeypatch):
     # Which parts of a pixel a circle holds, by its centre, may hang on a place's last digit.
     for name in ("FLUX_ISO", "FLUX_AUTO", "FLUX_TOTAL", "FLUX_APER", "FLUXERR_AUTO", "KRON_RADIUS", "FWHM"):
         assert whole[name] == pytest.approx(found[name], rel=2e-4, nan_ok=True), name
+
+
+def stars(wide, seed, fluxes, sky=500.0):
+    """A field of stars alone, of Gaussians so many pixels wide, in electrons, and their places."""
+    light, places = numpy.zeros((400, 400)), numpy.arange(40, 380, 40)
+    light[numpy.repeat(places, len(places)), numpy.tile(places, len(places))] = fluxes
+    return numpy.random.default_rng(seed).poisson(sky + ndimage.gaussian_filter(light, wide)).astype("f4")
+
+
+def sources_in(image, other=None):
+    """What is found in an image, measured in another one."""
+    values = None if other is None else ArrayPlane(other)
+    return detection.sources(detection.Field(ArrayPlane(image), detection.Settings(gain=1.0), values=values))
+
+
+def test_total_fluxes_are_whole_in_each_image():
+    """In a second image the stars are wider, which its own point sources tell."""
+    fluxes = numpy.random.default_rng(8).uniform(2e4, 1e5, 81)
+    one, two = stars(1.5, 9, fluxes), stars(2.5, 10, fluxes / 2)
+    for table, expected in ((sources_in(one), fluxes), (sources_in(one, two), fluxes / 2)):
+        assert len(table) == 81 and table.meta["GROWTH"] is True
+        total = numpy.asarray(table["FLUX_TOTAL"])[numpy.lexsort((table["X"].round(-1), table["Y"].round(-1)))]
+        assert numpy.median(total / expected) == pytest.approx(1, abs=0.005)
+        assert numpy.std((total - expected) / numpy.asarray(table["FLUXERR_TOTAL"])) < 1.5
+        assert numpy.median(table["FLUXERR_TOTAL"] / table["FLUXERR_AUTO"]) < 0.95
+
+
+@pytest.mark.parametrize("level", [500.0, numpy.nan])
+def test_too_few_point_sources_are_told(level):
+    fluxes = numpy.random.default_rng(8).uniform(2e4, 1e5, 81)
+    one = stars(1.5, 9, fluxes)
+    few = one[:80, :80]
+    empty = numpy.random.default_rng(10).normal(level, 20, one.shape)
+    for table in (sources_in(few), sources_in(one, empty)):
+        assert len(table) and table.meta["GROWTH"] is False
+        assert numpy.array_equal(table["FLUX_TOTAL"], table["FLUX_AUTO"], equal_nan=True)
+        assert numpy.array_equal(table["FLUXERR_TOTAL"], table["FLUXERR_AUTO"], equal_nan=True)

@@ -44,7 +44,7 @@ def found(image, threshold):
 
 def points(wide):
     """Point sources that are Gaussians with this standard deviation."""
-    radii = pointlike.RADII[pointlike.RADII <= 6 * wide]
+    radii = numpy.arange(0.25, 6 * wide, 0.25)
     shares = 1 - numpy.exp(-((radii / wide) ** 2) / 2)
     return pointlike.PointSources(2.3548 * wide, radii, shares / shares[-1], 50)
 
@@ -141,17 +141,20 @@ def test_a_neighbour_hardly_changes_a_total_flux():
 
 
 def test_total_fluxes_have_the_errors_of_what_they_are_told_by():
-    near, wide = numpy.array([100.0, 100.0, -5.0, numpy.nan]), numpy.array([110.0, 150.0, 100.0, numpy.nan])
+    near, wide = numpy.array([100.0, 100.0, -5.0, numpy.nan, 100.0]), numpy.array([110.0, 150, 100, numpy.nan, 150])
     sizes, curve = [], points(1.8)
 
     def circle(radius):
         sizes.append(radius)
-        flux = near if len(sizes) == 1 else near * [1.0, 2.0, 1.0, 1.0]
-        return flux * curve.share(radius), numpy.full(4, 3.0) * curve.share(radius)
+        flux, error = (near, 3.0) if len(sizes) == 1 else (near * [1.0, 2.0, 1.0, 1.0, 1.1], 4.0)
+        return flux * curve.share(radius), numpy.full(5, error) * curve.share(radius)
 
-    flux, error = totals.of(curve, circle, wide, numpy.full(4, 5.0), numpy.full(4, 100.0))
+    flux, error = totals.of(curve, circle, wide, numpy.full(5, 5.0), numpy.full(5, 100.0))
     assert sizes == pytest.approx([curve.width, 1.5 * curve.width]) and totals.reach(curve) == max(sizes)
-    assert flux[:3] == pytest.approx([100, 150, -5]) and error[:3] == pytest.approx([3, 5, 3]) and numpy.isnan(flux[3])
+    # The last one is half a wide source, which half of its ring's noise tells with a slope of 12.5 / 100.
+    between = (9 + (16 - 9) * (0.5 + 0.125 * 50) ** 2 + (25 - 16) / 4) ** 0.5
+    assert flux == pytest.approx([100, 150, -5, numpy.nan, 125], nan_ok=True)
+    assert error == pytest.approx([3, 5, 3, numpy.nan, between], nan_ok=True)
     assert totals.of(None, circle, wide, error, wide) == (wide, error) and totals.reach(None) == 0
 
 
