@@ -62,9 +62,10 @@ def test_a_star_field(here, stars, capsys):
     _, places, fluxes = stars
     own, apart = nearest(table, places)
     assert 25 <= len(table) <= 27 and apart.max() < 0.3
-    assert numpy.asarray(own["FLUX_AUTO"]) / fluxes == pytest.approx(1, abs=0.15)
-    assert numpy.median(own["FLUX_AUTO"] / fluxes) == pytest.approx(1, abs=0.02)
-    assert numpy.asarray(own["MAG_AUTO"]) == pytest.approx(30 - 2.5 * numpy.log10(own["FLUX_AUTO"]))
+    assert numpy.asarray(own["FLUX_TOTAL"]) / fluxes == pytest.approx(1, abs=0.15)
+    assert numpy.median(own["FLUX_TOTAL"] / fluxes) == pytest.approx(1, abs=0.02)
+    for name in ("ISO", "AUTO", "TOTAL", "APER"):
+        assert numpy.asarray(own[f"MAG_{name}"]) == pytest.approx(30 - 2.5 * numpy.log10(own[f"FLUX_{name}"]))
     right, declination = WCS(header()).all_pix2world(own["X"], own["Y"], 1)
     assert numpy.asarray(own["RA"]) == pytest.approx(right) and numpy.asarray(own["DEC"]) == pytest.approx(declination)
     segments = fits.getdata("map.fits")
