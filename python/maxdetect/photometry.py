@@ -341,7 +341,8 @@ def measured(
     flags = _flags(pixels, image, undefined, catalogue, numbers, saturation, threshold)
     gathered = _gathered(defined, residual, catalogue)
     how = (residual, noise, gain, undefined)
-    apertures = _apertures(how, numpy.abs(segments), catalogue, gathered, aperture, points)
+    split = (flags & SPLIT) != 0
+    apertures = _apertures(how, numpy.abs(segments), catalogue, gathered, aperture, points, split)
     table = Table({"X": numpy.asarray(catalogue["XCEN"]) / 1000, "Y": numpy.asarray(catalogue["YCEN"]) / 1000})
     table["FLUX_ISO"], table["FLUXERR_ISO"] = flux[numbers] * unit, error[numbers] * unit
     more = apertures.pop("FLAGS")
@@ -351,7 +352,7 @@ def measured(
     return table
 
 
-def _apertures(how, segments, catalogue, gathered, aperture, points) -> Dict[str, numpy.ndarray]:
+def _apertures(how, segments, catalogue, gathered, aperture, points, split) -> Dict[str, numpy.ndarray]:
     """The columns that SEP measures, and the flags that it tells."""
     numbers, residual = numpy.asarray(catalogue["NUMBER"], dtype="i4"), how[0]
     x, y = (numpy.asarray(catalogue[name], dtype="f8") / 1000 - 1 for name in ("XCEN", "YCEN"))
@@ -372,7 +373,7 @@ def _apertures(how, segments, catalogue, gathered, aperture, points) -> Dict[str
         return _Apertures(sep.sum_circle, (x, y, sizes), sizes, 5).fluxes(*how, alone)[:2]
 
     in_circle, circle_error = circle(aperture)
-    total, total_error = totals.of(points, circle, flux, error, radius * numpy.sqrt(axes[0] * axes[1]))
+    total, total_error = totals.of(points, circle, flux, error, radius * numpy.sqrt(axes[0] * axes[1]), split)
     half = _half_light(residual, x, y, radius * axes[0], numpy.nan_to_num(flux), alone)
     flags = CROWDED * (((told & sep.APER_HASMASKED) != 0) | holed) | BEYOND * ((told & sep.APER_TRUNC) != 0)
     return {

@@ -113,14 +113,19 @@ def test_a_source_of_one_pixel_has_an_ellipse():
 def test_the_total_flux_of_a_point_source_is_whole(peak):
     image = gaussian(100.25, 100.5, peak * 2 * numpy.pi * 1.8**2)
     table = photometry.measured(image, 0, SIGMA, *found(image, 10), points=points(1.8))
-    assert table["FLUX_TOTAL"][0] == pytest.approx(image.sum(), rel=5e-3)
+    assert table["FLUX_TOTAL"][0] == pytest.approx(image.sum(), rel=0.01)
     assert table["FLUXERR_TOTAL"][0] < table["FLUXERR_AUTO"][0]
 
 
 def test_the_total_flux_of_a_wide_source_is_the_ellipse_s():
     image = gaussian(100.25, 100.5, 1e5, 6.0, 3.0, 30)
     table = photometry.measured(image, 0, SIGMA, *found(image, 10), points=points(1.8))
-    assert table["FLUX_TOTAL"][0] == table["FLUX_AUTO"][0] and table["FLUXERR_TOTAL"][0] == table["FLUXERR_AUTO"][0]
+    for name in ("FLUX", "FLUXERR"):
+        assert table[f"{name}_TOTAL"][0] == pytest.approx(table[f"{name}_AUTO"][0], rel=1e-9)
+
+
+def test_circles_have_a_least_size():
+    assert totals.reach(points(0.4)) == totals.reach(points(0.8)) == 1.3 * 2.5
 
 
 def test_the_total_flux_has_no_step_between_point_sources_and_wider_ones():
@@ -141,21 +146,22 @@ def test_a_neighbour_hardly_changes_a_total_flux():
 
 
 def test_total_fluxes_have_the_errors_of_what_they_are_told_by():
-    near, wide = numpy.array([100.0, 100.0, -5.0, numpy.nan, 100.0]), numpy.array([110.0, 150, 100, numpy.nan, 150])
+    near = numpy.array([100.0, 100.0, -5.0, numpy.nan, 100.0, 100.0])
+    wide, split = numpy.array([110.0, 150, 100, numpy.nan, 150, 150]), numpy.arange(6) == 5
     sizes, curve = [], points(1.8)
 
     def circle(radius):
         sizes.append(radius)
-        flux, error = (near, 3.0) if len(sizes) == 1 else (near * [1.0, 2.0, 1.0, 1.0, 1.1], 4.0)
-        return flux * curve.share(radius), numpy.full(5, error) * curve.share(radius)
+        flux, error = (near, 3.0) if len(sizes) == 1 else (near * [1.0, 2.0, 1.0, 1.0, 1.09, 1.18], 4.0)
+        return flux * curve.share(radius), numpy.full(6, error) * curve.share(radius)
 
-    flux, error = totals.of(curve, circle, wide, numpy.full(5, 5.0), numpy.full(5, 100.0))
-    assert sizes == pytest.approx([curve.width, 1.5 * curve.width]) and totals.reach(curve) == max(sizes)
-    # The last one is half a wide source, which half of its ring's noise tells with a slope of 12.5 / 100.
-    between = (9 + (16 - 9) * (0.5 + 0.125 * 50) ** 2 + (25 - 16) / 4) ** 0.5
-    assert flux == pytest.approx([100, 150, -5, numpy.nan, 125], nan_ok=True)
-    assert error == pytest.approx([3, 5, 3, numpy.nan, between], nan_ok=True)
-    assert totals.of(None, circle, wide, error, wide) == (wide, error) and totals.reach(None) == 0
+    flux, error = totals.of(curve, circle, wide, numpy.full(6, 5.0), numpy.full(6, 100.0), split)
+    assert sizes == pytest.approx([0.9 * curve.width, 1.3 * curve.width]) and totals.reach(curve) == max(sizes)
+    # The last ones are half wide sources, as the ring's light tells with a slope of 15 / 100, or half of it.
+    between, apart = ((9 + (16 - 9) * (0.5 + slope * 50) ** 2 + (25 - 16) / 4) ** 0.5 for slope in (0.15, 0.075))
+    assert flux == pytest.approx([100, 150, -5, numpy.nan, 125, 125], nan_ok=True)
+    assert error == pytest.approx([3, 5, 3, numpy.nan, between, apart], nan_ok=True)
+    assert totals.of(None, circle, wide, error, wide, split) == (wide, error) and totals.reach(None) == 0
 
 
 def test_pixels_that_are_shared_out_count_as_a_neighbour_s():
