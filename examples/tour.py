@@ -18,7 +18,6 @@ from astropy.table import Table
 sys.path.insert(0, str(pathlib.Path(__file__).resolve().parent.parent / "python"))
 from maxdetect import cli, photometry  # noqa: E402
 
-SIGMAS = "3"
 # The part that is shown close by: first and last column, first and last row, from 1.
 PART = (401, 700, 301, 560)
 # Values that a scale by the logarithm names.
@@ -102,7 +101,7 @@ def main():
     image = photograph()
     fits.PrimaryHDU(image).writeto(folder / "hubble.fits", overwrite=True)
     names = {name: os.fspath(folder / f"hubble.{name}.fits") for name in ("cat", "map")}
-    words = [os.fspath(folder / "hubble.fits"), "-o", names["cat"], "--map", names["map"], "--sigmas", SIGMAS]
+    words = [os.fspath(folder / "hubble.fits"), "-o", names["cat"], "--map", names["map"]]
     if cli.main(words) != 0:
         sys.exit(2)
     segments = fits.getdata(names["map"])
