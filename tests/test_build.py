@@ -79,7 +79,9 @@ class Tree:
     def start(self, *programs, user=None, **environment):
         words = [sys.executable, str(self.top / "scripts" / "build"), *programs]
         who = {} if user is None else {"user": user, "group": user, "extra_groups": []}
-        return subprocess.Popen(words, env=self.environment | environment, stderr=subprocess.PIPE, text=True, **who)
+        # The tests may run where an interrupt is ignored.
+        how = {"preexec_fn": lambda: signal.signal(signal.SIGINT, signal.SIG_DFL), **who}
+        return subprocess.Popen(words, env=self.environment | environment, stderr=subprocess.PIPE, text=True, **how)
 
     def build(self, *programs, **environment):
         """The status and what was said."""

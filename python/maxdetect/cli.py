@@ -241,8 +241,8 @@ def _field(plane: images.Plane, given: argparse.Namespace) -> detection.Field:
         local=given.rms == "local",
         gain=given.gain or measured.positive("GAIN"),
         saturation=given.saturation if given.saturation is not None else measured.positive("SATURATE"),
-        own_gain=plane.positive("GAIN"),
-        own_saturation=plane.positive("SATURATE"),
+        own_gain=plane.positive("GAIN") if measured is not plane else None,
+        own_saturation=plane.positive("SATURATE") if measured is not plane else None,
         workers=1 if beside or len(given.images) > 1 else given.workers,
     )
     return detection.Field(plane, settings, **others)

@@ -231,9 +231,10 @@ def test_significance():
 
 
 def test_the_windows_in_which_point_sources_are_looked_for():
-    assert looks._windows((100, 2048)) == [(slice(0, 100), slice(0, 2048))]
+    most = looks.WINDOWS * looks.SIDE
+    assert looks._windows((100, most)) == [(slice(0, 100), slice(0, most))]
     many = looks._windows((5000, 2049))
-    assert len(many) == 4 and all(it.stop - it.start == 1024 for pair in many for it in pair)
+    assert len(many) == 4 and all(it.stop - it.start == looks.SIDE for pair in many for it in pair)
     assert all(0 <= rows.start and rows.stop <= 5000 and columns.stop <= 2049 for rows, columns in many)
 
 
