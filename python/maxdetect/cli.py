@@ -135,7 +135,7 @@ def _add_how(how) -> None:
         "--sigmas",
         type=sigmas,
         metavar="S",
-        help="the threshold, in deviations of the noise of the smoothed image (default: 4.4; 2.25 with --no-smooth)",
+        help="the threshold, in deviations of the noise of the smoothed image (default: 4.4; 2.25 without smoothing)",
     )
     how.add_argument(
         "--fwhm",
@@ -175,8 +175,8 @@ def _add_how(how) -> None:
         "--min-area",
         type=whole(1, 2**24),
         metavar="N",
-        help="the least area of a source in pixels (default: by the width of the smoothing, 3 for 3.4 pixels; 5 with "
-        "--no-smooth)",
+        help="the least area of a source in pixels (default: by the width of the smoothing, 3 for 3.4 pixels; 5 "
+        "without smoothing)",
     )
     how.add_argument(
         "--rms", choices=("even", "local"), default="even", help="local: the noise is taken by cells (default: even)"
