@@ -68,3 +68,5 @@ pub use Rattle.comp_tree.proofs.Alike.{counterpart_in_place, counterpart_pixels,
 pub use Rattle.comp_tree.proofs.Windows.{AreSurePair, IsAt, at_order, in_whole-at, in_whole-below, in_whole-one, pair_at, seen-length, seen-shape}
 pub use Rattle.comp_tree.proofs.Windows.{seen-value, some_columns, sure_components_are_seen, sure_components_are_the_same, sure_same, window_along}
 pub use Rattle.comp_tree.proofs.Windows.{window_whole_below}
+-- the parent and the level that a row names are those of the tree at the row's number
+pub use Rattle.comp_tree.proofs.WellFormed.{row-parent, row_level}

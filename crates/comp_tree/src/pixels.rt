@@ -30,7 +30,6 @@ pub struct Run {
     end: u8,
 }
 
-// The pixels of a plane.
 #[derive(Drop)]
 pub(crate) struct Pixels {
     count: usize,

@@ -79,7 +79,6 @@ fn are_refused(alloc: Global, values: &[Option<i64>]) -> bool {
 // The largest value.
 const MOST: i64 = 1 << 37;
 
-// Planes of given values.
 #[test]
 fn planes_of_values(rt: HostRuntime) {
     assert!(rt; are_kept(rt.alloc(), &[Some(-7), None]));
@@ -94,7 +93,6 @@ fn values_of_no_plane(rt: HostRuntime) {
     assert!(rt; are_refused(rt.alloc(), &[Some(-MOST - 1), Some(0)]));
 }
 
-// A blank canvas of one row.
 fn blank_row(alloc: Global, width: u32) -> Option<Canvas> {
     let shape = Shape::of(width, 1)?;
     Canvas::blank(alloc, shape).ok()
@@ -261,7 +259,6 @@ fn defined_pixels_are_found(rt: HostRuntime) {
     assert!(rt; has_sums(compact_plane_of_few(rt.alloc()), 138, 6));
 }
 
-// The plane of the marked pixels.
 fn marked_plane(alloc: Global, plane: &Plane, marks: &[bool]) -> Option<Plane> {
     if plane.shape().pixels() as usize != marks.len() {
         return None;
@@ -412,6 +409,16 @@ fn is_wanted(tree: &Tree, plane: &Plane, case: &Case) -> bool {
     tree.shape() == plane.shape()
         && has_rows(tree.rows(), case.rows)
         && tree.node_of() == case.node_of
+        && tells_parents(tree)
+}
+
+// Whether the tree tells of each node what its table holds.
+fn tells_parents(tree: &Tree) -> bool {
+    let count = tree.node_count();
+    if count as usize != tree.rows().len() {
+        return false;
+    }
+    (0..count).all(|n| tree.parent(n) == tree.rows()[n as usize].parent)
 }
 
 // Whether the plane has the tree that is wanted.
@@ -430,7 +437,6 @@ fn is_met(alloc: Global, case: &Case) -> bool {
     }
 }
 
-// Whether each of these is met.
 fn are_met(alloc: Global, cases: &[Case]) -> bool {
     for case in cases {
         if !is_met(alloc, case) {

@@ -1,7 +1,7 @@
 //! Component trees as tables of nodes.
 
-ghost use Rattle.std.specs.Prelude.{◌≡◌, ◌+◌, ◌-◌, ◌*◌, ◌^◌, ◌≤◌, ◌<◌, ◌⊎◌, length, All};
-ghost use Rattle.comp_tree.specs.ComponentTree.{ComponentTree, IsWellFormed};
+ghost use Rattle.std.specs.Prelude.{◌≡◌, ℕ, ◌+◌, ◌-◌, ◌*◌, ◌^◌, ◌≤◌, ◌<◌, ◌⊎◌, length, slice_index, All};
+ghost use Rattle.comp_tree.specs.ComponentTree.{ComponentTree, IsWellFormed, no_node, parent_in};
 
 use crate::shape::Shape;
 use std::marker::Model;
@@ -73,9 +73,30 @@ impl Tree {
         &self.rows
     }
 
+    /// How many nodes there are: at most one for each pixel.
+    pub fn node_count(&self) -> u32
+        ensures all { result ≡ length self.now.rows }
+        ensures few { result ≤ 2 ^ 24 }
+    {
+        self.rows.len() as u32
+    }
+
+    /// The number of the parent of node `n`, which is smaller than `n`, or `NONE` at a root.
+    pub fn parent(&self, n: u32) -> u32
+        requires { n < length self.now.rows }
+        ensures same { result ≡ parent_in self.now.rows n }
+        ensures smaller { (result ≡ no_node) ⊎ (result < n) }
+        ensures few { length self.now.rows ≤ 2 ^ 24 }
+    {
+        self.rows[n as usize].parent
+    }
+
     /// For each pixel the number of the smallest node that holds it, or `NONE` for an undefined pixel.
     pub fn node_of(&self) -> &[u32]
-        ensures { result.now ≡ self.now.node_of }
+        ensures same { result.now ≡ self.now.node_of }
+        ensures one_each { length result.now ≡ self.now.shape.width * self.now.shape.height }
+        ensures inside { (p : ℕ) → p < length result.now
+            → (slice_index result.now p ≡ no_node) ⊎ (slice_index result.now p < length self.now.rows) }
     {
         &self.node_of
     }

@@ -34,7 +34,6 @@ impl Measure {
         }
     }
 
-    // Of one pixel.
     pub(crate) fn of_pixel(value: Option<i64>) -> Measure
         requires { IfSome value (λ v. IsWithinRange v) }
         ensures { result ≡ measure_at value }

@@ -45,7 +45,6 @@ const ORDER: Order = Order {
     flat: false,
 };
 
-// A pixel of a row.
 fn pixel_of(value: i64) -> Option<i64>
     ensures { IfSome result IsInHalfRange }
 {

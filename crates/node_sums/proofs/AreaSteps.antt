@@ -13,7 +13,7 @@ use Rattle.comp_tree.specs.Raster.{Raster, IsPlane, pixels, is_defined}
 use Rattle.comp_tree.specs.ComponentTree.{ComponentTree, parent_in, no_node}
 use Rattle.comp_tree.specs.Components.{nodes, is_in_node, tree_of}
 use Rattle.comp_tree.specs.Nesting.{pixels_of}
-use Rattle.comp_tree.proofs.Exported.{below_no_node, node-undefined}
+use Rattle.comp_tree.proofs.Exported.{below_no_node, node-undefined, row-parent}
 use Rattle.node_sums.specs.declared.entry.Sums.{Sums}
 use Rattle.node_sums.specs.Sums.{sums_over, sums_of, sums_in, IsTreeOfPlane}
 use Rattle.node_sums.specs.Counted.{is_counted}
@@ -23,7 +23,6 @@ use Rattle.node_sums.proofs.Merging.{sums_over-union}
 use Rattle.node_sums.proofs.Sizes.{length-filter-le}
 use Rattle.node_sums.proofs.Counting.{counted-start, counted-end, counted-same, counted-parent, number-within, IsUnion}
 use Rattle.node_sums.proofs.Passes.{range-push, filter_yes, filter_no, filter_same, rows_are, parent_is, parent_inside}
-use Rattle.node_sums.proofs.Reading.{row-parent}
 
 -- ---- the pass over the pixels
 

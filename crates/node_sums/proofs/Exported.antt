@@ -19,7 +19,8 @@ pub use Rattle.node_sums.proofs.Counting.{IsUnion, counted-start, counted-same, 
 -- signed numbers as the code computes them
 pub use Rattle.node_sums.proofs.Reading.{fits, plus-read, peak-read}
 -- a row and an entry as they are read and written
-pub use Rattle.node_sums.proofs.Reading.{row-parent, row_level, read_parent_smaller, get-written}
+pub use Rattle.comp_tree.proofs.Exported.{row-parent, row_level}
+pub use Rattle.node_sums.proofs.Reading.{some_parent_smaller, get-written}
 -- a range and a filtered list that get one member more; the front of a list
 pub use Rattle.node_sums.proofs.Passes.{range-push, filter_yes, filter_no, filter_same, take_front}
 -- a plane's tree has a row for each node and a number for each pixel; its parents are nodes

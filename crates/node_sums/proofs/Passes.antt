@@ -19,7 +19,7 @@ use Rattle.comp_tree.specs.Raster.{Raster, IsPlane, HasValuesInRange, HasGap, pi
 use Rattle.comp_tree.specs.ComponentTree.{ComponentTree, parent_in, no_node}
 use Rattle.comp_tree.specs.Components.{nodes, node_of, is_in_node, tree_of}
 use Rattle.comp_tree.specs.Nesting.{pixels_of}
-use Rattle.comp_tree.proofs.Exported.{length-rows, below_no_node}
+use Rattle.comp_tree.proofs.Exported.{length-rows, below_no_node, row-parent}
 use Rattle.comp_tree.proofs.Exported as Nodes
 use Rattle.node_sums.specs.declared.entry.Sums.{Sums}
 use Rattle.node_sums.specs.Sums.{sums_over, sums_of, sums_in, IsTreeOfPlane, AreOfPlane, AreTheTrees}
@@ -29,7 +29,7 @@ use Rattle.node_sums.specs.Merging.{together, sums_of_pixel, is_own, AreCounted,
 use Rattle.node_sums.proofs.Merging.{sums_at, sums_over-push, sums_over-union}
 use Rattle.node_sums.proofs.Sizes.{sizes, filtered_pixels, level_up_to}
 use Rattle.node_sums.proofs.Counting.{GoesDown, goes_down, counted-start, counted-end, counted-same, counted-parent, number-is, IsUnion}
-use Rattle.node_sums.proofs.Reading.{get-written, fits, row-parent}
+use Rattle.node_sums.proofs.Reading.{get-written, fits}
 
 -- ---- lists
 

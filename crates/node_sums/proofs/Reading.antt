@@ -1,13 +1,11 @@
 -- Signed numbers as the code computes them, and entries of lists that are read and written.
-use Rattle.std.proofs.Common.{◌≡◌, ℕ, ◌^◌, ◌<◌, zero, suc, List, [], ◌∷◌, length, refl, sym, ◌∙◌, ap, subst, arith, ◌⊎◌, inl, inr, set}
-use Rattle.std.specs.Prelude.{ℤ, pos, ◌+ℤ◌, ◌*ℤ◌, Some, slice_get, slice_index_or}
+use Rattle.std.proofs.Common.{◌≡◌, ℕ, ◌^◌, ◌<◌, zero, suc, List, [], ◌∷◌, refl, ◌∙◌, ap, arith, ◌⊎◌, inl, inr, set}
+use Rattle.std.specs.Prelude.{ℤ, pos, ◌+ℤ◌, ◌*ℤ◌, Some, slice_get}
 use Rattle.std.proofs.lemmas.Int.{to_z-of_z, to_z_pos, fits_signed_from_abs}
 use Rattle.std.specs.Int.{int_max}
 use mir.Syntax.{Width, w64, w128}
 use mir.Val.{SFits, of_z, to_z, hbits}
-use Rattle.comp_tree.specs.declared.tree.NodeRow.{NodeRow}
-use Rattle.comp_tree.specs.ComponentTree.{ComponentTree, IsWellFormed, parent_in, no_node}
-use Rattle.comp_tree.specs.Nesting.{level_in}
+use Rattle.comp_tree.specs.ComponentTree.{no_node}
 use Rattle.node_sums.specs.declared.entry.Sums.{Sums}
 use Rattle.node_sums.specs.Sizes.{IsUpTo}
 use Rattle.node_sums.proofs.Sizes.{abs_up_to}
@@ -18,27 +16,10 @@ fits w m z h l = fits_signed_from_abs w z (omega (arith, abs_up_to m z h))
 pub plus-read : (w : Width) (a b : ℤ) → SFits w a → SFits w b → SFits w (a +ℤ b) → to_z w (of_z w (to_z w (of_z w a) +ℤ to_z w (of_z w b))) ≡ a +ℤ b
 plus-read w a b f g h = rw (to_z-of_z w a f, to_z-of_z w b g) (to_z-of_z w (a +ℤ b) h)
 
-pub row-parent : (rows : List NodeRow) (n : ℕ) (d : NodeRow) → n < length rows → (slice_index_or rows n d).parent ≡ parent_in rows n
-row-parent [] n d h = absurd (omega arith)
-row-parent (x ∷ rows) zero d h = refl
-row-parent (x ∷ rows) (suc n) d h = row-parent rows n d (omega arith)
-
-pub row_level : (rows : List NodeRow) (n : ℕ) (d : NodeRow) → n < length rows → (slice_index_or rows n d).level ≡ level_in rows n
-row_level [] n d h = absurd (omega arith)
-row_level (x ∷ rows) zero d h = refl
-row_level (x ∷ rows) (suc n) d h = row_level rows n d (omega arith)
-
 -- a parent's number, which is smaller
-pub read_parent_smaller : (tree : ComponentTree) (rows : List NodeRow) (n : ℕ) (d : NodeRow) → IsWellFormed tree → rows ≡ tree.rows → n < length tree.rows
-    → ((slice_index_or rows n d).parent ≡ no_node → ⊥) → (slice_index_or rows n d).parent < n
-read_parent_smaller tree rows n d w f h some = go (w.parents n h)
-  where
-    read : (slice_index_or rows n d).parent ≡ parent_in tree.rows n
-    read = row-parent rows n d (let l : length rows ≡ length tree.rows = ap length f in omega arith) ∙ ap (λ (xs : List NodeRow). parent_in xs n) f
-
-    go : (parent_in tree.rows n ≡ no_node) ⊎ (parent_in tree.rows n < n) → (slice_index_or rows n d).parent < n
-    go (inl e) = absurd (some (read ∙ e))
-    go (inr l) = subst (λ (x : ℕ). x < n) (sym read) l
+pub some_parent_smaller : (p n : ℕ) → (p ≡ no_node) ⊎ (p < n) → (p ≡ no_node → ⊥) → p < n
+some_parent_smaller p n (inl e) some = absurd (some e)
+some_parent_smaller p n (inr l) some = l
 
 -- an entry of a list in which one was written
 pub get-written : {X : Type 0} (xs : List X) (i : ℕ) (v : X) (m : ℕ) (s : X) → slice_get (set xs i v) m ≡ Some s

@@ -16,13 +16,12 @@ pub fn base(tree: &Tree, n: u32) -> i64
     requires { n < length tree.now.rows }
     ensures { result ≡ base_of tree.now n }
 {
-    // A tree tells with its shape that its numbers are in range.
-    let _shape = tree.shape();
-    let row = tree.rows()[n as usize];
-    if row.parent == NONE {
-        row.level
+    let parent = tree.parent(n);
+    let rows = tree.rows();
+    if parent == NONE {
+        rows[n as usize].level
     } else {
-        tree.rows()[row.parent as usize].level
+        rows[parent as usize].level
     }
 }
 

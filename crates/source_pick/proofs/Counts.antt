@@ -1,14 +1,14 @@
 -- The steps of the passes that count strong children, and hand splits upwards.
-use Rattle.std.proofs.Common.{◌≡◌, ℕ, ◌+◌, ◌*◌, ◌^◌, ◌<◌, ◌≤◌, Bool, true, false, List, length, refl, sym, ◌∙◌, ap, subst, arith, ◌⊎◌, inl, inr}
+use Rattle.std.proofs.Common.{◌≡◌, ℕ, ◌+◌, ◌^◌, ◌<◌, ◌≤◌, Bool, true, false, List, length, refl, sym, ◌∙◌, ap, subst, arith, ◌⊎◌, inl, inr}
 use Rattle.std.proofs.Common.{get_or, set, replicate}
 use Rattle.std.specs.Prelude.{slice_get, slice_index_or, Some}
 use Rattle.std.proofs.lemmas.Bool.{cases_lt, cases_eq}
 use Rattle.std.proofs.lemmas.List.{length-set, length-replicate, get_or-replicate, get_or-set_same, get_or-set_other}
 use Rattle.std.proofs.lemmas.Option.{slice_get_within, get_or_from_slice_get}
 use Rattle.comp_tree.specs.declared.tree.NodeRow.{NodeRow}
-use Rattle.comp_tree.specs.ComponentTree.{ComponentTree, IsWellFormed, parent_in, no_node}
+use Rattle.comp_tree.specs.ComponentTree.{parent_in, no_node}
 use Rattle.comp_tree.specs.Laws.{IsAncestor, parent, above}
-use Rattle.node_sums.proofs.Exported.{get-written, row-parent}
+use Rattle.node_sums.proofs.Exported.{get-written}
 use Rattle.source_pick.specs.declared.splitting.StrongChildren.{StrongChildren}
 use Rattle.source_pick.specs.declared.splitting.StrongChildren.TheVariants.{Zero, One, Several}
 use Rattle.source_pick.specs.Passes.{IsStrongChild, HasStrongChildren, AreStrongChildCounts, with_one_more, IsOnWay, IsAboveSplit, ArePassed, AreAboveSplits}
@@ -162,15 +162,6 @@ passed_all rows splits k flags h e = record { one_each = h.one_each; sound = h.s
 
 -- ---- as the code reads it
 
-pub row_parent : (tree : ComponentTree) (rows : List NodeRow) (n : ℕ) (d : NodeRow) → rows ≡ tree.rows → n < length tree.rows
-    → parent_in tree.rows n ≡ (slice_index_or rows n d).parent
-row_parent tree rows n d f h =
-    sym (row-parent rows n d (let l : length rows ≡ length tree.rows = ap length f in omega arith) ∙ ap (λ (xs : List NodeRow). parent_in xs n) f)
-
 -- a parent that is none is no row's number
-pub none_outside : (tree : ComponentTree) (n m x : ℕ) → IsWellFormed tree → parent_in tree.rows n ≡ x → x ≡ no_node → parent_in tree.rows n ≡ m
-    → m < length tree.rows → ⊥
-none_outside tree n m x w e f g l =
-    let few : tree.shape.width * tree.shape.height ≤ 2 ^ 24 = tree.shape.within_limits.few_pixels in
-    let rows : length tree.rows ≤ tree.shape.width * tree.shape.height = w.few_rows in
-    absurd (omega arith)
+pub none_outside : (rows : List NodeRow) (n m x : ℕ) → length rows ≤ 2 ^ 24 → x ≡ parent_in rows n → x ≡ no_node → parent_in rows n ≡ m → m < length rows → ⊥
+none_outside rows n m x few e f g l = absurd (omega arith)

@@ -20,7 +20,7 @@ use Rattle.comp_tree.proofs.Exported.{shape-of}
 use Rattle.node_sums.specs.declared.entry.Sums.{Sums}
 use Rattle.node_sums.specs.Sums.{sums_of, sums_in, AreTheTrees}
 use Rattle.comp_tree.specs.Nesting.{level_in, level_of_node}
-use Rattle.node_sums.proofs.Exported.{numbers_for_pixels, row-parent, row_level, rows_are}
+use Rattle.node_sums.proofs.Exported.{numbers_for_pixels, row_level, rows_are}
 
 -- ---- the plane
 
@@ -59,12 +59,9 @@ level-read r connect tree rows n d e f h =
     row_level rows n d (let l : length rows ≡ length tree.rows = ap length f in omega arith)
     ∙ ap (λ (xs : List NodeRow). level_in xs n) f ∙ ap (λ (t : ComponentTree). level_in t.rows n) e
 
-pub parent-read : (r : Raster) (connect : Connect) (tree : ComponentTree) (rows : List NodeRow) (n : ℕ) (d : NodeRow) → tree ≡ tree_of r connect
-    → rows ≡ tree.rows
-    → n < length tree.rows → (slice_index_or rows n d).parent ≡ parent_of_node r connect n
-parent-read r connect tree rows n d e f h =
-    row-parent rows n d (let l : length rows ≡ length tree.rows = ap length f in omega arith)
-    ∙ ap (λ (xs : List NodeRow). parent_in xs n) f ∙ ap (λ (t : ComponentTree). parent_in t.rows n) e
+pub parent-read : (r : Raster) (connect : Connect) (tree : ComponentTree) (n p : ℕ) → tree ≡ tree_of r connect → p ≡ parent_in tree.rows n
+    → p ≡ parent_of_node r connect n
+parent-read r connect tree n p e f = f ∙ ap (λ (t : ComponentTree). parent_in t.rows n) e
 
 -- ---- sums
 

@@ -14,16 +14,6 @@ use costs::OutOfMemory;
 use node_sums::{Sums, flux};
 use std::alloc::Global;
 
-// The number of nodes.
-pub(crate) fn node_count(tree: &Tree) -> u32
-    ensures all { result ≡ length tree.now.rows }
-    ensures few { result ≤ 2 ^ 24 }
-{
-    // A tree tells with its shape that its numbers are in range.
-    let _shape = tree.shape();
-    tree.rows().len() as u32
-}
-
 // For each node the entry in which it lies, or `NONE`.
 pub(crate) fn entries_of_nodes(
     alloc: Global,
@@ -35,7 +25,7 @@ pub(crate) fn entries_of_nodes(
     ensures { IfOk result (λ entries.
         AreEntries choice.now tree.now sums.now (length tree.now.rows) entries.items) }
 {
-    let count = node_count(tree);
+    let count = tree.node_count();
     let mut entries = vec![in alloc; NONE; count as usize]?;
     find_entries(tree, sums, choice, &mut entries);
     Ok(entries)
@@ -47,7 +37,7 @@ fn find_entries(tree: &Tree, sums: &[Sums], choice: &Choice, entries: &mut [u32]
     requires one_each { length entries.old ≡ length tree.now.rows }
     ensures { AreEntries choice.now tree.now sums.now (length tree.now.rows) entries.new }
 {
-    for n in 0..node_count(tree) {
+    for n in 0..tree.node_count() {
         let entry = entry_of_node(tree, sums, choice, entries, n);
         entries[n as usize] = entry;
     }
@@ -64,9 +54,7 @@ fn entry_of_node(tree: &Tree, sums: &[Sums], choice: &Choice, entries: &[u32], n
     if passes_as_entry(tree, sums, choice, n) {
         return n;
     }
-    // A tree tells with its shape that its numbers are in range.
-    let _shape = tree.shape();
-    let parent = tree.rows()[n as usize].parent;
+    let parent = tree.parent(n);
     if parent == NONE {
         return NONE;
     }
@@ -94,14 +82,11 @@ fn lies_lowest(tree: &Tree, choice: &Choice, n: u32) -> bool
     ensures { (r : Raster) (connect : Connect) → tree.now ≡ tree_of r connect
         → result ≡ is_lowest r connect choice.now n }
 {
-    // A tree tells with its shape that its numbers are in range.
-    let _shape = tree.shape();
-    let rows = tree.rows();
-    let parent = rows[n as usize].parent;
+    let parent = tree.parent(n);
     if parent == NONE {
         return true;
     }
-    rows[parent as usize].level < choice.threshold
+    tree.rows()[parent as usize].level < choice.threshold
 }
 
 // Whether a node has the area and the flux that are asked for.
@@ -117,7 +102,6 @@ fn has_size(tree: &Tree, sums: &[Sums], choice: &Choice, n: u32) -> bool
     flux(tree, sums, n) >= choice.min_flux
 }
 
-// For each node whether it is strong.
 pub(crate) fn strong_nodes(
     alloc: Global,
     tree: &Tree,
@@ -130,7 +114,7 @@ pub(crate) fn strong_nodes(
     ensures { IfOk result (λ strong.
         AreStrong choice.now tree.now sums.now (length tree.now.rows) strong.items) }
 {
-    let count = node_count(tree);
+    let count = tree.node_count();
     let mut strong = vec![in alloc; false; count as usize]?;
     find_strong(tree, sums, choice, entries, &mut strong);
     Ok(strong)
@@ -142,7 +126,7 @@ fn find_strong(tree: &Tree, sums: &[Sums], choice: &Choice, entries: &[u32], str
     requires one_each { length strong.old ≡ length tree.now.rows }
     ensures { AreStrong choice.now tree.now sums.now (length tree.now.rows) strong.new }
 {
-    for n in 0..node_count(tree) {
+    for n in 0..tree.node_count() {
         let is_strong_node = passes_as_strong(tree, sums, choice, entries, n);
         strong[n as usize] = is_strong_node;
     }

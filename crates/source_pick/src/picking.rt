@@ -19,7 +19,7 @@ ghost use Rattle.source_pick.specs.Passes.{
 };
 
 use crate::choice::Choice;
-use crate::marking::{entries_of_nodes, node_count, strong_nodes};
+use crate::marking::{entries_of_nodes, strong_nodes};
 use crate::splitting::{StrongChildren, above_splits, strong_children};
 use comp_tree::{NONE, Tree};
 use costs::OutOfMemory;
@@ -89,7 +89,7 @@ fn source_flags(
         → AreStrong choice tree.now sums (length tree.now.rows) strong.now
         → AreSources choice tree.now sums (length tree.now.rows) flags.items) }
 {
-    let mut flags = vec![in alloc; false; node_count(tree) as usize]?;
+    let mut flags = vec![in alloc; false; tree.node_count() as usize]?;
     flag_sources(tree, entries, strong, children, above, &mut flags);
     Ok(flags)
 }
@@ -112,7 +112,7 @@ fn flag_sources(
         → AreStrong choice tree.now sums (length tree.now.rows) strong.now
         → AreSources choice tree.now sums (length tree.now.rows) flags.new }
 {
-    for n in 0..node_count(tree) {
+    for n in 0..tree.node_count() {
         let is_flagged = passes_as_source(tree, entries, strong, children, above, n);
         flags[n as usize] = is_flagged;
     }
@@ -146,9 +146,7 @@ fn passes_as_source(
     if !strong[n as usize] {
         return false;
     }
-    // A tree tells with its shape that its numbers are in range.
-    let _shape = tree.shape();
-    let parent = tree.rows()[n as usize].parent;
+    let parent = tree.parent(n);
     if parent == NONE {
         return false;
     }
@@ -169,7 +167,7 @@ fn placed_sources(
         → ArePlacedSources choice tree.now sums.now (length tree.now.rows) placed.items) }
 {
     let mut placed = Vec::new(alloc);
-    for n in 0..node_count(tree) {
+    for n in 0..tree.node_count() {
         if flags[n as usize] {
             let first = sums[n as usize].first;
             placed.push(PlacedSource { first, node: n })?;

@@ -88,14 +88,11 @@ fn pass_down(tree: &Tree, numbers: &mut [u32])
         → AreMarked (length tree.now.rows) marked (length marked) numbers.old
         → AreNumbered tree.now marked (length tree.now.rows) numbers.new }
 {
-    // A tree tells with its shape that its numbers are in range.
-    let _shape = tree.shape();
-    let rows = tree.rows();
-    for n in 0..rows.len() {
-        let parent = rows[n].parent;
-        if numbers[n] == 0 && parent != NONE {
+    for n in 0..tree.node_count() {
+        let parent = tree.parent(n);
+        if numbers[n as usize] == 0 && parent != NONE {
             let number = numbers[parent as usize];
-            numbers[n] = number;
+            numbers[n as usize] = number;
         }
     }
 }
@@ -142,8 +139,6 @@ fn number_pixels(tree: &Tree, numbers: &[u32], start: usize, map: &mut [u32])
     requires blank { (k : ℕ) → slice_index map.old k ≡ 0 }
     ensures { HavePixelNumbers tree.now numbers.now start (length map.old) map.new }
 {
-    // A tree tells with its shape that its numbers are in range.
-    let _shape = tree.shape();
     let node_of = tree.node_of();
     for k in 0..map.len() {
         let n = node_of[start + k];

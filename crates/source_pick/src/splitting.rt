@@ -60,7 +60,7 @@ fn count_children(tree: &Tree, entries: &[u32], strong: &[bool], children: &mut 
     requires none { AreStrongChildCounts tree.now.rows entries.now strong.now 0 children.old }
     ensures { AreStrongChildCounts tree.now.rows entries.now strong.now (length tree.now.rows) children.new }
 {
-    for n in 0..tree.rows().len() {
+    for n in 0..tree.node_count() {
         if let Some(parent) = inner_parent(tree, entries, strong, n) {
             let more = children[parent as usize].and_one();
             children[parent as usize] = more;
@@ -69,7 +69,7 @@ fn count_children(tree: &Tree, entries: &[u32], strong: &[bool], children: &mut 
 }
 
 // The parent of a strong node, where it lies in an entry.
-fn inner_parent(tree: &Tree, entries: &[u32], strong: &[bool], n: usize) -> Option<u32>
+fn inner_parent(tree: &Tree, entries: &[u32], strong: &[bool], n: u32) -> Option<u32>
     requires node { n < length tree.now.rows }
     requires entries { length entries.now ≡ length tree.now.rows }
     requires strong { length strong.now ≡ length tree.now.rows }
@@ -78,12 +78,10 @@ fn inner_parent(tree: &Tree, entries: &[u32], strong: &[bool], n: usize) -> Opti
     ensures none { IfNone result ((m : ℕ) → m < length tree.now.rows
         → IsStrongChild tree.now.rows entries.now strong.now m n → ⊥) }
 {
-    if !strong[n] {
+    if !strong[n as usize] {
         return None;
     }
-    // A tree tells with its shape that its numbers are in range.
-    let _shape = tree.shape();
-    let parent = tree.rows()[n].parent;
+    let parent = tree.parent(n);
     if parent == NONE {
         return None;
     }
@@ -108,7 +106,6 @@ pub(crate) fn above_splits(
     Ok(flags)
 }
 
-// For each node whether it is a split.
 fn split_flags(alloc: Global, children: &[StrongChildren]) -> Result<Vec<bool>, AllocError>
     ensures { IfOk result (λ flags. flags.items ≡ map are_several children.now) }
 {
@@ -120,12 +117,9 @@ fn pass_up(tree: &Tree, flags: &mut [bool])
     requires { length flags.old ≡ length tree.now.rows }
     ensures { AreAboveSplits tree.now.rows flags.old flags.new }
 {
-    // A tree tells with its shape that its numbers are in range.
-    let _shape = tree.shape();
-    let rows = tree.rows();
-    for n in (0..rows.len()).rev() {
-        let parent = rows[n].parent;
-        if flags[n] && parent != NONE {
+    for n in (0..tree.node_count()).rev() {
+        let parent = tree.parent(n);
+        if flags[n as usize] && parent != NONE {
             flags[parent as usize] = true;
         }
     }

@@ -166,7 +166,6 @@ fn room_for_links(alloc: Global, plane: &Plane, cut: &[u32]) -> Result<Vec<u32>,
     Ok(Vec::with_capacity(alloc, plane.shape().pixels() as usize)?)
 }
 
-// The links of the only job.
 fn only_links(
     closed: Closed<StripJob, Global>,
     plane: &Plane,

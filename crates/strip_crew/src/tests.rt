@@ -290,7 +290,6 @@ fn join_pixels<R: Threads + Sync + Abort, J: Gate>(
     join_group(rt, links, plane, Connect::Four, 0, rows, forks, joins);
 }
 
-// Joins the pixels of a column.
 fn join_column<R: Threads + Sync + Abort, J: Gate>(
     rt: &R,
     alloc: Global,

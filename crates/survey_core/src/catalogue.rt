@@ -55,7 +55,6 @@ fn is_catalogue(hdu: &Hdu) -> bool
         && are_rows(hdu.height, hdu.data_bytes)
 }
 
-// The next row.
 fn read_row<S: Source>(src: &mut S, row: &mut [u8; BYTES_IN_ROW]) -> Result<(), Stop>
     ensures told { ForSome (S.left src.old) (λ bytes. MatchResult result (λ _. IsRow bytes (S.left src.new) row.new) (IsCutWithin bytes bytes_in_row (S.left src.new))) }
     ensures cause { IfErr result (ReadCause (S.faults src.old) (S.faults src.new)) }

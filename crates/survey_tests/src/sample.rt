@@ -61,7 +61,6 @@ pub(crate) struct Sample<'a> {
     pub(crate) sources: &'a [Source],
 }
 
-// Fills the last block.
 fn fill_block(bytes: &mut Vec<u8>, byte: u8) -> Result<(), Fail> {
     let rest = (BLOCK - bytes.len() % BLOCK) % BLOCK;
     for _ in 0..rest {

@@ -39,7 +39,6 @@ fn mix(p: u32) -> u32 {
 }
 
 impl Reach {
-    // Whether `p` is a mark.
     pub(crate) fn has_mark(self, p: u32) -> bool {
         match self {
             Reach::Near => mix(p) >> 26 == 0,

@@ -66,20 +66,6 @@ pub fn trial_image(alloc: Global, seed: u32, shape: Shape) -> Result<Plane, OutO
     Ok(canvas.into_plane())
 }
 
-// A tree has at most as many nodes as pixels, so the other branch never runs: without it no clause says that the count fits.
-fn node_count(tree: &Tree) -> u32
-    ensures all { result ≡ length tree.now.rows }
-    ensures few { result ≤ 2 ^ 24 }
-{
-    let pixels = tree.shape().pixels();
-    let count = tree.rows().len();
-    if count <= pixels as usize {
-        count as u32
-    } else {
-        pixels
-    }
-}
-
 fn count_roots(rows: &[NodeRow]) -> u32
     requires { length rows.now ≤ 2 ^ 24 }
     ensures { result ≡ count_by is_root_row rows.now }
@@ -124,7 +110,7 @@ fn sum_fluxes(tree: &Tree, sums: &[Sums]) -> u64
         sums_in plane connect → result ≡ total_flux plane connect }
 {
     let mut fluxes = 0;
-    for n in 0..node_count(tree) {
+    for n in 0..tree.node_count() {
         fluxes += flux(tree, sums, n).unsigned_abs();
     }
     fluxes
@@ -165,7 +151,7 @@ fn summary_in<R: Threads + Sync>(
     let numbers = segment_in_parts(rt, alloc, tree, &sources, workers)?;
     Ok(Summary {
         pixels: shape.pixels(),
-        nodes: node_count(tree),
+        nodes: tree.node_count(),
         roots: count_roots(tree.rows()),
         areas: sum_areas(&sums),
         fluxes: sum_fluxes(tree, &sums),

@@ -6,7 +6,7 @@ use Rattle.dual_measure.proofs.Passing.{front_none, numbers_for_values, down_fro
 use Rattle.dual_measure.proofs.adding.fill.Goals as goal
 
 pub add_pixels-requires-clause-one_each : goal.add_pixels-requires-clause-one_each
-add_pixels-requires-clause-one_each c = ap length c.node_of.ensures ∙ numbers_for_values c.args.values.now c.args.tree.now c.requires.shape c.requires.tree
+add_pixels-requires-clause-one_each c = ap length c.node_of.ensures.same ∙ numbers_for_values c.args.values.now c.args.tree.now c.requires.shape c.requires.tree
 
 pub add_pixels-requires-clause-none : goal.add_pixels-requires-clause-none
 add_pixels-requires-clause-none c = front_none c.args.values.now c.node_of.result.now _ c.args.entries.now c.requires.blank
@@ -15,7 +15,7 @@ pub add_to_parents-requires-clause-own : goal.add_to_parents-requires-clause-own
 add_to_parents-requires-clause-own c =
     down_from_front c.args.values.now c.args.tree.now c.add_pixels.new.entries c.add_pixels.ensures.plane c.requires.shape
     (c.add_pixels.auto.entries ∙ ap length c.requires.blank ∙ length-replicate (length c.args.tree.now.rows) blank_measure)
-    (subst (λ (numbers : List ℕ). AreOfFront c.args.values.now numbers (length c.args.values.now.values) c.add_pixels.new.entries) c.node_of.ensures
+    (subst (λ (numbers : List ℕ). AreOfFront c.args.values.now numbers (length c.args.values.now.values) c.add_pixels.new.entries) c.node_of.ensures.same
     c.add_pixels.ensures.own)
 
 pub returns-clause-exact : goal.returns-clause-exact

@@ -37,7 +37,7 @@ node_values-requires-clause-rows c =
 
 pub fill-requires-clause-pixels : goal.fill-requires-clause-pixels
 fill-requires-clause-pixels c =
-    ap length c.node_of.ensures ∙ numbers_for_pixels c.args.plane.now c.args.tree.now (c.requires.of_plane.connect, c.requires.of_plane.tree_is)
+    ap length c.node_of.ensures.same ∙ numbers_for_pixels c.args.plane.now c.args.tree.now (c.requires.of_plane.connect, c.requires.of_plane.tree_is)
     ∙ c.shape-shape.ensures.pixels
 
 pub fill-requires-clause-nodes : goal.fill-requires-clause-nodes
@@ -46,7 +46,7 @@ fill-requires-clause-nodes c =
     let count : length c.deref-3.result.now ≡ length c.args.tree.now.rows =
     ap length c.deref-3.ensures.value ∙ c.in_ok-values.ensures.one_each ∙ ap length c.rows.ensures in
     subst (λ (numbers : List ℕ). (p : ℕ) → p < length numbers → (slice_index numbers p ≡ no_node) ⊎ (slice_index numbers p < length c.deref-3.result.now))
-    (sym c.node_of.ensures)
+    (sym c.node_of.ensures.same)
     (subst (λ (k : ℕ). (p : ℕ) → p < length c.args.tree.now.node_of → (slice_index c.args.tree.now.node_of p ≡ no_node) ⊎ (slice_index c.args.tree.now.node_of
     p < k)) (sym count)
     (numbers_fit c.args.plane.now c.requires.of_plane.connect c.args.tree.now plane c.requires.of_plane.tree_is))
@@ -65,5 +65,5 @@ returns c =
           (subst (λ (rows : List NodeRow). AreValues rows c.args.rule c.deref-2.result.now c.in_ok-values.values.items) c.rows.ensures
           c.in_ok-values.ensures.values);
       same_shape = s ∙ c.shape-shape.ensures.same;
-      filled = v ∙ ap (map (filled_pixel c.deref-3.result.now)) c.node_of.ensures;
+      filled = v ∙ ap (map (filled_pixel c.deref-3.result.now)) c.node_of.ensures.same;
     }))

@@ -12,12 +12,12 @@ loop-node-init c = before_rows c.args.tree.now c.args.measures.now c.args.nodes.
 
 pub bounds-node_of-node : goal.bounds-node_of-node
 bounds-node_of-node c =
-    (number_there c.args.tree.now c.node_of-node_of.result.now c.args.nodes.now c.loop-node.node-index _ c.requires.there c.node_of-node_of.ensures
+    (number_there c.args.tree.now c.node_of-node_of.result.now c.args.nodes.now c.loop-node.node-index _ c.requires.there c.node_of-node_of.ensures.same
     c.loop-node-test.true).0
 
 pub row_cells-cells-requires-clause-node : goal.row_cells-cells-requires-clause-node
 row_cells-cells-requires-clause-node c =
-    (number_there c.args.tree.now c.node_of-node_of.result.now c.args.nodes.now c.loop-node.node-index _ c.requires.there c.node_of-node_of.ensures
+    (number_there c.args.tree.now c.node_of-node_of.result.now c.args.nodes.now c.loop-node.node-index _ c.requires.there c.node_of-node_of.ensures.same
     c.loop-node-test.true).1
 
 pub row_cells-cells-requires-clause-columns : goal.row_cells-cells-requires-clause-columns
@@ -34,7 +34,7 @@ loop-node-preserved c =
     (λ plane values connect one tree_is measures_are.
     node_read plane values connect c.args.tree.now c.node_of-node_of.result.now _ c.row_cells-cells.result
     tree_is
-    c.node_of-node_of.ensures there.0 (c.row_cells-cells.ensures.exact plane values connect one tree_is measures_are))
+    c.node_of-node_of.ensures.same there.0 (c.row_cells-cells.ensures.exact plane values connect one tree_is measures_are))
 
 pub returns-clause-exact : goal.returns-clause-exact
 returns-clause-exact c = λ plane values connect one tree_is measures_are.

@@ -14,10 +14,10 @@ add_pixels-requires-clause-nodes c = λ p d.
     let entries =
     ap length (c.deref_mut.ensures.value ∙ c.in_ok-sums.ensures c.args.plane.now)
     ∙ length-replicate (length c.rows.result.now) (sums_over c.args.plane.now []) in
-    omega (arith, h, ap (λ (xs : List ℕ). slice_index xs p) c.node_of.ensures, entries, ap length c.rows.ensures)
+    omega (arith, h, ap (λ (xs : List ℕ). slice_index xs p) c.node_of.ensures.same, entries, ap length c.rows.ensures)
 
 pub add_pixels-requires-clause-one_each : goal.add_pixels-requires-clause-one_each
-add_pixels-requires-clause-one_each c = ap length c.node_of.ensures ∙ Passes.numbers_for_pixels c.args.plane.now c.args.tree.now c.requires
+add_pixels-requires-clause-one_each c = ap length c.node_of.ensures.same ∙ Passes.numbers_for_pixels c.args.plane.now c.args.tree.now c.requires
 
 pub add_pixels-requires-clause-none : goal.add_pixels-requires-clause-none
 add_pixels-requires-clause-none c =
@@ -34,7 +34,7 @@ add_to_parents-requires-clause-own c =
     let handed : c.deref_mut-2.result.now ≡ c.add_pixels.new.sums =
     c.deref_mut-2.ensures.value ∙ Passes.take_front c.add_pixels.new.sums _ _ (c.add_pixels.auto.sums ∙ c.deref_mut.ensures.len) in
     let own : AreOwn c.args.plane.now c.args.tree.now.node_of (pixels c.args.plane.now) c.add_pixels.new.sums =
-    subst (λ (numbers : List ℕ). AreOwn c.args.plane.now numbers (pixels c.args.plane.now) c.add_pixels.new.sums) c.node_of.ensures c.add_pixels.ensures.own in
+    subst (λ (numbers : List ℕ). AreOwn c.args.plane.now numbers (pixels c.args.plane.now) c.add_pixels.new.sums) c.node_of.ensures.same c.add_pixels.ensures.own in
     subst (λ (sums : List Sums). AreCounted c.args.plane.now c.args.tree.now (length c.args.tree.now.rows) sums) (sym handed)
     (Passes.counted_from_own c.args.plane.now c.args.tree.now c.add_pixels.new.sums c.add_pixels.ensures.plane
     (c.add_pixels.auto.sums ∙ entries ∙ ap length c.rows.ensures) own)

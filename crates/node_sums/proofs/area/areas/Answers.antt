@@ -6,7 +6,7 @@ use Rattle.node_sums.proofs.AreaSteps.{counts_none, areas_from_counts, areas_fro
 use Rattle.node_sums.proofs.area.areas.Goals as goal
 
 pub count_pixels-requires-clause-one_each : goal.count_pixels-requires-clause-one_each
-count_pixels-requires-clause-one_each c = ap length c.node_of.ensures ∙ numbers_for_pixels c.args.plane.now c.args.tree.now c.requires
+count_pixels-requires-clause-one_each c = ap length c.node_of.ensures.same ∙ numbers_for_pixels c.args.plane.now c.args.tree.now c.requires
 
 pub count_pixels-requires-clause-none : goal.count_pixels-requires-clause-none
 count_pixels-requires-clause-none c =
@@ -22,7 +22,7 @@ add_to_parents-requires-clause-own c =
     subst (λ (areas : List ℕ). AreSoFar c.args.plane.now c.args.tree.now (length c.args.tree.now.rows) areas) (sym handed)
     (areas_from_counts c.args.plane.now c.args.tree.now c.count_pixels.new.areas c.count_pixels.ensures.plane
     (c.count_pixels.auto.areas ∙ entries ∙ ap length c.rows.ensures)
-    (subst (λ (numbers : List ℕ). AreCounts numbers (length c.args.plane.now.values) c.count_pixels.new.areas) c.node_of.ensures c.count_pixels.ensures.counts))
+    (subst (λ (numbers : List ℕ). AreCounts numbers (length c.args.plane.now.values) c.count_pixels.new.areas) c.node_of.ensures.same c.count_pixels.ensures.counts))
 
 pub returns-clause-exact : goal.returns-clause-exact
 returns-clause-exact c = λ connect e.

@@ -17,10 +17,10 @@ add_pixels-requires-clause-nodes c = λ p d.
     let entries =
     ap length (c.deref_mut.ensures.value ∙ c.in_ok-outlines.ensures c.args.plane.now)
     ∙ length-replicate (length c.rows.result.now) (outline_of (sums_over c.args.plane.now [])) in
-    omega (arith, h, ap (λ (xs : List ℕ). slice_index xs p) c.node_of.ensures, entries, ap length c.rows.ensures)
+    omega (arith, h, ap (λ (xs : List ℕ). slice_index xs p) c.node_of.ensures.same, entries, ap length c.rows.ensures)
 
 pub add_pixels-requires-clause-one_each : goal.add_pixels-requires-clause-one_each
-add_pixels-requires-clause-one_each c = ap length c.node_of.ensures ∙ numbers_for_pixels c.args.plane.now c.args.tree.now c.requires
+add_pixels-requires-clause-one_each c = ap length c.node_of.ensures.same ∙ numbers_for_pixels c.args.plane.now c.args.tree.now c.requires
 
 pub add_pixels-requires-clause-none : goal.add_pixels-requires-clause-none
 add_pixels-requires-clause-none c =
@@ -37,7 +37,7 @@ add_to_parents-requires-clause-own c =
     let handed : c.deref_mut-2.result.now ≡ c.add_pixels.new.outlines =
     c.deref_mut-2.ensures.value ∙ take_front c.add_pixels.new.outlines _ _ (c.add_pixels.auto.outlines ∙ c.deref_mut.ensures.len) in
     let own : AreOutlinesOf (AreOwn c.args.plane.now c.args.tree.now.node_of (pixels c.args.plane.now)) c.add_pixels.new.outlines =
-    subst (λ (numbers : List ℕ). AreOutlinesOf (AreOwn c.args.plane.now numbers (pixels c.args.plane.now)) c.add_pixels.new.outlines) c.node_of.ensures
+    subst (λ (numbers : List ℕ). AreOutlinesOf (AreOwn c.args.plane.now numbers (pixels c.args.plane.now)) c.add_pixels.new.outlines) c.node_of.ensures.same
     c.add_pixels.ensures.own in
     subst (λ (outlines : List Outline). AreOutlinesOf (AreCounted c.args.plane.now c.args.tree.now (length c.args.tree.now.rows)) outlines) (sym handed)
     (outlines_counted c.args.plane.now c.args.tree.now c.add_pixels.new.outlines c.add_pixels.ensures.plane

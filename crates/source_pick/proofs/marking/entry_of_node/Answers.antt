@@ -1,6 +1,6 @@
 use Rattle.std.proofs.Common.{arith}
 use Rattle.source_pick.proofs.Readings.{node_inside, parent-read}
-use Rattle.node_sums.proofs.Exported.{read_parent_smaller}
+use Rattle.node_sums.proofs.Exported.{some_parent_smaller}
 use Rattle.source_pick.proofs.Strong.{number_of_self, number_of_root, number_of_child}
 use Rattle.source_pick.proofs.marking.entry_of_node.Goals as goal
 
@@ -13,19 +13,19 @@ pub returns-then-parent : goal.returns-then-parent
 returns-then-parent c = λ r connect of_tree of_sums is_plane.
     number_of_root r connect c.args.choice.now c.args.n _ is_plane (node_inside r connect c.args.tree.now c.args.n of_tree c.requires.node)
     (c.if-passes_as_entry.ensures r connect of_tree of_sums is_plane)
-    (parent-read r connect c.args.tree.now c.rows.result.now c.args.n _ of_tree c.rows.ensures c.requires.node) c.if-parent.true
+    (parent-read r connect c.args.tree.now c.args.n _ of_tree c.parent-parent.ensures.same) c.if-parent.true
 
 pub bounds-entries-parent : goal.bounds-entries-parent
 bounds-entries-parent c =
     let smaller =
-    read_parent_smaller c.args.tree.now c.rows.result.now c.args.n _ c.shape-shape.ensures.well_formed c.rows.ensures c.requires.node c.if-parent.false in
+    some_parent_smaller c.parent-parent.result c.args.n c.parent-parent.ensures.smaller c.if-parent.false in
     omega (arith, smaller, c.requires.node, c.requires.parents.one_each)
 
 pub returns : goal.returns
 returns c = λ r connect of_tree of_sums is_plane.
     let smaller =
-    read_parent_smaller c.args.tree.now c.rows.result.now c.args.n _ c.shape-shape.ensures.well_formed c.rows.ensures c.requires.node c.if-parent.false in
+    some_parent_smaller c.parent-parent.result c.args.n c.parent-parent.ensures.smaller c.if-parent.false in
     number_of_child r connect c.args.choice.now c.args.n _ _ is_plane (node_inside r connect c.args.tree.now c.args.n of_tree c.requires.node)
     (c.if-passes_as_entry.ensures r connect of_tree of_sums is_plane)
-    (parent-read r connect c.args.tree.now c.rows.result.now c.args.n _ of_tree c.rows.ensures c.requires.node) smaller
+    (parent-read r connect c.args.tree.now c.args.n _ of_tree c.parent-parent.ensures.same) smaller
     (c.requires.parents.each r connect of_tree of_sums is_plane _ smaller)

@@ -1,6 +1,6 @@
 use Rattle.std.proofs.Common.{arith, ◌∙◌}
 use Rattle.source_pick.proofs.Readings.{parent-read}
-use Rattle.node_sums.proofs.Exported.{read_parent_smaller}
+use Rattle.node_sums.proofs.Exported.{some_parent_smaller}
 use Rattle.source_pick.proofs.Flags.{IsKnown, several_read, exit_above, exit_entry, exit_weak, exit_root, exit_child}
 use Rattle.source_pick.proofs.picking.passes_as_source.Goals as goal
 
@@ -51,18 +51,18 @@ returns-then-parent c = λ choice sums known_entries known_strong r connect of_t
       above_are = c.requires.above;
     })
     c.args.n _ c.requires.node c.if-above-n.false c.if-entries-n.false
-    (parent-read r connect c.args.tree.now c.rows.result.now c.args.n _ of_tree c.rows.ensures c.requires.node) c.if-parent.true
+    (parent-read r connect c.args.tree.now c.args.n _ of_tree c.parent-parent.ensures.same) c.if-parent.true
 
 pub bounds-children-parent : goal.bounds-children-parent
 bounds-children-parent c =
     let smaller =
-    read_parent_smaller c.args.tree.now c.rows.result.now c.args.n _ c.shape-shape.ensures.well_formed c.rows.ensures c.requires.node c.if-parent.false in
+    some_parent_smaller c.parent-parent.result c.args.n c.parent-parent.ensures.smaller c.if-parent.false in
     omega (arith, smaller, c.requires.node, c.requires.children.one_each)
 
 pub returns : goal.returns
 returns c = λ choice sums known_entries known_strong r connect of_tree of_sums is_plane.
     let smaller =
-    read_parent_smaller c.args.tree.now c.rows.result.now c.args.n _ c.shape-shape.ensures.well_formed c.rows.ensures c.requires.node c.if-parent.false in
+    some_parent_smaller c.parent-parent.result c.args.n c.parent-parent.ensures.smaller c.if-parent.false in
     let known : IsKnown r connect choice c.args.tree.now sums c.args.entries.now c.args.strong.now c.args.children.now c.args.above.now =
     record {
       of = record { plane = is_plane; tree_is = of_tree; sums_are = of_sums };
@@ -73,7 +73,7 @@ returns c = λ choice sums known_entries known_strong r connect of_tree of_sums 
     } in
     exit_child r connect choice c.args.tree.now sums c.args.entries.now c.args.strong.now c.args.children.now c.args.above.now known
     c.args.n _ _ c.requires.node c.if-above-n.false c.if-entries-n.false c.if-not-strong-n.false
-    (parent-read r connect c.args.tree.now c.rows.result.now c.args.n _ of_tree c.rows.ensures c.requires.node) smaller
+    (parent-read r connect c.args.tree.now c.args.n _ of_tree c.parent-parent.ensures.same) smaller
     (c.are_several.ensures
     ∙ several_read r connect choice c.args.tree.now sums c.args.entries.now c.args.strong.now c.args.children.now c.args.above.now known _ _
     (omega (arith, smaller, c.requires.node)))

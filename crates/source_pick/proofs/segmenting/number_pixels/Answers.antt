@@ -17,9 +17,9 @@ loop-k-preserved c =
       | then-n w ↦ record {
         done = record {
           each = λ marked r connect d known same q l.
-              let plane = plane_from_tree r connect c.args.tree.now same c.shape-shape.ensures.well_formed.one_each in
+              let plane = plane_from_tree r connect c.args.tree.now same (sym (ap length c.node_of-node_of.ensures.same) ∙ c.node_of-node_of.ensures.one_each) in
               let both = number_of_defined r connect c.args.tree.now marked plane same d (c.args.start + c.loop-k.k) _ inside
-              (ap (λ (xs : List ℕ). slice_index xs (c.args.start + c.loop-k.k)) c.node_of-node_of.ensures) w.if-n.true in
+              (ap (λ (xs : List ℕ). slice_index xs (c.args.start + c.loop-k.k)) c.node_of-node_of.ensures.same) w.if-n.true in
               ap (λ (xs : List ℕ). slice_index xs q) w.map-is
               ∙ filled c.loop-k.map c.loop-k.k _ 0 (λ k. source_number_at r connect marked (c.args.start + k)) place
               (c.loop-k.invariant.done.each marked r connect d known same)
@@ -30,13 +30,13 @@ loop-k-preserved c =
       | else-n w ↦ record {
         done = record {
           each = λ marked r connect d known same q l.
-              let plane = plane_from_tree r connect c.args.tree.now same c.shape-shape.ensures.well_formed.one_each in
+              let plane = plane_from_tree r connect c.args.tree.now same (sym (ap length c.node_of-node_of.ensures.same) ∙ c.node_of-node_of.ensures.one_each) in
               ap (λ (xs : List ℕ). slice_index xs q) w.map-is
               ∙ filled_still c.loop-k.map c.loop-k.k (λ k. source_number_at r connect marked (c.args.start + k))
               (c.loop-k.invariant.done.each marked r connect d known same)
               (c.loop-k.invariant.rest c.loop-k.k (omega arith)
               ∙ sym (number_of_undefined r connect c.args.tree.now marked plane same d (c.args.start + c.loop-k.k) _ inside
-              (ap (λ (xs : List ℕ). slice_index xs (c.args.start + c.loop-k.k)) c.node_of-node_of.ensures) w.if-n.false)) q l;
+              (ap (λ (xs : List ℕ). slice_index xs (c.args.start + c.loop-k.k)) c.node_of-node_of.ensures.same) w.if-n.false)) q l;
         };
         rest = λ q l. ap (λ (xs : List ℕ). slice_index xs q) w.map-is ∙ c.loop-k.invariant.rest q (omega arith);
       }

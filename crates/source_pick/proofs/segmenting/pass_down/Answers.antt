@@ -1,8 +1,7 @@
 use Rattle.std.proofs.Common.{◌≡◌, ◌∙◌, ◌+◌, ◌<◌, ℕ, List, sym, ap, subst, refl, arith, length}
 use Rattle.std.specs.Prelude.{slice_index}
 use Rattle.source_pick.specs.Passes.{AreNumbered}
-use Rattle.node_sums.proofs.Exported.{read_parent_smaller}
-use Rattle.source_pick.proofs.Counts.{row_parent}
+use Rattle.node_sums.proofs.Exported.{some_parent_smaller}
 use Rattle.source_pick.proofs.Marks.{numbered_none, numbered_child, numbered_marked, numbered_root, numbered_up_to, untouched, untouched_yet}
 use Rattle.source_pick.proofs.segmenting.pass_down.Goals.{then-numbers-n-eq0+then-parent, else-numbers-n-eq0}
 use Rattle.source_pick.proofs.segmenting.pass_down.Goals.{else-numbers-n-eq0-via-then-numbers-n-eq0+else-parent, else-numbers-n-eq0-via-else-numbers-n-eq0}
@@ -13,21 +12,19 @@ loop-n-init c = record { done = λ marked d m. numbered_none c.args.tree.now mar
 
 pub bounds-numbers-parent : goal.bounds-numbers-parent
 bounds-numbers-parent c =
-    let smaller = read_parent_smaller c.args.tree.now c.rows-rows.result.now c.loop-n.n _ c.shape-shape.ensures.well_formed c.rows-rows.ensures
-    (omega (arith, c.loop-n-test.true, ap length c.rows-rows.ensures)) c.if-parent.true in
-    omega (arith, smaller, c.loop-n-test.true, ap length c.rows-rows.ensures, c.loop-n.auto.numbers, c.requires)
+    let smaller = some_parent_smaller c.parent-parent.result c.loop-n.n c.parent-parent.ensures.smaller c.if-parent.true in
+    omega (arith, smaller, c.loop-n-test.true, c.node_count-n-end.ensures.all, c.loop-n.auto.numbers, c.requires)
 
 pub loop-n-preserved : goal.loop-n-preserved
 loop-n-preserved c =
-    let inside : c.loop-n.n < length c.args.tree.now.rows = omega (arith, c.loop-n-test.true, ap length c.rows-rows.ensures) in
+    let inside : c.loop-n.n < length c.args.tree.now.rows = omega (arith, c.loop-n-test.true, c.node_count-n-end.ensures.all) in
     let still : slice_index c.loop-n.numbers c.loop-n.n ≡ slice_index c.args.numbers.now c.loop-n.n = c.loop-n.invariant.rest c.loop-n.n (omega arith) in
     elim c.if-numbers-n-eq0.branch [
       | then-numbers-n-eq0+then-parent w ↦ record {
         done = λ marked d known. subst (λ (xs : List ℕ). AreNumbered c.args.tree.now marked (c.loop-n.n + 1) xs) (sym w.numbers-is)
             (numbered_child c.args.tree.now marked c.args.numbers.now c.loop-n.numbers c.loop-n.n _ _ d known (c.loop-n.invariant.done marked d known) inside
-            (sym still ∙ w.if-numbers-n-eq0.true) (row_parent c.args.tree.now c.rows-rows.result.now c.loop-n.n _ c.rows-rows.ensures inside)
-            (read_parent_smaller c.args.tree.now c.rows-rows.result.now c.loop-n.n _ c.shape-shape.ensures.well_formed c.rows-rows.ensures inside
-            w.if-parent.true) refl);
+            (sym still ∙ w.if-numbers-n-eq0.true) (sym c.parent-parent.ensures.same)
+            (some_parent_smaller c.parent-parent.result c.loop-n.n c.parent-parent.ensures.smaller w.if-parent.true) refl);
         rest = λ m l. ap (λ (xs : List ℕ). slice_index xs m) w.numbers-is
             ∙ untouched c.args.numbers.now c.loop-n.numbers c.loop-n.n _ c.loop-n.invariant.rest m l;
       }
@@ -36,7 +33,7 @@ loop-n-preserved c =
             (elim w.else-numbers-n-eq0.branch [
               | else-numbers-n-eq0-via-then-numbers-n-eq0+else-parent v ↦
                   numbered_root c.args.tree.now marked c.args.numbers.now c.loop-n.numbers c.loop-n.n _ d known (c.loop-n.invariant.done marked d known) inside
-                  still v.if-numbers-n-eq0.true (row_parent c.args.tree.now c.rows-rows.result.now c.loop-n.n _ c.rows-rows.ensures inside) v.if-parent.false
+                  still v.if-numbers-n-eq0.true (sym c.parent-parent.ensures.same) v.if-parent.false
               | else-numbers-n-eq0-via-else-numbers-n-eq0 v ↦
                   numbered_marked c.args.tree.now marked c.args.numbers.now c.loop-n.numbers c.loop-n.n d known (c.loop-n.invariant.done marked d known) inside
                   still v.if-numbers-n-eq0.false
@@ -49,4 +46,4 @@ loop-n-preserved c =
 pub returns : goal.returns
 returns c = λ marked d known.
     numbered_up_to c.args.tree.now marked c.loop-n.numbers _ c.loop-n.n (c.loop-n.invariant.done marked d known)
-    (omega (arith, c.loop-n-test.false, ap length c.rows-rows.ensures))
+    (omega (arith, c.loop-n-test.false, c.node_count-n-end.ensures.all))

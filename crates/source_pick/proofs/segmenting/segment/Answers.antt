@@ -49,9 +49,9 @@ number_all-requires-clause-numbers c = ap length c.deref.ensures.value ∙ c.in_
 
 pub number_all-requires-clause-blank : goal.number_all-requires-clause-blank
 number_all-requires-clause-blank c =
-    c.deref_mut.ensures.value ∙ c.in_ok-map.ensures ∙ ap (λ (n : ℕ). replicate n 0) (ap length c.node_of.ensures)
+    c.deref_mut.ensures.value ∙ c.in_ok-map.ensures ∙ ap (λ (n : ℕ). replicate n 0) (ap length c.node_of.ensures.same)
 
 pub returns-clause-one_each : goal.returns-clause-one_each
 returns-clause-one_each c =
     ap length (take_front c.number_all.new.map _ _ (c.number_all.auto.map ∙ c.deref_mut.ensures.len)) ∙ c.number_all.auto.map
-    ∙ ap length (c.deref_mut.ensures.value ∙ c.in_ok-map.ensures) ∙ length-replicate (length c.node_of.result.now) 0 ∙ ap length c.node_of.ensures
+    ∙ ap length (c.deref_mut.ensures.value ∙ c.in_ok-map.ensures) ∙ length-replicate (length c.node_of.result.now) 0 ∙ ap length c.node_of.ensures.same

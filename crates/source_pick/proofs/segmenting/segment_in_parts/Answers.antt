@@ -49,12 +49,12 @@ number_bands-requires-clause-numbers g c = λ κs l. ap length c.deref.ensures.v
 
 pub number_bands-requires-clause-blank : goal.number_bands-requires-clause-blank
 number_bands-requires-clause-blank g c = λ κs l.
-    c.deref_mut.ensures.value ∙ c.in_ok-map.ensures ∙ ap (λ (n : ℕ). replicate n 0) (ap length c.node_of.ensures)
+    c.deref_mut.ensures.value ∙ c.in_ok-map.ensures ∙ ap (λ (n : ℕ). replicate n 0) (ap length c.node_of.ensures.same)
 
 pub returns-clause-one_each : goal.returns-clause-one_each
 returns-clause-one_each g c =
     ap length (take_front c.number_bands.new.map _ _ (c.number_bands.auto.map ∙ c.deref_mut.ensures.len)) ∙ c.number_bands.auto.map
-    ∙ ap length (c.deref_mut.ensures.value ∙ c.in_ok-map.ensures) ∙ length-replicate (length c.node_of.result.now) 0 ∙ ap length c.node_of.ensures
+    ∙ ap length (c.deref_mut.ensures.value ∙ c.in_ok-map.ensures) ∙ length-replicate (length c.node_of.result.now) 0 ∙ ap length c.node_of.ensures.same
 
 pub number_bands-requires-clause-some : goal.number_bands-requires-clause-some
 number_bands-requires-clause-some g c = λ κs l. c.band_size.ensures.some

@@ -1,4 +1,4 @@
-use Rattle.std.proofs.Common.{arith, ap, length, subst, ◌+◌, sym, List}
+use Rattle.std.proofs.Common.{arith, subst, ◌+◌, sym, List}
 use Rattle.std.proofs.lemmas.Option.{slice_get-get_or}
 use Rattle.source_pick.specs.declared.splitting.StrongChildren.{StrongChildren}
 use Rattle.source_pick.specs.Passes.{AreStrongChildCounts}
@@ -21,4 +21,4 @@ loop-n-preserved c = elim c.match-inner_parent.branch [
 pub returns : goal.returns
 returns c =
     counted_up_to c.args.tree.now.rows c.args.entries.now c.args.strong.now _ c.loop-n.n c.loop-n.children c.loop-n.invariant
-    (omega (arith, c.loop-n-test.false, c.loop-n.auto.n-end, ap length c.rows-n-end.ensures))
+    (omega (arith, c.loop-n-test.false, c.node_count-n-end.ensures.all))

@@ -1,38 +1,33 @@
-use Rattle.std.proofs.Common.{arith, ap, length, subst, sym, ◌∙◌, ℕ}
+use Rattle.std.proofs.Common.{arith, subst, sym, ◌∙◌, ℕ}
 use Rattle.std.proofs.lemmas.Bool.{true≢false}
 use Rattle.source_pick.specs.Passes.{ArePassed}
-use Rattle.node_sums.proofs.Exported.{read_parent_smaller}
-use Rattle.source_pick.proofs.Counts.{passed_none, passed_with, passed_without, passed_all, row_parent, none_outside}
+use Rattle.node_sums.proofs.Exported.{some_parent_smaller}
+use Rattle.source_pick.proofs.Counts.{passed_none, passed_with, passed_without, passed_all, none_outside}
 use Rattle.source_pick.proofs.splitting.pass_up.Goals.{else-flags-n-via-then-flags-n+else-parent, else-flags-n-via-else-flags-n}
 use Rattle.source_pick.proofs.splitting.pass_up.Goals as goal
 
 pub loop-n-init : goal.loop-n-init
 loop-n-init c =
-    subst (λ (n : ℕ). ArePassed c.args.tree.now.rows c.args.flags.now n c.args.flags.now) (sym (ap length c.rows-rows.ensures))
+    subst (λ (n : ℕ). ArePassed c.args.tree.now.rows c.args.flags.now n c.args.flags.now) (sym c.node_count-n.ensures.all)
     (passed_none c.args.tree.now.rows c.args.flags.now c.requires)
 
 pub bounds-flags-parent : goal.bounds-flags-parent
 bounds-flags-parent c =
-    let smaller = read_parent_smaller c.args.tree.now c.rows-rows.result.now _ _ c.shape-shape.ensures.well_formed c.rows-rows.ensures
-    (omega (arith, c.loop-n-test.true, c.loop-n.auto.n, ap length c.rows-rows.ensures)) c.if-parent.true in
-    omega (arith, smaller, c.loop-n-test.true, c.loop-n.auto.n, ap length c.rows-rows.ensures, c.loop-n.invariant.one_each)
+    let smaller = some_parent_smaller c.parent-parent.result _ c.parent-parent.ensures.smaller c.if-parent.true in
+    omega (arith, smaller, c.loop-n-test.true, c.loop-n.auto.n, c.node_count-n.ensures.all, c.loop-n.invariant.one_each)
 
 pub loop-n-preserved-then-parent : goal.loop-n-preserved-then-parent
 loop-n-preserved-then-parent c =
     passed_with c.args.tree.now.rows c.args.flags.now c.loop-n.n _ _ c.loop-n.flags c.loop-n.invariant (omega (arith, c.loop-n-test.true))
-    (omega (arith, c.loop-n-test.true, c.loop-n.auto.n, ap length c.rows-rows.ensures)) c.if-flags-n.true
-    (row_parent c.args.tree.now c.rows-rows.result.now _ _ c.rows-rows.ensures
-    (omega (arith, c.loop-n-test.true, c.loop-n.auto.n, ap length c.rows-rows.ensures)))
-    (read_parent_smaller c.args.tree.now c.rows-rows.result.now _ _ c.shape-shape.ensures.well_formed c.rows-rows.ensures
-    (omega (arith, c.loop-n-test.true, c.loop-n.auto.n, ap length c.rows-rows.ensures)) c.if-parent.true)
+    (omega (arith, c.loop-n-test.true, c.loop-n.auto.n, c.node_count-n.ensures.all)) c.if-flags-n.true
+    (sym c.parent-parent.ensures.same)
+    (some_parent_smaller c.parent-parent.result _ c.parent-parent.ensures.smaller c.if-parent.true)
 
 pub loop-n-preserved : goal.loop-n-preserved
 loop-n-preserved c = elim c.else-flags-n.branch [
   | else-flags-n-via-then-flags-n+else-parent w ↦
       passed_without c.args.tree.now.rows c.args.flags.now c.loop-n.n _ c.loop-n.flags c.loop-n.invariant (omega (arith, c.loop-n-test.true))
-      (λ m e l f. none_outside c.args.tree.now _ m _ c.shape-shape.ensures.well_formed
-      (row_parent c.args.tree.now c.rows-rows.result.now _ _ c.rows-rows.ensures
-      (omega (arith, c.loop-n-test.true, c.loop-n.auto.n, ap length c.rows-rows.ensures)))
+      (λ m e l f. none_outside c.args.tree.now.rows _ m _ c.parent-parent.ensures.few c.parent-parent.ensures.same
       w.if-parent.false e l)
   | else-flags-n-via-else-flags-n w ↦
       passed_without c.args.tree.now.rows c.args.flags.now c.loop-n.n _ c.loop-n.flags c.loop-n.invariant (omega (arith, c.loop-n-test.true))

@@ -9,20 +9,20 @@ use Rattle.tree_canon.proofs.tests.is_fit.Goals as goal
 
 pub bounds-node_of-p : goal.bounds-node_of-p
 bounds-node_of-p c =
-    let ns_is = c.node_of.ensures ∙ ap (λ (t : ComponentTree). t.node_of) c.requires.tree in
+    let ns_is = c.node_of.ensures.same ∙ ap (λ (t : ComponentTree). t.node_of) c.requires.tree in
     omega (arith, numbers_count c.args.plane.now c.args.connect c.node_of.result.now ns_is, c.requires.pixel)
 
 pub returns-then-node : goal.returns-then-node
 returns-then-node c = λ bare.
     let plane : IsPlane c.args.plane.now = c.shape-shape.ensures.pixels ∙ ap (λ (s : Shape). s.width * s.height) c.shape-shape.ensures.same in
-    let ns_is = c.node_of.ensures ∙ ap (λ (t : ComponentTree). t.node_of) c.requires.tree in
+    let ns_is = c.node_of.ensures.same ∙ ap (λ (t : ComponentTree). t.node_of) c.requires.tree in
     when_outside c.args.plane.now c.args.connect c.args.links.now plane c.requires.one_each c.args.p c.requires.pixel c.node_of.result.now ns_is
     ((tree_of c.args.plane.now c.args.connect).rows) refl c.if-node.true (eqb-true (get_or c.args.links.now c.args.p 0) 4294967295 bare)
 
 pub bounds-rows-node : goal.bounds-rows-node
 bounds-rows-node c =
     let plane : IsPlane c.args.plane.now = c.shape-shape.ensures.pixels ∙ ap (λ (s : Shape). s.width * s.height) c.shape-shape.ensures.same in
-    let ns_is = c.node_of.ensures ∙ ap (λ (t : ComponentTree). t.node_of) c.requires.tree in
+    let ns_is = c.node_of.ensures.same ∙ ap (λ (t : ComponentTree). t.node_of) c.requires.tree in
     let rows_is = c.rows.ensures ∙ ap (λ (t : ComponentTree). t.rows) c.requires.tree in
     some_row c.args.plane.now c.args.connect c.args.links.now plane c.requires.one_each c.args.p c.requires.pixel c.node_of.result.now ns_is
     c.rows.result.now rows_is c.if-node.false
@@ -30,7 +30,7 @@ bounds-rows-node c =
 pub returns-then-row-p : goal.returns-then-row-p
 returns-then-row-p c = λ top.
     let plane : IsPlane c.args.plane.now = c.shape-shape.ensures.pixels ∙ ap (λ (s : Shape). s.width * s.height) c.shape-shape.ensures.same in
-    let ns_is = c.node_of.ensures ∙ ap (λ (t : ComponentTree). t.node_of) c.requires.tree in
+    let ns_is = c.node_of.ensures.same ∙ ap (λ (t : ComponentTree). t.node_of) c.requires.tree in
     let rows_is = c.rows.ensures ∙ ap (λ (t : ComponentTree). t.rows) c.requires.tree in
     when_root c.args.plane.now c.args.connect c.args.links.now plane c.requires.one_each c.args.p c.requires.pixel c.node_of.result.now ns_is
     c.rows.result.now rows_is
@@ -50,7 +50,7 @@ bounds-node_of-link c =
 pub returns-then-up-node : goal.returns-then-up-node
 returns-then-up-node c = λ low.
     let plane : IsPlane c.args.plane.now = c.shape-shape.ensures.pixels ∙ ap (λ (s : Shape). s.width * s.height) c.shape-shape.ensures.same in
-    let ns_is = c.node_of.ensures ∙ ap (λ (t : ComponentTree). t.node_of) c.requires.tree in
+    let ns_is = c.node_of.ensures.same ∙ ap (λ (t : ComponentTree). t.node_of) c.requires.tree in
     let others_is = c.node_of-2.ensures ∙ ap (λ (t : ComponentTree). t.node_of) c.requires.tree in
     let rows_is = c.rows.ensures ∙ ap (λ (t : ComponentTree). t.rows) c.requires.tree in
     when_inside c.args.plane.now c.args.connect c.args.links.now plane c.requires.one_each c.args.p c.requires.pixel c.node_of.result.now ns_is
@@ -61,7 +61,7 @@ returns-then-up-node c = λ low.
 pub returns-then-row-p-2 : goal.returns-then-row-p-2
 returns-then-row-p-2 c = λ same.
     let plane : IsPlane c.args.plane.now = c.shape-shape.ensures.pixels ∙ ap (λ (s : Shape). s.width * s.height) c.shape-shape.ensures.same in
-    let ns_is = c.node_of.ensures ∙ ap (λ (t : ComponentTree). t.node_of) c.requires.tree in
+    let ns_is = c.node_of.ensures.same ∙ ap (λ (t : ComponentTree). t.node_of) c.requires.tree in
     let others_is = c.node_of-2.ensures ∙ ap (λ (t : ComponentTree). t.node_of) c.requires.tree in
     let rows_is = c.rows.ensures ∙ ap (λ (t : ComponentTree). t.rows) c.requires.tree in
     when_up c.args.plane.now c.args.connect c.args.links.now plane c.requires.one_each c.args.p c.requires.pixel c.node_of.result.now ns_is
