@@ -14,8 +14,8 @@ use Rattle.node_sums.specs.Sums.{highest, sums_over, sums_of}
 use Rattle.node_sums.proofs.Exported.{fits, level_up_to, level-of_node}
 use Rattle.source_pick.specs.Catalogue.{spread_of, measured_row, catalogue_row, cells_of, FitsColumn, FitsColumns}
 use Rattle.source_pick.specs.Numbers.{IsSpread, IsMeasured}
-use Rattle.source_pick.proofs.Means.{spread_fits}
-use Rattle.source_pick.proofs.Rows.{row_columns, measured}
+use Rattle.source_pick.proofs.CellsMeans.{spread_fits}
+use Rattle.source_pick.proofs.CellsRows.{row_columns, measured}
 
 column_fits : (z : ℤ) → FitsColumn z → FitsSigned w64 z
 column_fits (pos n) h = record { sfits = omega (arith, ints, h.high) }

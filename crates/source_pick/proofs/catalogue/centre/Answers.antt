@@ -1,5 +1,5 @@
-use Rattle.source_pick.proofs.Means.{centre-without, centre-with, centre-read, centre-cast}
-use Rattle.source_pick.proofs.Fitting.{widened, thousand_sums_fit, mean_fits, thousand_moments_read_fit, flux_is_there, flux_is_not_minus_one}
+use Rattle.source_pick.proofs.CellsMeans.{centre-without, centre-with, centre-read, centre-cast}
+use Rattle.source_pick.proofs.CellsFitting.{widened, thousand_sums_fit, mean_fits, thousand_moments_read_fit, flux_is_there, flux_is_not_minus_one}
 use Rattle.source_pick.proofs.catalogue.centre.Goals as goal
 
 pub overflow_mul-result : goal.overflow_mul-result

@@ -6,9 +6,9 @@ use Rattle.comp_tree.specs.declared.shape.Shape.{Shape}
 use Rattle.comp_tree.specs.ComponentTree.{ComponentTree}
 use Rattle.node_sums.specs.Flux.{base_of}
 use Rattle.source_pick.specs.Catalogue.{FitsColumns, IsCentred}
-use Rattle.source_pick.proofs.Readings.{of_trees, node_inside, sums_inside, sums-read, level-read, tree-shape}
-use Rattle.source_pick.proofs.Rows.{row_columns, row_centred, measured, measured-same, row-same, row-is}
-use Rattle.source_pick.proofs.Flags.{of_same}
+use Rattle.source_pick.proofs.PassesReadings.{of_trees, node_inside, sums_inside, sums-read, level-read, tree-shape}
+use Rattle.source_pick.proofs.CellsRows.{row_columns, row_centred, measured, measured-same, row-same, row-is}
+use Rattle.source_pick.proofs.PassesFlags.{of_same}
 use Rattle.source_pick.proofs.catalogue.row.Goals as goal
 
 pub bounds-sums-n : goal.bounds-sums-n

@@ -4,8 +4,8 @@ use Rattle.std.proofs.lemmas.Nat.{mod_below}
 use mir.Syntax.{w64, w128}
 use mir.Val.{SFits}
 use Rattle.source_pick.specs.Catalogue.{measured_row}
-use Rattle.source_pick.proofs.Means.{widest}
-use Rattle.source_pick.proofs.Rows.{moment-read, moment_of, moment_along, weighted-read, mean-read, centre_is, moment_fits, moment_fits_along, same_row}
+use Rattle.source_pick.proofs.CellsMeans.{widest}
+use Rattle.source_pick.proofs.CellsRows.{moment-read, moment_of, moment_along, weighted-read, mean-read, centre_is, moment_fits, moment_fits_along, same_row}
 use Rattle.source_pick.proofs.catalogue.row_from.Goals as goal
 
 pub weighted-requires : goal.weighted-requires

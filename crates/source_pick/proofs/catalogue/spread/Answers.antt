@@ -1,6 +1,6 @@
-use Rattle.source_pick.proofs.Means.{spread-result, spread-read, spread-cast, difference_fits}
-use Rattle.source_pick.proofs.Fitting.{whole_fits, apart_fits, whole_fits_signed, apart_fits_signed, square_fits, square_fits_signed}
-use Rattle.source_pick.proofs.Fitting.{thousand_differences_fit, square_is_there, square_is_not_minus_one}
+use Rattle.source_pick.proofs.CellsMeans.{spread-result, spread-read, spread-cast, difference_fits}
+use Rattle.source_pick.proofs.CellsFitting.{whole_fits, apart_fits, whole_fits_signed, apart_fits_signed, square_fits, square_fits_signed}
+use Rattle.source_pick.proofs.CellsFitting.{thousand_differences_fit, square_is_there, square_is_not_minus_one}
 use Rattle.source_pick.proofs.catalogue.spread.Goals as goal
 
 pub overflow_mul-whole : goal.overflow_mul-whole

@@ -1,6 +1,6 @@
 use Rattle.std.proofs.Common.{arith}
-use Rattle.source_pick.proofs.Means.{weighted-read}
-use Rattle.source_pick.proofs.Fitting.{widened, pos_widened, product_fits, weighted_fits}
+use Rattle.source_pick.proofs.CellsMeans.{weighted-read}
+use Rattle.source_pick.proofs.CellsFitting.{widened, pos_widened, product_fits, weighted_fits}
 use Rattle.source_pick.proofs.catalogue.weighted.Goals as goal
 
 pub overflow_cast-result : goal.overflow_cast-result

@@ -3,7 +3,7 @@ use Rattle.std.proofs.lemmas.Int.{to_z-of_z}
 use Rattle.std.proofs.lemmas.Result.{IfOk-from_err}
 use Rattle.source_pick.specs.Locality.{kept}
 use Rattle.source_pick.specs.Clearing.{HasNoneBelow}
-use Rattle.source_pick.proofs.Nearing.{kept_whole}
+use Rattle.source_pick.proofs.LocalityNearing.{kept_whole}
 use Rattle.source_pick.proofs.clearing.clear_far.Goals as goal
 
 pub returns-then-not-has_below-clause-kept : goal.returns-then-not-has_below-clause-kept

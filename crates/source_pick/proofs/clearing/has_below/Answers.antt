@@ -1,7 +1,7 @@
 use Rattle.std.proofs.Common.{ℤ, length, sym, ◌∙◌, subst, inl, inr, to_z, of_z, w64, arith}
 use Rattle.std.proofs.lemmas.Int.{to_z-of_z}
 use Rattle.source_pick.specs.Clearing.{HasNoneBelow}
-use Rattle.source_pick.proofs.Nearing.{none_below_more, none_below_all}
+use Rattle.source_pick.proofs.LocalityNearing.{none_below_more, none_below_all}
 use Rattle.source_pick.proofs.clearing.has_below.Goals.{else-is_defined-via-then-is_defined+else-not-is_at_least, else-is_defined-via-else-is_defined}
 use Rattle.source_pick.proofs.clearing.has_below.Goals as goal
 

@@ -1,8 +1,8 @@
 use Rattle.std.proofs.Common.{◌≤◌, ◌<◌, ◌+◌, ◌*◌, ◌⊎◌, inl, inr, ap, ◌∙◌, subst, ℕ, arith}
 use Rattle.std.proofs.lemmas.Bool.{cases_lt}
 use Rattle.source_pick.specs.Clearing.{columns_beside}
-use Rattle.source_pick.proofs.Around.{IsPartOfRow, part_of_row}
-use Rattle.source_pick.proofs.Nearing.{around_none, around_more, around_all}
+use Rattle.source_pick.proofs.LocalityAround.{IsPartOfRow, part_of_row}
+use Rattle.source_pick.proofs.LocalityNearing.{around_none, around_more, around_all}
 use Rattle.source_pick.proofs.clearing.mark_around.Goals as goal
 
 pub loop-row-init : goal.loop-row-init

@@ -4,7 +4,7 @@ use Rattle.std.proofs.lemmas.Int.{to_z-of_z}
 use Rattle.comp_tree.specs.declared.shape.Shape.{Shape}
 use Rattle.comp_tree.specs.Raster.{IsPlane}
 use Rattle.source_pick.specs.Clearing.{AreMarkedNear}
-use Rattle.source_pick.proofs.Nearing.{near_none, near_band}
+use Rattle.source_pick.proofs.LocalityNearing.{near_none, near_band}
 use Rattle.source_pick.proofs.clearing.mark_band.Goals as goal
 
 pub loop-row-init : goal.loop-row-init

@@ -3,7 +3,7 @@ use Rattle.std.specs.Prelude.{slice_index_or}
 use Rattle.std.proofs.lemmas.Int.{to_z-of_z}
 use Rattle.std.proofs.lemmas.List.{length-replicate}
 use Rattle.source_pick.specs.Locality.{is_near_high}
-use Rattle.source_pick.proofs.Nearing.{near_list, blank_part, marked_there}
+use Rattle.source_pick.proofs.LocalityNearing.{near_list, blank_part, marked_there}
 use Rattle.source_pick.proofs.clearing.mark_bands.Goals as goal
 
 pub for_each_chunk_mut-requires-clause-accepts : goal.for_each_chunk_mut-requires-clause-accepts

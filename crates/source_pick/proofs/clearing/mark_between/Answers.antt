@@ -1,6 +1,6 @@
 use Rattle.std.proofs.Common.{◌≡◌, ◌≤◌, ◌<◌, ◌+◌, ◌⊎◌, inl, inr, length, arith}
 use Rattle.std.proofs.lemmas.Bool.{cases_lt}
-use Rattle.source_pick.proofs.Nearing.{between_none, between_more, between_all}
+use Rattle.source_pick.proofs.LocalityNearing.{between_none, between_more, between_all}
 use Rattle.source_pick.proofs.clearing.mark_between.Goals as goal
 
 pub loop-p-init : goal.loop-p-init

@@ -3,7 +3,7 @@ use Rattle.std.proofs.lemmas.Int.{to_z-of_z}
 use Rattle.comp_tree.specs.declared.shape.Shape.{Shape}
 use Rattle.comp_tree.specs.Raster.{is_at_least}
 use Rattle.source_pick.specs.Clearing.{AreSetAround, AreMarkedNear}
-use Rattle.source_pick.proofs.Nearing.{near_skip, near_more, near_at_count}
+use Rattle.source_pick.proofs.LocalityNearing.{near_skip, near_more, near_at_count}
 use Rattle.source_pick.proofs.clearing.mark_row.Goals.{then-is_at_least, else-is_at_least}
 use Rattle.source_pick.proofs.clearing.mark_row.Goals as goal
 

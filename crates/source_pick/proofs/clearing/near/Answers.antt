@@ -4,8 +4,8 @@ use Rattle.std.proofs.lemmas.Result.{IfOk-weaker}
 use Rattle.comp_tree.specs.declared.shape.Shape.{Shape}
 use Rattle.comp_tree.specs.Raster.{pixels}
 use Rattle.source_pick.specs.Locality.{is_near_high}
-use Rattle.source_pick.proofs.Nearing.{length_of_marks, without-kept}
-use Rattle.source_pick.proofs.Keeping.{cleared_has_the_same_sources}
+use Rattle.source_pick.proofs.LocalityNearing.{length_of_marks, without-kept}
+use Rattle.source_pick.proofs.LocalityKeeping.{cleared_has_the_same_sources}
 use Rattle.source_pick.proofs.clearing.near.Goals as goal
 
 pub marked-requires : goal.marked-requires

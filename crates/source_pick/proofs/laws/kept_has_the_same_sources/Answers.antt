@@ -1,4 +1,4 @@
-use Rattle.source_pick.proofs.Keeping.{kept_is_a_plane, kept_has_the_same_sources}
+use Rattle.source_pick.proofs.LocalityKeeping.{kept_is_a_plane, kept_has_the_same_sources}
 use Rattle.source_pick.proofs.laws.kept_has_the_same_sources.Goals as goal
 
 pub returns-clause-plane : goal.returns-clause-plane

@@ -1,4 +1,4 @@
-use Rattle.source_pick.proofs.Sourcing.{sources_are_disjoint, each_entry_holds_a_source}
+use Rattle.source_pick.proofs.NodesSourcing.{sources_are_disjoint, each_entry_holds_a_source}
 use Rattle.source_pick.proofs.laws.sources_are_disjoint.Goals as goal
 
 pub returns-clause-disjoint : goal.returns-clause-disjoint

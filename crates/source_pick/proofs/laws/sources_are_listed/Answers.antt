@@ -1,4 +1,4 @@
-use Rattle.source_pick.proofs.Listing.{sources_are_listed, sources_are_in_order}
+use Rattle.source_pick.proofs.OrderListing.{sources_are_listed, sources_are_in_order}
 use Rattle.source_pick.proofs.laws.sources_are_listed.Goals as goal
 
 pub returns-clause-listed : goal.returns-clause-listed

@@ -1,4 +1,4 @@
-use Rattle.source_pick.proofs.Local.{sources_are_local}
+use Rattle.source_pick.proofs.Locality.{sources_are_local}
 use Rattle.source_pick.proofs.laws.sources_are_local.Goals as goal
 
 pub returns : goal.returns

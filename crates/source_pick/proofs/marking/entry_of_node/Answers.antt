@@ -1,7 +1,7 @@
 use Rattle.std.proofs.Common.{arith}
-use Rattle.source_pick.proofs.Readings.{node_inside, parent-read}
+use Rattle.source_pick.proofs.PassesReadings.{node_inside, parent-read}
 use Rattle.node_sums.proofs.Exported.{some_parent_smaller}
-use Rattle.source_pick.proofs.Strong.{number_of_self, number_of_root, number_of_child}
+use Rattle.source_pick.proofs.PassesStrong.{number_of_self, number_of_root, number_of_child}
 use Rattle.source_pick.proofs.marking.entry_of_node.Goals as goal
 
 pub returns-then-passes_as_entry : goal.returns-then-passes_as_entry

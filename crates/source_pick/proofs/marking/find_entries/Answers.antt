@@ -1,5 +1,5 @@
 use Rattle.std.proofs.Common.{arith}
-use Rattle.source_pick.proofs.Strong.{entries_none, entries_more, entries_up_to}
+use Rattle.source_pick.proofs.PassesStrong.{entries_none, entries_more, entries_up_to}
 use Rattle.source_pick.proofs.marking.find_entries.Goals as goal
 
 pub loop-n-init : goal.loop-n-init

@@ -1,5 +1,5 @@
 use Rattle.std.proofs.Common.{arith}
-use Rattle.source_pick.proofs.Strong.{strong_nodes_none, strong_nodes_more, strong_nodes_up_to}
+use Rattle.source_pick.proofs.PassesStrong.{strong_nodes_none, strong_nodes_more, strong_nodes_up_to}
 use Rattle.source_pick.proofs.marking.find_strong.Goals as goal
 
 pub loop-n-init : goal.loop-n-init

@@ -2,7 +2,7 @@ use Rattle.std.proofs.Common.{rules, ◌^◌, ◌<◌, subst, sym}
 use Rattle.std.specs.Prelude.{ℤ}
 use mir.Syntax.{w64, w128}
 use mir.Val.{SFits}
-use Rattle.source_pick.proofs.Strong.{part_fits, product-read, contrast-read}
+use Rattle.source_pick.proofs.PassesStrong.{part_fits, product-read, contrast-read}
 use Rattle.source_pick.proofs.marking.has_part.Goals as goal
 
 pub overflow_mul-result-2 : goal.overflow_mul-result-2

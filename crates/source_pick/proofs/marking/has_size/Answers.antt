@@ -1,8 +1,8 @@
 use Rattle.std.proofs.Common.{refl, rules}
 use mir.Syntax.{w64}
 use mir.Val.{SFits}
-use Rattle.source_pick.proofs.Readings.{of_trees, sums_inside, sums-read, at_most-read}
-use Rattle.source_pick.proofs.Strong.{small_area, large_area}
+use Rattle.source_pick.proofs.PassesReadings.{of_trees, sums_inside, sums-read, at_most-read}
+use Rattle.source_pick.proofs.PassesStrong.{small_area, large_area}
 use Rattle.source_pick.proofs.marking.has_size.Goals as goal
 
 pub bounds-sums-n : goal.bounds-sums-n

@@ -1,9 +1,9 @@
 use Rattle.std.proofs.Common.{refl, rules, ap, length, arith}
 use mir.Syntax.{w64}
 use mir.Val.{SFits}
-use Rattle.source_pick.proofs.Readings.{level-read, parent-read, less-read}
+use Rattle.source_pick.proofs.PassesReadings.{level-read, parent-read, less-read}
 use Rattle.node_sums.proofs.Exported.{some_parent_smaller}
-use Rattle.source_pick.proofs.Strong.{lowest_at_root, lowest_at_child}
+use Rattle.source_pick.proofs.PassesStrong.{lowest_at_root, lowest_at_child}
 use Rattle.source_pick.proofs.marking.lies_lowest.Goals as goal
 
 pub returns-then-parent : goal.returns-then-parent

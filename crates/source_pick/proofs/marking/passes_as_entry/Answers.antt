@@ -1,8 +1,8 @@
 use Rattle.std.proofs.Common.{refl, rules, sym, ◌∙◌}
 use mir.Syntax.{w64}
 use mir.Val.{SFits}
-use Rattle.source_pick.proofs.Readings.{level-read, less-read}
-use Rattle.source_pick.proofs.Strong.{entry_below, entry_not_lowest, entry_if_large}
+use Rattle.source_pick.proofs.PassesReadings.{level-read, less-read}
+use Rattle.source_pick.proofs.PassesStrong.{entry_below, entry_not_lowest, entry_if_large}
 use Rattle.source_pick.proofs.marking.passes_as_entry.Goals as goal
 
 pub returns-then-rows-n : goal.returns-then-rows-n

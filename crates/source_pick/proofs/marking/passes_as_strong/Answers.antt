@@ -1,7 +1,7 @@
 use Rattle.std.proofs.Common.{arith}
-use Rattle.source_pick.proofs.Readings.{of_trees, node_inside}
-use Rattle.source_pick.proofs.Entries.{entry_of-parts}
-use Rattle.source_pick.proofs.Strong.{entry_from_number, none_from_number, weak_outside, weak_small, strong_if}
+use Rattle.source_pick.proofs.PassesReadings.{of_trees, node_inside}
+use Rattle.source_pick.proofs.NodesEntries.{entry_of-parts}
+use Rattle.source_pick.proofs.PassesStrong.{entry_from_number, none_from_number, weak_outside, weak_small, strong_if}
 use Rattle.source_pick.proofs.marking.passes_as_strong.Goals as goal
 use Rattle.node_sums.proofs.Exported.{rows_are}
 

@@ -1,5 +1,5 @@
 use Rattle.std.proofs.Common.{arith}
-use Rattle.source_pick.proofs.Flags.{sources_none, sources_more, sources_up_to}
+use Rattle.source_pick.proofs.PassesFlags.{sources_none, sources_more, sources_up_to}
 use Rattle.source_pick.proofs.picking.flag_sources.Goals as goal
 
 pub loop-n-init : goal.loop-n-init

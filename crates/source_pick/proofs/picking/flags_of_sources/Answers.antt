@@ -3,7 +3,7 @@ use Rattle.std.proofs.lemmas.Result.{IfOk-from_err}
 use Rattle.comp_tree.specs.declared.tree.NodeRow.{NodeRow}
 use Rattle.source_pick.specs.declared.splitting.StrongChildren.{StrongChildren}
 use Rattle.source_pick.specs.Passes.{AreEntries, AreStrong, AreStrongChildCounts, AreAboveSplits, are_several}
-use Rattle.source_pick.proofs.Flags.{flags_exact}
+use Rattle.source_pick.proofs.PassesFlags.{flags_exact}
 use Rattle.source_pick.proofs.picking.flags_of_sources.Goals as goal
 
 children_read : (rows : List NodeRow) (es ds : List ℕ) (ss ts : List Bool) (cs bs : List StrongChildren) → es ≡ ds → ss ≡ ts → cs ≡ bs

@@ -1,7 +1,7 @@
 use Rattle.std.proofs.Common.{arith, ◌∙◌}
-use Rattle.source_pick.proofs.Readings.{parent-read}
+use Rattle.source_pick.proofs.PassesReadings.{parent-read}
 use Rattle.node_sums.proofs.Exported.{some_parent_smaller}
-use Rattle.source_pick.proofs.Flags.{IsKnown, several_read, exit_above, exit_entry, exit_weak, exit_root, exit_child}
+use Rattle.source_pick.proofs.PassesFlags.{IsKnown, several_read, exit_above, exit_entry, exit_weak, exit_root, exit_child}
 use Rattle.source_pick.proofs.picking.passes_as_source.Goals as goal
 
 pub returns-then-above-n : goal.returns-then-above-n

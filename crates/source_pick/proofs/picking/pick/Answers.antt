@@ -3,7 +3,7 @@ use Rattle.std.specs.List.Sorted.{IsNonDecreasingBy}
 use Rattle.std.proofs.lemmas.List.Sorted.{IsNonDecreasingBy-from_sort_by_key}
 use Rattle.source_pick.specs.declared.picking.PlacedSource.{PlacedSource}
 use Rattle.source_pick.specs.Passes.{AreSources}
-use Rattle.source_pick.proofs.Placing.{picked_exact, picked_disjoint}
+use Rattle.source_pick.proofs.OrderPlacing.{picked_exact, picked_disjoint}
 use Rattle.source_pick.proofs.picking.pick.Goals as goal
 
 pub placed_sources-requires-clause-flags : goal.placed_sources-requires-clause-flags

@@ -2,8 +2,8 @@ use Rattle.std.proofs.Common.{◌<◌, ◌+◌, ◌∙◌, List, Vec, Global, le
 use Rattle.node_sums.specs.declared.entry.Sums.{Sums}
 use Rattle.source_pick.specs.declared.picking.PlacedSource.{PlacedSource}
 use Rattle.source_pick.specs.Passes.{ArePlacedSources}
-use Rattle.source_pick.proofs.Readings.{of_trees, sums_inside, sums-read}
-use Rattle.source_pick.proofs.Placing.{placed_none, placed_more, placed_same, placed_up_to}
+use Rattle.source_pick.proofs.PassesReadings.{of_trees, sums_inside, sums-read}
+use Rattle.source_pick.proofs.OrderPlacing.{placed_none, placed_more, placed_same, placed_up_to}
 use Rattle.source_pick.proofs.picking.placed_sources.Goals.{then-flags-n+in_ok-push, else-flags-n}
 use Rattle.source_pick.proofs.picking.placed_sources.Goals as goal
 

@@ -1,6 +1,6 @@
 use Rattle.std.proofs.Common.{arith, refl, ◌<◌, length, get_or}
 use Rattle.std.proofs.lemmas.Option.{slice_get-get_or}
-use Rattle.source_pick.proofs.Marks.{marked_none, marked_more, marked_up_to}
+use Rattle.source_pick.proofs.PassesMarks.{marked_none, marked_more, marked_up_to}
 use Rattle.source_pick.proofs.segmenting.mark_sources.Goals as goal
 
 pub loop-i-init : goal.loop-i-init

@@ -1,7 +1,7 @@
 use Rattle.std.proofs.Common.{◌≡◌, ◌∙◌, ap, arith, length, zero-add}
 use Rattle.std.proofs.lemmas.List.{length-replicate}
 use Rattle.source_pick.specs.Segmentation.{source_number_at}
-use Rattle.source_pick.proofs.Marks.{zeros_replicate, pixels_all}
+use Rattle.source_pick.proofs.PassesMarks.{zeros_replicate, pixels_all}
 use Rattle.source_pick.proofs.segmenting.number_all.Goals as goal
 
 pub number_pixels-requires-clause-inside : goal.number_pixels-requires-clause-inside

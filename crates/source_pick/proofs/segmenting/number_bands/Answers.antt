@@ -2,7 +2,7 @@ use Rattle.std.proofs.Common.{◌≡◌, ◌∙◌, ◌+◌, sym, ap, arith, len
 use Rattle.std.specs.Prelude.{slice_index}
 use Rattle.std.proofs.lemmas.List.{length-replicate}
 use Rattle.source_pick.specs.Segmentation.{source_number_at}
-use Rattle.source_pick.proofs.Marks.{zeros_replicate, zeros_part, pixels_all}
+use Rattle.source_pick.proofs.PassesMarks.{zeros_replicate, zeros_part, pixels_all}
 use Rattle.source_pick.proofs.segmenting.number_bands.Goals as goal
 
 pub for_each_chunk_mut-requires-clause-accepts : goal.for_each_chunk_mut-requires-clause-accepts

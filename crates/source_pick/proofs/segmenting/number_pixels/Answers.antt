@@ -1,8 +1,8 @@
 use Rattle.std.proofs.Common.{◌∙◌, ◌<◌, ◌+◌, ℕ, List, sym, ap, arith, length}
 use Rattle.std.specs.Prelude.{slice_index}
 use Rattle.source_pick.specs.Segmentation.{source_number_at}
-use Rattle.source_pick.proofs.Readings.{plane_from_tree, filled}
-use Rattle.source_pick.proofs.Marks.{number_of_defined, number_of_undefined, filled_still, zeros_after}
+use Rattle.source_pick.proofs.PassesReadings.{plane_from_tree, filled}
+use Rattle.source_pick.proofs.PassesMarks.{number_of_defined, number_of_undefined, filled_still, zeros_after}
 use Rattle.source_pick.proofs.segmenting.number_pixels.Goals.{then-n, else-n}
 use Rattle.source_pick.proofs.segmenting.number_pixels.Goals as goal
 

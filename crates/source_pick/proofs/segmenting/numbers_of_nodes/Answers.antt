@@ -2,7 +2,7 @@ use Rattle.std.proofs.Common.{◌≡◌, ◌∙◌, ◌≤◌, ◌^◌, ℕ, Lis
 use Rattle.std.proofs.lemmas.List.{length-replicate}
 use Rattle.node_sums.proofs.Exported.{take_front}
 use Rattle.source_pick.specs.Passes.{AreMarked, AreNumbered}
-use Rattle.source_pick.proofs.Marks.{few_marked, few_rows, zeros_replicate}
+use Rattle.source_pick.proofs.PassesMarks.{few_marked, few_rows, zeros_replicate}
 use Rattle.source_pick.proofs.segmenting.numbers_of_nodes.Goals as goal
 
 pub mark_sources-requires-clause-inside : goal.mark_sources-requires-clause-inside

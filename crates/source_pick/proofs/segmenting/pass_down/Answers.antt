@@ -2,7 +2,7 @@ use Rattle.std.proofs.Common.{◌≡◌, ◌∙◌, ◌+◌, ◌<◌, ℕ, List,
 use Rattle.std.specs.Prelude.{slice_index}
 use Rattle.source_pick.specs.Passes.{AreNumbered}
 use Rattle.node_sums.proofs.Exported.{some_parent_smaller}
-use Rattle.source_pick.proofs.Marks.{numbered_none, numbered_child, numbered_marked, numbered_root, numbered_up_to, untouched, untouched_yet}
+use Rattle.source_pick.proofs.PassesMarks.{numbered_none, numbered_child, numbered_marked, numbered_root, numbered_up_to, untouched, untouched_yet}
 use Rattle.source_pick.proofs.segmenting.pass_down.Goals.{then-numbers-n-eq0+then-parent, else-numbers-n-eq0}
 use Rattle.source_pick.proofs.segmenting.pass_down.Goals.{else-numbers-n-eq0-via-then-numbers-n-eq0+else-parent, else-numbers-n-eq0-via-else-numbers-n-eq0}
 use Rattle.source_pick.proofs.segmenting.pass_down.Goals as goal

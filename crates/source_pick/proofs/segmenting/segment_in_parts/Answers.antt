@@ -3,7 +3,7 @@ use Rattle.std.proofs.lemmas.List.{length-replicate}
 use Rattle.std.proofs.lemmas.Result.{IfOk-from_err}
 use Rattle.node_sums.proofs.Exported.{take_front}
 use Rattle.source_pick.specs.Passes.{AreNumbered}
-use Rattle.source_pick.proofs.Marks.{map_bound}
+use Rattle.source_pick.proofs.PassesMarks.{map_bound}
 use Rattle.source_pick.proofs.segmenting.segment_in_parts.Goals as goal
 
 pub returns-clause-exact : goal.returns-clause-exact

@@ -2,7 +2,7 @@ use Rattle.std.proofs.Common.{arith, subst, ◌+◌, sym, List}
 use Rattle.std.proofs.lemmas.Option.{slice_get-get_or}
 use Rattle.source_pick.specs.declared.splitting.StrongChildren.{StrongChildren}
 use Rattle.source_pick.specs.Passes.{AreStrongChildCounts}
-use Rattle.source_pick.proofs.Counts.{counted_with, counted_without, counted_up_to}
+use Rattle.source_pick.proofs.PassesCounts.{counted_with, counted_without, counted_up_to}
 use Rattle.source_pick.proofs.splitting.count_children.Goals.{in-Some, in_default}
 use Rattle.source_pick.proofs.splitting.count_children.Goals as goal
 

@@ -2,7 +2,7 @@ use Rattle.std.proofs.Common.{◌∙◌, ℕ, sym, ap, arith}
 use Rattle.std.specs.Prelude.{slice_index}
 use Rattle.std.proofs.lemmas.Bool.{true≢false}
 use Rattle.node_sums.proofs.Exported.{some_parent_smaller}
-use Rattle.source_pick.proofs.Counts.{none_outside}
+use Rattle.source_pick.proofs.PassesCounts.{none_outside}
 use Rattle.source_pick.proofs.splitting.inner_parent.Goals as goal
 
 pub bounds-entries-parent : goal.bounds-entries-parent

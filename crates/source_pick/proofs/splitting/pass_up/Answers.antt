@@ -2,7 +2,7 @@ use Rattle.std.proofs.Common.{arith, subst, sym, ◌∙◌, ℕ}
 use Rattle.std.proofs.lemmas.Bool.{true≢false}
 use Rattle.source_pick.specs.Passes.{ArePassed}
 use Rattle.node_sums.proofs.Exported.{some_parent_smaller}
-use Rattle.source_pick.proofs.Counts.{passed_none, passed_with, passed_without, passed_all, none_outside}
+use Rattle.source_pick.proofs.PassesCounts.{passed_none, passed_with, passed_without, passed_all, none_outside}
 use Rattle.source_pick.proofs.splitting.pass_up.Goals.{else-flags-n-via-then-flags-n+else-parent, else-flags-n-via-else-flags-n}
 use Rattle.source_pick.proofs.splitting.pass_up.Goals as goal
 

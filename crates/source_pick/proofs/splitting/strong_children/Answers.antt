@@ -3,7 +3,7 @@ use Rattle.std.proofs.lemmas.Result.{IfOk-from_err}
 use Rattle.node_sums.proofs.Exported.{take_front}
 use Rattle.source_pick.specs.declared.splitting.StrongChildren.{StrongChildren}
 use Rattle.source_pick.specs.Passes.{AreStrongChildCounts}
-use Rattle.source_pick.proofs.Counts.{counted_none}
+use Rattle.source_pick.proofs.PassesCounts.{counted_none}
 use Rattle.source_pick.proofs.splitting.strong_children.Goals as goal
 
 pub returns-in_err-children : goal.returns-in_err-children

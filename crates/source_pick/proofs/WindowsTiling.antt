@@ -10,9 +10,9 @@ use Rattle.source_pick.specs.declared.choice.Choice.{Choice}
 use Rattle.source_pick.specs.Sources.{is_source, sources}
 use Rattle.source_pick.specs.Catalogue.{catalogue_row}
 use Rattle.source_pick.specs.Windows.{moved_row, Tile, IsOwnSource, IsFromTile, first_in_whole, tiles_rows, TilesGiveTheCatalogue}
-use Rattle.source_pick.proofs.Pairing.{rising_from_get, source_from_among, among_sources, sources_rise}
-use Rattle.source_pick.proofs.Local.{catalogue-is}
-use Rattle.source_pick.proofs.Windowed.{each_source_is_a_tiles, own_sources_are_the_wholes}
+use Rattle.source_pick.proofs.WindowsPairing.{rising_from_get, source_from_among, among_sources, sources_rise}
+use Rattle.source_pick.proofs.Locality.{catalogue-is}
+use Rattle.source_pick.proofs.Windows.{each_source_is_a_tiles, own_sources_are_the_wholes}
 
 -- a source of the whole, and the source of a tile that it is
 abbrev IsTiles : Raster → Connect → Choice → ℕ → Tile × ℕ → Type 0

@@ -21,9 +21,9 @@ use Rattle.source_pick.specs.declared.choice.Choice.{Choice}
 use Rattle.source_pick.specs.Sources.{is_large, is_lowest, is_entry, entry_of, has_contrast, is_strong}
 use Rattle.comp_tree.specs.Nesting.{level_of_node}
 use Rattle.source_pick.specs.Passes.{entry_number, AreEntries, AreStrong}
-use Rattle.source_pick.proofs.Entries.{entry_of-parts, entry_of-self, entry_of-root, entry_of-child}
-use Rattle.source_pick.proofs.Splits.{strong-in, strong-none}
-use Rattle.source_pick.proofs.Readings.{filled, wide}
+use Rattle.source_pick.proofs.NodesEntries.{entry_of-parts, entry_of-self, entry_of-root, entry_of-child}
+use Rattle.source_pick.proofs.NodesSplits.{strong-in, strong-none}
+use Rattle.source_pick.proofs.PassesReadings.{filled, wide}
 
 -- ---- size
 

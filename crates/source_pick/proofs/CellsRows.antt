@@ -21,8 +21,8 @@ use Rattle.node_sums.proofs.Exported.{level_up_to, total-up_to, up_to_more, up_t
 use Rattle.source_pick.specs.declared.catalogue.CatRow.{CatRow}
 use Rattle.source_pick.specs.Catalogue.{centre_of, measured_row, catalogue_row, FitsColumn, FitsColumns, IsCentred}
 use Rattle.source_pick.specs.Numbers.{IsMoment, IsMean, IsMeasured}
-use Rattle.source_pick.proofs.Listing.{first_below}
-use Rattle.source_pick.proofs.Means.{IsCentre, centred, centre-small, moment_low, moment_high, sum_low, sum_high, least_low, greatest_high, greatest_small}
+use Rattle.source_pick.proofs.OrderListing.{first_below}
+use Rattle.source_pick.proofs.CellsMeans.{IsCentre, centred, centre-small, moment_low, moment_high, sum_low, sum_high, least_low, greatest_high, greatest_small}
 
 -- ---- columns
 

@@ -8,7 +8,7 @@ use Rattle.comp_tree.specs.Laws.{IsNode}
 use Rattle.node_sums.specs.Sums.{sums_of}
 use Rattle.source_pick.specs.declared.choice.Choice.{Choice}
 use Rattle.source_pick.specs.Sources.{is_source, sources}
-use Rattle.source_pick.proofs.Listing.{sources_are_listed, sources_are_in_order}
+use Rattle.source_pick.proofs.OrderListing.{sources_are_listed, sources_are_in_order}
 
 -- ---- members
 

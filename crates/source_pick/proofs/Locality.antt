@@ -22,13 +22,13 @@ use Rattle.source_pick.specs.Segmentation.{source_number_at, segmentation_of, se
 use Rattle.source_pick.specs.Catalogue.{catalogue_row, catalogue_of, catalogue}
 use Rattle.source_pick.specs.Locality.{AgreeNearHigh, SourcesAreLocal}
 use Rattle.source_pick.specs.Windows.{moved_row}
-use Rattle.source_pick.proofs.HighNodes.{top_high}
-use Rattle.source_pick.proofs.Rows.{same_row}
-use Rattle.source_pick.proofs.AlongSums.{along_first}
-use Rattle.source_pick.proofs.AlongSources.{along_source_there}
-use Rattle.source_pick.proofs.MovedRows.{StandApart, along_row}
-use Rattle.source_pick.proofs.Pairing.{source_from_among, among_sources, sources_rise}
-use Rattle.source_pick.proofs.AlongInPlace.{in_place_alike, in_place_along}
+use Rattle.source_pick.proofs.LocalityHighNodes.{top_high}
+use Rattle.source_pick.proofs.CellsRows.{same_row}
+use Rattle.source_pick.proofs.LocalityAlongSums.{along_first}
+use Rattle.source_pick.proofs.LocalityAlongSources.{along_source_there}
+use Rattle.source_pick.proofs.WindowsMovedRows.{StandApart, along_row}
+use Rattle.source_pick.proofs.WindowsPairing.{source_from_among, among_sources, sources_rise}
+use Rattle.source_pick.proofs.LocalityAlongInPlace.{in_place_alike, in_place_along}
 
 -- ---- rows that stay where they are
 

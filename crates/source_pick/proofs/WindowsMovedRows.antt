@@ -15,10 +15,10 @@ use Rattle.node_sums.specs.Flux.{base_of, flux_of}
 use Rattle.node_sums.proofs.Exported.{never_negative, sums-area, sums-flux, x_small}
 use Rattle.source_pick.specs.Catalogue.{centre_of, spread_of, measured_row, catalogue_row}
 use Rattle.source_pick.specs.Windows.{moved_row}
-use Rattle.source_pick.proofs.Rows.{same_row}
-use Rattle.source_pick.proofs.AlongSums.{total_paired, length_paired, highest_paired, along_pixels, along_node_level, along_base, along_flux}
-use Rattle.source_pick.proofs.AlongSums.{along_first}
-use Rattle.source_pick.proofs.Moved.{sum_moved, products_moved, least_moved, greatest_moved, total_moved, spread_moved, centre_moved, moment_moved}
+use Rattle.source_pick.proofs.CellsRows.{same_row}
+use Rattle.source_pick.proofs.LocalityAlongSums.{total_paired, length_paired, highest_paired, along_pixels, along_node_level, along_base, along_flux}
+use Rattle.source_pick.proofs.LocalityAlongSums.{along_first}
+use Rattle.source_pick.proofs.WindowsMoved.{sum_moved, products_moved, least_moved, greatest_moved, total_moved, spread_moved, centre_moved, moment_moved}
 
 -- ---- rows from sums
 

@@ -19,7 +19,7 @@ use Rattle.node_sums.proofs.Exported.{node_from_among, range-push}
 use Rattle.source_pick.specs.declared.choice.Choice.{Choice}
 use Rattle.source_pick.specs.Sources.{is_source, sources_at, sources}
 use Rattle.source_pick.specs.Laws.{SourcesAreListed, SourcesAreInOrder}
-use Rattle.source_pick.proofs.Sourcing.{sources_that_share, sources_are_disjoint}
+use Rattle.source_pick.proofs.NodesSourcing.{sources_that_share, sources_are_disjoint}
 
 -- ---- the least pixel of a node
 

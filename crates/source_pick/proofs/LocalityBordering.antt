@@ -12,7 +12,7 @@ use Rattle.comp_tree.specs.Laws.{top_of, parent_of_node}
 use Rattle.comp_tree.proofs.Exported.{one_way, adjacent_ends, joined_pair, along_joined, reaches-is_IsReached, defined_from_at_least}
 use Rattle.comp_tree.proofs.Exported.{IsParent, parent-candidate, parent-of_node, below_no_node}
 use Rattle.comp_tree.proofs.Exported as Nodes
-use Rattle.source_pick.proofs.Splits.{parent_cases}
+use Rattle.source_pick.proofs.NodesSplits.{parent_cases}
 
 -- ---- borders
 

@@ -15,7 +15,7 @@ use Rattle.source_pick.specs.Sources.{is_large, is_lowest, is_entry, entry_of}
 use Rattle.comp_tree.specs.Nesting.{node_numbers, level_of_node, lies_within}
 use Rattle.source_pick.specs.Passes.{IsOnWay}
 use Rattle.source_pick.specs.Laws.{EntriesAreDisjoint}
-use Rattle.source_pick.proofs.Within.{within_from_way, way_from_shared, way_from_within, HasParent, way_up, way_of_child, level_on_way}
+use Rattle.source_pick.proofs.NodesWithin.{within_from_way, way_from_shared, way_from_within, HasParent, way_up, way_of_child, level_on_way}
 
 -- the parts of the definition
 pub record EntryParts (r : Raster) (connect : Connect) (choice : Choice) (n : ℕ) : Type 0 where

@@ -26,10 +26,10 @@ use Rattle.source_pick.specs.declared.picking.PlacedSource.{PlacedSource}
 use Rattle.source_pick.specs.Sources.{is_source, sources}
 use Rattle.source_pick.specs.Segmentation.{AreDisjointNodes}
 use Rattle.source_pick.specs.Passes.{with_least_pixel, ArePlacedSources, placed_nodes}
-use Rattle.source_pick.proofs.Listing.{IsSourceAt, same_source, source_node, sources_apart}
-use Rattle.source_pick.proofs.Pairing.{among_sources, source_from_among, sources_rise, rising_from_get}
-use Rattle.source_pick.proofs.Readings.{HasTreeAndSums}
-use Rattle.source_pick.proofs.Flags.{of_same}
+use Rattle.source_pick.proofs.OrderListing.{IsSourceAt, same_source, source_node, sources_apart}
+use Rattle.source_pick.proofs.WindowsPairing.{among_sources, source_from_among, sources_rise, rising_from_get}
+use Rattle.source_pick.proofs.PassesReadings.{HasTreeAndSums}
+use Rattle.source_pick.proofs.PassesFlags.{of_same}
 
 -- ---- the pass over the nodes
 

@@ -13,7 +13,7 @@ use Rattle.comp_tree.proofs.Exported.{are_neighbours_comm, among_from_defined, d
 use Rattle.source_pick.specs.declared.choice.Choice.{Choice}
 use Rattle.source_pick.specs.Locality.{HaveSameSources, IsHighInEither, IsNearHighOfEither, AgreeNearHigh, is_beside_high, is_near_high, kept, KeptIsAPlane}
 use Rattle.source_pick.specs.Locality.{KeptHasTheSameSources}
-use Rattle.source_pick.proofs.Local.{sources_are_local}
+use Rattle.source_pick.proofs.Locality.{sources_are_local}
 
 pub length-kept : (r : Raster) (connect : Connect) (h : ℤ) → length (kept r connect h).values ≡ length r.values
 unfolding kept pixels

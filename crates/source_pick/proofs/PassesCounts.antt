@@ -12,7 +12,7 @@ use Rattle.node_sums.proofs.Exported.{get-written}
 use Rattle.source_pick.specs.declared.splitting.StrongChildren.{StrongChildren}
 use Rattle.source_pick.specs.declared.splitting.StrongChildren.TheVariants.{Zero, One, Several}
 use Rattle.source_pick.specs.Passes.{IsStrongChild, HasStrongChildren, AreStrongChildCounts, with_one_more, IsOnWay, IsAboveSplit, ArePassed, AreAboveSplits}
-use Rattle.source_pick.proofs.Within.{way_trans}
+use Rattle.source_pick.proofs.NodesWithin.{way_trans}
 
 -- ---- counting
 

@@ -13,8 +13,8 @@ use Rattle.comp_tree.specs.Grid.{distance, are_neighbours}
 use Rattle.comp_tree.proofs.Exported.{are_neighbours_comm, defined_from_at_least, below_from_defined}
 use Rattle.source_pick.specs.Locality.{is_beside_high, is_near_high, kept}
 use Rattle.source_pick.specs.Clearing.{HasNoneBelow, IsAround, columns_beside, AreSetBetween, AreSetAround, AreMarkedNear}
-use Rattle.source_pick.proofs.Keeping.{near_from_own, near_from_neighbour}
-use Rattle.source_pick.proofs.Around.{first_row, last_row, IsPartOfRow, part_around, around_part, around_after, around_before}
+use Rattle.source_pick.proofs.LocalityKeeping.{near_from_own, near_from_neighbour}
+use Rattle.source_pick.proofs.LocalityAround.{first_row, last_row, IsPartOfRow, part_around, around_part, around_after, around_before}
 
 -- ---- marks of a run of pixels
 

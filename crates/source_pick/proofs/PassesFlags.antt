@@ -23,12 +23,12 @@ use Rattle.source_pick.specs.declared.splitting.StrongChildren.TheVariants.{Zero
 use Rattle.source_pick.specs.Sources.{is_entry, entry_of, is_split, has_strong_sibling, contains_split, is_source}
 use Rattle.source_pick.specs.Passes.{entry_number, AreEntries, AreStrong, IsStrongChild, HasTwoStrongChildren, HasStrongChildren, AreStrongChildCounts}
 use Rattle.source_pick.specs.Passes.{are_several, IsOnWay, IsAboveSplit, AreAboveSplits, AreSources}
-use Rattle.source_pick.proofs.Entries.{IsEntryOf, entry_of-parts, entry_of-self, entry_of-found, entry_of_child}
-use Rattle.source_pick.proofs.Splits.{AreTwins, other_way, IsSplitNode, split_parts, split_from, split_entry, sibling_parts, sibling_from, ContainsSplit}
-use Rattle.source_pick.proofs.Splits.{contains_parts, contains_from}
-use Rattle.source_pick.proofs.Sourcing.{source_from}
-use Rattle.source_pick.proofs.Readings.{HasTreeAndSums, numbers-length, tree-shape, node_inside, filled}
-use Rattle.source_pick.proofs.Strong.{entry_from_number}
+use Rattle.source_pick.proofs.NodesEntries.{IsEntryOf, entry_of-parts, entry_of-self, entry_of-found, entry_of_child}
+use Rattle.source_pick.proofs.NodesSplits.{AreTwins, other_way, IsSplitNode, split_parts, split_from, split_entry, sibling_parts, sibling_from, ContainsSplit}
+use Rattle.source_pick.proofs.NodesSplits.{contains_parts, contains_from}
+use Rattle.source_pick.proofs.NodesSourcing.{source_from}
+use Rattle.source_pick.proofs.PassesReadings.{HasTreeAndSums, numbers-length, tree-shape, node_inside, filled}
+use Rattle.source_pick.proofs.PassesStrong.{entry_from_number}
 
 -- ---- what the arrays say
 

@@ -19,9 +19,9 @@ use Rattle.comp_tree.proofs.Exported.{in_node-defined, top_inside}
 use Rattle.comp_tree.proofs.Exported as Nodes
 use Rattle.source_pick.specs.Segmentation.{source_number_at, segmentation_of, AreDisjointNodes}
 use Rattle.source_pick.specs.Passes.{IsOnWay, AreMarked, AreNumbered}
-use Rattle.source_pick.proofs.Within.{within_from_way, way_from_shared, HasParent, way_up, way_of_child}
-use Rattle.source_pick.proofs.Entries.{node_from_row, row_from_node}
-use Rattle.source_pick.proofs.Readings.{numbers-length, node_inside, filled}
+use Rattle.source_pick.proofs.NodesWithin.{within_from_way, way_from_shared, HasParent, way_up, way_of_child}
+use Rattle.source_pick.proofs.NodesEntries.{node_from_row, row_from_node}
+use Rattle.source_pick.proofs.PassesReadings.{numbers-length, node_inside, filled}
 use Rattle.node_sums.proofs.Exported.{rows_are}
 
 -- ---- the place of the first number that passes

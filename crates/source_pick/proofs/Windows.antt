@@ -17,11 +17,11 @@ use Rattle.node_sums.proofs.Exported.{y_small}
 use Rattle.source_pick.specs.declared.choice.Choice.{Choice}
 use Rattle.source_pick.specs.Windows.{IsMovedNode, IsSureSource, IsSureSourceIn, SureSourcesAreSeen, SeenSourcesAreSure, Tile, IsTileOf, IsFromTile}
 use Rattle.source_pick.specs.Windows.{EachSourceIsATiles, OwnSourcesAreTheWholes, OwnSourcesAreDistinct}
-use Rattle.source_pick.proofs.Listing.{same_source, first_inside, first_below}
-use Rattle.source_pick.proofs.HighNodes.{top_high}
-use Rattle.source_pick.proofs.AlongSums.{along_first, reached_in_node}
-use Rattle.source_pick.proofs.AlongSources.{along_source_there}
-use Rattle.source_pick.proofs.MovedRows.{StandApart, along_row}
+use Rattle.source_pick.proofs.OrderListing.{same_source, first_inside, first_below}
+use Rattle.source_pick.proofs.LocalityHighNodes.{top_high}
+use Rattle.source_pick.proofs.LocalityAlongSums.{along_first, reached_in_node}
+use Rattle.source_pick.proofs.LocalityAlongSources.{along_source_there}
+use Rattle.source_pick.proofs.WindowsMovedRows.{StandApart, along_row}
 
 -- each pixel of such a node is reached from the pixel that represents it, at the threshold
 pub in_node_reached : (r : Raster) (connect : Connect) (h : ℤ) (n p : ℕ) → IsTrue (is_at_least r h (top_of r connect n)) → is_in_node r connect n p ≡ true

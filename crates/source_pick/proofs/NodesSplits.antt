@@ -17,8 +17,8 @@ use Rattle.source_pick.specs.Sources.{is_large, entry_of, has_contrast, is_stron
 use Rattle.source_pick.specs.Sources.{contains_split}
 use Rattle.comp_tree.specs.Nesting.{node_numbers, lies_within}
 use Rattle.source_pick.specs.Passes.{IsOnWay}
-use Rattle.source_pick.proofs.Within.{within_from_way, way_from_within, HasParent, way_up}
-use Rattle.source_pick.proofs.Entries.{row_from_node, IsEntryOf, entry_of-parts, entry_of-found, entry_of_child}
+use Rattle.source_pick.proofs.NodesWithin.{within_from_way, way_from_within, HasParent, way_up}
+use Rattle.source_pick.proofs.NodesEntries.{row_from_node, IsEntryOf, entry_of-parts, entry_of-found, entry_of_child}
 
 -- ---- tests over all nodes
 

@@ -7,8 +7,8 @@ use mir.Val.{Fits, SFits, of_z, to_z}
 use Rattle.node_sums.specs.Sizes.{IsUpTo}
 use Rattle.node_sums.proofs.Exported.{up_to-times, up_to-minus, fits}
 use Rattle.source_pick.specs.Numbers.{IsMoment, IsMean, IsSpread}
-use Rattle.source_pick.proofs.Readings.{wide}
-use Rattle.source_pick.proofs.Means.{spread_fits, difference-read, thousand_fits, thousand_between, thousand_moments_fit}
+use Rattle.source_pick.proofs.PassesReadings.{wide}
+use Rattle.source_pick.proofs.CellsMeans.{spread_fits, difference-read, thousand_fits, thousand_between, thousand_moments_fit}
 
 -- ---- from 64 bits to 128
 

@@ -18,7 +18,7 @@ use Rattle.node_sums.specs.Sizes.{IsUpTo}
 use Rattle.node_sums.proofs.Exported.{up_to-times, up_to-minus, up_to_more, fits}
 use Rattle.source_pick.specs.Catalogue.{floor_of, centre_of, spread_of}
 use Rattle.source_pick.specs.Numbers.{IsMoment, IsMean, IsSpread}
-use Rattle.source_pick.proofs.Readings.{wide}
+use Rattle.source_pick.proofs.PassesReadings.{wide}
 
 -- ---- products with natural numbers
 

@@ -15,9 +15,9 @@ use Rattle.comp_tree.proofs.Exported.{turned}
 use Rattle.node_sums.specs.Sums.{total, highest, sums_over, sums_of}
 use Rattle.node_sums.specs.Flux.{base_of, flux_of}
 use Rattle.node_sums.proofs.Exported.{base-child, base-root, level-of_node, sums-area}
-use Rattle.source_pick.proofs.Listing.{first_inside}
-use Rattle.source_pick.proofs.Means.{least_low}
-use Rattle.source_pick.proofs.AlongBorders.{ParentsAgree, roots, children, along_parents_agree}
+use Rattle.source_pick.proofs.OrderListing.{first_inside}
+use Rattle.source_pick.proofs.CellsMeans.{least_low}
+use Rattle.source_pick.proofs.LocalityAlongBorders.{ParentsAgree, roots, children, along_parents_agree}
 
 -- ---- sums over paired pixels
 

@@ -12,8 +12,8 @@ use Rattle.comp_tree.proofs.Exported.{AlikeAlong, AreCounterparts, HasLikeBeside
 use Rattle.comp_tree.proofs.Exported.{along_reaches}
 use Rattle.comp_tree.proofs.Exported.{counterparts_sym, counterparts_level}
 use Rattle.comp_tree.proofs.Exported as Nodes
-use Rattle.source_pick.proofs.Bordering.{IsBorder, HasBorder, border_from_candidate, candidate_from_border, HasCandidate, ParentIs, is_root, is_child}
-use Rattle.source_pick.proofs.Bordering.{parent_is}
+use Rattle.source_pick.proofs.LocalityBordering.{IsBorder, HasBorder, border_from_candidate, candidate_from_border, HasCandidate, ParentIs, is_root, is_child}
+use Rattle.source_pick.proofs.LocalityBordering.{parent_is}
 
 -- the parents of a node and of its counterpart
 pub data ParentsAgree (r s : Raster) (connect : Connect) (n m : ℕ) : Type 0 where

@@ -10,8 +10,8 @@ use Rattle.std.proofs.Math.IntN.{*ℤ-zero, pos-*ℤ-pos}
 use Rattle.lemmas.proofs.Exported.{ArePaired, at_end, at_more, floor-moved, int_eq-from, times-sum, times_suc}
 use Rattle.node_sums.specs.Sums.{total, least, greatest}
 use Rattle.source_pick.specs.Catalogue.{floor_of, centre_of, spread_of}
-use Rattle.source_pick.proofs.Means.{plus_times, minus_times, times_plus}
-use Rattle.source_pick.proofs.AlongSums.{length_paired}
+use Rattle.source_pick.proofs.CellsMeans.{plus_times, minus_times, times_plus}
+use Rattle.source_pick.proofs.LocalityAlongSums.{length_paired}
 
 -- ---- sums
 

@@ -14,10 +14,10 @@ use Rattle.node_sums.proofs.Exported.{level-of_node}
 use Rattle.source_pick.specs.declared.choice.Choice.{Choice}
 use Rattle.source_pick.specs.Sources.{is_entry, is_strong, is_split, has_strong_sibling, is_source}
 use Rattle.source_pick.specs.Passes.{IsOnWay}
-use Rattle.source_pick.proofs.Within.{level_on_way}
-use Rattle.source_pick.proofs.Entries.{entry_parts, IsEntryOf, entry_of-parts}
-use Rattle.source_pick.proofs.Splits.{HasEntry, strong_entry, IsSplitNode, split_parts, split_entry, sibling_parts}
-use Rattle.source_pick.proofs.Sourcing.{source_parts}
+use Rattle.source_pick.proofs.NodesWithin.{level_on_way}
+use Rattle.source_pick.proofs.NodesEntries.{entry_parts, IsEntryOf, entry_of-parts}
+use Rattle.source_pick.proofs.NodesSplits.{HasEntry, strong_entry, IsSplitNode, split_parts, split_entry, sibling_parts}
+use Rattle.source_pick.proofs.NodesSourcing.{source_parts}
 
 -- a node that lies within a node of at least the threshold has it too
 pub up_from_way : (r : Raster) (connect : Connect) (choice : Choice) (m n : ℕ) → IsPlane r → m < length (nodes r connect) → n < length (nodes r connect)

@@ -18,15 +18,15 @@ use Rattle.node_sums.proofs.Exported.{level-of_node}
 use Rattle.source_pick.specs.declared.choice.Choice.{Choice}
 use Rattle.source_pick.specs.Sources.{is_large, is_lowest, is_entry, entry_of, has_contrast, is_strong, is_split, has_strong_sibling, contains_split, is_source}
 use Rattle.source_pick.specs.Passes.{IsOnWay}
-use Rattle.source_pick.proofs.Within.{within_from_way, way_from_within, way_of_child}
-use Rattle.source_pick.proofs.Entries.{entry_parts, IsEntryOf, entry_of-parts, entry_of-found}
-use Rattle.source_pick.proofs.Strong.{lowest_at_root, lowest_at_child}
-use Rattle.source_pick.proofs.Splits.{HasEntry, strong_entry, strong-in, AreTwins, IsSplitNode, split_parts, split_from, HasSibling, sibling_parts}
-use Rattle.source_pick.proofs.Splits.{sibling_from, ContainsSplit, contains_parts, contains_from}
-use Rattle.source_pick.proofs.Sourcing.{SourceParts, source_parts, source_from}
-use Rattle.source_pick.proofs.HighNodes.{up_from_way, strong_up, split_up}
-use Rattle.source_pick.proofs.AlongBorders.{ParentsAgree, roots, children, along_parents_agree, along_parent_there}
-use Rattle.source_pick.proofs.AlongSums.{along_area, along_node_level, along_flux, reached_in_node}
+use Rattle.source_pick.proofs.NodesWithin.{within_from_way, way_from_within, way_of_child}
+use Rattle.source_pick.proofs.NodesEntries.{entry_parts, IsEntryOf, entry_of-parts, entry_of-found}
+use Rattle.source_pick.proofs.PassesStrong.{lowest_at_root, lowest_at_child}
+use Rattle.source_pick.proofs.NodesSplits.{HasEntry, strong_entry, strong-in, AreTwins, IsSplitNode, split_parts, split_from, HasSibling, sibling_parts}
+use Rattle.source_pick.proofs.NodesSplits.{sibling_from, ContainsSplit, contains_parts, contains_from}
+use Rattle.source_pick.proofs.NodesSourcing.{SourceParts, source_parts, source_from}
+use Rattle.source_pick.proofs.LocalityHighNodes.{up_from_way, strong_up, split_up}
+use Rattle.source_pick.proofs.LocalityAlongBorders.{ParentsAgree, roots, children, along_parents_agree, along_parent_there}
+use Rattle.source_pick.proofs.LocalityAlongSums.{along_area, along_node_level, along_flux, reached_in_node}
 
 -- ---- nodes of at least the threshold
 
