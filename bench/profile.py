@@ -23,7 +23,7 @@ STEPS = [
     ("reading pixels", r"pixel_plane"),
     ("planes of few pixels", r"comp_tree"),
     ("making output", r"product::write|dev_io|fits_write|itoa"),
-    ("the rest of the pipeline, merged into a few functions", r"detect_top|measure_top|job_products"),
+    ("the rest of the pipeline, merged into a few functions", r"detect_top|measure_top"),
     ("copying and clearing memory", r"mem(move|set|cpy)"),
 ]
 

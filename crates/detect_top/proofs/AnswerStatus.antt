@@ -7,9 +7,9 @@ use Rattle.orders.specs.declared.words.Job.{Job}
 use Rattle.orders.specs.declared.words.Job.TheVariants.{Tree, Filter, Detect, Trial, Measure}
 use Rattle.orders.specs.declared.words.Usage.{Usage as AtFault}
 use Rattle.orders.specs.Words.{order_of, image_order_of}
-use Rattle.run_ends.specs.Answers.{end_status}
-use Rattle.run_ends.specs.Laws.{AnswersAreOfWordsAndBytes}
-use Rattle.run_ends.proofs.Exported.{by_verdict}
+use Rattle.run_relation.specs.Answers.{end_status}
+use Rattle.run_relation.specs.Laws.{AnswersAreOfWordsAndBytes}
+use Rattle.run_relation.proofs.Exported.{by_verdict}
 use Rattle.measure_top.proofs.Exported.{status_of_measure}
 use Rattle.detect_top.specs.WordAnswers.{asked_by, asked_for, asked_of, asked_of_all}
 

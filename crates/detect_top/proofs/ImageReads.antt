@@ -9,10 +9,10 @@ use Rattle.orders.specs.declared.words.Order.{Order}
 use Rattle.pixel_plane.specs.declared.image.Stop.{Stop}
 use Rattle.pixel_plane.specs.declared.image.Stop.TheVariants.{NoMemory}
 use Rattle.pixel_plane.specs.Streams.{ImageRead, ImageStopped, memory_at_verdict, stop_of, TakesOneOf}
-use Rattle.run_ends.specs.Answers.{end_of}
-use Rattle.run_ends.specs.RunEnds.{AllRead, HasStopped}
-use Rattle.run_ends.proofs.Exported.{all_read, has_stopped}
-use Rattle.job_products.specs.Products.{output_of}
+use Rattle.run_relation.specs.Answers.{end_of}
+use Rattle.run_relation.specs.RunEnds.{AllRead, HasStopped}
+use Rattle.run_relation.proofs.Exported.{all_read, has_stopped}
+use Rattle.tree_products.specs.Products.{output_of}
 use Rattle.detect_top.specs.ImageAnswers.{output_on, answer_to_verdict}
 
 -- the image was read, and what is made of it is the answer's output

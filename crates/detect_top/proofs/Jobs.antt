@@ -4,7 +4,7 @@ use Rattle.comp_tree.specs.Raster.{Raster}
 use Rattle.orders.specs.declared.words.Order.{Order}
 use Rattle.orders.specs.declared.words.Job.{Job}
 use Rattle.orders.specs.declared.words.Job.TheVariants.{Tree, Filter, Detect, Trial, Measure}
-use Rattle.job_products.specs.Writables.{SuitsJob}
+use Rattle.tree_products.specs.Writables.{SuitsJob}
 use Rattle.detect_top.specs.ImageAnswers.{asked_of_input}
 use Rattle.detect_top.specs.WordAnswers.{asked_for}
 use Rattle.detect_top.specs.Made.{IsOfInput}

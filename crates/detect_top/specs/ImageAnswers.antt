@@ -4,10 +4,10 @@ use Rattle.comp_tree.specs.Raster.{Raster}
 use Rattle.pixel_plane.specs.Verdicts.{Verdict, image, verdict_on, taken_for}
 use Rattle.orders.specs.declared.words.Order.{Order}
 use Rattle.pixel_plane.specs.Streams.{stop_of, memory_at_verdict}
-use Rattle.run_ends.specs.declared.ends.End.TheVariants.{Done}
-use Rattle.run_ends.specs.Answers.{end_of}
-use Rattle.run_ends.specs.Headline.{Answer, Asked}
-use Rattle.job_products.specs.Products.{output_of}
+use Rattle.run_relation.specs.declared.ends.End.TheVariants.{Done}
+use Rattle.run_relation.specs.Answers.{end_of}
+use Rattle.run_relation.specs.Headline.{Answer, Asked}
+use Rattle.tree_products.specs.Products.{output_of}
 
 -- what is written by the verdict on the input's bytes
 abbrev pub output_on : Order → Verdict → List ℕ

@@ -2,7 +2,7 @@
 use Rattle.std.specs.Prelude.{ℕ, List}
 use Rattle.orders.specs.declared.words.Job.{Job}
 use Rattle.orders.specs.declared.words.Job.TheVariants.{Tree, Filter, Detect, Trial, Measure}
-use Rattle.job_products.specs.Writables.{bytes_of, IsWritable}
+use Rattle.tree_products.specs.Writables.{bytes_of, IsWritable}
 use Rattle.measure_top.specs.MeasuredDetections.{IsMeasuredDetection, measured_bytes}
 use Rattle.detect_top.specs.declared.making.Made.{Made}
 use Rattle.detect_top.specs.declared.making.Made.TheVariants.{OfOne, OfTwo}

@@ -5,7 +5,7 @@ use Rattle.orders.specs.declared.words.Job.{Job}
 use Rattle.orders.specs.declared.words.Job.TheVariants.{Tree, Filter, Detect, Trial, Measure}
 use Rattle.orders.specs.declared.words.Usage.{Usage as AtFault}
 use Rattle.orders.specs.Words.{order_of, image_order_of}
-use Rattle.run_ends.specs.Headline.{Answer, Asked, asked_nothing}
+use Rattle.run_relation.specs.Headline.{Answer, Asked, asked_nothing}
 use Rattle.tree_products.specs.Trials.{trial_image}
 use Rattle.detect_top.specs.ImageAnswers.{asked_of_input, asked_of_made}
 use Rattle.measure_top.specs.MeasureAnswers.{asked_to_measure}

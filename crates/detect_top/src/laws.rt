@@ -1,7 +1,7 @@
 //! A law on answers: the contract of a function that does nothing. It speaks of the definitions alone.
 
 ghost use Rattle.detect_top.specs.WordAnswers.{asked_of, asked_of_all};
-ghost use Rattle.run_ends.specs.Laws.{AnswersAreOfWordsAndBytes};
+ghost use Rattle.run_relation.specs.Laws.{AnswersAreOfWordsAndBytes};
 
 /// The answer to any words and bytes has the status 0, 1 or 2. So 3, 4 and 5 always tell of a device or of memory.
 #[tactic(auto, using(crate::proofs::AnswerStatus::status_of_all))]

@@ -6,15 +6,15 @@ ghost use Rattle.comp_tree.specs.Raster.{HasValuesInHalfRange};
 ghost use Rattle.mesh_background.specs.Residuals.{residual_of};
 ghost use Rattle.orders.specs.Words.{HasLimits};
 ghost use Rattle.orders.specs.declared.words.Job.TheVariants.{Trial};
-ghost use Rattle.job_products.specs.Products.{output_of};
-ghost use Rattle.job_products.specs.Writables.{bytes_of, SuitsJob, IsWritable};
+ghost use Rattle.tree_products.specs.Products.{output_of};
+ghost use Rattle.tree_products.specs.Writables.{bytes_of, SuitsJob, IsWritable};
 ghost use Rattle.tree_products.specs.Trials.{trial_image as image_of};
 ghost use Rattle.detect_top.specs.Made.{made_bytes, IsMade};
 
 use comp_tree::{Plane, Shape};
 use costs::OutOfMemory;
 use dev_io::Sink;
-use job_products::{Product, WriteFault, make_of, working_plane, write};
+use tree_products::{Product, WriteFault, make_of, working_plane, write};
 use measure_top::{Measured, put_measured};
 use orders::Order;
 use std::alloc::Global;

@@ -5,9 +5,9 @@ use Rattle.std.proofs.lemmas.Option.{none-some}
 use Rattle.dev_io.specs.Streams.{Takes}
 use Rattle.source_pick.specs.declared.choice.Choice.{Choice}
 use Rattle.orders.specs.declared.words.Order.{Order}
-use Rattle.run_ends.specs.Answers.{end_status, end_of}
-use Rattle.run_ends.specs.RunEnds.{AllRead, HasStopped}
-use Rattle.run_ends.proofs.Exported.{by_verdict, all_read, has_stopped}
+use Rattle.run_relation.specs.Answers.{end_status, end_of}
+use Rattle.run_relation.specs.RunEnds.{AllRead, HasStopped}
+use Rattle.run_relation.proofs.Exported.{by_verdict, all_read, has_stopped}
 use Rattle.pixel_plane.specs.declared.image.Stop.{Stop}
 use Rattle.pixel_plane.specs.declared.image.Stop.TheVariants.{NoMemory}
 use Rattle.pixel_plane.specs.declared.two_images.TwoPlanes.{TwoPlanes}

@@ -3,8 +3,8 @@ use Rattle.std.specs.Prelude.{ℕ, true, List, [], min, max, nat_lt, if◌then�
 use Rattle.comp_tree.specs.Raster.{Raster}
 use Rattle.source_pick.specs.declared.choice.Choice.{Choice}
 use Rattle.orders.specs.declared.words.Order.{Order}
-use Rattle.run_ends.specs.Answers.{end_of}
-use Rattle.run_ends.specs.Headline.{Answer, Asked}
+use Rattle.run_relation.specs.Answers.{end_of}
+use Rattle.run_relation.specs.Headline.{Answer, Asked}
 use Rattle.pixel_plane.specs.TwoImages.{TwoVerdict, two_images, verdict_on_two, taken_for_two, stop_of_two, memory_at_two}
 use Rattle.measure_top.specs.MeasuredCatalogues.{measured_output}
 

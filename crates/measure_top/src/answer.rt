@@ -4,8 +4,8 @@ ghost use Rattle.dev_io.specs.Causes.{Rose};
 ghost use Rattle.comp_tree.specs.Raster.{HasValuesInHalfRange};
 ghost use Rattle.orders.specs.Words.{HasLimits};
 ghost use Rattle.pixel_plane.specs.InputFaults.{IsCutStop};
-ghost use Rattle.run_ends.specs.Headline.{Tells};
-ghost use Rattle.run_ends.specs.RunEnds.{IsMadeOf};
+ghost use Rattle.run_relation.specs.Headline.{Tells};
+ghost use Rattle.run_relation.specs.RunEnds.{IsMadeOf};
 ghost use Rattle.measure_top.specs.MeasuredDetections.{IsMeasuredDetection, measured_bytes};
 ghost use Rattle.measure_top.specs.MeasureAnswers.{measured_of_two, asked_to_measure};
 

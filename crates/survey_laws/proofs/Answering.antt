@@ -20,11 +20,11 @@ use Rattle.source_pick.specs.declared.choice.Choice.{Choice}
 use Rattle.orders.specs.declared.words.Order.{Order}
 use Rattle.orders.specs.declared.words.Job.TheVariants.{Detect}
 use Rattle.orders.specs.Words.{order_of}
-use Rattle.job_products.specs.Products.{output_of_job, output_of}
+use Rattle.tree_products.specs.Products.{output_of_job, output_of}
 use Rattle.detect_top.specs.ImageAnswers.{answer_to_verdict}
 use Rattle.detect_top.specs.WordAnswers.{asked_for, asked_by, answer_to_words}
-use Rattle.run_ends.specs.Answers.{end_status}
-use Rattle.run_ends.specs.Headline.{Answer}
+use Rattle.run_relation.specs.Answers.{end_status}
+use Rattle.run_relation.specs.Headline.{Answer}
 use Rattle.tree_products.specs.Catalogues.{detected_hdus, catalogue_cells}
 use Rattle.survey_core.specs.Catalogues.{accepted, catalogue_in}
 use Rattle.survey_laws.specs.Laws.{IsRunsPlane, DetectionIsAccepted, AnswerIsAccepted}

@@ -14,7 +14,7 @@ use Rattle.orders.specs.declared.words.Order.{Order}
 use Rattle.orders.specs.declared.words.Job.TheVariants.{Detect}
 use Rattle.orders.specs.Words.{order_of}
 use Rattle.detect_top.specs.WordAnswers.{answer_to_words}
-use Rattle.run_ends.specs.Answers.{end_status}
+use Rattle.run_relation.specs.Answers.{end_status}
 use Rattle.tree_products.specs.Catalogues.{catalogue_cells, detected_hdus}
 use Rattle.survey_core.specs.Fields.{is_name}
 use Rattle.survey_core.specs.Tables.{Table}

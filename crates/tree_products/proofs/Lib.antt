@@ -5,4 +5,6 @@ mod Detections
 mod Trials
 mod Summaries
 mod Causes
+mod TrialResiduals
+mod Products
 pub mod Exported

@@ -2,3 +2,5 @@ pub mod Lines
 pub mod Catalogues
 pub mod Trials
 pub mod TrialSizes
+pub mod Products
+pub mod Writables

@@ -1,14 +1,18 @@
-//! What is told of a plane and its tree: the list of nodes, the sources and the sums of a trial, each with its bytes.
+//! What each job makes of a plane and its tree, the list of nodes, a filtered plane, the sources or the sums of a trial, and how that is written.
 #![tactic(auto)]
 
 mod detection;
 mod lines;
+mod product;
 mod trial;
 
 pub use detection::{Detection, detect, put_detection};
 pub use fits_write::WriteFault;
 pub use lines::{Nodes, node_areas, put_tree};
+pub use product::{Product, make_of, working_plane, write};
 pub use trial::{Summary, put_trial, summarize, trial_image};
 
+#[cfg(test)]
+mod product_tests;
 #[cfg(test)]
 mod tests;

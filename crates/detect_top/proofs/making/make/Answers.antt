@@ -1,4 +1,4 @@
-use Rattle.job_products.proofs.Exported.{made_of_image}
+use Rattle.tree_products.proofs.Exported.{made_of_image}
 use Rattle.detect_top.proofs.making.make.Goals as goal
 
 pub returns-clause-bytes : goal.returns-clause-bytes

@@ -2,8 +2,8 @@ use Rattle.std.proofs.Common.{subst, sym}
 use Rattle.comp_tree.specs.Raster.{Raster}
 use Rattle.mesh_background.specs.Residuals.{residual_of}
 use Rattle.comp_tree.specs.Raster.{HasValuesInHalfRange}
-use Rattle.job_products.specs.Writables.{SuitsJob}
-use Rattle.job_products.proofs.Exported.{suits_made}
+use Rattle.tree_products.specs.Writables.{SuitsJob}
+use Rattle.tree_products.proofs.Exported.{suits_made}
 use Rattle.tree_products.proofs.Exported.{trial_is_storable}
 use Rattle.detect_top.proofs.making.make_trial.Goals as goal
 

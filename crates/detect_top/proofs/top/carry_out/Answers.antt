@@ -1,7 +1,7 @@
 use Rattle.std.proofs.Common.{refl, subst}
 use Rattle.pixel_plane.specs.declared.image.Stop.{Stop}
-use Rattle.run_ends.specs.RunEnds.{HasStopped}
-use Rattle.run_ends.proofs.Exported.{refused_so}
+use Rattle.run_relation.specs.RunEnds.{HasStopped}
+use Rattle.run_relation.proofs.Exported.{refused_so}
 use Rattle.detect_top.specs.WordAnswers.{asked_for}
 use Rattle.detect_top.proofs.top.carry_out.Goals as goal
 

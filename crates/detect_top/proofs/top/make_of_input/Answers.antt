@@ -1,5 +1,5 @@
 use Rattle.std.proofs.Common.{ap}
-use Rattle.run_ends.specs.Headline.{Asked}
+use Rattle.run_relation.specs.Headline.{Asked}
 use Rattle.detect_top.proofs.ImageReads.{image_read, image_stopped, memory_after}
 use Rattle.detect_top.proofs.Jobs.{of_input, suits_any}
 use Rattle.detect_top.proofs.top.make_of_input.Goals as goal

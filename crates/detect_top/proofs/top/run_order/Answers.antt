@@ -1,4 +1,4 @@
-use Rattle.run_ends.proofs.Exported.{run_of_end}
+use Rattle.run_relation.proofs.Exported.{run_of_end}
 use Rattle.detect_top.proofs.top.run_order.Goals as goal
 
 pub returns : goal.returns

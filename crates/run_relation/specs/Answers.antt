@@ -4,8 +4,8 @@ use Rattle.std.specs.List.{concat}
 use Rattle.std.specs.Fmt.{signed_decimal}
 use Rattle.command_line.specs.Notes.{usage_line}
 use Rattle.pixel_plane.specs.declared.input_fault.Fault.{Fault}
-use Rattle.run_ends.specs.declared.ends.End.{End}
-use Rattle.run_ends.specs.declared.ends.End.TheVariants.{Done, Usage, Refused, ReadFault, WriteFault, NoMemory}
+use Rattle.run_relation.specs.declared.ends.End.{End}
+use Rattle.run_relation.specs.declared.ends.End.TheVariants.{Done, Usage, Refused, ReadFault, WriteFault, NoMemory}
 use Rattle.pixel_plane.specs.declared.input_fault.Place.{Place}
 use Rattle.pixel_plane.specs.declared.input_fault.Place.TheVariants.{Card, Pixel}
 use Rattle.pixel_plane.specs.declared.image.Stop.{Stop}

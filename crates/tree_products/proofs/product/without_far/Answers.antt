@@ -3,8 +3,8 @@ use Rattle.std.proofs.lemmas.Int.{to_z-of_z}
 use Rattle.comp_tree.specs.Raster.{Raster}
 use Rattle.source_pick.proofs.Exported.{shape-kept}
 use Rattle.tree_products.specs.Catalogues.{detected_hdus}
-use Rattle.tree_products.proofs.Exported.{detection_same}
-use Rattle.job_products.proofs.product.without_far.Goals as goal
+use Rattle.tree_products.proofs.Detections.{detection_same}
+use Rattle.tree_products.proofs.product.without_far.Goals as goal
 
 pub returns : goal.returns
 returns g c =

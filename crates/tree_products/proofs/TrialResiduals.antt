@@ -19,7 +19,7 @@ use Rattle.mesh_background.specs.Residuals.{filtered_values, pixel_level, backgr
 use Rattle.mesh_background.proofs.Exported.{the_one, stay_between, columns-some, length-smooth}
 use Rattle.tree_products.specs.Trials.{trial_image}
 use Rattle.tree_products.specs.TrialSizes.{IsSmall, HasSmallValues}
-use Rattle.tree_products.proofs.Exported.{IsByte, trial_bytes, get_from_read, level-from}
+use Rattle.tree_products.proofs.Trials.{IsByte, trial_bytes, get_from_read, level-from}
 
 -- a plane whose values are from 0 to 255
 record HasBytes (r : Raster) : Type 0 where

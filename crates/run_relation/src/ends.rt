@@ -1,6 +1,6 @@
 //! The ends of a run, with their statuses.
 ghost use Rattle.std.specs.Prelude.{◌≡◌};
-ghost use Rattle.run_ends.specs.Answers.{end_status};
+ghost use Rattle.run_relation.specs.Answers.{end_status};
 
 use orders::Usage;
 use pixel_plane::Fault;

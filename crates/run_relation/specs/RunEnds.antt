@@ -4,12 +4,12 @@ use Rattle.std.specs.declared.option.Option.{Option}
 use Rattle.std.specs.Io.KnownBytes.{Appends, Keeps}
 use Rattle.dev_io.specs.Causes.{Rose}
 use Rattle.dev_io.specs.Streams.{AppendsPrefix}
-use Rattle.run_ends.specs.declared.ends.End.{End}
-use Rattle.run_ends.specs.declared.ends.End.TheVariants.{Done, Usage, Refused, ReadFault, WriteFault, NoMemory}
+use Rattle.run_relation.specs.declared.ends.End.{End}
+use Rattle.run_relation.specs.declared.ends.End.TheVariants.{Done, Usage, Refused, ReadFault, WriteFault, NoMemory}
 use Rattle.pixel_plane.specs.declared.image.Stop.{Stop}
 use Rattle.pixel_plane.specs.declared.image.Stop.TheVariants as at_image
 use Rattle.pixel_plane.specs.InputFaults.{IsCutShort}
-use Rattle.run_ends.specs.Headline.{Answer, Asked, InputUse, OutputUse, Took, TookAtMost, TookOneOf}
+use Rattle.run_relation.specs.Headline.{Answer, Asked, InputUse, OutputUse, Took, TookAtMost, TookOneOf}
 
 -- all was read, and this is the answer's output
 pub record AllRead (answer : Answer) (left left' : Option (List ℕ)) (output : List ℕ) : Type 0 where

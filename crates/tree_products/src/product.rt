@@ -9,9 +9,12 @@ ghost use Rattle.filter_rules.specs.Filtered.{filtered as filtered_of};
 ghost use Rattle.orders.specs.Words.{HasJobLimits};
 ghost use Rattle.tree_products.specs.Catalogues.{detected_hdus};
 ghost use Rattle.tree_products.specs.Lines.{tree_lines, node_list};
-ghost use Rattle.job_products.specs.Products.{output_of_job};
-ghost use Rattle.job_products.specs.Writables.{bytes_of, SuitsJob, IsWritable};
+ghost use Rattle.tree_products.specs.Products.{output_of_job};
+ghost use Rattle.tree_products.specs.Writables.{bytes_of, SuitsJob, IsWritable};
 
+use crate::{
+    Detection, Nodes, Summary, detect, node_areas, put_detection, put_tree, put_trial, summarize,
+};
 use comp_tree::{Connect, Plane, Tree};
 use costs::OutOfMemory;
 use dev_io::Sink;
@@ -22,9 +25,6 @@ use orders::{Job, Order};
 use source_pick::{Choice, clear_far};
 use std::alloc::Global;
 use std::thread::Threads;
-use tree_products::{
-    Detection, Nodes, Summary, detect, node_areas, put_detection, put_tree, put_trial, summarize,
-};
 
 /// What is to be written.
 #[derive(Drop)]

@@ -7,13 +7,13 @@ use Rattle.comp_tree.specs.ComponentTree.{ComponentTree}
 use Rattle.comp_tree.specs.Components.{tree_of}
 use Rattle.mesh_background.specs.Residuals.{residual_of}
 use Rattle.orders.specs.declared.words.Order.{Order}
-use Rattle.job_products.specs.declared.product.Product.{Product}
+use Rattle.tree_products.specs.declared.product.Product.{Product}
 use Rattle.orders.specs.declared.words.Job.{Job}
 use Rattle.orders.specs.declared.words.Job.TheVariants.{Trial}
-use Rattle.job_products.specs.Products.{output_of_job, output_of}
-use Rattle.job_products.specs.Writables.{bytes_of, SuitsJob}
+use Rattle.tree_products.specs.Products.{output_of_job, output_of}
+use Rattle.tree_products.specs.Writables.{bytes_of, SuitsJob}
 use Rattle.tree_products.specs.Trials.{trial_image}
-use Rattle.job_products.proofs.TrialResiduals.{trial_residual_is_small}
+use Rattle.tree_products.proofs.TrialResiduals.{trial_residual_is_small}
 
 pub made_of_image : {E : Type 0} (order : Order) (image plane left : Raster) (tree : ComponentTree) (made : Result Product E)
     → plane ≡ residual_of image order.mesh order.flat

@@ -4,8 +4,8 @@ use Rattle.comp_tree.specs.Raster.{Raster}
 use Rattle.fits_write.specs.Hdus.{plane_hdu}
 use Rattle.orders.specs.declared.words.Job.{Job}
 use Rattle.orders.specs.declared.words.Job.TheVariants.{Tree, Filter, Detect, Trial, Measure}
-use Rattle.job_products.specs.declared.product.Product.{Product}
-use Rattle.job_products.specs.declared.product.Product.TheVariants as made
+use Rattle.tree_products.specs.declared.product.Product.{Product}
+use Rattle.tree_products.specs.declared.product.Product.TheVariants as made
 use Rattle.tree_products.specs.Lines.{tree_lines}
 use Rattle.tree_products.specs.Catalogues.{hdus, IsDetection}
 use Rattle.tree_products.specs.Trials.{trial_line}

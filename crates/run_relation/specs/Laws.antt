@@ -1,7 +1,7 @@
 -- Model: laws on answers.
 use Rattle.std.specs.Prelude.{ℕ, ◌≤◌, List}
-use Rattle.run_ends.specs.Headline.{Asked}
-use Rattle.run_ends.specs.Answers.{end_status}
+use Rattle.run_relation.specs.Headline.{Asked}
+use Rattle.run_relation.specs.Answers.{end_status}
 
 -- the answer is done, a usage or a refusal: words and bytes alone show no device's fault, and no want of memory
 abbrev pub AnswersAreOfWordsAndBytes : (List (List ℕ) → Asked) → Type 0

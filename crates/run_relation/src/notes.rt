@@ -2,7 +2,7 @@
 ghost use Rattle.std.specs.Prelude.{◌≤◌, length};
 ghost use Rattle.dev_io.specs.Causes.{HasCause};
 ghost use Rattle.dev_io.specs.Streams.{PutAppends};
-ghost use Rattle.run_ends.specs.Answers.{note_of, line_at_place, refusal_line};
+ghost use Rattle.run_relation.specs.Answers.{note_of, line_at_place, refusal_line};
 ghost use Rattle.command_line.specs.Notes.{Noted};
 
 use crate::ends::End;

@@ -4,15 +4,15 @@ use Rattle.std.specs.declared.option.Option.{Option}
 use Rattle.std.specs.Io.KnownBytes.{Appends}
 use Rattle.dev_io.specs.Streams.{Takes, TakesAtMost}
 use Rattle.command_line.specs.Notes.{Noted}
-use Rattle.run_ends.specs.declared.ends.End.{End}
-use Rattle.run_ends.specs.declared.ends.End.TheVariants.{Done, Refused}
+use Rattle.run_relation.specs.declared.ends.End.{End}
+use Rattle.run_relation.specs.declared.ends.End.TheVariants.{Done, Refused}
 use Rattle.pixel_plane.specs.declared.input_fault.Fault.{Fault}
 use Rattle.pixel_plane.specs.declared.image.Stop.{Stop}
 use Rattle.pixel_plane.specs.declared.image.Stop.TheVariants as at_image
 use Rattle.pixel_plane.specs.Streams.{TakesOneOf, StoppedBy}
-use Rattle.run_ends.specs.Answers.{end_status, end_of, note_of}
-use Rattle.run_ends.specs.Headline.{Answer, Asked, Tells, Took, TookOneOf, InputUse, OutputUse, IsUnused, Follows, IsRunOf}
-use Rattle.run_ends.specs.RunEnds.{AllRead, HasStopped, GivesAnswer, EndsBy, EndBytes, EndCause}
+use Rattle.run_relation.specs.Answers.{end_status, end_of, note_of}
+use Rattle.run_relation.specs.Headline.{Answer, Asked, Tells, Took, TookOneOf, InputUse, OutputUse, IsUnused, Follows, IsRunOf}
+use Rattle.run_relation.specs.RunEnds.{AllRead, HasStopped, GivesAnswer, EndsBy, EndBytes, EndCause}
 
 -- ---- what is taken of the bytes that are told
 

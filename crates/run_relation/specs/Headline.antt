@@ -7,10 +7,10 @@ use Rattle.dev_io.specs.Causes.{Rose}
 use Rattle.dev_io.specs.Streams.{Takes, TakesAtMost, AppendsPrefix}
 use Rattle.command_line.specs.Notes.{Noted}
 use Rattle.orders.specs.declared.words.Usage.{Usage as AtFault}
-use Rattle.run_ends.specs.declared.ends.End.{End}
-use Rattle.run_ends.specs.declared.ends.End.TheVariants.{Done, Usage, Refused}
+use Rattle.run_relation.specs.declared.ends.End.{End}
+use Rattle.run_relation.specs.declared.ends.End.TheVariants.{Done, Usage, Refused}
 use Rattle.pixel_plane.specs.InputFaults.{IsCutShort}
-use Rattle.run_ends.specs.Answers.{end_status, note_of}
+use Rattle.run_relation.specs.Answers.{end_status, note_of}
 
 -- ---- what words ask
 

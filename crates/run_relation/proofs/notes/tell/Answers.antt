@@ -1,6 +1,6 @@
-use Rattle.run_ends.specs.Answers.{note_of}
+use Rattle.run_relation.specs.Answers.{note_of}
 use Rattle.command_line.proofs.Exported.{noted_front, noted_line}
-use Rattle.run_ends.proofs.notes.tell.Goals as goal
+use Rattle.run_relation.proofs.notes.tell.Goals as goal
 
 pub returns-in-Err : goal.returns-in-Err
 returns-in-Err g c = noted_front _ _ _ _ _ (note_of c.args.end) _ c.in-Err.ensures.bytes c.in-Err.ensures.cause

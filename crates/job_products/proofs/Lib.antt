@@ -1,3 +1,0 @@
-mod TrialResiduals
-mod Products
-pub mod Exported
