@@ -2,8 +2,8 @@ use Rattle.std.proofs.Common.{◌≡◌, ◌∙◌, List, [], ◌∷◌, refl}
 use Rattle.std.specs.Prelude.{codes}
 use Rattle.fits_write.specs.declared.table.Cell.TheVariants.{J, K}
 use Rattle.fits_write.specs.declared.table.Column.{Column}
-use Rattle.catalogue_form.specs.Columns.{column, catalogue_columns, measured_columns}
-use Rattle.catalogue_form.proofs.columns.measured_columns.Goals as goal
+use Rattle.fits_write.specs.CatalogueColumns.{column, catalogue_columns, measured_columns}
+use Rattle.fits_write.proofs.columns.measured_columns.Goals as goal
 
 seven : (a b c d e f g p q r s t u v : Column) → a ≡ p → b ≡ q → c ≡ r → d ≡ s → e ≡ t → f ≡ u → g ≡ v
     → (let l : List Column = a ∷ b ∷ c ∷ d ∷ e ∷ f ∷ g ∷ [] in l) ≡ p ∷ q ∷ r ∷ s ∷ t ∷ u ∷ v ∷ []

@@ -1,9 +1,9 @@
 //! The columns of a catalogue.
 ghost use Rattle.std.specs.Prelude.{◌≡◌, length};
 ghost use Rattle.fits_write.specs.Columns.{row_size};
-ghost use Rattle.catalogue_form.specs.Columns.{column, catalogue_columns, measured_columns, bytes_in_row};
+ghost use Rattle.fits_write.specs.CatalogueColumns.{column, catalogue_columns, measured_columns, bytes_in_row};
 
-use fits_write::{Cell, Column};
+use crate::{Cell, Column};
 
 /// How many cells a row of the catalogue has.
 pub const CELLS_IN_ROW: usize = 17;
@@ -31,7 +31,7 @@ fn column(name: &[u8; 8], cell: Cell) -> Column
 }
 
 /// The columns of the catalogue, in their order.
-#[tactic(auto, unfolding(crate::specs::Columns::catalogue_columns))]
+#[tactic(auto, unfolding(crate::specs::CatalogueColumns::catalogue_columns))]
 pub fn catalogue_columns() -> [Column; CELLS_IN_ROW]
     ensures columns { result ≡ catalogue_columns }
     ensures bytes { row_size result ≡ bytes_in_row }
@@ -58,7 +58,7 @@ pub fn catalogue_columns() -> [Column; CELLS_IN_ROW]
 }
 
 /// The columns of a catalogue, and behind them those of the measures in a second image.
-#[tactic(auto, unfolding(crate::specs::Columns::measured_columns))]
+#[tactic(auto, unfolding(crate::specs::CatalogueColumns::measured_columns))]
 pub fn measured_columns() -> [Column; MEASURED_CELLS_IN_ROW]
     ensures { result ≡ measured_columns }
 {
