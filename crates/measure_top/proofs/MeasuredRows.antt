@@ -9,8 +9,8 @@ use Rattle.source_pick.specs.Catalogue.{FitsColumn, FitsColumns, cells_of}
 use Rattle.dual_measure.specs.declared.values.Measure.{Measure}
 use Rattle.dual_measure.specs.Measures.{HasMeasureSizes, measure_of, measures_of, back_of, AreTheTreesMeasures}
 use Rattle.dual_measure.specs.Columns.{measured_cells_of}
-use Rattle.catalogue_form.specs.Columns.{catalogue_columns, measured_columns, measured_cells_in_row}
-use Rattle.catalogue_form.proofs.Exported.{FitEach, measured_are_columns, one_row, no_rows, tables_joined}
+use Rattle.fits_write.specs.CatalogueColumns.{catalogue_columns, measured_columns, measured_cells_in_row}
+use Rattle.fits_write.proofs.Exported.{FitEach, measured_are_columns, one_row, no_rows, tables_joined}
 use Rattle.tree_products.proofs.Exported.{narrow, wide, row_fits}
 use Rattle.std.specs.Prelude.{Some, slice_get, slice_index}
 use Rattle.std.specs.List.{flat_map}

@@ -14,7 +14,7 @@ use Rattle.orders.specs.declared.words.Order.{Order}
 use Rattle.measure_top.specs.declared.measuring.Measured.{Measured}
 use Rattle.measure_top.specs.declared.picking_near.PickedNode.{PickedNode}
 use Rattle.measure_top.specs.MeasuredCatalogues.{measured_hdus, rows_with_measures, measured_sources, measured_output}
-use Rattle.catalogue_form.specs.Columns.{measured_columns}
+use Rattle.fits_write.specs.CatalogueColumns.{measured_columns}
 use Rattle.measure_top.specs.MeasuredDetections.{IsMeasuredDetection}
 use Rattle.measure_top.specs.Cuts.{cut}
 use Rattle.measure_top.specs.Picks.{AreSourcesOf, CanBeListed, HaveBasesFrom, all_cells}

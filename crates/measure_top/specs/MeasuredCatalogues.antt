@@ -6,7 +6,7 @@ use Rattle.comp_tree.specs.declared.shape.Shape.{Shape}
 use Rattle.comp_tree.specs.declared.shape.Connect.{Connect}
 use Rattle.comp_tree.specs.Raster.{Raster}
 use Rattle.mesh_background.specs.Residuals.{residual_of}
-use Rattle.catalogue_form.specs.Columns.{measured_columns}
+use Rattle.fits_write.specs.CatalogueColumns.{measured_columns}
 use Rattle.fits_write.specs.Hdus.{empty_primary, map_hdu, table_hdu}
 use Rattle.source_pick.specs.declared.choice.Choice.{Choice}
 use Rattle.source_pick.specs.Sources.{sources}

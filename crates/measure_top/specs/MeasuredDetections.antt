@@ -3,7 +3,7 @@ use Rattle.std.specs.Prelude.{◌≡◌, ℕ, ◌*◌, ◌^◌, ◌≤◌, List,
 use Rattle.std.specs.List.{All}
 use Rattle.comp_tree.specs.declared.shape.Shape.{Shape}
 use Rattle.fits_write.specs.Columns.{IsTable}
-use Rattle.catalogue_form.specs.Columns.{measured_columns}
+use Rattle.fits_write.specs.CatalogueColumns.{measured_columns}
 use Rattle.measure_top.specs.declared.measuring.Measured.{Measured}
 use Rattle.measure_top.specs.MeasuredCatalogues.{measured_hdus}
 

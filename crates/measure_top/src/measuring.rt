@@ -13,18 +13,19 @@ ghost use Rattle.dual_measure.specs.Columns.{measured_cells_of};
 ghost use Rattle.orders.specs.Words.{HasLimits};
 ghost use Rattle.measure_top.specs.Cuts.{cut};
 ghost use Rattle.measure_top.specs.MeasuredCatalogues.{measured_hdus, measured_sources, measured_output};
-ghost use Rattle.catalogue_form.specs.Columns.{measured_columns};
+ghost use Rattle.fits_write.specs.CatalogueColumns.{measured_columns};
 ghost use Rattle.measure_top.specs.MeasuredDetections.{IsMeasuredDetection};
 ghost use Rattle.measure_top.specs.Picks.{HaveFittingRows, StandIn, all_cells};
 
 use crate::cutting::cut_below;
 use crate::picking_near::{PickedNode, lowest_base, pick_near};
-use catalogue_form::{MEASURED_CELLS_IN_ROW, measured_columns};
 use comp_tree::{Plane, Shape, Tree};
 use costs::OutOfMemory;
 use dev_io::Sink;
 use dual_measure::{Measure, back, measured_cells, measures};
-use fits_write::{WriteFault, put_empty_primary, put_map, put_table};
+use fits_write::{
+    MEASURED_CELLS_IN_ROW, WriteFault, measured_columns, put_empty_primary, put_map, put_table,
+};
 use mesh_background::residual;
 use orders::Order;
 use source_pick::{CatRow, Choice};

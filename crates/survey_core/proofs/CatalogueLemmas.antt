@@ -9,8 +9,8 @@ use Rattle.std.proofs.lemmas.Bool.Decides.{Decides-int_eq}
 use Rattle.std.proofs.lemmas.Bool.Decides.{nat_tests}
 use Rattle.fits_write.specs.declared.table.Column.{Column}
 use Rattle.fits_write.specs.Columns.{row_size}
-use Rattle.catalogue_form.proofs.Exported.{length-row_cells, table_cells-more}
-use Rattle.catalogue_form.specs.Columns.{bytes_in_row, cells_in_row, catalogue_columns}
+use Rattle.fits_write.proofs.Exported.{length-row_cells, table_cells-more}
+use Rattle.fits_write.specs.CatalogueColumns.{bytes_in_row, cells_in_row, catalogue_columns}
 use Rattle.dev_io.specs.Streams.{Takes, TakesAtMost, Fills}
 use Rattle.dev_io.specs.Laws.{Takes-after, TakesAtMost-after}
 use Rattle.fits_hdu.specs.declared.answer.Hdu.{Hdu as HduSaid}
@@ -28,7 +28,7 @@ use Rattle.survey_core.specs.Stops.{survey_stop_at_hdu}
 use Rattle.survey_core.specs.Catalogues.{Reading, accepted, rejected, is_misnumbered, first_misnumbered, numbered, table_of, beyond, is_catalogue}
 use Rattle.survey_core.specs.Catalogues.{most_rows, reading_by, catalogue_in}
 use Rattle.survey_core.specs.Reads.{taken_of}
-use Rattle.catalogue_form.specs.Rows.{row_cells, table_cells}
+use Rattle.fits_write.specs.Rows.{row_cells, table_cells}
 use Rattle.survey_core.specs.Reads.{IsCutWithin, IsRow, AreTableRows, IsAccepted, IsRejected, MayLackIn}
 
 -- ---- bytes that are gone

@@ -3,8 +3,8 @@ use Rattle.std.specs.Prelude.{ℕ, ◌+◌, ◌*◌, ◌/◌, ◌^◌, ◌==◌,
 use Rattle.std.specs.Prelude.{length, drop, min, find, ℤ, pos, nat_lt, Option, Some, None, if◌then◌else◌}
 use Rattle.std.specs.List.{range_with_len}
 use Rattle.std.specs.Ordering.{int_eq}
-use Rattle.catalogue_form.specs.Columns.{catalogue_columns, cells_in_row, bytes_in_row, number_place}
-use Rattle.catalogue_form.specs.Rows.{table_cells}
+use Rattle.fits_write.specs.CatalogueColumns.{catalogue_columns, cells_in_row, bytes_in_row, number_place}
+use Rattle.fits_write.specs.Rows.{table_cells}
 use Rattle.fits_hdu.specs.declared.answer.Hdu.{Hdu}
 use Rattle.fits_hdu.specs.Headers.{Found, found, refused, is_other}
 use Rattle.fits_hdu.specs.Finding.{find_of, padded}

@@ -2,7 +2,7 @@
 use Rattle.std.specs.Prelude.{ℕ, zero, suc, ◌+◌, ◌*◌, ◌/◌, List, [], ◌∷◌, length, map, get_or, codes, decimal, ℤ, pos, ◌+ℤ◌}
 use Rattle.std.specs.List.{concat}
 use Rattle.std.specs.Fmt.{signed_decimal}
-use Rattle.catalogue_form.specs.Columns.{cells_in_row, flux_place}
+use Rattle.fits_write.specs.CatalogueColumns.{cells_in_row, flux_place}
 use Rattle.survey_core.specs.declared.listing.Summary.{Summary}
 use Rattle.survey_core.specs.Tables.{Table}
 

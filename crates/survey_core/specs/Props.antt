@@ -6,7 +6,7 @@ use Rattle.std.proofs.Props.{props}
 use base.Stored.{Coded-set}
 use mathlib.Core.Bool.{Bool-set}
 use mathlib.Core.HLevel.{×_prop, Unit-prop}
-use Rattle.catalogue_form.specs.Columns.{cells_in_row}
+use Rattle.fits_write.specs.CatalogueColumns.{cells_in_row}
 use Rattle.survey_core.specs.Tables.{Table, IsNumbered, IsFieldTable, AreInOrder, AreTables}
 
 Ordering-set : IsSet Ordering

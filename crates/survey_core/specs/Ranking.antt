@@ -5,7 +5,7 @@ use Rattle.std.specs.Option.{option_to_list}
 use Rattle.std.specs.Fmt.{signed_decimal}
 use Rattle.std.specs.declared.cmp.Ordering.{Ordering}
 use Rattle.std.specs.Ordering.{int_cmp, then_cmp, flip_args, on, is_lt}
-use Rattle.catalogue_form.specs.Columns.{number_place, flux_place, xcen_place, ycen_place}
+use Rattle.fits_write.specs.CatalogueColumns.{number_place, flux_place, xcen_place, ycen_place}
 use Rattle.survey_core.specs.declared.ranking.Row.{Row}
 use Rattle.survey_core.specs.Fields.{name_cmp}
 use Rattle.survey_core.specs.Tables.{Table}

@@ -3,8 +3,8 @@ use Rattle.std.specs.Prelude.{◌≡◌, ℕ, ◌*◌, ◌<◌, List, take, leng
 use Rattle.std.specs.declared.option.Option.{Option}
 use Rattle.dev_io.specs.Causes.{Rose}
 use Rattle.dev_io.specs.Streams.{Takes, TakesAtMost}
-use Rattle.catalogue_form.specs.Columns.{catalogue_columns, bytes_in_row}
-use Rattle.catalogue_form.specs.Rows.{table_cells}
+use Rattle.fits_write.specs.CatalogueColumns.{catalogue_columns, bytes_in_row}
+use Rattle.fits_write.specs.Rows.{table_cells}
 use Rattle.survey_core.specs.declared.fault.Stop.{Stop}
 use Rattle.survey_core.specs.declared.fault.Stop.TheVariants.{Refused, ReadFault, WriteFault, NoMemory, KeeperFault}
 use Rattle.survey_core.specs.declared.fault.Fault.TheVariants.{TruncatedTable}

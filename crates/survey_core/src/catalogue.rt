@@ -5,17 +5,17 @@ ghost use Rattle.dev_io.specs.Causes.{HasCause};
 ghost use Rattle.dev_io.specs.Streams.{Takes, TakesAtMost};
 ghost use Rattle.survey_core.specs.Tables.{IsNumbered};
 ghost use Rattle.fits_hdu.specs.Headers.{is_other};
-ghost use Rattle.catalogue_form.specs.Columns.{bytes_in_row, cells_in_row};
+ghost use Rattle.fits_write.specs.CatalogueColumns.{bytes_in_row, cells_in_row};
 ghost use Rattle.survey_core.specs.Catalogues.{is_catalogue, most_rows, is_misnumbered, table_of, first_misnumbered, catalogue_in};
-ghost use Rattle.catalogue_form.specs.Rows.{row_cells};
+ghost use Rattle.fits_write.specs.Rows.{row_cells};
 ghost use Rattle.survey_core.specs.Listings.{table_cell};
 ghost use Rattle.survey_core.specs.Reads.{IsRow, AreTableRows, IsAccepted, IsRejected, IsCutWithin, ReadCause};
 
 use crate::Fault;
 use crate::fault::Stop;
-use catalogue_form::{BYTES_IN_ROW, CELLS_IN_ROW, NUMBER, add_row, catalogue_columns};
 use dev_io::{Failed, Source, fill};
 use fits_hdu::{Hdu, Kind, find_hdu};
+use fits_write::{BYTES_IN_ROW, CELLS_IN_ROW, NUMBER, add_row, catalogue_columns};
 use std::alloc::Global;
 
 // The HDU of the table.

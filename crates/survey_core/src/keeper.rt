@@ -2,7 +2,7 @@
 ghost use Rattle.std.specs.Prelude.{◌≡◌, ◌≤◌, ◌*◌, ◌^◌, ℕ, List, length, map, IfOk, OnOk, OnErr, IfSome, is_some};
 ghost use Rattle.std.specs.declared.option.Option.{Option};
 ghost use Rattle.std.specs.Option.{option_map};
-ghost use Rattle.catalogue_form.specs.Columns.{cells_in_row};
+ghost use Rattle.fits_write.specs.CatalogueColumns.{cells_in_row};
 ghost use Rattle.survey_core.specs.Catalogues.{most_rows};
 ghost use Rattle.survey_core.specs.Tables.{Table, IsNumbered, AreTables, cells_of_field, put, without_field, names_of};
 ghost use Rattle.survey_core.specs.Clauses.{Becomes, Stays, HasFault};

@@ -17,9 +17,9 @@ use crate::catalogue::cell;
 use crate::fault::Stop;
 use crate::words::Command;
 use crate::{Field, Keeper};
-use catalogue_form::{CELLS_IN_ROW, FLUX};
 use command_line::lines::add_all;
 use dev_io::{Block, Failed, Sink};
+use fits_write::{CELLS_IN_ROW, FLUX};
 use itoa::Buffer;
 use std::alloc::Global;
 

@@ -2,7 +2,7 @@
 ghost use Rattle.std.specs.Prelude.{◌≡◌, ◌<◌, ◌≤◌, ◌+◌, ◌*◌, ◌^◌, ◌-◌, List, [], length, take, drop, min, map, slice_get, true, false, Some, None, IfSome, IfOk, OnOk, OnErr, IsTrue, is_err, is_some, if◌then◌else◌, slice_set, slice_index_or, ◌==◌};
 ghost use Rattle.std.specs.List.{AllByRecursion, list_any};
 ghost use Rattle.std.specs.Option.{option_map};
-ghost use Rattle.catalogue_form.specs.Columns.{cells_in_row};
+ghost use Rattle.fits_write.specs.CatalogueColumns.{cells_in_row};
 ghost use Rattle.survey_core.specs.Catalogues.{most_rows};
 ghost use Rattle.survey_core.specs.Fields.{name_cmp, is_name};
 ghost use Rattle.survey_core.specs.Tables.{AreTables, AreInOrder, IsNumbered, put, without_field, cells_of_field, names_of};

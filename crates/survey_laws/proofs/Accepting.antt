@@ -15,9 +15,9 @@ use Rattle.fits_write.specs.declared.table.Column.{Column}
 use Rattle.fits_write.specs.Blocks.{filled, room_after}
 use Rattle.fits_write.specs.Columns.{table_bytes}
 use Rattle.fits_write.specs.Hdus.{header, table_cards, empty_primary, map_hdu, table_hdu}
-use Rattle.catalogue_form.specs.Columns.{catalogue_columns, cells_in_row, bytes_in_row}
-use Rattle.catalogue_form.specs.Rows.{table_cells}
-use Rattle.catalogue_form.specs.Laws.{WrittenTableIsReadBack, TableHasItsRowsBytes}
+use Rattle.fits_write.specs.CatalogueColumns.{catalogue_columns, cells_in_row, bytes_in_row}
+use Rattle.fits_write.specs.Rows.{table_cells}
+use Rattle.fits_write.specs.Laws.{WrittenTableIsReadBack, TableHasItsRowsBytes}
 use Rattle.survey_laws.proofs.Places.{filled_size}
 use Rattle.survey_laws.specs.WrittenTables.{table_said, table_start, WrittenTableIsFound}
 use Rattle.source_pick.specs.declared.choice.Choice.{Choice}

@@ -15,8 +15,8 @@ use Rattle.comp_tree.specs.Laws.{IsNode, AreDisjoint}
 use Rattle.node_sums.specs.Sums.{sums_of}
 use Rattle.node_sums.proofs.Exported.{rows_are as tree_rows}
 use Rattle.fits_write.specs.Columns.{IsTable}
-use Rattle.catalogue_form.specs.Columns.{catalogue_columns, cells_in_row, number_place}
-use Rattle.catalogue_form.proofs.Exported.{FitEach, catalogue_are_columns, rows_are_table}
+use Rattle.fits_write.specs.CatalogueColumns.{catalogue_columns, cells_in_row, number_place}
+use Rattle.fits_write.proofs.Exported.{FitEach, catalogue_are_columns, rows_are_table}
 use Rattle.source_pick.specs.declared.catalogue.CatRow.{CatRow}
 use Rattle.source_pick.specs.declared.choice.Choice.{Choice}
 use Rattle.source_pick.specs.Sources.{is_source, sources}

@@ -3,7 +3,7 @@ use Rattle.std.specs.Prelude.{◌≡◌, ℕ, ◌<◌, ◌≤◌, true, List, �
 use Rattle.std.specs.List.{AllByRecursion}
 use Rattle.comp_tree.specs.declared.shape.Connect.{Connect}
 use Rattle.comp_tree.specs.Raster.{Raster, IsPlane, HasValuesInRange, HasValuesInHalfRange}
-use Rattle.catalogue_form.specs.Columns.{catalogue_columns}
+use Rattle.fits_write.specs.CatalogueColumns.{catalogue_columns}
 use Rattle.survey_laws.specs.WrittenTables.{table_start}
 use Rattle.source_pick.specs.declared.choice.Choice.{Choice}
 use Rattle.source_pick.specs.Sources.{sources}

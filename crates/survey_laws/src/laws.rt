@@ -4,7 +4,7 @@
 ghost use Rattle.survey_laws.specs.Laws.{DetectionIsAccepted, TooManySourcesAreRefused, AnswerIsAccepted, DetectionsAreAdded};
 
 use crate::written_tables::written_table_is_found;
-use catalogue_form::laws::written_cells_are_read_back;
+use fits_write::laws::written_cells_are_read_back;
 use mesh_background::laws::residual_is_a_plane;
 use source_pick::laws::{sources_are_disjoint, sources_are_listed};
 use survey_core::laws::each_add_takes_its_catalogue;

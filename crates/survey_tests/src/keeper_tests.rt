@@ -1,9 +1,9 @@
 //! Fields and keepers, call by call.
 ghost use Rattle.std.specs.Prelude.{◌≡◌, ◌*◌, length, IfOk};
-ghost use Rattle.catalogue_form.specs.Columns.{cells_in_row};
+ghost use Rattle.fits_write.specs.CatalogueColumns.{cells_in_row};
 ghost use Rattle.survey_core.specs.Tables.{IsNumbered};
 
-use catalogue_form::{CELLS_IN_ROW, NUMBER};
+use fits_write::{CELLS_IN_ROW, NUMBER};
 use std::alloc::{AllocError, Global};
 use std::fs;
 use std::process::Abort;

@@ -1,8 +1,7 @@
 //! Catalogues for the tests: five pixels in a row, and a table of their sources.
 
-use catalogue_form::{CELLS_IN_ROW, FLUX, NUMBER, XCEN, YCEN, catalogue_columns};
 use dev_io::BLOCK;
-use fits_write::Cell;
+use fits_write::{CELLS_IN_ROW, Cell, FLUX, NUMBER, XCEN, YCEN, catalogue_columns};
 use itoa::Buffer;
 use std::alloc::Global;
 use std::test::Fail;

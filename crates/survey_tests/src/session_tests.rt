@@ -3,7 +3,7 @@
 use crate::keeper_tests::{count_names, field};
 use crate::sample::{MAP, NAMED_MAP, Sample};
 use crate::sessions::{Row, compare};
-use catalogue_form::{BYTES_IN_ROW, CELLS_IN_ROW, FLUX, NUMBER, XCEN, YCEN};
+use fits_write::{BYTES_IN_ROW, CELLS_IN_ROW, FLUX, NUMBER, XCEN, YCEN};
 use std::alloc::Global;
 use std::fs;
 use std::process::Abort;

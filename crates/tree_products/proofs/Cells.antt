@@ -18,8 +18,8 @@ use Rattle.source_pick.specs.declared.catalogue.CatRow.{CatRow}
 use Rattle.source_pick.specs.Catalogue.{catalogue_of, catalogue_row, cells_of, FitsColumn, FitsColumns}
 use Rattle.source_pick.specs.Segmentation.{AreDisjointNodes}
 use Rattle.source_pick.proofs.Exported.{few_marked, few_rows}
-use Rattle.catalogue_form.specs.Columns.{catalogue_columns}
-use Rattle.catalogue_form.proofs.Exported.{FitEach, catalogue_are_columns, rows_are_table}
+use Rattle.fits_write.specs.CatalogueColumns.{catalogue_columns}
+use Rattle.fits_write.proofs.Exported.{FitEach, catalogue_are_columns, rows_are_table}
 
 -- ---- each cell fits its column
 

@@ -20,7 +20,7 @@ use Rattle.source_pick.specs.Segmentation.{segmentation_of, segmentation}
 use Rattle.source_pick.specs.Catalogue.{catalogue_of, catalogue, cells_of}
 use Rattle.source_pick.specs.Locality.{HaveSameSources}
 use Rattle.source_pick.proofs.Exported.{numbers-length}
-use Rattle.catalogue_form.specs.Columns.{catalogue_columns}
+use Rattle.fits_write.specs.CatalogueColumns.{catalogue_columns}
 use Rattle.tree_products.specs.Catalogues.{hdus, catalogue_cells, detected_hdus}
 use Rattle.tree_products.specs.Catalogues.{IsDetection}
 

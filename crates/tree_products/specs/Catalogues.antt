@@ -4,7 +4,7 @@ use Rattle.std.specs.List.{flat_map, All}
 use Rattle.comp_tree.specs.declared.shape.Shape.{Shape}
 use Rattle.comp_tree.specs.declared.shape.Connect.{Connect}
 use Rattle.comp_tree.specs.Raster.{Raster}
-use Rattle.catalogue_form.specs.Columns.{catalogue_columns}
+use Rattle.fits_write.specs.CatalogueColumns.{catalogue_columns}
 use Rattle.fits_write.specs.Columns.{IsTable}
 use Rattle.fits_write.specs.Hdus.{empty_primary, map_hdu, table_hdu}
 use Rattle.source_pick.specs.declared.choice.Choice.{Choice}

@@ -11,15 +11,16 @@ ghost use Rattle.fits_write.specs.Columns.{IsTable};
 ghost use Rattle.source_pick.specs.Sources.{sources};
 ghost use Rattle.source_pick.specs.Segmentation.{AreDisjointNodes};
 ghost use Rattle.source_pick.specs.Catalogue.{catalogue_of, cells_of};
-ghost use Rattle.catalogue_form.specs.Columns.{catalogue_columns};
+ghost use Rattle.fits_write.specs.CatalogueColumns.{catalogue_columns};
 ghost use Rattle.tree_products.specs.Catalogues.{hdus, detected_hdus};
 ghost use Rattle.tree_products.specs.Catalogues.{IsDetection};
 
-use catalogue_form::{CELLS_IN_ROW, catalogue_columns};
 use comp_tree::{Plane, Shape, Tree};
 use costs::OutOfMemory;
 use dev_io::Sink;
-use fits_write::{WriteFault, put_empty_primary, put_map, put_table};
+use fits_write::{
+    CELLS_IN_ROW, WriteFault, catalogue_columns, put_empty_primary, put_map, put_table,
+};
 use node_sums::{Sums, sums};
 use source_pick::{CatRow, Choice, cells, pick, row, segment_in_parts};
 use std::alloc::Global;

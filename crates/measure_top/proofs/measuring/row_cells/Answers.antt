@@ -1,7 +1,7 @@
 use Rattle.std.proofs.Common.{◌∙◌, subst, sym, arith, rules, w64, SFits}
 use Rattle.std.proofs.lemmas.Int.{to_z-of_z}
 use Rattle.fits_write.specs.Columns.{IsTable}
-use Rattle.catalogue_form.specs.Columns.{measured_columns}
+use Rattle.fits_write.specs.CatalogueColumns.{measured_columns}
 use Rattle.measure_top.proofs.MeasuredRows.{row_table, measure_read, size_read, cells_are}
 use Rattle.dual_measure.proofs.Exported.{one_for_each}
 use Rattle.measure_top.proofs.measuring.row_cells.Goals as goal

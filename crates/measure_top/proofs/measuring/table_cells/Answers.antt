@@ -1,6 +1,6 @@
 use Rattle.std.proofs.Common.{◌≡◌, length, arith, rules}
 use Rattle.std.proofs.lemmas.Option.{slice_get-get_or}
-use Rattle.catalogue_form.specs.Columns.{measured_cells_in_row}
+use Rattle.fits_write.specs.CatalogueColumns.{measured_cells_in_row}
 use Rattle.measure_top.proofs.MeasuredRows.{before_rows, rows_more, all_rows, number_there, node_read}
 use Rattle.measure_top.proofs.measuring.table_cells.Goals as goal
 

@@ -1,5 +1,5 @@
 use Rattle.std.proofs.Common.{◌/◌, length, arith, refl}
-use Rattle.catalogue_form.specs.Columns.{cells_in_row}
+use Rattle.fits_write.specs.CatalogueColumns.{cells_in_row}
 use Rattle.survey_core.proofs.CatalogueLemmas.{all_numbered, none_misnumbered}
 use Rattle.survey_core.proofs.catalogue.are_numbered.Goals as goal
 

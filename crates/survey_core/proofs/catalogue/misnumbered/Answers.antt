@@ -1,5 +1,5 @@
 use Rattle.std.proofs.Common.{◌/◌, length, arith, sym, ◌∙◌}
-use Rattle.catalogue_form.specs.Columns.{cells_in_row}
+use Rattle.fits_write.specs.CatalogueColumns.{cells_in_row}
 use Rattle.survey_core.specs.Catalogues.{is_misnumbered, first_misnumbered}
 use Rattle.lemmas.proofs.Exported.{find_first, find_nothing}
 use Rattle.survey_core.proofs.catalogue.misnumbered.Goals as goal

@@ -1,7 +1,7 @@
 -- The cells so far are those of the first rows.
 use Rattle.std.proofs.Common.{◌≡◌, ◌*◌, ◌≤◌, length}
 use Rattle.std.specs.Option.{ForSome}
-use Rattle.catalogue_form.specs.Columns.{cells_in_row}
+use Rattle.fits_write.specs.CatalogueColumns.{cells_in_row}
 use Rattle.survey_core.specs.Reads.{AreTableRows}
 use Rattle.survey_core.proofs.catalogue.read_rows.Given as goal
 

@@ -1,5 +1,5 @@
 use Rattle.std.proofs.Common.{◌≡◌, ◌*◌, ◌+◌, ◌≤◌, ℕ, ℤ, List, length, false, arith, refl, subst, ap, ◌∙◌}
-use Rattle.catalogue_form.specs.Columns.{cells_in_row}
+use Rattle.fits_write.specs.CatalogueColumns.{cells_in_row}
 use Rattle.survey_core.specs.Catalogues.{first_misnumbered, is_misnumbered}
 use Rattle.survey_core.proofs.CatalogueLemmas.{table_cut, table_misnumbered, table_read, table_lost, all_numbered}
 use Rattle.survey_core.proofs.catalogue.read_table.Goals as goal

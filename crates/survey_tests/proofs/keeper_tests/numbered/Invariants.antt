@@ -1,5 +1,5 @@
 use Rattle.std.proofs.Common.{◌≡◌, ◌*◌, length}
-use Rattle.catalogue_form.specs.Columns.{cells_in_row}
+use Rattle.fits_write.specs.CatalogueColumns.{cells_in_row}
 use Rattle.survey_core.specs.Tables.{IsNumbered}
 use Rattle.survey_tests.proofs.keeper_tests.numbered.Given as goal
 

@@ -1,5 +1,5 @@
-use Rattle.catalogue_form.proofs.ReadBack.{row_read_back, table_read_back, table_size}
-use Rattle.catalogue_form.proofs.laws.written_cells_are_read_back.Goals as goal
+use Rattle.fits_write.proofs.ReadBack.{row_read_back, table_read_back, table_size}
+use Rattle.fits_write.proofs.laws.written_cells_are_read_back.Goals as goal
 
 pub returns-clause-row : goal.returns-clause-row
 returns-clause-row c = row_read_back

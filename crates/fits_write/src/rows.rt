@@ -1,11 +1,11 @@
 //! From the bytes of a row to its cells.
 ghost use Rattle.std.specs.Prelude.{◌≡◌, ◌≤◌, ◌++◌, length, drop, OnOk};
 ghost use Rattle.fits_write.specs.Columns.{cell_size, row_size};
-ghost use Rattle.catalogue_form.specs.Rows.{front_cell, row_cells};
+ghost use Rattle.fits_write.specs.Rows.{front_cell, row_cells};
 
+use crate::{Cell, Column};
 use byteorder::{BigEndian, ByteOrder};
 use costs::OutOfMemory;
-use fits_write::{Cell, Column};
 
 // The number in a cell of this kind at the front of the bytes, and what stands behind it.
 fn split_cell(cell: Cell, bytes: &[u8]) -> (i64, &[u8])

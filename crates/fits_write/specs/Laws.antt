@@ -5,9 +5,9 @@ use Rattle.std.specs.Int.{w64}
 use Rattle.fits_write.specs.declared.table.Cell.TheVariants.{J}
 use Rattle.fits_write.specs.declared.table.Column.{Column}
 use Rattle.fits_write.specs.Columns.{row_size, table_bytes, IsTable}
-use Rattle.catalogue_form.specs.Columns.{column, catalogue_columns, measured_columns, cells_in_row, bytes_in_row}
-use Rattle.catalogue_form.specs.Columns.{measured_cells_in_row, number_place, flux_place, xcen_place, ycen_place}
-use Rattle.catalogue_form.specs.Rows.{row_cells, table_cells}
+use Rattle.fits_write.specs.CatalogueColumns.{column, catalogue_columns, measured_columns, cells_in_row, bytes_in_row}
+use Rattle.fits_write.specs.CatalogueColumns.{measured_cells_in_row, number_place, flux_place, xcen_place, ycen_place}
+use Rattle.fits_write.specs.Rows.{row_cells, table_cells}
 
 -- the numbers of cells and bytes are those of the columns
 pub record SizesAreThoseOfColumns : Type 0 where

@@ -10,7 +10,7 @@ use Rattle.fits_card.specs.Written.{is_plain}
 use Rattle.fits_write.specs.declared.table.Cell.TheVariants.{J}
 use Rattle.fits_write.specs.declared.table.Column.{Column}
 use Rattle.fits_write.specs.Columns.{FitsCell, cell_at, number_at, IsTable}
-use Rattle.catalogue_form.specs.Columns.{catalogue_columns, measured_columns}
+use Rattle.fits_write.specs.CatalogueColumns.{catalogue_columns, measured_columns}
 
 -- columns that a table can have
 pub record AreColumns (columns : List Column) : Type 0 where

@@ -4,9 +4,9 @@ use Rattle.std.proofs.lemmas.Int.{to_z-of_z}
 use Rattle.fits_write.specs.declared.table.Column.{Column}
 use Rattle.fits_write.specs.declared.table.Cell.TheVariants.{J}
 use Rattle.fits_write.specs.Columns.{cell_size, row_size}
-use Rattle.catalogue_form.specs.Rows.{front_cell, row_cells}
-use Rattle.catalogue_form.proofs.RowByRow.{size_more}
-use Rattle.catalogue_form.proofs.rows.add_row.Goals as goal
+use Rattle.fits_write.specs.Rows.{front_cell, row_cells}
+use Rattle.fits_write.proofs.RowByRow.{size_more}
+use Rattle.fits_write.proofs.rows.add_row.Goals as goal
 
 pub loop-column-preserved : goal.loop-column-preserved
 loop-column-preserved c =

@@ -1,8 +1,8 @@
 -- The cells of the columns so far are read, and the other bytes are left.
 use Rattle.std.proofs.Common.{◌≡◌, ◌≤◌, ◌++◌, length, drop}
 use Rattle.fits_write.specs.Columns.{row_size}
-use Rattle.catalogue_form.specs.Rows.{row_cells}
-use Rattle.catalogue_form.proofs.rows.add_row.Given as goal
+use Rattle.fits_write.specs.Rows.{row_cells}
+use Rattle.fits_write.proofs.rows.add_row.Given as goal
 
 abbrev pub invariant-loop-column : goal.invariant-loop-column
 invariant-loop-column l = record {

@@ -1,7 +1,7 @@
 //! What a catalogue's columns add up to, and that written rows are read back. Each law is the contract of a function that does nothing, and
 //! speaks of the definitions alone.
 
-ghost use Rattle.catalogue_form.specs.Laws.{
+ghost use Rattle.fits_write.specs.Laws.{
   SizesAreThoseOfColumns,
   PlacesAreThoseOfColumns,
   WrittenRowIsReadBack,
@@ -10,7 +10,7 @@ ghost use Rattle.catalogue_form.specs.Laws.{
 };
 
 /// The numbers of cells and bytes of a row are those of the columns, and the columns that are looked up stand at their places.
-#[tactic(auto, unfolding(crate::specs::Columns::catalogue_columns, crate::specs::Columns::measured_columns))]
+#[tactic(auto, unfolding(crate::specs::CatalogueColumns::catalogue_columns, crate::specs::CatalogueColumns::measured_columns))]
 pub fn numbers_are_those_of_columns()
     ensures sizes { SizesAreThoseOfColumns }
     ensures places { PlacesAreThoseOfColumns }

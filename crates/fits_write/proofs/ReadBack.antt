@@ -16,8 +16,8 @@ use Rattle.fits_write.specs.declared.table.Cell.{Cell}
 use Rattle.fits_write.specs.declared.table.Cell.TheVariants.{J, K}
 use Rattle.fits_write.specs.declared.table.Column.{Column}
 use Rattle.fits_write.specs.Columns.{cell_size, cell_bytes, FitsCell, cell_at, number_at, bytes_at, table_bytes, row_size, IsTable}
-use Rattle.catalogue_form.proofs.RowByRow.{size_more}
-use Rattle.catalogue_form.specs.Rows.{front_cell, row_cells, table_cells}
+use Rattle.fits_write.proofs.RowByRow.{size_more}
+use Rattle.fits_write.specs.Rows.{front_cell, row_cells, table_cells}
 
 -- ---- one cell
 

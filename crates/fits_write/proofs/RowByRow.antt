@@ -4,7 +4,7 @@ use Rattle.std.proofs.Common.{append-nil, drop-drop, mul-suc, mul-zero, add_comm
 use Rattle.std.proofs.lemmas.List.Sums.{sum_by-cons}
 use Rattle.fits_write.specs.declared.table.Column.{Column}
 use Rattle.fits_write.specs.Columns.{cell_size, row_size}
-use Rattle.catalogue_form.specs.Rows.{row_cells, table_cells}
+use Rattle.fits_write.specs.Rows.{row_cells, table_cells}
 
 -- a row has the bytes of its first column, and those of the others
 pub size_more : (column : Column) (columns : List Column) → row_size (column ∷ columns) ≡ cell_size column.cell + row_size columns

@@ -1,4 +1,0 @@
-mod ReadBack
-mod RowByRow
-mod Tables
-pub mod Exported
