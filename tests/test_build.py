@@ -106,7 +106,7 @@ def tree(tmp_path):
 def test_each_crate_is_proved_once_and_behind_those_below_it(tree):
     status, said = tree.build()
     assert status == 0 and tree.is_built("maxdetect") and not tree.is_built("maxsurvey")
-    assert said.startswith("build: proving and building maxdetect: 7 crates are left")
+    assert said.startswith("build: maxdetect isn't built; proving and building maxdetect: 7 crates are left")
     proved = tree.told("proved")
     assert sorted(proved) == sorted(
         ["costs", "dev_io", "comp_tree", "fits_card", "detect_top", "measure_top", "maxdetect"]

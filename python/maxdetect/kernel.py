@@ -125,9 +125,21 @@ def find_program(program: Optional[Path] = None) -> str:
     build = top / "scripts" / "build"
     if not build.exists():
         raise NoProgram("maxdetect isn't on the PATH; name it by program= or in the environment's MAXDETECT")
-    if subprocess.run([build], stdin=subprocess.DEVNULL, stdout=subprocess.DEVNULL, check=False).returncode != 0:
+    if _run_build(build) != 0:
         raise NoProgram(f"{build} didn't make the program; name one by program= or in the environment's MAXDETECT")
     return os.fspath(top / "crates" / "maxdetect" / "out" / "maxdetect")
+
+
+def _run_build(build: Path) -> int:
+    """Runs scripts/build, which tells on standard error that it proves and builds, and how long that takes; its status.
+    It ends with the caller, and the crates that it is proving end with it.
+    """
+    with subprocess.Popen([build], stdin=subprocess.DEVNULL, stdout=subprocess.DEVNULL) as building:
+        try:
+            return building.wait()
+        except BaseException:
+            building.terminate()
+            raise
 
 
 def _whole(name, value):

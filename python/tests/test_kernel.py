@@ -5,8 +5,10 @@ import io
 import os
 import pickle
 import re
+import signal
 import subprocess
 import sys
+import time
 
 import numpy
 import pytest
@@ -46,6 +48,36 @@ def test_the_program_is_found(monkeypatch, tmp_path):
     monkeypatch.delenv("MAXDETECT")
     monkeypatch.setenv("PATH", str(tmp_path))
     assert maxdetect.find_program() == str(tmp_path / "maxdetect")
+
+
+BUILD = '''#!/bin/sh
+trap 'echo ended > {folder}/ended; exit 143' TERM
+echo begun > {folder}/begun
+while :; do sleep 0.1; done
+'''
+FINDS = '''
+import sys
+from maxdetect import kernel, starting
+kernel.__file__ = "{folder}/python/maxdetect/kernel.py"
+with starting.ended_by_signals():
+    kernel.find_program()
+'''
+
+
+@pytest.mark.parametrize("number", [signal.SIGINT, signal.SIGTERM])
+def test_a_build_ends_with_the_command_that_began_it(tmp_path, number):
+    (tmp_path / "scripts").mkdir()
+    build = tmp_path / "scripts" / "build"
+    build.write_text(BUILD.format(folder=tmp_path))
+    build.chmod(0o755)
+    around = {"PATH": "/bin:/usr/bin", "PYTHONPATH": str(TOP / "python")}
+    with subprocess.Popen([sys.executable, "-c", FINDS.format(folder=tmp_path)], env=around) as command:
+        until = time.monotonic() + 30
+        while not (tmp_path / "begun").exists() and time.monotonic() < until:
+            time.sleep(0.05)
+        command.send_signal(number)
+        assert command.wait(30) == 128 + number
+    assert (tmp_path / "ended").exists()
 
 
 def test_images_of_every_type_are_what_the_program_reads(field, tmp_path):
