@@ -3,14 +3,16 @@
 usage: python3 scripts/check_documents.py      (at the top of the repository; exit status 1 where something is amiss)
 
 The crates stand in docs/ARCHITECTURE.md, docs/PROVED.md and bench/RESULTS.md as crates.txt has them, in its order; each
-name that docs/DEFINITIONS.md explains is a definition's; each file that a document links to or names is there; and no
-two documents share a paragraph. What is amiss among the definitions themselves `scripts/definitions.py --check` says.
+name that docs/DEFINITIONS.md explains is a definition's; each file that a document links to or names is there; what
+speaks of the catalogue's columns has those of `fits_write`, in their order; and no two documents share a paragraph.
+What is amiss among the definitions themselves `scripts/definitions.py --check` says.
 """
 import itertools
 import pathlib
 import re
 import sys
 
+from columns import other_columns
 from definitions import definitions
 
 TOP = pathlib.Path(__file__).resolve().parent.parent
@@ -105,11 +107,11 @@ def shared_paragraphs(text):
 
 def main():
     text = dict(documents())
-    found = [*other_crates(text), *unknown_names(text), *broken_links(text), *shared_paragraphs(text)]
+    found = [*other_crates(text), *other_columns(), *unknown_names(text), *broken_links(text), *shared_paragraphs(text)]
     for line in found:
         print(line)
     if not found:
-        print("the documents have the crates of crates.txt, explain definitions that are there, and share no paragraph")
+        print("the documents have the crates and columns, explain definitions that are there, and share no paragraph")
     return 1 if found else 0
 
 

@@ -18,10 +18,14 @@ import sys
 import tempfile
 import time
 
+from columns import listed
+
 TOP = pathlib.Path(__file__).resolve().parent.parent
 BLOCK = 2880
-ROW = struct.Struct(">iqqiqqiiiiiiiiqqq")
-CELLS = struct.Struct(">17q")
+# A row in a catalogue, and in a survey.
+COLUMNS = listed("CATALOGUE")
+ROW = struct.Struct(">" + "".join({"J": "i", "K": "q"}[column.form] for column in COLUMNS))
+CELLS = struct.Struct(f">{len(COLUMNS)}q")
 SCHEMA = "CREATE TABLE IF NOT EXISTS source (field TEXT NOT NULL PRIMARY KEY, cells BLOB NOT NULL) STRICT"
 KILLS, EACH = 20, 8
 # What another program may have put into the database: with each of the first the program works, and with none of the others.
@@ -99,7 +103,7 @@ def catalogue_rows(data):
             size *= int(cards[f"NAXIS{axis + 1}"])
         place += -(-size // BLOCK) * BLOCK
     place, cards = header_end(data, place)
-    return [ROW.unpack_from(data, place + 96 * row) for row in range(int(cards["NAXIS2"]))]
+    return [ROW.unpack_from(data, place + ROW.size * row) for row in range(int(cards["NAXIS2"]))]
 
 
 def line(field, data):
@@ -166,8 +170,8 @@ def written_by_python(maxsurvey, folder, catalogues):
     base.execute("INSERT INTO source VALUES ('A', ?)", (blob,))
     base.commit()
     want("list", survey(maxsurvey, ["--file", path, "list"]), (0, line("A", catalogues[0]), ""))
-    short, misnumbered = blob[:-8], blob[136:] + blob[:136]
-    for bad in (short, blob[:-1], misnumbered, b"\0" * 136):
+    short, misnumbered = blob[:-8], blob[CELLS.size :] + blob[: CELLS.size]
+    for bad in (short, blob[:-1], misnumbered, b"\0" * CELLS.size):
         base.execute("UPDATE source SET cells = ?", (bad,))
         base.commit()
         want("a foreign row", survey(maxsurvey, ["--file", path, "list"]), (6, "", "keeper fault\n"))

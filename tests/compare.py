@@ -17,8 +17,9 @@ import tempfile
 import time
 
 import model
-from model.programs import COLUMNS, MEASURES, card, detection_bytes, hdu_bytes, to_block
 from model.headers import Image
+from model.programs import card, detection_bytes, hdu_bytes, to_block
+from model.sources import COLUMNS, MEASURES
 
 SECONDS = 30
 LISTED = ["list", "brightest", "1000"]
@@ -237,7 +238,7 @@ def random_catalogue(rng):
         found = model.answer(words, image_hdu(rng, True))
         return found.output if found.status == 0 else b""
     rows = [
-        [number, *(rng.choice([0, 1, 2, rng.randint(-(2**31), 2**31 - 1)]) for _ in range(16))]
+        [number, *(rng.choice([0, 1, 2, rng.randint(-(2**31), 2**31 - 1)]) for _ in COLUMNS[1:])]
         for number in range(1, rng.randint(1, 5))
     ]
     if rows and rng.random() < 0.1:
@@ -245,7 +246,9 @@ def random_catalogue(rng):
     for row in rows:
         row[4] = rng.choice([row[4], 2**62, -5])
     is_measured = rng.random() < 0.05
-    columns, rows = (COLUMNS + MEASURES, [row + [0] * 7 for row in rows]) if is_measured else (COLUMNS, rows)
+    columns, rows = (
+        (COLUMNS + MEASURES, [row + [0] * len(MEASURES) for row in rows]) if is_measured else (COLUMNS, rows)
+    )
     data = detection_bytes(Image(2, [0, 0]), [], columns, rows)
     if rng.random() < 0.05:
         return data.replace(card("NAXIS2", len(rows)), card("NAXIS2", rng.choice([len(rows) + 40, 2**20 + 1])))

@@ -8,6 +8,8 @@ from typing import Dict, List, NamedTuple, Optional, Tuple, Union
 
 from .headers import BLOCK, CARD, MOST_PIXELS, MOST_SIDE, Fault, Image, fault, find_hdu, find_image, find_two
 from .sources import (
+    COLUMNS,
+    MEASURES,
     Cells,
     Choice,
     Criterion,
@@ -24,12 +26,6 @@ from .sources import (
 
 
 # ---- what is written
-
-COLUMNS = (
-    "NUMBER:J LEVEL:K BASE:K AREA:J FLUX:K PEAK:K XMIN:J XMAX:J YMIN:J YMAX:J XFIRST:J YFIRST:J XCEN:J YCEN:J "
-    "XVAR:K YVAR:K XYCOV:K"
-).split()
-MEASURES = "SEEN:J MISSING:J VSUM:K VLOW:K VPEAK:K VMEAN:K VBACK:K".split()
 
 
 def card(keyword: str, value: Union[bool, int, str]) -> bytes:

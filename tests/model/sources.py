@@ -206,8 +206,16 @@ def map_of(image: Image, sources: List[Node]) -> List[int]:
     return numbers
 
 
+# The columns of a row, and behind them those of the measures in a second image, each with its kind.
+COLUMNS = (
+    "NUMBER:J LEVEL:K BASE:K AREA:J FLUX:K PEAK:K XMIN:J XMAX:J YMIN:J YMAX:J XFIRST:J YFIRST:J XCEN:J YCEN:J "
+    "XVAR:K YVAR:K XYCOV:K"
+).split()
+MEASURES = "SEEN:J MISSING:J VSUM:K VLOW:K VPEAK:K VMEAN:K VBACK:K".split()
+
+
 def row_of(image: Image, number: int, node: Node) -> Cells:
-    """The seventeen cells of a source."""
+    """The cells of a source, in the order of the columns."""
     points = [
         (pixel % image.width + 1, pixel // image.width + 1, image.values[pixel] - node.base) for pixel in node.pixels
     ]
@@ -227,7 +235,7 @@ def row_of(image: Image, number: int, node: Node) -> Cells:
 
 
 def measure_of(values: Image, nodes: List[Node], node: Node) -> Cells:
-    """The seven cells of a source that is measured in a second image."""
+    """The further cells of a source that is measured in a second image."""
     seen = [values.values[pixel] for pixel in node.pixels if values.values[pixel] is not None]
     around = frozenset() if node.parent is None else nodes[node.parent].pixels - node.pixels
     beside = [values.values[pixel] for pixel in around if values.values[pixel] is not None]

@@ -8,7 +8,7 @@ mod values;
 
 pub use adding::measures;
 pub use around::back;
-pub use columns::{MEASURED_CELLS, measured_cells};
+pub use columns::measured_cells;
 pub use values::Measure;
 
 #[cfg(test)]

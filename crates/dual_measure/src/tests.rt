@@ -4,8 +4,9 @@ ghost use Rattle.std.specs.Prelude.{◌≡◌, IfOk};
 
 use super::*;
 use comp_tree::{Connect, Plane, Shape, plain_tree};
+use fits_write::CELLS_IN_ROW;
 use node_sums::sums;
-use source_pick::{CELLS_IN_ROW, CatRow, cells, row};
+use source_pick::{CatRow, cells, row};
 use std::alloc::Global;
 use std::test::Fail;
 

@@ -1,5 +1,5 @@
 -- Model: the columns of a catalogue, and how many cells and bytes a row of them has.
-use Rattle.std.specs.Prelude.{ℕ, ◌*◌, List, [], ◌∷◌, ◌++◌, codes}
+use Rattle.std.specs.Prelude.{ℕ, ◌+◌, ◌*◌, List, [], ◌∷◌, ◌++◌, codes}
 use Rattle.fits_write.specs.declared.table.Cell.{Cell}
 use Rattle.fits_write.specs.declared.table.Cell.TheVariants.{J, K}
 use Rattle.fits_write.specs.declared.table.Column.{Column}
@@ -50,7 +50,7 @@ bytes_in_row = 96
 
 -- how many cells a row with measures has
 abbrev pub measured_cells_in_row : ℕ
-measured_cells_in_row = 24
+measured_cells_in_row = cells_in_row + 7
 
 -- ---- the places, from 0, of columns that are looked up
 

@@ -6,6 +6,7 @@ ghost use Rattle.source_pick.specs.Catalogue.{catalogue_row, measured_row, cells
 ghost use Rattle.source_pick.specs.Numbers.{IsMoment, IsMean, IsSpread, IsMeasured};
 
 use comp_tree::Tree;
+use fits_write::CELLS_IN_ROW;
 use node_sums::{Sums, base, flux};
 
 /// A row of the catalogue. Its fields are the columns, in their order; x and y count from 1, as FITS counts pixels.
@@ -109,9 +110,6 @@ fn spread(area: u32, products: u64, first: u64, second: u64) -> i64
     let squared = area as u64 * area as u64;
     (1000 * above).div_euclid(squared as i128) as i64
 }
-
-/// How many numbers a row has.
-pub const CELLS_IN_ROW: usize = 17;
 
 /// The numbers of a row, in the order of the columns.
 pub fn cells(row: &CatRow) -> [i64; CELLS_IN_ROW]

@@ -12,7 +12,7 @@ mod splitting;
 #[cfg(test)]
 mod tests;
 
-pub use catalogue::{CELLS_IN_ROW, CatRow, cells, row};
+pub use catalogue::{CatRow, cells, row};
 pub use choice::Choice;
 pub use clearing::{clear_far, near};
 pub use picking::pick;

@@ -6,6 +6,7 @@ ghost use Rattle.source_pick.specs.Segmentation.{AreDisjointNodes};
 
 use super::*;
 use comp_tree::{Connect, Plane, Shape, Tree, plain_tree};
+use fits_write::CELLS_IN_ROW;
 use node_sums::{Sums, sums};
 use std::alloc::Global;
 use std::process::Abort;
@@ -23,7 +24,7 @@ struct Case<'a> {
     // the nodes of the sources, the number of each pixel, and the row of each source
     nodes: &'a [u32],
     map: &'a [u32],
-    rows: &'a [[i64; 17]],
+    rows: &'a [[i64; CELLS_IN_ROW]],
 }
 
 // A plane of these values, of which 0 stands for an undefined pixel.
@@ -37,7 +38,7 @@ fn plane_of(alloc: Global, width: u32, height: u32, values: &[i64]) -> Result<Pl
 }
 
 // The numbers of a source's row.
-fn numbers_of(tree: &Tree, sums: &[Sums], number: u32, n: u32) -> [i64; 17]
+fn numbers_of(tree: &Tree, sums: &[Sums], number: u32, n: u32) -> [i64; CELLS_IN_ROW]
     requires sums { AreTheTrees tree.now sums.now }
     requires node { n < length tree.now.rows }
     requires from_one { 1 ≤ number }
@@ -101,7 +102,13 @@ fn try_maps<R: Threads + Sync + Abort>(
 }
 
 // Looks at the rows of the sources.
-fn try_rows<R: Abort>(rt: &R, tree: &Tree, sums: &[Sums], picked: &[u32], rows: &[[i64; 17]])
+fn try_rows<R: Abort>(
+    rt: &R,
+    tree: &Tree,
+    sums: &[Sums],
+    picked: &[u32],
+    rows: &[[i64; CELLS_IN_ROW]],
+)
     requires { AreTheTrees tree.now sums.now }
 {
     let count = picked.len();

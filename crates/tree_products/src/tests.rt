@@ -87,7 +87,7 @@ fn the_source_of_one_pixel(rt: HostRuntime) -> Result<(), Fail> {
     };
     let found = detect(&rt, alloc, plane, tree, &choice, 1)?;
     assert_eq!(rt; found.map.as_slice(), [0, 1].as_slice());
-    assert_eq!(rt; found.cells.len(), 17);
+    assert_eq!(rt; found.cells.len(), CELLS_IN_ROW);
     let mut sink = MemSink::new(vec![in alloc; 0; 17280]?, &[], 0);
     assert_eq!(rt; put_detection(&mut sink, &found), Ok(()));
     assert_eq!(rt; sink.bytes().len(), 17280);
