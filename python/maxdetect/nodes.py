@@ -5,10 +5,9 @@ import numpy
 from astropy.table import Table, vstack
 from scipy import ndimage
 
-__all__ = ["rows", "stacked"]
+from .columns import CATALOGUE
 
-# Columns of 64 bits; all others have 32.
-LONG = ("LEVEL", "BASE", "FLUX", "PEAK", "XVAR", "YVAR", "XYCOV")
+__all__ = ["rows", "stacked"]
 
 
 def rows(
@@ -35,7 +34,7 @@ def rows(
 
 
 def _type(name: str) -> str:
-    return "i8" if name in LONG else "i4"
+    return {"J": "i4", "K": "i8"}[CATALOGUE[name].form]
 
 
 def _greatest_beside(numbers: numpy.ndarray, own: numpy.ndarray, part: Tuple[slice, slice]) -> Optional[int]:

@@ -1,4 +1,5 @@
-//! The tables of a survey in a database.
+//! The tables of a survey in a database. The tests are those of `survey_core` too: sessions, and keepers call by call, over tables in memory,
+//! in a database and in a file, and databases that another program wrote.
 #![tactic(auto)]
 
 mod blob;
@@ -16,3 +17,14 @@ pub use file_keeper::FileKeeper;
 pub use reading::{Unread, read_cells, read_names};
 pub use sql_keeper::SqlKeeper;
 pub use statements::make_table;
+
+#[cfg(test)]
+mod foreign_tests;
+#[cfg(test)]
+mod keeper_tests;
+#[cfg(test)]
+mod sample;
+#[cfg(test)]
+mod session_tests;
+#[cfg(test)]
+mod sessions;

@@ -3,13 +3,13 @@
 use crate::keeper_tests::{count_names, field};
 use crate::sample::{MAP, NAMED_MAP, Sample};
 use crate::sessions::{Row, compare};
+use crate::{FileKeeper, SqlKeeper};
 use fits_write::{BYTES_IN_ROW, CELLS_IN_ROW, FLUX, NUMBER, XCEN, YCEN};
 use std::alloc::Global;
 use std::fs;
 use std::process::Abort;
 use std::test::Fail;
 use survey_core::{Field, Keeper, MemKeeper, Refused};
-use survey_sqlite::{FileKeeper, SqlKeeper};
 
 const WHOLE: usize = usize::MAX;
 
@@ -322,7 +322,7 @@ fn an_add_replaces(rt: HostRuntime) -> Result<(), Fail> {
     Ok(())
 }
 
-const FILE: &str = "survey_tests_runs/s.db";
+const FILE: &str = "survey_sqlite_runs/s.db";
 
 const IN_FILE: [Row<'static>; 2] = [
     Row {
@@ -347,13 +347,13 @@ const IN_FILE: [Row<'static>; 2] = [
 
 #[test]
 fn a_later_run_finds_the_file(rt: HostRuntime) -> Result<(), Fail> {
-    let _ = fs::remove_dir_all(&rt, "survey_tests_runs");
-    fs::create_dir(&rt, "survey_tests_runs")?;
+    let _ = fs::remove_dir_all(&rt, "survey_sqlite_runs");
+    fs::create_dir(&rt, "survey_sqlite_runs")?;
     for row in IN_FILE {
         let mut keeper = FileKeeper::at(&rt, FILE);
         compare(&rt, rt.alloc(), &MAP, &mut keeper, row)?;
         keeper.close();
     }
-    fs::remove_dir_all(&rt, "survey_tests_runs")?;
+    fs::remove_dir_all(&rt, "survey_sqlite_runs")?;
     Ok(())
 }

@@ -3,6 +3,7 @@ ghost use Rattle.std.specs.Prelude.{◌≡◌, ◌*◌, length, IfOk};
 ghost use Rattle.fits_write.specs.CatalogueColumns.{cells_in_row};
 ghost use Rattle.survey_core.specs.Tables.{IsNumbered};
 
+use crate::{FileKeeper, SqlKeeper};
 use fits_write::{CELLS_IN_ROW, NUMBER};
 use std::alloc::{AllocError, Global};
 use std::fs;
@@ -10,7 +11,6 @@ use std::process::Abort;
 use std::rt::HostRuntime;
 use std::test::Fail;
 use survey_core::{Field, Keeper, MemKeeper, Refused};
-use survey_sqlite::{FileKeeper, SqlKeeper};
 
 const NO_NAMES: [&str; 5] = ["", "a b", "a.b", ".", "ABCDEFGHIJKLMNOPQ"];
 
@@ -133,9 +133,9 @@ fn finds_two<K: Keeper, R: Abort>(rt: &R, alloc: Global, keeper: &mut K) -> Resu
     Ok(())
 }
 
-const FILE: &str = "survey_tests_file/s.db";
+const FILE: &str = "survey_sqlite_file/s.db";
 
-const NOWHERE: &str = "survey_tests_file/none/s.db";
+const NOWHERE: &str = "survey_sqlite_file/none/s.db";
 
 // The keeper is dropped, and not closed.
 fn puts_in_file(rt: &HostRuntime, field: &Field, rows: u16) -> Result<bool, Fail> {
@@ -145,11 +145,11 @@ fn puts_in_file(rt: &HostRuntime, field: &Field, rows: u16) -> Result<bool, Fail
 #[test]
 fn a_file_is_found_again(rt: HostRuntime) -> Result<(), Fail> {
     let alloc = rt.alloc();
-    let _ = fs::remove_dir_all(&rt, "survey_tests_file");
-    fs::create_dir(&rt, "survey_tests_file")?;
+    let _ = fs::remove_dir_all(&rt, "survey_sqlite_file");
+    fs::create_dir(&rt, "survey_sqlite_file")?;
     assert!(rt; puts_in_file(&rt, &field(&rt, "A-1"), 2)?);
     finds_two(&rt, alloc, &mut FileKeeper::at(&rt, FILE))?;
     assert!(rt; is_fault_to_name(alloc, &mut FileKeeper::at(&rt, NOWHERE)));
-    fs::remove_dir_all(&rt, "survey_tests_file")?;
+    fs::remove_dir_all(&rt, "survey_sqlite_file")?;
     Ok(())
 }

@@ -1,13 +1,13 @@
 //! Databases that another program wrote.
 
 use crate::keeper_tests::field;
+use crate::{FileKeeper, Unread, make_table, read_cells, read_names};
 use sqlite::{Alter, Connection, Error, File, FileStore, MemStore, Row};
 use std::alloc::Global;
 use std::fs;
 use std::rt::HostRuntime;
 use std::test::Fail;
 use survey_core::{Field, Keeper, Refused};
-use survey_sqlite::{FileKeeper, Unread, make_table, read_cells, read_names};
 
 const OTHER_FORMS: [&str; 12] = [
     "CREATE TABLE source(field TEXT, cells BLOB)",
@@ -86,7 +86,7 @@ fn a_table_of_the_form_stays(rt: HostRuntime) -> Result<(), Fail> {
     Ok(())
 }
 
-const FILE: &str = "survey_tests_foreign/s.db";
+const FILE: &str = "survey_sqlite_foreign/s.db";
 
 const TWO_ROWS: &str =
     "CREATE TABLE source(field TEXT, cells BLOB); INSERT INTO source VALUES ('A', x''), ('A', x'')";
@@ -120,15 +120,15 @@ fn is_fault_to_remove<K: Keeper>(alloc: Global, keeper: &mut K, field: Field) ->
 
 #[test]
 fn rows_of_another_table_stay(rt: HostRuntime) -> Result<(), Fail> {
-    let _ = fs::remove_dir_all(&rt, "survey_tests_foreign");
-    fs::create_dir(&rt, "survey_tests_foreign")?;
+    let _ = fs::remove_dir_all(&rt, "survey_sqlite_foreign");
+    fs::create_dir(&rt, "survey_sqlite_foreign")?;
     assert_eq!(rt; count_in_file(&rt, TWO_ROWS)?, 2);
     let a = field(&rt, "A");
     let mut keeper = FileKeeper::at(&rt, FILE);
     assert!(rt; is_fault_to_remove(rt.alloc(), &mut keeper, a));
     keeper.close();
     assert_eq!(rt; count_in_file(&rt, "")?, 2);
-    fs::remove_dir_all(&rt, "survey_tests_foreign")?;
+    fs::remove_dir_all(&rt, "survey_sqlite_foreign")?;
     Ok(())
 }
 
