@@ -11,7 +11,7 @@ use Rattle.dual_measure.specs.Measures.{HasMeasureSizes, measure_of, measures_of
 use Rattle.dual_measure.specs.Columns.{measured_cells_of}
 use Rattle.fits_write.specs.CatalogueColumns.{catalogue_columns, measured_columns, measured_cells_in_row}
 use Rattle.fits_write.proofs.Exported.{FitEach, measured_are_columns, one_row, no_rows, tables_joined}
-use Rattle.tree_products.proofs.Exported.{narrow, wide, row_fits}
+use Rattle.source_pick.proofs.Exported.{narrow, wide, row_fits}
 use Rattle.std.specs.Prelude.{Some, slice_get, slice_index}
 use Rattle.std.specs.List.{flat_map}
 use Rattle.std.proofs.lemmas.Grind.{flat_map-append}

@@ -1,8 +1,7 @@
 -- A catalogue row from the sums of a node.
-use Rattle.std.proofs.Common.{◌≡◌, ℕ, ◌+◌, ◌*◌, ◌/◌, ◌%◌, ◌^◌, ◌<◌, ◌≤◌, true, length, refl, sym, ◌∙◌, ap, subst, arith, lit<}
+use Rattle.std.proofs.Common.{◌≡◌, ℕ, ◌*◌, ◌^◌, ◌<◌, ◌≤◌, true, length, refl, sym, ◌∙◌, ap, subst, arith, lit<}
 use Rattle.std.specs.Prelude.{ℤ, pos, ◌-ℤ◌, ◌*ℤ◌, ◌≤ℤ◌}
 use Rattle.std.proofs.lemmas.Int.{ints, to_z-of_z}
-use Rattle.std.proofs.lemmas.Nat.{mod_below}
 use mir.Syntax.{w64, w128}
 use mir.Val.{SFits, of_z, to_z}
 use Rattle.lemmas.proofs.Exported.{IsAmong, among-filter, among_from_filter, not_empty}
@@ -18,35 +17,12 @@ use Rattle.node_sums.specs.Flux.{base_of, flux_of}
 use Rattle.node_sums.specs.Sizes.{IsUpTo, HasSizes}
 use Rattle.node_sums.proofs.Exported.{level_at_least, never_negative, BaseCase, at_root, at_child, base-case, base_up_to, fits, sizes, filtered_pixels}
 use Rattle.node_sums.proofs.Exported.{level_up_to, total-up_to, up_to_more, up_to-minus, x_small, y_small}
-use Rattle.source_pick.specs.declared.catalogue.CatRow.{CatRow}
-use Rattle.source_pick.specs.Catalogue.{centre_of, measured_row, catalogue_row, FitsColumn, FitsColumns, IsCentred}
+use Rattle.source_pick.specs.Catalogue.{centre_of, measured_row, catalogue_row, IsCentred}
 use Rattle.source_pick.specs.Numbers.{IsMoment, IsMean, IsMeasured}
 use Rattle.source_pick.proofs.OrderListing.{first_below}
-use Rattle.source_pick.proofs.CellsMeans.{IsCentre, centred, centre-small, moment_low, moment_high, sum_low, sum_high, least_low, greatest_high, greatest_small}
+use Rattle.source_pick.proofs.CellsMeans.{IsCentre, centred, moment_low, moment_high, sum_low, sum_high, least_low, greatest_high, greatest_small}
 
--- ---- columns
-
-small_column : (n : ℕ) → n ≤ 2 ^ 24 → FitsColumn (pos n)
-small_column n h = record { low = omega (arith, ints); high = omega (arith, ints) }
-
-centre_column : (z : ℤ) → IsUpTo 65535000 z → FitsColumn z
-centre_column z h = record { low = omega (arith, ints, h.low); high = omega (arith, ints, h.high) }
-
-pub row_columns : (number : ℕ) (level base flux : ℤ) (width : ℕ) (s : Sums) → IsMeasured number base flux width s
-    → FitsColumns (measured_row number level base flux width s)
-unfolding measured_row
-row_columns number level base flux width s k = record {
-  number = small_column number k.few;
-  area = small_column s.area k.sizes.area;
-  xmin = small_column s.xmin (omega (arith, k.across.ordered, k.across.high_small));
-  xmax = small_column s.xmax (omega (arith, k.across.high_small));
-  ymin = small_column s.ymin (omega (arith, k.along.ordered, k.along.high_small));
-  ymax = small_column s.ymax (omega (arith, k.along.high_small));
-  xfirst = small_column (s.first % width + 1) (omega (arith, mod_below s.first width k.some_columns, k.few_columns));
-  yfirst = small_column (s.first / width + 1) (omega (arith, k.few_rows));
-  xcen = centre_column (centre_of (s.rx -ℤ base *ℤ pos s.x) s.x flux s.area) (centre-small (s.rx -ℤ base *ℤ pos s.x) s.x flux s.area s.xmin s.xmax k.across);
-  ycen = centre_column (centre_of (s.ry -ℤ base *ℤ pos s.y) s.y flux s.area) (centre-small (s.ry -ℤ base *ℤ pos s.y) s.y flux s.area s.ymin s.ymax k.along);
-}
+-- ---- the centre
 
 pub row_centred : (number : ℕ) (level base flux : ℤ) (width : ℕ) (s : Sums) → IsMeasured number base flux width s
     → IsCentred (measured_row number level base flux width s)
@@ -107,30 +83,6 @@ moment_fits base s b h = fits w128 (2 ^ 77) s.rx (moment_of base s b h).moment_s
 
 pub moment_fits_along : (base : ℤ) (s : Sums) → IsUpTo (2 ^ 37) base → HasSizes s → SFits w128 s.ry
 moment_fits_along base s b h = fits w128 (2 ^ 77) s.ry (moment_along base s b h).moment_small (lit< tt)
-
-pub same_row : (a b : CatRow) → a.number ≡ b.number → a.level ≡ b.level → a.base ≡ b.base → a.area ≡ b.area → a.flux ≡ b.flux → a.peak ≡ b.peak
-    → a.xmin ≡ b.xmin → a.xmax ≡ b.xmax
-    → a.ymin ≡ b.ymin → a.ymax ≡ b.ymax → a.xfirst ≡ b.xfirst → a.yfirst ≡ b.yfirst → a.xcen ≡ b.xcen → a.ycen ≡ b.ycen → a.xvar ≡ b.xvar → a.yvar ≡ b.yvar
-    → a.xycov ≡ b.xycov → a ≡ b
-same_row a b number level base area flux peak xmin xmax ymin ymax xfirst yfirst xcen ycen xvar yvar xycov = λ i. record {
-  number = number i;
-  level = level i;
-  base = base i;
-  area = area i;
-  flux = flux i;
-  peak = peak i;
-  xmin = xmin i;
-  xmax = xmax i;
-  ymin = ymin i;
-  ymax = ymax i;
-  xfirst = xfirst i;
-  yfirst = yfirst i;
-  xcen = xcen i;
-  ycen = ycen i;
-  xvar = xvar i;
-  yvar = yvar i;
-  xycov = xycov i;
-}
 
 -- ---- a node's numbers
 

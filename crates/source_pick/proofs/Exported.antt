@@ -24,4 +24,6 @@ pub use Rattle.source_pick.proofs.Windows.{each_source_is_a_tiles, own_sources_a
 pub use Rattle.source_pick.proofs.Windows.{sure_sources_are_seen}
 pub use Rattle.source_pick.proofs.WindowsTiling.{tiles_give_the_catalogue}
 -- the row of a node of a plane fits its columns, and each of its numbers 64 bits
-pub use Rattle.source_pick.proofs.CellsFit.{catalogue_row_fits}
+pub use Rattle.source_pick.proofs.CellsColumns.{catalogue_row_fits}
+-- the columns of 32 and of 64 bits, one before the other; a row that fits its columns fits those of the catalogue
+pub use Rattle.source_pick.proofs.CellsColumns.{narrow, wide, row_fits}

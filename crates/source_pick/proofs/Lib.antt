@@ -11,7 +11,7 @@ mod PassesMarks
 mod CellsMeans
 mod CellsFitting
 mod CellsRows
-mod CellsFit
+mod CellsColumns
 mod LocalityHighNodes
 mod LocalityBordering
 mod LocalityAlongBorders

@@ -1,14 +1,12 @@
 -- The law of locality: planes that agree near the pixels of at least the threshold have the same sources.
 use Rattle.std.proofs.Common.{◌≡◌, ℕ, ◌<◌, true, map, refl, sym, ◌∙◌, ap, subst, arith}
-use Rattle.std.specs.Prelude.{IsTrue, ℤ, pos, ◌+ℤ◌, Option, unwrap_or, ◌↔◌}
+use Rattle.std.specs.Prelude.{IsTrue, ℤ, Option, unwrap_or, ◌↔◌}
 use Rattle.std.specs.List.{enumerate_from, position_from}
-use Rattle.std.proofs.lemmas.Int.{ints}
 use Rattle.lemmas.proofs.Exported.{ArePaired, HasPartnerIn, IsAmong, paired_enumerated, paired_from_rising, paired_map, paired_position}
 use Rattle.comp_tree.specs.declared.shape.Connect.{Connect}
 use Rattle.comp_tree.specs.Raster.{Raster, IsPlane, at_least, pixels, is_at_least}
 use Rattle.comp_tree.specs.Components.{node_of, is_in_node}
 use Rattle.comp_tree.specs.Laws.{IsNode, top_of}
-use Rattle.comp_tree.specs.Windows.{Window}
 use Rattle.comp_tree.proofs.Exported.{AlikeAbove, AlikeAlong, AreCounterparts, InPlace, IsAt, turned, above_pixels}
 use Rattle.comp_tree.proofs.Exported.{along_counterpart}
 use Rattle.comp_tree.proofs.Exported.{along_sym, counterpart_in_place, counterpart_test}
@@ -16,35 +14,17 @@ use Rattle.comp_tree.proofs.Exported.{below_from_defined, defined_from_at_least}
 use Rattle.node_sums.specs.Sums.{sums_of}
 use Rattle.node_sums.proofs.Exported.{y_small}
 use Rattle.source_pick.specs.declared.choice.Choice.{Choice}
-use Rattle.source_pick.specs.declared.catalogue.CatRow.{CatRow}
 use Rattle.source_pick.specs.Sources.{is_source, sources}
 use Rattle.source_pick.specs.Segmentation.{source_number_at, segmentation_of, segmentation}
 use Rattle.source_pick.specs.Catalogue.{catalogue_row, catalogue_of, catalogue}
 use Rattle.source_pick.specs.Locality.{AgreeNearHigh, SourcesAreLocal}
-use Rattle.source_pick.specs.Windows.{moved_row}
 use Rattle.source_pick.proofs.LocalityHighNodes.{top_high}
-use Rattle.source_pick.proofs.CellsRows.{same_row}
+use Rattle.source_pick.proofs.CellsColumns.{all_of, unmoved}
 use Rattle.source_pick.proofs.LocalityAlongSums.{along_first}
 use Rattle.source_pick.proofs.LocalityAlongSources.{along_source_there}
 use Rattle.source_pick.proofs.WindowsMovedRows.{StandApart, along_row}
 use Rattle.source_pick.proofs.WindowsPairing.{source_from_among, among_sources, sources_rise}
 use Rattle.source_pick.proofs.LocalityAlongInPlace.{in_place_alike, in_place_along}
-
--- ---- rows that stay where they are
-
--- the window that is the whole plane
-abbrev all_of : Raster → Window
-all_of s = record { left = 0; top = 0; shape = s.shape }
-
-stays : (z : ℤ) → z +ℤ pos 0 ≡ z
-stays z = omega (arith, ints)
-
--- moves no row
-unmoved : (s : Raster) (row : CatRow) → moved_row (all_of s) row ≡ row
-unfolding moved_row
-unmoved s row = same_row (moved_row (all_of s) row) row refl refl refl refl refl refl (stays row.xmin) (stays row.xmax) (stays row.ymin) (stays row.ymax)
-    (stays row.xfirst)
-    (stays row.yfirst) (stays row.xcen) (stays row.ycen) refl refl refl
 
 -- ---- the definitions
 

@@ -12,6 +12,7 @@ use Rattle.node_sums.specs.Sums.{total, least, greatest}
 use Rattle.source_pick.specs.Catalogue.{floor_of, centre_of, spread_of}
 use Rattle.source_pick.proofs.CellsMeans.{plus_times, minus_times, times_plus}
 use Rattle.source_pick.proofs.LocalityAlongSums.{length_paired}
+use Rattle.node_sums.specs.declared.entry.Sums.{Sums}
 
 -- ---- sums
 
@@ -166,3 +167,44 @@ moment_moved rx base total flux sum area c e =
     let b : base *ℤ pos (c * area) ≡ (base *ℤ pos area) *ℤ pos c = times_times base area c in
     let d : flux *ℤ pos c ≡ total *ℤ pos c -ℤ (base *ℤ pos area) *ℤ pos c = ap (λ (z : ℤ). z *ℤ pos c) e ∙ minus_times total (base *ℤ pos area) c in
     omega (arith, ints, a, b, d)
+
+-- ---- all sums of some pixels
+
+-- the sums of pixels that stand so many columns and rows on
+pub record AreMovedSums (left top : ℕ) (s t : Sums) : Type 0 where
+  pub area : s.area ≡ t.area
+  pub r : s.r ≡ t.r
+  pub x : s.x ≡ t.x + left * t.area
+  pub y : s.y ≡ t.y + top * t.area
+  pub xx : s.xx ≡ t.xx + left * t.x + left * t.x + left * left * t.area
+  pub xy : s.xy ≡ t.xy + top * t.x + left * t.y + left * top * t.area
+  pub yy : s.yy ≡ t.yy + top * t.y + top * t.y + top * top * t.area
+  pub rx : s.rx ≡ t.rx +ℤ t.r *ℤ pos left
+  pub ry : s.ry ≡ t.ry +ℤ t.r *ℤ pos top
+  pub xmin : s.xmin ≡ t.xmin + left
+  pub xmax : s.xmax ≡ t.xmax + left
+  pub ymin : s.ymin ≡ t.ymin + top
+  pub ymax : s.ymax ≡ t.ymax + top
+  pub peak : s.peak ≡ t.peak
+
+-- a centre, from sums that are moved
+pub centre_from : (rx base total flux there : ℤ) (sum moved area same c : ℕ) → there ≡ rx +ℤ total *ℤ pos c → moved ≡ sum + c * area → same ≡ area
+    → flux ≡ total -ℤ base *ℤ pos area
+    → pos 0 ≤ℤ flux → 0 < area → centre_of (there -ℤ base *ℤ pos moved) moved flux same ≡ centre_of (rx -ℤ base *ℤ pos sum) sum flux area +ℤ pos (1000 * c)
+centre_from rx base total flux there sum moved area same c e f g h low some =
+    ap (λ (z : ℤ). centre_of (z -ℤ base *ℤ pos moved) moved flux same) e
+    ∙ ap (λ (n : ℕ). centre_of (rx +ℤ total *ℤ pos c -ℤ base *ℤ pos n) n flux same) f
+    ∙ ap (λ (n : ℕ). centre_of (rx +ℤ total *ℤ pos c -ℤ base *ℤ pos (sum + c * area)) (sum + c * area) flux n) g
+    ∙ ap (λ (z : ℤ). centre_of z (sum + c * area) flux area) (moment_moved rx base total flux sum area c h)
+    ∙ centre_moved (rx -ℤ base *ℤ pos sum) sum flux area c low some
+
+-- and a variance or covariance
+pub spread_from : (area same products there first one second other c d : ℕ) → same ≡ area → there ≡ products + d * first + c * second + c * d * area
+    → one ≡ first + c * area → other ≡ second + d * area
+    → spread_of same there one other ≡ spread_of area products first second
+spread_from area same products there first one second other c d e f g h =
+    ap (λ (n : ℕ). spread_of n there one other) e
+    ∙ ap (λ (n : ℕ). spread_of area n one other) f
+    ∙ ap (λ (n : ℕ). spread_of area (products + d * first + c * second + c * d * area) n other) g
+    ∙ ap (λ (n : ℕ). spread_of area (products + d * first + c * second + c * d * area) (first + c * area) n) h
+    ∙ spread_moved area products first second c d

@@ -1,6 +1,6 @@
 -- Counterparts whose pixels stand at places that differ by a window's corner have rows that differ by it.
-use Rattle.std.proofs.Common.{◌≡◌, ℕ, ◌+◌, ◌-◌, ◌*◌, ◌/◌, ◌%◌, ◌^◌, ◌<◌, ◌≤◌, List, length, refl, sym, ◌∙◌, ap, subst, arith}
-use Rattle.std.specs.Prelude.{ℤ, pos, ◌+ℤ◌, ◌-ℤ◌, ◌*ℤ◌, ◌≤ℤ◌}
+use Rattle.std.proofs.Common.{◌≡◌, ℕ, ◌+◌, ◌-◌, ◌/◌, ◌%◌, ◌^◌, ◌<◌, ◌≤◌, List, length, refl, sym, ◌∙◌, ap, subst, arith}
+use Rattle.std.specs.Prelude.{ℤ}
 use Rattle.lemmas.proofs.Exported.{ArePaired, not_empty}
 use Rattle.comp_tree.specs.declared.shape.Connect.{Connect}
 use Rattle.comp_tree.specs.Raster.{Raster, IsPlane, level}
@@ -10,73 +10,14 @@ use Rattle.comp_tree.specs.Nesting.{pixels_of, level_of_node}
 use Rattle.comp_tree.specs.Windows.{Window}
 use Rattle.comp_tree.proofs.Exported.{among_pixels, top_inside, AlikeAlong, AreCounterparts, along_level, IsAt}
 use Rattle.node_sums.specs.declared.entry.Sums.{Sums}
-use Rattle.node_sums.specs.Sums.{x_of, y_of, total, sums_over, sums_of}
+use Rattle.node_sums.specs.Sums.{x_of, y_of, sums_over, sums_of}
 use Rattle.node_sums.specs.Flux.{base_of, flux_of}
 use Rattle.node_sums.proofs.Exported.{never_negative, sums-area, sums-flux, x_small}
-use Rattle.source_pick.specs.Catalogue.{centre_of, spread_of, measured_row, catalogue_row}
-use Rattle.source_pick.specs.Windows.{moved_row}
-use Rattle.source_pick.proofs.CellsRows.{same_row}
+use Rattle.source_pick.specs.Catalogue.{measured_row, catalogue_row, moved_row}
 use Rattle.source_pick.proofs.LocalityAlongSums.{total_paired, length_paired, highest_paired, along_pixels, along_node_level, along_base, along_flux}
 use Rattle.source_pick.proofs.LocalityAlongSums.{along_first}
-use Rattle.source_pick.proofs.WindowsMoved.{sum_moved, products_moved, least_moved, greatest_moved, total_moved, spread_moved, centre_moved, moment_moved}
-
--- ---- rows from sums
-
--- the sums of pixels that stand so many columns and rows on
-pub record AreMovedSums (left top : ℕ) (s t : Sums) : Type 0 where
-  pub area : s.area ≡ t.area
-  pub r : s.r ≡ t.r
-  pub x : s.x ≡ t.x + left * t.area
-  pub y : s.y ≡ t.y + top * t.area
-  pub xx : s.xx ≡ t.xx + left * t.x + left * t.x + left * left * t.area
-  pub xy : s.xy ≡ t.xy + top * t.x + left * t.y + left * top * t.area
-  pub yy : s.yy ≡ t.yy + top * t.y + top * t.y + top * top * t.area
-  pub rx : s.rx ≡ t.rx +ℤ t.r *ℤ pos left
-  pub ry : s.ry ≡ t.ry +ℤ t.r *ℤ pos top
-  pub xmin : s.xmin ≡ t.xmin + left
-  pub xmax : s.xmax ≡ t.xmax + left
-  pub ymin : s.ymin ≡ t.ymin + top
-  pub ymax : s.ymax ≡ t.ymax + top
-  pub peak : s.peak ≡ t.peak
-
--- a centre, from sums that are moved
-centre_from : (rx base total flux there : ℤ) (sum moved area same c : ℕ) → there ≡ rx +ℤ total *ℤ pos c → moved ≡ sum + c * area → same ≡ area
-    → flux ≡ total -ℤ base *ℤ pos area
-    → pos 0 ≤ℤ flux → 0 < area → centre_of (there -ℤ base *ℤ pos moved) moved flux same ≡ centre_of (rx -ℤ base *ℤ pos sum) sum flux area +ℤ pos (1000 * c)
-centre_from rx base total flux there sum moved area same c e f g h low some =
-    ap (λ (z : ℤ). centre_of (z -ℤ base *ℤ pos moved) moved flux same) e
-    ∙ ap (λ (n : ℕ). centre_of (rx +ℤ total *ℤ pos c -ℤ base *ℤ pos n) n flux same) f
-    ∙ ap (λ (n : ℕ). centre_of (rx +ℤ total *ℤ pos c -ℤ base *ℤ pos (sum + c * area)) (sum + c * area) flux n) g
-    ∙ ap (λ (z : ℤ). centre_of z (sum + c * area) flux area) (moment_moved rx base total flux sum area c h)
-    ∙ centre_moved (rx -ℤ base *ℤ pos sum) sum flux area c low some
-
--- and a variance or covariance
-spread_from : (area same products there first one second other c d : ℕ) → same ≡ area → there ≡ products + d * first + c * second + c * d * area
-    → one ≡ first + c * area → other ≡ second + d * area
-    → spread_of same there one other ≡ spread_of area products first second
-spread_from area same products there first one second other c d e f g h =
-    ap (λ (n : ℕ). spread_of n there one other) e
-    ∙ ap (λ (n : ℕ). spread_of area n one other) f
-    ∙ ap (λ (n : ℕ). spread_of area (products + d * first + c * second + c * d * area) n other) g
-    ∙ ap (λ (n : ℕ). spread_of area (products + d * first + c * second + c * d * area) (first + c * area) n) h
-    ∙ spread_moved area products first second c d
-
--- so the row is moved
-pub row_moved : (number : ℕ) (level base flux : ℤ) (wide : ℕ) (w : Window) (narrow : ℕ) (s t : Sums) → AreMovedSums w.left w.top s t
-    → IsAt wide narrow w.left w.top s.first t.first
-    → flux ≡ t.r -ℤ base *ℤ pos t.area → pos 0 ≤ℤ flux → 0 < t.area
-    → measured_row number level base flux wide s ≡ moved_row w (measured_row number level base flux narrow t)
-unfolding measured_row moved_row
-row_moved number level base flux wide w narrow s t m place e low some =
-    same_row (measured_row number level base flux wide s) (moved_row w (measured_row number level base flux narrow t))
-    refl refl refl (ap pos m.area) refl m.peak (ap pos m.xmin) (ap pos m.xmax) (ap pos m.ymin) (ap pos m.ymax)
-    (ap pos (let c : s.first % wide ≡ t.first % narrow + w.left = place.column in omega (arith, c)))
-    (ap pos (let c : s.first / wide ≡ t.first / narrow + w.top = place.row in omega (arith, c)))
-    (centre_from t.rx base t.r flux s.rx t.x s.x t.area s.area w.left m.rx m.x m.area e low some)
-    (centre_from t.ry base t.r flux s.ry t.y s.y t.area s.area w.top m.ry m.y m.area e low some)
-    (spread_from t.area s.area t.xx s.xx t.x s.x t.x s.x w.left w.left m.area m.xx m.x m.x)
-    (spread_from t.area s.area t.yy s.yy t.y s.y t.y s.y w.top w.top m.area m.yy m.y m.y)
-    (spread_from t.area s.area t.xy s.xy t.x s.x t.y s.y w.left w.top m.area m.xy m.x m.y)
+use Rattle.source_pick.proofs.WindowsMoved.{AreMovedSums, sum_moved, products_moved, least_moved, greatest_moved, total_moved}
+use Rattle.source_pick.proofs.CellsColumns.{row_moved}
 
 -- ---- the sums of counterparts
 

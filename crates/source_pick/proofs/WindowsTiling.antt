@@ -9,7 +9,8 @@ use Rattle.node_sums.specs.Sums.{sums_of}
 use Rattle.source_pick.specs.declared.choice.Choice.{Choice}
 use Rattle.source_pick.specs.Sources.{is_source, sources}
 use Rattle.source_pick.specs.Catalogue.{catalogue_row}
-use Rattle.source_pick.specs.Windows.{moved_row, Tile, IsOwnSource, IsFromTile, first_in_whole, tiles_rows, TilesGiveTheCatalogue}
+use Rattle.source_pick.specs.Catalogue.{moved_row}
+use Rattle.source_pick.specs.Windows.{Tile, IsOwnSource, IsFromTile, first_in_whole, tiles_rows, TilesGiveTheCatalogue}
 use Rattle.source_pick.proofs.WindowsPairing.{rising_from_get, source_from_among, among_sources, sources_rise}
 use Rattle.source_pick.proofs.Locality.{catalogue-is}
 use Rattle.source_pick.proofs.Windows.{each_source_is_a_tiles, own_sources_are_the_wholes}

@@ -1,5 +1,5 @@
--- Model: the catalogue: for each source 17 whole numbers, from the sums over its component and from its flux.
-use Rattle.std.specs.Prelude.{ℕ, ◌+◌, ◌*◌, ◌/◌, ◌%◌, ◌^◌, ◌-◌, cond, ℤ, pos, neg_ℤ, ◌-ℤ◌, ◌*ℤ◌, ◌≤ℤ◌, List, [], ◌∷◌, map}
+-- Model: the catalogue: for each source some whole numbers, from the sums over its component and from its flux.
+use Rattle.std.specs.Prelude.{ℕ, ◌+◌, ◌*◌, ◌/◌, ◌%◌, ◌^◌, ◌-◌, cond, ℤ, pos, neg_ℤ, ◌+ℤ◌, ◌-ℤ◌, ◌*ℤ◌, ◌≤ℤ◌, List, [], ◌∷◌, map}
 use Rattle.std.specs.List.{enumerate_from}
 use Rattle.std.specs.Int.{int_div_euclid}
 use Rattle.std.specs.Ordering.{int_eq}
@@ -7,6 +7,7 @@ use Rattle.comp_tree.specs.declared.shape.Connect.{Connect}
 use Rattle.comp_tree.specs.Raster.{Raster}
 use Rattle.comp_tree.specs.Components.{tree_of}
 use Rattle.comp_tree.specs.Nesting.{level_of_node}
+use Rattle.comp_tree.specs.Windows.{Window}
 use Rattle.node_sums.specs.declared.entry.Sums.{Sums}
 use Rattle.node_sums.specs.Sums.{sums_of}
 use Rattle.node_sums.specs.Flux.{base_of, flux_of}
@@ -54,6 +55,28 @@ measured_row number level base flux width s = record {
 unfoldable pub catalogue_row : Raster → Connect → ℕ → ℕ → CatRow
 catalogue_row r connect number n =
     measured_row number (level_of_node r connect n) (base_of (tree_of r connect) n) (flux_of r connect n) r.shape.width (sums_of r connect n)
+
+-- a row of a window, as a row of the whole: columns, rows and centres are moved by the window's corner
+unfoldable pub moved_row : Window → CatRow → CatRow
+moved_row w row = record {
+  number = row.number;
+  level = row.level;
+  base = row.base;
+  area = row.area;
+  flux = row.flux;
+  peak = row.peak;
+  xmin = row.xmin +ℤ pos w.left;
+  xmax = row.xmax +ℤ pos w.left;
+  ymin = row.ymin +ℤ pos w.top;
+  ymax = row.ymax +ℤ pos w.top;
+  xfirst = row.xfirst +ℤ pos w.left;
+  yfirst = row.yfirst +ℤ pos w.top;
+  xcen = row.xcen +ℤ pos (1000 * w.left);
+  ycen = row.ycen +ℤ pos (1000 * w.top);
+  xvar = row.xvar;
+  yvar = row.yvar;
+  xycov = row.xycov;
+}
 
 -- the rows of some nodes, which are numbered from 1
 unfoldable pub catalogue_of : Raster → Connect → List ℕ → List CatRow

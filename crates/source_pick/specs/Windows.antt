@@ -1,6 +1,6 @@
 -- Model: the law of windows: a source whose threshold component lies with its neighbours among pixels that a window shows is a source of
 -- the window, with the same row but for the places. So the sources of an image are those of its tiles.
-use Rattle.std.specs.Prelude.{◌≡◌, ℕ, ◌*◌, ◌<◌, Bool, IsTrue, pos, ◌+ℤ◌, List, length, map, Contains, Some, slice_get}
+use Rattle.std.specs.Prelude.{◌≡◌, ℕ, ◌<◌, Bool, IsTrue, List, length, map, Contains, Some, slice_get}
 use Rattle.std.specs.List.{enumerate_from}
 use Rattle.comp_tree.specs.declared.shape.Connect.{Connect}
 use Rattle.comp_tree.specs.Raster.{Raster, IsPlane, is_at_least}
@@ -11,29 +11,7 @@ use Rattle.node_sums.specs.Sums.{sums_of}
 use Rattle.source_pick.specs.declared.choice.Choice.{Choice}
 use Rattle.source_pick.specs.declared.catalogue.CatRow.{CatRow}
 use Rattle.source_pick.specs.Sources.{is_source}
-use Rattle.source_pick.specs.Catalogue.{catalogue_row, catalogue}
-
--- a row of a window, as a row of the whole: columns, rows and centres are moved by the window's corner
-unfoldable pub moved_row : Window → CatRow → CatRow
-moved_row w row = record {
-  number = row.number;
-  level = row.level;
-  base = row.base;
-  area = row.area;
-  flux = row.flux;
-  peak = row.peak;
-  xmin = row.xmin +ℤ pos w.left;
-  xmax = row.xmax +ℤ pos w.left;
-  ymin = row.ymin +ℤ pos w.top;
-  ymax = row.ymax +ℤ pos w.top;
-  xfirst = row.xfirst +ℤ pos w.left;
-  yfirst = row.yfirst +ℤ pos w.top;
-  xcen = row.xcen +ℤ pos (1000 * w.left);
-  ycen = row.ycen +ℤ pos (1000 * w.top);
-  xvar = row.xvar;
-  yvar = row.yvar;
-  xycov = row.xycov;
-}
+use Rattle.source_pick.specs.Catalogue.{catalogue_row, moved_row, catalogue}
 
 -- node n of the whole r is node m of the window's plane s: the same pixels, and the same row but for the places
 pub record IsMovedNode (r s : Raster) (w : Window) (connect : Connect) (n m : ℕ) : Type 0 where

@@ -22,9 +22,9 @@ use Rattle.source_pick.specs.declared.choice.Choice.{Choice}
 use Rattle.source_pick.specs.Sources.{is_source, sources}
 use Rattle.source_pick.specs.Laws.{SourcesAreInOrder, SourcesAreDisjoint}
 use Rattle.source_pick.specs.Catalogue.{measured_row, catalogue_row, catalogue_of, catalogue, cells_of}
-use Rattle.source_pick.proofs.Exported.{catalogue_row_fits, source_from_among}
+use Rattle.source_pick.proofs.Exported.{catalogue_row_fits, row_fits, source_from_among}
 use Rattle.tree_products.specs.Catalogues.{catalogue_cells}
-use Rattle.tree_products.proofs.Exported.{row_fits, few_picked}
+use Rattle.tree_products.proofs.Exported.{few_picked}
 use Rattle.survey_core.specs.Listings.{table_cell}
 use Rattle.survey_core.specs.Catalogues.{is_misnumbered, first_misnumbered}
 use Rattle.survey_laws.specs.Laws.{IsRunsPlane}

@@ -22,7 +22,8 @@ use Rattle.node_sums.specs.Sums.{sums_of}
 use Rattle.node_sums.proofs.Exported.{BaseCase, at_child, at_root, base-case, level-of_node, parent_holds}
 use Rattle.source_pick.specs.declared.catalogue.CatRow.{CatRow}
 use Rattle.source_pick.specs.Catalogue.{measured_row, catalogue_row}
-use Rattle.source_pick.specs.Windows.{moved_row, IsTileOf, IsFromTile}
+use Rattle.source_pick.specs.Catalogue.{moved_row}
+use Rattle.source_pick.specs.Windows.{IsTileOf, IsFromTile}
 use Rattle.dual_measure.specs.Measures.{measure_over, measure_of, mean_of, around_node, back_of}
 use Rattle.source_pick.specs.Sources.{sources}
 use Rattle.source_pick.proofs.Exported.{first_inside}

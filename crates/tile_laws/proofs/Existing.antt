@@ -11,7 +11,7 @@ use Rattle.node_sums.specs.Sums.{sums_of}
 use Rattle.source_pick.specs.declared.catalogue.CatRow.{CatRow}
 use Rattle.source_pick.specs.Sources.{sources}
 use Rattle.source_pick.specs.Catalogue.{catalogue_row}
-use Rattle.source_pick.specs.Windows.{moved_row}
+use Rattle.source_pick.specs.Catalogue.{moved_row}
 use Rattle.tile_laws.specs.Pieces.{DetectionChoice, Piece, searched, AnswersForCore, CoversImage, CoresAreApart, first_pixel, IsFromPiece, AreMerged}
 use Rattle.tile_laws.specs.Laws.{PiecesCanBeMerged, RowsAreOnePieces}
 use Rattle.tile_laws.proofs.Merging.{plane_R, tile, source_from, IsPiecesSource, IsRowThere, row_there, IsSourceOfRow, source_of_row, first_is}

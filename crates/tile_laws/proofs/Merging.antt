@@ -13,7 +13,8 @@ use Rattle.source_pick.specs.declared.catalogue.CatRow.{CatRow}
 use Rattle.source_pick.specs.Sources.{is_source, sources}
 use Rattle.source_pick.specs.Catalogue.{measured_row, catalogue_row}
 use Rattle.source_pick.specs.Laws.{SourcesAreListed, SourcesAreInOrder}
-use Rattle.source_pick.specs.Windows.{moved_row, Tile, IsTileOf, IsOwnSource, IsFromTile, EachSourceIsATiles, OwnSourcesAreTheWholes}
+use Rattle.source_pick.specs.Catalogue.{moved_row}
+use Rattle.source_pick.specs.Windows.{Tile, IsTileOf, IsOwnSource, IsFromTile, EachSourceIsATiles, OwnSourcesAreTheWholes}
 use Rattle.tile_laws.specs.Pieces.{DetectionChoice, Piece, searched, detected, AnswersForCore, CoversImage, first_pixel, IsFromPiece, AreMerged}
 use Rattle.tile_laws.specs.Pieces.{row_with_number, numbered_rows}
 use Rattle.tile_laws.specs.Laws.{PiecesGiveTheCatalogue}

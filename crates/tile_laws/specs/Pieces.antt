@@ -13,7 +13,7 @@ use Rattle.source_pick.specs.declared.choice.Choice.{Choice}
 use Rattle.source_pick.specs.declared.catalogue.CatRow.{CatRow}
 use Rattle.source_pick.specs.Catalogue.{catalogue}
 use Rattle.source_pick.specs.Segmentation.{segmentation}
-use Rattle.source_pick.specs.Windows.{moved_row}
+use Rattle.source_pick.specs.Catalogue.{moved_row}
 use Rattle.tile_laws.specs.Clear.{window_box, IsBoxWithin, IsSureBox}
 
 -- what detection is told: the size of the mesh (0: no background), whether the background is flat, the connectivity, and which nodes are

@@ -1,9 +1,7 @@
 -- The cells of a catalogue, row by row.
 use Rattle.std.proofs.Common.{◌≡◌, ◌∙◌, ap, sym, subst, refl, arith, ℕ, ◌+◌, ◌^◌, ◌<◌, ◌≤◌, List, [], ◌∷◌, ◌++◌, length, take}
-use Rattle.std.proofs.Common.{get_or, append-nil, length-append, ℤ, pos, negsuc, w32}
-use Rattle.std.specs.Prelude.{FitsSigned, ⊤}
+use Rattle.std.proofs.Common.{get_or, append-nil, length-append, ℤ}
 use Rattle.std.specs.List.{flat_map, enumerate_from, AllByRecursion}
-use Rattle.std.proofs.lemmas.Int.{ints}
 use Rattle.std.proofs.lemmas.Grind.{flat_map-append}
 use Rattle.std.proofs.lemmas.List.{take_more, take_all, length-map, get_or-map}
 use Rattle.std.proofs.lemmas.List.FromFn.{length-enumerate_from, get_or-enumerate_from}
@@ -15,30 +13,11 @@ use Rattle.node_sums.specs.declared.entry.Sums.{Sums}
 use Rattle.node_sums.specs.Sums.{sums_in}
 use Rattle.fits_write.specs.Columns.{IsTable}
 use Rattle.source_pick.specs.declared.catalogue.CatRow.{CatRow}
-use Rattle.source_pick.specs.Catalogue.{catalogue_of, catalogue_row, cells_of, FitsColumn, FitsColumns}
+use Rattle.source_pick.specs.Catalogue.{catalogue_of, catalogue_row, cells_of, FitsColumns}
 use Rattle.source_pick.specs.Segmentation.{AreDisjointNodes}
-use Rattle.source_pick.proofs.Exported.{few_marked, few_rows}
+use Rattle.source_pick.proofs.Exported.{few_marked, few_rows, row_fits}
 use Rattle.fits_write.specs.CatalogueColumns.{catalogue_columns}
 use Rattle.fits_write.proofs.Exported.{FitEach, catalogue_are_columns, rows_are_table}
-
--- ---- each cell fits its column
-
-column_fits : (z : ℤ) → FitsColumn z → FitsSigned w32 z
-column_fits (pos n) h = record { sfits = omega (arith, ints, h.high) }
-column_fits (negsuc n) h = record { sfits = omega (arith, ints, h.low) }
-
--- a number of 32 bits, and one of 64 bits, before those that fit theirs
-pub narrow : {Rest : Type 0} {z : ℤ} → FitsColumn z → Rest → FitsSigned w32 z × Rest
-narrow {Rest} {z} h rest = (column_fits z h, rest)
-
-pub wide : {Rest : Type 0} → Rest → ⊤ × Rest
-wide rest = (tt, rest)
-
-pub row_fits : (row : CatRow) → FitsColumns row → FitEach catalogue_columns (cells_of row)
-unfolding catalogue_columns
-row_fits row h =
-    narrow h.number (wide (wide (narrow h.area (wide (wide (narrow h.xmin (narrow h.xmax (narrow h.ymin (narrow h.ymax
-    (narrow h.xfirst (narrow h.yfirst (narrow h.xcen (narrow h.ycen (wide (wide (wide tt))))))))))))))))
 
 -- ---- the cells of some rows
 

@@ -1,7 +1,7 @@
 -- The lemmas of this crate that crates above use. Its other modules of lemmas are its own.
 
--- nodes that were picked are few; the columns of 32 and of 64 bits, one before the other; a row that fits its columns fits those of the catalogue
-pub use Rattle.tree_products.proofs.Cells.{few_picked, narrow, wide, row_fits}
+-- nodes that were picked are few
+pub use Rattle.tree_products.proofs.Cells.{few_picked}
 -- the first rows of a catalogue, one row after the other
 pub use Rattle.tree_products.proofs.Cells.{row_more, rows_all}
 -- a primary HDU, a map and a table were put one behind the other, or the map was cut short; planes with the same sources are written alike

@@ -7,7 +7,8 @@ use Rattle.comp_tree.specs.ComponentTree.{ComponentTree}
 use Rattle.node_sums.specs.Flux.{base_of}
 use Rattle.source_pick.specs.Catalogue.{FitsColumns, IsCentred}
 use Rattle.source_pick.proofs.PassesReadings.{of_trees, node_inside, sums_inside, sums-read, level-read, tree-shape}
-use Rattle.source_pick.proofs.CellsRows.{row_columns, row_centred, measured, measured-same, row-same, row-is}
+use Rattle.source_pick.proofs.CellsColumns.{row_columns}
+use Rattle.source_pick.proofs.CellsRows.{row_centred, measured, measured-same, row-same, row-is}
 use Rattle.source_pick.proofs.PassesFlags.{of_same}
 use Rattle.source_pick.proofs.catalogue.row.Goals as goal
 

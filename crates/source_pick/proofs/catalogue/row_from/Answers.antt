@@ -5,7 +5,8 @@ use mir.Syntax.{w64, w128}
 use mir.Val.{SFits}
 use Rattle.source_pick.specs.Catalogue.{measured_row}
 use Rattle.source_pick.proofs.CellsMeans.{widest}
-use Rattle.source_pick.proofs.CellsRows.{moment-read, moment_of, moment_along, weighted-read, mean-read, centre_is, moment_fits, moment_fits_along, same_row}
+use Rattle.source_pick.proofs.CellsRows.{moment-read, moment_of, moment_along, weighted-read, mean-read, centre_is, moment_fits, moment_fits_along}
+use Rattle.source_pick.proofs.CellsColumns.{same_row}
 use Rattle.source_pick.proofs.catalogue.row_from.Goals as goal
 
 pub weighted-requires : goal.weighted-requires
