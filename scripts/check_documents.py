@@ -4,8 +4,9 @@ usage: python3 scripts/check_documents.py      (at the top of the repository; ex
 
 The crates stand in docs/ARCHITECTURE.md, docs/PROVED.md and bench/RESULTS.md as crates.txt has them, in its order; each
 name that docs/DEFINITIONS.md explains is a definition's; each file that a document links to or names is there; what
-speaks of the catalogue's columns has those of `fits_write`, in their order; and no two documents share a paragraph.
-What is amiss among the definitions themselves `scripts/definitions.py --check` says.
+speaks of the catalogue's columns has those of `fits_write`, in their order; no two documents share a paragraph; and a
+byte's way through `detect`, as docs/ARCHITECTURE.md draws it, is through at most twelve crates. What is amiss among the
+definitions themselves `scripts/definitions.py --check` says.
 """
 import itertools
 import pathlib
@@ -17,7 +18,8 @@ from definitions import definitions
 
 TOP = pathlib.Path(__file__).resolve().parent.parent
 LONG = 12
-
+# Through so many crates a byte goes at most.
+MOST_CRATES = 12
 
 # On this crate most others stand; it has no code, and isn't told of.
 UNTOLD = "lemmas"
@@ -75,6 +77,37 @@ def other_crates(text):
             yield f"docs/ARCHITECTURE.md says of {name} that it stands on others than crates.txt does"
 
 
+def way(text):
+    """The crates that docs/ARCHITECTURE.md draws on a byte's way, each once, in their order."""
+    return list(dict.fromkeys(re.findall(r"^  │  (\w+)", text["docs/ARCHITECTURE.md"], flags=re.M)))
+
+
+def long_way(text):
+    """Where the way goes through too many crates, or through one that isn't there."""
+    found = way(text)
+    if not 0 < len(found) <= MOST_CRATES:
+        yield f"docs/ARCHITECTURE.md draws a byte's way through {len(found)} crates, and not through 1 to {MOST_CRATES}"
+    for name in found:
+        if name not in crates():
+            yield f"docs/ARCHITECTURE.md draws a byte's way through {name}, which is no crate"
+
+
+def code(name):
+    """The lines of a crate's files that aren't tests."""
+    for path in sorted((TOP / "crates" / name / "src").rglob("*.rt")):
+        if not path.stem.endswith("tests"):
+            yield from path.read_text(encoding="utf-8").splitlines()
+
+
+def count_of_way(text):
+    """How long the way is, in one line."""
+    found = way(text)
+    lines = [line for name in found for line in code(name)]
+    functions = sum(bool(re.match(r"\s*(?:pub(?:\(crate\))? )?fn ", line)) for line in lines)
+    names = ", ".join(found)
+    return f"a byte of detect goes through {len(found)} crates, {functions} functions on {len(lines)} lines: {names}"
+
+
 def unknown_names(text):
     """Names that DEFINITIONS explains and no file of specs/ has."""
     known = {one.name for one in definitions()} | set(crates())
@@ -107,9 +140,11 @@ def shared_paragraphs(text):
 
 def main():
     text = dict(documents())
-    found = [*other_crates(text), *other_columns(), *unknown_names(text), *broken_links(text), *shared_paragraphs(text)]
+    checks = (other_crates, long_way, unknown_names, broken_links, shared_paragraphs)
+    found = [*other_columns(), *(line for check in checks for line in check(text))]
     for line in found:
         print(line)
+    print(count_of_way(text))
     if not found:
         print("the documents have the crates and columns, explain definitions that are there, and share no paragraph")
     return 1 if found else 0

@@ -14,13 +14,12 @@ ghost use Rattle.detect_top.specs.Made.{made_bytes, IsMade};
 use comp_tree::{Plane, Shape};
 use costs::OutOfMemory;
 use dev_io::Sink;
-use tree_products::{Product, WriteFault, make_of, working_plane, write};
 use measure_top::{Measured, put_measured};
 use orders::Order;
 use std::alloc::Global;
 use std::thread::Threads;
 use strip_crew::{Gate, component_tree};
-use tree_products::trial_image;
+use tree_products::{Product, WriteFault, make_of, trial_image, working_plane, write};
 
 /// What stands ready to be written.
 #[derive(Drop)]
