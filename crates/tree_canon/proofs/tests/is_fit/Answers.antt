@@ -38,7 +38,7 @@ returns-then-row-p c = λ top.
 
 pub bounds-node_of-link : goal.bounds-node_of-link
 bounds-node_of-link c =
-    let ns_is = c.node_of-2.ensures ∙ ap (λ (t : ComponentTree). t.node_of) c.requires.tree in
+    let ns_is = c.node_of-2.ensures.same ∙ ap (λ (t : ComponentTree). t.node_of) c.requires.tree in
     omega (
       arith,
       numbers_count c.args.plane.now c.args.connect c.node_of-2.result.now ns_is,
@@ -51,7 +51,7 @@ pub returns-then-up-node : goal.returns-then-up-node
 returns-then-up-node c = λ low.
     let plane : IsPlane c.args.plane.now = c.shape-shape.ensures.pixels ∙ ap (λ (s : Shape). s.width * s.height) c.shape-shape.ensures.same in
     let ns_is = c.node_of.ensures.same ∙ ap (λ (t : ComponentTree). t.node_of) c.requires.tree in
-    let others_is = c.node_of-2.ensures ∙ ap (λ (t : ComponentTree). t.node_of) c.requires.tree in
+    let others_is = c.node_of-2.ensures.same ∙ ap (λ (t : ComponentTree). t.node_of) c.requires.tree in
     let rows_is = c.rows.ensures ∙ ap (λ (t : ComponentTree). t.rows) c.requires.tree in
     when_inside c.args.plane.now c.args.connect c.args.links.now plane c.requires.one_each c.args.p c.requires.pixel c.node_of.result.now ns_is
     c.rows.result.now rows_is
@@ -62,7 +62,7 @@ pub returns-then-row-p-2 : goal.returns-then-row-p-2
 returns-then-row-p-2 c = λ same.
     let plane : IsPlane c.args.plane.now = c.shape-shape.ensures.pixels ∙ ap (λ (s : Shape). s.width * s.height) c.shape-shape.ensures.same in
     let ns_is = c.node_of.ensures.same ∙ ap (λ (t : ComponentTree). t.node_of) c.requires.tree in
-    let others_is = c.node_of-2.ensures ∙ ap (λ (t : ComponentTree). t.node_of) c.requires.tree in
+    let others_is = c.node_of-2.ensures.same ∙ ap (λ (t : ComponentTree). t.node_of) c.requires.tree in
     let rows_is = c.rows.ensures ∙ ap (λ (t : ComponentTree). t.rows) c.requires.tree in
     when_up c.args.plane.now c.args.connect c.args.links.now plane c.requires.one_each c.args.p c.requires.pixel c.node_of.result.now ns_is
     c.rows.result.now rows_is
