@@ -3,6 +3,7 @@
 use super::*;
 use comp_tree::{Connect, Plane, Shape, plain_tree};
 use dev_io::MemSink;
+use fits_write::CELLS_IN_ROW;
 use source_pick::Choice;
 use std::test::Fail;
 
