@@ -49,5 +49,5 @@ pixel_named limits hdu shape encoding n OutOfMemory e readable count h = tt
 pixel_named limits hdu shape encoding n (Fault (PixelRange pixel stored)) e readable count far = record {
   bits = wide_bits limits hdu readable (sym e.size ∙ far.wide);
   inside = omega (arith, far.inside, count);
-  outside = rw (← e.zero, ← e.blank, ← e.limits) far.far;
+  outside = rw (← e.zero, ← e.blank, ← e.within) far.far;
 }

@@ -27,7 +27,7 @@ pub record IsEncodingOf (limits : Limits) (hdu : Hdu) (encoding : Encoding) : Ty
   pub size : encoding.size ≡ size_of hdu
   pub zero : encoding.zero ≡ whole_or_zero hdu.bzero
   pub blank : encoding.blank ≡ blank_of hdu.blank
-  pub limits : encoding.limits ≡ limits
+  pub within : encoding.limits ≡ limits
 
 same_pixels : (limits : Limits) (hdu : Hdu) (encoding : Encoding) (bytes : List ℕ) (p : ℕ) → IsEncodingOf limits hdu encoding → decoded encoding bytes p ≡ pixel_value hdu bytes p
 same_pixels limits hdu encoding bytes p e = rw (e.size, e.zero, e.blank) refl
@@ -108,7 +108,7 @@ plane_stopped limits hdu shape encoding bytes left n (Fault (PixelRange pixel st
     bits = wide_bits limits hdu readable (sym e.size ∙ far.is_far.wide)
 
     far_here : is_out_of_range limits (decoded encoding bytes pixel) ≡ true
-    far_here = subst (λ (l : Limits). is_out_of_range l (decoded encoding bytes pixel) ≡ true) e.limits far.is_far.far
+    far_here = subst (λ (l : Limits). is_out_of_range l (decoded encoding bytes pixel) ≡ true) e.within far.is_far.far
 
     before : (q : ℕ) → q < pixel → is_out_of_range limits (decoded encoding bytes q) ≡ false
-    before q h = subst (λ (l : Limits). is_out_of_range l (decoded encoding bytes q) ≡ false) e.limits (far.before q h)
+    before q h = subst (λ (l : Limits). is_out_of_range l (decoded encoding bytes q) ≡ false) e.within (far.before q h)

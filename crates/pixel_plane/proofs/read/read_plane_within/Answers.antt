@@ -17,7 +17,7 @@ returns-in-Ok-read_pixels-clause-told g c = λ x e.
       size = c.of-encoding.ensures.size;
       zero = c.of-encoding.ensures.zero;
       blank = c.of-encoding.ensures.blank;
-      limits = c.of-encoding.ensures.limits;
+      within = c.of-encoding.ensures.limits;
     } in
     let blank : length c.in-Ok.canvas.values ≡ c.args.shape.width * c.args.shape.height = ap length c.in-Ok.ensures.undefined ∙ length-replicate _ _ in
     rw c.into_plane.ensures
@@ -33,7 +33,7 @@ returns-in-Err-clause-told g c = λ x e.
       size = c.of-encoding.ensures.size;
       zero = c.of-encoding.ensures.zero;
       blank = c.of-encoding.ensures.blank;
-      limits = c.of-encoding.ensures.limits;
+      within = c.of-encoding.ensures.limits;
     } in
     let blank : length c.in-Ok.canvas.values ≡ c.args.shape.width * c.args.shape.height = ap length c.in-Ok.ensures.undefined ∙ length-replicate _ _ in
     plane_stopped c.args.limits.now c.args.hdu.now c.args.shape c.of-encoding.result x _ _ c.in-Err.stop encoding (shape_without_fault c.args.limits.now c.args.hdu.now c.args.shape c.requires)
@@ -46,7 +46,7 @@ returns-in-Err-clause-range g c =
       size = c.of-encoding.ensures.size;
       zero = c.of-encoding.ensures.zero;
       blank = c.of-encoding.ensures.blank;
-      limits = c.of-encoding.ensures.limits;
+      within = c.of-encoding.ensures.limits;
     } in
     let blank : length c.in-Ok.canvas.values ≡ c.args.shape.width * c.args.shape.height = ap length c.in-Ok.ensures.undefined ∙ length-replicate _ _ in
     pixel_named c.args.limits.now c.args.hdu.now c.args.shape c.of-encoding.result _ c.in-Err.stop encoding (shape_without_fault c.args.limits.now c.args.hdu.now c.args.shape c.requires) blank
