@@ -22,7 +22,7 @@ returns-in-Ok-read_pixels-clause-told g c = λ x e.
     let blank : length c.in-Ok.canvas.values ≡ c.args.shape.width * c.args.shape.height = ap length c.in-Ok.ensures.undefined ∙ length-replicate _ _ in
     rw c.into_plane.ensures
     (plane_is_read c.args.limits.now c.args.hdu.now c.args.shape c.of-encoding.result x _ _ encoding (c.in-Ok-read_pixels.ensures.shape ∙ c.in-Ok.ensures.shape)
-    (c.in-Ok-read_pixels.ensures.count ∙ blank) (subst (λ (l : Limits). HasValuesWithin l _) c.of-encoding.ensures.limits c.in-Ok-read_pixels.ensures.in_limits) (c.in-Ok-read_pixels.ensures.told x e))
+    (c.in-Ok-read_pixels.ensures.count ∙ blank) (subst (λ (l : Limits). HasValuesWithin l c.read_pixels.new.canvas.values) c.of-encoding.ensures.limits c.in-Ok-read_pixels.ensures.in_limits) (c.in-Ok-read_pixels.ensures.told x e))
 
 pub read_pixels-requires : goal.read_pixels-requires
 read_pixels-requires g c = blank_in_range _ _ _ c.in-Ok.ensures.undefined
