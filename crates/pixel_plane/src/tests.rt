@@ -312,7 +312,12 @@ fn other_limits_are_kept(rt: HostRuntime) -> Result<(), Fail> {
         ..WIDE
     };
     assert!(rt; check_image(&wider).is_ok());
-    assert!(rt; matches!(check_within(&wider, &limits), Err(ImageFault::ImageTooLarge)));
+    assert!(rt;
+        matches!(
+            check_within(&wider, &limits),
+            Err(ImageFault::ImageTooLarge)
+        )
+    );
     let shape = check_within(&WIDE, &limits)?;
     let bytes = [0, 0, 0, 2, 0, 0, 0, 0, 0, 0, 0, 2, 0, 0, 0, 1];
     let mut source = PlainSource::new(&bytes);

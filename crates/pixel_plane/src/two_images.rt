@@ -13,9 +13,9 @@ ghost use Rattle.pixel_plane.specs.TwoImages.{is_other_shape, verdict_beside, ve
 ghost use Rattle.pixel_plane.specs.TwoReads.{TwoRead, TwoStopped};
 ghost use Rattle.pixel_plane.specs.FirstImages.{FirstImageRead};
 
-use crate::{Limits, check_within};
 use crate::image::{Stop, read_found};
 use crate::input_fault::Fault;
+use crate::{Limits, check_within};
 use comp_tree::{Plane, Shape};
 use dev_io::Source;
 use fits_hdu::{Hdu, find_after, find_hdu};
