@@ -6,14 +6,14 @@ ghost use Rattle.orders.specs.Words.{image_order_of, HasLimits};
 ghost use Rattle.pixel_plane.specs.InputFaults.{IsCutStop};
 ghost use Rattle.run_relation.specs.RunEnds.{IsMadeOf, EndBytes, EndCause};
 ghost use Rattle.run_relation.specs.Headline.{Tells, use_of_input, use_of_output, IsUnused, IsRunOf};
-ghost use Rattle.detect_top.specs.WordAnswers.{asked_by, asked_of, asked_of_all};
+ghost use Rattle.detect_top.specs.WordAnswers.{asked_by, asked_within, asked_of, asked_of_all};
 ghost use Rattle.detect_top.specs.Made.{made_bytes, IsMade, IsOfInput};
 
 use crate::making::{Made, make, make_trial, write_made};
 use dev_io::{Sink, Source};
 use measure_top::measure_input;
 use orders::{Job, Order, Usage, read_order};
-use pixel_plane::{Stop, read_image};
+use pixel_plane::{Limits, Stop, read_image};
 use run_relation::{End, tell};
 use std::alloc::Global;
 use std::thread::Threads;
@@ -24,20 +24,21 @@ fn make_of_input<R: Threads + Sync, S: Source, G: Gate>(
     rt: &R,
     alloc: Global,
     order: Order,
+    limits: &Limits,
     input: &mut S,
     gate: &G,
 ) -> Result<Made, Stop>
     requires limits { HasLimits order }
     requires of_input { IsOfInput order.job }
-    ensures asks { (asked_by (Ok order)).reads ≡ true }
-    ensures told { (bytes : List ℕ) → Tells (asked_by (Ok order)) (S.left input.old) bytes →
-        IsMadeOf (asked_by (Ok order)) bytes (S.left input.old) (S.left input.new)
+    ensures asks { (asked_by limits.now (Ok order)).reads ≡ true }
+    ensures told { (bytes : List ℕ) → Tells (asked_by limits.now (Ok order)) (S.left input.old) bytes →
+        IsMadeOf (asked_by limits.now (Ok order)) bytes (S.left input.old) (S.left input.new)
         made_bytes result }
     ensures writable { IfOk result (λ made. IsMade made) }
     ensures reads { IsErrOf result Stop.ReadFault → Rose (S.faults input.old) (S.faults input.new) }
     ensures ended { IfErr result (λ stop. IsCutStop stop → IsTrue (S.ended input.new)) }
 {
-    let image = match read_image(alloc, input, order.hdu) {
+    let image = match read_image(alloc, input, order.hdu, limits) {
         Ok(image) => image,
         Err(stop) => return Err(stop),
     };
@@ -52,30 +53,31 @@ fn make_by_order<R: Threads + Sync, S: Source, G: Gate>(
     rt: &R,
     alloc: Global,
     order: Order,
+    limits: &Limits,
     input: &mut S,
     gate: &G,
 ) -> Result<Made, Stop>
     requires limits { HasLimits order }
-    ensures told { (bytes : List ℕ) → Tells (asked_by (Ok order)) (S.left input.old) bytes →
-        IsMadeOf (asked_by (Ok order)) bytes (S.left input.old) (S.left input.new)
+    ensures told { (bytes : List ℕ) → Tells (asked_by limits.now (Ok order)) (S.left input.old) bytes →
+        IsMadeOf (asked_by limits.now (Ok order)) bytes (S.left input.old) (S.left input.new)
         made_bytes result }
     ensures writable { IfOk result (λ made. IsMade made) }
     ensures reads { IsErrOf result Stop.ReadFault → Rose (S.faults input.old) (S.faults input.new)
-        × ((asked_by (Ok order)).reads ≡ true) }
+        × ((asked_by limits.now (Ok order)).reads ≡ true) }
     ensures ended { IfErr result (λ stop. IsCutStop stop → IsTrue (S.ended input.new)) }
-    ensures untouched { (asked_by (Ok order)).reads ≡ false →
+    ensures untouched { (asked_by limits.now (Ok order)).reads ≡ false →
         IsUnused (use_of_input S.left S.ended S.faults input.old input.new) }
 {
     match order.job {
         Job::Tree | Job::Filter { .. } | Job::Detect { .. } => {
-            make_of_input(rt, alloc, order, input, gate)
+            make_of_input(rt, alloc, order, limits, input, gate)
         }
         Job::Trial { seed, shape } => match make_trial(rt, alloc, order, seed, shape, gate) {
             Ok(product) => Ok(Made::OfOne(product)),
             Err(_) => Err(Stop::NoMemory),
         },
         Job::Measure { choice, values } => {
-            match measure_input(rt, alloc, order, choice, values, input, gate) {
+            match measure_input(rt, alloc, order, choice, values, limits, input, gate) {
                 Ok(found) => Ok(Made::OfTwo(found)),
                 Err(stop) => Err(stop),
             }
@@ -88,22 +90,23 @@ fn carry_out<R: Threads + Sync, S: Source, O: Sink, G: Gate>(
     rt: &R,
     alloc: Global,
     order: Order,
+    limits: &Limits,
     input: &mut S,
     output: &mut O,
     gate: &G,
 ) -> End
     requires limits { HasLimits order }
-    ensures bytes { (bytes : List ℕ) → Tells (asked_by (Ok order)) (S.left input.old) bytes →
-        EndBytes (asked_by (Ok order)) bytes
+    ensures bytes { (bytes : List ℕ) → Tells (asked_by limits.now (Ok order)) (S.left input.old) bytes →
+        EndBytes (asked_by limits.now (Ok order)) bytes
         (use_of_input S.left S.ended S.faults input.old input.new)
         (use_of_output O.written O.settled O.faults output.old output.new) result }
-    ensures cause { EndCause (asked_by (Ok order))
+    ensures cause { EndCause (asked_by limits.now (Ok order))
         (use_of_input S.left S.ended S.faults input.old input.new)
         (use_of_output O.written O.settled O.faults output.old output.new) result }
-    ensures untouched { (asked_by (Ok order)).reads ≡ false →
+    ensures untouched { (asked_by limits.now (Ok order)).reads ≡ false →
         IsUnused (use_of_input S.left S.ended S.faults input.old input.new) }
 {
-    let made = match make_by_order(rt, alloc, order, input, gate) {
+    let made = match make_by_order(rt, alloc, order, limits, input, gate) {
         Ok(made) => made,
         Err(Stop::Refused(fault)) => return End::Refused(fault),
         Err(Stop::ReadFault) => return End::ReadFault,
@@ -119,23 +122,24 @@ fn work<R: Threads + Sync, S: Source, O: Sink, G: Gate>(
     rt: &R,
     alloc: Global,
     order: Result<Order, Usage>,
+    limits: &Limits,
     input: &mut S,
     output: &mut O,
     gate: &G,
 ) -> End
     requires { IfOk order HasLimits }
-    ensures bytes { (bytes : List ℕ) → Tells (asked_by order) (S.left input.old) bytes →
-        EndBytes (asked_by order) bytes
+    ensures bytes { (bytes : List ℕ) → Tells (asked_by limits.now order) (S.left input.old) bytes →
+        EndBytes (asked_by limits.now order) bytes
         (use_of_input S.left S.ended S.faults input.old input.new)
         (use_of_output O.written O.settled O.faults output.old output.new) result }
-    ensures cause { EndCause (asked_by order)
+    ensures cause { EndCause (asked_by limits.now order)
         (use_of_input S.left S.ended S.faults input.old input.new)
         (use_of_output O.written O.settled O.faults output.old output.new) result }
-    ensures untouched { (asked_by order).reads ≡ false →
+    ensures untouched { (asked_by limits.now order).reads ≡ false →
         IsUnused (use_of_input S.left S.ended S.faults input.old input.new) }
 {
     match order {
-        Ok(order) => carry_out(rt, alloc, order, input, output, gate),
+        Ok(order) => carry_out(rt, alloc, order, limits, input, output, gate),
         Err(usage) => End::Usage(usage),
     }
 }
@@ -145,26 +149,47 @@ fn run_order<R: Threads + Sync, S: Source, O: Sink, N: Sink, G: Gate>(
     rt: &R,
     alloc: Global,
     order: Result<Order, Usage>,
+    limits: &Limits,
     input: &mut S,
     output: &mut O,
     notes: &mut N,
     gate: &G,
 ) -> u8
     requires { IfOk order HasLimits }
-    ensures { IsRunOf (asked_by order)
+    ensures { IsRunOf (asked_by limits.now order)
         (use_of_input S.left S.ended S.faults input.old input.new)
         (use_of_output O.written O.settled O.faults output.old output.new)
         (use_of_output N.written N.settled N.faults notes.old notes.new) result }
 {
-    let end = work(rt, alloc, order, input, output, gate);
+    let end = work(rt, alloc, order, limits, input, output, gate);
     tell(notes, end);
     end.status()
 }
 
-/// Does what the words say, over this input: with `measure` as the first word, sources are detected in one image and measured in another of the
-/// same file; all other words work on one image, or make one.
+/// Does what the words say, over this input, where images have these limits: with `measure` as the first word, sources are detected in one image and measured in
+/// another of the same file; all other words work on one image, or make one. An image that a trial makes has the usual limits.
 ///
 /// All memory is taken before the first byte of output, which comes in pieces of at most 2,880 bytes.
+pub fn run_within<R: Threads + Sync, S: Source, O: Sink, N: Sink, G: Gate>(
+    rt: &R,
+    alloc: Global,
+    words: &[&str],
+    limits: &Limits,
+    input: &mut S,
+    output: &mut O,
+    notes: &mut N,
+    gate: &G,
+) -> u8
+    ensures { IsRunOf (asked_within limits.now (texts words.now))
+        (use_of_input S.left S.ended S.faults input.old input.new)
+        (use_of_output O.written O.settled O.faults output.old output.new)
+        (use_of_output N.written N.settled N.faults notes.old notes.new) result }
+{
+    let order = read_order(words);
+    run_order(rt, alloc, order, limits, input, output, notes, gate)
+}
+
+/// The same where images have the usual limits.
 pub fn run_all<R: Threads + Sync, S: Source, O: Sink, N: Sink, G: Gate>(
     rt: &R,
     alloc: Global,
@@ -179,8 +204,16 @@ pub fn run_all<R: Threads + Sync, S: Source, O: Sink, N: Sink, G: Gate>(
         (use_of_output O.written O.settled O.faults output.old output.new)
         (use_of_output N.written N.settled N.faults notes.old notes.new) result }
 {
-    let order = read_order(words);
-    run_order(rt, alloc, order, input, output, notes, gate)
+    run_within(
+        rt,
+        alloc,
+        words,
+        &Limits::usual(),
+        input,
+        output,
+        notes,
+        gate,
+    )
 }
 
 /// Reads the words of a command that works on one image, or makes one: `measure` is none of these, and is a word at fault. It takes no memory.
@@ -210,5 +243,14 @@ pub fn run<R: Threads + Sync, S: Source, O: Sink, N: Sink, G: Gate>(
         (use_of_output N.written N.settled N.faults notes.old notes.new) result }
 {
     let order = read_words(words);
-    run_order(rt, alloc, order, input, output, notes, gate)
+    run_order(
+        rt,
+        alloc,
+        order,
+        &Limits::usual(),
+        input,
+        output,
+        notes,
+        gate,
+    )
 }

@@ -5,6 +5,7 @@ use Rattle.source_pick.specs.declared.choice.Choice.{Choice}
 use Rattle.orders.specs.declared.words.Order.{Order}
 use Rattle.run_relation.specs.Answers.{end_of}
 use Rattle.run_relation.specs.Headline.{Answer, Asked}
+use Rattle.pixel_plane.specs.declared.limits.Limits.{Limits}
 use Rattle.pixel_plane.specs.TwoImages.{TwoVerdict, two_images, verdict_on_two, taken_for_two, stop_of_two, memory_at_two}
 use Rattle.measure_top.specs.MeasuredCatalogues.{measured_output}
 
@@ -23,14 +24,14 @@ measure_answer_to_verdict order choice values found =
     record { end = end_of (stop_of_two found); output = measure_output order choice values found; taken = taken_for_two found }
 
 -- the verdict on the HDU that an order names, and on that of the values
-abbrev pub verdict_for : Order → (values : ℕ) → List ℕ → TwoVerdict
-verdict_for order values bytes = verdict_on_two bytes (min order.hdu values) (max order.hdu values)
+abbrev pub verdict_for : Limits → Order → (values : ℕ) → List ℕ → TwoVerdict
+verdict_for limits order values bytes = verdict_on_two limits bytes (min order.hdu values) (max order.hdu values)
 
 -- sources are to be detected in the image that the order names, and measured in that of the HDU with the number `values`
-abbrev pub asked_to_measure : Order → Choice → (values : ℕ) → Asked
-asked_to_measure order choice values = record {
+abbrev pub asked_to_measure : Limits → Order → Choice → (values : ℕ) → Asked
+asked_to_measure limits order choice values = record {
   has_order = true;
   reads = true;
-  answer = λ bytes. measure_answer_to_verdict order choice values (verdict_for order values bytes);
-  memory_at = λ bytes. memory_at_two (verdict_for order values bytes);
+  answer = λ bytes. measure_answer_to_verdict order choice values (verdict_for limits order values bytes);
+  memory_at = λ bytes. memory_at_two (verdict_for limits order values bytes);
 }

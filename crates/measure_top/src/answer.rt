@@ -13,7 +13,7 @@ use crate::measuring::{Measured, measure_sources};
 use costs::OutOfMemory;
 use dev_io::Source;
 use orders::Order;
-use pixel_plane::{Stop, TwoPlanes, read_two};
+use pixel_plane::{Limits, Stop, TwoPlanes, read_two};
 use source_pick::Choice;
 use std::alloc::Global;
 use std::thread::Threads;
@@ -55,6 +55,7 @@ pub fn measure_input<R: Threads + Sync, S: Source, G: Gate>(
     order: Order,
     choice: Choice,
     values: u16,
+    limits: &Limits,
     input: &mut S,
     gate: &G,
 ) -> Result<Measured, Stop>
@@ -62,8 +63,8 @@ pub fn measure_input<R: Threads + Sync, S: Source, G: Gate>(
     requires contrast { choice.contrast ≤ 1000 }
     requires apart { values ≢ order.hdu }
     ensures told { (bytes : List ℕ) →
-        Tells (asked_to_measure order choice values) (S.left input.old) bytes →
-        IsMadeOf (asked_to_measure order choice values) bytes
+        Tells (asked_to_measure limits.now order choice values) (S.left input.old) bytes →
+        IsMadeOf (asked_to_measure limits.now order choice values) bytes
         (S.left input.old) (S.left input.new) measured_bytes result }
     ensures writable { IfOk result
         (λ found. IsMeasuredDetection found.shape found.map.items found.cells.items) }
@@ -71,7 +72,7 @@ pub fn measure_input<R: Threads + Sync, S: Source, G: Gate>(
     ensures ended { IfErr result (λ stop. IsCutStop stop → IsTrue (S.ended input.new)) }
 {
     let (first, second) = (order.hdu.min(values), order.hdu.max(values));
-    let planes = match read_two(alloc, input, first, second) {
+    let planes = match read_two(alloc, input, first, second, limits) {
         Ok(planes) => planes,
         Err(stop) => return Err(stop),
     };

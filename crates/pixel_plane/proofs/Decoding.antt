@@ -9,7 +9,8 @@ use Rattle.dev_io.specs.Streams.{Takes, Fills}
 use Rattle.dev_io.specs.Laws.{Takes-after, TakesAtMost-after}
 use Rattle.std.proofs.lemmas.Bool.{cases_lt}
 use Rattle.std.proofs.lemmas.List.{get_or-set_same, get_or-set_other}
-use Rattle.comp_tree.specs.Raster.{value_at, HasValuesInHalfRange}
+use Rattle.comp_tree.specs.Raster.{value_at}
+use Rattle.pixel_plane.specs.WithinLimits.{HasValuesWithin}
 use Rattle.pixel_plane.specs.declared.encoding.Encoding.{Encoding}
 use Rattle.pixel_plane.specs.Decoding.{decoded, IsDecoded, IsFar, FarInside, FarRead, ReadSoFar, BytesStopped, RestStopped, PixelsStopped}
 use Rattle.pixel_plane.specs.declared.fault.PlaneFault.TheVariants.{TruncatedData, PixelRange}
@@ -105,7 +106,7 @@ value_from encoding bytes k =
     ap (λ xs. value_stored_as encoding.zero encoding.blank (stored_number encoding.size xs)) (take_rest bytes (k * encoding.size))
 
 pub far_from : (encoding : Encoding) (bytes : List ℕ) (k : ℕ) (stored : ℤ) → encoding.size ≡ 8
-    → IsFarNumber encoding.zero encoding.blank stored (stored_number encoding.size (take (length bytes - k * encoding.size) (drop (k * encoding.size) bytes)))
+    → IsFarNumber encoding.limits encoding.zero encoding.blank stored (stored_number encoding.size (take (length bytes - k * encoding.size) (drop (k * encoding.size) bytes)))
     → IsFar encoding bytes k stored
 unfolding pixel_at
 far_from encoding bytes k stored wide far =
@@ -114,7 +115,7 @@ far_from encoding bytes k stored wide far =
     record {
       wide = wide;
       number = far.same ∙ ap (stored_number encoding.size) rest;
-      far = sym (ap (λ xs. is_out_of_range (value_stored_as encoding.zero encoding.blank (stored_number encoding.size xs))) rest) ∙ far.far;
+      far = sym (ap (λ xs. is_out_of_range encoding.limits (value_stored_as encoding.zero encoding.blank (stored_number encoding.size xs))) rest) ∙ far.far;
     }
 
 block_within : (first end count size : ℕ) → first ≤ end → end ≤ count → first * size + (end - first) * size ≤ count * size
@@ -192,7 +193,7 @@ block_stopped encoding bytes left left' first end count n stop order within size
 far_read : (encoding : Encoding) (bytes : List ℕ) (left : Option (List ℕ)) (first end count : ℕ) (buf : List ℕ) (old new : List (Option ℤ)) (pixel : ℕ)
     (stored : ℤ) → end ≤ count
     → buf ≡ take ((end - first) * encoding.size) (drop (first * encoding.size) bytes)
-    → ((q : ℕ) → q < first → value_at old q ≡ decoded encoding bytes q) → FarInside encoding buf first end old new pixel stored → HasValuesInHalfRange new
+    → ((q : ℕ) → q < first → value_at old q ≡ decoded encoding bytes q) → FarInside encoding buf first end old new pixel stored → HasValuesWithin encoding.limits new
     → Takes bytes left (count * encoding.size) → FarRead encoding count bytes left pixel stored
 far_read encoding bytes left first end count buf old new pixel stored within same before far near takes = record {
   inside = omega (arith, far.inside, within);
@@ -200,11 +201,11 @@ far_read encoding bytes left first end count buf old new pixel stored within sam
     wide = far.is_far.wide;
     number = far.is_far.number ∙ ap (λ xs. stored_number encoding.size (drop ((pixel - first) * encoding.size) xs)) same
         ∙ number_there encoding bytes first pixel end far.from far.inside;
-    far = sym (ap is_out_of_range (ap (λ xs. decoded encoding xs (pixel - first)) same ∙ decoded_there encoding bytes first pixel end far.from far.inside))
+    far = sym (ap (is_out_of_range encoding.limits) (ap (λ xs. decoded encoding xs (pixel - first)) same ∙ decoded_there encoding bytes first pixel end far.from far.inside))
         ∙ far.is_far.far;
   };
-  before = λ q h. sym (ap is_out_of_range (read_up_to encoding bytes first end pixel buf old new (omega (arith, far.inside)) same before far.decoded_before q
-      h)) ∙ none_far new q near;
+  before = λ q h. sym (ap (is_out_of_range encoding.limits) (read_up_to encoding bytes first end pixel buf old new (omega (arith, far.inside)) same before far.decoded_before q
+      h)) ∙ none_far encoding.limits new q near;
   takes = takes;
 }
 
@@ -212,7 +213,7 @@ far_read encoding bytes left first end count buf old new pixel stored within sam
 pub far_stopped : (encoding : Encoding) (bytes : List ℕ) (left left' left'' : Option (List ℕ)) (first end count : ℕ) (buf : List ℕ) (old new : List (Option ℤ))
     (pixel : ℕ) (stored : ℤ)
     (stop : PlaneStop) → first ≤ end → end ≤ count → length buf ≡ (end - first) * encoding.size → ReadSoFar encoding bytes left old first
-    → Fills (drop (first * encoding.size) bytes) left' (length buf) buf → FarInside encoding buf first end old new pixel stored → HasValuesInHalfRange new
+    → Fills (drop (first * encoding.size) bytes) left' (length buf) buf → FarInside encoding buf first end old new pixel stored → HasValuesWithin encoding.limits new
     → RestStopped ((count - end) * encoding.size) pixel stored (drop (end * encoding.size) bytes) left'' stop → PixelsStopped encoding count bytes left'' stop
 far_stopped encoding bytes left left' left'' first end count buf old new pixel stored stop order within size before fills far near stopped = go stop stopped
   where

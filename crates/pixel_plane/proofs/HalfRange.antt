@@ -1,9 +1,10 @@
--- The values of a plane that is read.
+-- The values of a plane that is read are within its limits.
 use Rattle.std.proofs.Common.{◌≡◌, ◌∙◌, ℕ, ◌<◌, inl, inr, true, false, List, length, get_or, set, replicate, refl, sym, ap, subst, arith, ℤ}
 use Rattle.std.specs.Prelude.{slice_get, IfSome, nat_lt}
 use Rattle.std.specs.declared.option.Option.{Option}
 use Rattle.std.specs.Prelude.{Some, None}
 use Rattle.std.proofs.lemmas.Bool.{cases_lt}
+use Rattle.std.proofs.lemmas.Int.{ints}
 use Rattle.std.proofs.lemmas.List.{length-set, get_or-set_same, get_or-set_other, get_or-replicate, length-replicate, get_or_past}
 use Rattle.std.proofs.lemmas.Option.{slice_get_within, get_or_from_slice_get, slice_get-get_or}
 use Rattle.std.specs.List.{position, position_or_len}
@@ -12,21 +13,23 @@ use Rattle.std.proofs.lemmas.List.Quantifiers.{position-Some}
 use Rattle.std.proofs.lemmas.Bool.Decides.{nat_tests}
 use Rattle.comp_tree.specs.Limits.{IsInHalfRange}
 use Rattle.comp_tree.specs.Raster.{HasValuesInHalfRange, value_at}
+use Rattle.pixel_plane.specs.declared.limits.Limits.{Limits}
+use Rattle.pixel_plane.specs.WithinLimits.{IsInRange, HasValuesWithin}
 use Rattle.comp_tree.proofs.Exported.{int_le-from}
 use Rattle.pixel_plane.specs.Stored.{is_out_of_range}
 
 there : (values : List (Option ℤ)) (p : ℕ) (v : ℤ) → p < length values → get_or values p None ≡ Some v → slice_get values p ≡ Some (Some v)
 there values p v within is = slice_get-get_or values p None within ∙ ap Some is
 
-is_in_half_range : (value : Option ℤ) (v : ℤ) → IfSome value (λ x. IsInHalfRange x) → value ≡ Some v → IsInHalfRange v
-is_in_half_range (Some x) v h is = let same : x ≡ v = cc in subst IsInHalfRange same h
-is_in_half_range None v h is = absurd (cc)
+is_in_range : (limits : Limits) (value : Option ℤ) (v : ℤ) → IfSome value (λ x. IsInRange limits x) → value ≡ Some v → IsInRange limits v
+is_in_range limits (Some x) v h is = let same : x ≡ v = cc in subst (IsInRange limits) same h
+is_in_range limits None v h is = absurd (cc)
 
 -- a plane without values has none that is not so
-pub blank_in_half_range : (n : ℕ) (values : List (Option ℤ)) → values ≡ replicate n None → HasValuesInHalfRange values
-blank_in_half_range n values blank = record { each = each }
+pub blank_in_range : (limits : Limits) (n : ℕ) (values : List (Option ℤ)) → values ≡ replicate n None → HasValuesWithin limits values
+blank_in_range limits n values blank = record { each = each }
   where
-    each : (p : ℕ) (v : ℤ) → slice_get values p ≡ Some (Some v) → IsInHalfRange v
+    each : (p : ℕ) (v : ℤ) → slice_get values p ≡ Some (Some v) → IsInRange limits v
     each p v is =
         let within = slice_get_within values p (Some v) is in
         let nothing : Option ℤ = None in
@@ -36,57 +39,70 @@ blank_in_half_range n values blank = record { each = each }
         absurd (cc)
 
 -- one value more
-pub set_in_half_range : (values : List (Option ℤ)) (p : ℕ) (value : Option ℤ) → IfSome value (λ v. IsInHalfRange v) → HasValuesInHalfRange values
-    → HasValuesInHalfRange (set values p value)
-set_in_half_range values p value here all = record { each = each }
+pub set_in_range : (limits : Limits) (values : List (Option ℤ)) (p : ℕ) (value : Option ℤ) → IfSome value (λ v. IsInRange limits v) → HasValuesWithin limits values
+    → HasValuesWithin limits (set values p value)
+set_in_range limits values p value here all = record { each = each }
   where
-    by : (q : ℕ) (v : ℤ) → q < length values → get_or (set values p value) q None ≡ Some v → IsInHalfRange v
+    by : (q : ℕ) (v : ℤ) → q < length values → get_or (set values p value) q None ≡ Some v → IsInRange limits v
     by q v within is = elim (cases_lt q p) [
       | inl less ↦ all.each q v (there values q v within (sym (get_or-set_other values p q value None (omega arith)) ∙ is))
       | inr more ↦ elim (cases_lt p q) [
         | inl greater ↦ all.each q v (there values q v within (sym (get_or-set_other values p q value None (omega arith)) ∙ is))
         | inr same ↦ let at : q ≡ p =
-            omega arith in is_in_half_range value v here
+            omega arith in is_in_range limits value v here
             (sym (get_or-set_same values p value None (omega arith)) ∙ sym (ap (λ i. get_or (set values p value) i None) at) ∙ is)
       ]
     ]
 
-    each : (q : ℕ) (v : ℤ) → slice_get (set values p value) q ≡ Some (Some v) → IsInHalfRange v
+    each : (q : ℕ) (v : ℤ) → slice_get (set values p value) q ≡ Some (Some v) → IsInRange limits v
     each q v is =
         by q v (omega (arith, slice_get_within (set values p value) q (Some v) is, length-set values p value))
         (get_or_from_slice_get (set values p value) q (Some v) None is)
 
+-- what is within the limits is in half the range of planes
+pub in_half_range : (limits : Limits) (values : List (Option ℤ)) → HasValuesWithin limits values → HasValuesInHalfRange values
+in_half_range limits values all = record { each = each }
+  where
+    each : (p : ℕ) (v : ℤ) → slice_get values p ≡ Some (Some v) → IsInHalfRange v
+    each p v is =
+        let it = all.each p v is in
+        let low = it.low in
+        let high = it.high in
+        let least = limits.range.planes_low in
+        let greatest = limits.range.planes_high in
+        record { low = omega (arith, ints); high = omega (arith, ints) }
+
 -- ---- no value of such a plane is out of range
 
-near : (value : ℤ) → IsInHalfRange value → is_out_of_range (Some value) ≡ false
-near value h = rw (int_le-from _ _ h.low, int_le-from _ _ h.high) refl
+near : (limits : Limits) (value : ℤ) → IsInRange limits value → is_out_of_range limits (Some value) ≡ false
+near limits value h = rw (int_le-from _ _ h.low, int_le-from _ _ h.high) refl
 
-not_far : (value : Option ℤ) → ((v : ℤ) → value ≡ Some v → IsInHalfRange v) → is_out_of_range value ≡ false
-not_far None h = refl
-not_far (Some v) h = near v (h v refl)
+not_far : (limits : Limits) (value : Option ℤ) → ((v : ℤ) → value ≡ Some v → IsInRange limits v) → is_out_of_range limits value ≡ false
+not_far limits None h = refl
+not_far limits (Some v) h = near limits v (h v refl)
 
-pub none_far : (values : List (Option ℤ)) (p : ℕ) → HasValuesInHalfRange values → is_out_of_range (value_at values p) ≡ false
-none_far values p all = elim (cases_lt p (length values)) [
-  | inl within ↦ not_far (value_at values p) (λ v is. all.each p v (there values p v within is))
+pub none_far : (limits : Limits) (values : List (Option ℤ)) (p : ℕ) → HasValuesWithin limits values → is_out_of_range limits (value_at values p) ≡ false
+none_far limits values p all = elim (cases_lt p (length values)) [
+  | inl within ↦ not_far limits (value_at values p) (λ v is. all.each p v (there values p v within is))
   | inr past ↦ let none : value_at values p ≡ None = get_or_past values p None past in rw none refl
 ]
 
 -- ---- the least pixel out of range
 
-pub no_position : (values : List (Option ℤ)) → ((p : ℕ) → is_out_of_range (value_at values p) ≡ false) → position is_out_of_range values ≡ None
-no_position values none = go (position is_out_of_range values) refl
+pub no_position : (limits : Limits) (values : List (Option ℤ)) → ((p : ℕ) → is_out_of_range limits (value_at values p) ≡ false) → position (is_out_of_range limits) values ≡ None
+no_position limits values none = go (position (is_out_of_range limits) values) refl
   where
-    go : (found : Option ℕ) → position is_out_of_range values ≡ found → position is_out_of_range values ≡ None
+    go : (found : Option ℕ) → position (is_out_of_range limits) values ≡ found → position (is_out_of_range limits) values ≡ None
     go None e = e
     go (Some p) e =
-        let at = position-Some is_out_of_range values p None e in
-        let yes : is_out_of_range (value_at values p) ≡ true = at.1 in
-        let no : is_out_of_range (value_at values p) ≡ false = none p in
+        let at = position-Some (is_out_of_range limits) values p None e in
+        let yes : is_out_of_range limits (value_at values p) ≡ true = at.1 in
+        let no : is_out_of_range limits (value_at values p) ≡ false = none p in
         absurd (cc)
 
-pub position_at : (values : List (Option ℤ)) (p : ℕ) → p < length values → is_out_of_range (value_at values p) ≡ true
-    → ((q : ℕ) → q < p → is_out_of_range (value_at values q) ≡ false) → position is_out_of_range values ≡ Some p
-position_at values p within far before =
-    let here : position_or_len is_out_of_range values ≡ p = position_or_len_is is_out_of_range values p None (omega arith) before (λ h. far) in
-    let inside : nat_lt (position_or_len is_out_of_range values) (length values) ≡ true = grind (arith, nat_tests) in
+pub position_at : (limits : Limits) (values : List (Option ℤ)) (p : ℕ) → p < length values → is_out_of_range limits (value_at values p) ≡ true
+    → ((q : ℕ) → q < p → is_out_of_range limits (value_at values q) ≡ false) → position (is_out_of_range limits) values ≡ Some p
+position_at limits values p within far before =
+    let here : position_or_len (is_out_of_range limits) values ≡ p = position_or_len_is (is_out_of_range limits) values p None (omega arith) before (λ h. far) in
+    let inside : nat_lt (position_or_len (is_out_of_range limits) values) (length values) ≡ true = grind (arith, nat_tests) in
     rw inside (ap Some here)

@@ -12,6 +12,7 @@ use Rattle.fits_hdu.specs.Finding.{find_of}
 use Rattle.fits_hdu.specs.Sizes.{number_bytes}
 use Rattle.fits_hdu.proofs.Exported.{image_data}
 use Rattle.pixel_plane.specs.declared.fault.ImageFault.{ImageFault}
+use Rattle.pixel_plane.specs.declared.limits.Limits.{Limits}
 use Rattle.pixel_plane.specs.Images.{checked, image_fault, shape_unless, has_no_pixels}
 use Rattle.pixel_plane.specs.Reading.{image_bytes}
 use Rattle.pixel_plane.proofs.Readable.{IsReadable, readable, shape_without_fault}
@@ -33,11 +34,11 @@ shape_kept (Some fault) made s h = absurd (cc)
 shape_kept None None s h = absurd (cc)
 shape_kept None (Some t) s h = let same : t ≡ s = cc in ap Some same
 
-has_sides : (hdu : Hdu) (shape : Shape) → checked hdu ≡ Ok shape → HasSides shape hdu.width hdu.height
+has_sides : (limits : Limits) (hdu : Hdu) (shape : Shape) → checked limits hdu ≡ Ok shape → HasSides shape hdu.width hdu.height
 unfolding checked shape_of
-has_sides hdu shape is =
+has_sides limits hdu shape is =
     sides_if hdu.width hdu.height (fits_limits hdu.width hdu.height) (limits_from hdu.width hdu.height) shape
-    (shape_kept (image_fault hdu) (shape_of hdu.width hdu.height) shape is)
+    (shape_kept (image_fault limits hdu) (shape_of hdu.width hdu.height) shape is)
 
 record HasPlane (hdu : Hdu) : Type 0 where
   two : 2 ≤ hdu.naxis
@@ -59,11 +60,11 @@ has_plane hdu h =
     not_below n h = grind (arith, nat_tests)
 
 -- the pixels of an HDU that was found, and is an image which can be read, take all its data
-pub all_data : (bytes : List ℕ) (n : ℕ) (hdu : Hdu) (head : ℕ) (shape : Shape) → find_of bytes n ≡ found hdu head → checked hdu ≡ Ok shape
+pub all_data : (limits : Limits) (bytes : List ℕ) (n : ℕ) (hdu : Hdu) (head : ℕ) (shape : Shape) → find_of bytes n ≡ found hdu head → checked limits hdu ≡ Ok shape
     → image_bytes hdu shape ≡ hdu.data_bytes
-all_data bytes n hdu head shape is image =
-    let tests : IsReadable hdu = readable hdu (shape_without_fault hdu shape image) in
-    let sides : HasSides shape hdu.width hdu.height = has_sides hdu shape image in
+all_data limits bytes n hdu head shape is image =
+    let tests : IsReadable hdu = readable limits hdu (shape_without_fault limits hdu shape image) in
+    let sides : HasSides shape hdu.width hdu.height = has_sides limits hdu shape image in
     let plane : HasPlane hdu = has_plane hdu tests.pixels in
     let size : hdu.data_bytes ≡ number_bytes hdu.bitpix * (hdu.width * hdu.height) = image_data bytes n hdu head is tests.kind plane.two plane.flat in
     rw (sides.columns, sides.rows) (mul_comm (hdu.width * hdu.height) (number_bytes hdu.bitpix) ∙ sym size)

@@ -5,6 +5,7 @@ mod Decoding
 mod Planes
 mod Naming
 mod Narrow
+mod OneLimits
 mod ImageData
 mod Images
 mod TwoHdus

@@ -5,6 +5,7 @@ use Rattle.std.specs.Prelude.{None}
 use Rattle.comp_tree.specs.declared.shape.Shape.{Shape}
 use Rattle.fits_hdu.specs.declared.answer.Hdu.{Hdu}
 use Rattle.pixel_plane.specs.declared.encoding.Encoding.{Encoding}
+use Rattle.pixel_plane.specs.declared.limits.Limits.{Limits}
 use Rattle.pixel_plane.specs.declared.fault.PlaneFault.TheVariants.{TruncatedData, PixelRange}
 use Rattle.pixel_plane.specs.declared.fault.PlaneStop.{PlaneStop}
 use Rattle.pixel_plane.specs.declared.fault.PlaneStop.TheVariants.{Fault, ReadFault, OutOfMemory}
@@ -27,7 +28,7 @@ unfolding pixel_at
 far_pixel encoding bytes first end count old new pixel stored within far = record {
   wide = far.is_far.wide;
   inside = omega (arith, far.inside, within);
-  far = ap (λ number. is_out_of_range (value_stored_as encoding.zero encoding.blank number)) far.is_far.number ∙ far.is_far.far;
+  far = ap (λ number. is_out_of_range encoding.limits (value_stored_as encoding.zero encoding.blank number)) far.is_far.number ∙ far.is_far.far;
 }
 
 pub far_named : (encoding : Encoding) (bytes : List ℕ) (first end count : ℕ) (old new : List (Option ℤ)) (pixel : ℕ) (stored : ℤ) (stop : PlaneStop)
@@ -40,13 +41,13 @@ far_named encoding bytes first end count old new pixel stored (Fault (PixelRange
     subst (λ k. IsFarPixel encoding count k number) (sym same)
     (subst (IsFarPixel encoding count pixel) (sym same_number) (far_pixel encoding bytes first end count old new pixel stored within far))
 
-pub pixel_named : (hdu : Hdu) (shape : Shape) (encoding : Encoding) (n : ℕ) (stop : PlaneStop) → IsEncodingOf hdu encoding → image_fault hdu ≡ None
-    → n ≡ shape.width * shape.height → NamesFar encoding n stop → NamesPixel hdu shape stop
-pixel_named hdu shape encoding n (Fault TruncatedData) e readable count h = tt
-pixel_named hdu shape encoding n ReadFault e readable count h = tt
-pixel_named hdu shape encoding n OutOfMemory e readable count h = tt
-pixel_named hdu shape encoding n (Fault (PixelRange pixel stored)) e readable count far = record {
-  bits = wide_bits hdu readable (sym e.size ∙ far.wide);
+pub pixel_named : (limits : Limits) (hdu : Hdu) (shape : Shape) (encoding : Encoding) (n : ℕ) (stop : PlaneStop) → IsEncodingOf limits hdu encoding → image_fault limits hdu ≡ None
+    → n ≡ shape.width * shape.height → NamesFar encoding n stop → NamesPixel limits hdu shape stop
+pixel_named limits hdu shape encoding n (Fault TruncatedData) e readable count h = tt
+pixel_named limits hdu shape encoding n ReadFault e readable count h = tt
+pixel_named limits hdu shape encoding n OutOfMemory e readable count h = tt
+pixel_named limits hdu shape encoding n (Fault (PixelRange pixel stored)) e readable count far = record {
+  bits = wide_bits limits hdu readable (sym e.size ∙ far.wide);
   inside = omega (arith, far.inside, count);
-  outside = rw (← e.zero, ← e.blank) far.far;
+  outside = rw (← e.zero, ← e.blank, ← e.within) far.far;
 }

@@ -6,7 +6,9 @@ use Rattle.std.specs.Option.{option_eq}
 use Rattle.std.specs.Ordering.{int_eq}
 use Rattle.std.proofs.lemmas.Int.{ints}
 use Rattle.comp_tree.proofs.Exported.{int_eq-true, int_eq_refl}
-use Rattle.comp_tree.specs.Limits.{IsInHalfRange, IsWithinRange}
+use Rattle.comp_tree.specs.Limits.{IsWithinRange}
+use Rattle.pixel_plane.specs.declared.limits.Limits.{Limits}
+use Rattle.pixel_plane.specs.WithinLimits.{IsInRange}
 use Rattle.pixel_plane.specs.Stored.{value_stored_as}
 
 -- from -2 ^ 32 to 2 ^ 32
@@ -17,8 +19,10 @@ pub record IsNear (v : ℤ) : Type 0 where
 pub read_near : (v : ℤ) → IsNear v → to_z w64 (of_z w64 v) ≡ v
 read_near v h = let low = h.low in let high = h.high in omega (arith, ints)
 
-pub sum_in_half : (a b : ℤ) → IsNear a → IsNear b → IsInHalfRange (a +ℤ b)
-sum_in_half a b h k =
+pub sum_in_range : (limits : Limits) (a b : ℤ) → IsNear a → IsNear b → IsInRange limits (a +ℤ b)
+sum_in_range limits a b h k =
+    let least = limits.range.narrow_low in
+    let greatest = limits.range.narrow_high in
     let first = h.low in let second = k.low in let third = h.high in let fourth = k.high in
     record { low = omega (arith, ints); high = omega (arith, ints) }
 

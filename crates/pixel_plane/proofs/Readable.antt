@@ -7,13 +7,14 @@ use Rattle.std.proofs.lemmas.Bool.{and_parts, or_cases, not-false}
 use Rattle.std.specs.Ordering.{int_eq}
 use Rattle.comp_tree.proofs.Exported.{int_eq-true, int_le-true, shape_of_sides}
 use Rattle.comp_tree.specs.declared.shape.Shape.{Shape}
-use Rattle.comp_tree.specs.Shapes.{fits_limits}
 use Rattle.fits_card.specs.declared.number.Whole.{Whole}
 use Rattle.fits_card.specs.declared.number.Whole.TheVariants.{Is, NotWhole, Beyond, Unreadable}
 use Rattle.fits_hdu.specs.declared.answer.Hdu.{Hdu}
 use Rattle.pixel_plane.specs.declared.fault.ImageFault.{ImageFault}
 use Rattle.pixel_plane.specs.declared.fault.ImageFault.TheVariants.{NotImage, NoImage, ImageTooLarge, Bitpix, Bscale, Bzero, Blank}
 use Rattle.fits_hdu.specs.Headers.{is_other}
+use Rattle.pixel_plane.specs.declared.limits.Limits.{Limits}
+use Rattle.pixel_plane.specs.ImageLimits.{fits_within}
 use Rattle.pixel_plane.specs.Images.{checked, image_fault, first_fault, has_no_pixels, is_stored_size, is_one, is_zero_point, is_blank_or_none}
 use Rattle.pixel_plane.specs.Stored.{size_of, whole_or_zero}
 use Rattle.pixel_plane.specs.Sizes.{is_number_size}
@@ -36,11 +37,11 @@ pub record IsReadable (hdu : Hdu) : Type 0 where
   pub size : is_stored_size hdu.bitpix ≡ true
   pub zero : is_zero_point hdu.bzero ≡ true
 
-pub readable : (hdu : Hdu) → image_fault hdu ≡ None → IsReadable hdu
+pub readable : (limits : Limits) (hdu : Hdu) → image_fault limits hdu ≡ None → IsReadable hdu
 unfolding image_fault
-readable hdu h =
+readable limits hdu h =
     let tests =
-    none_passed (is_other hdu.kind) (has_no_pixels hdu) (not (fits_limits hdu.width hdu.height)) (not (is_stored_size hdu.bitpix)) (not (is_one hdu.bscale))
+    none_passed (is_other hdu.kind) (has_no_pixels hdu) (not (fits_within limits hdu.width hdu.height)) (not (is_stored_size hdu.bitpix)) (not (is_one hdu.bscale))
     (not (is_zero_point hdu.bzero)) (not (is_blank_or_none hdu.blank)) h in
     record { kind = tests.0; pixels = tests.1; size = not-false _ tests.2; zero = not-false _ tests.3 }
 
@@ -61,8 +62,8 @@ size_from bitpix (inr (inr (inl e))) = rw e refl
 size_from bitpix (inr (inr (inr e))) = rw e refl
 
 -- the stored numbers have one, two, four or eight bytes
-pub size_fits : (hdu : Hdu) → image_fault hdu ≡ None → is_number_size (size_of hdu) ≡ true
-size_fits hdu h = size_from hdu.bitpix (bits_from hdu.bitpix (readable hdu h).size)
+pub size_fits : (limits : Limits) (hdu : Hdu) → image_fault limits hdu ≡ None → is_number_size (size_of hdu) ≡ true
+size_fits limits hdu h = size_from hdu.bitpix (bits_from hdu.bitpix (readable limits hdu h).size)
 
 wide_from : (bitpix : ℤ) → bitpix ≡ pos 8 ⊎ (bitpix ≡ pos 16 ⊎ (bitpix ≡ pos 32 ⊎ bitpix ≡ pos 64)) → unsigned_abs bitpix / 8 ≡ 8 → bitpix ≡ pos 64
 wide_from bitpix (inl e) h = let k : 1 ≡ 8 = sym (ap (λ b. unsigned_abs b / 8) e) ∙ h in absurd (omega (arith, k))
@@ -71,8 +72,8 @@ wide_from bitpix (inr (inr (inl e))) h = let k : 4 ≡ 8 = sym (ap (λ b. unsign
 wide_from bitpix (inr (inr (inr e))) h = e
 
 -- eight bytes are 64 bits
-pub wide_bits : (hdu : Hdu) → image_fault hdu ≡ None → size_of hdu ≡ 8 → hdu.bitpix ≡ pos 64
-wide_bits hdu h wide = wide_from hdu.bitpix (bits_from hdu.bitpix (readable hdu h).size) wide
+pub wide_bits : (limits : Limits) (hdu : Hdu) → image_fault limits hdu ≡ None → size_of hdu ≡ 8 → hdu.bitpix ≡ pos 64
+wide_bits limits hdu h wide = wide_from hdu.bitpix (bits_from hdu.bitpix (readable limits hdu h).size) wide
 
 pub record IsNear (zero : ℤ) : Type 0 where
   pub low : neg_ℤ (pos (2 ^ 32)) ≤ℤ zero
@@ -85,23 +86,23 @@ near_from Beyond h = absurd (cc)
 near_from Unreadable h = absurd (cc)
 
 -- what is added to each stored number is from -2 ^ 32 to 2 ^ 32
-pub zero_is_near : (hdu : Hdu) → image_fault hdu ≡ None → IsNear (whole_or_zero hdu.bzero)
-zero_is_near hdu h = near_from hdu.bzero (readable hdu h).zero
+pub zero_is_near : (limits : Limits) (hdu : Hdu) → image_fault limits hdu ≡ None → IsNear (whole_or_zero hdu.bzero)
+zero_is_near limits hdu h = near_from hdu.bzero (readable limits hdu h).zero
 
 -- ---- the shape
 
 -- an answer with the first fault or with the sides is the right one
-pub checked_from : (hdu : Hdu) (r : Result Shape ImageFault) → result_err r ≡ image_fault hdu
-    → IfOk r (λ shape. (shape.width ≡ hdu.width) × (shape.height ≡ hdu.height)) → r ≡ checked hdu
+pub checked_from : (limits : Limits) (hdu : Hdu) (r : Result Shape ImageFault) → result_err r ≡ image_fault limits hdu
+    → IfOk r (λ shape. (shape.width ≡ hdu.width) × (shape.height ≡ hdu.height)) → r ≡ checked limits hdu
 unfolding checked
-checked_from hdu (Err fault) h sides = rw (sym h) refl
-checked_from hdu (Ok shape) h sides = rw (sym h, shape_of_sides hdu.width hdu.height shape sides.0 sides.1) refl
+checked_from limits hdu (Err fault) h sides = rw (sym h) refl
+checked_from limits hdu (Ok shape) h sides = rw (sym h, shape_of_sides hdu.width hdu.height shape sides.0 sides.1) refl
 
 -- an image with a shape has no fault
-pub shape_without_fault : (hdu : Hdu) (shape : Shape) → checked hdu ≡ Ok shape → image_fault hdu ≡ None
+pub shape_without_fault : (limits : Limits) (hdu : Hdu) (shape : Shape) → checked limits hdu ≡ Ok shape → image_fault limits hdu ≡ None
 unfolding checked
-shape_without_fault hdu shape h = go (image_fault hdu) refl
+shape_without_fault limits hdu shape h = go (image_fault limits hdu) refl
   where
-    go : (fault : Option ImageFault) → image_fault hdu ≡ fault → image_fault hdu ≡ None
+    go : (fault : Option ImageFault) → image_fault limits hdu ≡ fault → image_fault limits hdu ≡ None
     go None e = e
-    go (Some fault) e = let k : checked hdu ≡ Err fault = rw e refl in absurd (cc)
+    go (Some fault) e = let k : checked limits hdu ≡ Err fault = rw e refl in absurd (cc)

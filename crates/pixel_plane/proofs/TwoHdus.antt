@@ -16,6 +16,7 @@ use Rattle.fits_hdu.specs.declared.fault.HduStop.TheVariants.{ReadFault}
 use Rattle.fits_hdu.specs.Headers.{Found, found, refused}
 use Rattle.fits_hdu.specs.Finding.{find_of, taken_by, find_after_of}
 use Rattle.fits_hdu.specs.Streams.{Stopped, Finds}
+use Rattle.pixel_plane.specs.declared.limits.Limits.{Limits}
 use Rattle.pixel_plane.specs.declared.fault.ImageFault.{ImageFault}
 use Rattle.pixel_plane.specs.Images.{checked}
 use Rattle.pixel_plane.specs.Reading.{image_bytes}
@@ -54,18 +55,18 @@ shape_is_same s t check h is = same_shapes s t (subst (λ r. is_other_shape s (r
 
 -- The later HDU isn't found.
 
-header_shape_is : (bytes : List ℕ) (number : ℕ) (search : Found) → find_of bytes number ≡ search → header_shape bytes number ≡ shape_found search
+header_shape_is : (limits : Limits) (bytes : List ℕ) (number : ℕ) (search : Found) → find_of bytes number ≡ search → header_shape limits bytes number ≡ shape_found limits search
 unfolding header_shape
-header_shape_is bytes number search is = ap shape_found is
+header_shape_is limits bytes number search is = ap (shape_found limits) is
 
-pub two_is : (bytes : List ℕ) (at number : ℕ) (first : Raster) (head end : ℕ) (search : Found) → verdict_on bytes at ≡ image first head end
+pub two_is : (limits : Limits) (bytes : List ℕ) (at number : ℕ) (first : Raster) (head end : ℕ) (search : Found) → verdict_on limits bytes at ≡ image first head end
     → find_of bytes number ≡ search
-    → verdict_on_two bytes at number ≡ verdict_beside first head end (verdict_on_found bytes search) (shape_found search)
+    → verdict_on_two limits bytes at number ≡ verdict_beside first head end (verdict_on_found limits bytes search) (shape_found limits search)
 unfolding verdict_on_two
-two_is bytes at number first head end search earlier is =
-    ap (λ v. combined_verdict v (verdict_on bytes number) (header_shape bytes number)) earlier
-    ∙ ap (λ v. verdict_beside first head end v (header_shape bytes number)) (verdict_is bytes number search is)
-    ∙ ap (verdict_beside first head end (verdict_on_found bytes search)) (header_shape_is bytes number search is)
+two_is limits bytes at number first head end search earlier is =
+    ap (λ v. combined_verdict v (verdict_on limits bytes number) (header_shape limits bytes number)) earlier
+    ∙ ap (λ v. verdict_beside first head end v (header_shape limits bytes number)) (verdict_is limits bytes number search is)
+    ∙ ap (verdict_beside first head end (verdict_on_found limits bytes search)) (header_shape_is limits bytes number search is)
 
 most_unless : (bytes : List ℕ) (hdu : Hdu) (first : Raster) (head end head' n : ℕ) (shape : Shape) (pixel : Option ℕ) (other : Bool) → n ≤ head'
     → is_other_shape first.shape (Some shape) ≡ other
@@ -82,25 +83,25 @@ most_cut bytes hdu first head end head' long n shape pixel true true few within 
 most_cut bytes hdu first head end head' long n shape pixel true false few within e = rw e within
 most_cut bytes hdu first head end head' long n shape pixel false other few within e = most_unless bytes hdu first head end head' n shape pixel other few e
 
-most_behind : (bytes : List ℕ) (hdu : Hdu) (first : Raster) (head end head' n : ℕ) (shape : Result Shape ImageFault) → n ≤ head' → n ≤ length bytes
-    → n ≤ taken_for_two (verdict_beside first head end (verdict_on_hdu bytes hdu head' shape) (result_ok shape))
-most_behind bytes hdu first head end head' n (Err fault) few within = few
-most_behind bytes hdu first head end head' n (Ok shape) few within =
-    most_cut (drop head' bytes) hdu first head end head' (length bytes) n shape (first_out_of_range hdu shape (drop head' bytes))
+most_behind : (limits : Limits) (bytes : List ℕ) (hdu : Hdu) (first : Raster) (head end head' n : ℕ) (shape : Result Shape ImageFault) → n ≤ head' → n ≤ length bytes
+    → n ≤ taken_for_two (verdict_beside first head end (verdict_on_hdu limits bytes hdu head' shape) (result_ok shape))
+most_behind limits bytes hdu first head end head' n (Err fault) few within = few
+most_behind limits bytes hdu first head end head' n (Ok shape) few within =
+    most_cut (drop head' bytes) hdu first head end head' (length bytes) n shape (first_out_of_range limits hdu shape (drop head' bytes))
     (nat_lt (length bytes) (head' + image_bytes hdu shape)) _ few within refl
 
 -- a search takes no more than the verdict
-pub search_most : (bytes : List ℕ) (first : Raster) (head end n : ℕ) (search : Found) → n ≤ taken_by search → n ≤ length bytes
-    → n ≤ taken_for_two (verdict_beside first head end (verdict_on_found bytes search) (shape_found search))
-search_most bytes first head end n (found hdu head') few within = most_behind bytes hdu first head end head' n (checked hdu) few within
-search_most bytes first head end n (refused fault taken) few within = few
+pub search_most : (limits : Limits) (bytes : List ℕ) (first : Raster) (head end n : ℕ) (search : Found) → n ≤ taken_by search → n ≤ length bytes
+    → n ≤ taken_for_two (verdict_beside first head end (verdict_on_found limits bytes search) (shape_found limits search))
+search_most limits bytes first head end n (found hdu head') few within = most_behind limits bytes hdu first head end head' n (checked limits hdu) few within
+search_most limits bytes first head end n (refused fault taken) few within = few
 
-pub search_beside : (bytes : List ℕ) (first : Raster) (head end : ℕ) (left : Option (List ℕ)) (search : Found) (stop : HduStop) → Stopped search bytes left stop
-    → TwoStopped (verdict_beside first head end (verdict_on_found bytes search) (shape_found search)) bytes left (stop_at_hdu stop)
-search_beside bytes first head end left search stop h =
-    stopped_as bytes left search stop (λ s. stop_of_two (verdict_beside first head end (verdict_on_found bytes s) (shape_found s)))
-    (λ s. taken_for_two (verdict_beside first head end (verdict_on_found bytes s) (shape_found s))) _ (λ fault n. (refl, refl))
-    (λ n few within. search_most bytes first head end n search few within) h
+pub search_beside : (limits : Limits) (bytes : List ℕ) (first : Raster) (head end : ℕ) (left : Option (List ℕ)) (search : Found) (stop : HduStop) → Stopped search bytes left stop
+    → TwoStopped (verdict_beside first head end (verdict_on_found limits bytes search) (shape_found limits search)) bytes left (stop_at_hdu stop)
+search_beside limits bytes first head end left search stop h =
+    stopped_as bytes left search stop (λ s. stop_of_two (verdict_beside first head end (verdict_on_found limits bytes s) (shape_found limits s)))
+    (λ s. taken_for_two (verdict_beside first head end (verdict_on_found limits bytes s) (shape_found limits s))) _ (λ fault n. (refl, refl))
+    (λ n few within. search_most limits bytes first head end n search few within) h
 
 -- the HDU with this number was found, and its data end at the image's end
 record IsAt (bytes : List ℕ) (number : ℕ) (hdu : Hdu) (head end : ℕ) : Type 0 where
@@ -109,47 +110,47 @@ record IsAt (bytes : List ℕ) (number : ℕ) (hdu : Hdu) (head end : ℕ) : Typ
   within : end ≤ length bytes
 
 -- an image stands where its header and its shape say
-image_at : (bytes : List ℕ) (number : ℕ) (hdu : Hdu) (at : ℕ) (plane : Raster) (head end : ℕ) → find_of bytes number ≡ found hdu at
-    → verdict_on_hdu bytes hdu at (checked hdu) ≡ image plane head end → IsAt bytes number hdu head end
-image_at bytes number hdu at plane head end is v = by (checked hdu) refl v
+image_at : (limits : Limits) (bytes : List ℕ) (number : ℕ) (hdu : Hdu) (at : ℕ) (plane : Raster) (head end : ℕ) → find_of bytes number ≡ found hdu at
+    → verdict_on_hdu limits bytes hdu at (checked limits hdu) ≡ image plane head end → IsAt bytes number hdu head end
+image_at limits bytes number hdu at plane head end is v = by (checked limits hdu) refl v
   where
-    by_data : (shape : Shape) (pixel : Option ℕ) (cut : Bool) → checked hdu ≡ Ok shape → nat_lt (length bytes) (at + image_bytes hdu shape) ≡ cut
+    by_data : (shape : Shape) (pixel : Option ℕ) (cut : Bool) → checked limits hdu ≡ Ok shape → nat_lt (length bytes) (at + image_bytes hdu shape) ≡ cut
         → cond cut (truncated at (length bytes)) (image_unless (drop at bytes) hdu at shape pixel) ≡ image plane head end → IsAt bytes number hdu head end
     by_data shape pixel true c e v = absurd (cc)
     by_data shape (Some pixel) false c e v = absurd (cc)
     by_data shape None false c e v =
         let same : at ≡ head = cc in
         let place : at + image_bytes hdu shape ≡ end = cc in
-        let size : image_bytes hdu shape ≡ hdu.data_bytes = all_data bytes number hdu at shape is c in
+        let size : image_bytes hdu shape ≡ hdu.data_bytes = all_data limits bytes number hdu at shape is c in
         let within : at + image_bytes hdu shape ≤ length bytes = grind (arith, nat_tests) in
         record { is = subst (λ n. find_of bytes number ≡ found hdu n) same is; end_is = omega arith; within = omega arith }
 
-    by : (check : Result Shape ImageFault) → checked hdu ≡ check → verdict_on_hdu bytes hdu at check ≡ image plane head end → IsAt bytes number hdu head end
+    by : (check : Result Shape ImageFault) → checked limits hdu ≡ check → verdict_on_hdu limits bytes hdu at check ≡ image plane head end → IsAt bytes number hdu head end
     by (Err fault) c v = absurd (cc)
-    by (Ok shape) c v = by_data shape (first_out_of_range hdu shape (drop at bytes)) (nat_lt (length bytes) (at + image_bytes hdu shape)) c refl v
+    by (Ok shape) c v = by_data shape (first_out_of_range limits hdu shape (drop at bytes)) (nat_lt (length bytes) (at + image_bytes hdu shape)) c refl v
 
-pub first_read : (bytes : List ℕ) (number : ℕ) (head : ℕ) (left : Option (List ℕ)) (first : FirstImage) → find_of bytes number ≡ found first.hdu head
-    → ImageRead (verdict_on_hdu bytes first.hdu head (checked first.hdu)) bytes left first.plane → FirstImageRead bytes number left first
-first_read bytes number head left first is read =
-    let place : IsAt bytes number first.hdu read.head read.end = image_at bytes number first.hdu head first.plane read.head read.end is read.is_image in
+pub first_read : (limits : Limits) (bytes : List ℕ) (number : ℕ) (head : ℕ) (left : Option (List ℕ)) (first : FirstImage) → find_of bytes number ≡ found first.hdu head
+    → ImageRead (verdict_on_hdu limits bytes first.hdu head (checked limits first.hdu)) bytes left first.plane → FirstImageRead limits bytes number left first
+first_read limits bytes number head left first is read =
+    let place : IsAt bytes number first.hdu read.head read.end = image_at limits bytes number first.hdu head first.plane read.head read.end is read.is_image in
     record {
       head = read.head;
       is = place.is;
-      is_image = verdict_is bytes number (found first.hdu head) is ∙ read.is_image ∙ ap (image first.plane read.head) place.end_is;
+      is_image = verdict_is limits bytes number (found first.hdu head) is ∙ read.is_image ∙ ap (image first.plane read.head) place.end_is;
       whole = read.whole;
       takes = subst (Takes bytes left) place.end_is read.takes;
     }
 
 -- The later HDU stands behind the earlier image.
 
-behind_first : (bytes : List ℕ) (at number : ℕ) (plane : Raster) (head end : ℕ) → at < number → verdict_on bytes at ≡ image plane head end
+behind_first : (limits : Limits) (bytes : List ℕ) (at number : ℕ) (plane : Raster) (head end : ℕ) → at < number → verdict_on limits bytes at ≡ image plane head end
     → (end ≤ taken_by (find_of bytes number)) × (end ≤ length bytes)
-behind_first bytes at number plane head end low v = by (find_of bytes at) refl
+behind_first limits bytes at number plane head end low v = by (find_of bytes at) refl
   where
     by : (search : Found) → find_of bytes at ≡ search → (end ≤ taken_by (find_of bytes number)) × (end ≤ length bytes)
-    by (refused fault taken) is = let none : unfound fault taken ≡ image plane head end = sym (verdict_is bytes at (refused fault taken) is) ∙ v in absurd (cc)
+    by (refused fault taken) is = let none : unfound fault taken ≡ image plane head end = sym (verdict_is limits bytes at (refused fault taken) is) ∙ v in absurd (cc)
     by (found hdu from) is =
-        let place : IsAt bytes at hdu head end = image_at bytes at hdu from plane head end is (sym (verdict_is bytes at (found hdu from) is) ∙ v) in
+        let place : IsAt bytes at hdu head end = image_at limits bytes at hdu from plane head end is (sym (verdict_is limits bytes at (found hdu from) is) ∙ v) in
         let there : HasData bytes at hdu head = record { is = place.is; whole = subst (λ n. n ≤ length bytes) place.end_is place.within } in
         (subst (λ n. n ≤ taken_by (find_of bytes number)) (sym place.end_is) (data_taken bytes at number hdu head there low), place.within)
 
@@ -185,55 +186,55 @@ stopped_by (truncated head taken) later shape bytes left stop most stopped = sto
 stopped_by (out_of_range head end pixel stored) later shape bytes left stop most stopped = stopped
 
 -- the reading of the earlier image stops
-pub first_stopped : (bytes : List ℕ) (at number : ℕ) (left : Option (List ℕ)) (stop : Stop) → at < number → ImageStopped (verdict_on bytes at) bytes left stop
-    → TwoStopped (verdict_on_two bytes at number) bytes left stop
+pub first_stopped : (limits : Limits) (bytes : List ℕ) (at number : ℕ) (left : Option (List ℕ)) (stop : Stop) → at < number → ImageStopped (verdict_on limits bytes at) bytes left stop
+    → TwoStopped (verdict_on_two limits bytes at number) bytes left stop
 unfolding verdict_on_two
-first_stopped bytes at number left stop low h = stopped_by (verdict_on bytes at) (verdict_on bytes number) (header_shape bytes number) bytes left stop most h
+first_stopped limits bytes at number left stop low h = stopped_by (verdict_on limits bytes at) (verdict_on limits bytes number) (header_shape limits bytes number) bytes left stop most h
   where
-    most : (plane : Raster) (head end : ℕ) → verdict_on bytes at ≡ image plane head end
-        → end ≤ taken_for_two (verdict_beside plane head end (verdict_on bytes number) (header_shape bytes number))
+    most : (plane : Raster) (head end : ℕ) → verdict_on limits bytes at ≡ image plane head end
+        → end ≤ taken_for_two (verdict_beside plane head end (verdict_on limits bytes number) (header_shape limits bytes number))
     most plane head end v =
-        let place = behind_first bytes at number plane head end low v in
-        let same = ap (λ v. combined_verdict v (verdict_on bytes number) (header_shape bytes number)) v in
-        let whole = two_is bytes at number plane head end (find_of bytes number) v refl in
-        subst (λ two. end ≤ taken_for_two two) (sym whole ∙ same) (search_most bytes plane head end end (find_of bytes number) place.0 place.1)
+        let place = behind_first limits bytes at number plane head end low v in
+        let same = ap (λ v. combined_verdict v (verdict_on limits bytes number) (header_shape limits bytes number)) v in
+        let whole = two_is limits bytes at number plane head end (find_of bytes number) v refl in
+        subst (λ two. end ≤ taken_for_two two) (sym whole ∙ same) (search_most limits bytes plane head end end (find_of bytes number) place.0 place.1)
 
 -- The search went on behind the earlier image.
 
-on_from_first : (bytes : List ℕ) (at number : ℕ) (before : Option (List ℕ)) (first : FirstImage) (read : FirstImageRead bytes at before first) → at < number
+on_from_first : (limits : Limits) (bytes : List ℕ) (at number : ℕ) (before : Option (List ℕ)) (first : FirstImage) (read : FirstImageRead limits bytes at before first) → at < number
     → find_after_of bytes at first.hdu.data_bytes (read.head + first.hdu.data_bytes) number ≡ find_of bytes number
-on_from_first bytes at number before first read low =
+on_from_first limits bytes at number before first read low =
     let there : HasData bytes at first.hdu read.head = record { is = read.is; whole = read.takes.within } in
     search_goes_on bytes at number first.hdu read.head there low
 
-pub second_stopped : (bytes : List ℕ) (at number : ℕ) (before left : Option (List ℕ)) (first : FirstImage) (stop : HduStop) → at < number
+pub second_stopped : (limits : Limits) (bytes : List ℕ) (at number : ℕ) (before left : Option (List ℕ)) (first : FirstImage) (stop : HduStop) → at < number
     → ((bytes : List ℕ) (start : ℕ) → Takes bytes before start → Stopped (find_after_of bytes at first.hdu.data_bytes start number) bytes left stop)
-    → FirstImageRead bytes at before first → TwoStopped (verdict_on_two bytes at number) bytes left (stop_at_hdu stop)
-second_stopped bytes at number before left first stop low says read =
+    → FirstImageRead limits bytes at before first → TwoStopped (verdict_on_two limits bytes at number) bytes left (stop_at_hdu stop)
+second_stopped limits bytes at number before left first stop low says read =
     let end = read.head + first.hdu.data_bytes in
     let search : Stopped (find_of bytes number) bytes left stop =
-    subst (λ s. Stopped s bytes left stop) (on_from_first bytes at number before first read low) (says bytes end read.takes) in
-    let is = two_is bytes at number first.plane read.head end (find_of bytes number) read.is_image refl in
-    subst (λ two. TwoStopped two bytes left (stop_at_hdu stop)) (sym is) (search_beside bytes first.plane read.head end left (find_of bytes number) stop search)
+    subst (λ s. Stopped s bytes left stop) (on_from_first limits bytes at number before first read low) (says bytes end read.takes) in
+    let is = two_is limits bytes at number first.plane read.head end (find_of bytes number) read.is_image refl in
+    subst (λ two. TwoStopped two bytes left (stop_at_hdu stop)) (sym is) (search_beside limits bytes first.plane read.head end left (find_of bytes number) stop search)
 
 abbrev BothRead : TwoVerdict → List ℕ → Option (List ℕ) → Result TwoPlanes Stop → Type 0
 BothRead two bytes left result = MatchResult result (λ planes. TwoRead two bytes left planes) (λ stop. TwoStopped two bytes left stop)
 
-pub second_read : (bytes : List ℕ) (at number : ℕ) (before after left : Option (List ℕ)) (first : FirstImage) (hdu : Hdu) (result : Result TwoPlanes Stop)
+pub second_read : (limits : Limits) (bytes : List ℕ) (at number : ℕ) (before after left : Option (List ℕ)) (first : FirstImage) (hdu : Hdu) (result : Result TwoPlanes Stop)
     → at < number
     → ((bytes : List ℕ) (start : ℕ) → Takes bytes before start → Finds (find_after_of bytes at first.hdu.data_bytes start number) bytes after (Ok hdu))
     → ((bytes : List ℕ) (head end head' : ℕ) → Takes bytes after head' → MatchResult result
-    (λ planes. TwoRead (verdict_beside first.plane head end (verdict_on_hdu bytes hdu head' (checked hdu)) (result_ok (checked hdu))) bytes left planes)
-    (λ stop. TwoStopped (verdict_beside first.plane head end (verdict_on_hdu bytes hdu head' (checked hdu)) (result_ok (checked hdu))) bytes left stop))
-    → FirstImageRead bytes at before first
-    → MatchResult result (λ planes. TwoRead (verdict_on_two bytes at number) bytes left planes)
-    (λ stop. TwoStopped (verdict_on_two bytes at number) bytes left stop)
-second_read bytes at number before after left first hdu result low finds says read = by (finds bytes (read.head + first.hdu.data_bytes) read.takes)
+    (λ planes. TwoRead (verdict_beside first.plane head end (verdict_on_hdu limits bytes hdu head' (checked limits hdu)) (result_ok (checked limits hdu))) bytes left planes)
+    (λ stop. TwoStopped (verdict_beside first.plane head end (verdict_on_hdu limits bytes hdu head' (checked limits hdu)) (result_ok (checked limits hdu))) bytes left stop))
+    → FirstImageRead limits bytes at before first
+    → MatchResult result (λ planes. TwoRead (verdict_on_two limits bytes at number) bytes left planes)
+    (λ stop. TwoStopped (verdict_on_two limits bytes at number) bytes left stop)
+second_read limits bytes at number before after left first hdu result low finds says read = by (finds bytes (read.head + first.hdu.data_bytes) read.takes)
   where
     by : Finds (find_after_of bytes at first.hdu.data_bytes (read.head + first.hdu.data_bytes) number) bytes after (Ok hdu)
-        → BothRead (verdict_on_two bytes at number) bytes left result
+        → BothRead (verdict_on_two limits bytes at number) bytes left result
     by (head', is, takes) =
         let end = read.head + first.hdu.data_bytes in
-        let search : find_of bytes number ≡ found hdu head' = sym (on_from_first bytes at number before first read low) ∙ is in
-        let same = two_is bytes at number first.plane read.head end (found hdu head') read.is_image search in
+        let search : find_of bytes number ≡ found hdu head' = sym (on_from_first limits bytes at number before first read low) ∙ is in
+        let same = two_is limits bytes at number first.plane read.head end (found hdu head') read.is_image search in
         subst (λ two. BothRead two bytes left result) (sym same) (says bytes read.head end head' takes)

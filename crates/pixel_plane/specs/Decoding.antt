@@ -22,7 +22,7 @@ pub record IsDecoded (encoding : Encoding) (bytes : List ℕ) (first end : ℕ) 
 pub record IsFar (encoding : Encoding) (bytes : List ℕ) (k : ℕ) (stored : ℤ) : Type 0 where
   pub wide : encoding.size ≡ 8
   pub number : stored ≡ stored_number encoding.size (drop (k * encoding.size) bytes)
-  pub far : is_out_of_range (decoded encoding bytes k) ≡ true
+  pub far : is_out_of_range encoding.limits (decoded encoding bytes k) ≡ true
 
 -- the decoding stopped at this pixel, which is out of range
 pub record FarInside (encoding : Encoding) (bytes : List ℕ) (first end : ℕ) (old new : List (Option ℤ)) (pixel : ℕ) (stored : ℤ) : Type 0 where
@@ -60,7 +60,7 @@ RestStopped rest pixel stored bytes left stop = BytesStopped rest bytes left sto
 pub record FarRead (encoding : Encoding) (count : ℕ) (bytes : List ℕ) (left : Option (List ℕ)) (pixel : ℕ) (stored : ℤ) : Type 0 where
   pub inside : pixel < count
   pub is_far : IsFar encoding bytes pixel stored
-  pub before : (p : ℕ) → p < pixel → is_out_of_range (decoded encoding bytes p) ≡ false
+  pub before : (p : ℕ) → p < pixel → is_out_of_range encoding.limits (decoded encoding bytes p) ≡ false
   pub takes : Takes bytes left (count * encoding.size)
 
 -- why so many pixels weren't all read
@@ -84,7 +84,7 @@ NamesOnly pixel stored stop = Unit {0}
 pub record IsFarPixel (encoding : Encoding) (count pixel : ℕ) (stored : ℤ) : Type 0 where
   pub wide : encoding.size ≡ 8
   pub inside : pixel < count
-  pub far : is_out_of_range (value_stored_as encoding.zero encoding.blank stored) ≡ true
+  pub far : is_out_of_range encoding.limits (value_stored_as encoding.zero encoding.blank stored) ≡ true
 
 abbrev pub NamesFar : Encoding → ℕ → PlaneStop → Type 0
 NamesFar encoding count (Fault (PixelRange pixel stored)) = IsFarPixel encoding count pixel stored

@@ -3,11 +3,13 @@ use Rattle.std.specs.Prelude.{◌^◌, Bool, true, false, ◌||◌, ◌&&◌, �
 use Rattle.std.specs.Prelude.{List, [], ◌∷◌, Option, Some, None, Result, Ok, Err, if◌then◌else◌}
 use Rattle.std.specs.Ordering.{int_eq}
 use Rattle.comp_tree.specs.declared.shape.Shape.{Shape}
-use Rattle.comp_tree.specs.Shapes.{fits_limits, shape_of}
+use Rattle.comp_tree.specs.Shapes.{shape_of}
 use Rattle.fits_card.specs.declared.number.Whole.{Whole}
 use Rattle.fits_card.specs.declared.number.Whole.TheVariants.{Is}
 use Rattle.fits_hdu.specs.declared.answer.Hdu.{Hdu}
 use Rattle.fits_hdu.specs.Headers.{is_other}
+use Rattle.pixel_plane.specs.declared.limits.Limits.{Limits}
+use Rattle.pixel_plane.specs.ImageLimits.{fits_within}
 use Rattle.pixel_plane.specs.declared.fault.ImageFault.{ImageFault}
 use Rattle.pixel_plane.specs.declared.fault.ImageFault.TheVariants.{NotImage, NoImage, ImageTooLarge, Bitpix, Bscale, Bzero, Blank}
 
@@ -40,11 +42,11 @@ first_fault [] = None
 first_fault (test ∷ rest) = if test.0 then Some test.1 else first_fault rest
 
 -- the first fault of an HDU as an image, if it has one
-unfoldable pub image_fault : Hdu → Option ImageFault
-image_fault hdu = first_fault (
+unfoldable pub image_fault : Limits → Hdu → Option ImageFault
+image_fault limits hdu = first_fault (
     (is_other hdu.kind, NotImage)
     ∷ (has_no_pixels hdu, NoImage)
-    ∷ (not (fits_limits hdu.width hdu.height), ImageTooLarge)
+    ∷ (not (fits_within limits hdu.width hdu.height), ImageTooLarge)
     ∷ (not (is_stored_size hdu.bitpix), Bitpix)
     ∷ (not (is_one hdu.bscale), Bscale)
     ∷ (not (is_zero_point hdu.bzero), Bzero)
@@ -57,5 +59,5 @@ shape_unless None None = Err ImageTooLarge
 shape_unless None (Some shape) = Ok shape
 
 -- the shape of an HDU's image, or its first fault
-unfoldable pub checked : Hdu → Result Shape ImageFault
-checked hdu = shape_unless (image_fault hdu) (shape_of hdu.width hdu.height)
+unfoldable pub checked : Limits → Hdu → Result Shape ImageFault
+checked limits hdu = shape_unless (image_fault limits hdu) (shape_of hdu.width hdu.height)

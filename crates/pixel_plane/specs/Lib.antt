@@ -1,4 +1,7 @@
 pub mod Faults
+pub mod ValueRanges
+pub mod ImageLimits
+pub mod WithinLimits
 pub mod Images
 pub mod Stored
 pub mod Sizes

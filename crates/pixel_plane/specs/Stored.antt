@@ -1,5 +1,5 @@
 -- Model: the numbers that an image stores (FITS Standard 4.0, section 5.2), and the plane of their values (section 4.4.2.5, BZERO and BLANK).
-use Rattle.std.specs.Prelude.{ℕ, ◌*◌, ◌/◌, Bool, false, ◌==◌, ◌&&◌, not, List, drop, map, ℤ, pos, ◌+ℤ◌, int_le, neg_ℤ, ◌^◌}
+use Rattle.std.specs.Prelude.{ℕ, ◌*◌, ◌/◌, Bool, false, ◌==◌, ◌&&◌, not, List, drop, map, ℤ, pos, ◌+ℤ◌, int_le}
 use Rattle.std.specs.Prelude.{Option, Some, None, unsigned_abs, slice_index, if◌then◌else◌}
 use Rattle.std.specs.List.{range_with_len, position}
 use Rattle.std.specs.Ordering.{int_eq}
@@ -10,6 +10,7 @@ use Rattle.comp_tree.specs.Raster.{Raster}
 use Rattle.fits_card.specs.declared.number.Whole.{Whole}
 use Rattle.fits_card.specs.declared.number.Whole.TheVariants.{Is}
 use Rattle.fits_hdu.specs.declared.answer.Hdu.{Hdu}
+use Rattle.pixel_plane.specs.declared.limits.Limits.{Limits}
 
 -- how many bytes a stored number has
 abbrev pub size_of : Hdu → ℕ
@@ -59,12 +60,12 @@ stored_at hdu bytes p = stored_number (size_of hdu) (drop (p * size_of hdu) byte
 
 -- ---- the range of an image's values
 
--- the value is outside -2 ^ 36 to 2 ^ 36; an undefined pixel has no value
-abbrev pub is_out_of_range : Option ℤ → Bool
-is_out_of_range None = false
-is_out_of_range (Some value) = not (int_le (neg_ℤ (pos (2 ^ 36))) value && int_le value (pos (2 ^ 36)))
+-- the value is less than the least or greater than the greatest; an undefined pixel has no value
+abbrev pub is_out_of_range : Limits → Option ℤ → Bool
+is_out_of_range limits None = false
+is_out_of_range limits (Some value) = not (int_le limits.least value && int_le value limits.greatest)
 
 -- the least pixel that is out of range, of an image of 64 bits; with fewer bits and a BZERO that is accepted no pixel can be
-unfoldable pub first_out_of_range : Hdu → Shape → List ℕ → Option ℕ
-first_out_of_range hdu shape bytes =
-    if int_eq hdu.bitpix (pos 64) then position is_out_of_range (stored_plane hdu shape bytes).values else None
+unfoldable pub first_out_of_range : Limits → Hdu → Shape → List ℕ → Option ℕ
+first_out_of_range limits hdu shape bytes =
+    if int_eq hdu.bitpix (pos 64) then position (is_out_of_range limits) (stored_plane hdu shape bytes).values else None

@@ -5,6 +5,7 @@ use Rattle.comp_tree.specs.declared.shape.Shape.{Shape}
 use Rattle.comp_tree.specs.Raster.{Raster}
 use Rattle.fits_hdu.specs.Headers as at_header
 use Rattle.fits_hdu.specs.Finding.{find_of}
+use Rattle.pixel_plane.specs.declared.limits.Limits.{Limits}
 use Rattle.pixel_plane.specs.Images.{checked}
 use Rattle.pixel_plane.specs.Verdicts.{Verdict, image, unfound, unreadable, truncated, out_of_range, verdict_on, taken_for}
 use Rattle.pixel_plane.specs.declared.input_fault.Fault.TheVariants.{ShapeDiffers}
@@ -25,13 +26,13 @@ pub data TwoVerdict : Type 0 where
   shapes_differ : (head end head' : ℕ) → TwoVerdict
 
 -- the shape of the image that a header describes, also where the data are cut or out of range
-abbrev pub shape_found : at_header.Found → Option Shape
-shape_found (at_header.found hdu head) = result_ok (checked hdu)
-shape_found (at_header.refused fault taken) = None
+abbrev pub shape_found : Limits → at_header.Found → Option Shape
+shape_found limits (at_header.found hdu head) = result_ok (checked limits hdu)
+shape_found limits (at_header.refused fault taken) = None
 
 -- the shape of the image that the header of the HDU with this number describes
-unfoldable pub header_shape : List ℕ → ℕ → Option Shape
-header_shape bytes number = shape_found (find_of bytes number)
+unfoldable pub header_shape : Limits → List ℕ → ℕ → Option Shape
+header_shape limits bytes number = shape_found limits (find_of bytes number)
 
 -- the two images differ in width or height
 abbrev pub is_other_shape : Shape → Option Shape → Bool
@@ -56,8 +57,8 @@ combined_verdict fault later shape = earlier_fault fault
 
 -- the verdict on the HDUs with the lesser and the greater number: a fault of the lesser one; else a fault of the search for the greater one
 -- or of its header; else that the shapes differ; else that the data of the greater one are cut or out of range; else both images
-unfoldable pub verdict_on_two : List ℕ → ℕ → ℕ → TwoVerdict
-verdict_on_two bytes lesser greater = combined_verdict (verdict_on bytes lesser) (verdict_on bytes greater) (header_shape bytes greater)
+unfoldable pub verdict_on_two : Limits → List ℕ → ℕ → ℕ → TwoVerdict
+verdict_on_two limits bytes lesser greater = combined_verdict (verdict_on limits bytes lesser) (verdict_on limits bytes greater) (header_shape limits bytes greater)
 
 -- how many bytes are taken for it
 abbrev pub taken_for_two : TwoVerdict → ℕ

@@ -6,6 +6,7 @@ use Rattle.fits_hdu.specs.declared.answer.Hdu.{Hdu}
 use Rattle.fits_hdu.specs.declared.fault.HduFault.{HduFault}
 use Rattle.fits_hdu.specs.Headers as at_header
 use Rattle.fits_hdu.specs.Finding.{find_of}
+use Rattle.pixel_plane.specs.declared.limits.Limits.{Limits}
 use Rattle.pixel_plane.specs.declared.fault.ImageFault.{ImageFault}
 use Rattle.pixel_plane.specs.Images.{checked}
 use Rattle.pixel_plane.specs.Stored.{stored_plane, stored_at, first_out_of_range}
@@ -29,22 +30,22 @@ image_unless bytes hdu head shape None = image (stored_plane hdu shape bytes) he
 image_unless bytes hdu head shape (Some pixel) = out_of_range head (head + image_bytes hdu shape) pixel (stored_at hdu bytes pixel)
 
 -- the image behind a header
-abbrev pub image_behind : List ℕ → Hdu → ℕ → Shape → Verdict
-image_behind bytes hdu head shape =
+abbrev pub image_behind : Limits → List ℕ → Hdu → ℕ → Shape → Verdict
+image_behind limits bytes hdu head shape =
     if nat_lt (length bytes) (head + image_bytes hdu shape) then truncated head (length bytes)
-    else image_unless (drop head bytes) hdu head shape (first_out_of_range hdu shape (drop head bytes))
+    else image_unless (drop head bytes) hdu head shape (first_out_of_range limits hdu shape (drop head bytes))
 
-abbrev pub verdict_on_hdu : List ℕ → Hdu → ℕ → Result Shape ImageFault → Verdict
-verdict_on_hdu bytes hdu head (Err fault) = unreadable fault head
-verdict_on_hdu bytes hdu head (Ok shape) = image_behind bytes hdu head shape
+abbrev pub verdict_on_hdu : Limits → List ℕ → Hdu → ℕ → Result Shape ImageFault → Verdict
+verdict_on_hdu limits bytes hdu head (Err fault) = unreadable fault head
+verdict_on_hdu limits bytes hdu head (Ok shape) = image_behind limits bytes hdu head shape
 
-abbrev pub verdict_on_found : List ℕ → at_header.Found → Verdict
-verdict_on_found bytes (at_header.found hdu head) = verdict_on_hdu bytes hdu head (checked hdu)
-verdict_on_found bytes (at_header.refused fault taken) = unfound fault taken
+abbrev pub verdict_on_found : Limits → List ℕ → at_header.Found → Verdict
+verdict_on_found limits bytes (at_header.found hdu head) = verdict_on_hdu limits bytes hdu head (checked limits hdu)
+verdict_on_found limits bytes (at_header.refused fault taken) = unfound fault taken
 
 -- the verdict on the HDU with this number
-unfoldable pub verdict_on : List ℕ → ℕ → Verdict
-verdict_on bytes number = verdict_on_found bytes (find_of bytes number)
+unfoldable pub verdict_on : Limits → List ℕ → ℕ → Verdict
+verdict_on limits bytes number = verdict_on_found limits bytes (find_of bytes number)
 
 -- how many bytes are taken for it
 abbrev pub taken_for : Verdict → ℕ

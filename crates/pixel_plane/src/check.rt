@@ -3,8 +3,9 @@ ghost use Rattle.std.specs.Prelude.{◌≡◌, ◌<◌, IfOk, IfSome, IsTrue, is
 ghost use Rattle.std.specs.Result.{result_err};
 ghost use Rattle.comp_tree.specs.Shapes.{fits_limits};
 ghost use Rattle.pixel_plane.specs.Images.{checked, image_fault};
+ghost use Rattle.pixel_plane.specs.ImageLimits.{fits_within, usual_limits};
 
-use crate::ImageFault;
+use crate::{ImageFault, Limits};
 use comp_tree::Shape;
 use fits_card::number::Whole;
 use fits_hdu::{Hdu, Kind};
@@ -14,14 +15,21 @@ const MOST_ZERO: i64 = 1 << 32;
 
 /// The shape of the HDU's image, or its first fault. It takes no memory.
 pub fn check_image(hdu: &Hdu) -> Result<Shape, ImageFault>
-    ensures { result ≡ checked hdu.now }
+    ensures { result ≡ checked usual_limits hdu.now }
 {
-    image_shape(hdu)
+    check_within(hdu, &Limits::usual())
+}
+
+/// The same within these limits.
+pub fn check_within(hdu: &Hdu, limits: &Limits) -> Result<Shape, ImageFault>
+    ensures { result ≡ checked limits.now hdu.now }
+{
+    image_shape(hdu, limits)
 }
 
 #[tactic(auto, unfolding(crate::specs::Images::image_fault))]
-fn image_shape(hdu: &Hdu) -> Result<Shape, ImageFault>
-    ensures fault { result_err result ≡ image_fault hdu.now }
+fn image_shape(hdu: &Hdu, limits: &Limits) -> Result<Shape, ImageFault>
+    ensures fault { result_err result ≡ image_fault limits.now hdu.now }
     ensures sides { IfOk result
         (λ shape. (shape.width ≡ hdu.now.width) × (shape.height ≡ hdu.now.height)) }
 {
@@ -31,7 +39,7 @@ fn image_shape(hdu: &Hdu) -> Result<Shape, ImageFault>
     if hdu.naxis < 2 || hdu.width == 0 || hdu.height == 0 || !hdu.flat {
         return Err(ImageFault::NoImage);
     }
-    let Some(shape) = shape_of(hdu.width, hdu.height) else {
+    let Some(shape) = shape_within(hdu.width, hdu.height, limits) else {
         return Err(ImageFault::ImageTooLarge);
     };
     if !matches!(hdu.bitpix, 8 | 16 | 32 | 64) {
@@ -49,7 +57,22 @@ fn image_shape(hdu: &Hdu) -> Result<Shape, ImageFault>
     Ok(shape)
 }
 
-// The shape of these sides, where they are within the limits.
+// The shape of these sides, where a plane can have them, and has no more pixels than the limits allow.
+#[tactic(auto, unfolding(crate::specs::ImageLimits::fits_within))]
+fn shape_within(width: u64, height: u64, limits: &Limits) -> Option<Shape>
+    ensures accepted { is_some result ≡ fits_within limits.now width height }
+    ensures sides { IfSome result (λ shape. (shape.width ≡ width) × (shape.height ≡ height)) }
+{
+    let Some(shape) = shape_of(width, height) else {
+        return None;
+    };
+    if shape.pixels() > limits.pixels {
+        return None;
+    }
+    Some(shape)
+}
+
+// The shape of these sides, where a plane can have them.
 #[tactic(auto, unfolding(comp_tree::specs::Shapes::fits_limits))]
 fn shape_of(width: u64, height: u64) -> Option<Shape>
     ensures accepted { is_some result ≡ fits_limits width height }

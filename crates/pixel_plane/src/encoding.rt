@@ -1,23 +1,23 @@
 //! How an image keeps the values of its pixels as bytes.
 ghost use Rattle.std.specs.Prelude.{◌≡◌, ◌≢◌, ◌≤◌, length, IsTrue, None, Some, IfSome, IfOk, MatchResult, ◌+ℤ◌, ◌≤ℤ◌, pos, neg_ℤ, ◌^◌};
-ghost use Rattle.comp_tree.specs.Limits.{IsWithinRange, IsInHalfRange};
+ghost use Rattle.comp_tree.specs.Limits.{IsWithinRange};
 ghost use Rattle.pixel_plane.specs.Images.{image_fault};
+ghost use Rattle.pixel_plane.specs.WithinLimits.{IsInRange};
 ghost use Rattle.pixel_plane.specs.Sizes.{is_number_size, IsFarNumber};
 ghost use Rattle.pixel_plane.specs.Stored.{size_of, stored_number, value_stored_as, is_out_of_range, whole_or_zero, blank_of};
 
+use crate::Limits;
 use byteorder::{BigEndian, ByteOrder};
 use fits_card::number::Whole;
 use fits_hdu::Hdu;
 
-// The greatest distance of a value from 0: 2^36.
-const MOST_VALUE: i64 = 1 << 36;
-
-/// The size of the stored numbers in bytes, what is added to each, and the number that stands for an undefined pixel.
+/// The size of the stored numbers in bytes, what is added to each, the number that stands for an undefined pixel, and the limits of the values.
 #[derive(Clone, Copy)]
 pub(crate) struct Encoding {
     pub(crate) size: usize,
     pub(crate) zero: i64,
     pub(crate) blank: Option<i64>,
+    pub(crate) limits: Limits,
     pub(crate) ghost sizes: { IsTrue (is_number_size size) },
     pub(crate) ghost low: { neg_ℤ (pos (2 ^ 32)) ≤ℤ zero },
     pub(crate) ghost high: { zero ≤ℤ pos (2 ^ 32) },
@@ -25,16 +25,18 @@ pub(crate) struct Encoding {
 
 impl Encoding {
     /// The encoding of an image that can be read.
-    pub(crate) fn of(hdu: &Hdu) -> Encoding
-        requires { image_fault hdu.now ≡ None }
+    pub(crate) fn of(hdu: &Hdu, limits: &Limits) -> Encoding
+        requires { image_fault limits.now hdu.now ≡ None }
         ensures size { result.size ≡ size_of hdu.now }
         ensures zero { result.zero ≡ whole_or_zero hdu.now.bzero }
         ensures blank { result.blank ≡ blank_of hdu.now.blank }
+        ensures limits { result.limits ≡ limits.now }
     {
         Encoding {
             size: hdu.bitpix.unsigned_abs() as usize / 8,
             zero: whole_or_zero(hdu.bzero),
             blank: blank_of(hdu.blank),
+            limits: *limits,
         }
     }
 
@@ -45,7 +47,7 @@ impl Encoding {
         ensures value { result ≡
             value_stored_as self.now.zero self.now.blank (stored_number self.now.size bytes.now) }
         ensures in_range { IfSome result (λ v. IsWithinRange v) }
-        ensures half_range { IfSome result (λ v. IsInHalfRange v) }
+        ensures within { IfSome result (λ v. IsInRange self.now.limits v) }
     {
         let stored = self.stored(bytes);
         if self.blank == Some(stored) {
@@ -77,10 +79,10 @@ impl Encoding {
         ensures value { MatchResult result
             (λ value. value ≡ value_stored_as self.now.zero self.now.blank
             (stored_number self.now.size bytes.now))
-            (λ stored. IsFarNumber self.now.zero self.now.blank stored
+            (λ stored. IsFarNumber self.now.limits self.now.zero self.now.blank stored
             (stored_number self.now.size bytes.now)) }
         ensures in_range { IfOk result (λ value. IfSome value (λ v. IsWithinRange v)) }
-        ensures half_range { IfOk result (λ value. IfSome value (λ v. IsInHalfRange v)) }
+        ensures within { IfOk result (λ value. IfSome value (λ v. IsInRange self.now.limits v)) }
     {
         let stored = BigEndian::read_i64(bytes);
         if self.blank == Some(stored) {
@@ -94,9 +96,9 @@ impl Encoding {
 
     // Whether the value that this number stands for is out of range. The number is compared, since the sum could pass the type's bounds.
     fn is_far(&self, stored: i64) -> bool
-        ensures { result ≡ is_out_of_range (Some (self.now.zero +ℤ stored)) }
+        ensures { result ≡ is_out_of_range self.now.limits (Some (self.now.zero +ℤ stored)) }
     {
-        stored < -MOST_VALUE - self.zero || MOST_VALUE - self.zero < stored
+        stored < self.limits.least - self.zero || self.limits.greatest - self.zero < stored
     }
 }
 

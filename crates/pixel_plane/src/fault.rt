@@ -11,7 +11,7 @@ pub enum ImageFault {
     NotImage,
     #[error("the image has fewer than two axes, an empty one, or a third one that is longer than 1")]
     NoImage,
-    #[error("an axis is longer than 65535, or there are more than 16777216 pixels")]
+    #[error("an axis is longer than 65535, or there are more pixels than the limits allow")]
     ImageTooLarge,
     #[error("BITPIX isn't 8, 16, 32 or 64")]
     Bitpix,
@@ -61,9 +61,9 @@ impl ImageFault {
 pub enum PlaneFault {
     #[error("the input ends before the last pixel")]
     TruncatedData,
-    /// The least pixel with a value outside -2^36 to 2^36, counted from 0, and its stored number. All bytes of the image were taken.
+    /// The least pixel with a value outside the limits, counted from 0, and its stored number. All bytes of the image were taken.
     /// Only images of 64 bits have such pixels.
-    #[error("the value of pixel {pixel}, which is stored as {stored}, is outside -68719476736 to 68719476736")]
+    #[error("the value of pixel {pixel}, which is stored as {stored}, is outside the limits")]
     PixelRange { pixel: u32, stored: i64 },
 }
 

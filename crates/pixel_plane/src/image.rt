@@ -11,7 +11,7 @@ ghost use Rattle.pixel_plane.specs.Stops.{stop_at_hdu, stop_at_plane};
 ghost use Rattle.pixel_plane.specs.Streams.{ImageRead, ImageStopped};
 
 use crate::input_fault::Fault;
-use crate::{PlaneStop, check_image, read_plane};
+use crate::{Limits, PlaneStop, check_within, read_plane_within};
 use comp_tree::Plane;
 use dev_io::Source;
 use fits_hdu::{Hdu, HduStop, find_hdu};
@@ -49,34 +49,44 @@ impl Stop {
 }
 
 // Judges an HDU whose data are the next bytes, and reads its pixels.
-pub(crate) fn read_found<S: Source>(alloc: Global, src: &mut S, hdu: &Hdu) -> Result<Plane, Stop>
+pub(crate) fn read_found<S: Source>(
+    alloc: Global,
+    src: &mut S,
+    hdu: &Hdu,
+    limits: &Limits,
+) -> Result<Plane, Stop>
     ensures told { (bytes : List ℕ) (head : ℕ) → Takes bytes (S.left src.old) head →
         MatchResult result
-        (λ plane. ImageRead (verdict_on_hdu bytes hdu.now head (checked hdu.now)) bytes
+        (λ plane. ImageRead (verdict_on_hdu limits.now bytes hdu.now head (checked limits.now hdu.now)) bytes
         (S.left src.new) plane)
-        (λ stop. ImageStopped (verdict_on_hdu bytes hdu.now head (checked hdu.now)) bytes
+        (λ stop. ImageStopped (verdict_on_hdu limits.now bytes hdu.now head (checked limits.now hdu.now)) bytes
         (S.left src.new) stop) }
-    ensures shape { IfOk result (λ plane. checked hdu.now ≡ Ok plane.shape) }
+    ensures shape { IfOk result (λ plane. checked limits.now hdu.now ≡ Ok plane.shape) }
     ensures storable { IfOk result (λ plane. HasValuesInHalfRange plane.values) }
     ensures ended { IfErr result (λ stop. IsCutStop stop → IsTrue (S.ended src.new)) }
     ensures later { S.faults src.old ≤ S.faults src.new }
     ensures fault { IsErrOf result Stop.ReadFault → Rose (S.faults src.old) (S.faults src.new) }
 {
-    let shape = match check_image(hdu) {
+    let shape = match check_within(hdu, limits) {
         Ok(shape) => shape,
         Err(fault) => return Err(Stop::Refused(Fault::Image(fault))),
     };
-    match read_plane(alloc, src, hdu, shape) {
+    match read_plane_within(alloc, src, hdu, shape, limits) {
         Ok(plane) => Ok(plane),
         Err(stop) => Err(Stop::at_plane(stop)),
     }
 }
 
-/// Finds the HDU with this number, judges it and reads its pixels.
-pub fn read_image<S: Source>(alloc: Global, src: &mut S, number: u16) -> Result<Plane, Stop>
+/// Finds the HDU with this number, judges it within these limits and reads its pixels.
+pub fn read_image<S: Source>(
+    alloc: Global,
+    src: &mut S,
+    number: u16,
+    limits: &Limits,
+) -> Result<Plane, Stop>
     ensures told { ForSome (S.left src.old) (λ bytes. MatchResult result
-        (λ plane. ImageRead (verdict_on bytes number) bytes (S.left src.new) plane)
-        (λ stop. ImageStopped (verdict_on bytes number) bytes (S.left src.new) stop)) }
+        (λ plane. ImageRead (verdict_on limits.now bytes number) bytes (S.left src.new) plane)
+        (λ stop. ImageStopped (verdict_on limits.now bytes number) bytes (S.left src.new) stop)) }
     ensures storable { IfOk result (λ plane. HasValuesInHalfRange plane.values) }
     ensures ended { IfErr result (λ stop. IsCutStop stop → IsTrue (S.ended src.new)) }
     ensures later { S.faults src.old ≤ S.faults src.new }
@@ -86,5 +96,5 @@ pub fn read_image<S: Source>(alloc: Global, src: &mut S, number: u16) -> Result<
         Ok(hdu) => hdu,
         Err(stop) => return Err(Stop::at_hdu(stop)),
     };
-    read_found(alloc, src, &hdu)
+    read_found(alloc, src, &hdu, limits)
 }

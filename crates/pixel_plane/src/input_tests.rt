@@ -1,5 +1,5 @@
 //! One image of a small file, and two.
-use crate::{Fault, Place, PlaneFault, Stop, TwoPlanes, read_image, read_two};
+use crate::{Fault, Limits, Place, PlaneFault, Stop, TwoPlanes, read_image, read_two};
 use comp_tree::Plane;
 use dev_io::{BLOCK, MemSource};
 use fits_hdu::{CardPlace, HduFault};
@@ -59,7 +59,7 @@ fn read(
     append(&mut bytes, PRIMARY, first)?;
     append(&mut bytes, header, data)?;
     let mut src = MemSource::new(&bytes, 1000, fails);
-    let result = read_two(alloc, &mut src, 0, 1);
+    let result = read_two(alloc, &mut src, 0, 1, &Limits::usual());
     let taken = bytes.len() - src.rest().len().min(bytes.len());
     Ok(Outcome { result, taken })
 }
@@ -77,7 +77,7 @@ fn one_image_is_read(rt: HostRuntime) -> Result<(), Fail> {
     let mut bytes = Vec::new(rt.alloc());
     append(&mut bytes, PRIMARY, FIRST)?;
     let mut src = MemSource::new(&bytes, 1000, &[]);
-    let result = read_image(rt.alloc(), &mut src, 0);
+    let result = read_image(rt.alloc(), &mut src, 0, &Limits::usual());
     assert_eq!(rt; src.rest().len(), 0);
     match result {
         Ok(plane) => has_values(&rt, &plane, [Some(1), Some(6), Some(2), Some(5), Some(1)]),

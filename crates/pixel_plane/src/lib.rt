@@ -7,14 +7,17 @@ mod encoding;
 mod fault;
 mod image;
 mod input_fault;
+mod limits;
 mod read;
 mod two_images;
+mod usual;
 
-pub use check::check_image;
+pub use check::{check_image, check_within};
 pub use fault::{ImageFault, PixelPlace, PlaneFault, PlaneStop};
 pub use image::{Stop, read_image};
 pub use input_fault::{Fault, Place};
-pub use read::read_plane;
+pub use limits::Limits;
+pub use read::{read_plane, read_plane_within};
 pub use two_images::{TwoPlanes, read_two};
 
 #[cfg(test)]

@@ -4,12 +4,14 @@ ghost use Rattle.std.specs.Option.{ForSome};
 ghost use Rattle.dev_io.specs.Causes.{Rose};
 ghost use Rattle.dev_io.specs.Streams.{Fills};
 ghost use Rattle.comp_tree.specs.Raster.{HasValuesInHalfRange};
+ghost use Rattle.pixel_plane.specs.ImageLimits.{usual_limits};
+ghost use Rattle.pixel_plane.specs.WithinLimits.{HasValuesWithin};
 ghost use Rattle.pixel_plane.specs.Images.{checked};
 ghost use Rattle.pixel_plane.specs.Reading.{PlaneRead, PlaneStopped, NamesPixel};
 ghost use Rattle.pixel_plane.specs.Decoding.{PixelsRead, PixelsStopped, BytesStopped, RestStopped, IsDecoded, FarInside, NamesNone, NamesOnly, NamesFar};
 
 use crate::encoding::Encoding;
-use crate::{PixelPlace, PlaneFault, PlaneStop};
+use crate::{Limits, PixelPlace, PlaneFault, PlaneStop};
 use comp_tree::{Canvas, Plane, Shape};
 use dev_io::{BLOCK, Source, fill, skip};
 use fits_hdu::Hdu;
@@ -24,12 +26,36 @@ pub fn read_plane<S: Source>(
     hdu: &Hdu,
     shape: Shape,
 ) -> Result<Plane, PlaneStop>
-    requires { checked hdu.now ≡ Ok shape }
+    requires { checked usual_limits hdu.now ≡ Ok shape }
     ensures told { ForSome (S.left src.old) (λ bytes. MatchResult result
-        (λ plane. PlaneRead hdu.now shape bytes (S.left src.new) plane)
-        (λ stop. PlaneStopped hdu.now shape bytes (S.left src.new) stop)) }
+        (λ plane. PlaneRead usual_limits hdu.now shape bytes (S.left src.new) plane)
+        (λ stop. PlaneStopped usual_limits hdu.now shape bytes (S.left src.new) stop)) }
     ensures shape { IfOk result (λ plane. plane.shape ≡ shape) }
-    ensures range { IfErr result (NamesPixel hdu.now shape) }
+    ensures range { IfErr result (NamesPixel usual_limits hdu.now shape) }
+    ensures half_range { IfOk result (λ plane. HasValuesInHalfRange plane.values) }
+    ensures truncated { IsErrOf result (PlaneStop.Fault PlaneFault.TruncatedData) →
+        IsTrue (S.ended src.new) }
+    ensures later { S.faults src.old ≤ S.faults src.new }
+    ensures fault { IsErrOf result PlaneStop.ReadFault →
+        Rose (S.faults src.old) (S.faults src.new) }
+{
+    read_plane_within(alloc, src, hdu, shape, &Limits::usual())
+}
+
+/// The same within these limits.
+pub fn read_plane_within<S: Source>(
+    alloc: Global,
+    src: &mut S,
+    hdu: &Hdu,
+    shape: Shape,
+    limits: &Limits,
+) -> Result<Plane, PlaneStop>
+    requires { checked limits.now hdu.now ≡ Ok shape }
+    ensures told { ForSome (S.left src.old) (λ bytes. MatchResult result
+        (λ plane. PlaneRead limits.now hdu.now shape bytes (S.left src.new) plane)
+        (λ stop. PlaneStopped limits.now hdu.now shape bytes (S.left src.new) stop)) }
+    ensures shape { IfOk result (λ plane. plane.shape ≡ shape) }
+    ensures range { IfErr result (NamesPixel limits.now hdu.now shape) }
     ensures half_range { IfOk result (λ plane. HasValuesInHalfRange plane.values) }
     ensures truncated { IsErrOf result (PlaneStop.Fault PlaneFault.TruncatedData) →
         IsTrue (S.ended src.new) }
@@ -40,7 +66,7 @@ pub fn read_plane<S: Source>(
     let Ok(mut canvas) = Canvas::blank(alloc, shape) else {
         return Err(PlaneStop::OutOfMemory);
     };
-    let encoding = Encoding::of(hdu);
+    let encoding = Encoding::of(hdu, limits);
     match read_pixels(src, &encoding, &mut canvas) {
         Ok(()) => Ok(canvas.into_plane()),
         Err(stop) => Err(stop),
@@ -53,10 +79,10 @@ fn read_pixels<S: Source>(
     encoding: &Encoding,
     canvas: &mut Canvas,
 ) -> Result<(), PlaneStop>
-    requires { HasValuesInHalfRange canvas.old.values }
+    requires { HasValuesWithin encoding.now.limits canvas.old.values }
     ensures shape { canvas.new.shape ≡ canvas.old.shape }
     ensures count { length canvas.new.values ≡ length canvas.old.values }
-    ensures half_range { HasValuesInHalfRange canvas.new.values }
+    ensures in_limits { HasValuesWithin encoding.now.limits canvas.new.values }
     ensures told { ForSome (S.left src.old) (λ bytes. MatchResult result
         (λ _. PixelsRead encoding.now bytes (S.left src.new) canvas.new.values)
         (λ stop. PixelsStopped encoding.now (length canvas.old.values) bytes
@@ -138,10 +164,10 @@ fn decode(
     requires order { first ≤ end }
     requires room { (end - first) * encoding.now.size ≤ length bytes.now }
     requires within { end ≤ length canvas.old.values }
-    requires in_half_range { HasValuesInHalfRange canvas.old.values }
+    requires in_limits { HasValuesWithin encoding.now.limits canvas.old.values }
     ensures shape { canvas.new.shape ≡ canvas.old.shape }
     ensures count { length canvas.new.values ≡ length canvas.old.values }
-    ensures half_range { HasValuesInHalfRange canvas.new.values }
+    ensures in_limits { HasValuesWithin encoding.now.limits canvas.new.values }
     ensures decoded { MatchResult result
         (λ _. IsDecoded encoding.now bytes.now first end canvas.old.values canvas.new.values)
         (λ far. FarInside encoding.now bytes.now first end canvas.old.values canvas.new.values far.pixel far.stored) }
@@ -158,10 +184,10 @@ fn decode_narrow(encoding: &Encoding, bytes: &[u8], canvas: &mut Canvas, first: 
     requires narrow { encoding.now.size ≢ 8 }
     requires room { (end - first) * encoding.now.size ≤ length bytes.now }
     requires within { end ≤ length canvas.old.values }
-    requires in_half_range { HasValuesInHalfRange canvas.old.values }
+    requires in_limits { HasValuesWithin encoding.now.limits canvas.old.values }
     ensures shape { canvas.new.shape ≡ canvas.old.shape }
     ensures count { length canvas.new.values ≡ length canvas.old.values }
-    ensures half_range { HasValuesInHalfRange canvas.new.values }
+    ensures in_limits { HasValuesWithin encoding.now.limits canvas.new.values }
     ensures decoded { IsDecoded encoding.now bytes.now first end canvas.old.values canvas.new.values }
 {
     for p in first..end {
@@ -180,10 +206,10 @@ fn decode_wide(
     requires wide { encoding.now.size ≡ 8 }
     requires room { (end - first) * encoding.now.size ≤ length bytes.now }
     requires within { end ≤ length canvas.old.values }
-    requires in_half_range { HasValuesInHalfRange canvas.old.values }
+    requires in_limits { HasValuesWithin encoding.now.limits canvas.old.values }
     ensures shape { canvas.new.shape ≡ canvas.old.shape }
     ensures count { length canvas.new.values ≡ length canvas.old.values }
-    ensures half_range { HasValuesInHalfRange canvas.new.values }
+    ensures in_limits { HasValuesWithin encoding.now.limits canvas.new.values }
     ensures decoded { MatchResult result
         (λ _. IsDecoded encoding.now bytes.now first end canvas.old.values canvas.new.values)
         (λ far. FarInside encoding.now bytes.now first end canvas.old.values canvas.new.values far.pixel far.stored) }

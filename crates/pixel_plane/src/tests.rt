@@ -297,3 +297,38 @@ fn bzero_counts_for_the_range(rt: HostRuntime) -> Result<(), Fail> {
     );
     Ok(())
 }
+
+// As many pixels as these limits allow, and one more; and the greatest value, and the next.
+#[test]
+fn other_limits_are_kept(rt: HostRuntime) -> Result<(), Fail> {
+    let limits = Limits {
+        pixels: 2,
+        least: -8_589_934_592,
+        greatest: 8_589_934_592,
+    };
+    let wider = Hdu {
+        width: 3,
+        data_bytes: 24,
+        ..WIDE
+    };
+    assert!(rt; check_image(&wider).is_ok());
+    assert!(rt;
+        matches!(
+            check_within(&wider, &limits),
+            Err(ImageFault::ImageTooLarge)
+        )
+    );
+    let shape = check_within(&WIDE, &limits)?;
+    let bytes = [0, 0, 0, 2, 0, 0, 0, 0, 0, 0, 0, 2, 0, 0, 0, 1];
+    let mut source = PlainSource::new(&bytes);
+    assert!(rt;
+        matches!(
+            read_plane_within(rt.alloc(), &mut source, &WIDE, shape, &limits),
+            Err(PlaneStop::Fault(PlaneFault::PixelRange {
+                pixel: 1,
+                stored: 8_589_934_593
+            }))
+        )
+    );
+    Ok(())
+}

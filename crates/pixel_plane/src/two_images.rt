@@ -13,9 +13,9 @@ ghost use Rattle.pixel_plane.specs.TwoImages.{is_other_shape, verdict_beside, ve
 ghost use Rattle.pixel_plane.specs.TwoReads.{TwoRead, TwoStopped};
 ghost use Rattle.pixel_plane.specs.FirstImages.{FirstImageRead};
 
-use crate::check_image;
 use crate::image::{Stop, read_found};
 use crate::input_fault::Fault;
+use crate::{Limits, check_within};
 use comp_tree::{Plane, Shape};
 use dev_io::Source;
 use fits_hdu::{Hdu, find_after, find_hdu};
@@ -36,20 +36,25 @@ struct FirstImage {
 }
 
 // Whether the HDU's header describes an image of another shape.
-fn has_other_shape(hdu: &Hdu, shape: Shape) -> bool
-    ensures { result ≡ is_other_shape shape (result_ok (checked hdu.now)) }
+fn has_other_shape(hdu: &Hdu, shape: Shape, limits: &Limits) -> bool
+    ensures { result ≡ is_other_shape shape (result_ok (checked limits.now hdu.now)) }
 {
-    match check_image(hdu) {
+    match check_within(hdu, limits) {
         Ok(other) => shape.width != other.width || shape.height != other.height,
         Err(_) => false,
     }
 }
 
 // Finds the HDU with this number, judges it and reads its pixels.
-fn read_first<S: Source>(alloc: Global, src: &mut S, number: u16) -> Result<FirstImage, Stop>
+fn read_first<S: Source>(
+    alloc: Global,
+    src: &mut S,
+    number: u16,
+    limits: &Limits,
+) -> Result<FirstImage, Stop>
     ensures told { ForSome (S.left src.old) (λ bytes. MatchResult result
-        (λ first. FirstImageRead bytes number (S.left src.new) first)
-        (λ stop. ImageStopped (verdict_on bytes number) bytes (S.left src.new) stop)) }
+        (λ first. FirstImageRead limits.now bytes number (S.left src.new) first)
+        (λ stop. ImageStopped (verdict_on limits.now bytes number) bytes (S.left src.new) stop)) }
     ensures storable { IfOk result (λ first. HasValuesInHalfRange first.plane.values) }
     ensures ended { IfErr result (λ stop. IsCutStop stop → IsTrue (S.ended src.new)) }
     ensures later { S.faults src.old ≤ S.faults src.new }
@@ -59,7 +64,7 @@ fn read_first<S: Source>(alloc: Global, src: &mut S, number: u16) -> Result<Firs
         Ok(hdu) => hdu,
         Err(stop) => return Err(Stop::at_hdu(stop)),
     };
-    match read_found(alloc, src, &hdu) {
+    match read_found(alloc, src, &hdu, limits) {
         Ok(plane) => Ok(FirstImage { hdu, plane }),
         Err(stop) => Err(stop),
     }
@@ -71,15 +76,16 @@ fn read_beside<S: Source>(
     src: &mut S,
     first: Plane,
     hdu: &Hdu,
+    limits: &Limits,
 ) -> Result<TwoPlanes, Stop>
     ensures told { (bytes : List ℕ) (head end head' : ℕ) → Takes bytes (S.left src.old) head' →
         MatchResult result
         (λ planes. TwoRead (verdict_beside first head end
-        (verdict_on_hdu bytes hdu.now head' (checked hdu.now))
-        (result_ok (checked hdu.now))) bytes (S.left src.new) planes)
+        (verdict_on_hdu limits.now bytes hdu.now head' (checked limits.now hdu.now))
+        (result_ok (checked limits.now hdu.now))) bytes (S.left src.new) planes)
         (λ stop. TwoStopped (verdict_beside first head end
-        (verdict_on_hdu bytes hdu.now head' (checked hdu.now))
-        (result_ok (checked hdu.now))) bytes (S.left src.new) stop) }
+        (verdict_on_hdu limits.now bytes hdu.now head' (checked limits.now hdu.now))
+        (result_ok (checked limits.now hdu.now))) bytes (S.left src.new) stop) }
     ensures same { IfOk result (λ planes. planes.first ≡ first) }
     ensures storable { IfOk result (λ planes. HasValuesInHalfRange planes.second.values) }
     ensures same_shape { IfOk result (λ planes. planes.first.shape ≡ planes.second.shape) }
@@ -87,10 +93,10 @@ fn read_beside<S: Source>(
     ensures later { S.faults src.old ≤ S.faults src.new }
     ensures fault { IsErrOf result Stop.ReadFault → Rose (S.faults src.old) (S.faults src.new) }
 {
-    if has_other_shape(hdu, first.shape()) {
+    if has_other_shape(hdu, first.shape(), limits) {
         return Err(Stop::Refused(Fault::ShapeDiffers));
     }
-    match read_found(alloc, src, hdu) {
+    match read_found(alloc, src, hdu, limits) {
         Ok(second) => Ok(TwoPlanes { first, second }),
         Err(stop) => Err(stop),
     }
@@ -103,12 +109,13 @@ fn read_second<S: Source>(
     first: FirstImage,
     at: u16,
     number: u16,
+    limits: &Limits,
 ) -> Result<TwoPlanes, Stop>
     requires { at < number }
-    ensures told { (bytes : List ℕ) → FirstImageRead bytes at (S.left src.old) first →
+    ensures told { (bytes : List ℕ) → FirstImageRead limits.now bytes at (S.left src.old) first →
         MatchResult result
-        (λ planes. TwoRead (verdict_on_two bytes at number) bytes (S.left src.new) planes)
-        (λ stop. TwoStopped (verdict_on_two bytes at number) bytes (S.left src.new) stop) }
+        (λ planes. TwoRead (verdict_on_two limits.now bytes at number) bytes (S.left src.new) planes)
+        (λ stop. TwoStopped (verdict_on_two limits.now bytes at number) bytes (S.left src.new) stop) }
     ensures same { IfOk result (λ planes. planes.first ≡ first.plane) }
     ensures storable { IfOk result (λ planes. HasValuesInHalfRange planes.second.values) }
     ensures same_shape { IfOk result (λ planes. planes.first.shape ≡ planes.second.shape) }
@@ -120,20 +127,21 @@ fn read_second<S: Source>(
         Ok(hdu) => hdu,
         Err(stop) => return Err(Stop::at_hdu(stop)),
     };
-    read_beside(alloc, src, first.plane, &hdu)
+    read_beside(alloc, src, first.plane, &hdu, limits)
 }
 
-/// Finds the HDUs with these numbers, judges them and reads the pixels of both, in one pass over the bytes.
+/// Finds the HDUs with these numbers, judges them within these limits and reads the pixels of both, in one pass over the bytes.
 pub fn read_two<S: Source>(
     alloc: Global,
     src: &mut S,
     first: u16,
     second: u16,
+    limits: &Limits,
 ) -> Result<TwoPlanes, Stop>
     requires { first < second }
     ensures told { ForSome (S.left src.old) (λ bytes. MatchResult result
-        (λ planes. TwoRead (verdict_on_two bytes first second) bytes (S.left src.new) planes)
-        (λ stop. TwoStopped (verdict_on_two bytes first second) bytes (S.left src.new) stop)) }
+        (λ planes. TwoRead (verdict_on_two limits.now bytes first second) bytes (S.left src.new) planes)
+        (λ stop. TwoStopped (verdict_on_two limits.now bytes first second) bytes (S.left src.new) stop)) }
     ensures storable { IfOk result (λ planes. HasValuesInHalfRange planes.first.values ×
         HasValuesInHalfRange planes.second.values) }
     ensures same_shape { IfOk result (λ planes. planes.first.shape ≡ planes.second.shape) }
@@ -141,9 +149,9 @@ pub fn read_two<S: Source>(
     ensures later { S.faults src.old ≤ S.faults src.new }
     ensures fault { IsErrOf result Stop.ReadFault → Rose (S.faults src.old) (S.faults src.new) }
 {
-    let image = match read_first(alloc, src, first) {
+    let image = match read_first(alloc, src, first, limits) {
         Ok(image) => image,
         Err(stop) => return Err(stop),
     };
-    read_second(alloc, src, image, first, second)
+    read_second(alloc, src, image, first, second, limits)
 }

@@ -9,6 +9,7 @@ use Rattle.source_pick.specs.declared.choice.Choice.{Choice}
 use Rattle.source_pick.specs.Sources.{sources}
 use Rattle.source_pick.specs.Segmentation.{segmentation}
 use Rattle.mesh_background.specs.Residuals.{residual_of}
+use Rattle.pixel_plane.specs.declared.limits.Limits.{Limits}
 use Rattle.pixel_plane.specs.Verdicts.{image, verdict_on}
 use Rattle.orders.specs.declared.words.Order.{Order}
 use Rattle.orders.specs.declared.words.Job.TheVariants.{Detect}
@@ -50,15 +51,15 @@ TooManySourcesAreRefused =
 
 -- ---- what the words of `detect` answer
 
--- The words order the sources of an image that stands in the input, with values in half the range of pixels, as has every image that is read.
+-- Whatever limits images have, the words order the sources of an image that stands in the input, with values in half the range of pixels, as has every image that is read.
 -- They are no more than a survey takes: the status is 0, and what is written is accepted as the catalogue of the residual.
 abbrev pub AnswerIsAccepted : Type 0
 AnswerIsAccepted =
-    (words : List (List ℕ)) (bytes rest : List ℕ) (order : Order) (choice : Choice) (plane : Raster) (head end : ℕ)
-    → order_of words ≡ Ok order → order.job ≡ Detect choice → verdict_on bytes order.hdu ≡ image plane head end → HasValuesInHalfRange plane.values
+    (limits : Limits) (words : List (List ℕ)) (bytes rest : List ℕ) (order : Order) (choice : Choice) (plane : Raster) (head end : ℕ)
+    → order_of words ≡ Ok order → order.job ≡ Detect choice → verdict_on limits bytes order.hdu ≡ image plane head end → HasValuesInHalfRange plane.values
     → let residual = residual_of plane order.mesh order.flat in
     length (sources residual order.connect choice) ≤ most_rows
-    → let answer = answer_to_words words bytes in
+    → let answer = answer_to_words limits words bytes in
     (end_status answer.end ≡ 0)
     × (catalogue_in (answer.output ++ rest) ≡ accepted (catalogue_cells residual order.connect choice) (length answer.output))
 

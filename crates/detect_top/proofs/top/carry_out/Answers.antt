@@ -7,7 +7,7 @@ use Rattle.detect_top.proofs.top.carry_out.Goals as goal
 
 pub returns-in-Err-Refused-clause-bytes : goal.returns-in-Err-Refused-clause-bytes
 returns-in-Err-Refused-clause-bytes g c = λ x tells.
-    let asked = asked_for c.args.order c.args.order.job in
+    let asked = asked_for c.args.limits.now c.args.order c.args.order.job in
     let left = g.S.Source.left c.args.input.now in
     let left' = g.S.Source.left c.make_by_order.new.input in
     refused_so (asked.answer x) (asked.memory_at x) _ _ c.in-Err-Refused.fault refl
@@ -16,7 +16,7 @@ returns-in-Err-Refused-clause-bytes g c = λ x tells.
 
 pub returns-in-Err-ReadFault-clause-bytes : goal.returns-in-Err-ReadFault-clause-bytes
 returns-in-Err-ReadFault-clause-bytes g c = λ x tells.
-    let asked = asked_for c.args.order c.args.order.job in
+    let asked = asked_for c.args.limits.now c.args.order c.args.order.job in
     let left = g.S.Source.left c.args.input.now in
     let left' = g.S.Source.left c.make_by_order.new.input in
     subst (λ (stop : Stop). HasStopped (asked.answer x) (asked.memory_at x) left left' stop) c.in-Err-ReadFault.field-0-is
@@ -24,7 +24,7 @@ returns-in-Err-ReadFault-clause-bytes g c = λ x tells.
 
 pub returns-in-Err-NoMemory-clause-bytes : goal.returns-in-Err-NoMemory-clause-bytes
 returns-in-Err-NoMemory-clause-bytes g c = λ x tells.
-    let asked = asked_for c.args.order c.args.order.job in
+    let asked = asked_for c.args.limits.now c.args.order c.args.order.job in
     let left = g.S.Source.left c.args.input.now in
     let left' = g.S.Source.left c.make_by_order.new.input in
     subst (λ (stop : Stop). HasStopped (asked.answer x) (asked.memory_at x) left left' stop) c.in-Err-NoMemory.field-0-is

@@ -1,7 +1,7 @@
 use Rattle.std.proofs.Common.{◌≡◌, ◌-◌, ◌∙◌, ◌<◌, length, arith}
 use Rattle.std.proofs.lemmas.List.{length-set}
 use Rattle.pixel_plane.specs.Decoding.{decoded}
-use Rattle.pixel_plane.proofs.HalfRange.{set_in_half_range}
+use Rattle.pixel_plane.proofs.HalfRange.{set_in_range}
 use Rattle.pixel_plane.proofs.Decoding.{decoded_next, value_from}
 use Rattle.pixel_plane.proofs.read.decode_narrow.Goals as goal
 
@@ -13,6 +13,6 @@ loop-p-preserved c =
     rw c.set.ensures (record {
       shape = c.loop-p.invariant.shape;
       count = length-set _ _ _ ∙ c.loop-p.invariant.count;
-      half_range = set_in_half_range _ _ _ c.value.ensures.half_range c.loop-p.invariant.half_range;
+      in_limits = set_in_range _ _ _ _ c.value.ensures.within c.loop-p.invariant.in_limits;
       decoded = decoded_next _ _ _ _ _ _ _ c.loop-p.auto.p inside value c.loop-p.invariant.decoded;
     })

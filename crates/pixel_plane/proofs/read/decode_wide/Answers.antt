@@ -2,7 +2,7 @@ use Rattle.std.proofs.Common.{◌≡◌, ◌-◌, ◌∙◌, ◌<◌, length, ar
 use Rattle.std.proofs.lemmas.Int.{ints}
 use Rattle.std.proofs.lemmas.List.{length-set}
 use Rattle.pixel_plane.specs.Decoding.{decoded}
-use Rattle.pixel_plane.proofs.HalfRange.{set_in_half_range}
+use Rattle.pixel_plane.proofs.HalfRange.{set_in_range}
 use Rattle.pixel_plane.proofs.Decoding.{decoded_next, value_from, far_from}
 use Rattle.pixel_plane.proofs.read.decode_wide.Goals as goal
 
@@ -25,6 +25,6 @@ loop-p-preserved c =
     rw c.set.ensures (record {
       shape = c.loop-p.invariant.shape;
       count = length-set _ _ _ ∙ c.loop-p.invariant.count;
-      half_range = set_in_half_range _ _ _ c.in-Ok.ensures.half_range c.loop-p.invariant.half_range;
+      in_limits = set_in_range _ _ _ _ c.in-Ok.ensures.within c.loop-p.invariant.in_limits;
       decoded = decoded_next _ _ _ _ _ _ _ c.loop-p.auto.p inside value c.loop-p.invariant.decoded;
     })

@@ -12,7 +12,7 @@ loop-first-preserved g c =
       within = search rules;
       shape = search rules;
       values = search rules;
-      half_range = search rules;
+      in_limits = search rules;
       told = λ x e.
           let before = c.loop-first.invariant.told x e in
           let fills = c.in_default.ensures.told _ before.takes.rest in
@@ -51,7 +51,7 @@ returns-in-Err-decode-clause-told g c = λ x e.
     let fills = c.in_default.ensures.told _ before.takes.rest in
     let taken = taken_to c.args.encoding.now x _ _ _ _ _ order size before.takes fills in
     let far = c.in-Err-decode.ensures.decoded in
-    let near = c.in-Err-decode.ensures.half_range in
+    let near = c.in-Err-decode.ensures.in_limits in
     let stopped = c.stop_at_range.ensures.told _ taken.rest in
     subst (λ n. PixelsStopped c.args.encoding.now n x (g.S.Source.left c.stop_at_range.new.src) c.stop_at_range.result) count
     (far_stopped c.args.encoding.now x _ _ _ _ _ _ _ _ _ _ _ _ order within size before fills far near stopped)

@@ -1,4 +1,4 @@
-use Rattle.std.proofs.Common.{◌≡◌, arith, ℤ, pos, neg_ℤ, ◌-ℤ◌, ◌^◌, w64, to_z, of_z, false}
+use Rattle.std.proofs.Common.{◌≡◌, arith, ℤ, ◌-ℤ◌, w64, to_z, of_z, false}
 use Rattle.std.specs.Prelude.{int_lt}
 use Rattle.std.proofs.lemmas.Int.{ints}
 use Rattle.pixel_plane.proofs.Bounds.{high_test, not_below}
@@ -6,11 +6,20 @@ use Rattle.pixel_plane.proofs.encoding.Encoding.is_far.Goals as goal
 
 pub returns-else-stored-self : goal.returns-else-stored-self
 returns-else-stored-self c =
+    let limits = c.args.self.now.limits in
     let zero : ℤ = c.args.self.now.zero in
     let stored : ℤ = c.args.stored in
+    let least : ℤ = limits.least in
+    let greatest : ℤ = limits.greatest in
+    let one = limits.range.planes_low in
+    let two = limits.range.planes_high in
+    let three = limits.range.narrow_low in
+    let four = limits.range.narrow_high in
     let a : to_z w64 (of_z w64 zero) ≡ zero = omega (arith, ints) in
     let b : to_z w64 (of_z w64 stored) ≡ stored = omega (arith, ints) in
-    let high : to_z w64 (of_z w64 (pos (2 ^ 36) -ℤ zero)) ≡ pos (2 ^ 36) -ℤ zero = omega (arith, ints) in
-    let low : to_z w64 (of_z w64 (neg_ℤ (pos (2 ^ 36)) -ℤ zero)) ≡ neg_ℤ (pos (2 ^ 36)) -ℤ zero = omega (arith, ints) in
-    let above : int_lt stored (neg_ℤ (pos (2 ^ 36)) -ℤ zero) ≡ false = rw (a, b, low) at c.if-stored-self.false in
-    rw (a, b, high) (high_test zero stored (not_below _ _ above))
+    let l : to_z w64 (of_z w64 least) ≡ least = omega (arith, ints) in
+    let g : to_z w64 (of_z w64 greatest) ≡ greatest = omega (arith, ints) in
+    let high : to_z w64 (of_z w64 (greatest -ℤ zero)) ≡ greatest -ℤ zero = omega (arith, ints) in
+    let low : to_z w64 (of_z w64 (least -ℤ zero)) ≡ least -ℤ zero = omega (arith, ints) in
+    let above : int_lt stored (least -ℤ zero) ≡ false = rw (a, b, l, low) at c.if-stored-self.false in
+    rw (a, b, g, high) (high_test limits zero stored (not_below _ _ above))

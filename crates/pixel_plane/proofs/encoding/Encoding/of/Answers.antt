@@ -4,8 +4,8 @@ use Rattle.pixel_plane.proofs.encoding.Encoding.of.Goals as goal
 
 pub invariant_of-result : goal.invariant_of-result
 invariant_of-result c =
-    let size = size_fits c.args.hdu.now c.requires in
-    let zero = zero_is_near c.args.hdu.now c.requires in
+    let size = size_fits c.args.limits.now c.args.hdu.now c.requires in
+    let zero = zero_is_near c.args.limits.now c.args.hdu.now c.requires in
     let low = zero.low in
     let high = zero.high in
     search rules

@@ -1,10 +1,11 @@
 use Rattle.std.proofs.Common.{◌≡◌, ◌∙◌, sym, ap, subst, Some, false, true}
 use Rattle.std.specs.Option.{option_eq}
 use Rattle.std.specs.Ordering.{int_eq}
-use Rattle.comp_tree.specs.Limits.{IsWithinRange, IsInHalfRange}
+use Rattle.comp_tree.specs.Limits.{IsWithinRange}
+use Rattle.pixel_plane.specs.WithinLimits.{IsInRange}
 use Rattle.pixel_plane.specs.Stored.{value_stored_as}
 use Rattle.pixel_plane.proofs.Bounds.{unless_blank}
-use Rattle.pixel_plane.proofs.Narrow.{IsNear, read_near, sum_in_half, sum_within, sum_fits, sum_read, blank_value}
+use Rattle.pixel_plane.proofs.Narrow.{IsNear, read_near, sum_in_range, sum_within, sum_fits, sum_read, blank_value}
 use Rattle.pixel_plane.proofs.encoding.Encoding.value.Goals as goal
 
 pub overflow_add-result : goal.overflow_add-result
@@ -38,9 +39,9 @@ returns-else-eq-clause-in_range c =
     subst IsWithinRange (sym (sum_read c.args.self.now.zero c.stored-stored.result zero stored))
     (sum_within c.args.self.now.zero c.stored-stored.result zero stored)
 
-pub returns-else-eq-clause-half_range : goal.returns-else-eq-clause-half_range
-returns-else-eq-clause-half_range c =
+pub returns-else-eq-clause-within : goal.returns-else-eq-clause-within
+returns-else-eq-clause-within c =
     let zero : IsNear c.args.self.now.zero = record { low = c.args.self.now.low; high = c.args.self.now.high } in
     let stored : IsNear c.stored-stored.result = record { low = c.stored-stored.ensures.low; high = c.stored-stored.ensures.high } in
-    subst IsInHalfRange (sym (sum_read c.args.self.now.zero c.stored-stored.result zero stored))
-    (sum_in_half c.args.self.now.zero c.stored-stored.result zero stored)
+    subst (IsInRange c.args.self.now.limits) (sym (sum_read c.args.self.now.zero c.stored-stored.result zero stored))
+    (sum_in_range c.args.self.now.limits c.args.self.now.zero c.stored-stored.result zero stored)
