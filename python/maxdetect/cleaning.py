@@ -58,16 +58,17 @@ def _around(numbers: numpy.ndarray, beside: numpy.ndarray, half: int) -> _Around
     return _Around(_box_sums(beside, half), _box_sums(numpy.where(beside, numbers, 0), half))
 
 
-def _halos(above: numpy.ndarray, labels: numpy.ndarray, segments: numpy.ndarray) -> Iterator[Tuple]:
-    """The components that have pixels away from the sources that stand on them: where each is, its pixels there, and
-    those away from sources.
+def _halos(above: numpy.ndarray, labels: numpy.ndarray, segments: numpy.ndarray, least: float) -> Iterator[Tuple]:
+    """The components that have so many pixels away from the sources that stand on them: where each is, its pixels
+    there, and those away from sources.
     """
     away = (labels != 0) & ~grown(segments != 0, BESIDE)
     if not away.any():
         return
     components, _ = ndimage.label(above, numpy.ones((3, 3)))
     boxes = ndimage.find_objects(components)
-    for number in numpy.unique(components[away]).tolist():
+    count = numpy.bincount(components[away])
+    for number in numpy.flatnonzero(count >= least).tolist():
         at = boxes[number - 1]
         own = components[at] == number
         yield at, own, away[at] & own
@@ -86,15 +87,15 @@ def kept(
     and the width that of a point source.
     """
     half, above = _half(width), numbers >= threshold
+    least = LEAST_SHARE * (2 * half + 1) ** 2
     undefined = numbers == numpy.iinfo(numbers.dtype).min
     around = _around(numbers, ~grown(labels != 0, CLOSE) & ~above & ~undefined, half)
-    for at, own, away in _halos(above, labels, segments):
+    for at, own, away in _halos(above, labels, segments, least):
         more = _around(numbers[at], away, half)
         around.count[at][own] += more.count[own]
         around.total[at][own] += more.total[own]
     places = numpy.flatnonzero(segments)
     count, total = around.count.ravel()[places], around.total.ravel()[places]
-    known = count >= LEAST_SHARE * (2 * half + 1) ** 2
-    light = numpy.where(known, numpy.maximum(total / numpy.maximum(count, 1), 0), 0)
+    light = numpy.where(count >= least, numpy.maximum(total / numpy.maximum(count, 1), 0), 0)
     stand_out = numbers.ravel()[places] >= threshold + light
     return numpy.bincount(segments.ravel()[places], stand_out, int(labels.max(initial=0)) + 1)[1:] >= area

@@ -22,7 +22,7 @@ USUAL = 3.0
 # The least area over the square of the Gaussian's width, and the least of all; without smoothing it is one number.
 AREA, LEAST_AREA, UNSMOOTHED_AREA = 0.4, 2, 5
 # Windows in which point sources are looked for: how many along a side, and how wide they are.
-WINDOWS, SIDE = 2, 1024
+WINDOWS, SIDE = 2, 768
 
 
 @dataclasses.dataclass(frozen=True)

@@ -13,7 +13,7 @@ __all__ = ["FEWEST", "PointSources", "of"]
 
 # How many deviations of the noise a pixel of a source that is looked at has, how many such pixels there are, how
 # many sources are looked at in a window, the brightest first, and how many alike tell enough.
-BRIGHT, LEAST_AREA, MOST, FEWEST = 10.0, 4, 200, 5
+BRIGHT, LEAST_AREA, MOST, FEWEST = 10.0, 4, 100, 5
 # Half-light radii that are alike lie so far, as a part of it, from the one that most have.
 ALIKE = 0.15
 # Radii in pixels within which light is summed up; the first circle that is taken for all of a source; and how many
