@@ -17,7 +17,7 @@ import numpy
 import sep
 from astropy.table import Table
 
-from . import beside, totals
+from . import beside, boxes, totals
 from .beside import unit_of
 from .noise import of_array
 from .pointlike import PointSources
@@ -240,19 +240,23 @@ def _half_light(residual, x, y, reach, flux, alone) -> numpy.ndarray:
     return half
 
 
-def _near(undefined: numpy.ndarray, x: numpy.ndarray, y: numpy.ndarray, reach: numpy.ndarray) -> numpy.ndarray:
-    """The places of the sources that have an undefined pixel so near their centres, by columns and rows."""
-    if not undefined.any():
-        return numpy.zeros(0, dtype=int)
-    sums = numpy.zeros([side + 1 for side in undefined.shape], dtype="i4")
-    numpy.cumsum(numpy.cumsum(undefined, axis=0, dtype="i4"), axis=1, out=sums[1:, 1:])
-    bounds = [
-        numpy.clip(at, 0, side).astype(int)
-        for centre, side in zip((y, x), undefined.shape)
-        for at in (numpy.floor(centre - reach) - 1, numpy.ceil(centre + reach) + 2)
-    ]
-    top, bottom, left, right = bounds
-    return numpy.flatnonzero(sums[bottom, right] - sums[top, right] - sums[bottom, left] + sums[top, left])
+class _Holes:
+    """The undefined pixels of an image, and which sources have one near them."""
+
+    def __init__(self, undefined: numpy.ndarray):
+        self.undefined = undefined
+        self._sums = boxes.sums(undefined, "i4") if undefined.any() else None
+
+    def near(self, x: numpy.ndarray, y: numpy.ndarray, reach: numpy.ndarray) -> numpy.ndarray:
+        """The places of the sources that have one so near their centres, by columns and rows."""
+        if self._sums is None:
+            return numpy.zeros(0, dtype=int)
+        bounds = [
+            numpy.clip(at, 0, side).astype(int)
+            for centre, side in zip((y, x), self.undefined.shape)
+            for at in (numpy.floor(centre - reach) - 1, numpy.ceil(centre + reach) + 2)
+        ]
+        return numpy.flatnonzero(boxes.within(self._sums, *bounds))
 
 
 class _Apertures:
@@ -268,15 +272,15 @@ class _Apertures:
     def _sum(self, image, chosen=slice(None), **how):
         return self.sums(image, *(it[chosen] for it in self.places), subpix=self.subpix, **how)
 
-    def fluxes(self, residual, noise, gain, undefined, alone) -> Tuple[numpy.ndarray, ...]:
+    def fluxes(self, residual, noise, gain, holes, alone) -> Tuple[numpy.ndarray, ...]:
         """Fluxes, their errors, SEP's flags, and which apertures have undefined pixels; fluxes are NaN where no pixel
         has a value.
         """
         flux, error, told = self._sum(residual, err=noise, **alone)
-        holed, near = numpy.zeros(len(flux), dtype=bool), _near(undefined, *self.places[:2], self.reach)
+        holed, near = numpy.zeros(len(flux), dtype=bool), holes.near(*self.places[:2], self.reach)
         if near.size:
-            unseen, _, _ = self._sum(undefined.astype("f4"), near)
-            area, _, _ = self._sum(numpy.ones(undefined.shape, dtype="f4"), near)
+            unseen, _, _ = self._sum(holes.undefined.astype("f4"), near)
+            area, _, _ = self._sum(numpy.ones(residual.shape, dtype="f4"), near)
             with numpy.errstate(divide="ignore"):
                 times = numpy.where(area > unseen, area / (area - unseen), numpy.nan)
             times, near = times[unseen > 0], near[unseen > 0]
@@ -340,7 +344,7 @@ def measured(
     flux, error = _isophotal(defined, residual, noise, gain)
     flags = _flags(pixels, image, undefined, catalogue, numbers, saturation, threshold)
     gathered = _gathered(defined, residual, catalogue)
-    how = (residual, noise, gain, undefined)
+    how = (residual, noise, gain, _Holes(undefined))
     split = (flags & SPLIT) != 0
     apertures = _apertures(how, numpy.abs(segments), catalogue, gathered, aperture, points, split)
     table = Table({"X": numpy.asarray(catalogue["XCEN"]) / 1000, "Y": numpy.asarray(catalogue["YCEN"]) / 1000})

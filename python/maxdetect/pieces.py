@@ -46,21 +46,21 @@ def _share_out(grid: _Grid) -> None:
     peak without a source holds to the neighbour that stands highest.
     """
     places = grid.places
-    best, up = grid.numbers[places], places.copy()
-    for step in grid.steps(True):
-        beside = grid.numbers[places + step]
-        higher = beside > best
-        best[higher], up[higher] = beside[higher], (places + step)[higher]
-    way = numpy.zeros(len(grid.numbers), dtype="i8")
-    way[places] = numpy.where(grid.labels[places] != 0, places, up)
-    at = places
-    while True:
-        further = way[at]
-        if (further == at).all():
-            break
-        at = further
-    grid.labels[places] = grid.labels[at]
     rest = places[grid.labels[places] == 0]
+    best, up = grid.numbers[rest], rest.copy()
+    for step in grid.steps(True):
+        beside = grid.numbers[rest + step]
+        higher = beside > best
+        best[higher], up[higher] = beside[higher], (rest + step)[higher]
+    way = numpy.empty(len(grid.numbers), dtype="i8")
+    way[places], way[rest] = places, up
+    while True:
+        further = way[up]
+        if (further == up).all():
+            break
+        way[rest] = up = further
+    grid.labels[rest] = grid.labels[up]
+    rest = rest[grid.labels[rest] == 0]
     while rest.size:
         best, label = numpy.full(rest.size, numpy.iinfo(grid.numbers.dtype).min), numpy.zeros(rest.size, dtype="i4")
         for step in grid.steps(True):
@@ -100,15 +100,18 @@ def _meetings(grid: _Grid) -> _Meetings:
 
 
 class _Light:
-    """How many pixels of a part stand above a level, and how much light they have there."""
+    """How many pixels of some parts stand above a level, and how much light they have there."""
 
-    def __init__(self, grid: _Grid, count: int):
-        inside = grid.places[grid.labels[grid.places] != 0]
-        labels, numbers = grid.labels[inside], grid.numbers[inside]
-        order = numpy.lexsort((-numbers.astype("i8"), labels))
-        self.falling = -numbers[order].astype("i8")
+    def __init__(self, grid: _Grid, parts: numpy.ndarray, count: int):
+        labels = grid.labels[grid.places]
+        inside = numpy.isin(numpy.arange(count + 1), parts)[labels]
+        # One number for a pixel, so that they are sorted at once: its part, and the less the greater its number is.
+        greatest = numpy.iinfo("i4").max
+        keys = (labels[inside].astype("i8") << 32) + (greatest - grid.numbers[grid.places[inside]].astype("i8"))
+        keys.sort()
+        self.falling = (keys & (2**32 - 1)) - greatest
         self.sums = numpy.concatenate([[0], -numpy.cumsum(self.falling)])
-        self.starts = numpy.searchsorted(labels[order], numpy.arange(count + 2))
+        self.starts = numpy.searchsorted(keys >> 32, numpy.arange(count + 2))
 
     def above(self, part: int, level: int) -> Tuple[int, int]:
         begin, end = self.starts[part], self.starts[part + 1]
@@ -162,8 +165,10 @@ def sources(
     """
     count, grid = len(catalogue), _Grid(numbers, segments, threshold)
     _share_out(grid)
-    meetings = _meetings(grid)
-    owner = _owners(meetings, _Light(grid, count), count, significance, least) if least > 0 else numpy.arange(count + 1)
+    meetings, owner = _meetings(grid), numpy.arange(count + 1)
+    if least > 0 and meetings.ones:
+        light = _Light(grid, numpy.array([meetings.ones, meetings.others]), count)
+        owner = _owners(meetings, light, count, significance, least)
     if (owner == numpy.arange(count + 1)).all():
         return Parts(catalogue, segments, grid.map())
     grid.labels = owner.astype("i4")[grid.labels]
@@ -184,11 +189,15 @@ def _with_changed(catalogue, segments, labels, owner, changed: Table, whole: num
     alone[0] = False
     alone[numpy.asarray(changed["NUMBER"])] = False
     joined = numpy.isin(owner, changed["NUMBER"])
-    segments = numpy.where(joined[segments] | (whole != 0), whole, segments)
     rows = catalogue[alone[numpy.asarray(catalogue["NUMBER"])]]
     rows = nodes.stacked(rows, changed)
     rows = rows[numpy.lexsort((rows["XFIRST"], rows["YFIRST"]))]
     new = numpy.zeros(len(owner), dtype="i4")
     new[numpy.asarray(rows["NUMBER"])] = numpy.arange(1, len(rows) + 1)
     rows["NUMBER"] = numpy.arange(1, len(rows) + 1, dtype=rows["NUMBER"].dtype)
-    return Parts(rows, new[segments], new[labels])
+    # Only where there are sources, which is far from everywhere.
+    places, shown, gapless = numpy.flatnonzero(labels), numpy.zeros_like(labels), numpy.zeros_like(labels)
+    own, nodes_there = segments.ravel()[places], whole.ravel()[places]
+    shown.ravel()[places] = new[numpy.where(joined[own] | (nodes_there != 0), nodes_there, own)]
+    gapless.ravel()[places] = new[labels.ravel()[places]]
+    return Parts(rows, shown, gapless)

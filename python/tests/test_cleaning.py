@@ -124,13 +124,6 @@ def test_a_window_decides_as_the_whole(seed):
     assert decisions > 5
 
 
-def test_box_sums():
-    image = numpy.random.default_rng(8).integers(-(2**31), 2**31, (23, 31))
-    sums = cleaning._box_sums(image, 4)
-    for y, x in ((0, 0), (11, 30), (22, 5), (12, 13)):
-        assert sums[y, x] == image[max(0, y - 4) : y + 5, max(0, x - 4) : x + 5].sum()
-
-
 def test_the_reach_follows_the_width():
     assert cleaning.reach(1.0) == cleaning.reach(2.0) == 11 and cleaning.reach(4.0) == 17
 
