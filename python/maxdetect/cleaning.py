@@ -8,7 +8,7 @@ Beside sources lie the pixels below the threshold, but for those next to a compo
 component that lie away from all of its sources. So what is made of a component depends on its own pixels and on those
 near it alone.
 """
-from typing import Iterator, NamedTuple, Tuple
+from typing import Callable, Iterator, NamedTuple, Tuple, Union
 
 import numpy
 from scipy import ndimage
@@ -18,6 +18,8 @@ from .sky import grown
 
 __all__ = ["kept", "reach"]
 
+# The variance of the noise on some light, over that of the sky.
+Variance = Callable[[numpy.ndarray], Union[float, numpy.ndarray]]
 # How far sources reach beyond their pixels, in their component and out of it, and the least share of a box that has to
 # lie beside them.
 BESIDE, CLOSE, LEAST_SHARE = 2, 1, 0.1
@@ -75,10 +77,11 @@ def kept(
     threshold: int,
     area: int,
     width: float,
+    variance: Variance = lambda light: 1.0,
 ) -> numpy.ndarray:
     """Whether each source of a map stays, by number. `numbers` are those of the window in which the program found them
     with this threshold and this least area, the least 32-bit number where undefined; `labels` is the map without gaps,
-    and the width that of a point source.
+    the width that of a point source, and `variance` gives that of the noise on some light, over that of the sky.
     """
     half, above = _half(width), numbers >= threshold
     least = LEAST_SHARE * (2 * half + 1) ** 2
@@ -94,5 +97,5 @@ def kept(
         count[here] += more.count
         total[here] += more.total
     light = numpy.where(count >= least, numpy.maximum(total / numpy.maximum(count, 1), 0), 0)
-    stand_out = numbers.ravel()[places] >= threshold + light
+    stand_out = numbers.ravel()[places] >= light + threshold * numpy.sqrt(variance(light))
     return numpy.bincount(segments.ravel()[places], stand_out, int(labels.max(initial=0)) + 1)[1:] >= area

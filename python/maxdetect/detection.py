@@ -55,7 +55,9 @@ class Detector:
     def _cleaned(self, numbers: numpy.ndarray, parts: pieces.Parts) -> pieces.Parts:
         """The sources without those that are but peaks of noise on faint light."""
         how = self.how
-        kept = cleaning.kept(numbers, parts.segments, parts.labels, how.threshold, how.min_area, how.width)
+        kept = cleaning.kept(
+            numbers, parts.segments, parts.labels, how.threshold, how.min_area, how.width, how.variance
+        )
         if kept.all():
             return parts
         new = numpy.zeros(len(kept) + 1, dtype="i4")

@@ -4,7 +4,7 @@ All of it is told once for the whole image, so that it is the same in every wind
 """
 import dataclasses
 import math
-from typing import Dict, Iterator, List, Optional, Tuple
+from typing import Dict, Iterator, List, Optional, Tuple, Union
 
 import numpy
 
@@ -47,11 +47,16 @@ class Way:
         if not area:
             return 0.0
         together = smoothing.correlated(self.smooth)
-        variance = 1.0
-        if self.electrons:
-            # What a pixel of the unsmoothed image has there, in deviations of its noise, adds its own electrons.
-            variance += max(level, 0) * self.noise / (scaling.SIGMA * math.sqrt(together) * self.electrons)
-        return light / scaling.SIGMA / math.sqrt(variance * area * min(area, together))
+        return light / scaling.SIGMA / math.sqrt(self.variance(level) * area * min(area, together))
+
+    def variance(self, level: Union[int, numpy.ndarray]) -> Union[float, numpy.ndarray]:
+        """The variance of the noise at a level in the program's numbers, over that of the sky: what a pixel of the
+        unsmoothed image has there, in deviations of its noise, adds its own electrons.
+        """
+        if not self.electrons:
+            return 1.0
+        unsmoothed = self.noise / (scaling.SIGMA * math.sqrt(smoothing.correlated(self.smooth)))
+        return 1 + numpy.maximum(level, 0) * (unsmoothed / self.electrons)
 
     @property
     def meta(self) -> Dict[str, float]:
