@@ -147,10 +147,10 @@ def _add_how(how) -> None:
     how.add_argument(
         "--split-sigmas",
         type=deviations,
-        default=2.0,
+        default=1.0,
         metavar="K",
         help="how many deviations of the noise a part of a component stands above where it meets another one, if it is "
-        "a source of its own (default: 2)",
+        "a source of its own; on a wide source more (default: 1)",
     )
     how.add_argument(
         "--contrast",

@@ -42,7 +42,7 @@ class Detector:
             numbers, how.threshold, program=self.program, mesh=0, **options, **self.strips
         )
         least = settings.split_sigmas if settings.contrast is None else 0
-        parts = pieces.sources(numbers, catalogue, segments, how.threshold, how.significance, least)
+        parts = pieces.sources(numbers, catalogue, segments, how.threshold, how.significance, least, how.patch)
         if settings.clean:
             parts = self._cleaned(numbers, parts)
         return tiles.Look(

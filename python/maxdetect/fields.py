@@ -26,11 +26,11 @@ class Settings:
     `sigmas` is the threshold in deviations of the noise of what is looked at, `fwhm` the width of the Gaussian that
     smooths the image before, in pixels: by default that of its point sources, 0 for none. `mesh` is the side of the
     cells of the background, 0 for one level; `min_area` is in pixels. `contrast` is the program's, in thousandths;
-    without one a component is split as far as its parts stand `split_sigmas` deviations above where they meet. `clean`
-    leaves out the peaks of noise on faint light. `weight_type` says what the weight map has, and `local` takes the
-    noise by cells. `gain` is in electrons for a unit of the image, and from `saturation` on pixels are saturated: both
-    those of the image that is measured in. Where that is another one than sources are looked for in, `own_gain` and
-    `own_saturation` are those of the latter.
+    without one a component is split as far as its parts stand `split_sigmas` deviations above where they meet, and
+    more on a wide source. `clean` leaves out the peaks of noise on faint light. `weight_type` says what the weight map
+    has, and `local` takes the noise by cells. `gain` is in electrons for a unit of the image, and from `saturation` on
+    pixels are saturated: both those of the image that is measured in. Where that is another one than sources are
+    looked for in, `own_gain` and `own_saturation` are those of the latter.
     """
 
     sigmas: Optional[float] = None
@@ -38,7 +38,7 @@ class Settings:
     mesh: int = 64
     min_area: Optional[int] = None
     contrast: Optional[int] = None
-    split_sigmas: float = 2.0
+    split_sigmas: float = 1.0
     clean: bool = True
     weight_type: str = "weight"
     local: bool = False

@@ -21,6 +21,8 @@ PART, NARROW = 0.8, 2.0
 USUAL = 3.0
 # The least area over the square of the Gaussian's width, and the least of all; without smoothing it is one number.
 AREA, LEAST_AREA, UNSMOOTHED_AREA = 0.4, 2, 5
+# How many times the pixels that share noise have one peak of it that may pass for a part.
+PATCH = 4.0
 # Windows in which point sources are looked for: how many along a side, and how wide they are.
 WINDOWS, SIDE = 2, 768
 
@@ -48,6 +50,11 @@ class Way:
             return 0.0
         together = smoothing.correlated(self.smooth)
         return light / scaling.SIGMA / math.sqrt(self.variance(level) * area * min(area, together))
+
+    @property
+    def patch(self) -> float:
+        """How many pixels of a wide source have one peak of noise."""
+        return PATCH * smoothing.correlated(self.smooth or PART * self.width)
 
     def variance(self, level: Union[int, numpy.ndarray]) -> Union[float, numpy.ndarray]:
         """The variance of the noise at a level in the program's numbers, over that of the sky: what a pixel of the

@@ -3,9 +3,11 @@
 Without a contrast the program splits a component wherever two parts with the least area each stand above the level at
 which they meet. Some of these parts are peaks of noise on what they stand on. So parts are joined again, from the
 highest meeting place down, as long as one of two has less light above it than so many deviations of the noise there.
-What is left are nodes of the same tree: each reaches down to where it meets the next one. So what is made of a
-component depends on its own pixels alone.
+The wider what they stand on is, the more peaks of noise it has, and the more deviations the greatest of them: about
+the root of twice the logarithm of their number. What is left are nodes of the same tree: each reaches down to where it
+meets the next one. So what is made of a component depends on its own pixels alone.
 """
+import math
 from typing import Callable, List, NamedTuple, Tuple
 
 import numpy
@@ -119,7 +121,14 @@ class _Light:
         return area, int(self.sums[begin + area] - self.sums[begin]) - area * level
 
 
-def _owners(meetings: _Meetings, light: _Light, count: int, significance: Significance, least: float) -> numpy.ndarray:
+def _needed(area: int, least: float, patch: float) -> float:
+    """How many deviations a part stands above where it meets one with so many pixels there."""
+    return math.sqrt(least**2 + 2 * math.log(max(1.0, area / patch)))
+
+
+def _owners(
+    meetings: _Meetings, light: _Light, count: int, significance: Significance, least: float, patch: float
+) -> numpy.ndarray:
     """For each part the number of the one to which it belongs in the end."""
     owner = list(range(count + 1))
     members = {part: [part] for part in owner}
@@ -133,7 +142,8 @@ def _owners(meetings: _Meetings, light: _Light, count: int, significance: Signif
         if one == other:
             continue
         of_one, of_other = above(one, level), above(other, level)
-        if min(significance(*of_one, level), significance(*of_other, level)) < least:
+        needed = _needed(max(of_one[0], of_other[0]), least, patch)
+        if min(significance(*of_one, level), significance(*of_other, level)) < needed:
             kept, gone = (one, other) if of_one[1] >= of_other[1] else (other, one)
             for part in members.pop(gone):
                 owner[part] = kept
@@ -158,17 +168,19 @@ def sources(
     threshold: int,
     significance: Significance,
     least: float,
+    patch: float = math.inf,
 ) -> Parts:
     """The sources of a window's whole numbers, of which the program found these rows and this map.
 
-    Parts with less than `least` deviations of the noise are joined with what they stand on; with 0 none are.
+    Parts with less than `least` deviations of the noise are joined with what they stand on; with 0 none are. Where
+    that has more than `patch` pixels, a part has to have more of them.
     """
     count, grid = len(catalogue), _Grid(numbers, segments, threshold)
     _share_out(grid)
     meetings, owner = _meetings(grid), numpy.arange(count + 1)
     if least > 0 and meetings.ones:
         light = _Light(grid, numpy.array([meetings.ones, meetings.others]), count)
-        owner = _owners(meetings, light, count, significance, least)
+        owner = _owners(meetings, light, count, significance, least, patch)
     if (owner == numpy.arange(count + 1)).all():
         return Parts(catalogue, segments, grid.map())
     grid.labels = owner.astype("i4")[grid.labels]
