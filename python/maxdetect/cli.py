@@ -19,7 +19,7 @@ from astropy.io import fits
 from astropy.table import Table, vstack
 from astropy.utils.exceptions import AstropyWarning
 
-from . import __version__, adding, detection, images, kernel, surveys, tables
+from . import __version__, adding, cosmic, detection, images, kernel, surveys, tables
 from .errors import Mistake
 from .starting import ended_by_signals
 from .words import Parser, called, finite, whole
@@ -165,6 +165,11 @@ def _add_how(how) -> None:
         help="keep the peaks of noise on faint light, as on a galaxy's halo",
     )
     how.add_argument(
+        "--cosmic-rays",
+        action="store_true",
+        help="leave out the pixels that cosmic rays have hit, by astroscrappy; for stars at least 2 pixels wide",
+    )
+    how.add_argument(
         "--mesh",
         type=mesh_side,
         default=64,
@@ -237,6 +242,7 @@ def _field(plane: images.Plane, given: argparse.Namespace) -> detection.Field:
         contrast=given.contrast,
         split_sigmas=given.split_sigmas,
         clean=given.clean,
+        cosmic_rays=given.cosmic_rays,
         weight_type=given.weight_type or "weight",
         local=given.rms == "local",
         gain=given.gain or measured.positive("GAIN"),
@@ -324,6 +330,8 @@ def _check(given: argparse.Namespace) -> None:
         raise Mistake("--survey is for one HDU of each image; name it with --hdu")
     if given.weight_type and not given.weight:
         raise Mistake("--weight-type wants a --weight")
+    if given.cosmic_rays:
+        cosmic.check()
     if given.weight and given.rms == "local":
         raise Mistake("--rms local and --weight exclude each other")
 

@@ -6,7 +6,7 @@ from typing import Callable, Optional, Union
 import numpy
 from astropy.table import Table, hstack
 
-from . import cleaning, kernel, looks, measuring, photometry, pieces, scaling, sky, tiles
+from . import cleaning, cosmic, kernel, looks, measuring, photometry, pieces, scaling, sky, tiles
 from .fields import KINDS, LEAST_MESH, MOST_MESH, TILE, Field, Settings, noise_of, sky_of
 from .tiles import Box
 
@@ -84,6 +84,8 @@ def sources(
     where there is no weight map.
     """
     found = sky_of(field)
+    if field.settings.cosmic_rays:
+        field = dataclasses.replace(field, struck=cosmic.struck(field, found))
     detector = Detector(field, found, looks.way(field, found), program)
     segments = numpy.zeros(field.shape, dtype="i4") if segments is None else segments
     cores = detector.plan.cores()
@@ -97,6 +99,8 @@ def sources(
     table["FLAGS"] |= numpy.where(cut, photometry.CUT, 0).astype(table["FLAGS"].dtype)
     tiles.hide(segments)
     table.meta.update(detector.how.meta, GROWTH=points is not None)
+    if field.struck is not None:
+        table.meta["NCOSMIC"] = int(field.struck.sum())
     # With a weight map the sky's noise is a factor, and no noise of the image.
     if field.weights is None:
         table.meta["SIGMA"] = detector.sky.noise

@@ -11,7 +11,7 @@ import numpy
 from . import pointlike, scaling, sky, smoothing
 from .fields import Field, noise_of
 
-__all__ = ["Way", "point_sources", "seen", "way"]
+__all__ = ["Way", "electrons", "point_sources", "seen", "way"]
 
 # Thresholds in deviations of the noise: with smoothing, and without, where as many false sources are found.
 SMOOTHED, UNSMOOTHED = 4.4, 2.25
@@ -127,7 +127,7 @@ def _noise_behind(field: Field, found: sky.Sky, smooth: float) -> float:
     return noise if noise > 0 else 1.0
 
 
-def _electrons(field: Field, found: sky.Sky) -> Optional[float]:
+def electrons(field: Field, found: sky.Sky) -> Optional[float]:
     """The noise of a pixel in electrons: about the middle of the image where it isn't even."""
     if not field.own_gain:
         return None
@@ -161,10 +161,10 @@ def way(field: Field, found: sky.Sky) -> Way:
     if smooth:
         noise = _noise_behind(field, found, smooth)
         area = max(LEAST_AREA, round(AREA * smooth**2))
-    electrons = _electrons(field, found)
+    own = electrons(field, found)
     sigmas = settings.sigmas
     if sigmas is None:
-        sigmas = _skewed(SMOOTHED if smooth else UNSMOOTHED, electrons, smooth)
+        sigmas = _skewed(SMOOTHED if smooth else UNSMOOTHED, own, smooth)
     return Way(
         smooth,
         noise,
@@ -172,5 +172,5 @@ def way(field: Field, found: sky.Sky) -> Way:
         points,
         scaling.threshold(sigmas),
         settings.min_area or area,
-        electrons,
+        own,
     )

@@ -32,6 +32,7 @@ __all__ = [
     "CUT",
     "CROWDED",
     "BEYOND",
+    "STRUCK",
     "FLAGS",
     "ellipses",
     "measured",
@@ -46,6 +47,7 @@ SPLIT = 8
 CUT = 16
 CROWDED = 32
 BEYOND = 64
+STRUCK = 128
 FLAGS = {
     EDGE: "touches the image's edge",
     UNDEFINED: "touches an undefined pixel",
@@ -54,6 +56,7 @@ FLAGS = {
     CUT: "was cut by a tile",
     CROWDED: "its Kron ellipse holds pixels of other sources, or undefined ones",
     BEYOND: "its Kron ellipse reaches beyond the image",
+    STRUCK: "touches a pixel that a cosmic ray has hit",
 }
 
 # The Kron radius is sought within this many standard deviations of a source's light; how many Kron radii its ellipse
@@ -304,6 +307,7 @@ def measured(
     aperture: float = APERTURE,
     points: Optional[PointSources] = None,
     threshold: Optional[int] = None,
+    struck: Optional[numpy.ndarray] = None,
 ) -> Table:
     """The photometry of the sources of a segmentation map, a row for each row of `catalogue`.
 
@@ -315,7 +319,8 @@ def measured(
     shared out to it, and counts as another source's for the others. With `gain`, in electrons for a unit of the
     image, the errors have the sources' own noise too. Pixels from `saturation` on are saturated. `aperture` is the
     radius of the circle in pixels. `points` are the image's point sources: without them FLUX_TOTAL is FLUX_AUTO.
-    `threshold` is the one that the kernel was given; by default it is taken for the least LEVEL.
+    `threshold` is the one that the kernel was given; by default it is taken for the least LEVEL. `struck` says which
+    pixels cosmic rays have hit, for a flag.
 
     Columns: X, Y, FLUX_ISO, FLUXERR_ISO, FLUX_AUTO, FLUXERR_AUTO, FLUX_TOTAL, FLUXERR_TOTAL, KRON_RADIUS (half the
     long axis of the ellipse of FLUX_AUTO, in pixels), FLUX_APER, FLUXERR_APER, A, B, THETA, FWHM (the diameter that
@@ -343,6 +348,8 @@ def measured(
     defined = pixels.among(~undefined)
     flux, error = _isophotal(defined, residual, noise, gain)
     flags = _flags(pixels, image, undefined, catalogue, numbers, saturation, threshold)
+    if struck is not None and struck.any():
+        flags |= STRUCK * pixels.having(grown(struck, 1).ravel()[pixels.places])[numbers]
     gathered = _gathered(defined, residual, catalogue)
     how = (residual, noise, gain, _Holes(undefined))
     split = (flags & SPLIT) != 0
