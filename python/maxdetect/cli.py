@@ -170,6 +170,11 @@ def _add_how(how) -> None:
         help="leave out the pixels that cosmic rays have hit, by astroscrappy; for stars at least 2 pixels wide",
     )
     how.add_argument(
+        "--wide",
+        action="store_true",
+        help="look for wide faint sources besides, in the means of blocks of 8 by 8 pixels",
+    )
+    how.add_argument(
         "--mesh",
         type=mesh_side,
         default=64,
@@ -243,6 +248,7 @@ def _field(plane: images.Plane, given: argparse.Namespace) -> detection.Field:
         split_sigmas=given.split_sigmas,
         clean=given.clean,
         cosmic_rays=given.cosmic_rays,
+        wide=given.wide,
         weight_type=given.weight_type or "weight",
         local=given.rms == "local",
         gain=given.gain or measured.positive("GAIN"),

@@ -28,7 +28,8 @@ class Settings:
     cells of the background, 0 for one level; `min_area` is in pixels. `contrast` is the program's, in thousandths;
     without one a component is split as far as its parts stand `split_sigmas` deviations above where they meet, and
     more on a wide source. `clean` leaves out the peaks of noise on faint light, and
-    `cosmic_rays` the pixels that these have hit. `weight_type` says what the weight map
+    `cosmic_rays` the pixels that these have hit; with `wide` wide
+    faint sources are looked for besides. `weight_type` says what the weight map
     has, and `local` takes the noise by cells. `gain` is in electrons for a unit of the image, and from `saturation` on
     pixels are saturated: both those of the image that is measured in. Where that is another one than sources are
     looked for in, `own_gain` and `own_saturation` are those of the latter.
@@ -42,6 +43,7 @@ class Settings:
     split_sigmas: float = 1.0
     clean: bool = True
     cosmic_rays: bool = False
+    wide: bool = False
     weight_type: str = "weight"
     local: bool = False
     gain: Optional[float] = None

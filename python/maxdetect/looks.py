@@ -54,7 +54,7 @@ class Way:
     @property
     def patch(self) -> float:
         """How many pixels of a wide source have one peak of noise."""
-        return PATCH * smoothing.correlated(self.smooth or PART * self.width)
+        return PATCH * smoothing.correlated(self.smooth)
 
     def variance(self, level: Union[int, numpy.ndarray]) -> Union[float, numpy.ndarray]:
         """The variance of the noise at a level in the program's numbers, over that of the sky: what a pixel of the

@@ -33,6 +33,7 @@ __all__ = [
     "CROWDED",
     "BEYOND",
     "STRUCK",
+    "WIDE",
     "FLAGS",
     "ellipses",
     "measured",
@@ -48,6 +49,7 @@ CUT = 16
 CROWDED = 32
 BEYOND = 64
 STRUCK = 128
+WIDE = 256
 FLAGS = {
     EDGE: "touches the image's edge",
     UNDEFINED: "touches an undefined pixel",
@@ -57,6 +59,7 @@ FLAGS = {
     CROWDED: "its Kron ellipse holds pixels of other sources, or undefined ones",
     BEYOND: "its Kron ellipse reaches beyond the image",
     STRUCK: "touches a pixel that a cosmic ray has hit",
+    WIDE: "is wide and faint, found in the means of blocks",
 }
 
 # The Kron radius is sought within this many standard deviations of a source's light; how many Kron radii its ellipse
