@@ -122,7 +122,8 @@ def _with_wide(detector: Detector, table: Table, segments: numpy.ndarray, execut
     more.rows["NUMBER"] = numpy.arange(len(table) + 1, len(table) + len(more.rows) + 1, dtype="i4")
     for number, (box, own) in zip(more.rows["NUMBER"].tolist(), more.places):
         segments[box.rows, box.columns][own] = number
-    detector = Detector(field, found, detector.how, detector.program)
+    how = dataclasses.replace(detector.how, threshold=wide.THRESHOLD)
+    detector = Detector(field, found, how, detector.program)
     beside = measuring.sky_beside(detector, segments, executor)
     rows = hstack([more.rows, measuring.measured(detector, beside, None, more.rows, segments, executor)])
     rows["FLAGS"] |= photometry.WIDE

@@ -16,14 +16,14 @@ from .errors import Mistake
 from .fields import Field
 from .tiles import Box
 
-__all__ = ["MESH", "Found", "beneath", "found"]
+__all__ = ["Found", "THRESHOLD", "beneath", "found"]
 
 # The side of a block and of the sky's cells in pixels; how far sources reach beyond their pixels; and the least share
 # of the pixels about a block that has to be left.
 BLOCK, MESH, BESIDE, LEAST_SHARE = 8, 256, 2, 0.15
 # In blocks: the full width at half of the height of the Gaussian that smooths, and the least area. The threshold is in
-# deviations of the smoothed noise, the contrast in thousandths.
-WIDTH, LEAST_AREA, SIGMAS, CONTRAST = 2.5, 8, 2.6, 50
+# thirtieths of the smoothed noise, the contrast in thousandths.
+WIDTH, LEAST_AREA, THRESHOLD, CONTRAST = 2.5, 8, scaling.threshold(2.6), 50
 # A source is large where it has more pixels than half a block; a wide source has at least so many times as many pixels
 # as the large ones in it and beside it.
 LARGE, TIMES = BLOCK**2 // 2, 16
@@ -112,7 +112,7 @@ def found(field: Field, wide_sky: sky.Sky, segments: numpy.ndarray, program=None
     blocks = _blocks(field, wide_sky, segments)
     numbers = _numbers(blocks)
     catalogue, labels = kernel.detect_stored(
-        numbers, scaling.threshold(SIGMAS), program=program, mesh=0, min_area=LEAST_AREA, contrast=CONTRAST, connect=8
+        numbers, THRESHOLD, program=program, mesh=0, min_area=LEAST_AREA, contrast=CONTRAST, connect=8
     )
     halo, made, places = _is_halo(labels, blocks, len(catalogue)), [], []
     for row, part in zip(catalogue, ndimage.find_objects(labels)):
