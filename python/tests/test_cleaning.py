@@ -124,6 +124,14 @@ def test_a_window_decides_as_the_whole(seed):
     assert decisions > 5
 
 
+def test_on_light_with_its_own_noise_more_is_asked():
+    numbers = seen(halo(height=1.2), 7)
+    parts = parts_of(numbers)
+    how = (numbers, parts.segments, parts.labels, THRESHOLD, AREA, WIDTH)
+    even, brighter = cleaning.kept(*how), cleaning.kept(*how, lambda light: 1 + light / 30)
+    assert even.sum() > brighter.sum() and not (brighter & ~even).any()
+
+
 def test_the_reach_follows_the_width():
     assert cleaning.reach(1.0) == cleaning.reach(2.0) == 11 and cleaning.reach(4.0) == 17
 
