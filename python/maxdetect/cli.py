@@ -122,7 +122,7 @@ def _add_read(what) -> None:
     what.add_argument(
         "--gain",
         type=finite(above=0),
-        help="electrons for a unit of the image, for the errors (default: the header's GAIN)",
+        help="electrons for a unit of the image that is measured, for the errors (default: its header's GAIN)",
     )
     what.add_argument(
         "--saturation", type=finite(), help="pixels from this value on are flagged (default: the header's SATURATE)"
