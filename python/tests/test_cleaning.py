@@ -152,9 +152,10 @@ def test_tiles_decide_as_the_whole_where_the_box_is_wider_than_their_margin(fwhm
     for x, y, radius, height in zip(*rng.uniform(0, side, (2, 60)), rng.uniform(5, 60, 60), rng.uniform(9, 90, 60)):
         image += height * numpy.exp(-((columns - x) ** 2 + (rows - y) ** 2) / (2 * radius**2))
     image[300:310, 200:500] = numpy.nan
-    whole, whole_map = maxdetect.catalogue(image, fwhm=fwhm, mesh=256)
-    kept, _ = maxdetect.catalogue(image, fwhm=fwhm, mesh=256, clean=False)
-    table, segments = maxdetect.catalogue(image, fwhm=fwhm, mesh=256, tile=200)
+    options = dict(fwhm=fwhm, mesh=256, sigmas=2.0)
+    whole, whole_map = maxdetect.catalogue(image, **options)
+    kept, _ = maxdetect.catalogue(image, clean=False, **options)
+    table, segments = maxdetect.catalogue(image, tile=200, **options)
     assert 0 < len(whole) <= len(kept) and (segments == whole_map).all()
     for name in whole.colnames:
         assert numpy.asarray(table[name]).tobytes() == numpy.asarray(whole[name]).tobytes(), name
