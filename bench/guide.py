@@ -240,8 +240,9 @@ def table(title, heads, rows):
         PRINTED.append(row)
 
 
-# Sections of the guide with tables of words, or with the figures of bench/bands.py.
-NOT_PRINTED = ("## maxcat", "## Columns", "## Two bands")
+# Sections of the guide with tables of words, or with the figures of bench/bands.py; and what a paragraph before a table
+# has that another script prints.
+NOT_PRINTED, ELSEWHERE = ("## maxcat", "## Columns", "## Two bands"), "bench/scenes.py"
 
 
 def differing_rows():
@@ -249,11 +250,16 @@ def differing_rows():
     worded otherwise.
     """
     printed = {tuple(row[1:]) for row in PRINTED}
-    section = ""
+    section, before, blank = "", "", True
     for line in (TOP / "docs" / "GUIDE.md").read_text(encoding="utf-8").splitlines():
         section = line if line.startswith("## ") else section
+        if line and not line.startswith("|"):
+            before = line if blank else f"{before} {line}"
+        blank = not line
+        if section in NOT_PRINTED or ELSEWHERE in before:
+            continue
         cells = tuple(cell.strip() for cell in line.strip("|").split("|")[1:])
-        if line.startswith("|") and set(line) - set("|-") and section not in NOT_PRINTED and cells not in printed:
+        if line.startswith("|") and set(line) - set("|-") and cells not in printed:
             yield line
 
 

@@ -8,15 +8,18 @@ Beside sources lie the pixels below the threshold, but for those next to a compo
 component that lie away from all of its sources. So what is made of a component depends on its own pixels and on those
 near it alone.
 """
-from typing import Iterator, NamedTuple, Tuple
+from typing import Callable, Iterator, NamedTuple, Tuple, Union
 
 import numpy
 from scipy import ndimage
 
+from . import boxes
 from .sky import grown
 
 __all__ = ["kept", "reach"]
 
+# The variance of the noise on some light, over that of the sky.
+Variance = Callable[[numpy.ndarray], Union[float, numpy.ndarray]]
 # How far sources reach beyond their pixels, in their component and out of it, and the least share of a box that has to
 # lie beside them.
 BESIDE, CLOSE, LEAST_SHARE = 2, 1, 0.1
@@ -34,41 +37,35 @@ def _half(width: float) -> int:
 
 
 class _Around(NamedTuple):
-    """For each pixel how many pixels of its box lie beside sources, and the sum of their numbers."""
+    """For each of some pixels how many pixels of its box lie beside sources, and the sum of their numbers."""
 
     count: numpy.ndarray
     total: numpy.ndarray
 
 
-def _box_sums(image: numpy.ndarray, half: int) -> numpy.ndarray:
-    """The sums over boxes around each pixel, as far as the image goes: in whole numbers, so that they are the same in
-    every window.
-    """
-    sums = numpy.zeros([side + 1 for side in image.shape], dtype="i8")
-    numpy.cumsum(numpy.cumsum(image, axis=0, dtype="i8"), axis=1, out=sums[1:, 1:])
-    (top, bottom), (left, right) = (
-        (numpy.maximum(numpy.arange(side) - half, 0), numpy.minimum(numpy.arange(side) + half + 1, side))
-        for side in image.shape
-    )
-    rows = sums[bottom] - sums[top]
-    return rows[:, right] - rows[:, left]
+def _around(
+    numbers: numpy.ndarray, beside: numpy.ndarray, half: int, rows: numpy.ndarray, columns: numpy.ndarray
+) -> _Around:
+    """What lies around the pixels of these rows and columns, in boxes that end where the image does."""
+    bounds = []
+    for at, side in ((rows, numbers.shape[0]), (columns, numbers.shape[1])):
+        bounds += [numpy.maximum(at - half, 0), numpy.minimum(at + half + 1, side)]
+    count = boxes.within(boxes.sums(beside, "i4"), *bounds)
+    return _Around(count, boxes.within(boxes.sums(numpy.where(beside, numbers, 0)), *bounds))
 
 
-def _around(numbers: numpy.ndarray, beside: numpy.ndarray, half: int) -> _Around:
-    return _Around(_box_sums(beside, half), _box_sums(numpy.where(beside, numbers, 0), half))
-
-
-def _halos(above: numpy.ndarray, labels: numpy.ndarray, segments: numpy.ndarray) -> Iterator[Tuple]:
-    """The components that have pixels away from the sources that stand on them: where each is, its pixels there, and
-    those away from sources.
+def _halos(above: numpy.ndarray, labels: numpy.ndarray, segments: numpy.ndarray, least: float) -> Iterator[Tuple]:
+    """The components that have so many pixels away from the sources that stand on them: where each is, its pixels
+    there, and those away from sources.
     """
     away = (labels != 0) & ~grown(segments != 0, BESIDE)
     if not away.any():
         return
     components, _ = ndimage.label(above, numpy.ones((3, 3)))
-    boxes = ndimage.find_objects(components)
-    for number in numpy.unique(components[away]).tolist():
-        at = boxes[number - 1]
+    found = ndimage.find_objects(components)
+    count = numpy.bincount(components[away])
+    for number in numpy.flatnonzero(count >= least).tolist():
+        at = found[number - 1]
         own = components[at] == number
         yield at, own, away[at] & own
 
@@ -80,21 +77,25 @@ def kept(
     threshold: int,
     area: int,
     width: float,
+    variance: Variance = lambda light: 1.0,
 ) -> numpy.ndarray:
     """Whether each source of a map stays, by number. `numbers` are those of the window in which the program found them
     with this threshold and this least area, the least 32-bit number where undefined; `labels` is the map without gaps,
-    and the width that of a point source.
+    the width that of a point source, and `variance` gives that of the noise on some light, over that of the sky.
     """
     half, above = _half(width), numbers >= threshold
+    least = LEAST_SHARE * (2 * half + 1) ** 2
     undefined = numbers == numpy.iinfo(numbers.dtype).min
-    around = _around(numbers, ~grown(labels != 0, CLOSE) & ~above & ~undefined, half)
-    for at, own, away in _halos(above, labels, segments):
-        more = _around(numbers[at], away, half)
-        around.count[at][own] += more.count[own]
-        around.total[at][own] += more.total[own]
     places = numpy.flatnonzero(segments)
-    count, total = around.count.ravel()[places], around.total.ravel()[places]
-    known = count >= LEAST_SHARE * (2 * half + 1) ** 2
-    light = numpy.where(known, numpy.maximum(total / numpy.maximum(count, 1), 0), 0)
-    stand_out = numbers.ravel()[places] >= threshold + light
+    count, total = _around(
+        numbers, ~(grown(labels != 0, CLOSE) | above | undefined), half, *numpy.divmod(places, numbers.shape[1])
+    )
+    for at, own, away in _halos(above, labels, segments, least):
+        rows, columns = numpy.nonzero(own & (segments[at] != 0))
+        more = _around(numbers[at], away, half, rows, columns)
+        here = numpy.searchsorted(places, (rows + at[0].start) * numbers.shape[1] + columns + at[1].start)
+        count[here] += more.count
+        total[here] += more.total
+    light = numpy.where(count >= least, numpy.maximum(total / numpy.maximum(count, 1), 0), 0)
+    stand_out = numbers.ravel()[places] >= light + threshold * numpy.sqrt(variance(light))
     return numpy.bincount(segments.ravel()[places], stand_out, int(labels.max(initial=0)) + 1)[1:] >= area

@@ -19,7 +19,7 @@ from astropy.io import fits
 from astropy.table import Table, vstack
 from astropy.utils.exceptions import AstropyWarning
 
-from . import __version__, adding, detection, images, kernel, surveys, tables
+from . import __version__, adding, cosmic, detection, images, kernel, surveys, tables
 from .errors import Mistake
 from .starting import ended_by_signals
 from .words import Parser, called, finite, whole
@@ -122,7 +122,7 @@ def _add_read(what) -> None:
     what.add_argument(
         "--gain",
         type=finite(above=0),
-        help="electrons for a unit of the image, for the errors (default: the header's GAIN)",
+        help="electrons for a unit of the image that is measured, for the errors (default: its header's GAIN)",
     )
     what.add_argument(
         "--saturation", type=finite(), help="pixels from this value on are flagged (default: the header's SATURATE)"
@@ -147,10 +147,10 @@ def _add_how(how) -> None:
     how.add_argument(
         "--split-sigmas",
         type=deviations,
-        default=2.0,
+        default=1.0,
         metavar="K",
         help="how many deviations of the noise a part of a component stands above where it meets another one, if it is "
-        "a source of its own (default: 2)",
+        "a source of its own; on a wide source more (default: 1)",
     )
     how.add_argument(
         "--contrast",
@@ -163,6 +163,16 @@ def _add_how(how) -> None:
         action="store_false",
         dest="clean",
         help="keep the peaks of noise on faint light, as on a galaxy's halo",
+    )
+    how.add_argument(
+        "--cosmic-rays",
+        action="store_true",
+        help="leave out the pixels that cosmic rays have hit, by astroscrappy; for stars at least 2 pixels wide",
+    )
+    how.add_argument(
+        "--wide",
+        action="store_true",
+        help="look for wide faint sources besides, in the means of blocks of 8 by 8 pixels",
     )
     how.add_argument(
         "--mesh",
@@ -237,6 +247,8 @@ def _field(plane: images.Plane, given: argparse.Namespace) -> detection.Field:
         contrast=given.contrast,
         split_sigmas=given.split_sigmas,
         clean=given.clean,
+        cosmic_rays=given.cosmic_rays,
+        wide=given.wide,
         weight_type=given.weight_type or "weight",
         local=given.rms == "local",
         gain=given.gain or measured.positive("GAIN"),
@@ -324,6 +336,8 @@ def _check(given: argparse.Namespace) -> None:
         raise Mistake("--survey is for one HDU of each image; name it with --hdu")
     if given.weight_type and not given.weight:
         raise Mistake("--weight-type wants a --weight")
+    if given.cosmic_rays:
+        cosmic.check()
     if given.weight and given.rms == "local":
         raise Mistake("--rms local and --weight exclude each other")
 

@@ -6,7 +6,7 @@ from typing import Callable, Optional, Union
 import numpy
 from astropy.table import Table, hstack
 
-from . import cleaning, kernel, looks, measuring, photometry, pieces, scaling, sky, tiles
+from . import cleaning, cosmic, kernel, looks, measuring, photometry, pieces, scaling, sky, tiles, wide
 from .fields import KINDS, LEAST_MESH, MOST_MESH, TILE, Field, Settings, noise_of, sky_of
 from .tiles import Box
 
@@ -42,7 +42,7 @@ class Detector:
             numbers, how.threshold, program=self.program, mesh=0, **options, **self.strips
         )
         least = settings.split_sigmas if settings.contrast is None else 0
-        parts = pieces.sources(numbers, catalogue, segments, how.threshold, how.significance, least)
+        parts = pieces.sources(numbers, catalogue, segments, how.threshold, how.significance, least, how.patch)
         if settings.clean:
             parts = self._cleaned(numbers, parts)
         return tiles.Look(
@@ -55,7 +55,9 @@ class Detector:
     def _cleaned(self, numbers: numpy.ndarray, parts: pieces.Parts) -> pieces.Parts:
         """The sources without those that are but peaks of noise on faint light."""
         how = self.how
-        kept = cleaning.kept(numbers, parts.segments, parts.labels, how.threshold, how.min_area, how.width)
+        kept = cleaning.kept(
+            numbers, parts.segments, parts.labels, how.threshold, how.min_area, how.width, how.variance
+        )
         if kept.all():
             return parts
         new = numpy.zeros(len(kept) + 1, dtype="i4")
@@ -82,6 +84,8 @@ def sources(
     where there is no weight map.
     """
     found = sky_of(field)
+    if field.settings.cosmic_rays:
+        field = dataclasses.replace(field, struck=cosmic.struck(field, found))
     detector = Detector(field, found, looks.way(field, found), program)
     segments = numpy.zeros(field.shape, dtype="i4") if segments is None else segments
     cores = detector.plan.cores()
@@ -93,11 +97,40 @@ def sources(
     points = measuring.points_of(detector, beside)
     table = hstack([table, measuring.measured(detector, beside, points, table, segments, executor, progress)])
     table["FLAGS"] |= numpy.where(cut, photometry.CUT, 0).astype(table["FLAGS"].dtype)
+    if field.settings.wide:
+        table = _with_wide(detector, table, segments, executor)
     tiles.hide(segments)
     table.meta.update(detector.how.meta, GROWTH=points is not None)
+    if field.struck is not None:
+        table.meta["NCOSMIC"] = int(field.struck.sum())
     # With a weight map the sky's noise is a factor, and no noise of the image.
     if field.weights is None:
         table.meta["SIGMA"] = detector.sky.noise
+    return table
+
+
+def _with_wide(detector: Detector, table: Table, segments: numpy.ndarray, executor) -> Table:
+    """The sources of a field with the wide ones that are found besides; its map gets them too.
+
+    Wide sources are measured above the sky in which they are found, and other sources as if they weren't there: their
+    light is that of both.
+    """
+    field, found = wide.beneath(detector.field)
+    more = wide.found(field, found, segments, detector.program)
+    if not len(more.rows):
+        return table
+    more.rows["NUMBER"] = numpy.arange(len(table) + 1, len(table) + len(more.rows) + 1, dtype="i4")
+    for number, (box, own) in zip(more.rows["NUMBER"].tolist(), more.places):
+        segments[box.rows, box.columns][own] = number
+    how = dataclasses.replace(detector.how, threshold=wide.THRESHOLD)
+    detector = Detector(field, found, how, detector.program)
+    beside = measuring.sky_beside(detector, segments, executor)
+    rows = hstack([more.rows, measuring.measured(detector, beside, None, more.rows, segments, executor)])
+    rows["FLAGS"] |= photometry.WIDE
+    meta = table.meta
+    table, places = tiles.numbered([table, rows])
+    tiles.renumber(segments, places)
+    table.meta = meta
     return table
 
 

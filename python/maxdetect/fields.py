@@ -26,11 +26,13 @@ class Settings:
     `sigmas` is the threshold in deviations of the noise of what is looked at, `fwhm` the width of the Gaussian that
     smooths the image before, in pixels: by default that of its point sources, 0 for none. `mesh` is the side of the
     cells of the background, 0 for one level; `min_area` is in pixels. `contrast` is the program's, in thousandths;
-    without one a component is split as far as its parts stand `split_sigmas` deviations above where they meet. `clean`
-    leaves out the peaks of noise on faint light. `weight_type` says what the weight map has, and `local` takes the
-    noise by cells. `gain` is in electrons for a unit of the image, and from `saturation` on pixels are saturated: both
-    those of the image that is measured in. Where that is another one than sources are looked for in, `own_gain` and
-    `own_saturation` are those of the latter.
+    without one a component is split as far as its parts stand `split_sigmas` deviations above where they meet, and
+    more on a wide source. `clean` leaves out the peaks of noise on faint light, and
+    `cosmic_rays` the pixels that these have hit; with `wide` wide
+    faint sources are looked for besides. `weight_type` says what the weight map
+    has, and `local` takes the noise by cells. `gain` is in electrons for a unit of the image, and from `saturation` on
+    pixels are saturated: both those of the image that is measured in. Where that is another one than sources are
+    looked for in, `own_gain` and `own_saturation` are those of the latter.
     """
 
     sigmas: Optional[float] = None
@@ -38,8 +40,10 @@ class Settings:
     mesh: int = 64
     min_area: Optional[int] = None
     contrast: Optional[int] = None
-    split_sigmas: float = 2.0
+    split_sigmas: float = 1.0
     clean: bool = True
+    cosmic_rays: bool = False
+    wide: bool = False
     weight_type: str = "weight"
     local: bool = False
     gain: Optional[float] = None
@@ -72,6 +76,7 @@ class Field:
     mask: Optional[Plane] = None
     weights: Optional[Plane] = None
     values: Optional[Plane] = None
+    struck: Optional[numpy.ndarray] = None
 
     @property
     def shape(self) -> Tuple[int, int]:
@@ -79,7 +84,10 @@ class Field:
 
     def image(self, rows: slice, columns: slice = slice(None)) -> numpy.ndarray:
         """Its pixels in a window less the plane's origin, NaN where they are undefined."""
-        return self._masked(self.plane, rows, columns)
+        image = self._masked(self.plane, rows, columns)
+        if self.struck is not None:
+            image[self.struck[rows, columns]] = numpy.nan
+        return image
 
     def _masked(self, plane, rows, columns):
         image = plane.window(rows, columns, plane.origin)
@@ -94,7 +102,7 @@ class Field:
 
     def to_measure(self, rows: slice, columns: slice) -> numpy.ndarray:
         """What fluxes are measured in, less its plane's origin."""
-        return self._masked(self.values or self.plane, rows, columns)
+        return self.image(rows, columns) if self.values is None else self._masked(self.values, rows, columns)
 
     @property
     def saturation(self) -> Optional[float]:

@@ -4,14 +4,14 @@ All of it is told once for the whole image, so that it is the same in every wind
 """
 import dataclasses
 import math
-from typing import Dict, Iterator, List, Optional, Tuple
+from typing import Dict, Iterator, List, Optional, Tuple, Union
 
 import numpy
 
 from . import pointlike, scaling, sky, smoothing
 from .fields import Field, noise_of
 
-__all__ = ["Way", "point_sources", "seen", "way"]
+__all__ = ["Way", "electrons", "point_sources", "seen", "way"]
 
 # Thresholds in deviations of the noise: with smoothing, and without, where as many false sources are found.
 SMOOTHED, UNSMOOTHED = 4.4, 2.25
@@ -21,8 +21,10 @@ PART, NARROW = 0.8, 2.0
 USUAL = 3.0
 # The least area over the square of the Gaussian's width, and the least of all; without smoothing it is one number.
 AREA, LEAST_AREA, UNSMOOTHED_AREA = 0.4, 2, 5
+# How many times the pixels that share noise have one peak of it that may pass for a part.
+PATCH = 4.0
 # Windows in which point sources are looked for: how many along a side, and how wide they are.
-WINDOWS, SIDE = 2, 1024
+WINDOWS, SIDE = 2, 768
 
 
 @dataclasses.dataclass(frozen=True)
@@ -47,11 +49,21 @@ class Way:
         if not area:
             return 0.0
         together = smoothing.correlated(self.smooth)
-        variance = 1.0
-        if self.electrons:
-            # What a pixel of the unsmoothed image has there, in deviations of its noise, adds its own electrons.
-            variance += max(level, 0) * self.noise / (scaling.SIGMA * math.sqrt(together) * self.electrons)
-        return light / scaling.SIGMA / math.sqrt(variance * area * min(area, together))
+        return light / scaling.SIGMA / math.sqrt(self.variance(level) * area * min(area, together))
+
+    @property
+    def patch(self) -> float:
+        """How many pixels of a wide source have one peak of noise."""
+        return PATCH * smoothing.correlated(self.smooth)
+
+    def variance(self, level: Union[int, numpy.ndarray]) -> Union[float, numpy.ndarray]:
+        """The variance of the noise at a level in the program's numbers, over that of the sky: what a pixel of the
+        unsmoothed image has there, in deviations of its noise, adds its own electrons.
+        """
+        if not self.electrons:
+            return 1.0
+        unsmoothed = self.noise / (scaling.SIGMA * math.sqrt(smoothing.correlated(self.smooth)))
+        return 1 + numpy.maximum(level, 0) * (unsmoothed / self.electrons)
 
     @property
     def meta(self) -> Dict[str, float]:
@@ -115,7 +127,7 @@ def _noise_behind(field: Field, found: sky.Sky, smooth: float) -> float:
     return noise if noise > 0 else 1.0
 
 
-def _electrons(field: Field, found: sky.Sky) -> Optional[float]:
+def electrons(field: Field, found: sky.Sky) -> Optional[float]:
     """The noise of a pixel in electrons: about the middle of the image where it isn't even."""
     if not field.own_gain:
         return None
@@ -149,10 +161,10 @@ def way(field: Field, found: sky.Sky) -> Way:
     if smooth:
         noise = _noise_behind(field, found, smooth)
         area = max(LEAST_AREA, round(AREA * smooth**2))
-    electrons = _electrons(field, found)
+    own = electrons(field, found)
     sigmas = settings.sigmas
     if sigmas is None:
-        sigmas = _skewed(SMOOTHED if smooth else UNSMOOTHED, electrons, smooth)
+        sigmas = _skewed(SMOOTHED if smooth else UNSMOOTHED, own, smooth)
     return Way(
         smooth,
         noise,
@@ -160,5 +172,5 @@ def way(field: Field, found: sky.Sky) -> Way:
         points,
         scaling.threshold(sigmas),
         settings.min_area or area,
-        electrons,
+        own,
     )

@@ -65,7 +65,9 @@ def points_of(detector: "Detector", found: Optional[sky.Sky]) -> Optional[pointl
         return detector.how.points
     if found is None or not found.noise > 0:
         return None
-    return looks.point_sources(dataclasses.replace(field, plane=field.values, values=None, weights=None), found)
+    return looks.point_sources(
+        dataclasses.replace(field, plane=field.values, values=None, weights=None, struck=None), found
+    )
 
 
 class _Window:
@@ -95,6 +97,7 @@ class _Window:
             saturation=field.saturation,
             points=self.points,
             threshold=self.detector.how.threshold,
+            struck=None if field.struck is None else field.struck[box.rows, box.columns],
         )
         return tiles.moved(found, box.left, box.top)
 

@@ -1,13 +1,56 @@
 """Rows of the program's catalogue for nodes of its tree that it didn't pick, by the same definitions."""
-from typing import Dict, List, Optional, Tuple
+from typing import Dict, List, NamedTuple, Optional, Tuple
 
 import numpy
 from astropy.table import Table, vstack
-from scipy import ndimage
 
 from .columns import CATALOGUE
 
 __all__ = ["rows", "stacked"]
+
+AROUND = [(down, across) for down in (-1, 0, 1) for across in (-1, 0, 1) if down or across]
+# Sums of numbers of 32 bits times places are taken by halves of so many bits: each has room in 64.
+HALF = 16
+
+
+class _Sorted(NamedTuple):
+    """The pixels of some nodes, those of each one behind the other, row by row; and where each node begins."""
+
+    rows: numpy.ndarray
+    columns: numpy.ndarray
+    values: numpy.ndarray
+    starts: numpy.ndarray
+
+    def sums(self, values: numpy.ndarray) -> numpy.ndarray:
+        return numpy.add.reduceat(values, self.starts)
+
+    def least(self, values: numpy.ndarray) -> numpy.ndarray:
+        return numpy.minimum.reduceat(values, self.starts)
+
+    def greatest(self, values: numpy.ndarray) -> numpy.ndarray:
+        return numpy.maximum.reduceat(values, self.starts)
+
+    def each(self, values: numpy.ndarray) -> numpy.ndarray:
+        """The nodes' values at their pixels."""
+        return numpy.repeat(values, numpy.diff(self.starts, append=len(self.rows)))
+
+    def among(self, chosen: numpy.ndarray) -> "_Sorted":
+        """The pixels that are chosen; each node has one."""
+        starts = numpy.concatenate([[0], numpy.cumsum(self.sums(chosen.astype("i8")))[:-1]])
+        return _Sorted(self.rows[chosen], self.columns[chosen], self.values[chosen], starts)
+
+
+def _pixels(numbers: numpy.ndarray, labels: numpy.ndarray, wanted: numpy.ndarray) -> _Sorted:
+    """The pixels of some labels, in the order of these."""
+    place = numpy.full(int(labels.max(initial=0)) + 1, len(wanted))
+    place[wanted] = numpy.arange(len(wanted))
+    at = numpy.flatnonzero(labels)
+    of = place[labels.ravel()[at]]
+    at, of = at[of < len(wanted)], of[of < len(wanted)]
+    order = numpy.argsort(of, kind="stable")
+    at, of = at[order], of[order]
+    rows, columns = numpy.divmod(at, labels.shape[1])
+    return _Sorted(rows, columns, numbers.ravel()[at].astype("i8"), numpy.searchsorted(of, numpy.arange(len(wanted))))
 
 
 def rows(
@@ -18,59 +61,57 @@ def rows(
     A node has the pixels of its label above its base. A base of None stands for the greatest number beside the label:
     the label is a whole component then.
     """
-    found, whole = [], numpy.zeros_like(labels)
-    boxes = ndimage.find_objects(labels)
-    for number, base in zip(wanted.tolist(), bases):
-        part = boxes[number - 1]
-        own = labels[part] == number
-        if base is None:
-            base = _greatest_beside(numbers, own, part)
-        if base is not None:
-            own &= numbers[part] > base
-        whole[part][own] = number
-        found.append(_row(number, numbers[part], own, base, part))
-    table = Table({name: numpy.array([row[name] for row in found], dtype=_type(name)) for name in found[0]})
-    return table, whole
+    pixels, whole = _pixels(numbers, labels, wanted), numpy.zeros_like(labels)
+    beside, none = _greatest_beside(numbers, labels, pixels), numpy.iinfo(numbers.dtype).min
+    base = numpy.array([level if told is None else told for told, level in zip(bases, beside.tolist())], dtype="i8")
+    # Where nothing beside is defined all pixels are the node's, and the least of them is its base.
+    pixels = pixels.among(pixels.values > pixels.each(base))
+    base = numpy.where(base == none, pixels.least(pixels.values), base)
+    whole[pixels.rows, pixels.columns] = pixels.each(wanted)
+    columns = {"NUMBER": wanted, **_columns(pixels, base)}
+    return Table({name: it.astype(_type(name)) for name, it in columns.items()}), whole
 
 
 def _type(name: str) -> str:
     return {"J": "i4", "K": "i8"}[CATALOGUE[name].form]
 
 
-def _greatest_beside(numbers: numpy.ndarray, own: numpy.ndarray, part: Tuple[slice, slice]) -> Optional[int]:
-    """The greatest number beside a component, or None where no pixel there is defined."""
-    wide = tuple(slice(max(0, it.start - 1), it.stop + 1) for it in part)
-    inside = numpy.zeros(numbers[wide].shape, dtype=bool)
-    at = tuple(slice(it.start - outer.start, it.stop - outer.start) for it, outer in zip(part, wide))
-    inside[at] = own
-    beside = ndimage.binary_dilation(inside, numpy.ones((3, 3))) & ~inside
-    greatest = numbers[wide][beside].max(initial=numpy.iinfo(numbers.dtype).min)
-    return None if greatest == numpy.iinfo(numbers.dtype).min else int(greatest)
+def _greatest_beside(numbers: numpy.ndarray, labels: numpy.ndarray, pixels: _Sorted) -> numpy.ndarray:
+    """The greatest number beside each label, the least one of its type where no pixel there is defined."""
+    least = numpy.iinfo(numbers.dtype).min
+    own = labels[pixels.rows, pixels.columns]
+    greatest = numpy.full(len(own), least, dtype="i8")
+    for down, across in AROUND:
+        rows, columns = pixels.rows + down, pixels.columns + across
+        inside = (rows >= 0) & (rows < labels.shape[0]) & (columns >= 0) & (columns < labels.shape[1])
+        rows, columns = rows[inside], columns[inside]
+        beside = numpy.where(labels[rows, columns] != own[inside], numbers[rows, columns], least)
+        greatest[inside] = numpy.maximum(greatest[inside], beside)
+    return pixels.greatest(greatest)
 
 
-def _row(number: int, numbers, own, base: Optional[int], part) -> Dict[str, int]:
-    """The row of a node; positions count from 1."""
-    y, x = numpy.nonzero(own)
-    values = numbers[own].astype("i8")
-    y, x = (y + part[0].start + 1).astype("i8"), (x + part[1].start + 1).astype("i8")
-    level = int(values.min())
-    base = level if base is None else base
-    flux, area = int((values - base).sum()), len(values)
-    row = {"NUMBER": number, "LEVEL": level, "BASE": base, "AREA": area, "FLUX": flux, "PEAK": int(values.max())}
-    row.update(XMIN=int(x.min()), XMAX=int(x.max()), YMIN=int(y.min()), YMAX=int(y.max()))
-    row.update(XFIRST=int(x[0]), YFIRST=int(y[0]))
+def _columns(pixels: _Sorted, base: numpy.ndarray) -> Dict[str, numpy.ndarray]:
+    """The columns of nodes with these pixels; positions count from 1."""
+    light = pixels.values - pixels.each(base)
+    flux, area = pixels.sums(light), pixels.sums(numpy.ones(len(light), dtype="i8"))
+    columns = {"LEVEL": pixels.least(pixels.values), "BASE": base, "AREA": area, "FLUX": flux}
+    columns["PEAK"] = pixels.greatest(pixels.values)
+    for name, places in (("X", pixels.columns), ("Y", pixels.rows)):
+        columns[f"{name}MIN"], columns[f"{name}MAX"] = pixels.least(places) + 1, pixels.greatest(places) + 1
+    columns["XFIRST"], columns["YFIRST"] = pixels.columns[pixels.starts] + 1, pixels.rows[pixels.starts] + 1
+    # From the box's corner, so that sums of products stay small.
+    x, y = (it + 1 - pixels.each(columns[f"{name}MIN"]) for name, it in (("X", pixels.columns), ("Y", pixels.rows)))
     # Without light all pixels count alike.
-    weights = numpy.where(own, numbers.astype("i8") - base if flux else 1, 0)
-    for name, axis, begin in (("XCEN", 0, part[1].start + 1), ("YCEN", 1, part[0].start + 1)):
-        # Sums along rows and columns fit in 64 bits; times places they may not.
-        sums = weights.sum(axis=axis).tolist()
-        row[name] = 1000 * sum(place * weight for place, weight in enumerate(sums, begin)) // (flux or area)
+    light = numpy.where(pixels.each(flux) == 0, 1, light)
+    for name, places in (("X", x), ("Y", y)):
+        high, low = pixels.sums(places * (light >> HALF)), pixels.sums(places * (light & (2**HALF - 1)))
+        # Whole numbers of any size, since a thousandth of such a sum may have no room in 64 bits.
+        total = (high.astype(object) << HALF) + low
+        columns[f"{name}CEN"] = 1000 * columns[f"{name}MIN"] + 1000 * total // numpy.where(flux == 0, area, flux)
     for name, one, other in (("XVAR", x, x), ("YVAR", y, y), ("XYCOV", x, y)):
-        # From the box's corner, so that sums of products stay small.
-        one, other = one - row["XMIN" if one is x else "YMIN"], other - row["XMIN" if other is x else "YMIN"]
-        above = area * int((one * other).sum()) - int(one.sum()) * int(other.sum())
-        row[name] = 1000 * above // area**2
-    return row
+        above = area.astype(object) * pixels.sums(one * other) - pixels.sums(one).astype(object) * pixels.sums(other)
+        columns[name] = 1000 * above // area.astype(object) ** 2
+    return columns
 
 
 def stacked(one: Table, other: Table) -> Table:

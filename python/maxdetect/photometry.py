@@ -17,7 +17,7 @@ import numpy
 import sep
 from astropy.table import Table
 
-from . import beside, totals
+from . import beside, boxes, totals
 from .beside import unit_of
 from .noise import of_array
 from .pointlike import PointSources
@@ -32,6 +32,8 @@ __all__ = [
     "CUT",
     "CROWDED",
     "BEYOND",
+    "STRUCK",
+    "WIDE",
     "FLAGS",
     "ellipses",
     "measured",
@@ -46,6 +48,8 @@ SPLIT = 8
 CUT = 16
 CROWDED = 32
 BEYOND = 64
+STRUCK = 128
+WIDE = 256
 FLAGS = {
     EDGE: "touches the image's edge",
     UNDEFINED: "touches an undefined pixel",
@@ -54,6 +58,8 @@ FLAGS = {
     CUT: "was cut by a tile",
     CROWDED: "its Kron ellipse holds pixels of other sources, or undefined ones",
     BEYOND: "its Kron ellipse reaches beyond the image",
+    STRUCK: "touches a pixel that a cosmic ray has hit",
+    WIDE: "is wide and faint, found in the means of blocks",
 }
 
 # The Kron radius is sought within this many standard deviations of a source's light; how many Kron radii its ellipse
@@ -240,19 +246,23 @@ def _half_light(residual, x, y, reach, flux, alone) -> numpy.ndarray:
     return half
 
 
-def _near(undefined: numpy.ndarray, x: numpy.ndarray, y: numpy.ndarray, reach: numpy.ndarray) -> numpy.ndarray:
-    """The places of the sources that have an undefined pixel so near their centres, by columns and rows."""
-    if not undefined.any():
-        return numpy.zeros(0, dtype=int)
-    sums = numpy.zeros([side + 1 for side in undefined.shape], dtype="i4")
-    numpy.cumsum(numpy.cumsum(undefined, axis=0, dtype="i4"), axis=1, out=sums[1:, 1:])
-    bounds = [
-        numpy.clip(at, 0, side).astype(int)
-        for centre, side in zip((y, x), undefined.shape)
-        for at in (numpy.floor(centre - reach) - 1, numpy.ceil(centre + reach) + 2)
-    ]
-    top, bottom, left, right = bounds
-    return numpy.flatnonzero(sums[bottom, right] - sums[top, right] - sums[bottom, left] + sums[top, left])
+class _Holes:
+    """The undefined pixels of an image, and which sources have one near them."""
+
+    def __init__(self, undefined: numpy.ndarray):
+        self.undefined = undefined
+        self._sums = boxes.sums(undefined, "i4") if undefined.any() else None
+
+    def near(self, x: numpy.ndarray, y: numpy.ndarray, reach: numpy.ndarray) -> numpy.ndarray:
+        """The places of the sources that have one so near their centres, by columns and rows."""
+        if self._sums is None:
+            return numpy.zeros(0, dtype=int)
+        bounds = [
+            numpy.clip(at, 0, side).astype(int)
+            for centre, side in zip((y, x), self.undefined.shape)
+            for at in (numpy.floor(centre - reach) - 1, numpy.ceil(centre + reach) + 2)
+        ]
+        return numpy.flatnonzero(boxes.within(self._sums, *bounds))
 
 
 class _Apertures:
@@ -268,15 +278,15 @@ class _Apertures:
     def _sum(self, image, chosen=slice(None), **how):
         return self.sums(image, *(it[chosen] for it in self.places), subpix=self.subpix, **how)
 
-    def fluxes(self, residual, noise, gain, undefined, alone) -> Tuple[numpy.ndarray, ...]:
+    def fluxes(self, residual, noise, gain, holes, alone) -> Tuple[numpy.ndarray, ...]:
         """Fluxes, their errors, SEP's flags, and which apertures have undefined pixels; fluxes are NaN where no pixel
         has a value.
         """
         flux, error, told = self._sum(residual, err=noise, **alone)
-        holed, near = numpy.zeros(len(flux), dtype=bool), _near(undefined, *self.places[:2], self.reach)
+        holed, near = numpy.zeros(len(flux), dtype=bool), holes.near(*self.places[:2], self.reach)
         if near.size:
-            unseen, _, _ = self._sum(undefined.astype("f4"), near)
-            area, _, _ = self._sum(numpy.ones(undefined.shape, dtype="f4"), near)
+            unseen, _, _ = self._sum(holes.undefined.astype("f4"), near)
+            area, _, _ = self._sum(numpy.ones(residual.shape, dtype="f4"), near)
             with numpy.errstate(divide="ignore"):
                 times = numpy.where(area > unseen, area / (area - unseen), numpy.nan)
             times, near = times[unseen > 0], near[unseen > 0]
@@ -300,6 +310,7 @@ def measured(
     aperture: float = APERTURE,
     points: Optional[PointSources] = None,
     threshold: Optional[int] = None,
+    struck: Optional[numpy.ndarray] = None,
 ) -> Table:
     """The photometry of the sources of a segmentation map, a row for each row of `catalogue`.
 
@@ -311,7 +322,8 @@ def measured(
     shared out to it, and counts as another source's for the others. With `gain`, in electrons for a unit of the
     image, the errors have the sources' own noise too. Pixels from `saturation` on are saturated. `aperture` is the
     radius of the circle in pixels. `points` are the image's point sources: without them FLUX_TOTAL is FLUX_AUTO.
-    `threshold` is the one that the kernel was given; by default it is taken for the least LEVEL.
+    `threshold` is the one that the kernel was given; by default it is taken for the least LEVEL. `struck` says which
+    pixels cosmic rays have hit, for a flag.
 
     Columns: X, Y, FLUX_ISO, FLUXERR_ISO, FLUX_AUTO, FLUXERR_AUTO, FLUX_TOTAL, FLUXERR_TOTAL, KRON_RADIUS (half the
     long axis of the ellipse of FLUX_AUTO, in pixels), FLUX_APER, FLUXERR_APER, A, B, THETA, FWHM (the diameter that
@@ -339,8 +351,10 @@ def measured(
     defined = pixels.among(~undefined)
     flux, error = _isophotal(defined, residual, noise, gain)
     flags = _flags(pixels, image, undefined, catalogue, numbers, saturation, threshold)
+    if struck is not None and struck.any():
+        flags |= STRUCK * pixels.having(grown(struck, 1).ravel()[pixels.places])[numbers]
     gathered = _gathered(defined, residual, catalogue)
-    how = (residual, noise, gain, undefined)
+    how = (residual, noise, gain, _Holes(undefined))
     split = (flags & SPLIT) != 0
     apertures = _apertures(how, numpy.abs(segments), catalogue, gathered, aperture, points, split)
     table = Table({"X": numpy.asarray(catalogue["XCEN"]) / 1000, "Y": numpy.asarray(catalogue["YCEN"]) / 1000})

@@ -3,9 +3,11 @@
 Without a contrast the program splits a component wherever two parts with the least area each stand above the level at
 which they meet. Some of these parts are peaks of noise on what they stand on. So parts are joined again, from the
 highest meeting place down, as long as one of two has less light above it than so many deviations of the noise there.
-What is left are nodes of the same tree: each reaches down to where it meets the next one. So what is made of a
-component depends on its own pixels alone.
+The wider what they stand on is, the more peaks of noise it has, and the more deviations the greatest of them: about
+the root of twice the logarithm of their number. What is left are nodes of the same tree: each reaches down to where it
+meets the next one. So what is made of a component depends on its own pixels alone.
 """
+import math
 from typing import Callable, List, NamedTuple, Tuple
 
 import numpy
@@ -46,21 +48,21 @@ def _share_out(grid: _Grid) -> None:
     peak without a source holds to the neighbour that stands highest.
     """
     places = grid.places
-    best, up = grid.numbers[places], places.copy()
-    for step in grid.steps(True):
-        beside = grid.numbers[places + step]
-        higher = beside > best
-        best[higher], up[higher] = beside[higher], (places + step)[higher]
-    way = numpy.zeros(len(grid.numbers), dtype="i8")
-    way[places] = numpy.where(grid.labels[places] != 0, places, up)
-    at = places
-    while True:
-        further = way[at]
-        if (further == at).all():
-            break
-        at = further
-    grid.labels[places] = grid.labels[at]
     rest = places[grid.labels[places] == 0]
+    best, up = grid.numbers[rest], rest.copy()
+    for step in grid.steps(True):
+        beside = grid.numbers[rest + step]
+        higher = beside > best
+        best[higher], up[higher] = beside[higher], (rest + step)[higher]
+    way = numpy.empty(len(grid.numbers), dtype="i8")
+    way[places], way[rest] = places, up
+    while True:
+        further = way[up]
+        if (further == up).all():
+            break
+        way[rest] = up = further
+    grid.labels[rest] = grid.labels[up]
+    rest = rest[grid.labels[rest] == 0]
     while rest.size:
         best, label = numpy.full(rest.size, numpy.iinfo(grid.numbers.dtype).min), numpy.zeros(rest.size, dtype="i4")
         for step in grid.steps(True):
@@ -100,15 +102,18 @@ def _meetings(grid: _Grid) -> _Meetings:
 
 
 class _Light:
-    """How many pixels of a part stand above a level, and how much light they have there."""
+    """How many pixels of some parts stand above a level, and how much light they have there."""
 
-    def __init__(self, grid: _Grid, count: int):
-        inside = grid.places[grid.labels[grid.places] != 0]
-        labels, numbers = grid.labels[inside], grid.numbers[inside]
-        order = numpy.lexsort((-numbers.astype("i8"), labels))
-        self.falling = -numbers[order].astype("i8")
+    def __init__(self, grid: _Grid, parts: numpy.ndarray, count: int):
+        labels = grid.labels[grid.places]
+        inside = numpy.isin(numpy.arange(count + 1), parts)[labels]
+        # One number for a pixel, so that they are sorted at once: its part, and the less the greater its number is.
+        greatest = numpy.iinfo("i4").max
+        keys = (labels[inside].astype("i8") << 32) + (greatest - grid.numbers[grid.places[inside]].astype("i8"))
+        keys.sort()
+        self.falling = (keys & (2**32 - 1)) - greatest
         self.sums = numpy.concatenate([[0], -numpy.cumsum(self.falling)])
-        self.starts = numpy.searchsorted(labels[order], numpy.arange(count + 2))
+        self.starts = numpy.searchsorted(keys >> 32, numpy.arange(count + 2))
 
     def above(self, part: int, level: int) -> Tuple[int, int]:
         begin, end = self.starts[part], self.starts[part + 1]
@@ -116,7 +121,14 @@ class _Light:
         return area, int(self.sums[begin + area] - self.sums[begin]) - area * level
 
 
-def _owners(meetings: _Meetings, light: _Light, count: int, significance: Significance, least: float) -> numpy.ndarray:
+def _needed(area: int, least: float, patch: float) -> float:
+    """How many deviations a part stands above where it meets one with so many pixels there."""
+    return math.sqrt(least**2 + 2 * math.log(max(1.0, area / patch)))
+
+
+def _owners(
+    meetings: _Meetings, light: _Light, count: int, significance: Significance, least: float, patch: float
+) -> numpy.ndarray:
     """For each part the number of the one to which it belongs in the end."""
     owner = list(range(count + 1))
     members = {part: [part] for part in owner}
@@ -130,7 +142,8 @@ def _owners(meetings: _Meetings, light: _Light, count: int, significance: Signif
         if one == other:
             continue
         of_one, of_other = above(one, level), above(other, level)
-        if min(significance(*of_one, level), significance(*of_other, level)) < least:
+        needed = _needed(max(of_one[0], of_other[0]), least, patch)
+        if min(significance(*of_one, level), significance(*of_other, level)) < needed:
             kept, gone = (one, other) if of_one[1] >= of_other[1] else (other, one)
             for part in members.pop(gone):
                 owner[part] = kept
@@ -155,15 +168,19 @@ def sources(
     threshold: int,
     significance: Significance,
     least: float,
+    patch: float = math.inf,
 ) -> Parts:
     """The sources of a window's whole numbers, of which the program found these rows and this map.
 
-    Parts with less than `least` deviations of the noise are joined with what they stand on; with 0 none are.
+    Parts with less than `least` deviations of the noise are joined with what they stand on; with 0 none are. Where
+    that has more than `patch` pixels, a part has to have more of them.
     """
     count, grid = len(catalogue), _Grid(numbers, segments, threshold)
     _share_out(grid)
-    meetings = _meetings(grid)
-    owner = _owners(meetings, _Light(grid, count), count, significance, least) if least > 0 else numpy.arange(count + 1)
+    meetings, owner = _meetings(grid), numpy.arange(count + 1)
+    if least > 0 and meetings.ones:
+        light = _Light(grid, numpy.array([meetings.ones, meetings.others]), count)
+        owner = _owners(meetings, light, count, significance, least, patch)
     if (owner == numpy.arange(count + 1)).all():
         return Parts(catalogue, segments, grid.map())
     grid.labels = owner.astype("i4")[grid.labels]
@@ -184,11 +201,15 @@ def _with_changed(catalogue, segments, labels, owner, changed: Table, whole: num
     alone[0] = False
     alone[numpy.asarray(changed["NUMBER"])] = False
     joined = numpy.isin(owner, changed["NUMBER"])
-    segments = numpy.where(joined[segments] | (whole != 0), whole, segments)
     rows = catalogue[alone[numpy.asarray(catalogue["NUMBER"])]]
     rows = nodes.stacked(rows, changed)
     rows = rows[numpy.lexsort((rows["XFIRST"], rows["YFIRST"]))]
     new = numpy.zeros(len(owner), dtype="i4")
     new[numpy.asarray(rows["NUMBER"])] = numpy.arange(1, len(rows) + 1)
     rows["NUMBER"] = numpy.arange(1, len(rows) + 1, dtype=rows["NUMBER"].dtype)
-    return Parts(rows, new[segments], new[labels])
+    # Only where there are sources, which is far from everywhere.
+    places, shown, gapless = numpy.flatnonzero(labels), numpy.zeros_like(labels), numpy.zeros_like(labels)
+    own, nodes_there = segments.ravel()[places], whole.ravel()[places]
+    shown.ravel()[places] = new[numpy.where(joined[own] | (nodes_there != 0), nodes_there, own)]
+    gapless.ravel()[places] = new[labels.ravel()[places]]
+    return Parts(rows, shown, gapless)

@@ -13,12 +13,12 @@ __all__ = ["FEWEST", "PointSources", "of"]
 
 # How many deviations of the noise a pixel of a source that is looked at has, how many such pixels there are, how
 # many sources are looked at in a window, the brightest first, and how many alike tell enough.
-BRIGHT, LEAST_AREA, MOST, FEWEST = 10.0, 4, 200, 5
+BRIGHT, LEAST_AREA, MOST, FEWEST = 10.0, 4, 100, 5
 # Half-light radii that are alike lie so far, as a part of it, from the one that most have.
 ALIKE = 0.15
 # Radii in pixels within which light is summed up; the first circle that is taken for all of a source; and how many
 # half-light radii later ones have.
-RADII = numpy.concatenate([numpy.arange(0.5, 8, 0.25), numpy.arange(8, 31, 1.0)])
+RADII = numpy.concatenate([numpy.arange(0.5, 8, 0.25), numpy.arange(8, 31, 2.0)])
 FIRST, REACH = 8.0, 6.0
 
 
@@ -62,7 +62,7 @@ def _growth(image: numpy.ndarray, undefined: numpy.ndarray, limit: numpy.ndarray
     numbers = numbers[numpy.argsort(-sources["flux"][numbers], kind="stable")][:MOST]
     x, y, _ = sep.winpos(image, sources["x"][numbers], sources["y"][numbers], numpy.full(len(numbers), 1.0))
     alone = {"seg_id": (numbers + 1).astype("i4"), "segmap": segments, "mask": undefined}
-    sums = [sep.sum_circle(image, x, y, radius, subpix=11 if radius < 4 else 5, **alone) for radius in RADII]
+    sums = [sep.sum_circle(image, x, y, radius, subpix=0, **alone) for radius in RADII]
     whole = numpy.all([(told & sep.APER_HASMASKED) == 0 for _, _, told in sums[: numpy.searchsorted(RADII, 4)]], axis=0)
     return numpy.array([flux for flux, _, _ in sums]).T[whole]
 

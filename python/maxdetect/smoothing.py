@@ -14,6 +14,8 @@ WIDTH, REACH = 2 * math.sqrt(2 * math.log(2)), 4.0
 # The noise is told in cells of so many widths, and at least so many pixels, along a side: so narrow that a sky which
 # is uneven isn't noise. So many rows of cells tell enough.
 CELL, LEAST_CELL, MOST_BANDS = 6, 16, 24
+# How many pixels are summed up at a time.
+CACHED = 2**16
 
 
 def margin(width: float) -> int:
@@ -55,9 +57,23 @@ def smoothed(image: numpy.ndarray, width: float) -> numpy.ndarray:
 
 def _along_both(image: numpy.ndarray, weights: numpy.ndarray) -> numpy.ndarray:
     """The sums over the neighbours, weighted along rows and columns; beyond the edge is nothing."""
-    for axis in (0, 1):
-        image = ndimage.correlate1d(image, weights, axis, output="f4", mode="constant")
-    return image
+    return ndimage.correlate1d(_down(image, weights), weights, 1, output="f4", mode="constant")
+
+
+def _down(image: numpy.ndarray, weights: numpy.ndarray) -> numpy.ndarray:
+    """The sums down the columns, by weights that are alike on both sides: some rows at a time, so that these stay in
+    the processor's cache. SciPy goes column by column, and takes five times as long.
+    """
+    reach, weights = len(weights) // 2, weights.astype("f4")
+    padded, sums = numpy.pad(image, [(reach, reach), (0, 0)]), numpy.empty_like(image)
+    band = max(1, CACHED // image.shape[1])
+    for top in range(0, len(image), band):
+        own = sums[top : top + band]
+        rows = [padded[top + step : top + step + len(own)] for step in range(len(weights))]
+        numpy.multiply(rows[reach], weights[reach], out=own)
+        for step in range(reach):
+            own += (rows[step] + rows[-step - 1]) * weights[step]
+    return sums
 
 
 def noise_behind(read: Callable[[slice], numpy.ndarray], height: int, width: float) -> float:

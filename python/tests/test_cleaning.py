@@ -124,11 +124,12 @@ def test_a_window_decides_as_the_whole(seed):
     assert decisions > 5
 
 
-def test_box_sums():
-    image = numpy.random.default_rng(8).integers(-(2**31), 2**31, (23, 31))
-    sums = cleaning._box_sums(image, 4)
-    for y, x in ((0, 0), (11, 30), (22, 5), (12, 13)):
-        assert sums[y, x] == image[max(0, y - 4) : y + 5, max(0, x - 4) : x + 5].sum()
+def test_on_light_with_its_own_noise_more_is_asked():
+    numbers = seen(halo(height=1.2), 7)
+    parts = parts_of(numbers)
+    how = (numbers, parts.segments, parts.labels, THRESHOLD, AREA, WIDTH)
+    even, brighter = cleaning.kept(*how), cleaning.kept(*how, lambda light: 1 + light / 30)
+    assert even.sum() > brighter.sum() and not (brighter & ~even).any()
 
 
 def test_the_reach_follows_the_width():
@@ -141,3 +142,20 @@ def test_the_whole_way_cleans_unless_told_not_to():
     cleaned, segments = maxdetect.catalogue(image, mesh=256)
     kept, _ = maxdetect.catalogue(image, mesh=256, clean=False)
     assert len(cleaned) <= 5 < len(kept) and segments.max() == len(cleaned)
+
+
+@pytest.mark.parametrize("fwhm", (20.0, 50.0))
+def test_tiles_decide_as_the_whole_where_the_box_is_wider_than_their_margin(fwhm):
+    rng, side = numpy.random.default_rng(5), 640
+    rows, columns = numpy.mgrid[:side, :side]
+    image = rng.normal(500, 10, (side, side))
+    for x, y, radius, height in zip(*rng.uniform(0, side, (2, 60)), rng.uniform(5, 60, 60), rng.uniform(9, 90, 60)):
+        image += height * numpy.exp(-((columns - x) ** 2 + (rows - y) ** 2) / (2 * radius**2))
+    image[300:310, 200:500] = numpy.nan
+    options = dict(fwhm=fwhm, mesh=256, sigmas=2.0)
+    whole, whole_map = maxdetect.catalogue(image, **options)
+    kept, _ = maxdetect.catalogue(image, clean=False, **options)
+    table, segments = maxdetect.catalogue(image, tile=200, **options)
+    assert 0 < len(whole) <= len(kept) and (segments == whole_map).all()
+    for name in whole.colnames:
+        assert numpy.asarray(table[name]).tobytes() == numpy.asarray(whole[name]).tobytes(), name

@@ -242,3 +242,12 @@ def test_point_sources_hold_a_share_of_their_light():
     points = way(starry()).points
     assert isinstance(points, pointlike.PointSources) and points.share(points.half / 2) == pytest.approx(0.5, abs=0.01)
     assert points.share(numpy.inf) == 1
+
+
+@pytest.mark.parametrize("shape", ((3, 500), (90, 7), (700, 200)))
+def test_sums_down_the_columns(shape):
+    image = numpy.random.default_rng(11).normal(0, 1, shape).astype("f4")
+    weights = numpy.exp(-0.5 * numpy.arange(-6, 7) ** 2 / 4.0)
+    wanted = ndimage.correlate1d(image.astype("f8"), weights, 0, mode="constant")
+    assert smoothing._down(image, weights) == pytest.approx(wanted, abs=1e-5)
+    assert (smoothing._down(image[1:], weights)[7:-7] == smoothing._down(image, weights)[8:-7]).all()

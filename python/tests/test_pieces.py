@@ -186,3 +186,23 @@ def test_images_without_sources():
 def test_an_image_that_is_one_component():
     parts, _, _ = found(numpy.full((20, 20), 300, dtype="i4") + numpy.arange(20, dtype="i4"), 2)
     assert len(parts.catalogue) == 1 and (parts.labels == 1).all() and parts.catalogue["AREA"][0] == 400
+
+
+def test_more_is_needed_on_wide_parts():
+    assert pieces._needed(15, 1.0, 15.0) == pieces._needed(1, 1.0, 15.0) == 1.0
+    assert pieces._needed(1500, 1.0, 15.0) == pytest.approx(math.sqrt(1 + 2 * math.log(100)))
+    assert pieces._needed(10**9, 2.0, math.inf) == 2.0
+
+
+def test_a_wide_source_keeps_its_peaks_of_noise():
+    """Of a disc with noise on it more pieces are left where nothing is known of how wide it is."""
+    rows, columns = numpy.mgrid[:120, :120] - 60
+    disc = numpy.where(numpy.hypot(rows, columns) < 50, 400, 0)
+    noise = ndimage.gaussian_filter(numpy.random.default_rng(6).normal(0, 1, disc.shape), 1.2)
+    image = numpy.rint(disc + 30 * noise / noise.std()).astype("i4")
+    catalogue, segments = kernel.detect_stored(image, THRESHOLD * 3, mesh=0, min_area=3, contrast=0, connect=8)
+    counts = [
+        len(pieces.sources(image, catalogue, segments, THRESHOLD * 3, light, 1.0, patch).catalogue)
+        for patch in (math.inf, 60.0, 1.0)
+    ]
+    assert counts[0] > counts[1] >= counts[2] >= 1
