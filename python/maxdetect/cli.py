@@ -19,7 +19,7 @@ from astropy.io import fits
 from astropy.table import Table, vstack
 from astropy.utils.exceptions import AstropyWarning
 
-from . import __version__, adding, detection, images, kernel, surveys, tables
+from . import __version__, adding, detection, headings, images, kernel, surveys, tables
 from .errors import Mistake
 from .starting import ended_by_signals
 from .words import Parser, called, finite, whole
@@ -252,6 +252,7 @@ def _task(path: str, given: argparse.Namespace) -> Task:
     every = given.hdu == "all"
     planes = images.all_opened(path, given.plane) if every else [images.opened(path, given.hdu, given.plane)]
     fields = [_field(plane, given) for plane in planes]
+    _tell_inherited(path, fields, given)
     return Task(
         path,
         given.output or _default_output(path),
@@ -259,6 +260,15 @@ def _task(path: str, given: argparse.Namespace) -> Task:
         [(field.values or field.plane).unit for field in fields],
         _survey_field(path, given) if given.survey else None,
     )
+
+
+def _tell_inherited(path: str, fields: List[detection.Field], given: argparse.Namespace) -> None:
+    """Says which numbers of the primary header count for a file's extensions."""
+    asked = {"GAIN": given.gain, "SATURATE": given.saturation}
+    names = {name for field in fields for name in headings.inherited(field.values or field.plane)}
+    told = sorted(name for name in names if asked[name] is None)
+    if told:
+        _say(f"maxcat: {path}: {' and '.join(told)} of the primary header count for its extensions")
 
 
 def _survey_field(path: str, given: argparse.Namespace) -> str:
@@ -440,16 +450,26 @@ def _finished(table: Table, number: int, task: Task, given: argparse.Namespace) 
     """What was found in one of the fields, with all that a reader wants."""
     field, unit = task.fields[number], task.units[number]
     extension = _extension(field, task) if given.hdu == "all" else None
+    table.meta.update(headings.of_field(field, given.zeropoint), HDU=headings.plain(_extension(field, task)))
     return tables.finished(table, field.plane.header, zeropoint=given.zeropoint, unit=unit, extension=extension)
 
 
-def _joined(found: List[Table]) -> Table:
-    """The rows of all fields, with the cards that are alike in all of them."""
+def _joined(found: List[Table], task: Task, given: argparse.Namespace) -> Table:
+    """The rows of all fields, with cards that say what was used for each."""
     table = found[0] if len(found) == 1 else vstack(found, metadata_conflicts="silent")
-    cards = found[0].meta.items()
-    table.meta = {name: value for name, value in cards if all(other.meta.get(name) == value for other in found)}
-    table.meta["VERSION"] = f"maxcat {__version__}"
+    table.meta = headings.joined([it.meta for it in found])
+    table.meta.update(IMAGE=headings.plain(os.path.basename(task.path)), VERSION=f"maxcat {__version__}")
+    table.meta["OPTIONS"] = headings.plain(given.options)
     return table
+
+
+def _count_on(table: Table, segments: Optional[numpy.ndarray], before: int) -> None:
+    """Numbers the sources of a field, in its map too, from those that the fields before it have."""
+    table["NUMBER"] += before
+    if segments is not None and before:
+        for top in range(0, len(segments), 256):
+            rows = segments[top : top + 256]
+            rows[rows > 0] += before
 
 
 def _write(table: Table, task: Task, given: argparse.Namespace, maps, names: Dict[str, str]) -> None:
@@ -474,8 +494,9 @@ def _done(task: Task, given: argparse.Namespace, tiles, progress) -> str:
         found = []
         for number, (field, segments) in enumerate(zip(task.fields, maps)):
             table = detection.sources(field, tiles, segments=segments, progress=progress)
+            _count_on(table, segments, sum(map(len, found)))
             found.append(_finished(table, number, task, given))
-        table = _joined(found)
+        table = _joined(found, task, given)
         _write(table, task, given, maps, names)
     written = f"{len(table)} sources in {shlex.quote(task.output)}"
     if task.survey_field:
@@ -521,6 +542,7 @@ def run(words: Optional[List[str]] = None) -> bool:
     Raises Mistake.
     """
     given = parser().parse_intermixed_args(words)
+    given.options = shlex.join(sys.argv[1:] if words is None else words)
     _check(given)
     tasks = [_attempted(with_image, path, _task, path, given) for path in given.images]
     good = [task for task in tasks if isinstance(task, Task)]

@@ -427,6 +427,8 @@ def _region_lines(table: Table) -> Iterator[str]:
         form, names = "ellipse({:.3f},{:.3f},{:.2f},{:.2f},{:.1f}) # text={{{}}}", ("X", "Y", "A", "B", "THETA")
         turn = 0
     numbers = table["NUMBER"] if "NUMBER" in table.colnames else range(1, len(table) + 1)
+    if "EXTENSION" in table.colnames:
+        numbers = [f"{name}:{number}" for name, number in zip(table["EXTENSION"], numbers)]
     for *values, angle, number in zip(*(_filled(table[name]).astype("f8") for name in names), numbers):
         if numpy.isfinite(values).all():
             yield form.format(*values, (angle + turn) % 360, number)
