@@ -30,7 +30,8 @@ class Settings:
     leaves out the peaks of noise on faint light. `weight_type` says what the weight map has, and `local` takes the
     noise by cells. `gain` is in electrons for a unit of the image, and from `saturation` on pixels are saturated: both
     those of the image that is measured in. Where that is another one than sources are looked for in, `own_gain` and
-    `own_saturation` are those of the latter.
+    `own_saturation` are those of the latter. `apertures` are the diameters of circles in which fluxes are summed, and
+    `vignet` is the side of the squares of pixels that the catalogue has, 0 for none: both in pixels.
     """
 
     sigmas: Optional[float] = None
@@ -46,6 +47,8 @@ class Settings:
     saturation: Optional[float] = None
     own_gain: Optional[float] = None
     own_saturation: Optional[float] = None
+    apertures: Tuple[float, ...] = (10.0,)
+    vignet: int = 0
     tile: int = TILE
     workers: int = 1
 

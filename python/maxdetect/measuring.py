@@ -7,12 +7,13 @@ own.
 import concurrent.futures
 import dataclasses
 import itertools
+import math
 from typing import TYPE_CHECKING, Callable, Iterator, List, Optional, Tuple
 
 import numpy
 from astropy.table import Table
 
-from . import beside, looks, photometry, pointlike, sky, tiles
+from . import beside, looks, photometry, pointlike, scaling, shapes, sky, smoothing, tiles, windowed
 from .errors import Mistake
 from .tiles import Box
 
@@ -93,10 +94,37 @@ class _Window:
             tiles.moved(rows.copy(), -box.left, -box.top),
             gain=settings.gain,
             saturation=field.saturation,
+            apertures=settings.apertures,
             points=self.points,
             threshold=self.detector.how.threshold,
+            seen=self.seen,
+            vignet=settings.vignet,
         )
+        found["BACKGROUND"], found["THRESHOLD"] = self._beside(box, found)
         return tiles.moved(found, box.left, box.top)
+
+    @property
+    def seen(self) -> shapes.Seen:
+        """How the program saw the image."""
+        how, field = self.detector.how, self.detector.field
+        # The smoothed image has a pixel's noise, so its light is more by the root of how many pixels share noise.
+        scale = how.noise / scaling.SIGMA / math.sqrt(smoothing.correlated(how.smooth))
+        return shapes.Seen(scale, how.smooth, field.values is None)
+
+    def _beside(self, box: Box, found: Table) -> Tuple[numpy.ndarray, numpy.ndarray]:
+        """The level of the sky at the middles of sources in a window, and by how much a pixel of the smoothed image has
+        to stand above the level there to be a source's, in the image's units.
+        """
+        sides = (box.bottom - box.top, box.right - box.left)
+        at = tuple(
+            numpy.clip(numpy.round(numpy.asarray(found[name])).astype(int) - 1, 0, side - 1)
+            for name, side in zip("YX", sides)
+        )
+        how, level = self.detector.how, self._sky(box)[0]
+        noise = self.detector.noise(box.rows, box.columns)
+        level, noise = (numpy.broadcast_to(numpy.asarray(it, dtype="f8"), sides)[at] for it in (level, noise))
+        plane = self.detector.field.values or self.detector.field.plane
+        return level + plane.origin, noise * how.threshold * self.seen.scale
 
 
 def _needed(table: Table, reach: numpy.ndarray, shape: Tuple[int, int]) -> List[Box]:
@@ -143,7 +171,8 @@ def measured(
     shape, work = detector.field.shape, _Window(detector, found, points)
     if not len(table):
         return work((Box(0, 1, 0, 1), table, numpy.zeros((1, 1), dtype="i4")))
-    reach, answers, where = photometry.reach(table, points), [], []
+    least = max(*detector.settings.apertures, detector.settings.vignet) / 2
+    reach, answers, where = photometry.reach(table, points, least), [], []
     waiting = _blocks(table, shape)
     while True:
         windows = []
@@ -151,7 +180,8 @@ def measured(
         items = ((box, table[places], segments[box.rows, box.columns]) for box, places in ahead)
         for (box, places), answer in zip(behind, tiles.each(executor, work, items)):
             progress(0)
-            boxes = _needed(table[places], numpy.maximum(reach[places], answer["KRON_RADIUS"] + 2), shape)
+            wanted = numpy.maximum(answer["KRON_RADIUS"], windowed.reach(answer["FLUX_RADIUS"])) + 2
+            boxes = _needed(table[places], numpy.maximum(reach[places], wanted), shape)
             held = numpy.array([box.holds(it) for it in boxes])
             answers.append(answer[held])
             where.append(places[held])

@@ -78,12 +78,32 @@ COLUMNS = {
     "FLUX_TOTAL": ("FLUX", "total flux: of a circle or the Kron ellipse, and what point sources have beyond it"),
     "FLUXERR_TOTAL": ("FLUX", "its standard deviation"),
     "KRON_RADIUS": ("pix", "half the long axis of the Kron ellipse"),
-    "FLUX_APER": ("FLUX", "sum above the background over a circle around the centre"),
+    "FLUX_APER": ("FLUX", "sum above the background over circles around the centre"),
     "FLUXERR_APER": ("FLUX", "its standard deviation"),
     "A": ("pix", "half the long axis of the ellipse with the moments of the source's pixels"),
     "B": ("pix", "half its short axis"),
     "THETA": ("deg", "angle of its long axis from the x axis towards the y axis"),
     "FWHM": ("pix", "diameter that holds half of FLUX_AUTO"),
+    "ELONGATION": (None, "A over B"),
+    "STELLARITY": (None, "from 1 for what is as wide as the image's point sources to 0 for what is wider, by FWHM"),
+    "ERRA": ("pix", "standard deviation of (X, Y) along the long axis of its error ellipse"),
+    "ERRB": ("pix", "standard deviation of (X, Y) along the short axis"),
+    "ERRTHETA": ("deg", "angle of the long axis from the x axis towards the y axis"),
+    "XWIN": ("pix", "column of the centre under a Gaussian window, from 1"),
+    "YWIN": ("pix", "row of the centre under a Gaussian window, from 1"),
+    "ERRAWIN": ("pix", "standard deviation of (XWIN, YWIN) along the long axis of its error ellipse"),
+    "ERRBWIN": ("pix", "standard deviation of (XWIN, YWIN) along the short axis"),
+    "ERRTHETAWIN": ("deg", "angle of the long axis from the x axis towards the y axis"),
+    "SNR_WIN": (None, "signal over noise under the window"),
+    "FLUX_RADIUS": ("pix", "radius that holds half of FLUX_AUTO"),
+    "FLUX_MAX": ("FLUX", "greatest pixel above the background"),
+    "XPEAK": ("pix", "column of the greatest pixel, from 1"),
+    "YPEAK": ("pix", "row of the greatest pixel, from 1"),
+    "MU_MAX": ("mag / arcsec2", "magnitude of FLUX_MAX to a square second of arc"),
+    "BACKGROUND": ("FLUX", "background at the centre"),
+    "THRESHOLD": ("FLUX", "threshold above the background at the centre, for the smoothed image"),
+    "VIGNET": ("FLUX", "pixels around the source above the background; -1e30 for other sources' and undefined ones"),
+    "IMAFLAGS": (None, "the bits of the flag map over the source's pixels"),
     "FLAGS": (None, "sum of: " + ", ".join(f"{bit} {text}" for bit, text in FLAGS.items())),
     "RA": ("deg", "right ascension of the centre in the ICRS"),
     "DEC": ("deg", "declination of the centre in the ICRS"),
@@ -181,7 +201,8 @@ def icrs_places(
 
 def _add_sky(table: Table, wcs: WCS) -> None:
     """The columns of the place in the sky, and of the ellipse there."""
-    x, y = (numpy.asarray(table[name], dtype="f8") for name in ("X", "Y"))
+    names = ("XWIN", "YWIN") if "XWIN" in table.colnames else ("X", "Y")
+    x, y = (numpy.asarray(table[name], dtype="f8") for name in names)
     frame = _frame(wcs)
     if frame is None:
         for name, values in zip(_own_names(wcs), _degrees(wcs, x, y)):
