@@ -19,7 +19,7 @@ from astropy.io import fits
 from astropy.table import Table, vstack
 from astropy.utils.exceptions import AstropyWarning
 
-from . import __version__, adding, detection, headings, images, kernel, surveys, tables
+from . import __version__, adding, asked, detection, headings, images, kernel, ldac, surveys, tables
 from .errors import Mistake
 from .starting import ended_by_signals
 from .words import Parser, called, finite, whole
@@ -84,8 +84,9 @@ def _add_written(out) -> None:
         "-o",
         "--output",
         metavar="CATALOGUE",
-        help="FITS, CSV, ECSV or VOTable by the name's end (default: IMAGE's name with .cat.fits)",
+        help="FITS, CSV, ECSV, VOTable or FITS_LDAC by the name's end (default: IMAGE's name with .cat.fits)",
     )
+    asked.add(out)
     out.add_argument("--map", help="the segmentation map, as FITS: for each pixel the number of its source")
     out.add_argument("--regions", metavar="REG", help="ellipses for DS9")
     out.add_argument("--plot", metavar="PNG", help="a picture of the image and its sources")
@@ -215,12 +216,12 @@ class Task:
     survey_field: Optional[str] = None
 
 
-def _default_output(path: str) -> str:
-    """IMAGE.cat.fits for IMAGE.fits, IMAGE.fits.gz and the like."""
+def _default_output(path: str, kind: Optional[str] = None) -> str:
+    """IMAGE.cat.fits for IMAGE.fits, IMAGE.fits.gz and the like; another end for a catalogue of another kind."""
     base = pathlib.Path(path)
     while base.suffix.lower() in (".gz", ".fz", ".bz2", ".fits", ".fit", ".fts"):
         base = base.with_suffix("")
-    return os.fspath(base) + ".cat.fits"
+    return os.fspath(base) + {"ldac": ".ldac", "votable": ".cat.xml"}.get(kind, f".cat.{kind or 'fits'}")
 
 
 def _field(plane: images.Plane, given: argparse.Namespace) -> detection.Field:
@@ -243,6 +244,8 @@ def _field(plane: images.Plane, given: argparse.Namespace) -> detection.Field:
         saturation=given.saturation if given.saturation is not None else measured.positive("SATURATE"),
         own_gain=plane.positive("GAIN") if measured is not plane else None,
         own_saturation=plane.positive("SATURATE") if measured is not plane else None,
+        apertures=given.apertures,
+        vignet=given.vignet or 0,
         workers=1 if beside or len(given.images) > 1 else given.workers,
     )
     return detection.Field(plane, settings, **others)
@@ -255,7 +258,7 @@ def _task(path: str, given: argparse.Namespace) -> Task:
     _tell_inherited(path, fields, given)
     return Task(
         path,
-        given.output or _default_output(path),
+        given.output or _default_output(path, given.format),
         fields,
         [(field.values or field.plane).unit for field in fields],
         _survey_field(path, given) if given.survey else None,
@@ -287,6 +290,11 @@ def _writable(output: str) -> bool:
     return os.path.isdir(folder) and os.access(folder, os.W_OK)
 
 
+def _kind(task: Task, given: argparse.Namespace) -> str:
+    """How a file's catalogue is written."""
+    return given.format or tables.format_of(task.output)
+
+
 def _check_names(given: argparse.Namespace, tasks: List[Task]) -> None:
     """No output is an input or another output, and each can be written."""
     beside = [images.split_name(it)[0] for it in (given.weight, given.mask, given.measure) if it]
@@ -302,7 +310,7 @@ def _check_names(given: argparse.Namespace, tasks: List[Task]) -> None:
     if given.survey and not _writable(given.survey):
         raise Mistake(f"{given.survey} can't be written")
     for task in tasks:
-        tables.format_of(task.output)
+        _kind(task, given)
     named = [task.survey_field for task in tasks if task.survey_field]
     for name in named:
         if named.count(name) > 1:
@@ -472,8 +480,9 @@ def _count_on(table: Table, segments: Optional[numpy.ndarray], before: int) -> N
             rows[rows > 0] += before
 
 
-def _write(table: Table, task: Task, given: argparse.Namespace, maps, names: Dict[str, str]) -> None:
-    """Writes all but the map, each file under the name that it has for now."""
+def _write(found: List[Table], task: Task, given: argparse.Namespace, maps, names: Dict[str, str]) -> Table:
+    """Writes all but the map, each file under the name that it has for now, and gives the catalogue."""
+    table = _joined(found, task, given)
     if given.plot:
         from . import pictures
 
@@ -484,7 +493,12 @@ def _write(table: Table, task: Task, given: argparse.Namespace, maps, names: Dic
         with _about(given.regions):
             tables.regions(table, names[given.regions])
     with _about(task.output):
-        tables.write(table, names[task.output])
+        if _kind(task, given) == "ldac":
+            parts = [ldac.Part(own, field.plane, field.shape) for own, field in zip(found, task.fields)]
+            ldac.write(parts, names[task.output], given.names)
+        else:
+            tables.write(asked.picked(table, given.names), names[task.output], _kind(task, given))
+    return table
 
 
 def _done(task: Task, given: argparse.Namespace, tiles, progress) -> str:
@@ -496,8 +510,7 @@ def _done(task: Task, given: argparse.Namespace, tiles, progress) -> str:
             table = detection.sources(field, tiles, segments=segments, progress=progress)
             _count_on(table, segments, sum(map(len, found)))
             found.append(_finished(table, number, task, given))
-        table = _joined(found, task, given)
-        _write(table, task, given, maps, names)
+        table = _write(found, task, given, maps, names)
     written = f"{len(table)} sources in {shlex.quote(task.output)}"
     if task.survey_field:
         try:
@@ -544,6 +557,7 @@ def run(words: Optional[List[str]] = None) -> bool:
     given = parser().parse_intermixed_args(words)
     given.options = shlex.join(sys.argv[1:] if words is None else words)
     _check(given)
+    given.names = asked.names_of(given)
     tasks = [_attempted(with_image, path, _task, path, given) for path in given.images]
     good = [task for task in tasks if isinstance(task, Task)]
     _check_names(given, good)

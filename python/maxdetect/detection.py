@@ -28,6 +28,14 @@ class Detector:
         """The noise of a window's pixels, in the image's units: one number, or an array."""
         return noise_of(self.field, self.sky, rows, columns)
 
+    def middle_noise(self) -> float:
+        """The noise of a pixel, with a weight map the median along the middle row."""
+        if self.field.weights is None:
+            return self.sky.noise
+        middle = self.field.shape[0] // 2
+        noise = self.noise(slice(middle, middle + 1), slice(0, self.field.shape[1]))
+        return float(numpy.median(noise[numpy.isfinite(noise)])) if numpy.isfinite(noise).any() else self.sky.noise
+
     def numbers(self, box: Box) -> numpy.ndarray:
         """What the program is to see of a window: 32-bit numbers, kernel.LEAST where it is undefined."""
         seen = looks.seen(self.field, self.sky, self.how.smooth, box.rows, box.columns)
@@ -78,8 +86,8 @@ def sources(
     Tiles and photometry run in the executor. `segments`, an array of the image's shape full of zeros, gets the map.
     `progress` is called with 1 for each tile, after a first call with 0, and with 0 now and then. The table's meta has
     the program's threshold (THRESH), the width by which the image was smoothed (SMOOTH) and that of its point sources
-    (FWHM, where it has enough of them), whether FLUX_TOTAL is told by point sources (GROWTH), and the noise (SIGMA)
-    where there is no weight map.
+    (FWHM, where it has enough of them), whether FLUX_TOTAL is told by point sources (GROWTH), and the noise: SIGMA, or
+    with a weight map NOISE, about the middle of the image.
     """
     found = sky_of(field)
     detector = Detector(field, found, looks.way(field, found), program)
@@ -96,8 +104,7 @@ def sources(
     tiles.hide(segments)
     table.meta.update(detector.how.meta, GROWTH=points is not None)
     # With a weight map the sky's noise is a factor, and no noise of the image.
-    if field.weights is None:
-        table.meta["SIGMA"] = detector.sky.noise
+    table.meta["NOISE" if field.weights is not None else "SIGMA"] = detector.middle_noise()
     return table
 
 

@@ -100,6 +100,7 @@ class _Window:
             seen=self.seen,
             vignet=settings.vignet,
         )
+        found["STELLARITY"] = shapes.stellarity(found["FWHM"], self.points)
         found["BACKGROUND"], found["THRESHOLD"] = self._beside(box, found)
         return tiles.moved(found, box.left, box.top)
 

@@ -321,7 +321,7 @@ def measured(
     Columns: X, Y, FLUX_ISO, FLUXERR_ISO, FLUX_AUTO, FLUXERR_AUTO, FLUX_TOTAL, FLUXERR_TOTAL, KRON_RADIUS (half the
     long axis of the ellipse of FLUX_AUTO, in pixels), FLUX_APER, FLUXERR_APER (rows of numbers where there are several
     circles), A, B, ELONGATION (A over B), THETA, FWHM (the diameter that holds half of FLUX_AUTO: that of a Gaussian is
-    its full width at half its height; NaN where there is none), STELLARITY, FLAGS, a sum of the bits in `FLAGS`, and
+    its full width at half its height; NaN where there is none), FLAGS, a sum of the bits in `FLAGS`, and
     those of `shapes.columns`. Errors are standard deviations; they know nothing of the background's error.
     Fluxes are NaN where no pixel has a value.
     """
@@ -406,6 +406,5 @@ def _apertures(how, segments, catalogue, gathered, diameters, points, split) -> 
         "ELONGATION": long / short,
         "THETA": angle,
         "FWHM": diameter,
-        "STELLARITY": shapes.stellarity(diameter, points),
         "FLAGS": flags,
     }

@@ -22,7 +22,7 @@ from astropy.coordinates import SkyCoord
 from astropy.io import fits
 from astropy.table import Table
 from astropy.wcs import WCS, FITSFixedWarning
-from astropy.wcs.utils import wcs_to_celestial_frame
+from astropy.wcs.utils import proj_plane_pixel_area, wcs_to_celestial_frame
 
 from .columns import CATALOGUE, MEASURES, Column
 from .errors import Mistake
@@ -50,6 +50,7 @@ FORMATS = {
     ".xml": "votable",
     ".vot": "votable",
     ".votable": "votable",
+    ".ldac": "ldac",
 }
 # The fluxes that `measured` gives, and what each is.
 FLUXES = {
@@ -241,6 +242,16 @@ def _add_magnitudes(table: Table, zeropoint: float) -> None:
         table[f"MAG_{name}"].unit = table[f"MAGERR_{name}"].unit = units.mag
 
 
+def _add_surface(table: Table, zeropoint: float, wcs: Optional[WCS]) -> None:
+    """The magnitude of the greatest pixel to a square second of arc, where the sky's scale is known."""
+    if wcs is None or "FLUX_MAX" not in table.colnames:
+        return
+    area = proj_plane_pixel_area(wcs.celestial) * 3600.0**2
+    with numpy.errstate(invalid="ignore", divide="ignore"):
+        peak = numpy.where(table["FLUX_MAX"] > 0, table["FLUX_MAX"], numpy.nan)
+        table["MU_MAX"] = zeropoint - 2.5 * numpy.log10(peak / area)
+
+
 def _describe(table: Table, unit: Optional[str]) -> None:
     """Units and descriptions for the columns that lack them."""
     flux = units.Unit(unit, parse_strict="silent") if unit else None
@@ -281,6 +292,7 @@ def finished(
         _add_sky(table, wcs)
     if zeropoint is not None:
         _add_magnitudes(table, zeropoint)
+        _add_surface(table, zeropoint, wcs)
     if extension is not None:
         table.add_column(
             numpy.full(len(table), str(extension), dtype=f"U{max(len(str(extension)), 1)}"), index=0, name="EXTENSION"
@@ -405,13 +417,31 @@ def _table_hdus(table: Table) -> fits.HDUList:
     return fits.HDUList([fits.PrimaryHDU(), hdu])
 
 
-def write(table: Table, path: Union[str, os.PathLike]) -> None:
-    """Writes a catalogue as FITS, CSV, ECSV or VOTable, by the end of its name; an earlier file is replaced.
+def _flat(table: Table) -> Table:
+    """A catalogue with a column for each number of its vectors, as text has it; without squares of pixels."""
+    made = Table(meta=table.meta)
+    for name in table.colnames:
+        column = table[name]
+        if column.ndim == 2:
+            for number in range(column.shape[1]):
+                made[f"{name}_{number + 1}"] = column[:, number]
+        elif column.ndim == 1:
+            made[name] = column
+    return made
 
-    In FITS each column's description stands in its TCOMM card, and simple values of the table's `meta` in cards.
-    Raises Mistake for another end of the name, and OSError where the file can't be written.
+
+def write(table: Table, path: Union[str, os.PathLike], kind: Optional[str] = None) -> None:
+    """Writes a catalogue as FITS, CSV, ECSV or VOTable, by the end of its name or as `kind` says; an earlier file is
+    replaced.
+
+    In FITS each column's description stands in its TCOMM card, and simple values of the table's `meta` in cards. CSV
+    has a column for each aperture, and no vignets. Raises Mistake for another end of the name, and OSError where the
+    file can't be written.
     """
-    kind = format_of(path)
+    kind = kind or format_of(path)
+    if kind == "ldac":
+        raise Mistake(f"{path}: FITS_LDAC has the headers of its images, which a table hasn't")
+    table = _flat(table) if kind == "csv" else table
     with whole_file(path) as name, warnings.catch_warnings():
         warnings.simplefilter("ignore", units.UnitsWarning)
         if kind == "fits":
