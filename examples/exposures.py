@@ -61,15 +61,14 @@ def add_star(image, x, y, electrons, width):
     )
 
 
-def image_of(sky, exposure, ccd, side, rng):
-    """The HDU of a CCD in an exposure."""
+def image_of(sky, exposure, ccd, side, off, rng):
+    """The HDU of a CCD in an exposure, whose WCS is off by so much."""
     right, declination, magnitudes = sky
     expected = numpy.full((side, side), SKY)
     places = wcs_of(ccd, exposure, side).all_world2pix(right, declination, 0)
     for x, y, magnitude in zip(*places, magnitudes):
         add_star(expected, x, y, GAIN * 10 ** (0.4 * (ZEROPOINT - magnitude)), (3.0, 3.3, 2.8)[exposure])
     electrons = rng.poisson(expected) + rng.normal(0, READ, expected.shape)
-    off = (*rng.uniform(-2, 2, 2), rng.uniform(-0.02, 0.02))
     header = wcs_of(ccd, exposure, side, off).to_header()
     header.update({"GAIN": GAIN, "SATURATE": SATURATE, "BUNIT": "adu"})
     values = numpy.minimum(electrons / GAIN, SATURATE).astype("f4")
@@ -116,7 +115,8 @@ def main():
             "TELESCOP": "none",
         }
         primary = fits.PrimaryHDU(header=fits.Header(cards))
-        ccds = [image_of(sky, exposure, ccd, side, rng) for ccd in range(2)]
+        off = (*rng.uniform(-2, 2, 2), rng.uniform(-0.02, 0.02))
+        ccds = [image_of(sky, exposure, ccd, side, off, rng) for ccd in range(2)]
         fits.HDUList([primary, *ccds]).writeto(os.path.join(folder, f"exposure{exposure + 1}.fits"), overwrite=True)
 
 

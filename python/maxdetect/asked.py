@@ -7,14 +7,16 @@ from typing import List, Optional, Tuple
 
 from astropy.table import Table
 
-from . import ldac, tables
+from . import checks, ldac, tables
 from .errors import Mistake
-from .words import called, whole
+from .fields import KINDS
+from .words import called, finite, whole
 
-__all__ = ["add", "names_of", "picked"]
+__all__ = ["add", "add_read", "check", "is_known", "listed", "names_of", "picked"]
 
 MOST_APERTURES, WIDEST = 32, 1000.0
 LEAST_VIGNET, MOST_VIGNET = 3, 255
+BAND = re.compile("[A-Za-z0-9]{1,8}")
 # So many names that aren't known are told.
 SHOWN = 8
 # A name in a file of parameters of Source Extractor's: with the sides of a vector behind it, or without.
@@ -50,6 +52,12 @@ def add(out) -> None:
         "PSFEx (default: by the name's end)",
     )
     out.add_argument(
+        "--like-sextractor",
+        metavar="FILE",
+        help="take the settings of a file of Source Extractor's, as far as they mean something here; a line on standard "
+        "error names the others; options that are given go before",
+    )
+    out.add_argument(
         "--columns",
         metavar="NAMES|FILE",
         help="the columns that are wanted, parted by commas, or a file with a name on each line; Source Extractor's "
@@ -63,14 +71,96 @@ def add(out) -> None:
         help="the diameters in pixels of the circles of FLUX_APER (default: 10)",
     )
     out.add_argument(
+        "--check",
+        type=check_images,
+        metavar="KIND,KIND,...",
+        help="check images beside the catalogue, as CATALOGUE.background.fits: " + ", ".join(checks.KINDS),
+    )
+    out.add_argument(
         "--vignet", type=side, metavar="N", help="adds the column VIGNET: N x N pixels around each source, for PSFEx"
     )
 
 
-def _listed(text: str) -> List[str]:
+@called("list of check images")
+def check_images(text: str) -> List[str]:
+    """The kinds of check images, parted by commas."""
+    try:
+        return checks.kinds(text)
+    except ValueError as error:
+        raise argparse.ArgumentTypeError(str(error)) from None
+
+
+@called("NAME=FILE")
+def banded(text: str) -> Tuple[str, str]:
+    """A band's name and what belongs to it."""
+    name, equals, rest = text.partition("=")
+    if not BAND.fullmatch(name) or not equals or not rest:
+        raise argparse.ArgumentTypeError(f"{text} isn't NAME=FILE, with a name of 1 to 8 letters and digits")
+    return name, rest
+
+
+@called("NAME=Z")
+def banded_number(text: str) -> Tuple[str, float]:
+    """A band's name and a number."""
+    name, rest = banded(text)
+    return name, finite()(rest)
+
+
+def add_read(what) -> None:
+    """The options that say what is measured in, and which maps belong to it."""
+    kinds = {
+        "choices": KINDS,
+        "help": "what they have, and --band-weight (default: weight)",
+    }
+    what.add_argument("--measure-weight", metavar="FILE[:HDU]", help="a map of the noise of --measure's image")
+    what.add_argument("--measure-weight-type", **kinds)
+    what.add_argument(
+        "--band",
+        type=banded,
+        action="append",
+        metavar="NAME=FILE[:HDU]",
+        help="a further image of the same pixels, in which the same sources are measured: adds columns such as "
+        "FLUX_TOTAL_NAME; it may be given several times",
+    )
+    what.add_argument(
+        "--band-weight", type=banded, action="append", metavar="NAME=FILE[:HDU]", help="a map of a band's noise"
+    )
+    what.add_argument(
+        "--band-zeropoint",
+        type=banded_number,
+        action="append",
+        metavar="NAME=Z",
+        help="a band's zero point (default: --zeropoint's)",
+    )
+    what.add_argument(
+        "--flag-map",
+        metavar="FILE[:HDU]",
+        help="a map of whole numbers; the bits over a source's pixels are its IMAFLAGS",
+    )
+
+
+def check(given: argparse.Namespace) -> None:
+    """Raises Mistake for options that don't go together."""
+    names = [name for name, _ in given.band or []]
+    if len(set(names)) < len(names):
+        raise Mistake("--band has one name twice")
+    for option, pairs in (("--band-weight", given.band_weight), ("--band-zeropoint", given.band_zeropoint)):
+        for name, _ in pairs or []:
+            if name not in names:
+                raise Mistake(f"{option} is for the band {name}, which no --band names")
+    if given.measure_weight and not given.measure:
+        raise Mistake("--measure-weight wants a --measure")
+    if given.measure_weight_type and not (given.measure_weight or given.band_weight):
+        raise Mistake("--measure-weight-type wants a --measure-weight or a --band-weight")
+    for name in ("measure_weight", "flag_map"):
+        if getattr(given, name) == "":
+            raise Mistake(f"--{name.replace('_', '-')} has an empty name")
+
+
+def listed(text: str) -> List[str]:
     """The names with their sides, as they stand in the option or in its file."""
     if not os.path.isfile(text):
-        return [each.strip() for each in text.replace("), ", "),").split(",") if each.strip()]
+        return [each.strip() for each in re.split(r",(?![^()]*\))", text) if each.strip()]
     try:
         lines = pathlib.Path(text).read_text(encoding="ascii").splitlines()
     except (OSError, UnicodeDecodeError):
@@ -78,10 +168,14 @@ def _listed(text: str) -> List[str]:
     return [line.split("#")[0].split()[0] for line in lines if line.split("#")[0].strip()]
 
 
-def _is_known(name: str) -> bool:
+def is_known(text: str) -> bool:
     """The package or Source Extractor calls a column so that the package has."""
+    match = NAME.fullmatch(text)
+    if match is None:
+        return False
+    name = match[1]
     plain = re.sub(r"^MAG(ERR)?_", r"FLUX\1_", name)
-    return plain in tables.COLUMNS or name in ldac.COLUMNS
+    return name in ldac.COLUMNS or any(it in tables.COLUMNS for it in (plain, plain.rpartition("_")[0]))
 
 
 def names_of(given: argparse.Namespace) -> Optional[List[str]]:
@@ -90,8 +184,8 @@ def names_of(given: argparse.Namespace) -> Optional[List[str]]:
     """
     if given.columns is None:
         return None
-    matches = [(text, NAME.fullmatch(text)) for text in _listed(given.columns)]
-    unknown = [text for text, match in matches if match is None or not _is_known(match[1])]
+    matches = [(text, NAME.fullmatch(text)) for text in listed(given.columns)]
+    unknown = [text for text, _ in matches if not is_known(text)]
     if unknown:
         more = f" and {len(unknown) - SHOWN} more" if len(unknown) > SHOWN else ""
         raise Mistake(f"--columns: maxcat has no {', '.join(unknown[:SHOWN])}{more}")

@@ -1,12 +1,13 @@
 """From a field to its sources: by the program, a tile at a time, and then their photometry."""
 import concurrent.futures
 import dataclasses
-from typing import Callable, Optional, Union
+from typing import Callable, Dict, Optional, Union
 
 import numpy
 from astropy.table import Table, hstack
 
-from . import cleaning, kernel, looks, measuring, photometry, pieces, scaling, sky, tiles
+from . import cleaning, flagmap, kernel, looks, measuring, photometry, pieces, scaling, sky, tiles
+from .bands import columns as band_columns
 from .fields import KINDS, LEAST_MESH, MOST_MESH, TILE, Field, Settings, noise_of, sky_of
 from .tiles import Box
 
@@ -78,12 +79,16 @@ def sources(
     executor: Optional[concurrent.futures.Executor] = None,
     *,
     segments: Optional[numpy.ndarray] = None,
+    bands: Optional[Dict[str, Field]] = None,
+    told: Optional[Callable] = None,
     progress: Callable[[int], None] = lambda count: None,
     program: Optional[str] = None,
 ) -> Table:
     """The sources of a field with their photometry, in columns and rows of the image, numbered by their first pixels.
 
     Tiles and photometry run in the executor. `segments`, an array of the image's shape full of zeros, gets the map.
+    `bands` are fields with the same image and others to measure in: each adds columns with its name. `told` is called
+    with the detector, the sky beside the sources of what is measured in and that with them, and the table.
     `progress` is called with 1 for each tile, after a first call with 0, and with 0 now and then. The table's meta has
     the program's threshold (THRESH), the width by which the image was smoothed (SMOOTH) and that of its point sources
     (FWHM, where it has enough of them), whether FLUX_TOTAL is told by point sources (GROWTH), and the noise: SIGMA, or
@@ -97,9 +102,17 @@ def sources(
         detector.strips = {"strips": 16, "workers": field.settings.workers}
     progress(0)
     table, cut = tiles.gathered(tiles.each(executor, _Tile(detector), cores), segments, progress)
-    beside = measuring.sky_beside(detector, segments, executor)
+    own = measuring.sky_of_values(detector)
+    beside = measuring.sky_beside(detector, segments, executor, own)
     points = measuring.points_of(detector, beside)
-    table = hstack([table, measuring.measured(detector, beside, points, table, segments, executor, progress)])
+    parts = [table, measuring.measured(detector, beside, points, table, segments, executor, progress, own)]
+    for name, other in (bands or {}).items():
+        parts.append(band_columns(detector, name, other, table, segments, executor, progress))
+    table = hstack(parts)
+    if field.flag_map is not None:
+        table["IMAFLAGS"] = flagmap.over(field.flag_map, table, segments)
+    if told is not None:
+        told(detector, beside, own, table)
     table["FLAGS"] |= numpy.where(cut, photometry.CUT, 0).astype(table["FLAGS"].dtype)
     tiles.hide(segments)
     table.meta.update(detector.how.meta, GROWTH=points is not None)

@@ -15,6 +15,7 @@ from astropy.table import Table
 
 from . import beside, looks, photometry, pointlike, scaling, shapes, sky, smoothing, tiles, windowed
 from .errors import Mistake
+from .fields import Field, noise_of
 from .tiles import Box
 
 if TYPE_CHECKING:
@@ -41,20 +42,33 @@ class _Row:
         return beside.of_row(residual, undefined, segments, within, self.found.mesh)
 
 
-def sky_beside(detector: "Detector", segments: numpy.ndarray, executor: Executor = None) -> Optional[sky.Sky]:
-    """The sky of what a field is measured in, beside the sources of its map; None where no pixel of that is defined.
-
-    Raises Mistake where it has none to speak of.
+def sky_of_values(detector: "Detector") -> Optional[sky.Sky]:
+    """The sky of what a field is measured in; None where no pixel of that is defined. Raises Mistake where it has none
+    to speak of.
     """
     field, found = detector.field, detector.sky
-    if field.values is not None:
-        try:
-            found = sky.of(lambda rows: field.to_measure(rows, slice(None)), field.shape, found.mesh)
-        except sky.Undefined:
-            return None
-        except ValueError as error:
-            raise Mistake(f"{field.values.label}: {error}") from None
-        found = found if field.settings.mesh else found.flat()
+    if field.values is None:
+        return found
+    other = field.measured
+    try:
+        found = sky.of(other.image, field.shape, found.mesh, None if other.weights is None else other.relative)
+    except sky.Undefined:
+        return None
+    except ValueError as error:
+        raise Mistake(f"{field.values.label}: {error}") from None
+    return found if field.settings.mesh else found.flat()
+
+
+def sky_beside(
+    detector: "Detector", segments: numpy.ndarray, executor: Executor = None, found: Optional[sky.Sky] = None
+) -> Optional[sky.Sky]:
+    """A sky of what a field is measured in, by default that of the field itself, beside the sources of its map; None
+    where there is none.
+    """
+    field = detector.field
+    found = detector.sky if found is None and field.values is None else found
+    if found is None:
+        return None
     rows = ((own, seen, tiles.without_gaps(segments[seen])) for own, seen in beside.bands(field.shape[0], found.mesh))
     return beside.joined(tiles.each(executor, _Row(detector, found), rows), found)
 
@@ -66,23 +80,38 @@ def points_of(detector: "Detector", found: Optional[sky.Sky]) -> Optional[pointl
         return detector.how.points
     if found is None or not found.noise > 0:
         return None
-    return looks.point_sources(dataclasses.replace(field, plane=field.values, values=None, weights=None), found)
+    return looks.point_sources(dataclasses.replace(field.measured, weights=None), found)
+
+
+def noise_beside(field: Field, found: sky.Sky, own: sky.Sky, rows: slice, columns: slice) -> photometry.Numbers:
+    """The noise of what a field is measured in, in its units: by its weight map and its own sky, or by the one beside
+    sources.
+    """
+    other = field.measured
+    if other.weights is not None:
+        return noise_of(other, own, rows, columns)
+    return found.noises(rows, columns) if other.settings.local else found.noise
 
 
 class _Window:
     """Measures sources in a window of a field, given with their rows and the map there."""
 
-    def __init__(self, detector: "Detector", found: Optional[sky.Sky], points: Optional[pointlike.PointSources]):
+    def __init__(
+        self,
+        detector: "Detector",
+        found: Optional[sky.Sky],
+        points: Optional[pointlike.PointSources],
+        own: Optional[sky.Sky] = None,
+    ):
         self.detector, self.found, self.points = detector, found, points
+        self.own = own if own is not None else detector.sky
 
     def _sky(self, box: Box) -> Tuple[photometry.Numbers, photometry.Numbers]:
         """The level and the noise there, in the units of what is measured."""
         if self.found is None:
             return numpy.nan, numpy.nan
-        field, level = self.detector.field, self.found.level(box.rows, box.columns)
-        if field.values is None and field.weights is not None:
-            return level, self.detector.noise(box.rows, box.columns)
-        return level, self.found.noises(box.rows, box.columns) if field.settings.local else self.found.noise
+        level = self.found.level(box.rows, box.columns)
+        return level, noise_beside(self.detector.field, self.found, self.own, box.rows, box.columns)
 
     def __call__(self, item: Tuple[Box, Table, numpy.ndarray]) -> Table:
         box, rows, segments = item
@@ -165,11 +194,12 @@ def measured(
     segments: numpy.ndarray,
     executor: Executor = None,
     progress: Callable[[int], None] = lambda count: None,
+    own: Optional[sky.Sky] = None,
 ) -> Table:
     """The columns of photometry for the sources of a field, whose map this is, above this sky and by these point
-    sources.
+    sources. `own` is the sky of what is measured in with all that is in it, by default the detector's.
     """
-    shape, work = detector.field.shape, _Window(detector, found, points)
+    shape, work = detector.field.shape, _Window(detector, found, points, own)
     if not len(table):
         return work((Box(0, 1, 0, 1), table, numpy.zeros((1, 1), dtype="i4")))
     least = max(*detector.settings.apertures, detector.settings.vignet) / 2

@@ -228,9 +228,10 @@ def _add_sky(table: Table, wcs: WCS) -> None:
 # ---- columns
 
 
-def _add_magnitudes(table: Table, zeropoint: float) -> None:
-    """Magnitudes and their errors; NaN where a flux isn't positive."""
+def _add_magnitudes(table: Table, zeropoint: float, band: str = "") -> None:
+    """Magnitudes and their errors, of the image or of a band; NaN where a flux isn't positive."""
     for name, text in FLUXES.items():
+        name = f"{name}_{band}" if band else name
         if f"FLUX_{name}" not in table.colnames:
             continue
         flux, error = (numpy.asarray(table[f"{part}_{name}"], dtype="f8") for part in ("FLUX", "FLUXERR"))
@@ -264,6 +265,16 @@ def _describe(table: Table, unit: Optional[str]) -> None:
             column.description = text or name.lower().replace("_", " ")
 
 
+def _describe_band(table: Table, band: str, unit: Optional[str]) -> None:
+    """Units and descriptions for the columns of a band."""
+    flux = units.Unit(unit, parse_strict="silent") if unit else None
+    for name in table.colnames:
+        known, text = COLUMNS.get(name.removesuffix(f"_{band}"), (None, ""))
+        if name.endswith(f"_{band}") and text:
+            table[name].unit = flux if known == "FLUX" else known and units.Unit(known)
+            table[name].description = f"{text}, in {band}"
+
+
 def finished(
     table: Table,
     header: Union[None, fits.Header, WCS],
@@ -271,6 +282,7 @@ def finished(
     zeropoint: Optional[float] = None,
     unit: Optional[str] = None,
     extension: Union[None, int, str] = None,
+    bands: Optional[Dict[str, Tuple[Optional[float], Optional[str]]]] = None,
 ) -> Table:
     """A copy of a catalogue with all that a reader wants: sky coordinates, magnitudes, and units and descriptions of
     every column.
@@ -280,7 +292,8 @@ def finished(
     ellipse on the sky; where astropy doesn't know the frame it gets the frame's own two names instead, such as ELON
     and ELAT. A WCS that can't be read is warned of, and nothing is added. With `zeropoint` there are magnitudes,
     `zeropoint` for a flux of 1. `unit` is that of the image's values, by default the header's BUNIT. `extension`, a
-    name or number, becomes the first column, EXTENSION.
+    name or number, becomes the first column, EXTENSION. `bands` has for each band its zero point and its unit, or None
+    for either.
     """
     table = table.copy()
     for axis in "XY":
@@ -299,6 +312,10 @@ def finished(
         )
     if unit is None and isinstance(header, fits.Header):
         unit = str(header.get("BUNIT", "")).strip() or None
+    for band, (point, own) in (bands or {}).items():
+        if point is not None:
+            _add_magnitudes(table, point, band)
+        _describe_band(table, band, own)
     _describe(table, unit)
     return table
 
