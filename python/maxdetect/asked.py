@@ -12,7 +12,7 @@ from .errors import Mistake
 from .fields import KINDS
 from .words import called, finite, whole
 
-__all__ = ["add", "add_read", "check", "is_known", "listed", "names_of", "picked"]
+__all__ = ["add", "add_read", "add_run", "check", "is_known", "listed", "names_of", "picked"]
 
 MOST_APERTURES, WIDEST = 32, 1000.0
 LEAST_VIGNET, MOST_VIGNET = 3, 255
@@ -54,8 +54,8 @@ def add(out) -> None:
     out.add_argument(
         "--like-sextractor",
         metavar="FILE",
-        help="take the settings of a file of Source Extractor's, as far as they mean something here; a line on standard "
-        "error names the others; options that are given go before",
+        help="take the settings of a file of Source Extractor's, as far as they mean something here; a line on "
+        "standard error names the others; options that are given go before",
     )
     out.add_argument(
         "--columns",
@@ -139,6 +139,20 @@ def add_read(what) -> None:
     )
 
 
+def add_run(how) -> None:
+    """The options that say where the work is done, and which of it."""
+    how.add_argument(
+        "--scheduler",
+        metavar="ADDRESS",
+        help="a scheduler of Dask's, as tcp://host:8786, whose workers take the tiles; they see the same files",
+    )
+    how.add_argument(
+        "--resume",
+        action="store_true",
+        help="pass by the images whose outputs are all there and no older than what they are made of",
+    )
+
+
 def check(given: argparse.Namespace) -> None:
     """Raises Mistake for options that don't go together."""
     names = [name for name, _ in given.band or []]
@@ -148,6 +162,8 @@ def check(given: argparse.Namespace) -> None:
         for name, _ in pairs or []:
             if name not in names:
                 raise Mistake(f"{option} is for the band {name}, which no --band names")
+    if given.resume and given.survey:
+        raise Mistake("--resume and --survey exclude each other: a survey doesn't say which images it has")
     if given.measure_weight and not given.measure:
         raise Mistake("--measure-weight wants a --measure")
     if given.measure_weight_type and not (given.measure_weight or given.band_weight):

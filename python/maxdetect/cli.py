@@ -16,21 +16,8 @@ import numpy
 from astropy.table import Table, vstack
 from astropy.utils.exceptions import AstropyWarning
 
-from . import (
-    __version__,
-    adding,
-    asked,
-    checks,
-    detection,
-    headings,
-    images,
-    kernel,
-    ldac,
-    likesex,
-    planefiles,
-    surveys,
-    tables,
-)
+from . import __version__, adding, asked, checks, cluster, detection, headings, images, kernel, ldac, likesex
+from . import planefiles, resuming, surveys, tables
 from .errors import Mistake
 from .starting import ended_by_signals
 from .words import Parser, called, finite, whole
@@ -202,6 +189,7 @@ def _add_how(how) -> None:
         metavar="N",
         help="images and tiles at work at once; 1 takes the least memory (default: as many as processors, at most 4)",
     )
+    asked.add_run(how)
 
 
 def parser() -> argparse.ArgumentParser:
@@ -338,12 +326,16 @@ def _files(task: Task, given: argparse.Namespace) -> List[str]:
     return [task.output, *(it for it in (given.map, given.regions, given.plot) if it), *shown]
 
 
-def _check_names(given: argparse.Namespace, tasks: List[Task]) -> None:
-    """No output is an input or another output, and each can be written."""
+def _beside(given: argparse.Namespace) -> List[str]:
+    """The files that are read beside the images."""
     named = [text for _, text in (given.band or []) + (given.band_weight or [])]
     named += [it for it in (given.weight, given.mask, given.measure, given.measure_weight, given.flag_map) if it]
-    beside = [images.split_name(it)[0] for it in named]
-    inputs = [*given.images, *beside, *([given.survey] if given.survey else [])]
+    return [images.split_name(it)[0] for it in named]
+
+
+def _check_names(given: argparse.Namespace, tasks: List[Task]) -> None:
+    """No output is an input or another output, and each can be written."""
+    inputs = [*given.images, *_beside(given), *([given.survey] if given.survey else [])]
     outputs = [name for task in tasks for name in _files(task, given)]
     for number, output in enumerate(outputs):
         if any(images.same(output, it) for it in inputs):
@@ -589,6 +581,16 @@ def _given(words: List[str]) -> argparse.Namespace:
     return given
 
 
+def _executors(stack: contextlib.ExitStack, given: argparse.Namespace, count: int):
+    """What tiles run in, and what so many images do; None where they follow each other. Raises Mistake."""
+    files = given.workers > 1 and count > 1
+    if given.scheduler is not None:
+        tiles = stack.enter_context(cluster.executor(given.scheduler))
+    else:
+        tiles = stack.enter_context(concurrent.futures.ThreadPoolExecutor(given.workers)) if given.workers > 1 else None
+    return tiles, stack.enter_context(concurrent.futures.ThreadPoolExecutor(given.workers)) if files else None
+
+
 def run(words: Optional[List[str]] = None) -> bool:
     """Does what the words say, and tells for each image what came of it: False where one of several wasn't done.
     Raises Mistake.
@@ -605,15 +607,15 @@ def run(words: Optional[List[str]] = None) -> bool:
             adding.find_survey_program()
     progress, all_done = _Progress(_count(good)), True
     with contextlib.ExitStack() as stack:
-        pool, files = (
-            stack.enter_context(concurrent.futures.ThreadPoolExecutor(given.workers)) if wanted else None
-            for wanted in (given.workers > 1, given.workers > 1 and len(good) > 1)
-        )
+        pool, files = _executors(stack, given, len(good))
         stack.callback(progress.close)
 
         def work(task):
-            done = isinstance(task, Task)
-            return _attempted(with_image, task.path, _done, task, given, pool, progress) if done else task
+            if not isinstance(task, Task):
+                return task
+            if given.resume and resuming.hold(_files(task, given), [task.path, *_beside(given)]):
+                return f"{shlex.quote(task.output)} is there"
+            return _attempted(with_image, task.path, _done, task, given, pool, progress)
 
         for answer in detection.tiles.each(files, work, tasks):
             if isinstance(answer, str):
