@@ -129,7 +129,7 @@ class _Window:
             seen=self.seen,
             vignet=settings.vignet,
         )
-        found["STELLARITY"] = shapes.stellarity(found["FWHM"], self.points)
+        found["STELLARITY"] = shapes.stellarity(2 * found["FLUX_RADIUS"], self.points)
         found["BACKGROUND"], found["THRESHOLD"] = self._beside(box, found)
         return tiles.moved(found, box.left, box.top)
 

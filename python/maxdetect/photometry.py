@@ -353,7 +353,7 @@ def measured(
     table = Table({"X": numpy.asarray(catalogue["XCEN"]) / 1000, "Y": numpy.asarray(catalogue["YCEN"]) / 1000})
     table["FLUX_ISO"], table["FLUXERR_ISO"] = flux[numbers] * unit, error[numbers] * unit
     flags |= sums.pop("FLAGS")
-    more = shapes.columns(shapes.Scene(*how, segments), seen, defined, catalogue, sums["FWHM"] / 2, vignet)
+    more = shapes.columns(shapes.Scene(*how, segments), seen, defined, catalogue, sums["FLUX_RADIUS"], vignet)
     for name, values in {**sums, **more}.items():
         table[name] = _in_units(name, values, unit)
     table["FLAGS"] = flags.astype("i4")
@@ -390,8 +390,10 @@ def _apertures(how, segments, catalogue, gathered, diameters, points, split) -> 
     circles = [numpy.stack(it, axis=-1) for it in zip(*(circle(diameter / 2) for diameter in diameters))]
     in_circle, circle_error = (it[:, 0] if len(diameters) == 1 else it for it in circles)
     total, total_error = totals.of(points, circle, flux, error, radius * numpy.sqrt(axes[0] * axes[1]), split)
-    half = _half_light(residual, x, y, radius * axes[0], numpy.nan_to_num(flux), alone)
-    diameter = numpy.where((flux > 0) & (half > 0), 2 * half, numpy.nan)
+    far, diameters_of_half = numpy.maximum(radius * axes[0], totals.reach(points)), []
+    for light, within in ((flux, radius * axes[0]), (total, far))[: 1 if points is None else 2]:
+        half = _half_light(residual, x, y, within, numpy.nan_to_num(light), alone)
+        diameters_of_half.append(numpy.where((light > 0) & (half > 0), 2 * half, numpy.nan))
     flags = CROWDED * (((told & sep.APER_HASMASKED) != 0) | holed) | BEYOND * ((told & sep.APER_TRUNC) != 0)
     return {
         "FLUX_AUTO": flux,
@@ -405,6 +407,7 @@ def _apertures(how, segments, catalogue, gathered, diameters, points, split) -> 
         "B": short,
         "ELONGATION": long / short,
         "THETA": angle,
-        "FWHM": diameter,
+        "FWHM": diameters_of_half[0],
+        "FLUX_RADIUS": diameters_of_half[-1] / 2,
         "FLAGS": flags,
     }

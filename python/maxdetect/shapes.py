@@ -96,7 +96,7 @@ def columns(scene: Scene, seen: Optional[Seen], pixels, catalogue: Table, half: 
     for name in ("ERRAWIN", "ERRBWIN", "ERRTHETAWIN"):
         plain = name.removesuffix("WIN")
         made[name] = numpy.where(known, found[name], made[plain] if plain in made.colnames else numpy.nan)
-    made["SNR_WIN"], made["FLUX_RADIUS"] = found["SNR_WIN"], half
+    made["SNR_WIN"] = found["SNR_WIN"]
     values = scene.residual.ravel()[pixels.places].astype("f8")
     peaks = _peaks(values, pixels.numbers, pixels.places, pixels.length, scene.residual.shape[1])
     for name, column in zip(("FLUX_MAX", "XPEAK", "YPEAK"), peaks):

@@ -87,7 +87,7 @@ def test_columns_beside_fluxes(tmp_path, monkeypatch):
     assert cli.main(["image.fits", "-o", "cat.fits", "--gain", "1"]) == 0
     table = Table.read("cat.fits", hdu="SOURCES")
     rows, numbers = nearest(table, places), numpy.asarray(table["NUMBER"])
-    assert numpy.asarray(rows["FLUX_RADIUS"] * 2) == pytest.approx(numpy.asarray(rows["FWHM"]))
+    assert numpy.asarray(rows["FLUX_RADIUS"] * 2) == pytest.approx(numpy.asarray(rows["FWHM"]), rel=0.2)
     assert numpy.asarray(rows["ELONGATION"]) == pytest.approx(numpy.asarray(rows["A"] / rows["B"]))
     level = image[rows["YPEAK"] - 1, rows["XPEAK"] - 1] - rows["BACKGROUND"]
     assert numpy.asarray(level) == pytest.approx(numpy.asarray(rows["FLUX_MAX"]), abs=0.5)
