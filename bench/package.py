@@ -75,7 +75,7 @@ def same_pixels(light, table, segments):
     half = numpy.asarray(table["A"]) / 2
     shape = (half, numpy.asarray(table["B"]) / 2, numpy.radians(numpy.asarray(table["THETA"])))
     kron, _, _ = sep.sum_ellipse(light, x, y, *shape, numpy.asarray(table["KRON_RADIUS"]) / half, subpix=1, **alone)
-    circle, _, _ = sep.sum_circle(light, x, y, photometry.APERTURE, **alone)
+    circle, _, _ = sep.sum_circle(light, x, y, photometry.APERTURE / 2, **alone)
     return {"ISO": isophotal, "AUTO": kron, "APER": circle}
 
 

@@ -3,8 +3,6 @@ import argparse
 import concurrent.futures
 import contextlib
 import dataclasses
-import errno
-import itertools
 import math
 import os
 import pathlib
@@ -15,11 +13,11 @@ import warnings
 from typing import Callable, Dict, List, Optional, Tuple
 
 import numpy
-from astropy.io import fits
 from astropy.table import Table, vstack
 from astropy.utils.exceptions import AstropyWarning
 
-from . import __version__, adding, cosmic, detection, images, kernel, surveys, tables
+from . import __version__, adding, asked, checks, cluster, cosmic, detection, headings, images, kernel, ldac, likesex
+from . import planefiles, resuming, surveys, tables
 from .errors import Mistake
 from .starting import ended_by_signals
 from .words import Parser, called, finite, whole
@@ -28,8 +26,9 @@ DESCRIPTION = """Finds the sources of an image and writes a catalogue: positions
 and sky coordinates where the header has them.
 """
 EPILOG = """HDUs are counted from 0, planes and pixels from 1. The sources are found by the program maxdetect, whose
-results are proved; the sky, the scaling and the photometry around it are not. Errors are one line on standard error,
-with status 2; nothing is written then. Where one of several images is at fault, the others are done.
+results are proved; the sky, the scaling and the photometry around it are not. @FILE stands for the words in a file.
+Errors are one line on standard error, with status 2; nothing is written then. Where one of several images is at fault,
+the others are done.
 """
 MOST_WORKERS = 64
 MOST_SIGMAS = 1e6
@@ -84,8 +83,9 @@ def _add_written(out) -> None:
         "-o",
         "--output",
         metavar="CATALOGUE",
-        help="FITS, CSV, ECSV or VOTable by the name's end (default: IMAGE's name with .cat.fits)",
+        help="FITS, CSV, ECSV, VOTable or FITS_LDAC by the name's end (default: IMAGE's name with .cat.fits)",
     )
+    asked.add(out)
     out.add_argument("--map", help="the segmentation map, as FITS: for each pixel the number of its source")
     out.add_argument("--regions", metavar="REG", help="ellipses for DS9")
     out.add_argument("--plot", metavar="PNG", help="a picture of the image and its sources")
@@ -119,6 +119,7 @@ def _add_read(what) -> None:
     what.add_argument(
         "--measure", metavar="FILE[:HDU]", help="another image of the same pixels, in which the sources are measured"
     )
+    asked.add_read(what)
     what.add_argument(
         "--gain",
         type=finite(above=0),
@@ -198,11 +199,12 @@ def _add_how(how) -> None:
         metavar="N",
         help="images and tiles at work at once; 1 takes the least memory (default: as many as processors, at most 4)",
     )
+    asked.add_run(how)
 
 
 def parser() -> argparse.ArgumentParser:
     """The command's options."""
-    made = Parser(prog="maxcat", description=DESCRIPTION, epilog=EPILOG, allow_abbrev=False)
+    made = Parser(prog="maxcat", description=DESCRIPTION, epilog=EPILOG, allow_abbrev=False, fromfile_prefix_chars="@")
     made.add_argument("--version", action="version", version=f"maxcat {__version__}")
     made.add_argument("images", metavar="IMAGE", nargs="+", help="a FITS image of any kind that astropy reads")
     _add_written(made.add_argument_group("what is written"))
@@ -216,27 +218,31 @@ def parser() -> argparse.ArgumentParser:
 
 @dataclasses.dataclass
 class Task:
-    """An image file, its fields, the units that these are measured in, and where its catalogue goes."""
+    """An image file, its fields, the units that these are measured in, further bands, and where its catalogue goes."""
 
     path: str
     output: str
     fields: List[detection.Field]
     units: List[Optional[str]]
+    bands: List[Dict[str, detection.Field]]
     survey_field: Optional[str] = None
 
 
-def _default_output(path: str) -> str:
-    """IMAGE.cat.fits for IMAGE.fits, IMAGE.fits.gz and the like."""
+def _default_output(path: str, kind: Optional[str] = None) -> str:
+    """IMAGE.cat.fits for IMAGE.fits, IMAGE.fits.gz and the like; another end for a catalogue of another kind."""
     base = pathlib.Path(path)
     while base.suffix.lower() in (".gz", ".fz", ".bz2", ".fits", ".fit", ".fts"):
         base = base.with_suffix("")
-    return os.fspath(base) + ".cat.fits"
+    return os.fspath(base) + {"ldac": ".ldac", "votable": ".cat.xml"}.get(kind, f".cat.{kind or 'fits'}")
 
 
 def _field(plane: images.Plane, given: argparse.Namespace) -> detection.Field:
     """An image with what belongs to it."""
     beside = given.hdu == "all"
-    texts = (("mask", given.mask), ("weights", given.weight), ("values", given.measure))
+    texts = (
+        *(("mask", given.mask), ("weights", given.weight), ("values", given.measure)),
+        *(("value_weights", given.measure_weight), ("flag_map", given.flag_map)),
+    )
     others = {name: images.matching(text, plane, given.plane) for name, text in texts if text}
     measured = others.get("values", plane)
     settings = detection.Settings(
@@ -250,27 +256,59 @@ def _field(plane: images.Plane, given: argparse.Namespace) -> detection.Field:
         cosmic_rays=given.cosmic_rays,
         wide=given.wide,
         weight_type=given.weight_type or "weight",
+        value_weight_type=given.measure_weight_type or "weight",
         local=given.rms == "local",
         gain=given.gain or measured.positive("GAIN"),
         saturation=given.saturation if given.saturation is not None else measured.positive("SATURATE"),
         own_gain=plane.positive("GAIN") if measured is not plane else None,
         own_saturation=plane.positive("SATURATE") if measured is not plane else None,
+        apertures=given.apertures,
+        vignet=given.vignet or 0,
         workers=1 if beside or len(given.images) > 1 else given.workers,
     )
     return detection.Field(plane, settings, **others)
+
+
+def _bands(field: detection.Field, given: argparse.Namespace) -> Dict[str, detection.Field]:
+    """For each band that is asked for the same field with the band's image to measure in."""
+    found = {}
+    for name, text in given.band or []:
+        plane, weight = images.matching(text, field.plane, given.plane), dict(given.band_weight or []).get(name)
+        settings = dataclasses.replace(
+            field.settings,
+            gain=plane.positive("GAIN"),
+            saturation=plane.positive("SATURATE"),
+            own_gain=field.own_gain,
+            own_saturation=field.settings.saturation if field.values is None else field.settings.own_saturation,
+            vignet=0,
+        )
+        weights = images.matching(weight, field.plane, given.plane) if weight else None
+        found[name] = dataclasses.replace(field, settings=settings, values=plane, value_weights=weights)
+    return found
 
 
 def _task(path: str, given: argparse.Namespace) -> Task:
     every = given.hdu == "all"
     planes = images.all_opened(path, given.plane) if every else [images.opened(path, given.hdu, given.plane)]
     fields = [_field(plane, given) for plane in planes]
+    _tell_inherited(path, fields, given)
     return Task(
         path,
-        given.output or _default_output(path),
+        given.output or _default_output(path, given.format),
         fields,
         [(field.values or field.plane).unit for field in fields],
+        [_bands(field, given) for field in fields],
         _survey_field(path, given) if given.survey else None,
     )
+
+
+def _tell_inherited(path: str, fields: List[detection.Field], given: argparse.Namespace) -> None:
+    """Says which numbers of the primary header count for a file's extensions."""
+    asked = {"GAIN": given.gain, "SATURATE": given.saturation}
+    names = {name for field in fields for name in headings.inherited(field.values or field.plane)}
+    told = sorted(name for name in names if asked[name] is None)
+    if told:
+        _say(f"maxcat: {path}: {' and '.join(told)} of the primary header count for its extensions")
 
 
 def _survey_field(path: str, given: argparse.Namespace) -> str:
@@ -289,11 +327,28 @@ def _writable(output: str) -> bool:
     return os.path.isdir(folder) and os.access(folder, os.W_OK)
 
 
+def _kind(task: Task, given: argparse.Namespace) -> str:
+    """How a file's catalogue is written."""
+    return given.format or tables.format_of(task.output)
+
+
+def _files(task: Task, given: argparse.Namespace) -> List[str]:
+    """All files that are written of an image."""
+    shown = [checks.name(task.output, kind) for kind in given.check or []]
+    return [task.output, *(it for it in (given.map, given.regions, given.plot) if it), *shown]
+
+
+def _beside(given: argparse.Namespace) -> List[str]:
+    """The files that are read beside the images."""
+    named = [text for _, text in (given.band or []) + (given.band_weight or [])]
+    named += [it for it in (given.weight, given.mask, given.measure, given.measure_weight, given.flag_map) if it]
+    return [images.split_name(it)[0] for it in named]
+
+
 def _check_names(given: argparse.Namespace, tasks: List[Task]) -> None:
     """No output is an input or another output, and each can be written."""
-    beside = [images.split_name(it)[0] for it in (given.weight, given.mask, given.measure) if it]
-    inputs = [*given.images, *beside, *([given.survey] if given.survey else [])]
-    outputs = [task.output for task in tasks] + [it for it in (given.map, given.regions, given.plot) if it]
+    inputs = [*given.images, *_beside(given), *([given.survey] if given.survey else [])]
+    outputs = [name for task in tasks for name in _files(task, given)]
     for number, output in enumerate(outputs):
         if any(images.same(output, it) for it in inputs):
             raise Mistake(f"{output} is read, so it can't be written")
@@ -304,10 +359,10 @@ def _check_names(given: argparse.Namespace, tasks: List[Task]) -> None:
     if given.survey and not _writable(given.survey):
         raise Mistake(f"{given.survey} can't be written")
     for task in tasks:
-        tables.format_of(task.output)
-    named = [task.survey_field for task in tasks if task.survey_field]
-    for name in named:
-        if named.count(name) > 1:
+        _kind(task, given)
+    fields = [task.survey_field for task in tasks if task.survey_field]
+    for name in fields:
+        if fields.count(name) > 1:
             raise Mistake(f"two images would be the survey's field {name}")
     if given.crop and tasks:
         (xmin, xmax, ymin, ymax), (height, width) = given.crop, tasks[0].fields[0].shape
@@ -338,6 +393,7 @@ def _check(given: argparse.Namespace) -> None:
         raise Mistake("--weight-type wants a --weight")
     if given.cosmic_rays:
         cosmic.check()
+    asked.check(given)
     if given.weight and given.rms == "local":
         raise Mistake("--rms local and --weight exclude each other")
 
@@ -378,26 +434,12 @@ def _about(path: str):
         raise Mistake(f"{path}: {error.strerror or error}") from None
 
 
-def _make_room(file, size: int) -> None:
-    """Makes a file so long that is open for writing. The disk has room for it then: where an array in a file finds it
-    full, a signal ends the command.
-    """
-    try:
-        os.posix_fallocate(file.fileno(), 0, size)
-    except AttributeError:
-        file.truncate(size)
-    except OSError as error:
-        if error.errno not in (errno.EINVAL, errno.ENODEV, errno.ENOSYS, errno.EOPNOTSUPP):
-            raise
-        file.truncate(size)
-
-
 @contextlib.contextmanager
 def _scratch_map(shape):
     """A map in a file of its own that goes away."""
     with tempfile.TemporaryFile() as file:
         with _about(tempfile.gettempdir()):
-            _make_room(file, 4 * shape[0] * shape[1])
+            planefiles.make_room(file, 4 * shape[0] * shape[1])
         yield numpy.memmap(file, "i4", "r+", shape=shape)
 
 
@@ -406,41 +448,18 @@ def _maps(task: Task, given: argparse.Namespace, name: Optional[str]):
     """For each field the map that is to be filled, or None; the file of this name has them, where there is one."""
     with contextlib.ExitStack() as stack:
         if name is not None:
-            yield _maps_in(name, task, given)
+            yield _planes_in(given.map, name, task, ">i4")
         elif given.plot:
             yield [stack.enter_context(_scratch_map(field.shape)) for field in task.fields]
         else:
             yield [None for _ in task.fields]
 
 
-def _maps_in(name: str, task: Task, given: argparse.Namespace) -> List[numpy.ndarray]:
-    """The fields' maps, full of zeros, in a FITS file that is made for them."""
-    headers, shapes = _map_headers(task), [field.shape for field in task.fields]
-    sizes = [-(-4 * height * width // 2880) * 2880 for height, width in shapes]
-    ends = list(itertools.accumulate(len(header) + size for header, size in zip(headers, sizes)))
-    places = [end - size for end, size in zip(ends, sizes)]
-    with _about(given.map), open(name, "wb") as file:
-        _make_room(file, ends[-1])
-        for header, place in zip(headers, places):
-            file.seek(place - len(header))
-            file.write(header)
-    return [numpy.memmap(name, ">i4", "r+", place, shape) for place, shape in zip(places, shapes)]
-
-
-def _map_headers(task: Task) -> List[bytes]:
-    """The headers of the maps' HDUs: the first is the primary where it is the only one."""
-    headers = []
-    for field in task.fields:
-        hdu = tables.map_hdu(numpy.zeros((1, 1), dtype="i4"), field.plane.header, _extension(field, task))
-        if len(task.fields) == 1:
-            hdu = fits.PrimaryHDU(hdu.data, hdu.header)
-        hdu.header["NAXIS1"], hdu.header["NAXIS2"] = field.shape[1], field.shape[0]
-        headers.append(hdu.header.tostring().encode("ascii"))
-    return (
-        headers
-        if len(headers) == 1
-        else [fits.PrimaryHDU().header.tostring().encode("ascii") + headers[0], *headers[1:]]
-    )
+def _planes_in(path: str, name: str, task: Task, dtype: str, **cards: str) -> List[numpy.ndarray]:
+    """An image for each field, full of zeros, in a FITS file that is made for them and will be called `path`."""
+    heads = [planefiles.Head(field.plane.header, _extension(field, task), field.shape) for field in task.fields]
+    with _about(path):
+        return planefiles.made(name, heads, dtype, **cards)
 
 
 def _extension(field: detection.Field, task: Task) -> str:
@@ -454,20 +473,40 @@ def _finished(table: Table, number: int, task: Task, given: argparse.Namespace) 
     """What was found in one of the fields, with all that a reader wants."""
     field, unit = task.fields[number], task.units[number]
     extension = _extension(field, task) if given.hdu == "all" else None
-    return tables.finished(table, field.plane.header, zeropoint=given.zeropoint, unit=unit, extension=extension)
+    table.meta.update(headings.of_field(field, given.zeropoint), HDU=headings.plain(_extension(field, task)))
+    zeropoints = {name: given.zeropoint for name in task.bands[number]} if given.zeropoint is not None else {}
+    zeropoints.update(given.band_zeropoint or [])
+    return tables.finished(
+        table,
+        field.plane.header,
+        zeropoint=given.zeropoint,
+        unit=unit,
+        extension=extension,
+        bands={name: (zeropoints.get(name), other.values.unit) for name, other in task.bands[number].items()},
+    )
 
 
-def _joined(found: List[Table]) -> Table:
-    """The rows of all fields, with the cards that are alike in all of them."""
+def _joined(found: List[Table], task: Task, given: argparse.Namespace) -> Table:
+    """The rows of all fields, with cards that say what was used for each."""
     table = found[0] if len(found) == 1 else vstack(found, metadata_conflicts="silent")
-    cards = found[0].meta.items()
-    table.meta = {name: value for name, value in cards if all(other.meta.get(name) == value for other in found)}
-    table.meta["VERSION"] = f"maxcat {__version__}"
+    table.meta = headings.joined([it.meta for it in found])
+    table.meta.update(IMAGE=headings.plain(os.path.basename(task.path)), VERSION=f"maxcat {__version__}")
+    table.meta["OPTIONS"] = headings.plain(given.options)
     return table
 
 
-def _write(table: Table, task: Task, given: argparse.Namespace, maps, names: Dict[str, str]) -> None:
-    """Writes all but the map, each file under the name that it has for now."""
+def _count_on(table: Table, segments: Optional[numpy.ndarray], before: int) -> None:
+    """Numbers the sources of a field, in its map too, from those that the fields before it have."""
+    table["NUMBER"] += before
+    if segments is not None and before:
+        for top in range(0, len(segments), 256):
+            rows = segments[top : top + 256]
+            rows[rows > 0] += before
+
+
+def _write(found: List[Table], task: Task, given: argparse.Namespace, maps, names: Dict[str, str]) -> Table:
+    """Writes all but the map, each file under the name that it has for now, and gives the catalogue."""
+    table = _joined(found, task, given)
     if given.plot:
         from . import pictures
 
@@ -478,19 +517,33 @@ def _write(table: Table, task: Task, given: argparse.Namespace, maps, names: Dic
         with _about(given.regions):
             tables.regions(table, names[given.regions])
     with _about(task.output):
-        tables.write(table, names[task.output])
+        if _kind(task, given) == "ldac":
+            parts = [ldac.Part(own, field.plane, field.shape) for own, field in zip(found, task.fields)]
+            ldac.write(parts, names[task.output], given.names)
+        else:
+            tables.write(asked.picked(table, given.names), names[task.output], _kind(task, given))
+    return table
+
+
+def _check_images(task: Task, given: argparse.Namespace, names: Dict[str, str]) -> Dict[str, List[numpy.ndarray]]:
+    """The check images by their kinds, one for each field."""
+    paths = {kind: checks.name(task.output, kind) for kind in given.check or []}
+    return {kind: _planes_in(path, names[path], task, ">f4", CHECK=kind) for kind, path in paths.items()}
 
 
 def _done(task: Task, given: argparse.Namespace, tiles, progress) -> str:
     """Finds and writes a file's sources, and says so."""
-    wanted = [task.output, *(it for it in (given.map, given.regions, given.plot) if it)]
-    with _about(task.output), tables.whole_files(wanted) as names, _maps(task, given, names.get(given.map)) as maps:
-        found = []
+    with _about(task.output), tables.whole_files(_files(task, given)) as names, _maps(
+        task, given, names.get(given.map)
+    ) as maps:
+        found, shown = [], _check_images(task, given, names)
         for number, (field, segments) in enumerate(zip(task.fields, maps)):
-            table = detection.sources(field, tiles, segments=segments, progress=progress)
+            told = checks.writer({kind: planes[number] for kind, planes in shown.items()})
+            more = {"bands": task.bands[number], "told": told, "progress": progress}
+            table = detection.sources(field, tiles, segments=segments, **more)
+            _count_on(table, segments, sum(map(len, found)))
             found.append(_finished(table, number, task, given))
-        table = _joined(found)
-        _write(table, task, given, maps, names)
+        table = _write(found, task, given, maps, names)
     written = f"{len(table)} sources in {shlex.quote(task.output)}"
     if task.survey_field:
         try:
@@ -530,12 +583,35 @@ def with_image(path: str, work: Callable, *given):
         raise Mistake(f"{path}: {type(error).__name__}: {' '.join(str(error).split())}") from error
 
 
+def _given(words: List[str]) -> argparse.Namespace:
+    """What the words ask for, with the settings of another program's that they name. Raises Mistake."""
+    given = parser().parse_intermixed_args(words)
+    if given.like_sextractor is not None:
+        more, untold = likesex.words(given.like_sextractor)
+        given = parser().parse_intermixed_args([*more, *words])
+        if untold:
+            _say(f"maxcat: {given.like_sextractor}: not taken: {', '.join(untold)}")
+    given.options = shlex.join(words)
+    return given
+
+
+def _executors(stack: contextlib.ExitStack, given: argparse.Namespace, count: int):
+    """What tiles run in, and what so many images do; None where they follow each other. Raises Mistake."""
+    files = given.workers > 1 and count > 1
+    if given.scheduler is not None:
+        tiles = stack.enter_context(cluster.executor(given.scheduler))
+    else:
+        tiles = stack.enter_context(concurrent.futures.ThreadPoolExecutor(given.workers)) if given.workers > 1 else None
+    return tiles, stack.enter_context(concurrent.futures.ThreadPoolExecutor(given.workers)) if files else None
+
+
 def run(words: Optional[List[str]] = None) -> bool:
     """Does what the words say, and tells for each image what came of it: False where one of several wasn't done.
     Raises Mistake.
     """
-    given = parser().parse_intermixed_args(words)
+    given = _given(sys.argv[1:] if words is None else words)
     _check(given)
+    given.names = asked.names_of(given)
     tasks = [_attempted(with_image, path, _task, path, given) for path in given.images]
     good = [task for task in tasks if isinstance(task, Task)]
     _check_names(given, good)
@@ -545,15 +621,15 @@ def run(words: Optional[List[str]] = None) -> bool:
             adding.find_survey_program()
     progress, all_done = _Progress(_count(good)), True
     with contextlib.ExitStack() as stack:
-        pool, files = (
-            stack.enter_context(concurrent.futures.ThreadPoolExecutor(given.workers)) if wanted else None
-            for wanted in (given.workers > 1, given.workers > 1 and len(good) > 1)
-        )
+        pool, files = _executors(stack, given, len(good))
         stack.callback(progress.close)
 
         def work(task):
-            done = isinstance(task, Task)
-            return _attempted(with_image, task.path, _done, task, given, pool, progress) if done else task
+            if not isinstance(task, Task):
+                return task
+            if given.resume and resuming.hold(_files(task, given), [task.path, *_beside(given)]):
+                return f"{shlex.quote(task.output)} is there"
+            return _attempted(with_image, task.path, _done, task, given, pool, progress)
 
         for answer in detection.tiles.each(files, work, tasks):
             if isinstance(answer, str):

@@ -1,12 +1,14 @@
 """From a field to its sources: by the program, a tile at a time, and then their photometry."""
 import concurrent.futures
 import dataclasses
-from typing import Callable, Optional, Union
+from typing import Callable, Dict, NamedTuple, Optional, Union
 
 import numpy
 from astropy.table import Table, hstack
 
-from . import cleaning, cosmic, kernel, looks, measuring, photometry, pieces, scaling, sky, tiles, wide
+from . import cleaning, cosmic, flagmap, kernel, looks, measuring, photometry, pieces, pointlike, scaling, sky, tiles
+from . import wide
+from .bands import columns as band_columns
 from .fields import KINDS, LEAST_MESH, MOST_MESH, TILE, Field, Settings, noise_of, sky_of
 from .tiles import Box
 
@@ -27,6 +29,14 @@ class Detector:
     def noise(self, rows: slice, columns: slice) -> Union[float, numpy.ndarray]:
         """The noise of a window's pixels, in the image's units: one number, or an array."""
         return noise_of(self.field, self.sky, rows, columns)
+
+    def middle_noise(self) -> float:
+        """The noise of a pixel, with a weight map the median along the middle row."""
+        if self.field.weights is None:
+            return self.sky.noise
+        middle = self.field.shape[0] // 2
+        noise = self.noise(slice(middle, middle + 1), slice(0, self.field.shape[1]))
+        return float(numpy.median(noise[numpy.isfinite(noise)])) if numpy.isfinite(noise).any() else self.sky.noise
 
     def numbers(self, box: Box) -> numpy.ndarray:
         """What the program is to see of a window: 32-bit numbers, kernel.LEAST where it is undefined."""
@@ -72,16 +82,20 @@ def sources(
     executor: Optional[concurrent.futures.Executor] = None,
     *,
     segments: Optional[numpy.ndarray] = None,
+    bands: Optional[Dict[str, Field]] = None,
+    told: Optional[Callable] = None,
     progress: Callable[[int], None] = lambda count: None,
     program: Optional[str] = None,
 ) -> Table:
     """The sources of a field with their photometry, in columns and rows of the image, numbered by their first pixels.
 
     Tiles and photometry run in the executor. `segments`, an array of the image's shape full of zeros, gets the map.
+    `bands` are fields with the same image and others to measure in: each adds columns with its name. `told` is called
+    with the detector, the sky beside the sources of what is measured in and that with them, and the table.
     `progress` is called with 1 for each tile, after a first call with 0, and with 0 now and then. The table's meta has
     the program's threshold (THRESH), the width by which the image was smoothed (SMOOTH) and that of its point sources
-    (FWHM, where it has enough of them), whether FLUX_TOTAL is told by point sources (GROWTH), and the noise (SIGMA)
-    where there is no weight map.
+    (FWHM, where it has enough of them), whether FLUX_TOTAL is told by point sources (GROWTH), and the noise: SIGMA, or
+    with a weight map NOISE, about the middle of the image.
     """
     found = sky_of(field)
     if field.settings.cosmic_rays:
@@ -93,23 +107,46 @@ def sources(
         detector.strips = {"strips": 16, "workers": field.settings.workers}
     progress(0)
     table, cut = tiles.gathered(tiles.each(executor, _Tile(detector), cores), segments, progress)
-    beside = measuring.sky_beside(detector, segments, executor)
+    own = measuring.sky_of_values(detector)
+    beside = measuring.sky_beside(detector, segments, executor, own)
     points = measuring.points_of(detector, beside)
-    table = hstack([table, measuring.measured(detector, beside, points, table, segments, executor, progress)])
+    skies = _Skies(own, beside, points)
+    table = _measured(detector, skies, table, segments, executor, bands or {}, progress)
+    if told is not None:
+        told(detector, beside, own, table)
     table["FLAGS"] |= numpy.where(cut, photometry.CUT, 0).astype(table["FLAGS"].dtype)
     if field.settings.wide:
-        table = _with_wide(detector, table, segments, executor)
+        table = _with_wide(detector, table, segments, executor, bands or {})
     tiles.hide(segments)
     table.meta.update(detector.how.meta, GROWTH=points is not None)
     if field.struck is not None:
         table.meta["NCOSMIC"] = int(field.struck.sum())
     # With a weight map the sky's noise is a factor, and no noise of the image.
-    if field.weights is None:
-        table.meta["SIGMA"] = detector.sky.noise
+    table.meta["NOISE" if field.weights is not None else "SIGMA"] = detector.middle_noise()
     return table
 
 
-def _with_wide(detector: Detector, table: Table, segments: numpy.ndarray, executor) -> Table:
+class _Skies(NamedTuple):
+    """The sky of what is measured in, that beside the sources, and its point sources."""
+
+    own: Optional[sky.Sky]
+    beside: Optional[sky.Sky]
+    points: Optional[pointlike.PointSources]
+
+
+def _measured(detector: Detector, skies: _Skies, table: Table, segments: numpy.ndarray, executor, bands, progress):
+    """Rows with their photometry in what is measured and in each band, and what the flag map has over them."""
+    own, beside, points = skies
+    parts = [table, measuring.measured(detector, beside, points, table, segments, executor, progress, own)]
+    for name, other in bands.items():
+        parts.append(band_columns(detector, name, other, table, segments, executor, progress))
+    table = hstack(parts)
+    if detector.field.flag_map is not None:
+        table["IMAFLAGS"] = flagmap.over(detector.field.flag_map, table, segments)
+    return table
+
+
+def _with_wide(detector: Detector, table: Table, segments: numpy.ndarray, executor, bands) -> Table:
     """The sources of a field with the wide ones that are found besides; its map gets them too.
 
     Wide sources are measured above the sky in which they are found, and other sources as if they weren't there: their
@@ -124,8 +161,9 @@ def _with_wide(detector: Detector, table: Table, segments: numpy.ndarray, execut
         segments[box.rows, box.columns][own] = number
     how = dataclasses.replace(detector.how, threshold=wide.THRESHOLD)
     detector = Detector(field, found, how, detector.program)
-    beside = measuring.sky_beside(detector, segments, executor)
-    rows = hstack([more.rows, measuring.measured(detector, beside, None, more.rows, segments, executor)])
+    own = measuring.sky_of_values(detector)
+    skies = _Skies(own, measuring.sky_beside(detector, segments, executor, own), None)
+    rows = _measured(detector, skies, more.rows, segments, executor, bands, lambda count: None)
     rows["FLAGS"] |= photometry.WIDE
     meta = table.meta
     table, places = tiles.numbered([table, rows])

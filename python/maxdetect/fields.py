@@ -27,12 +27,13 @@ class Settings:
     smooths the image before, in pixels: by default that of its point sources, 0 for none. `mesh` is the side of the
     cells of the background, 0 for one level; `min_area` is in pixels. `contrast` is the program's, in thousandths;
     without one a component is split as far as its parts stand `split_sigmas` deviations above where they meet, and
-    more on a wide source. `clean` leaves out the peaks of noise on faint light, and
-    `cosmic_rays` the pixels that these have hit; with `wide` wide
-    faint sources are looked for besides. `weight_type` says what the weight map
-    has, and `local` takes the noise by cells. `gain` is in electrons for a unit of the image, and from `saturation` on
-    pixels are saturated: both those of the image that is measured in. Where that is another one than sources are
-    looked for in, `own_gain` and `own_saturation` are those of the latter.
+    more on a wide source. `clean` leaves out the peaks of noise on faint light, and `cosmic_rays` the pixels that these
+    have hit; with `wide` wide faint sources are looked for besides. `weight_type` says what the weight map has,
+    `value_weight_type` what that of the image has that is measured in, and `local` takes the noise by cells. `gain`
+    is in electrons for a unit of the image, and from `saturation` on pixels are saturated: both those of the image
+    that is measured in. Where that is another one than sources are looked for in, `own_gain` and `own_saturation`
+    are those of the latter. `apertures` are the diameters of circles in which fluxes are summed, and `vignet` is
+    the side of the squares of pixels that the catalogue has, 0 for none: both in pixels.
     """
 
     sigmas: Optional[float] = None
@@ -45,11 +46,14 @@ class Settings:
     cosmic_rays: bool = False
     wide: bool = False
     weight_type: str = "weight"
+    value_weight_type: str = "weight"
     local: bool = False
     gain: Optional[float] = None
     saturation: Optional[float] = None
     own_gain: Optional[float] = None
     own_saturation: Optional[float] = None
+    apertures: Tuple[float, ...] = (10.0,)
+    vignet: int = 0
     tile: int = TILE
     workers: int = 1
 
@@ -68,7 +72,7 @@ def relative_noise(weights: numpy.ndarray, kind: str) -> numpy.ndarray:
 @dataclasses.dataclass
 class Field:
     """An image with what belongs to it: a mask, whose pixels other than 0 are undefined, a weight map, and another
-    image to measure in.
+    image to measure in with a weight map of its own; and a map of flags.
     """
 
     plane: Plane
@@ -77,6 +81,8 @@ class Field:
     weights: Optional[Plane] = None
     values: Optional[Plane] = None
     struck: Optional[numpy.ndarray] = None
+    value_weights: Optional[Plane] = None
+    flag_map: Optional[Plane] = None
 
     @property
     def shape(self) -> Tuple[int, int]:
@@ -103,6 +109,16 @@ class Field:
     def to_measure(self, rows: slice, columns: slice) -> numpy.ndarray:
         """What fluxes are measured in, less its plane's origin."""
         return self.image(rows, columns) if self.values is None else self._masked(self.values, rows, columns)
+
+    @property
+    def measured(self) -> "Field":
+        """What fluxes are measured in as a field of its own."""
+        if self.values is None:
+            return self
+        settings = dataclasses.replace(self.settings, weight_type=self.settings.value_weight_type)
+        return dataclasses.replace(
+            self, plane=self.values, settings=settings, weights=self.value_weights, values=None, value_weights=None
+        )
 
     @property
     def saturation(self) -> Optional[float]:

@@ -75,11 +75,20 @@ class Plane:
     anew. Of an uncompressed file only the rows that are asked for are read; others are held as a whole.
     """
 
-    def __init__(self, path: str, hdu, number: int, plane: Optional[int], beside: bool = False):
+    def __init__(
+        self,
+        path: str,
+        hdu,
+        number: int,
+        plane: Optional[int],
+        beside: bool = False,
+        primary: Optional[fits.Header] = None,
+    ):
         self.path, self.number = os.fspath(path), number
         # astropy gives a compressed image without a name this one.
         self.name = "" if hdu.name == "COMPRESSED_IMAGE" else hdu.name
         self.header, sides = hdu.header.copy(), hdu.shape
+        self.primary = None if number == 0 or self.header.get("INHERIT") is False else primary
         self.shape = tuple(sides[-2:])
         planes = int(numpy.prod(sides[:-2], dtype=int))
         if beside and planes == 1:
@@ -117,11 +126,27 @@ class Plane:
         return self._checked(cards.unit, self.header)
 
     def positive(self, keyword: str) -> Optional[float]:
-        """The header's number of this name, or None where it has none or one that isn't positive. Raises Mistake for
-        what is no number.
+        """The header's number of this name, or the primary header's where it has none; None where that isn't positive.
+        Raises Mistake for what is no number.
         """
-        value = self._checked(cards.number, self.header, keyword)
+        value = self._checked(cards.number, self._having(keyword), keyword)
         return float(value) if value is not None and value > 0 else None
+
+    def in_passing(self, keyword: str) -> Union[None, int, float, str]:
+        """What the header's card of this name says, or the primary header's; None for what is no number and no text."""
+        for read in (cards.number, cards.text):
+            with contextlib.suppress(ValueError):
+                return read(self._having(keyword), keyword)
+        return None
+
+    def inherits(self, keyword: str) -> bool:
+        """The number of this name stands in the primary header alone."""
+        return self._having(keyword) is not self.header
+
+    def _having(self, keyword: str) -> fits.Header:
+        """The header that has a card of this name: its own, or else the primary one of its file."""
+        alone = keyword not in self.header and self.primary is not None and keyword in self.primary
+        return self.primary if alone else self.header
 
     @functools.cached_property
     def origin(self) -> int:
@@ -152,18 +177,21 @@ class Plane:
         with self._lock:
             if self._whole is None:
                 with _opened(self.path) as hdus:
-                    _, hdu = _found(self.path, hdus, self.number)
+                    _, hdu, _ = _found(self.path, hdus, self.number)
                     self._whole = stored.raw(hdu).reshape((-1,) + self.shape)[self._plane]
                     _check_sums(self.path, *_state(self.path))
         return self._whole[rows, columns]
 
 
 def _found(path: str, hdus: Iterator[Tuple[int, object]], which: Name):
-    """An HDU that is named by its number or its name, or the first one with an image, and its number."""
-    count, name = 0, str(which).strip().upper()
+    """An HDU that is named by its number or its name, or the first one with an image, with its number and the primary
+    header.
+    """
+    count, name, primary = 0, str(which).strip().upper(), None
     for number, hdu in hdus:
+        primary = hdu.header.copy() if number == 0 else primary
         if _is_image(hdu) if which is None else number == int(name) if name.isdecimal() else hdu.name.upper() == name:
-            return number, hdu
+            return number, hdu, primary
         count = number + 1
     if which is None:
         raise Mistake(f"{path}: it has no image")
@@ -175,16 +203,20 @@ def opened(path: str, which: Name = None, plane: Optional[int] = None, beside: b
     cubes alone. Raises Mistake.
     """
     with _opened(path) as hdus:
-        number, hdu = _found(path, hdus, which)
+        number, hdu, primary = _found(path, hdus, which)
         if not _is_image(hdu):
             raise Mistake(f"{path}: its HDU {which if which is not None else number} has no image of two axes")
-        return Plane(path, hdu, number, plane, beside)
+        return Plane(path, hdu, number, plane, beside, primary)
 
 
 def all_opened(path: str, plane: Optional[int] = None) -> List[Plane]:
     """All images of a file, in its order. Raises Mistake where there is none."""
+    planes, primary = [], None
     with _opened(path) as hdus:
-        planes = [Plane(path, hdu, number, plane) for number, hdu in hdus if _is_image(hdu)]
+        for number, hdu in hdus:
+            primary = hdu.header.copy() if number == 0 else primary
+            if _is_image(hdu):
+                planes.append(Plane(path, hdu, number, plane, primary=primary))
     if not planes:
         raise Mistake(f"{path}: it has no image")
     return planes

@@ -7,13 +7,15 @@ own.
 import concurrent.futures
 import dataclasses
 import itertools
+import math
 from typing import TYPE_CHECKING, Callable, Iterator, List, Optional, Tuple
 
 import numpy
 from astropy.table import Table
 
-from . import beside, looks, photometry, pointlike, sky, tiles
+from . import beside, looks, photometry, pointlike, scaling, shapes, sky, smoothing, tiles, windowed
 from .errors import Mistake
+from .fields import Field, noise_of
 from .tiles import Box
 
 if TYPE_CHECKING:
@@ -40,20 +42,33 @@ class _Row:
         return beside.of_row(residual, undefined, segments, within, self.found.mesh)
 
 
-def sky_beside(detector: "Detector", segments: numpy.ndarray, executor: Executor = None) -> Optional[sky.Sky]:
-    """The sky of what a field is measured in, beside the sources of its map; None where no pixel of that is defined.
-
-    Raises Mistake where it has none to speak of.
+def sky_of_values(detector: "Detector") -> Optional[sky.Sky]:
+    """The sky of what a field is measured in; None where no pixel of that is defined. Raises Mistake where it has none
+    to speak of.
     """
     field, found = detector.field, detector.sky
-    if field.values is not None:
-        try:
-            found = sky.of(lambda rows: field.to_measure(rows, slice(None)), field.shape, found.mesh)
-        except sky.Undefined:
-            return None
-        except ValueError as error:
-            raise Mistake(f"{field.values.label}: {error}") from None
-        found = found if field.settings.mesh else found.flat()
+    if field.values is None:
+        return found
+    other = field.measured
+    try:
+        found = sky.of(other.image, field.shape, found.mesh, None if other.weights is None else other.relative)
+    except sky.Undefined:
+        return None
+    except ValueError as error:
+        raise Mistake(f"{field.values.label}: {error}") from None
+    return found if field.settings.mesh else found.flat()
+
+
+def sky_beside(
+    detector: "Detector", segments: numpy.ndarray, executor: Executor = None, found: Optional[sky.Sky] = None
+) -> Optional[sky.Sky]:
+    """A sky of what a field is measured in, by default that of the field itself, beside the sources of its map; None
+    where there is none.
+    """
+    field = detector.field
+    found = detector.sky if found is None and field.values is None else found
+    if found is None:
+        return None
     rows = ((own, seen, tiles.without_gaps(segments[seen])) for own, seen in beside.bands(field.shape[0], found.mesh))
     return beside.joined(tiles.each(executor, _Row(detector, found), rows), found)
 
@@ -65,25 +80,38 @@ def points_of(detector: "Detector", found: Optional[sky.Sky]) -> Optional[pointl
         return detector.how.points
     if found is None or not found.noise > 0:
         return None
-    return looks.point_sources(
-        dataclasses.replace(field, plane=field.values, values=None, weights=None, struck=None), found
-    )
+    return looks.point_sources(dataclasses.replace(field.measured, weights=None, struck=None), found)
+
+
+def noise_beside(field: Field, found: sky.Sky, own: sky.Sky, rows: slice, columns: slice) -> photometry.Numbers:
+    """The noise of what a field is measured in, in its units: by its weight map and its own sky, or by the one beside
+    sources.
+    """
+    other = field.measured
+    if other.weights is not None:
+        return noise_of(other, own, rows, columns)
+    return found.noises(rows, columns) if other.settings.local else found.noise
 
 
 class _Window:
     """Measures sources in a window of a field, given with their rows and the map there."""
 
-    def __init__(self, detector: "Detector", found: Optional[sky.Sky], points: Optional[pointlike.PointSources]):
+    def __init__(
+        self,
+        detector: "Detector",
+        found: Optional[sky.Sky],
+        points: Optional[pointlike.PointSources],
+        own: Optional[sky.Sky] = None,
+    ):
         self.detector, self.found, self.points = detector, found, points
+        self.own = own if own is not None else detector.sky
 
     def _sky(self, box: Box) -> Tuple[photometry.Numbers, photometry.Numbers]:
         """The level and the noise there, in the units of what is measured."""
         if self.found is None:
             return numpy.nan, numpy.nan
-        field, level = self.detector.field, self.found.level(box.rows, box.columns)
-        if field.values is None and field.weights is not None:
-            return level, self.detector.noise(box.rows, box.columns)
-        return level, self.found.noises(box.rows, box.columns) if field.settings.local else self.found.noise
+        level = self.found.level(box.rows, box.columns)
+        return level, noise_beside(self.detector.field, self.found, self.own, box.rows, box.columns)
 
     def __call__(self, item: Tuple[Box, Table, numpy.ndarray]) -> Table:
         box, rows, segments = item
@@ -95,11 +123,39 @@ class _Window:
             tiles.moved(rows.copy(), -box.left, -box.top),
             gain=settings.gain,
             saturation=field.saturation,
+            apertures=settings.apertures,
             points=self.points,
             threshold=self.detector.how.threshold,
             struck=None if field.struck is None else field.struck[box.rows, box.columns],
+            seen=self.seen,
+            vignet=settings.vignet,
         )
+        found["STELLARITY"] = shapes.stellarity(2 * found["FLUX_RADIUS"], self.points)
+        found["BACKGROUND"], found["THRESHOLD"] = self._beside(box, found)
         return tiles.moved(found, box.left, box.top)
+
+    @property
+    def seen(self) -> shapes.Seen:
+        """How the program saw the image."""
+        how, field = self.detector.how, self.detector.field
+        # The smoothed image has a pixel's noise, so its light is more by the root of how many pixels share noise.
+        scale = how.noise / scaling.SIGMA / math.sqrt(smoothing.correlated(how.smooth))
+        return shapes.Seen(scale, how.smooth, field.values is None)
+
+    def _beside(self, box: Box, found: Table) -> Tuple[numpy.ndarray, numpy.ndarray]:
+        """The level of the sky at the middles of sources in a window, and by how much a pixel of the smoothed image has
+        to stand above the level there to be a source's, in the image's units.
+        """
+        sides = (box.bottom - box.top, box.right - box.left)
+        at = tuple(
+            numpy.clip(numpy.round(numpy.asarray(found[name])).astype(int) - 1, 0, side - 1)
+            for name, side in zip("YX", sides)
+        )
+        how, level = self.detector.how, self._sky(box)[0]
+        noise = self.detector.noise(box.rows, box.columns)
+        level, noise = (numpy.broadcast_to(numpy.asarray(it, dtype="f8"), sides)[at] for it in (level, noise))
+        plane = self.detector.field.values or self.detector.field.plane
+        return level + plane.origin, noise * how.threshold * self.seen.scale
 
 
 def _needed(table: Table, reach: numpy.ndarray, shape: Tuple[int, int]) -> List[Box]:
@@ -139,14 +195,16 @@ def measured(
     segments: numpy.ndarray,
     executor: Executor = None,
     progress: Callable[[int], None] = lambda count: None,
+    own: Optional[sky.Sky] = None,
 ) -> Table:
     """The columns of photometry for the sources of a field, whose map this is, above this sky and by these point
-    sources.
+    sources. `own` is the sky of what is measured in with all that is in it, by default the detector's.
     """
-    shape, work = detector.field.shape, _Window(detector, found, points)
+    shape, work = detector.field.shape, _Window(detector, found, points, own)
     if not len(table):
         return work((Box(0, 1, 0, 1), table, numpy.zeros((1, 1), dtype="i4")))
-    reach, answers, where = photometry.reach(table, points), [], []
+    least = max(*detector.settings.apertures, detector.settings.vignet) / 2
+    reach, answers, where = photometry.reach(table, points, least), [], []
     waiting = _blocks(table, shape)
     while True:
         windows = []
@@ -154,7 +212,8 @@ def measured(
         items = ((box, table[places], segments[box.rows, box.columns]) for box, places in ahead)
         for (box, places), answer in zip(behind, tiles.each(executor, work, items)):
             progress(0)
-            boxes = _needed(table[places], numpy.maximum(reach[places], answer["KRON_RADIUS"] + 2), shape)
+            wanted = numpy.maximum(answer["KRON_RADIUS"], windowed.reach(answer["FLUX_RADIUS"])) + 2
+            boxes = _needed(table[places], numpy.maximum(reach[places], wanted), shape)
             held = numpy.array([box.holds(it) for it in boxes])
             answers.append(answer[held])
             where.append(places[held])

@@ -11,17 +11,18 @@ Kron radius is the mean distance of the light, and at least 3.5 standard deviati
 pixels. FLUX_TOTAL has besides what point sources of the same image have further out (`totals`). Pixels of other
 sources count as sky in each aperture.
 """
-from typing import Callable, Dict, NamedTuple, Optional, Tuple, Union
+from typing import Callable, Dict, NamedTuple, Optional, Sequence, Tuple, Union
 
 import numpy
 import sep
 from astropy.table import Table
 
-from . import beside, boxes, totals
+from . import beside, boxes, shapes, totals
 from .beside import unit_of
 from .noise import of_array
 from .pointlike import PointSources
 from .sky import grown
+from .stamps import LEFT_OUT
 
 __all__ = [
     "APERTURE",
@@ -40,24 +41,24 @@ __all__ = [
     "sky",
 ]
 
-# The bits of the column FLAGS.
-EDGE = 1
-UNDEFINED = 2
+# The bits of the column FLAGS: Source Extractor's, which SCAMP and PSFEx know.
+CROWDED = 1
+SPLIT = 2
 SATURATED = 4
-SPLIT = 8
-CUT = 16
-CROWDED = 32
-BEYOND = 64
+EDGE = 8
+BEYOND = 16
+UNDEFINED = 32
+CUT = 64
 STRUCK = 128
 WIDE = 256
 FLAGS = {
-    EDGE: "touches the image's edge",
-    UNDEFINED: "touches an undefined pixel",
-    SATURATED: "has a saturated pixel",
-    SPLIT: "was split from a neighbour",
-    CUT: "was cut by a tile",
     CROWDED: "its Kron ellipse holds pixels of other sources, or undefined ones",
+    SPLIT: "was split from a neighbour",
+    SATURATED: "has a saturated pixel",
+    EDGE: "touches the image's edge",
     BEYOND: "its Kron ellipse reaches beyond the image",
+    UNDEFINED: "touches an undefined pixel",
+    CUT: "was cut by a tile",
     STRUCK: "touches a pixel that a cosmic ray has hit",
     WIDE: "is wide and faint, found in the means of blocks",
 }
@@ -65,8 +66,8 @@ FLAGS = {
 # The Kron radius is sought within this many standard deviations of a source's light; how many Kron radii its ellipse
 # reaches, and how many standard deviations at least. Source Extractor takes the same.
 KRON_REACH, KRON, LEAST_KRON = 6.0, 2.5, 3.5
-# The radius of the circular aperture in pixels.
-APERTURE = 5.0
+# The diameter of the circular aperture in pixels.
+APERTURE = 10.0
 
 Numbers = Union[float, numpy.ndarray]
 
@@ -148,9 +149,9 @@ def ellipses(catalogue: Table) -> Tuple[numpy.ndarray, numpy.ndarray, numpy.ndar
     return long, numpy.minimum(short, long), numpy.degrees(numpy.arctan2(2 * xy, xx - yy) / 2)
 
 
-def reach(catalogue: Table, points: Optional[PointSources] = None) -> numpy.ndarray:
+def reach(catalogue: Table, points: Optional[PointSources] = None, least: float = APERTURE / 2) -> numpy.ndarray:
     """How far from their centres sources are looked at, in pixels, before their Kron radii are known."""
-    circle = max(APERTURE, totals.reach(points))
+    circle = max(least, totals.reach(points))
     return numpy.maximum(KRON_REACH * ellipses(catalogue)[0] / 2, circle) + 2
 
 
@@ -307,10 +308,12 @@ def measured(
     mask: Optional[numpy.ndarray] = None,
     gain: Optional[float] = None,
     saturation: Optional[float] = None,
-    aperture: float = APERTURE,
+    apertures: Sequence[float] = (APERTURE,),
     points: Optional[PointSources] = None,
     threshold: Optional[int] = None,
     struck: Optional[numpy.ndarray] = None,
+    seen: Optional[shapes.Seen] = None,
+    vignet: int = 0,
 ) -> Table:
     """The photometry of the sources of a segmentation map, a row for each row of `catalogue`.
 
@@ -320,15 +323,17 @@ def measured(
     this image, of whatever scale: of the catalogue's values NUMBER, centres, boxes and moments are used, and LEVEL
     and BASE for a flag. Where a source's number is below 0 in the map, the pixel is none of the source's own, but is
     shared out to it, and counts as another source's for the others. With `gain`, in electrons for a unit of the
-    image, the errors have the sources' own noise too. Pixels from `saturation` on are saturated. `aperture` is the
-    radius of the circle in pixels. `points` are the image's point sources: without them FLUX_TOTAL is FLUX_AUTO.
+    image, the errors have the sources' own noise too. Pixels from `saturation` on are saturated. `apertures` are the
+    diameters of circles in pixels. `points` are the image's point sources: without them FLUX_TOTAL is FLUX_AUTO.
     `threshold` is the one that the kernel was given; by default it is taken for the least LEVEL. `struck` says which
-    pixels cosmic rays have hit, for a flag.
+    pixels cosmic rays have hit, for a flag. `seen` says how the kernel saw the image: without it there are no errors of
+    X and Y. `vignet` is the side of the squares of pixels in the column VIGNET, an odd number, or 0 for none.
 
     Columns: X, Y, FLUX_ISO, FLUXERR_ISO, FLUX_AUTO, FLUXERR_AUTO, FLUX_TOTAL, FLUXERR_TOTAL, KRON_RADIUS (half the
-    long axis of the ellipse of FLUX_AUTO, in pixels), FLUX_APER, FLUXERR_APER, A, B, THETA, FWHM (the diameter that
-    holds half of FLUX_AUTO: that of a Gaussian is its full width at half its height; NaN where there is none) and
-    FLAGS, a sum of the bits in `FLAGS`. Errors are standard deviations; they know nothing of the background's error.
+    long axis of the ellipse of FLUX_AUTO, in pixels), FLUX_APER, FLUXERR_APER (rows of numbers where there are several
+    circles), A, B, ELONGATION (A over B), THETA, FWHM (the diameter that holds half of FLUX_AUTO: that of a Gaussian is
+    its full width at half its height; NaN where there is none), FLAGS, a sum of the bits in `FLAGS`, and
+    those of `shapes.columns`. Errors are standard deviations; they know nothing of the background's error.
     Fluxes are NaN where no pixel has a value.
     """
     shape = numpy.shape(image)
@@ -354,19 +359,30 @@ def measured(
     if struck is not None and struck.any():
         flags |= STRUCK * pixels.having(grown(struck, 1).ravel()[pixels.places])[numbers]
     gathered = _gathered(defined, residual, catalogue)
-    how = (residual, noise, gain, _Holes(undefined))
+    how = (residual, noise, gain)
     split = (flags & SPLIT) != 0
-    apertures = _apertures(how, numpy.abs(segments), catalogue, gathered, aperture, points, split)
+    segments = numpy.abs(segments)
+    sums = _apertures((*how, _Holes(undefined)), segments, catalogue, gathered, apertures, points, split)
     table = Table({"X": numpy.asarray(catalogue["XCEN"]) / 1000, "Y": numpy.asarray(catalogue["YCEN"]) / 1000})
     table["FLUX_ISO"], table["FLUXERR_ISO"] = flux[numbers] * unit, error[numbers] * unit
-    more = apertures.pop("FLAGS")
-    for name, values in apertures.items():
-        table[name] = values * unit if name.startswith("FLUX") else values
-    table["FLAGS"] = (flags | more).astype("i4")
+    flags |= sums.pop("FLAGS")
+    more = shapes.columns(
+        shapes.Scene(*how, undefined, segments), seen, defined, catalogue, sums["FLUX_RADIUS"], vignet
+    )
+    for name, values in {**sums, **more}.items():
+        table[name] = _in_units(name, values, unit)
+    table["FLAGS"] = flags.astype("i4")
     return table
 
 
-def _apertures(how, segments, catalogue, gathered, aperture, points, split) -> Dict[str, numpy.ndarray]:
+def _in_units(name: str, values: numpy.ndarray, unit: float) -> numpy.ndarray:
+    """A column in the units of the image."""
+    if name == "VIGNET":
+        return numpy.where(values == numpy.float32(LEFT_OUT), values, values * numpy.float32(unit))
+    return values * unit if name.startswith(("FLUX_", "FLUXERR_")) and name != "FLUX_RADIUS" else values
+
+
+def _apertures(how, segments, catalogue, gathered, diameters, points, split) -> Dict[str, numpy.ndarray]:
     """The columns that SEP measures, and the flags that it tells."""
     numbers, residual = numpy.asarray(catalogue["NUMBER"], dtype="i4"), how[0]
     x, y = (numpy.asarray(catalogue[name], dtype="f8") / 1000 - 1 for name in ("XCEN", "YCEN"))
@@ -386,9 +402,13 @@ def _apertures(how, segments, catalogue, gathered, aperture, points, split) -> D
         sizes = numpy.full(len(x), float(size))
         return _Apertures(sep.sum_circle, (x, y, sizes), sizes, 5).fluxes(*how, alone)[:2]
 
-    in_circle, circle_error = circle(aperture)
+    circles = [numpy.stack(it, axis=-1) for it in zip(*(circle(diameter / 2) for diameter in diameters))]
+    in_circle, circle_error = (it[:, 0] if len(diameters) == 1 else it for it in circles)
     total, total_error = totals.of(points, circle, flux, error, radius * numpy.sqrt(axes[0] * axes[1]), split)
-    half = _half_light(residual, x, y, radius * axes[0], numpy.nan_to_num(flux), alone)
+    far, diameters_of_half = numpy.maximum(radius * axes[0], totals.reach(points)), []
+    for light, within in ((flux, radius * axes[0]), (total, far))[: 1 if points is None else 2]:
+        half = _half_light(residual, x, y, within, numpy.nan_to_num(light), alone)
+        diameters_of_half.append(numpy.where((light > 0) & (half > 0), 2 * half, numpy.nan))
     flags = CROWDED * (((told & sep.APER_HASMASKED) != 0) | holed) | BEYOND * ((told & sep.APER_TRUNC) != 0)
     return {
         "FLUX_AUTO": flux,
@@ -400,7 +420,9 @@ def _apertures(how, segments, catalogue, gathered, aperture, points, split) -> D
         "FLUXERR_APER": circle_error,
         "A": long,
         "B": short,
+        "ELONGATION": long / short,
         "THETA": angle,
-        "FWHM": numpy.where((flux > 0) & (half > 0), 2 * half, numpy.nan),
+        "FWHM": diameters_of_half[0],
+        "FLUX_RADIUS": diameters_of_half[-1] / 2,
         "FLAGS": flags,
     }

@@ -22,7 +22,7 @@ from astropy.coordinates import SkyCoord
 from astropy.io import fits
 from astropy.table import Table
 from astropy.wcs import WCS, FITSFixedWarning
-from astropy.wcs.utils import wcs_to_celestial_frame
+from astropy.wcs.utils import proj_plane_pixel_area, wcs_to_celestial_frame
 
 from .columns import CATALOGUE, MEASURES, Column
 from .errors import Mistake
@@ -50,6 +50,7 @@ FORMATS = {
     ".xml": "votable",
     ".vot": "votable",
     ".votable": "votable",
+    ".ldac": "ldac",
 }
 # The fluxes that `measured` gives, and what each is.
 FLUXES = {
@@ -78,12 +79,35 @@ COLUMNS = {
     "FLUX_TOTAL": ("FLUX", "total flux: of a circle or the Kron ellipse, and what point sources have beyond it"),
     "FLUXERR_TOTAL": ("FLUX", "its standard deviation"),
     "KRON_RADIUS": ("pix", "half the long axis of the Kron ellipse"),
-    "FLUX_APER": ("FLUX", "sum above the background over a circle around the centre"),
+    "FLUX_APER": ("FLUX", "sum above the background over circles around the centre"),
     "FLUXERR_APER": ("FLUX", "its standard deviation"),
     "A": ("pix", "half the long axis of the ellipse with the moments of the source's pixels"),
     "B": ("pix", "half its short axis"),
     "THETA": ("deg", "angle of its long axis from the x axis towards the y axis"),
     "FWHM": ("pix", "diameter that holds half of FLUX_AUTO"),
+    "ELONGATION": (None, "A over B"),
+    "STELLARITY": (
+        None,
+        "from 1 for what is as wide as the image's point sources to 0 for what is wider, by FLUX_RADIUS",
+    ),
+    "ERRA": ("pix", "standard deviation of (X, Y) along the long axis of its error ellipse"),
+    "ERRB": ("pix", "standard deviation of (X, Y) along the short axis"),
+    "ERRTHETA": ("deg", "angle of the long axis from the x axis towards the y axis"),
+    "XWIN": ("pix", "column of the centre under a Gaussian window, from 1"),
+    "YWIN": ("pix", "row of the centre under a Gaussian window, from 1"),
+    "ERRAWIN": ("pix", "standard deviation of (XWIN, YWIN) along the long axis of its error ellipse"),
+    "ERRBWIN": ("pix", "standard deviation of (XWIN, YWIN) along the short axis"),
+    "ERRTHETAWIN": ("deg", "angle of the long axis from the x axis towards the y axis"),
+    "SNR_WIN": (None, "signal over noise under the window"),
+    "FLUX_RADIUS": ("pix", "radius that holds half of FLUX_TOTAL"),
+    "FLUX_MAX": ("FLUX", "greatest pixel above the background"),
+    "XPEAK": ("pix", "column of the greatest pixel, from 1"),
+    "YPEAK": ("pix", "row of the greatest pixel, from 1"),
+    "MU_MAX": ("mag / arcsec2", "magnitude of FLUX_MAX to a square second of arc"),
+    "BACKGROUND": ("FLUX", "background at the centre"),
+    "THRESHOLD": ("FLUX", "threshold above the background at the centre, for the smoothed image"),
+    "VIGNET": ("FLUX", "pixels around the source above the background; -1e30 for other sources' and undefined ones"),
+    "IMAFLAGS": (None, "the bits of the flag map over the source's pixels"),
     "FLAGS": (None, "sum of: " + ", ".join(f"{bit} {text}" for bit, text in FLAGS.items())),
     "RA": ("deg", "right ascension of the centre in the ICRS"),
     "DEC": ("deg", "declination of the centre in the ICRS"),
@@ -181,7 +205,8 @@ def icrs_places(
 
 def _add_sky(table: Table, wcs: WCS) -> None:
     """The columns of the place in the sky, and of the ellipse there."""
-    x, y = (numpy.asarray(table[name], dtype="f8") for name in ("X", "Y"))
+    names = ("XWIN", "YWIN") if "XWIN" in table.colnames else ("X", "Y")
+    x, y = (numpy.asarray(table[name], dtype="f8") for name in names)
     frame = _frame(wcs)
     if frame is None:
         for name, values in zip(_own_names(wcs), _degrees(wcs, x, y)):
@@ -206,9 +231,10 @@ def _add_sky(table: Table, wcs: WCS) -> None:
 # ---- columns
 
 
-def _add_magnitudes(table: Table, zeropoint: float) -> None:
-    """Magnitudes and their errors; NaN where a flux isn't positive."""
+def _add_magnitudes(table: Table, zeropoint: float, band: str = "") -> None:
+    """Magnitudes and their errors, of the image or of a band; NaN where a flux isn't positive."""
     for name, text in FLUXES.items():
+        name = f"{name}_{band}" if band else name
         if f"FLUX_{name}" not in table.colnames:
             continue
         flux, error = (numpy.asarray(table[f"{part}_{name}"], dtype="f8") for part in ("FLUX", "FLUXERR"))
@@ -218,6 +244,16 @@ def _add_magnitudes(table: Table, zeropoint: float) -> None:
         table[f"MAG_{name}"].description = f"magnitude of the {text}, {zeropoint:g} for a flux of 1"
         table[f"MAGERR_{name}"].description = "its standard deviation"
         table[f"MAG_{name}"].unit = table[f"MAGERR_{name}"].unit = units.mag
+
+
+def _add_surface(table: Table, zeropoint: float, wcs: Optional[WCS]) -> None:
+    """The magnitude of the greatest pixel to a square second of arc, where the sky's scale is known."""
+    if wcs is None or "FLUX_MAX" not in table.colnames:
+        return
+    area = proj_plane_pixel_area(wcs.celestial) * 3600.0**2
+    with numpy.errstate(invalid="ignore", divide="ignore"):
+        peak = numpy.where(table["FLUX_MAX"] > 0, table["FLUX_MAX"], numpy.nan)
+        table["MU_MAX"] = zeropoint - 2.5 * numpy.log10(peak / area)
 
 
 def _describe(table: Table, unit: Optional[str]) -> None:
@@ -232,6 +268,16 @@ def _describe(table: Table, unit: Optional[str]) -> None:
             column.description = text or name.lower().replace("_", " ")
 
 
+def _describe_band(table: Table, band: str, unit: Optional[str]) -> None:
+    """Units and descriptions for the columns of a band."""
+    flux = units.Unit(unit, parse_strict="silent") if unit else None
+    for name in table.colnames:
+        known, text = COLUMNS.get(name.removesuffix(f"_{band}"), (None, ""))
+        if name.endswith(f"_{band}") and text:
+            table[name].unit = flux if known == "FLUX" else known and units.Unit(known)
+            table[name].description = f"{text}, in {band}"
+
+
 def finished(
     table: Table,
     header: Union[None, fits.Header, WCS],
@@ -239,6 +285,7 @@ def finished(
     zeropoint: Optional[float] = None,
     unit: Optional[str] = None,
     extension: Union[None, int, str] = None,
+    bands: Optional[Dict[str, Tuple[Optional[float], Optional[str]]]] = None,
 ) -> Table:
     """A copy of a catalogue with all that a reader wants: sky coordinates, magnitudes, and units and descriptions of
     every column.
@@ -248,7 +295,8 @@ def finished(
     ellipse on the sky; where astropy doesn't know the frame it gets the frame's own two names instead, such as ELON
     and ELAT. A WCS that can't be read is warned of, and nothing is added. With `zeropoint` there are magnitudes,
     `zeropoint` for a flux of 1. `unit` is that of the image's values, by default the header's BUNIT. `extension`, a
-    name or number, becomes the first column, EXTENSION.
+    name or number, becomes the first column, EXTENSION. `bands` has for each band its zero point and its unit, or None
+    for either.
     """
     table = table.copy()
     for axis in "XY":
@@ -260,12 +308,17 @@ def finished(
         _add_sky(table, wcs)
     if zeropoint is not None:
         _add_magnitudes(table, zeropoint)
+        _add_surface(table, zeropoint, wcs)
     if extension is not None:
         table.add_column(
             numpy.full(len(table), str(extension), dtype=f"U{max(len(str(extension)), 1)}"), index=0, name="EXTENSION"
         )
     if unit is None and isinstance(header, fits.Header):
         unit = str(header.get("BUNIT", "")).strip() or None
+    for band, (point, own) in (bands or {}).items():
+        if point is not None:
+            _add_magnitudes(table, point, band)
+        _describe_band(table, band, own)
     _describe(table, unit)
     return table
 
@@ -384,13 +437,31 @@ def _table_hdus(table: Table) -> fits.HDUList:
     return fits.HDUList([fits.PrimaryHDU(), hdu])
 
 
-def write(table: Table, path: Union[str, os.PathLike]) -> None:
-    """Writes a catalogue as FITS, CSV, ECSV or VOTable, by the end of its name; an earlier file is replaced.
+def _flat(table: Table) -> Table:
+    """A catalogue with a column for each number of its vectors, as text has it; without squares of pixels."""
+    made = Table(meta=table.meta)
+    for name in table.colnames:
+        column = table[name]
+        if column.ndim == 2:
+            for number in range(column.shape[1]):
+                made[f"{name}_{number + 1}"] = column[:, number]
+        elif column.ndim == 1:
+            made[name] = column
+    return made
 
-    In FITS each column's description stands in its TCOMM card, and simple values of the table's `meta` in cards.
-    Raises Mistake for another end of the name, and OSError where the file can't be written.
+
+def write(table: Table, path: Union[str, os.PathLike], kind: Optional[str] = None) -> None:
+    """Writes a catalogue as FITS, CSV, ECSV or VOTable, by the end of its name or as `kind` says; an earlier file is
+    replaced.
+
+    In FITS each column's description stands in its TCOMM card, and simple values of the table's `meta` in cards. CSV
+    has a column for each aperture, and no vignets. Raises Mistake for another end of the name, and OSError where the
+    file can't be written.
     """
-    kind = format_of(path)
+    kind = kind or format_of(path)
+    if kind == "ldac":
+        raise Mistake(f"{path}: FITS_LDAC has the headers of its images, which a table hasn't")
+    table = _flat(table) if kind == "csv" else table
     with whole_file(path) as name, warnings.catch_warnings():
         warnings.simplefilter("ignore", units.UnitsWarning)
         if kind == "fits":
@@ -427,6 +498,8 @@ def _region_lines(table: Table) -> Iterator[str]:
         form, names = "ellipse({:.3f},{:.3f},{:.2f},{:.2f},{:.1f}) # text={{{}}}", ("X", "Y", "A", "B", "THETA")
         turn = 0
     numbers = table["NUMBER"] if "NUMBER" in table.colnames else range(1, len(table) + 1)
+    if "EXTENSION" in table.colnames:
+        numbers = [f"{name}:{number}" for name, number in zip(table["EXTENSION"], numbers)]
     for *values, angle, number in zip(*(_filled(table[name]).astype("f8") for name in names), numbers):
         if numpy.isfinite(values).all():
             yield form.format(*values, (angle + turn) % 360, number)

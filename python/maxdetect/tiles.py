@@ -33,8 +33,8 @@ MOST_PIXELS, MOST_SIDE = 2**24, 65535
 TILE = 3840
 MARGIN = 128
 # Columns that move with a window, and by how much for a pixel.
-ACROSS = {"XMIN": 1, "XMAX": 1, "XFIRST": 1, "XCEN": 1000, "X": 1}
-ALONG = {"YMIN": 1, "YMAX": 1, "YFIRST": 1, "YCEN": 1000, "Y": 1}
+ACROSS = {"XMIN": 1, "XMAX": 1, "XFIRST": 1, "XCEN": 1000, "X": 1, "XWIN": 1, "XPEAK": 1}
+ALONG = {"YMIN": 1, "YMAX": 1, "YFIRST": 1, "YCEN": 1000, "Y": 1, "YWIN": 1, "YPEAK": 1}
 
 
 @dataclasses.dataclass(frozen=True)

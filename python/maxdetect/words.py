@@ -1,13 +1,21 @@
 """What the words of the commands have in common: numbers within a range, and one line for what is wrong."""
 import argparse
 import math
-from typing import Callable, NoReturn, Optional
+import shlex
+from typing import Callable, List, NoReturn, Optional
 
 from .errors import Mistake
 
 
 class Parser(argparse.ArgumentParser):
     """Raises Mistake with what is wrong, in one line."""
+
+    def convert_arg_line_to_args(self, line: str) -> List[str]:
+        """The words of a line in a file of options, as a shell parts them; # begins a comment."""
+        try:
+            return shlex.split(line, comments=True)
+        except ValueError as error:
+            self.error(f"{line.strip()}: {error}")
 
     def error(self, message: str) -> NoReturn:
         raise Mistake(f"{message} ({self.prog} --help tells the options)")

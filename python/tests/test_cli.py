@@ -13,7 +13,7 @@ from astropy.table import Table
 from astropy.wcs import WCS
 
 from conftest import TOP
-from maxdetect import cli, detection, tables
+from maxdetect import cli, detection, photometry, tables
 from maxdetect.columns import CATALOGUE
 
 
@@ -130,8 +130,8 @@ def test_several_ccds_at_once(here, stars):
     with fits.open("map.fits") as maps:
         for number, name in enumerate(("A", "B", "3"), 1):
             rows = table[table["EXTENSION"] == name]
-            assert len(rows) > 18 and maps[number].data.max() == len(rows) and "RA" in rows.colnames
-            assert (numpy.bincount(maps[number].data.ravel())[1:] == rows["AREA"]).all()
+            assert len(rows) > 18 and maps[number].data.max() == rows["NUMBER"].max() and "RA" in rows.colnames
+            assert (numpy.bincount(maps[number].data.ravel())[rows["NUMBER"]] == rows["AREA"]).all()
     alone = catalogue("mosaic.fits", "--hdu", "B", "-o", "b.fits")
     assert (alone["FLUX"] == table[table["EXTENSION"] == "B"]["FLUX"]).all()
 
@@ -229,8 +229,8 @@ def test_measured_in_another_image(here, stars):
 def test_a_source_at_the_edge_stays_within(here, stars):
     fits.writeto("cut.fits", stars[0][:, int(stars[1][0, 0]) :])
     table = catalogue("cut.fits", "-o", "cat.fits", "--map", "map.fits")
-    assert table["XMIN"].min() == 1 and (table["FLAGS"][table["XMIN"] == 1] & 1).all()
-    assert (table["FLAGS"][table["XMIN"] > 3] & 16 == 0).all()
+    assert table["XMIN"].min() == 1 and (table["FLAGS"][table["XMIN"] == 1] & photometry.EDGE).all()
+    assert (table["FLAGS"][table["XMIN"] > 3] & photometry.CUT == 0).all()
 
 
 WRONG = [

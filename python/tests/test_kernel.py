@@ -50,18 +50,18 @@ def test_the_program_is_found(monkeypatch, tmp_path):
     assert maxdetect.find_program() == str(tmp_path / "maxdetect")
 
 
-BUILD = '''#!/bin/sh
+BUILD = """#!/bin/sh
 trap 'echo ended > {folder}/ended; exit 143' TERM
 echo begun > {folder}/begun
 while :; do sleep 0.1; done
-'''
-FINDS = '''
+"""
+FINDS = """
 import sys
 from maxdetect import kernel, starting
 kernel.__file__ = "{folder}/python/maxdetect/kernel.py"
 with starting.ended_by_signals():
     kernel.find_program()
-'''
+"""
 
 
 @pytest.mark.parametrize("number", [signal.SIGINT, signal.SIGTERM])
