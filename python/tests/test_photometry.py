@@ -252,7 +252,7 @@ def test_flags():
     assert near[61, 61] == photometry.UNDEFINED and near[121, 61] == photometry.UNDEFINED
     assert near[61, 121] == photometry.SATURATED
     assert near[161, 161] == photometry.SPLIT
-    assert set(photometry.FLAGS) == {1, 2, 4, 8, 16, 32, 64}
+    assert set(photometry.FLAGS) == {1, 2, 4, 8, 16, 32, 64, 128, 256}
 
 
 def test_undefined_pixels_have_no_part_in_the_sums():
