@@ -66,7 +66,7 @@ def test_a_star_field(here, stars, capsys):
     assert numpy.median(own["FLUX_TOTAL"] / fluxes) == pytest.approx(1, abs=0.02)
     for name in ("ISO", "AUTO", "TOTAL", "APER"):
         assert numpy.asarray(own[f"MAG_{name}"]) == pytest.approx(30 - 2.5 * numpy.log10(own[f"FLUX_{name}"]))
-    right, declination = WCS(header()).all_pix2world(own["X"], own["Y"], 1)
+    right, declination = WCS(header()).all_pix2world(own["XWIN"], own["YWIN"], 1)
     assert numpy.asarray(own["RA"]) == pytest.approx(right) and numpy.asarray(own["DEC"]) == pytest.approx(declination)
     segments = fits.getdata("map.fits")
     assert segments.dtype == ">i4" and segments.shape == (256, 256) and WCS(fits.getheader("map.fits")).has_celestial
