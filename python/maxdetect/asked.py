@@ -15,6 +15,7 @@ from .words import called, finite, whole
 __all__ = ["add", "add_read", "add_run", "check", "is_known", "listed", "names_of", "picked"]
 
 MOST_APERTURES, WIDEST = 32, 1000.0
+MOST_RADII = 20.0
 LEAST_VIGNET, MOST_VIGNET = 3, 255
 BAND = re.compile("[A-Za-z0-9]{1,8}")
 # So many names that aren't known are told.
@@ -31,6 +32,15 @@ def diameters(text: str) -> Tuple[float, ...]:
         raise argparse.ArgumentTypeError(
             f"{text} isn't one to {MOST_APERTURES} numbers above 0 and up to {WIDEST:g}, parted by commas"
         )
+    return found
+
+
+@called("two numbers")
+def radii(text: str) -> Tuple[float, float]:
+    """Kron radii and deviations, parted by a comma."""
+    found = tuple(float(each) for each in text.split(","))
+    if len(found) != 2 or not all(0 < each <= MOST_RADII for each in found):
+        raise argparse.ArgumentTypeError(f"{text} isn't two numbers above 0 and up to {MOST_RADII:g}")
     return found
 
 
@@ -69,6 +79,14 @@ def add(out) -> None:
         default=(10.0,),
         metavar="D,D,...",
         help="the diameters in pixels of the circles of FLUX_APER (default: 10)",
+    )
+    out.add_argument(
+        "--kron",
+        type=radii,
+        default=(2.5, 3.5),
+        metavar="K,LEAST",
+        help="how many Kron radii the ellipse of FLUX_AUTO reaches, and how many deviations of the light at least "
+        "(default: 2.5,3.5, as Source Extractor)",
     )
     out.add_argument(
         "--check",

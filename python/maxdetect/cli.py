@@ -263,6 +263,7 @@ def _field(plane: images.Plane, given: argparse.Namespace) -> detection.Field:
         own_gain=plane.positive("GAIN") if measured is not plane else None,
         own_saturation=plane.positive("SATURATE") if measured is not plane else None,
         apertures=given.apertures,
+        kron=given.kron,
         vignet=given.vignet or 0,
         workers=1 if beside or len(given.images) > 1 else given.workers,
     )

@@ -1,7 +1,7 @@
 """From a field to its sources: by the program, a tile at a time, and then their photometry."""
 import concurrent.futures
 import dataclasses
-from typing import Callable, Dict, NamedTuple, Optional, Union
+from typing import Callable, Dict, NamedTuple, Optional, Tuple, Union
 
 import numpy
 from astropy.table import Table, hstack
@@ -45,7 +45,9 @@ class Detector:
         return scaling.whole_numbers(seen).filled(kernel.LEAST)
 
     def __call__(self, box: Box) -> tiles.Look:
-        """The sources of a window, and its maps."""
+        """The sources of a window, and its maps. Where the field is cleaned, the column KEPT says of each source
+        whether it is more than a peak of noise on faint light.
+        """
         numbers, how, settings = self.numbers(box), self.how, self.settings
         options = {"min_area": how.min_area, "contrast": settings.contrast or 0, "connect": self.plan.connect}
         catalogue, segments = kernel.detect_stored(
@@ -54,27 +56,15 @@ class Detector:
         least = settings.split_sigmas if settings.contrast is None else 0
         parts = pieces.sources(numbers, catalogue, segments, how.threshold, how.significance, least, how.patch)
         if settings.clean:
-            parts = self._cleaned(numbers, parts)
+            parts.catalogue["KEPT"] = cleaning.kept(
+                numbers, parts.segments, parts.labels, how.threshold, how.min_area, how.width, how.variance
+            )
         return tiles.Look(
             parts.catalogue,
             parts.segments,
             lambda rows, columns: numbers[rows, columns] >= how.threshold,
             parts.labels,
         )
-
-    def _cleaned(self, numbers: numpy.ndarray, parts: pieces.Parts) -> pieces.Parts:
-        """The sources without those that are but peaks of noise on faint light."""
-        how = self.how
-        kept = cleaning.kept(
-            numbers, parts.segments, parts.labels, how.threshold, how.min_area, how.width, how.variance
-        )
-        if kept.all():
-            return parts
-        new = numpy.zeros(len(kept) + 1, dtype="i4")
-        new[1:][kept] = numpy.arange(1, kept.sum() + 1)
-        rows = parts.catalogue[kept]
-        rows["NUMBER"] = numpy.arange(1, len(rows) + 1, dtype=rows["NUMBER"].dtype)
-        return pieces.Parts(rows, new[parts.segments], new[parts.labels])
 
 
 def sources(
@@ -94,8 +84,9 @@ def sources(
     with the detector, the sky beside the sources of what is measured in and that with them, and the table.
     `progress` is called with 1 for each tile, after a first call with 0, and with 0 now and then. The table's meta has
     the program's threshold (THRESH), the width by which the image was smoothed (SMOOTH) and that of its point sources
-    (FWHM, where it has enough of them), whether FLUX_TOTAL is told by point sources (GROWTH), and the noise: SIGMA, or
-    with a weight map NOISE, about the middle of the image.
+    (FWHM, where it has enough of them), whether FLUX_TOTAL is told by point sources (GROWTH), how many sources were
+    left out as peaks of noise on faint light (NCLEANED), and the noise: SIGMA, or with a weight map NOISE, about the
+    middle of the image.
     """
     found = sky_of(field)
     if field.settings.cosmic_rays:
@@ -106,7 +97,9 @@ def sources(
     if len(cores) == 1 and field.settings.workers > 1:
         detector.strips = {"strips": 16, "workers": field.settings.workers}
     progress(0)
-    table, cut = tiles.gathered(tiles.each(executor, _Tile(detector), cores), segments, progress)
+    found = tiles.gathered(tiles.each(executor, _Tile(detector), cores), segments, progress)
+    table, cut = _cleaned(*found, segments) if field.settings.clean else found
+    cleaned = len(found[0]) - len(table)
     own = measuring.sky_of_values(detector)
     beside = measuring.sky_beside(detector, segments, executor, own)
     points = measuring.points_of(detector, beside)
@@ -118,12 +111,28 @@ def sources(
     if field.settings.wide:
         table = _with_wide(detector, table, segments, executor, bands or {})
     tiles.hide(segments)
-    table.meta.update(detector.how.meta, GROWTH=points is not None)
+    table.meta.update(detector.how.meta, GROWTH=points is not None, NCLEANED=cleaned)
     if field.struck is not None:
         table.meta["NCOSMIC"] = int(field.struck.sum())
     # With a weight map the sky's noise is a factor, and no noise of the image.
     table.meta["NOISE" if field.weights is not None else "SIGMA"] = detector.middle_noise()
     return table
+
+
+def _cleaned(table: Table, cut: numpy.ndarray, segments: numpy.ndarray) -> Tuple[Table, numpy.ndarray]:
+    """The rows that are kept, numbered anew, and which of them are cut; their map too, in place."""
+    kept = numpy.asarray(table["KEPT"], dtype=bool)
+    table = table[kept]
+    table.remove_column("KEPT")
+    table["NUMBER"] = numpy.arange(1, len(table) + 1, dtype=table["NUMBER"].dtype)
+    if kept.all():
+        return table, cut
+    new = numpy.zeros(len(kept) + 1, dtype=segments.dtype)
+    new[1:][kept] = numpy.arange(1, kept.sum() + 1)
+    for top in range(0, len(segments), 256):
+        rows = numpy.asarray(segments[top : top + 256])
+        segments[top : top + 256] = numpy.sign(rows) * new[numpy.abs(rows)]
+    return table, cut[kept]
 
 
 class _Skies(NamedTuple):

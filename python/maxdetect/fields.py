@@ -32,8 +32,9 @@ class Settings:
     `value_weight_type` what that of the image has that is measured in, and `local` takes the noise by cells. `gain`
     is in electrons for a unit of the image, and from `saturation` on pixels are saturated: both those of the image
     that is measured in. Where that is another one than sources are looked for in, `own_gain` and `own_saturation`
-    are those of the latter. `apertures` are the diameters of circles in which fluxes are summed, and `vignet` is
-    the side of the squares of pixels that the catalogue has, 0 for none: both in pixels.
+    are those of the latter. `apertures` are the diameters of circles in which fluxes are summed, `kron` says how
+    many Kron radii the ellipse of FLUX_AUTO reaches and how many deviations of the light at least, and `vignet` is the
+    side of the squares of pixels that the catalogue has, 0 for none: both in pixels.
     """
 
     sigmas: Optional[float] = None
@@ -53,6 +54,7 @@ class Settings:
     own_gain: Optional[float] = None
     own_saturation: Optional[float] = None
     apertures: Tuple[float, ...] = (10.0,)
+    kron: Tuple[float, float] = (2.5, 3.5)
     vignet: int = 0
     tile: int = TILE
     workers: int = 1

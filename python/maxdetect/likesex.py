@@ -27,7 +27,7 @@ SILENT = re.compile(
 USUAL = {
     **{"DETECT_TYPE": "CCD", "THRESH_TYPE": "RELATIVE", "MASK_TYPE": "CORRECT", "DETECT_MAXAREA": "0"},
     **{"BACK_TYPE": "AUTO", "BACK_VALUE": "0.0", "BACK_FILTERSIZE": "3", "BACK_FILTTHRESH": "0.0"},
-    **{"BACKPHOTO_TYPE": "GLOBAL", "PHOT_AUTOPARAMS": "2.5,3.5", "PHOT_PETROPARAMS": "2.0,3.5", "PHOT_FLUXFRAC": "0.5"},
+    **{"BACKPHOTO_TYPE": "GLOBAL", "PHOT_PETROPARAMS": "2.0,3.5", "PHOT_FLUXFRAC": "0.5"},
     **{"PHOT_AUTOAPERS": "0.0,0.0", "DGEO_TYPE": "NONE", "RESCALE_WEIGHTS": "Y", "WEIGHT_GAIN": "Y"},
 }
 # What means something else here, and what to look at instead.
@@ -76,6 +76,7 @@ KNOWN: Dict[str, Callable[[str], List[str]]] = {
     "GAIN": _number("--gain"),
     "SATUR_LEVEL": _number("--saturation"),
     "PHOT_APERTURES": lambda value: ["--apertures", value],
+    "PHOT_AUTOPARAMS": lambda value: ["--kron", value],
     "BACK_SIZE": lambda value: ["--mesh", value.split(",")[0]],
     # The default settings name a file that isn't read.
     "FLAG_IMAGE": lambda value: ["--flag-map", value] if pathlib.Path(value).exists() else [],

@@ -124,6 +124,7 @@ class _Window:
             gain=settings.gain,
             saturation=field.saturation,
             apertures=settings.apertures,
+            kron=settings.kron,
             points=self.points,
             threshold=self.detector.how.threshold,
             struck=None if field.struck is None else field.struck[box.rows, box.columns],

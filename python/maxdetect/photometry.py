@@ -63,9 +63,9 @@ FLAGS = {
     WIDE: "is wide and faint, found in the means of blocks",
 }
 
-# The Kron radius is sought within this many standard deviations of a source's light; how many Kron radii its ellipse
-# reaches, and how many standard deviations at least. Source Extractor takes the same.
-KRON_REACH, KRON, LEAST_KRON = 6.0, 2.5, 3.5
+# The Kron radius is sought within this many standard deviations of a source's light, as Source Extractor does; how many
+# Kron radii its ellipse reaches, and how many standard deviations at least, where nothing else is asked.
+KRON_REACH, KRON = 6.0, (2.5, 3.5)
 # The diameter of the circular aperture in pixels.
 APERTURE = 10.0
 
@@ -309,6 +309,7 @@ def measured(
     gain: Optional[float] = None,
     saturation: Optional[float] = None,
     apertures: Sequence[float] = (APERTURE,),
+    kron: Tuple[float, float] = KRON,
     points: Optional[PointSources] = None,
     threshold: Optional[int] = None,
     struck: Optional[numpy.ndarray] = None,
@@ -324,7 +325,9 @@ def measured(
     and BASE for a flag. Where a source's number is below 0 in the map, the pixel is none of the source's own, but is
     shared out to it, and counts as another source's for the others. With `gain`, in electrons for a unit of the
     image, the errors have the sources' own noise too. Pixels from `saturation` on are saturated. `apertures` are the
-    diameters of circles in pixels. `points` are the image's point sources: without them FLUX_TOTAL is FLUX_AUTO.
+    diameters of circles in pixels, and `kron` says how many Kron radii the ellipse of FLUX_AUTO reaches, and how many
+    standard deviations of the light at least. `points` are the image's point sources: without them FLUX_TOTAL is
+    FLUX_AUTO.
     `threshold` is the one that the kernel was given; by default it is taken for the least LEVEL. `struck` says which
     pixels cosmic rays have hit, for a flag. `seen` says how the kernel saw the image: without it there are no errors of
     X and Y. `vignet` is the side of the squares of pixels in the column VIGNET, an odd number, or 0 for none.
@@ -362,7 +365,7 @@ def measured(
     how = (residual, noise, gain)
     split = (flags & SPLIT) != 0
     segments = numpy.abs(segments)
-    sums = _apertures((*how, _Holes(undefined)), segments, catalogue, gathered, apertures, points, split)
+    sums = _apertures((*how, _Holes(undefined)), segments, catalogue, gathered, apertures, points, split, kron)
     table = Table({"X": numpy.asarray(catalogue["XCEN"]) / 1000, "Y": numpy.asarray(catalogue["YCEN"]) / 1000})
     table["FLUX_ISO"], table["FLUXERR_ISO"] = flux[numbers] * unit, error[numbers] * unit
     flags |= sums.pop("FLAGS")
@@ -382,7 +385,7 @@ def _in_units(name: str, values: numpy.ndarray, unit: float) -> numpy.ndarray:
     return values * unit if name.startswith(("FLUX_", "FLUXERR_")) and name != "FLUX_RADIUS" else values
 
 
-def _apertures(how, segments, catalogue, gathered, diameters, points, split) -> Dict[str, numpy.ndarray]:
+def _apertures(how, segments, catalogue, gathered, diameters, points, split, kron) -> Dict[str, numpy.ndarray]:
     """The columns that SEP measures, and the flags that it tells."""
     numbers, residual = numpy.asarray(catalogue["NUMBER"], dtype="i4"), how[0]
     x, y = (numpy.asarray(catalogue[name], dtype="f8") / 1000 - 1 for name in ("XCEN", "YCEN"))
@@ -394,7 +397,7 @@ def _apertures(how, segments, catalogue, gathered, diameters, points, split) -> 
     radius, _ = sep.kron_radius(residual, *shape, KRON_REACH, **alone)
     # Noise may leave no light to average over, or a mean that lies outside of where it was sought.
     radius = numpy.where(numpy.isfinite(radius) & (radius > 0), numpy.minimum(radius, KRON_REACH), 0)
-    radius = numpy.maximum(KRON * radius, LEAST_KRON)
+    radius = numpy.maximum(kron[0] * radius, kron[1])
     flux, error, told, holed = _Apertures(sep.sum_ellipse, (*shape, radius), radius * axes[0], 1).fluxes(*how, alone)
 
     def circle(size: float) -> Tuple[numpy.ndarray, numpy.ndarray]:

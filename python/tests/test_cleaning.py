@@ -142,6 +142,7 @@ def test_the_whole_way_cleans_unless_told_not_to():
     cleaned, segments = maxdetect.catalogue(image, mesh=256)
     kept, _ = maxdetect.catalogue(image, mesh=256, clean=False)
     assert len(cleaned) <= 5 < len(kept) and segments.max() == len(cleaned)
+    assert cleaned.meta["NCLEANED"] == len(kept) - len(cleaned) and kept.meta["NCLEANED"] == 0
 
 
 @pytest.mark.parametrize("fwhm", (20.0, 50.0))
@@ -157,5 +158,6 @@ def test_tiles_decide_as_the_whole_where_the_box_is_wider_than_their_margin(fwhm
     kept, _ = maxdetect.catalogue(image, clean=False, **options)
     table, segments = maxdetect.catalogue(image, tile=200, **options)
     assert 0 < len(whole) <= len(kept) and (segments == whole_map).all()
+    assert table.meta["NCLEANED"] == whole.meta["NCLEANED"] == len(kept) - len(whole)
     for name in whole.colnames:
         assert numpy.asarray(table[name]).tobytes() == numpy.asarray(whole[name]).tobytes(), name

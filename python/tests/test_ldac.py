@@ -106,6 +106,15 @@ def test_one_aperture_and_several(mosaic):
         assert read["VIGNET"].shape == (len(one), 5, 5) and read["FLUX_APER"].shape == (len(one), 2)
 
 
+def test_kron_ellipses_of_other_sizes(mosaic, capsys):
+    run("--hdu", "A", "-o", "usual.fits")
+    run("--hdu", "A", "-o", "small.fits", "--kron", "1,1.5")
+    usual, small = (Table.read(name, hdu="SOURCES") for name in ("usual.fits", "small.fits"))
+    assert (small["KRON_RADIUS"] < usual["KRON_RADIUS"]).all()
+    assert (small["FLUX_AUTO"] < usual["FLUX_AUTO"]).mean() > 0.9 and (small["FLUX_ISO"] == usual["FLUX_ISO"]).all()
+    assert "two numbers" in refused(capsys, "--kron", "2.5") and "up to 20" in refused(capsys, "--kron", "2.5,0")
+
+
 def test_what_is_made_of_the_packages_columns():
     table = Table({"A": [4.0], "B": [2.0], "THETA": [90.0], "KRON_RADIUS": [7.0]})
     assert ldac.column("X2_IMAGE", table)[0] == pytest.approx(1) and ldac.column("Y2_IMAGE", table)[0] == pytest.approx(

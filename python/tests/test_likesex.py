@@ -13,6 +13,7 @@ PARAMETERS_NAME wanted.param
 DETECT_THRESH   1.5
 FILTER          N
 PHOT_APERTURES  5, 10
+PHOT_AUTOPARAMS 2.0, 3.0
 MAG_ZEROPOINT   25.5
 GAIN            0.0
 SATUR_LEVEL     40000.0
@@ -36,9 +37,9 @@ def here(tmp_path, monkeypatch, stars):
 
 def test_settings_as_words():
     found, untold = likesex.words("default.sex")
-    wanted = "--output wanted.ldac --no-smooth --apertures 5,10 --zeropoint 25.5 --saturation 40000.0 --mesh 32"
+    wanted = "--output wanted.ldac --no-smooth --apertures 5,10 --kron 2.0,3.0 --zeropoint 25.5 --saturation 40000.0"
     assert found == [
-        *wanted.split(),
+        *f"{wanted} --mesh 32".split(),
         *"--map map.fits --check background --columns NUMBER,X_IMAGE,FLUX_APER(2) --format ldac".split(),
     ]
     assert [it.split(" (")[0] for it in untold] == [
