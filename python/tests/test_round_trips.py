@@ -158,7 +158,7 @@ def test_regions_are_the_ellipses_of_a_catalogue(table, on_the_sky):
     digits = [7, 7, 3, 3] if on_the_sky else [3, 3, 2, 2]
     for line, row in zip(lines, rows):
         *numbers, angle, number = re.fullmatch(r"ellipse\((.*),(.*),(.*),(.*),(.*)\) # text=\{(.*)\}", line).groups()
-        assert int(number) == row["NUMBER"]
+        assert number == (f"{row['EXTENSION']}:{row['NUMBER']}" if "EXTENSION" in row.colnames else str(row["NUMBER"]))
         for text, name, places in zip(numbers, names, digits):
             assert float(text.rstrip('"')) == pytest.approx(row[name], abs=0.51 * 10.0**-places, rel=1e-15)
         if numpy.isfinite(row[names[4]]):

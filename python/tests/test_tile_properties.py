@@ -208,6 +208,6 @@ def test_other_units_change_the_fluxes_alone(number):
     if found is None:
         return
     for name in found[0].colnames:
-        if name.startswith("FLUX") and name != "FLUX":
+        if name in ("BACKGROUND", "THRESHOLD") or name.startswith("FLUX") and name not in ("FLUX", "FLUX_RADIUS"):
             found[0][name] = found[0][name] * float(times)
     are_the_same(found, other)
