@@ -1,20 +1,25 @@
-"""Times `maxcat` beside one script of SEP that does the same, and a large image's memory, in one run; prints a table
-in Markdown.
+"""Times `maxcat` beside one script of SEP and beside Source Extractor's program, where that is installed, and a large
+image's memory, in one run; prints a table in Markdown.
 
 usage: /usr/bin/python3 bench/speed.py MAXDETECT [--runs N] [--workers N] [--side SIDE] [--large [SIDE]] [--only-large]
+                                       [--many N]
 
 MAXDETECT is the built program. The image is a star field of 4096 x 4096 floating-point numbers with 42,000 stars, of
 which some 33,000 are found. The script of SEP reads it, estimates the background, extracts with the same threshold
 and least area, measures isophotal and Kron fluxes with errors, a circle and half-light radii, and writes a catalogue
-in FITS. The least time of N runs counts (3 if left out); memory is the most that all processes of a run held together,
-mapped files among it. With --side the image has another side, and with --large an
-image of SIDE x SIDE pixels (10,000 if no number follows) goes through `maxcat` as well. Run it with nothing else
+in FITS. Source Extractor has that threshold and area too, and measures these fluxes, ellipses, half-light radii,
+windowed centres with errors, and sky coordinates. The least time of N runs counts (3 if left out), by the clock and in
+processor seconds, of which a busy machine takes less note; the share is of the first row's processor seconds. Memory is
+the most that all processes of a run held together, mapped files among it. With --side the image has another side, and
+with --large an image of SIDE x SIDE pixels (10,000 if no number follows) goes through `maxcat` as well; with --many N
+images of 512 x 512 pixels go through it in one call, and through Source Extractor in N. Run it with nothing else
 running.
 """
 import argparse
 import contextlib
 import os
 import pathlib
+import shutil
 import subprocess
 import sys
 import tempfile
@@ -52,6 +57,28 @@ SEP = [
     "table['half'] = half",
     "table.write(sys.argv[2], overwrite=True)",
 ]
+
+
+EXTRACTED = [
+    *("NUMBER", "X_IMAGE", "Y_IMAGE", "FLUX_ISO", "FLUXERR_ISO", "FLUX_AUTO", "FLUXERR_AUTO", "FLUX_APER"),
+    *("FLUXERR_APER", "A_IMAGE", "B_IMAGE", "THETA_IMAGE", "KRON_RADIUS", "FLUX_RADIUS", "FWHM_IMAGE", "FLAGS"),
+    *("XWIN_IMAGE", "YWIN_IMAGE", "ERRAWIN_IMAGE", "ERRBWIN_IMAGE", "ERRTHETAWIN_IMAGE", "SNR_WIN", "FLUX_MAX"),
+    *("XPEAK_IMAGE", "YPEAK_IMAGE", "BACKGROUND", "ALPHA_J2000", "DELTA_J2000"),
+]
+
+
+def extractor(folder):
+    """The words that call Source Extractor on an image, which follows; None where it isn't installed."""
+    program = shutil.which("source-extractor") or shutil.which("sex")
+    if program is None:
+        return None
+    (folder / "columns").write_text("\n".join(EXTRACTED))
+    (folder / "settings").write_text("")
+    settings = {"PARAMETERS_NAME": folder / "columns", "CATALOG_NAME": folder / "catalogue.fits", "FILTER": "N"}
+    settings.update(CATALOG_TYPE="FITS_1.0", DETECT_MINAREA=5, DETECT_THRESH=2.25, ANALYSIS_THRESH=2.25, GAIN=1.0)
+    settings.update(PHOT_APERTURES=10, VERBOSE_TYPE="QUIET")
+    words = [program, "-c", folder / "settings"]
+    return [*words, *(word for name, value in settings.items() for word in (f"-{name}", str(value)))]
 
 
 def stars(image, rng, count):
@@ -106,25 +133,82 @@ def held(process):
 
 
 def run(command, environment):
-    """Seconds by the clock, and the most megabytes that were held at one of the looks, twenty a second."""
-    start, peak = time.perf_counter(), 0.0
+    """Seconds by the clock, processor seconds, and the most megabytes that were held at one of the looks, twenty a
+    second.
+    """
+    start, peak, ended = time.perf_counter(), 0.0, 0
     with tempfile.TemporaryFile() as said:
         process = subprocess.Popen(command, stdout=subprocess.DEVNULL, stderr=said, env=environment)
-        while process.poll() is None:
+        while not ended:
             with contextlib.suppress(OSError):
                 peak = max(peak, held(process.pid))
             time.sleep(0.05)
+            ended, status, used = os.wait4(process.pid, os.WNOHANG)
         seconds = time.perf_counter() - start
+        process.returncode = os.waitstatus_to_exitcode(status)
         if process.returncode != 0:
             said.seek(0)
             sys.exit(f"{command} ended with {process.returncode}: {said.read().decode()}")
-    return seconds, peak
+    return seconds, used.ru_utime + used.ru_stime, peak
 
 
-def best(command, count, environment):
-    """The least time of some runs, and the greatest memory."""
-    results = [run(command, environment) for _ in range(count)]
-    return min(seconds for seconds, _ in results), max(peak for _, peak in results)
+def best(commands, count, environment):
+    """The least times of some runs of all these commands, one after the other, and the greatest memory."""
+    results = []
+    for _ in range(count):
+        seconds, used, peaks = zip(*(run(command, environment) for command in commands))
+        results.append((sum(seconds), sum(used), max(peaks)))
+    seconds, used, peaks = zip(*results)
+    return min(seconds), min(used), max(peaks)
+
+
+class Printed:
+    """The rows of the table, each printed when its runs are done."""
+
+    def __init__(self, folder, runs, environment):
+        self.catalogue, self.runs, self.environment, self.first = folder / "catalogue.fits", runs, environment, None
+        print("| Image | Program | Seconds | Processor seconds | Share | Peak MB | Sources |")
+        print("|---|---|---|---|---|---|---|")
+
+    def add(self, label, program, commands, runs=None, counted=True):
+        """A row of commands that follow each other, with the number of sources in the catalogue that they leave."""
+        seconds, used, peak = best(commands, runs or self.runs, self.environment)
+        self.first = self.first or used
+        with_rows = fits.getheader(self.catalogue, 1)["NAXIS2"] if counted else ""
+        share = f"{used / self.first:.2f}"
+        print(f"| {label} | {program} | {seconds:.2f} | {used:.2f} | {share} | {peak:.0f} | {with_rows} |", flush=True)
+
+
+def one_image(rows, folder, given, maxcat):
+    """The rows of one image."""
+    image, label = folder / "image.fits", f"{given.side} x {given.side}"
+    field(image, given.side)
+    rows.first = None
+    rows.add(label, "SEP, one script", [[sys.executable, "-c", "\n".join(SEP), image, rows.catalogue]])
+    if extractor(folder):
+        rows.add(label, "Source Extractor", [[*extractor(folder), image]])
+    for workers in sorted({1, given.workers}):
+        more = f"{workers} worker" + ("s" if workers > 1 else "")
+        rows.add(label, f"`maxcat`, {more}", [[*maxcat, image, "-o", rows.catalogue, "--workers", str(workers)]])
+    image.unlink()
+
+
+def many_images(rows, folder, given, maxcat):
+    """The rows of many small images."""
+    images, label = [folder / f"{number}.fits" for number in range(given.many)], f"{given.many} of 512 x 512"
+    field(images[0], 512)
+    for image in images[1:]:
+        shutil.copy(images[0], image)
+    rows.first = None
+    if extractor(folder):
+        calls = [[*extractor(folder), image] for image in images]
+        rows.add(label, f"Source Extractor, {len(calls)} calls", calls, counted=False)
+    rows.add(
+        label,
+        f"`maxcat`, {given.workers} workers",
+        [[*maxcat, *images, "--workers", str(given.workers)]],
+        counted=False,
+    )
 
 
 def main():
@@ -135,39 +219,24 @@ def main():
     parser.add_argument("--large", type=int, nargs="?", const=10000)
     parser.add_argument("--only-large", action="store_true")
     parser.add_argument("--side", type=int, default=4096)
+    parser.add_argument("--many", type=int)
     given = parser.parse_args()
-    environment = {
-        **os.environ,
-        "MAXDETECT": os.fspath(given.maxdetect.resolve()),
-        "PYTHONPATH": os.fspath(TOP / "python"),
-    }
-    print("| Image | Program | Seconds | Share | Peak MB | Sources |\n|---|---|---|---|---|---|")
+    program, package = os.fspath(given.maxdetect.resolve()), os.fspath(TOP / "python")
+    maxcat = [sys.executable, "-m", "maxdetect.cli"]
     with tempfile.TemporaryDirectory() as name:
         folder = pathlib.Path(name)
-        image, catalogue = folder / "image.fits", folder / "catalogue.fits"
-
-        def row(label, program, command, count, share=None):
-            seconds, peak = best(command, count, environment)
-            part = f"{seconds / share:.2f}" if share else ""
-            rows = fits.getheader(catalogue, 1)["NAXIS2"]
-            print(f"| {label} | {program} | {seconds:.2f} | {part} | {peak:.0f} | {rows} |", flush=True)
-            return seconds
-
-        maxcat = [sys.executable, "-m", "maxdetect.cli", image, "-o", catalogue]
+        rows = Printed(folder, given.runs, {**os.environ, "MAXDETECT": program, "PYTHONPATH": package})
         if not given.only_large:
-            field(image, given.side)
-            label = f"{given.side} x {given.side}"
-            yardstick = row(
-                label, "SEP, one script", [sys.executable, "-c", "\n".join(SEP), image, catalogue], given.runs
-            )
-            for workers in sorted({1, given.workers}):
-                more = f"{workers} worker" + ("s" if workers > 1 else "")
-                row(label, f"`maxcat`, {more}", [*maxcat, "--workers", str(workers)], given.runs, yardstick)
-            image.unlink()
+            one_image(rows, folder, given, maxcat)
+        if given.many:
+            many_images(rows, folder, given, maxcat)
         if given.large or given.only_large:
-            side = given.large or 10000
+            side, image = given.large or 10000, folder / "large.fits"
             field(image, side)
-            row(f"{side} x {side}", f"`maxcat`, {given.workers} workers", [*maxcat, "--workers", str(given.workers)], 1)
+            words = [*maxcat, image, "-o", rows.catalogue, "--workers", str(given.workers)]
+            rows.first = None
+            rows.add(f"{side} x {side}", f"`maxcat`, {given.workers} workers", [words], 1)
+    print(f"The load behind the runs was {os.getloadavg()[0]:.1f}.")
 
 
 if __name__ == "__main__":

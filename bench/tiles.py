@@ -26,6 +26,7 @@ HERE = pathlib.Path(__file__).resolve().parent
 sys.path.insert(0, str(HERE.parent / "python"))
 import maxdetect  # noqa: E402
 from maxdetect import background, kernel, tiles  # noqa: E402
+from maxdetect.rows import Rows  # noqa: E402
 
 SIDE, TOLD = 48, 1000
 
@@ -94,35 +95,6 @@ def case(seed, number):
     window = tile + 2 * (2 * mesh or margin) + (mesh or 1)
     limits = tiles.MOST_PIXELS if rng.random() < 0.5 else int(window**2 * rng.uniform(1, 2)), margin
     return image, threshold, tile, limits, options
-
-
-class Rows:
-    """Columns by their names, as much of an astropy table as tiles want, and quicker on some rows."""
-
-    def __init__(self, columns):
-        self.columns, self.meta = columns, {}
-
-    @property
-    def colnames(self):
-        return list(self.columns)
-
-    def __len__(self):
-        return len(next(iter(self.columns.values())))
-
-    def __getitem__(self, what):
-        return (
-            self.columns[what]
-            if isinstance(what, str)
-            else Rows({name: values[what] for name, values in self.columns.items()})
-        )
-
-    def __setitem__(self, name, values):
-        self.columns[name] = values
-
-
-def stacked(parts, metadata_conflicts=None):
-    """Rows behind each other."""
-    return Rows({name: numpy.concatenate([part[name] for part in parts]) for name in parts[0].colnames})
 
 
 def small(library):
@@ -207,7 +179,8 @@ def main():
             library = os.path.join(folder, "small_detect.so")
             source = HERE / "small_detect.cpp"
             subprocess.run(["g++", "-O2", "-shared", "-fPIC", "-o", library, source], check=True)
-            kernel.detect, tiles.vstack = small(ctypes.CDLL(library)), stacked
+            # Plain arrays all the way, which are quicker on some rows than astropy's tables.
+            kernel.detect, kernel.described = small(ctypes.CDLL(library)), lambda rows: rows
     for number in range(first, first + given.cases):
         differs = compared(given.seed, number)
         if not differs and not given.program and number - first < given.checked:

@@ -1,11 +1,13 @@
 """Runs maxdetect and maxsurvey beside the plain model on random words and files, and tells the first difference.
 
-usage: python3 tests/compare.py MAXDETECT MAXSURVEY [--cases N | --seconds S] [--seed N] [--workers N]
+usage: python3 tests/compare.py MAXDETECT MAXSURVEY [--maxwide PROGRAM] [--cases N | --seconds S] [--seed N]
+           [--workers N]
 
 Case k of a seed is always the same. Images have at most 36 pixels; headers and words are mostly in order, and often
 damaged. Status, output, notes and the number of bytes taken from the input are compared, and of sessions of maxsurvey
-over one file the tables that are left, by a session after them. A difference is printed with the command, a file with
-the input's bytes, and what both answered; the exit status is then 1.
+over one file the tables that are left, by a session after them. With --maxwide each run of maxdetect is one of that
+program too. A difference is printed with the command, a file with the input's bytes, and what both answered; the exit
+status is then 1.
 """
 import argparse
 import concurrent.futures
@@ -159,7 +161,9 @@ def option_words(rng, command):
     near = {
         "threshold": lambda: rng.randint(-3, 12),
         "min-area": lambda: rng.randint(0, 4),
-        "max-area": lambda: rng.randint(0, 30),
+        "max-area": lambda: rng.choice(
+            [rng.randint(0, 30), rng.randint(0, 30), 2**24, 2**24 + 1, 2**31 - 1, 2**31]
+        ),
     }
     near.update(
         {
@@ -283,10 +287,12 @@ def run(program, words, data, folder):
 
 
 def detection_runs(rng, programs, folder):
-    """One run of maxdetect."""
+    """One run of maxdetect, and one of maxwide where it is there."""
     words = random_words(rng)
     data = random_file(rng, [0, 1, 1, 1, 2] if words[:1] == ["measure"] else [0, 0, 1, 1, 2])
     yield words, data, model.answer(words, data), run(programs[0], words, data, folder)
+    for program in programs[2:]:
+        yield words, data, model.answer(words, data, model.WIDE_PIXELS), run(program, words, data, folder)
 
 
 def survey_runs(rng, programs, folder):
@@ -322,12 +328,14 @@ def main():
     parser = argparse.ArgumentParser(description=__doc__.splitlines()[0])
     parser.add_argument("maxdetect")
     parser.add_argument("maxsurvey")
+    parser.add_argument("--maxwide")
     parser.add_argument("--cases", type=int, default=None)
     parser.add_argument("--seconds", type=float, default=60)
     parser.add_argument("--seed", type=int, default=1)
     parser.add_argument("--workers", type=int, default=os.cpu_count())
     options = parser.parse_args()
-    programs = [os.path.abspath(options.maxdetect), os.path.abspath(options.maxsurvey)]
+    named = (options.maxdetect, options.maxsurvey, options.maxwide)
+    programs = [os.path.abspath(program) for program in named if program]
     start, done = time.monotonic(), 0
     with tempfile.TemporaryDirectory() as folder, concurrent.futures.ProcessPoolExecutor(options.workers) as pool:
         while done < options.cases if options.cases is not None else time.monotonic() - start < options.seconds:

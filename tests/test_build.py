@@ -207,7 +207,7 @@ def test_a_second_build_waits_and_proves_nothing_again(tree):
 
 
 def test_words_and_a_missing_rt(tree):
-    assert tree.build("maxtree") == (64, "usage: scripts/build [maxdetect] [maxsurvey]\n")
+    assert tree.build("maxtree") == (64, "usage: scripts/build [maxdetect] [maxwide] [maxsurvey]\n")
     status, said = tree.build(PATH=str(tree.top))
     assert (
         status == 70

@@ -8,7 +8,7 @@ from astropy.io import fits
 from astropy.table import Table
 
 from . import detection, stored, tables
-from .noise import floats
+from .estimates import floats
 
 __all__ = ["ArrayPlane", "catalogue"]
 

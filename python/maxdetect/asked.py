@@ -3,14 +3,14 @@ import argparse
 import os
 import pathlib
 import re
-from typing import List, Optional, Tuple
+from typing import TYPE_CHECKING, List, Optional, Tuple
 
-from astropy.table import Table
-
-from . import checks, ldac, tables
 from .errors import Mistake
-from .fields import KINDS
+from .limits import CHECKS, FORMATS, KINDS
 from .words import called, finite, whole
+
+if TYPE_CHECKING:
+    from astropy.table import Table
 
 __all__ = ["add", "add_read", "add_run", "check", "is_known", "listed", "names_of", "picked"]
 
@@ -57,7 +57,7 @@ def add(out) -> None:
     """The options."""
     out.add_argument(
         "--format",
-        choices=sorted(set(tables.FORMATS.values())),
+        choices=sorted(set(FORMATS.values())),
         help="the catalogue's form, whatever its name; ldac: FITS_LDAC with Source Extractor's columns, for SCAMP and "
         "PSFEx (default: by the name's end)",
     )
@@ -92,7 +92,7 @@ def add(out) -> None:
         "--check",
         type=check_images,
         metavar="KIND,KIND,...",
-        help="check images beside the catalogue, as CATALOGUE.background.fits: " + ", ".join(checks.KINDS),
+        help="check images beside the catalogue, as CATALOGUE.background.fits: " + ", ".join(CHECKS),
     )
     out.add_argument(
         "--vignet", type=side, metavar="N", help="adds the column VIGNET: N x N pixels around each source, for PSFEx"
@@ -102,10 +102,11 @@ def add(out) -> None:
 @called("list of check images")
 def check_images(text: str) -> List[str]:
     """The kinds of check images, parted by commas."""
-    try:
-        return checks.kinds(text)
-    except ValueError as error:
-        raise argparse.ArgumentTypeError(str(error)) from None
+    found = list(dict.fromkeys(each.strip() for each in text.split(",")))
+    unknown = [kind for kind in found if kind not in CHECKS]
+    if unknown:
+        raise argparse.ArgumentTypeError(f"{', '.join(unknown) or 'it'} isn't among {', '.join(CHECKS)}")
+    return found
 
 
 @called("NAME=FILE")
@@ -204,6 +205,8 @@ def listed(text: str) -> List[str]:
 
 def is_known(text: str) -> bool:
     """The package or Source Extractor calls a column so that the package has."""
+    from . import ldac, tables
+
     match = NAME.fullmatch(text)
     if match is None:
         return False
@@ -234,13 +237,15 @@ def names_of(given: argparse.Namespace) -> Optional[List[str]]:
     return list(dict.fromkeys(match[1] for _, match in matches))
 
 
-def picked(table: Table, names: Optional[List[str]]) -> Table:
+def picked(table: "Table", names: Optional[List[str]]) -> "Table":
     """A catalogue's columns of these names, the package's own or else Source Extractor's; all where there are no names.
     Raises Mistake where it hasn't one of them.
     """
     if names is None:
         return table
-    made = Table(meta=table.meta)
+    from . import ldac
+
+    made = type(table)(meta=table.meta)
     for name in names:
         if name in table.colnames:
             made[name] = table[name]

@@ -4,10 +4,10 @@ import copy
 from typing import TYPE_CHECKING, Callable, Optional
 
 import numpy
-from astropy.table import Table
 
 from . import measuring
 from .fields import Field
+from .rows import Rows
 
 if TYPE_CHECKING:
     from .detection import Detector
@@ -27,11 +27,11 @@ def columns(
     detector: "Detector",
     band: str,
     field: Field,
-    table: Table,
+    table: Rows,
     segments: numpy.ndarray,
     executor: Optional[concurrent.futures.Executor] = None,
     progress: Callable[[int], None] = lambda count: None,
-) -> Table:
+) -> Rows:
     """The photometry of a detector's sources, whose map this is, in the image that another field has to measure in."""
     other = copy.copy(detector)
     other.field, other.settings = field, field.settings
@@ -39,4 +39,4 @@ def columns(
     beside = measuring.sky_beside(other, segments, executor, own)
     points = measuring.points_of(other, beside)
     found = measuring.measured(other, beside, points, table, segments, executor, progress, own)
-    return Table({f"{name}_{band}": found[name] for name in found.colnames if _has(name)})
+    return Rows({f"{name}_{band}": found[name] for name in found.colnames if _has(name)})

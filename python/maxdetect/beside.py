@@ -48,12 +48,10 @@ def _left_out(segments: numpy.ndarray, within: slice, undefined: numpy.ndarray) 
 
 def _of_cell(values: numpy.ndarray, left_out: numpy.ndarray) -> Tuple[float, float]:
     """The level of a cell and its noise."""
-    if left_out.mean() > 1 - ENOUGH:
-        return numpy.nan, numpy.nan
-    seen = values[~left_out]
-    if seen.min() == seen.max():
-        return float(seen[0]), 0.0
-    found = sep.Background(values, mask=left_out, bw=values.shape[1], bh=values.shape[0], fw=1, fh=1)
+    height, width = values.shape
+    found = sep.Background(
+        numpy.ascontiguousarray(values), mask=numpy.ascontiguousarray(left_out), bw=width, bh=height, fw=1, fh=1
+    )
     return found.globalback, found.globalrms
 
 
@@ -65,13 +63,20 @@ def of_row(
     """
     left_out = _left_out(segments, within, undefined)
     unit = unit_of(numpy.abs(residual[::7, ::7][~left_out[::7, ::7]]))
-    scaled, cells = residual * numpy.float32(1 / unit), []
-    for left in range(0, residual.shape[1], mesh):
-        columns = slice(left, left + mesh)
-        cells.append(
-            _of_cell(numpy.ascontiguousarray(scaled[:, columns]), numpy.ascontiguousarray(left_out[:, columns]))
-        )
-    return numpy.array(cells).T * unit
+    scaled = residual * numpy.float32(1 / unit)
+    lefts = numpy.arange(0, residual.shape[1], mesh)
+    area = len(residual) * numpy.diff(lefts, append=residual.shape[1])
+    share = numpy.add.reduceat(left_out.sum(axis=0), lefts) / area
+    low, high = (
+        function.reduceat(function.reduce(numpy.where(left_out, beyond, scaled)), lefts)
+        for function, beyond in ((numpy.minimum, numpy.float32(numpy.inf)), (numpy.maximum, -numpy.float32(numpy.inf)))
+    )
+    cells = numpy.array([low, numpy.zeros(len(lefts))])
+    cells[:, share > 1 - ENOUGH] = numpy.nan
+    for number in numpy.flatnonzero((share <= 1 - ENOUGH) & (low < high)).tolist():
+        columns = slice(int(lefts[number]), int(lefts[number]) + mesh)
+        cells[:, number] = _of_cell(scaled[:, columns], left_out[:, columns])
+    return cells * unit
 
 
 def joined(rows: Iterable[numpy.ndarray], found: Sky) -> Sky:

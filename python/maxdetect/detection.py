@@ -1,18 +1,27 @@
 """From a field to its sources: by the program, a tile at a time, and then their photometry."""
 import concurrent.futures
 import dataclasses
-from typing import Callable, Dict, NamedTuple, Optional, Tuple, Union
+import functools
+from typing import TYPE_CHECKING, Callable, Dict, NamedTuple, Optional, Tuple, Union
 
 import numpy
-from astropy.table import Table, hstack
 
 from . import cleaning, cosmic, flagmap, kernel, looks, measuring, photometry, pieces, pointlike, scaling, sky, tiles
 from . import wide
 from .bands import columns as band_columns
-from .fields import KINDS, LEAST_MESH, MOST_MESH, TILE, Field, Settings, noise_of, sky_of
+from .fields import Field, Settings, noise_of, sky_of
+from .limits import TILE
+from .rows import Rows, side_by_side
 from .tiles import Box
 
-__all__ = ["KINDS", "LEAST_MESH", "MOST_MESH", "TILE", "Detector", "Field", "Settings", "sources"]
+if TYPE_CHECKING:
+    from astropy.table import Table
+
+__all__ = ["TILE", "Detector", "Field", "Settings", "sources"]
+
+
+# So many rows of a window are prepared at a time.
+ROWS = 256
 
 
 class Detector:
@@ -40,9 +49,14 @@ class Detector:
 
     def numbers(self, box: Box) -> numpy.ndarray:
         """What the program is to see of a window: 32-bit numbers, kernel.LEAST where it is undefined."""
-        seen = looks.seen(self.field, self.sky, self.how.smooth, box.rows, box.columns)
-        seen *= numpy.float32(scaling.SIGMA / self.how.noise)
-        return scaling.whole_numbers(seen).filled(kernel.LEAST)
+        numbers = numpy.empty(box.shape, dtype="i4")
+        # Some rows at a time stay in the processor's cache.
+        for top in range(box.top, box.bottom, ROWS):
+            rows = slice(top, min(top + ROWS, box.bottom))
+            seen = looks.seen(self.field, self.sky, self.how.smooth, rows, box.columns)
+            seen *= numpy.float32(scaling.SIGMA / self.how.noise)
+            numbers[top - box.top : rows.stop - box.top] = scaling.whole_numbers(seen).filled(kernel.LEAST)
+        return numbers
 
     def __call__(self, box: Box) -> tiles.Look:
         """The sources of a window, and its maps. Where the field is cleaned, the column KEPT says of each source
@@ -76,7 +90,7 @@ def sources(
     told: Optional[Callable] = None,
     progress: Callable[[int], None] = lambda count: None,
     program: Optional[str] = None,
-) -> Table:
+) -> "Table":
     """The sources of a field with their photometry, in columns and rows of the image, numbered by their first pixels.
 
     Tiles and photometry run in the executor. `segments`, an array of the image's shape full of zeros, gets the map.
@@ -88,7 +102,8 @@ def sources(
     left out as peaks of noise on faint light (NCLEANED), and the noise: SIGMA, or with a weight map NOISE, about the
     middle of the image.
     """
-    found = sky_of(field)
+    # A small image is done before it is handed out.
+    found = sky_of(field, functools.partial(tiles.each, executor if min(field.shape) >= TILE else None))
     if field.settings.cosmic_rays:
         field = dataclasses.replace(field, struck=cosmic.struck(field, found))
     detector = Detector(field, found, looks.way(field, found), program)
@@ -101,12 +116,12 @@ def sources(
     table, cut = _cleaned(*found, segments) if field.settings.clean else found
     cleaned = len(found[0]) - len(table)
     own = measuring.sky_of_values(detector)
-    beside = measuring.sky_beside(detector, segments, executor, own)
-    points = measuring.points_of(detector, beside)
-    skies = _Skies(own, beside, points)
+    level = measuring.sky_beside(detector, segments, executor, own)
+    points = measuring.points_of(detector, level)
+    skies = _Skies(own, level, points)
     table = _measured(detector, skies, table, segments, executor, bands or {}, progress)
     if told is not None:
-        told(detector, beside, own, table)
+        told(detector, level, own, table)
     table["FLAGS"] |= numpy.where(cut, photometry.CUT, 0).astype(table["FLAGS"].dtype)
     if field.settings.wide:
         table = _with_wide(detector, table, segments, executor, bands or {})
@@ -116,14 +131,13 @@ def sources(
         table.meta["NCOSMIC"] = int(field.struck.sum())
     # With a weight map the sky's noise is a factor, and no noise of the image.
     table.meta["NOISE" if field.weights is not None else "SIGMA"] = detector.middle_noise()
-    return table
+    return table.table()
 
 
-def _cleaned(table: Table, cut: numpy.ndarray, segments: numpy.ndarray) -> Tuple[Table, numpy.ndarray]:
+def _cleaned(table: Rows, cut: numpy.ndarray, segments: numpy.ndarray) -> Tuple[Rows, numpy.ndarray]:
     """The rows that are kept, numbered anew, and which of them are cut; their map too, in place."""
     kept = numpy.asarray(table["KEPT"], dtype=bool)
-    table = table[kept]
-    table.remove_column("KEPT")
+    table = table[[name for name in table.colnames if name != "KEPT"]][kept]
     table["NUMBER"] = numpy.arange(1, len(table) + 1, dtype=table["NUMBER"].dtype)
     if kept.all():
         return table, cut
@@ -143,19 +157,19 @@ class _Skies(NamedTuple):
     points: Optional[pointlike.PointSources]
 
 
-def _measured(detector: Detector, skies: _Skies, table: Table, segments: numpy.ndarray, executor, bands, progress):
+def _measured(detector: Detector, skies: _Skies, table: Rows, segments: numpy.ndarray, executor, bands, progress):
     """Rows with their photometry in what is measured and in each band, and what the flag map has over them."""
-    own, beside, points = skies
-    parts = [table, measuring.measured(detector, beside, points, table, segments, executor, progress, own)]
+    own, level, points = skies
+    parts = [table, measuring.measured(detector, level, points, table, segments, executor, progress, own)]
     for name, other in bands.items():
         parts.append(band_columns(detector, name, other, table, segments, executor, progress))
-    table = hstack(parts)
+    table = side_by_side(parts)
     if detector.field.flag_map is not None:
         table["IMAFLAGS"] = flagmap.over(detector.field.flag_map, table, segments)
     return table
 
 
-def _with_wide(detector: Detector, table: Table, segments: numpy.ndarray, executor, bands) -> Table:
+def _with_wide(detector: Detector, table: Rows, segments: numpy.ndarray, executor, bands) -> Rows:
     """The sources of a field with the wide ones that are found besides; its map gets them too.
 
     Wide sources are measured above the sky in which they are found, and other sources as if they weren't there: their

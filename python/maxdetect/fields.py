@@ -1,22 +1,16 @@
 """An image with what belongs to it, and how its sources are looked for."""
 import dataclasses
 import math
-from typing import Optional, Tuple, Union
+from typing import Callable, List, Optional, Tuple, Union
 
 import numpy
 
 from . import sky
 from .errors import Mistake
 from .images import Plane
+from .limits import LEAST_MESH, MOST_MESH, TILE
 
-__all__ = ["KINDS", "LEAST_MESH", "MOST_MESH", "TILE", "Field", "Settings", "noise_of", "sky_of"]
-
-# The side of a tile's core, in pixels.
-TILE = 2048
-# The cells' sides: noise is told from fewer pixels badly, and of wider ones an image has few.
-LEAST_MESH, MOST_MESH = 8, 512
-# What a weight map has.
-KINDS = ("rms", "variance", "weight")
+__all__ = ["Field", "Settings", "noise_of", "sky_of"]
 
 
 @dataclasses.dataclass(frozen=True)
@@ -90,6 +84,12 @@ class Field:
     def shape(self) -> Tuple[int, int]:
         return self.plane.shape
 
+    @property
+    def planes(self) -> List[Plane]:
+        """All its images."""
+        every = (self.plane, self.mask, self.weights, self.values, self.value_weights, self.flag_map)
+        return [plane for plane in every if plane is not None]
+
     def image(self, rows: slice, columns: slice = slice(None)) -> numpy.ndarray:
         """Its pixels in a window less the plane's origin, NaN where they are undefined."""
         image = self._masked(self.plane, rows, columns)
@@ -152,12 +152,13 @@ def noise_of(field: Field, found: sky.Sky, rows: slice, columns: slice) -> Union
     return found.noises(rows, columns) if field.settings.local else found.noise
 
 
-def sky_of(field: Field) -> sky.Sky:
-    """The sky of a field. Raises Mistake where it has none to speak of."""
+def sky_of(field: Field, each: Callable = map) -> sky.Sky:
+    """The sky of a field; `each` calls a function for each of several items, as `map` does. Raises Mistake where it has
+    none to speak of.
+    """
+    relative = None if field.weights is None else field.relative
     try:
-        found = sky.of(
-            field.image, field.shape, field.settings.mesh or 64, None if field.weights is None else field.relative
-        )
+        found = sky.of(field.image, field.shape, field.settings.mesh or 64, relative, each)
     except ValueError as error:
         beside = [other.label for other in (field.mask, field.weights) if other is not None]
         with_them = f" (with {' and '.join(beside)})" if beside else ""

@@ -1,9 +1,9 @@
 """The bits that a map of flags has over each source's own pixels."""
 import numpy
-from astropy.table import Table
 
 from .errors import Mistake
 from .images import Plane
+from .rows import Rows
 
 __all__ = ["over"]
 
@@ -18,7 +18,7 @@ def _bits(plane: Plane, rows: slice) -> numpy.ndarray:
     return values.astype("i4")
 
 
-def over(plane: Plane, table: Table, segments: numpy.ndarray) -> numpy.ndarray:
+def over(plane: Plane, table: Rows, segments: numpy.ndarray) -> numpy.ndarray:
     """For each source of a map the bits that any of its pixels has, in the table's order."""
     found = numpy.zeros(int(numpy.max(table["NUMBER"], initial=0)) + 1, dtype="i4")
     for top in range(0, len(segments), ROWS):

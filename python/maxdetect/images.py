@@ -121,6 +121,11 @@ class Plane:
         return f"{self.path}[{self.name or self.number}]"
 
     @property
+    def mapped(self) -> bool:
+        """Only the rows that are asked for are read."""
+        return self._place is not None
+
+    @property
     def unit(self) -> Optional[str]:
         """BUNIT, where the header has one. Raises Mistake for one that can't be read."""
         return self._checked(cards.unit, self.header)

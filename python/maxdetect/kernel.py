@@ -29,15 +29,18 @@ import re
 import shutil
 import subprocess
 import tempfile
-from typing import BinaryIO, Optional, Tuple, Union
+from typing import TYPE_CHECKING, BinaryIO, Optional, Tuple, Union
 
 import numpy
 from astropy.io import fits
-from astropy.table import Table
 
 from .columns import DESCRIPTIONS
 from .errors import Mistake
+from .rows import Rows
 from .stored import meaning, raw, sums
+
+if TYPE_CHECKING:
+    from astropy.table import Table
 
 __all__ = ["NoProgram", "Refusal", "detect", "filter", "find_program", "load", "measure", "read", "tree"]
 
@@ -305,15 +308,27 @@ def load(file: Union[Path, BinaryIO], hdu: Union[int, str] = 0) -> numpy.ndarray
     return values if means.blank is None else numpy.ma.MaskedArray(values, mask=numbers == means.blank)
 
 
-def read(file: Union[Path, BinaryIO]) -> Tuple[Table, numpy.ndarray]:
+def _read_rows(file):
+    """The same as plain arrays."""
+    with fits.open(file, memmap=False) as hdus:
+        rows, names = hdus["SOURCES"].data, hdus["SOURCES"].columns.names
+        return Rows({name: _native(rows[name]) for name in names}), _native(hdus["SEGMENT"].data)
+
+
+def described(rows: Rows) -> "Table":
+    """A catalogue of the program as astropy's table, with what its columns are."""
+    table = rows.table()
+    for name in table.colnames:
+        table[name].description = DESCRIPTIONS.get(name, "")
+    return table
+
+
+def read(file: Union[Path, BinaryIO]) -> Tuple["Table", numpy.ndarray]:
     """The catalogue and the segmentation map of what `maxdetect detect` or `measure` wrote: a path, or a file that is
     open for reading bytes. Raises what astropy raises of another file.
     """
-    with fits.open(file, memmap=False) as hdus:
-        rows, names = hdus["SOURCES"].data, hdus["SOURCES"].columns.names
-        columns = [_native(rows[name]) for name in names]
-        segments = _native(hdus["SEGMENT"].data)
-    return Table(columns, names=names, descriptions=[DESCRIPTIONS.get(name, "") for name in names]), segments
+    rows, segments = _read_rows(file)
+    return described(rows), segments
 
 
 def _answer(output, shape, reading=read):
@@ -365,7 +380,7 @@ def detect(
     workers: int = 1,
     blank: Optional[int] = None,
     program: Optional[Path] = None,
-) -> Tuple[Table, numpy.ndarray]:
+) -> Tuple["Table", numpy.ndarray]:
     """The sources of an image: their catalogue, and their segmentation map.
 
     `threshold` is in the image's own units, above the background where `mesh` is not 0. `min_area` is in pixels,
@@ -402,13 +417,12 @@ def detect(
 
 def detect_stored(
     stored: numpy.ndarray, threshold: int, *, program: Optional[Path] = None, **options: int
-) -> Tuple[Table, numpy.ndarray]:
+) -> Tuple[Rows, numpy.ndarray]:
     """The same as `detect` of an array of 32-bit numbers in which LEAST stands for an undefined pixel, without a look
-    at its range.
+    at its range, as plain arrays.
     """
-    return _answer(
-        _run(program, _words("detect", {"threshold": threshold, **options}), _stored_file(stored)), stored.shape
-    )
+    output = _run(program, _words("detect", {"threshold": threshold, **options}), _stored_file(stored))
+    return _answer(output, stored.shape, _read_rows)
 
 
 def measure(
@@ -426,7 +440,7 @@ def measure(
     workers: int = 1,
     blank: Optional[int] = None,
     program: Optional[Path] = None,
-) -> Tuple[Table, numpy.ndarray]:
+) -> Tuple["Table", numpy.ndarray]:
     """The sources of an image, measured in `values`, a second image of the same shape: another band of the same pixels.
 
     All is as in `detect`, with seven columns more: SEEN and MISSING count the source's pixels that have a value in
@@ -501,7 +515,7 @@ def tree(
     workers: int = 1,
     blank: Optional[int] = None,
     program: Optional[Path] = None,
-) -> Table:
+) -> "Table":
     """The nodes of an image's max-tree, as a `Table` with the columns NUMBER, LEVEL, REP, PARENT and AREA.
 
     Nodes are numbered from 0, in the order of level and then representative, so the number is the row. REP is the
@@ -518,4 +532,4 @@ def tree(
     with _run(program, _words("tree", options), _file(image, blank)) as output:
         lines = output.read().replace(b" - ", b" -1 ")
     numbers = numpy.fromstring(lines, dtype="i8", sep=" ").reshape(-1, 5) if lines else numpy.zeros((0, 5), dtype="i8")
-    return Table(numbers, names=["NUMBER", "LEVEL", "REP", "PARENT", "AREA"])
+    return Rows(dict(zip(("NUMBER", "LEVEL", "REP", "PARENT", "AREA"), numbers.T))).table()

@@ -3,8 +3,9 @@
 FITS_LDAC has two tables for each image: LDAC_IMHEAD with the image's header, and LDAC_OBJECTS with its sources.
 """
 import io
+import itertools
 import re
-from typing import Callable, Dict, Iterable, List, NamedTuple, Optional, Tuple
+from typing import Callable, Iterable, Iterator, List, NamedTuple, Optional, Tuple
 
 import numpy
 from astropy.io import fits
@@ -66,62 +67,72 @@ def _kron(table: Table) -> numpy.ndarray:
     return numpy.asarray(table["KRON_RADIUS"]) / (numpy.asarray(table["A"]) / 2)
 
 
-def _columns() -> Dict[str, Column]:
-    """Source Extractor's columns by their names."""
-    made = {
-        "NUMBER": Column("J", None, "Number of the source", _own("NUMBER")),
-        "FLAGS": Column("I", None, "What may be wrong with it, by bits", _own("FLAGS")),
-        "IMAFLAGS_ISO": Column("J", None, "What the flag map has over its pixels", _own("IMAFLAGS")),
-        "ISOAREA_IMAGE": Column("J", "pixel**2", "Its pixels", _own("AREA")),
-        "KRON_RADIUS": Column("E", None, "Half the long axis of its Kron ellipse over A_IMAGE", _kron),
-        "FLUX_RADIUS": Column("E", "pixel", "Half-light radius", _own("FLUX_RADIUS")),
-        "FWHM_IMAGE": Column("E", "pixel", "Diameter that holds half of the light", _own("FWHM")),
-        "FLUX_MAX": Column("E", "count", "Greatest pixel above the sky", _own("FLUX_MAX")),
-        "BACKGROUND": Column("E", "count", "Level of the sky at its centre", _own("BACKGROUND")),
-        "THRESHOLD": Column("E", "count", "Least pixel of a source above the sky there", _own("THRESHOLD")),
-        "ELONGATION": Column("E", None, "A_IMAGE/B_IMAGE", _own("ELONGATION")),
-        "ELLIPTICITY": Column(
-            "E", None, "1 - B_IMAGE/A_IMAGE", lambda table: 1 - 1 / numpy.asarray(table["ELONGATION"])
-        ),
-        "SNR_WIN": Column("E", None, "Signal to noise under a Gaussian of its width", _own("SNR_WIN")),
-        "MU_MAX": Column("E", "mag * arcsec**(-2)", "Surface brightness of its greatest pixel", _own("MU_MAX")),
-        "VIGNET": Column("E", "count", "Pixels around it, those of others left out", _own("VIGNET")),
-        "STELLARITY": Column("E", None, "By the size of the image's point sources", _own("STELLARITY")),
-        "A_IMAGE": Column("E", "pixel", "Deviation of its light along the long axis", _own("A", 0.5)),
-        "B_IMAGE": Column("E", "pixel", "Deviation of its light along the short axis", _own("B", 0.5)),
-        "THETA_IMAGE": Column("E", "deg", "Angle of the long axis from x to y", _own("THETA")),
-        "A_WORLD": Column("E", "deg", "Deviation of its light along the long axis", _own("A_SKY", 0.5 / 3600)),
-        "B_WORLD": Column("E", "deg", "Deviation of its light along the short axis", _own("B_SKY", 0.5 / 3600)),
-        "THETA_J2000": Column("E", "deg", "Angle of the long axis from north to east", _own("PA")),
-        "THETAWIN_IMAGE": Column("E", "deg", "Angle of the long axis from x to y", _own("THETA")),
-    }
+# Those that are made of one column each, or of a ratio.
+OF_ONE = {
+    "NUMBER": Column("J", None, "Number of the source", _own("NUMBER")),
+    "FLAGS": Column("I", None, "What may be wrong with it, by bits", _own("FLAGS")),
+    "IMAFLAGS_ISO": Column("J", None, "What the flag map has over its pixels", _own("IMAFLAGS")),
+    "ISOAREA_IMAGE": Column("J", "pixel**2", "Its pixels", _own("AREA")),
+    "KRON_RADIUS": Column("E", None, "Half the long axis of its Kron ellipse over A_IMAGE", _kron),
+    "FLUX_RADIUS": Column("E", "pixel", "Half-light radius", _own("FLUX_RADIUS")),
+    "FWHM_IMAGE": Column("E", "pixel", "Diameter that holds half of the light", _own("FWHM")),
+    "FLUX_MAX": Column("E", "count", "Greatest pixel above the sky", _own("FLUX_MAX")),
+    "BACKGROUND": Column("E", "count", "Level of the sky at its centre", _own("BACKGROUND")),
+    "THRESHOLD": Column("E", "count", "Least pixel of a source above the sky there", _own("THRESHOLD")),
+    "ELONGATION": Column("E", None, "A_IMAGE/B_IMAGE", _own("ELONGATION")),
+    "ELLIPTICITY": Column("E", None, "1 - B_IMAGE/A_IMAGE", lambda table: 1 - 1 / numpy.asarray(table["ELONGATION"])),
+    "SNR_WIN": Column("E", None, "Signal to noise under a Gaussian of its width", _own("SNR_WIN")),
+    "MU_MAX": Column("E", "mag * arcsec**(-2)", "Surface brightness of its greatest pixel", _own("MU_MAX")),
+    "VIGNET": Column("E", "count", "Pixels around it, those of others left out", _own("VIGNET")),
+    "STELLARITY": Column("E", None, "By the size of the image's point sources", _own("STELLARITY")),
+    "A_IMAGE": Column("E", "pixel", "Deviation of its light along the long axis", _own("A", 0.5)),
+    "B_IMAGE": Column("E", "pixel", "Deviation of its light along the short axis", _own("B", 0.5)),
+    "THETA_IMAGE": Column("E", "deg", "Angle of the long axis from x to y", _own("THETA")),
+    "A_WORLD": Column("E", "deg", "Deviation of its light along the long axis", _own("A_SKY", 0.5 / 3600)),
+    "B_WORLD": Column("E", "deg", "Deviation of its light along the short axis", _own("B_SKY", 0.5 / 3600)),
+    "THETA_J2000": Column("E", "deg", "Angle of the long axis from north to east", _own("PA")),
+    "THETAWIN_IMAGE": Column("E", "deg", "Angle of the long axis from x to y", _own("THETA")),
+}
+
+
+def _fluxes() -> Iterator[Tuple[str, Column]]:
+    """Fluxes and magnitudes, with their errors."""
     for name, text in {"ISO": "isophotal", "AUTO": "Kron ellipse", "TOTAL": "total", "APER": "circles"}.items():
         for kind, unit in (("FLUX", "count"), ("MAG", "mag")):
             for part, about in (("", ""), ("ERR", "RMS error of ")):
                 own = f"{kind}{part}_{name}"
-                made[own] = Column("E", unit, f"{about}{'Flux' if kind == 'FLUX' else 'Magnitude'}, {text}", _own(own))
+                yield own, Column("E", unit, f"{about}{'Flux' if kind == 'FLUX' else 'Magnitude'}, {text}", _own(own))
+
+
+def _places() -> Iterator[Tuple[str, Column]]:
+    """Positions in the image and on the sky."""
     for axis, other in (("X", "RA"), ("Y", "DEC")):
         for kind, win in (("", ""), ("WIN", "windowed ")):
             place = Column("D", "pixel", f"{win}position along {axis.lower()}", _own(f"{axis}{kind}"))
-            made[f"{axis}{kind}_IMAGE"] = place
+            yield f"{axis}{kind}_IMAGE", place
             sky = Column("D", "deg", f"{win}position in the ICRS", _own(other))
-            made.update({f"{'ALPHA' if axis == 'X' else 'DELTA'}{kind}_J2000": sky, f"{axis}{kind}_WORLD": sky})
+            yield f"{'ALPHA' if axis == 'X' else 'DELTA'}{kind}_J2000", sky
+            yield f"{axis}{kind}_WORLD", sky
         for end in ("MIN", "MAX", "PEAK"):
             text = f"{axis.lower()} of the {'peak' if end == 'PEAK' else end.lower() + 'imum'}"
-            made[f"{axis}{end}_IMAGE"] = Column("J", "pixel", text, _own(f"{axis}{end}"))
+            yield f"{axis}{end}_IMAGE", Column("J", "pixel", text, _own(f"{axis}{end}"))
+
+
+def _ellipses() -> Iterator[Tuple[str, Column]]:
+    """Error ellipses and second moments."""
     for kind in ("", "WIN"):
         error = tuple(f"ERR{part}{kind}" for part in ("A", "B", "THETA"))
         for name, unit in zip(error, ("pixel", "pixel", "deg")):
-            made[f"{name}_IMAGE"] = Column("E", unit, "Error ellipse of the position", _own(name))
+            yield f"{name}_IMAGE", Column("E", unit, "Error ellipse of the position", _own(name))
         for which, axes in enumerate(("X2", "Y2", "XY")):
             text = "Error ellipse of the position as a matrix"
-            made[f"ERR{axes}{kind}_IMAGE"] = Column("D", "pixel**2", text, _variance(*error, which, 1.0))
+            yield f"ERR{axes}{kind}_IMAGE", Column("D", "pixel**2", text, _variance(*error, which, 1.0))
     for which, axes in enumerate(("X2", "Y2", "XY")):
-        made[f"{axes}_IMAGE"] = Column("D", "pixel**2", "Second moments", _variance("A", "B", "THETA", which, 0.5))
-    return made
+        yield f"{axes}_IMAGE", Column("D", "pixel**2", "Second moments", _variance("A", "B", "THETA", which, 0.5))
 
 
-COLUMNS = _columns()
+# Source Extractor's columns by their names.
+COLUMNS = dict(itertools.chain(OF_ONE.items(), _fluxes(), _places(), _ellipses()))
 
 
 def column(name: str, table: Table) -> Made:

@@ -3,6 +3,7 @@
 All of it is told once for the whole image, so that it is the same in every window.
 """
 import dataclasses
+import functools
 import math
 from typing import Dict, Iterator, List, Optional, Tuple, Union
 
@@ -48,22 +49,31 @@ class Way:
         """
         if not area:
             return 0.0
-        together = smoothing.correlated(self.smooth)
-        return light / scaling.SIGMA / math.sqrt(self.variance(level) * area * min(area, together))
+        variance = 1.0 + max(level, 0) * self._own_noise
+        return light / scaling.SIGMA / math.sqrt(variance * area * min(area, self._together))
 
     @property
     def patch(self) -> float:
         """How many pixels of a wide source have one peak of noise."""
-        return PATCH * smoothing.correlated(self.smooth)
+        return PATCH * self._together
+
+    @functools.cached_property
+    def _together(self) -> float:
+        """How many pixels share their noise."""
+        return smoothing.correlated(self.smooth)
+
+    @functools.cached_property
+    def _own_noise(self) -> float:
+        """How much a level of 1 in the program's numbers adds to the variance of the noise, over that of the sky."""
+        if not self.electrons:
+            return 0.0
+        return self.noise / (scaling.SIGMA * math.sqrt(self._together)) / self.electrons
 
     def variance(self, level: Union[int, numpy.ndarray]) -> Union[float, numpy.ndarray]:
         """The variance of the noise at a level in the program's numbers, over that of the sky: what a pixel of the
         unsmoothed image has there, in deviations of its noise, adds its own electrons.
         """
-        if not self.electrons:
-            return 1.0
-        unsmoothed = self.noise / (scaling.SIGMA * math.sqrt(smoothing.correlated(self.smooth)))
-        return 1 + numpy.maximum(level, 0) * (unsmoothed / self.electrons)
+        return 1.0 + numpy.maximum(level, 0) * self._own_noise
 
     @property
     def meta(self) -> Dict[str, float]:

@@ -11,11 +11,11 @@ import math
 from typing import TYPE_CHECKING, Callable, Iterator, List, Optional, Tuple
 
 import numpy
-from astropy.table import Table
 
 from . import beside, looks, photometry, pointlike, scaling, shapes, sky, smoothing, tiles, windowed
 from .errors import Mistake
 from .fields import Field, noise_of
+from .rows import Rows, behind_each_other
 from .tiles import Box
 
 if TYPE_CHECKING:
@@ -113,7 +113,7 @@ class _Window:
         level = self.found.level(box.rows, box.columns)
         return level, noise_beside(self.detector.field, self.found, self.own, box.rows, box.columns)
 
-    def __call__(self, item: Tuple[Box, Table, numpy.ndarray]) -> Table:
+    def __call__(self, item: Tuple[Box, Rows, numpy.ndarray]) -> Rows:
         box, rows, segments = item
         field, settings = self.detector.field, self.detector.settings
         found = photometry.measured(
@@ -143,7 +143,7 @@ class _Window:
         scale = how.noise / scaling.SIGMA / math.sqrt(smoothing.correlated(how.smooth))
         return shapes.Seen(scale, how.smooth, field.values is None)
 
-    def _beside(self, box: Box, found: Table) -> Tuple[numpy.ndarray, numpy.ndarray]:
+    def _beside(self, box: Box, found: Rows) -> Tuple[numpy.ndarray, numpy.ndarray]:
         """The level of the sky at the middles of sources in a window, and by how much a pixel of the smoothed image has
         to stand above the level there to be a source's, in the image's units.
         """
@@ -159,7 +159,7 @@ class _Window:
         return level + plane.origin, noise * how.threshold * self.seen.scale
 
 
-def _needed(table: Table, reach: numpy.ndarray, shape: Tuple[int, int]) -> List[Box]:
+def _needed(table: Rows, reach: numpy.ndarray, shape: Tuple[int, int]) -> List[Box]:
     """For each source the box of the image that holds it with its neighbours, and all that is so near its centre."""
     sides = []
     for name, side in zip("YX", shape):
@@ -170,7 +170,7 @@ def _needed(table: Table, reach: numpy.ndarray, shape: Tuple[int, int]) -> List[
     return [Box(*bounds) for bounds in zip(*sides)]
 
 
-def _blocks(table: Table, shape: Tuple[int, int]) -> Iterator[Tuple[Box, numpy.ndarray]]:
+def _blocks(table: Rows, shape: Tuple[int, int]) -> Iterator[Tuple[Box, numpy.ndarray]]:
     """The windows of the blocks that have sources, each with the places of their rows."""
     at = [
         numpy.clip((numpy.asarray(table[name]) - 1000) // (1000 * BLOCK), 0, (side - 1) // BLOCK)
@@ -192,12 +192,12 @@ def measured(
     detector: "Detector",
     found: Optional[sky.Sky],
     points: Optional[pointlike.PointSources],
-    table: Table,
+    table: Rows,
     segments: numpy.ndarray,
     executor: Executor = None,
     progress: Callable[[int], None] = lambda count: None,
     own: Optional[sky.Sky] = None,
-) -> Table:
+) -> Rows:
     """The columns of photometry for the sources of a field, whose map this is, above this sky and by these point
     sources. `own` is the sky of what is measured in with all that is in it, by default the detector's.
     """
@@ -223,4 +223,4 @@ def measured(
             break
         waiting = iter(windows)
     order = numpy.argsort(numpy.concatenate(where))
-    return Table({name: numpy.concatenate([it[name] for it in answers])[order] for name in answers[0].colnames})
+    return behind_each_other(answers)[order]

@@ -2,9 +2,9 @@
 from typing import Dict, List, NamedTuple, Optional, Tuple
 
 import numpy
-from astropy.table import Table, vstack
 
 from .columns import CATALOGUE
+from .rows import Rows, behind_each_other
 
 __all__ = ["rows", "stacked"]
 
@@ -44,7 +44,7 @@ def _pixels(numbers: numpy.ndarray, labels: numpy.ndarray, wanted: numpy.ndarray
     """The pixels of some labels, in the order of these."""
     place = numpy.full(int(labels.max(initial=0)) + 1, len(wanted))
     place[wanted] = numpy.arange(len(wanted))
-    at = numpy.flatnonzero(labels)
+    at = numpy.flatnonzero(labels != 0)
     of = place[labels.ravel()[at]]
     at, of = at[of < len(wanted)], of[of < len(wanted)]
     order = numpy.argsort(of, kind="stable")
@@ -55,7 +55,7 @@ def _pixels(numbers: numpy.ndarray, labels: numpy.ndarray, wanted: numpy.ndarray
 
 def rows(
     numbers: numpy.ndarray, labels: numpy.ndarray, wanted: numpy.ndarray, bases: List[Optional[int]]
-) -> Tuple[Table, numpy.ndarray]:
+) -> Tuple[Rows, numpy.ndarray]:
     """The rows of some labels' nodes, and a map of them alone.
 
     A node has the pixels of its label above its base. A base of None stands for the greatest number beside the label:
@@ -69,7 +69,7 @@ def rows(
     base = numpy.where(base == none, pixels.least(pixels.values), base)
     whole[pixels.rows, pixels.columns] = pixels.each(wanted)
     columns = {"NUMBER": wanted, **_columns(pixels, base)}
-    return Table({name: it.astype(_type(name)) for name, it in columns.items()}), whole
+    return Rows({name: it.astype(_type(name)) for name, it in columns.items()}), whole
 
 
 def _type(name: str) -> str:
@@ -114,6 +114,6 @@ def _columns(pixels: _Sorted, base: numpy.ndarray) -> Dict[str, numpy.ndarray]:
     return columns
 
 
-def stacked(one: Table, other: Table) -> Table:
+def stacked(one: Rows, other: Rows) -> Rows:
     """The rows of two catalogues of the program's columns."""
-    return vstack([one, other[one.colnames]], metadata_conflicts="silent") if len(one) else other[one.colnames]
+    return behind_each_other([one, other]) if len(one) else other[one.colnames]

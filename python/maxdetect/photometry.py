@@ -11,16 +11,17 @@ Kron radius is the mean distance of the light, and at least 3.5 standard deviati
 pixels. FLUX_TOTAL has besides what point sources of the same image have further out (`totals`). Pixels of other
 sources count as sky in each aperture.
 """
+import functools
 from typing import Callable, Dict, NamedTuple, Optional, Sequence, Tuple, Union
 
 import numpy
 import sep
-from astropy.table import Table
 
 from . import beside, boxes, shapes, totals
 from .beside import unit_of
-from .noise import of_array
+from .estimates import of_array
 from .pointlike import PointSources
+from .rows import Rows
 from .sky import grown
 from .stamps import LEFT_OUT
 
@@ -66,6 +67,8 @@ FLAGS = {
 # The Kron radius is sought within this many standard deviations of a source's light, as Source Extractor does; how many
 # Kron radii its ellipse reaches, and how many standard deviations at least, where nothing else is asked.
 KRON_REACH, KRON = 6.0, (2.5, 3.5)
+# Undefined pixels are first looked for in squares of so many pixels along a side.
+COARSE = 8
 # The diameter of the circular aperture in pixels.
 APERTURE = 10.0
 
@@ -134,7 +137,7 @@ def sky(
     return found.level(*everywhere), found.noises(*everywhere) if local else found.noise
 
 
-def ellipses(catalogue: Table) -> Tuple[numpy.ndarray, numpy.ndarray, numpy.ndarray]:
+def ellipses(catalogue: Rows) -> Tuple[numpy.ndarray, numpy.ndarray, numpy.ndarray]:
     """Half axes A and B in pixels, and the angle of A in degrees from the x axis towards the y axis, of the ellipses
     with a kernel catalogue's moments.
 
@@ -149,7 +152,7 @@ def ellipses(catalogue: Table) -> Tuple[numpy.ndarray, numpy.ndarray, numpy.ndar
     return long, numpy.minimum(short, long), numpy.degrees(numpy.arctan2(2 * xy, xx - yy) / 2)
 
 
-def reach(catalogue: Table, points: Optional[PointSources] = None, least: float = APERTURE / 2) -> numpy.ndarray:
+def reach(catalogue: Rows, points: Optional[PointSources] = None, least: float = APERTURE / 2) -> numpy.ndarray:
     """How far from their centres sources are looked at, in pixels, before their Kron radii are known."""
     circle = max(least, totals.reach(points))
     return numpy.maximum(KRON_REACH * ellipses(catalogue)[0] / 2, circle) + 2
@@ -162,6 +165,23 @@ def _noise(noise: Numbers, shape: Tuple[int, int]) -> Numbers:
     if numpy.shape(noise) != shape:
         raise ValueError(f"the noise has the sides {numpy.shape(noise)}, the image {shape}")
     return numpy.ascontiguousarray(noise, dtype="f4")
+
+
+def _defined(image: numpy.ndarray, mask: Optional[numpy.ndarray], noise: Numbers) -> Tuple[numpy.ndarray, Numbers]:
+    """Which pixels have no value or no noise, and the noise, 0 where there is none."""
+    undefined, noise = _undefined(image, mask), _noise(noise, numpy.shape(image))
+    if numpy.ndim(noise):
+        unknown = ~numpy.isfinite(noise)
+        if unknown.any():
+            return undefined | unknown, numpy.where(unknown, 0, noise)
+    return undefined, noise
+
+
+def _pixels_of(segments: numpy.ndarray, numbers: numpy.ndarray) -> _Pixels:
+    """The pixels of a map that belong to sources, among them those with these numbers."""
+    places = numpy.flatnonzero(segments.ravel() > 0)
+    within = segments.ravel()[places]
+    return _Pixels(places, within, int(max(within.max(initial=0), numbers.max(initial=0))) + 1)
 
 
 def residual_of(image: numpy.ndarray, background: Numbers, undefined: numpy.ndarray) -> numpy.ndarray:
@@ -208,7 +228,7 @@ def _flags(pixels, image, undefined, catalogue, numbers, saturation, threshold) 
     return flags
 
 
-def _gathered(pixels: _Pixels, residual: numpy.ndarray, catalogue: Table) -> numpy.ndarray:
+def _gathered(pixels: _Pixels, residual: numpy.ndarray, catalogue: Rows) -> numpy.ndarray:
     """By how much closer to the centre of its ellipse the light of a source lies than its pixels do: by root mean
     squares, in the catalogue's order, and 1 where it doesn't.
     """
@@ -247,22 +267,39 @@ def _half_light(residual, x, y, reach, flux, alone) -> numpy.ndarray:
     return half
 
 
+def _diameter(residual, x, y, reach, flux, alone) -> numpy.ndarray:
+    """The diameters that hold half of these fluxes; NaN where there is none."""
+    half = _half_light(residual, x, y, reach, numpy.nan_to_num(flux), alone)
+    return numpy.where((flux > 0) & (half > 0), 2 * half, numpy.nan)
+
+
 class _Holes:
     """The undefined pixels of an image, and which sources have one near them."""
 
     def __init__(self, undefined: numpy.ndarray):
         self.undefined = undefined
-        self._sums = boxes.sums(undefined, "i4") if undefined.any() else None
+        self._sums = None
+        if undefined.any():
+            tops, lefts = (numpy.arange(0, side, COARSE) for side in undefined.shape)
+            squares = numpy.logical_or.reduceat(numpy.logical_or.reduceat(undefined, tops, axis=0), lefts, axis=1)
+            self._sums = boxes.sums(squares, "i4")
+
+    @functools.cached_property
+    def images(self) -> Tuple[numpy.ndarray, numpy.ndarray]:
+        """Images as SEP takes them: 1 at undefined pixels and else 0, and 1 everywhere."""
+        return self.undefined.astype("f4"), numpy.ones(self.undefined.shape, dtype="f4")
 
     def near(self, x: numpy.ndarray, y: numpy.ndarray, reach: numpy.ndarray) -> numpy.ndarray:
-        """The places of the sources that have one so near their centres, by columns and rows."""
+        """The places of all sources that have one so near their centres, by columns and rows, and of some that have one
+        a little further off.
+        """
         if self._sums is None:
             return numpy.zeros(0, dtype=int)
-        bounds = [
-            numpy.clip(at, 0, side).astype(int)
-            for centre, side in zip((y, x), self.undefined.shape)
-            for at in (numpy.floor(centre - reach) - 1, numpy.ceil(centre + reach) + 2)
-        ]
+        bounds = []
+        for centre, side in zip((y, x), self.undefined.shape):
+            low, high = numpy.floor(centre - reach) - 1, numpy.ceil(centre + reach) + 2
+            bounds.append(numpy.clip(low, 0, side).astype(int) // COARSE)
+            bounds.append(-(-numpy.clip(high, 0, side).astype(int) // COARSE))
         return numpy.flatnonzero(boxes.within(self._sums, *bounds))
 
 
@@ -286,8 +323,7 @@ class _Apertures:
         flux, error, told = self._sum(residual, err=noise, **alone)
         holed, near = numpy.zeros(len(flux), dtype=bool), holes.near(*self.places[:2], self.reach)
         if near.size:
-            unseen, _, _ = self._sum(holes.undefined.astype("f4"), near)
-            area, _, _ = self._sum(numpy.ones(residual.shape, dtype="f4"), near)
+            unseen, area = (self._sum(image, near)[0] for image in holes.images)
             with numpy.errstate(divide="ignore"):
                 times = numpy.where(area > unseen, area / (area - unseen), numpy.nan)
             times, near = times[unseen > 0], near[unseen > 0]
@@ -303,7 +339,7 @@ def measured(
     background: Numbers,
     noise: Numbers,
     segments: numpy.ndarray,
-    catalogue: Table,
+    catalogue: Rows,
     *,
     mask: Optional[numpy.ndarray] = None,
     gain: Optional[float] = None,
@@ -315,7 +351,7 @@ def measured(
     struck: Optional[numpy.ndarray] = None,
     seen: Optional[shapes.Seen] = None,
     vignet: int = 0,
-) -> Table:
+) -> Rows:
     """The photometry of the sources of a segmentation map, a row for each row of `catalogue`.
 
     `image` has two dimensions and any units; it is undefined where it is NaN or masked, `mask` is true or the noise
@@ -342,17 +378,10 @@ def measured(
     shape = numpy.shape(image)
     if numpy.shape(segments) != shape:
         raise ValueError(f"the map has the sides {numpy.shape(segments)}, the image {shape}")
-    undefined, noise = _undefined(image, mask), _noise(noise, shape)
-    if numpy.ndim(noise):
-        unknown = ~numpy.isfinite(noise)
-        if unknown.any():
-            undefined, noise = undefined | unknown, numpy.where(unknown, 0, noise)
+    undefined, noise = _defined(image, mask, noise)
     residual = residual_of(image, background, undefined)
-    segments = numpy.ascontiguousarray(segments, dtype="i4")
-    places = numpy.flatnonzero(segments.ravel() > 0)
-    numbers = numpy.asarray(catalogue["NUMBER"], dtype="i4")
-    within = segments.ravel()[places]
-    pixels = _Pixels(places, within, int(max(within.max(initial=0), numbers.max(initial=0))) + 1)
+    segments, numbers = numpy.ascontiguousarray(segments, dtype="i4"), numpy.asarray(catalogue["NUMBER"], dtype="i4")
+    pixels = _pixels_of(segments, numbers)
     unit = unit_of(noise)
     residual *= numpy.float32(1 / unit)
     noise, gain = noise / (unit if numpy.ndim(noise) == 0 else numpy.float32(unit)), gain and gain * unit
@@ -366,13 +395,13 @@ def measured(
     split = (flags & SPLIT) != 0
     segments = numpy.abs(segments)
     sums = _apertures((*how, _Holes(undefined)), segments, catalogue, gathered, apertures, points, split, kron)
-    table = Table({"X": numpy.asarray(catalogue["XCEN"]) / 1000, "Y": numpy.asarray(catalogue["YCEN"]) / 1000})
+    table = Rows({"X": numpy.asarray(catalogue["XCEN"]) / 1000, "Y": numpy.asarray(catalogue["YCEN"]) / 1000})
     table["FLUX_ISO"], table["FLUXERR_ISO"] = flux[numbers] * unit, error[numbers] * unit
     flags |= sums.pop("FLAGS")
     more = shapes.columns(
         shapes.Scene(*how, undefined, segments), seen, defined, catalogue, sums["FLUX_RADIUS"], vignet
     )
-    for name, values in {**sums, **more}.items():
+    for name, values in [*sums.items(), *more.items()]:
         table[name] = _in_units(name, values, unit)
     table["FLAGS"] = flags.astype("i4")
     return table
@@ -408,10 +437,9 @@ def _apertures(how, segments, catalogue, gathered, diameters, points, split, kro
     circles = [numpy.stack(it, axis=-1) for it in zip(*(circle(diameter / 2) for diameter in diameters))]
     in_circle, circle_error = (it[:, 0] if len(diameters) == 1 else it for it in circles)
     total, total_error = totals.of(points, circle, flux, error, radius * numpy.sqrt(axes[0] * axes[1]), split)
-    far, diameters_of_half = numpy.maximum(radius * axes[0], totals.reach(points)), []
-    for light, within in ((flux, radius * axes[0]), (total, far))[: 1 if points is None else 2]:
-        half = _half_light(residual, x, y, within, numpy.nan_to_num(light), alone)
-        diameters_of_half.append(numpy.where((light > 0) & (half > 0), 2 * half, numpy.nan))
+    reaches = radius * axes[0], numpy.maximum(radius * axes[0], totals.reach(points))
+    lights = list(zip((flux, total), reaches))[: 1 if points is None else 2]
+    diameters_of_half = [_diameter(residual, x, y, within, light, alone) for light, within in lights]
     flags = CROWDED * (((told & sep.APER_HASMASKED) != 0) | holed) | BEYOND * ((told & sep.APER_TRUNC) != 0)
     return {
         "FLUX_AUTO": flux,

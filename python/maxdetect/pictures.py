@@ -14,7 +14,7 @@ from astropy.table import Table
 from .errors import Mistake
 from .tables import whole_file
 
-__all__ = ["draw", "outlines"]
+__all__ = ["draw", "outlines", "reduced"]
 
 COLOURS = ("red", "dodgerblue", "limegreen", "darkorange", "magenta")
 # How many pixels of an image a panel shows at most along its longer side.
@@ -50,7 +50,7 @@ def _in_squares(array: numpy.ndarray, step: int, fill) -> numpy.ndarray:
     return padded.reshape(padded.shape[0] // step, step, padded.shape[1] // step, step)
 
 
-def _reduced(image: numpy.ndarray, step: int) -> numpy.ndarray:
+def reduced(image: numpy.ndarray, step: int) -> numpy.ndarray:
     """Means over squares of pixels, of those that have a value; NaN where none has."""
     if step == 1:
         return image
@@ -182,7 +182,7 @@ def draw(
     part = image[rows, columns]
     step = -(-max(part.shape) // PANEL)
     extent = (columns.start + 0.5, columns.stop + 0.5, rows.start + 0.5, rows.stop + 0.5)
-    shown = _reduced(numpy.ma.filled(numpy.ma.asarray(part, dtype="f4"), numpy.nan), step)
+    shown = reduced(numpy.ma.filled(numpy.ma.asarray(part, dtype="f4"), numpy.nan), step)
     # The last squares may reach beyond the image.
     whole = (extent[0], extent[0] + shown.shape[1] * step, extent[2], extent[2] + shown.shape[0] * step)
     norm, sky = _stretch(shown)

@@ -7,13 +7,14 @@ The wider what they stand on is, the more peaks of noise it has, and the more de
 the root of twice the logarithm of their number. What is left are nodes of the same tree: each reaches down to where it
 meets the next one. So what is made of a component depends on its own pixels alone.
 """
+import bisect
 import math
 from typing import Callable, List, NamedTuple, Tuple
 
 import numpy
-from astropy.table import Table
 
 from . import nodes
+from .rows import Rows
 
 __all__ = ["Parts", "Significance", "sources"]
 
@@ -111,14 +112,16 @@ class _Light:
         greatest = numpy.iinfo("i4").max
         keys = (labels[inside].astype("i8") << 32) + (greatest - grid.numbers[grid.places[inside]].astype("i8"))
         keys.sort()
-        self.falling = (keys & (2**32 - 1)) - greatest
-        self.sums = numpy.concatenate([[0], -numpy.cumsum(self.falling)])
-        self.starts = numpy.searchsorted(keys >> 32, numpy.arange(count + 2))
+        falling = (keys & (2**32 - 1)) - greatest
+        # As Python's own numbers, since parts are asked for one by one.
+        self.falling = falling.tolist()
+        self.sums = [0, *(-numpy.cumsum(falling)).tolist()]
+        self.starts = numpy.searchsorted(keys >> 32, numpy.arange(count + 2)).tolist()
 
     def above(self, part: int, level: int) -> Tuple[int, int]:
-        begin, end = self.starts[part], self.starts[part + 1]
-        area = int(numpy.searchsorted(self.falling[begin:end], -level))
-        return area, int(self.sums[begin + area] - self.sums[begin]) - area * level
+        begin = self.starts[part]
+        end = bisect.bisect_left(self.falling, -level, begin, self.starts[part + 1])
+        return end - begin, self.sums[end] - self.sums[begin] - (end - begin) * level
 
 
 def _needed(area: int, least: float, patch: float) -> float:
@@ -134,7 +137,7 @@ def _owners(
     members = {part: [part] for part in owner}
 
     def above(group: int, level: int) -> Tuple[int, int]:
-        areas, fluxes = zip(*(light.above(part, level) for part in members[group]))
+        areas, fluxes = zip(*[light.above(part, level) for part in members[group]])
         return sum(areas), sum(fluxes)
 
     for one, other, level in zip(*meetings):
@@ -156,14 +159,14 @@ class Parts(NamedTuple):
     pixel of a source's component belongs to a source.
     """
 
-    catalogue: Table
+    catalogue: Rows
     segments: numpy.ndarray
     labels: numpy.ndarray
 
 
 def sources(
     numbers: numpy.ndarray,
-    catalogue: Table,
+    catalogue: Rows,
     segments: numpy.ndarray,
     threshold: int,
     significance: Significance,
@@ -195,7 +198,7 @@ def sources(
     return _with_changed(catalogue, segments, labels, owner, changed, whole)
 
 
-def _with_changed(catalogue, segments, labels, owner, changed: Table, whole: numpy.ndarray) -> Parts:
+def _with_changed(catalogue, segments, labels, owner, changed: Rows, whole: numpy.ndarray) -> Parts:
     """The rows and the maps with the nodes that parts make together, numbered by their first pixels."""
     alone = owner == numpy.arange(len(owner))
     alone[0] = False
@@ -208,7 +211,7 @@ def _with_changed(catalogue, segments, labels, owner, changed: Table, whole: num
     new[numpy.asarray(rows["NUMBER"])] = numpy.arange(1, len(rows) + 1)
     rows["NUMBER"] = numpy.arange(1, len(rows) + 1, dtype=rows["NUMBER"].dtype)
     # Only where there are sources, which is far from everywhere.
-    places, shown, gapless = numpy.flatnonzero(labels), numpy.zeros_like(labels), numpy.zeros_like(labels)
+    places, shown, gapless = numpy.flatnonzero(labels != 0), numpy.zeros_like(labels), numpy.zeros_like(labels)
     own, nodes_there = segments.ravel()[places], whole.ravel()[places]
     shown.ravel()[places] = new[numpy.where(joined[own] | (nodes_there != 0), nodes_there, own)]
     gapless.ravel()[places] = new[labels.ravel()[places]]

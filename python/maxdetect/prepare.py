@@ -10,8 +10,9 @@ from typing import List, Optional
 from astropy.utils.exceptions import AstropyWarning
 
 from . import images, scaling
-from .cli import mesh_side, sigmas, told, with_image
 from .errors import Mistake
+from .options import mesh_side, sigmas
+from .telling import told, with_image
 from .words import Parser, whole
 
 DESCRIPTION = """Makes an image of whole numbers whose noise is 30, with the sky left in, and prints the command that

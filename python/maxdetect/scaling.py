@@ -4,7 +4,7 @@ from typing import Optional, Tuple, Union
 
 import numpy
 
-from .noise import floats, of_array
+from .estimates import floats, of_array
 
 SIGMA = 30
 BLANK = -(2**31)

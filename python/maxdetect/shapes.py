@@ -2,10 +2,10 @@
 from typing import Dict, NamedTuple, Optional
 
 import numpy
-from astropy.table import Table
 
 from . import smoothing, stamps, windowed
 from .pointlike import PointSources
+from .rows import Rows
 
 __all__ = ["Scene", "Seen", "columns", "stellarity"]
 
@@ -48,11 +48,14 @@ def stellarity(diameter: numpy.ndarray, points: Optional[PointSources]) -> numpy
 
 def _peaks(values: numpy.ndarray, numbers: numpy.ndarray, places: numpy.ndarray, length: int, width: int):
     """The greatest value of each source, by number, NaN where it has none, with its column and row, from 1."""
-    order = numpy.lexsort((-places, values, numbers))
-    last = order[numpy.flatnonzero(numpy.diff(numbers[order], append=-1))]
     peak, at = numpy.full(length, numpy.nan), numpy.zeros((2, length), dtype="i4")
-    peak[numbers[last]] = values[last]
-    at[:, numbers[last]] = numpy.array(numpy.divmod(places[last], width)) + 1
+    # Short numbers are sorted in one pass.
+    order = numpy.argsort(numbers.astype("u2") if length <= 2**16 else numbers, kind="stable")
+    starts = numpy.flatnonzero(numpy.diff(numbers[order], prepend=-1))
+    peak[numbers[order[starts]]] = numpy.maximum.reduceat(values[order], starts) if starts.size else numpy.nan
+    # Of several places the last one that is written stays, which is the first.
+    greatest = numpy.flatnonzero(values == peak[numbers])[::-1]
+    at[:, numbers[greatest]] = numpy.array(numpy.divmod(places[greatest], width)) + 1
     return peak, at[1], at[0]
 
 
@@ -61,7 +64,7 @@ def _narrower(area: numpy.ndarray, smooth: float) -> numpy.ndarray:
     return (area / (area + smoothing.correlated(smooth))) ** 2
 
 
-def _of_centres(scene: Scene, seen: Seen, pixels, catalogue: Table) -> Dict[str, numpy.ndarray]:
+def _of_centres(scene: Scene, seen: Seen, pixels, catalogue: Rows) -> Dict[str, numpy.ndarray]:
     """The error ellipses of X and Y, the means over a source's pixels weighted by what stands above its base."""
     numbers = numpy.asarray(catalogue["NUMBER"])
     centre = numpy.zeros((2, pixels.length))
@@ -82,14 +85,14 @@ def _of_centres(scene: Scene, seen: Seen, pixels, catalogue: Table) -> Dict[str,
     return dict(zip(("ERRA", "ERRB", "ERRTHETA"), windowed.ellipse(*sums)))
 
 
-def columns(scene: Scene, seen: Optional[Seen], pixels, catalogue: Table, half: numpy.ndarray, vignet: int) -> Table:
+def columns(scene: Scene, seen: Optional[Seen], pixels, catalogue: Rows, half: numpy.ndarray, vignet: int) -> Rows:
     """The columns of sources beside their fluxes, in the units of the residual. `pixels` are the sources' own that have
     a value, `half` the radii that hold half of their light, and `vignet` the side of the vignets, or 0.
     """
     numbers = numpy.asarray(catalogue["NUMBER"], dtype="i4")
     x, y = (numpy.asarray(catalogue[f"{axis}CEN"], dtype="f8") / 1000 - 1 for axis in "XY")
     found = windowed.of(*scene, numbers, x, y, half)
-    made = Table() if seen is None else Table(_of_centres(scene, seen, pixels, catalogue))
+    made = Rows({} if seen is None else _of_centres(scene, seen, pixels, catalogue))
     known = numpy.isfinite(found["XWIN"])
     for name, place in (("XWIN", x), ("YWIN", y)):
         made[name] = numpy.where(known, found[name], place) + 1

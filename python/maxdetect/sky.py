@@ -6,7 +6,7 @@ mean over 3 by 3 pixels lies three deviations of such means off, and those five 
 neither comes in steps on images of whole numbers, and a crowd of stars hardly moves them.
 """
 import dataclasses
-from typing import Callable, Optional, Tuple
+from typing import Callable, List, Optional, Tuple
 
 import numpy
 from scipy import ndimage
@@ -18,6 +18,8 @@ HOT, REACH, CLIP = 3.5, 3, 5.0
 KEPT = 0.997
 # Sampled pixels along a side of a cell, for the first guess.
 SAMPLED = 32
+# Rows of cells that are looked at in one go.
+AT_ONCE = 8
 # The part of a cell that has to be left for its level to count.
 ENOUGH = 0.1
 
@@ -296,11 +298,37 @@ def _bands(height: int, mesh: int):
     return [slice(top, min(top + mesh, height)) for top in range(0, height, mesh)]
 
 
-def of(read: Reader, shape: Tuple[int, int], mesh: int = 64, relative: Optional[Reader] = None) -> Sky:
+@dataclasses.dataclass
+class _SecondLook:
+    """The second look at some rows of cells, whose numbers are given: by the first look at all of them."""
+
+    read: Reader
+    relative: Optional[Reader]
+    shape: Tuple[int, int]
+    mesh: int
+    zero: float
+    guess: numpy.ndarray
+    deviation: numpy.ndarray
+    quanta: List[numpy.ndarray]
+
+    def __call__(self, numbers: range) -> list:
+        found, columns = [], slice(0, self.shape[1])
+        for row in numbers:
+            rows = slice(row * self.mesh, min((row + 1) * self.mesh, self.shape[0]))
+            residual = (self.read(rows) - self.zero).astype("f4", copy=False)
+            residual -= between(self.guess, self.mesh, rows, columns)
+            relative = None if self.relative is None else self.relative(rows)
+            found.append(_second_row(residual, relative, self.deviation[row], self.quanta[row], self.mesh))
+        return found
+
+
+def of(
+    read: Reader, shape: Tuple[int, int], mesh: int = 64, relative: Optional[Reader] = None, each: Callable = map
+) -> Sky:
     """The sky of an image that is read by rows, NaN where it is undefined: twice, a row of cells at a time.
 
-    `relative` reads a map of its noise, in any units; the deviations are then in these. Raises ValueError where no
-    pixel is defined.
+    `relative` reads a map of its noise, in any units; the deviations are then in these. `each` calls a function for
+    each of several items, in order, as `map` does. Raises ValueError where no pixel is defined.
     """
     rng, bands = numpy.random.default_rng(1), _bands(shape[0], mesh)
     first = [
@@ -319,12 +347,9 @@ def of(read: Reader, shape: Tuple[int, int], mesh: int = 64, relative: Optional[
         raise ValueError(f"its noise of {middle:.3g} is too far from 1; scale the image")
     if relative is not None:
         deviation = _in_units(deviation, relative, bands, mesh)
-    columns, second = slice(0, shape[1]), []
-    for row, rows in enumerate(bands):
-        residual = (read(rows) - zero).astype("f4", copy=False) - between(guess, mesh, rows, columns)
-        second.append(
-            _second_row(residual, None if relative is None else relative(rows), deviation[row], first[row][3], mesh)
-        )
+    look = _SecondLook(read, relative, shape, mesh, zero, guess, deviation, [row[3] for row in first])
+    parts = (range(row, min(row + AT_ONCE, len(bands))) for row in range(0, len(bands), AT_ONCE))
+    second = [row for part in each(look, parts) for row in part]
     mean, spread, count, there = (numpy.array(part) for part in zip(*second))
     return Sky(shape, mesh, zero, *_joined(guess, mean, spread, count, there))
 

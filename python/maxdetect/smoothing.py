@@ -84,7 +84,9 @@ def noise_behind(read: Callable[[slice], numpy.ndarray], height: int, width: flo
     side = max(LEAST_CELL, math.ceil(CELL * width))
     tops = numpy.arange(0, max(height - side, 0) + 1, side)
     chosen = tops[numpy.linspace(0, len(tops) - 1, min(len(tops), MOST_BANDS)).astype(int)]
-    bands = numpy.concatenate([read(slice(top, min(top + side, height))) for top in chosen.tolist()])
+    # Rows of cells that lie side by side are read at once.
+    runs = numpy.split(chosen, numpy.flatnonzero(numpy.diff(chosen) != side) + 1)
+    bands = numpy.concatenate([read(slice(int(run[0]), min(int(run[-1]) + side, height))) for run in runs])
     # A cell's own mean takes a part of what its few pixels vary together.
     lost = min(0.9, correlated(width) / side**2)
     return sky.of(lambda rows: bands[rows], bands.shape, side).noise / math.sqrt(1 - lost)

@@ -29,16 +29,35 @@ class Stamps(NamedTuple):
         return image[rows[:, :, None], columns[:, None, :]]
 
 
-def _cut(image, undefined, segments, numbers, middle, half) -> Stamps:
-    """The windows of `half` pixels around these pixels, for sources with these numbers."""
-    rows, columns = (it[:, None] + numpy.arange(-half, half + 1) for it in middle)
-    made = Stamps(numpy.arange(len(numbers)), rows, columns, image, image)
-    inside = ((rows >= 0) & (rows < image.shape[0]))[:, :, None] & ((columns >= 0) & (columns < image.shape[1]))[
-        :, None
-    ]
-    there = made.taken(segments)
-    own = inside & ~made.taken(undefined) & ((there == 0) | (there == numbers[:, None, None]))
-    return made._replace(values=numpy.where(inside, made.taken(image), 0), own=own)
+class _Wide:
+    """An image and its map with a margin of undefined pixels, so wide that no window reaches beyond it; of an undefined
+    pixel the map says that it is another source's, by a number below 0.
+    """
+
+    def __init__(self, image: numpy.ndarray, undefined: numpy.ndarray, segments: numpy.ndarray, margin: int):
+        self.image, self.margin = image, margin
+        self.segments = numpy.where(undefined, numpy.int32(-1), segments) if undefined.any() else segments
+        if margin:
+            self.image, self.segments = (
+                numpy.pad(it, margin, constant_values=beyond) for it, beyond in ((image, 0), (self.segments, -1))
+            )
+
+    def cut(self, numbers: numpy.ndarray, middle: Tuple[numpy.ndarray, numpy.ndarray], half: int) -> Stamps:
+        """The windows of `half` pixels around these pixels, for sources with these numbers."""
+        rows, columns = (it[:, None] + numpy.arange(-half, half + 1) for it in middle)
+        corner = rows[:, 0] + self.margin, columns[:, 0] + self.margin
+        values, there = (
+            numpy.lib.stride_tricks.sliding_window_view(it, (2 * half + 1, 2 * half + 1))[corner]
+            for it in (self.image, self.segments)
+        )
+        own = (there == 0) | (there == numbers[:, None, None])
+        return Stamps(numpy.arange(len(numbers)), rows, columns, values, own)
+
+
+def _beyond(middle: Tuple[numpy.ndarray, numpy.ndarray], half: numpy.ndarray, shape: Tuple[int, int]) -> int:
+    """How many pixels windows reach beyond an image."""
+    ends = [(half - at, at + half + 1 - side) for at, side in zip(middle, shape)]
+    return max(0, int(max(end.max(initial=0) for pair in ends for end in pair)))
 
 
 def batches(
@@ -53,12 +72,13 @@ def batches(
     those that reach as many whole pixels, `half`, from their middles.
     """
     middle = tuple(numpy.round(it).astype(int) for it in centre)
+    wide = _Wide(image, undefined, segments, _beyond(middle, half, image.shape))
     for size in numpy.unique(half):
         places = numpy.flatnonzero(half == size)
         count = max(1, MOST // (2 * int(size) + 1) ** 2)
         for first in range(0, len(places), count):
             some = places[first : first + count]
-            found = _cut(image, undefined, segments, numbers[some], [it[some] for it in middle], int(size))
+            found = wide.cut(numbers[some], tuple(it[some] for it in middle), int(size))
             yield found._replace(places=some)
 
 

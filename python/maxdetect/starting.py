@@ -1,6 +1,7 @@
 """How a command begins and ends: what Python lacks is told in one line, and a signal ends it in silence.
 
-The package loads this module before all others, so it stands on Python's own library alone.
+The package loads this module before all others, and the others when they are wanted, so it stands on Python's own
+library alone.
 """
 import contextlib
 import importlib.util
@@ -24,11 +25,11 @@ def _is_command() -> bool:
     return pathlib.PurePath(word).name == "maxcat"
 
 
-def _lacking(error: ImportError) -> str:
-    """What isn't there, and how to get it, in one line."""
+def _lacking() -> str:
+    """What isn't there, and how to get it, in one line; empty where nothing lacks."""
     names = [name for name in WANTED if importlib.util.find_spec(name) is None]
     if not names:
-        return " ".join(str(error).split())
+        return ""
     packages = " ".join(f"python3-{name}" for name in names)
     return f"Python lacks {', '.join(names)} (Debian: apt-get install {packages}; else: pip install {' '.join(names)})"
 
@@ -37,23 +38,28 @@ def _end_at_once(number, frame) -> NoReturn:
     os._exit(128 + number)
 
 
-@contextlib.contextmanager
-def loading() -> Iterator[None]:
-    """Within, the package is loaded. Where that is for a command, an interrupt ends it from here on, and a module that
-    isn't there is told in one line, with status 2.
+def _by_another(lacking: str) -> None:
+    """Goes on in the Python that ./maxcat names beside its own, where that is another one."""
+    other = os.environ.pop("MAXDETECT_PYTHON", "")
+    if lacking and os.path.isfile(other) and not os.path.samefile(other, sys.executable):
+        os.execv(other, [other, "-m", "maxdetect.cli", *sys.argv[1:]])
+
+
+def begin() -> None:
+    """Where the package is loaded for a command, an interrupt ends it from here on, and a module that isn't there is
+    told in one line, with status 2.
     """
     if not _is_command():
-        yield
         return
+    lacking = _lacking()
+    _by_another(lacking)
     if signal.getsignal(signal.SIGINT) is signal.default_int_handler:
         signal.signal(signal.SIGINT, _end_at_once)
     if hasattr(signal, "pthread_sigmask"):
         # ./maxcat holds an interrupt back until here.
         signal.pthread_sigmask(signal.SIG_UNBLOCK, [signal.SIGINT])
-    try:
-        yield
-    except ImportError as error:
-        print(f"maxdetect: {_lacking(error)}", file=sys.stderr)
+    if lacking:
+        print(f"maxdetect: {lacking}", file=sys.stderr)
         sys.exit(2)
 
 

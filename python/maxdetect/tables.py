@@ -14,19 +14,21 @@ import shutil
 import stat
 import tempfile
 import warnings
-from typing import Dict, Iterable, Iterator, List, Optional, Tuple, Union
+from typing import TYPE_CHECKING, Dict, Iterable, Iterator, List, NamedTuple, Optional, Tuple, Union
 
 import numpy
 from astropy import units
-from astropy.coordinates import SkyCoord
 from astropy.io import fits
 from astropy.table import Table
-from astropy.wcs import WCS, FITSFixedWarning
-from astropy.wcs.utils import proj_plane_pixel_area, wcs_to_celestial_frame
 
+from . import fitstables
 from .columns import CATALOGUE, MEASURES, Column
 from .errors import Mistake
+from .limits import FORMATS
 from .photometry import FLAGS
+
+if TYPE_CHECKING:
+    from astropy.wcs import WCS
 
 __all__ = [
     "FORMATS",
@@ -41,17 +43,6 @@ __all__ = [
     "write_map",
 ]
 
-# How a catalogue is written, by the end of its name.
-FORMATS = {
-    ".fits": "fits",
-    ".fit": "fits",
-    ".csv": "csv",
-    ".ecsv": "ecsv",
-    ".xml": "votable",
-    ".vot": "votable",
-    ".votable": "votable",
-    ".ldac": "ldac",
-}
 # The fluxes that `measured` gives, and what each is.
 FLUXES = {
     "ISO": "sum over the source's pixels",
@@ -121,6 +112,7 @@ WCS_CARDS = re.compile(
     r"|C(TYPE|RVAL|RPIX|DELT|UNIT|ROTA|RDER|SYER)[12]|(PC|CD)[12]_[12]|PC00[12]00[12]|(PV|PS)[12]_\d+"
     r"|[ABD]P?_(ORDER|DMAX|\d+_\d+))[A-Z]?"
 )
+DATES = ("DATE-OBS", "MJD-OBS")
 # Those of them that are numbers.
 WCS_NUMBERS = re.compile(r"C(RVAL|RPIX|DELT|ROTA)[12]|(PC|CD)[12]_[12]|PC00[12]00[12]|PV[12]_\d+|LONPOLE|LATPOLE")
 # Cards of a table's `meta` that FITS keeps for the structure of a file.
@@ -135,12 +127,16 @@ Image = Tuple[str, numpy.ndarray, Optional[fits.Header]]
 # ---- sky coordinates
 
 
-def _wcs(header: Union[None, fits.Header, WCS]) -> Optional[WCS]:
+def _wcs(header: Union[None, fits.Header, "WCS"]) -> Optional["WCS"]:
     """The celestial WCS of a header's first two axes, or None where it has none that can be read, which is warned
     of.
     """
-    if header is None or isinstance(header, WCS):
+    if header is None or not isinstance(header, fits.Header):
         return header if header is not None and header.has_celestial else None
+    if not any(WCS_CARDS.fullmatch(name) and name not in DATES for name in header):
+        return None
+    from astropy.wcs import WCS, FITSFixedWarning
+
     try:
         for card in header.cards:
             # wcslib passes over such a card, and takes 0 for its value.
@@ -157,18 +153,20 @@ def _wcs(header: Union[None, fits.Header, WCS]) -> Optional[WCS]:
     return wcs if wcs.has_celestial else None
 
 
-def _frame(wcs: WCS):
+def _frame(wcs: "WCS"):
     """astropy's frame of a WCS, or None where astropy knows none."""
     # astropy takes longitudes of another name for right ascensions where RADESYS is there.
     if wcs.wcs.ctype[wcs.wcs.lng].split("-")[0] not in ("RA", "GLON", "TLON"):
         return None
+    from astropy.wcs.utils import wcs_to_celestial_frame
+
     try:
         return wcs_to_celestial_frame(wcs)
     except ValueError:
         return None
 
 
-def _degrees(wcs: WCS, x: numpy.ndarray, y: numpy.ndarray) -> Tuple[numpy.ndarray, numpy.ndarray]:
+def _degrees(wcs: "WCS", x: numpy.ndarray, y: numpy.ndarray) -> Tuple[numpy.ndarray, numpy.ndarray]:
     """Longitudes and latitudes in the WCS's own frame; NaN where a place has none."""
     if not len(x):
         return numpy.zeros(0), numpy.zeros(0)
@@ -177,20 +175,51 @@ def _degrees(wcs: WCS, x: numpy.ndarray, y: numpy.ndarray) -> Tuple[numpy.ndarra
     return places[:, wcs.wcs.lng], places[:, wcs.wcs.lat]
 
 
-def _own_names(wcs: WCS) -> Tuple[str, str]:
+def _own_names(wcs: "WCS") -> Tuple[str, str]:
     """What the frame calls its longitude and latitude, such as ELON and ELAT."""
     return tuple(
         wcs.wcs.ctype[axis].split("-")[0] or name for axis, name in ((wcs.wcs.lng, "LON"), (wcs.wcs.lat, "LAT"))
     )
 
 
-def _icrs(wcs: WCS, frame, x: numpy.ndarray, y: numpy.ndarray) -> SkyCoord:
+class _Places(NamedTuple):
+    """Places in the ICRS, in degrees."""
+
+    longitude: numpy.ndarray
+    latitude: numpy.ndarray
+
+    def _radians(self, other: "_Places"):
+        """How far another place lies to the east, and the sines and cosines of both latitudes."""
+        east = numpy.radians(other.longitude) - numpy.radians(self.longitude)
+        own, its = numpy.radians(self.latitude), numpy.radians(other.latitude)
+        return east, numpy.sin(own), numpy.cos(own), numpy.sin(its), numpy.cos(its)
+
+    def apart(self, other: "_Places") -> numpy.ndarray:
+        """How far other places lie away, in seconds of arc: by the formula of Vincenty (1975), which holds anywhere."""
+        east, sine, cosine, its_sine, its_cosine = self._radians(other)
+        across = numpy.hypot(its_cosine * numpy.sin(east), cosine * its_sine - sine * its_cosine * numpy.cos(east))
+        along = sine * its_sine + cosine * its_cosine * numpy.cos(east)
+        return numpy.degrees(numpy.arctan2(across, along)) * 3600
+
+    def angle_to(self, other: "_Places") -> numpy.ndarray:
+        """The angles in degrees from north towards east at which other places lie."""
+        east, sine, cosine, its_sine, its_cosine = self._radians(other)
+        north = its_sine * cosine - its_cosine * sine * numpy.cos(east)
+        return numpy.degrees(numpy.arctan2(numpy.sin(east) * its_cosine, north)) % 360
+
+
+def _icrs(wcs: "WCS", frame, x: numpy.ndarray, y: numpy.ndarray) -> _Places:
     longitude, latitude = _degrees(wcs, x, y)
-    return SkyCoord(longitude, latitude, unit="deg", frame=frame).icrs
+    if frame.name == "icrs":
+        return _Places(longitude % 360, latitude)
+    from astropy.coordinates import SkyCoord
+
+    found = SkyCoord(longitude, latitude, unit="deg", frame=frame).icrs
+    return _Places(found.ra.deg, found.dec.deg)
 
 
 def icrs_places(
-    header: Union[fits.Header, WCS], x: numpy.ndarray, y: numpy.ndarray
+    header: Union[fits.Header, "WCS"], x: numpy.ndarray, y: numpy.ndarray
 ) -> Tuple[numpy.ndarray, numpy.ndarray]:
     """Right ascensions and declinations in degrees in the ICRS of places in pixels from 1; NaN where the header has no
     celestial coordinates, or astropy doesn't know their frame.
@@ -200,10 +229,10 @@ def icrs_places(
     if frame is None or not len(x):
         return numpy.full(len(x), numpy.nan), numpy.full(len(x), numpy.nan)
     centre = _icrs(wcs, frame, numpy.asarray(x, dtype="f8"), numpy.asarray(y, dtype="f8"))
-    return centre.ra.deg, centre.dec.deg
+    return centre.longitude, centre.latitude
 
 
-def _add_sky(table: Table, wcs: WCS) -> None:
+def _add_sky(table: Table, wcs: "WCS") -> None:
     """The columns of the place in the sky, and of the ellipse there."""
     names = ("XWIN", "YWIN") if "XWIN" in table.colnames else ("X", "Y")
     x, y = (numpy.asarray(table[name], dtype="f8") for name in names)
@@ -217,15 +246,15 @@ def _add_sky(table: Table, wcs: WCS) -> None:
             )
         return
     centre = _icrs(wcs, frame, x, y)
-    table["RA"], table["DEC"] = centre.ra.deg, centre.dec.deg
+    table["RA"], table["DEC"] = centre
     if not {"A", "B", "THETA"} <= set(table.colnames):
         return
     angle = numpy.radians(numpy.asarray(table["THETA"]))
     along = _icrs(wcs, frame, x + numpy.cos(angle), y + numpy.sin(angle))
     across = _icrs(wcs, frame, x - numpy.sin(angle), y + numpy.cos(angle))
-    table["A_SKY"] = numpy.asarray(table["A"]) * centre.separation(along).arcsec
-    table["B_SKY"] = numpy.asarray(table["B"]) * centre.separation(across).arcsec
-    table["PA"] = centre.position_angle(along).deg % 180
+    table["A_SKY"] = numpy.asarray(table["A"]) * centre.apart(along)
+    table["B_SKY"] = numpy.asarray(table["B"]) * centre.apart(across)
+    table["PA"] = centre.angle_to(along) % 180
 
 
 # ---- columns
@@ -246,10 +275,12 @@ def _add_magnitudes(table: Table, zeropoint: float, band: str = "") -> None:
         table[f"MAG_{name}"].unit = table[f"MAGERR_{name}"].unit = units.mag
 
 
-def _add_surface(table: Table, zeropoint: float, wcs: Optional[WCS]) -> None:
+def _add_surface(table: Table, zeropoint: float, wcs: Optional["WCS"]) -> None:
     """The magnitude of the greatest pixel to a square second of arc, where the sky's scale is known."""
     if wcs is None or "FLUX_MAX" not in table.colnames:
         return
+    from astropy.wcs.utils import proj_plane_pixel_area
+
     area = proj_plane_pixel_area(wcs.celestial) * 3600.0**2
     with numpy.errstate(invalid="ignore", divide="ignore"):
         peak = numpy.where(table["FLUX_MAX"] > 0, table["FLUX_MAX"], numpy.nan)
@@ -280,7 +311,7 @@ def _describe_band(table: Table, band: str, unit: Optional[str]) -> None:
 
 def finished(
     table: Table,
-    header: Union[None, fits.Header, WCS],
+    header: Union[None, fits.Header, "WCS"],
     *,
     zeropoint: Optional[float] = None,
     unit: Optional[str] = None,
@@ -420,21 +451,21 @@ def _filled(column) -> numpy.ndarray:
     return values.filled(numpy.nan if values.dtype.kind == "f" else "" if values.dtype.kind in "US" else 0)
 
 
-def _table_hdus(table: Table) -> fits.HDUList:
-    """A catalogue as HDUs, with each column's description in a TCOMM card and what `meta` has in cards."""
-    plain = Table({name: _filled(table[name]) for name in table.colnames})
-    columns = fits.BinTableHDU(plain.as_array()).columns if len(table.colnames) else []
-    for column in columns:
-        column.unit = _fits_unit(table[column.name].unit)
-    hdu = fits.BinTableHDU.from_columns(columns, nrows=len(table), name="SOURCES")
+def _write_fits(table: Table, path: str) -> None:
+    """Writes a catalogue with each column's description in a TCOMM card and what `meta` has in cards."""
+    columns = {
+        name: fitstables.Described(_filled(table[name]), _fits_unit(table[name].unit), table[name].description or "")
+        for name in table.colnames
+    }
     # Some descriptions are too long for one card, and go on in the next ones.
-    hdu.header["LONGSTRN"] = "OGIP 1.0"
-    for number, name in enumerate(table.colnames, 1):
-        hdu.header.set(f"TCOMM{number}", table[name].description or "", after=f"TFORM{number}")
+    told = fits.Header([("LONGSTRN", "OGIP 1.0")])
     for key, value in table.meta.items():
         if re.fullmatch(r"[A-Za-z0-9_-]{1,8}", key) and not STRUCTURE.fullmatch(key.upper()) and _fits_value(value):
-            hdu.header[key.upper()] = value
-    return fits.HDUList([fits.PrimaryHDU(), hdu])
+            told[key.upper()] = value
+    with warnings.catch_warnings():
+        # A description that doesn't fit its card goes on in the next ones.
+        warnings.simplefilter("ignore", fits.verify.VerifyWarning)
+        fitstables.write(path, columns, told)
 
 
 def _flat(table: Table) -> Table:
@@ -465,10 +496,7 @@ def write(table: Table, path: Union[str, os.PathLike], kind: Optional[str] = Non
     with whole_file(path) as name, warnings.catch_warnings():
         warnings.simplefilter("ignore", units.UnitsWarning)
         if kind == "fits":
-            with warnings.catch_warnings():
-                # A description that doesn't fit its card goes on in the next ones.
-                warnings.simplefilter("ignore", fits.verify.VerifyWarning)
-                _table_hdus(table).writeto(name, overwrite=True)
+            _write_fits(table, name)
         else:
             # A VOTable of 33,000 sources takes 20 seconds as text, and one in binary form.
             form, more = {

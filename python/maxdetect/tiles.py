@@ -18,15 +18,18 @@ import contextlib
 import dataclasses
 import itertools
 import os
-from typing import Callable, Iterable, Iterator, List, Optional, Tuple
+from typing import TYPE_CHECKING, Callable, Iterable, Iterator, List, Optional, Tuple
 
 import numpy
-from astropy.table import Table, vstack
 from scipy import ndimage
 
 from . import kernel
 from .background import Above, lower_median, undefined_cells
+from .rows import Rows, behind_each_other
 from .sky import cells_along
+
+if TYPE_CHECKING:
+    from astropy.table import Table
 
 # What the program takes.
 MOST_PIXELS, MOST_SIDE = 2**24, 65535
@@ -88,7 +91,7 @@ class Look:
     the map has gaps, `labels` is one without: each pixel of a component belongs to one of its sources.
     """
 
-    catalogue: Table
+    catalogue: Rows
     segments: numpy.ndarray
     above: Callable[[slice, slice], numpy.ndarray]
     labels: Optional[numpy.ndarray] = None
@@ -100,7 +103,7 @@ class Piece:
     belong to one, to which row, and whether the map has them; and which rows are cut.
     """
 
-    catalogue: Table
+    catalogue: Rows
     pixels: numpy.ndarray
     owners: numpy.ndarray
     shown: numpy.ndarray
@@ -251,7 +254,7 @@ def _reaching_out(labels: numpy.ndarray, window: Box, plan: Plan) -> numpy.ndarr
     return numbers[numbers > 0]
 
 
-def moved(catalogue: Table, left: int, top: int) -> Table:
+def moved(catalogue: Rows, left: int, top: int) -> Rows:
     """The rows of a window's catalogue, so many columns and rows further on."""
     for names, by in ((ACROSS, left), (ALONG, top)):
         for name in names:
@@ -260,12 +263,12 @@ def moved(catalogue: Table, left: int, top: int) -> Table:
     return catalogue
 
 
-def _firsts(catalogue: Table) -> Tuple[numpy.ndarray, numpy.ndarray]:
+def _firsts(catalogue: Rows) -> Tuple[numpy.ndarray, numpy.ndarray]:
     """Rows and columns of the sources' first pixels, from 0."""
     return numpy.asarray(catalogue["YFIRST"]) - 1, numpy.asarray(catalogue["XFIRST"]) - 1
 
 
-def in_box(catalogue: Table, box: Box) -> numpy.ndarray:
+def in_box(catalogue: Rows, box: Box) -> numpy.ndarray:
     """Whether the sources' first pixels lie in a box of the window."""
     rows, columns = _firsts(catalogue)
     return (rows >= box.top) & (rows < box.bottom) & (columns >= box.left) & (columns < box.right)
@@ -284,9 +287,10 @@ def _picked(look: Look, window: Box, plan: Plan, chosen: numpy.ndarray, among: O
     owners = numbers[labels]
     if among is not None:
         owners *= among
-    rows, columns = numpy.nonzero(owners)
-    pixels = (rows + top).astype("i8") * (plan.part.right - plan.part.left) + (columns + left)
-    return Piece(table, pixels, owners[rows, columns] - 1, look.segments[rows, columns] != 0, cut)
+    places = numpy.flatnonzero(owners != 0)
+    rows, columns = numpy.divmod(places, owners.shape[1])
+    pixels = (rows + top) * (plan.part.right - plan.part.left) + (columns + left)
+    return Piece(table, pixels, owners.ravel()[places] - 1, look.segments.ravel()[places] != 0, cut)
 
 
 @dataclasses.dataclass(frozen=True)
@@ -372,9 +376,8 @@ def joined(pieces: Iterable[Piece]) -> Piece:
     starts = numpy.cumsum([0] + [len(piece.catalogue) for piece in pieces])
     owners = [piece.owners + start for piece, start in zip(pieces, starts)]
     tables = [piece.catalogue for piece in pieces if len(piece.catalogue)] or [pieces[0].catalogue]
-    table = tables[0] if len(tables) == 1 else vstack(tables, metadata_conflicts="silent")
     return Piece(
-        table,
+        behind_each_other(tables),
         numpy.concatenate([piece.pixels for piece in pieces]),
         numpy.concatenate(owners),
         numpy.concatenate([piece.shown for piece in pieces]),
@@ -456,10 +459,10 @@ def each(executor: Optional[concurrent.futures.Executor], work: Callable, items:
             future.cancel()
 
 
-def numbered(tables: List[Table]) -> Tuple[Table, numpy.ndarray]:
+def numbered(tables: List[Rows]) -> Tuple[Rows, numpy.ndarray]:
     """The tables' rows as one, numbered from 1 by their first pixels; and where each row stood."""
     some = [table for table in tables if len(table)] or tables[:1]
-    table = some[0] if len(some) == 1 else vstack(some, metadata_conflicts="silent")
+    table = behind_each_other(some)
     rows, columns = _firsts(table)
     places = numpy.lexsort((columns, rows))
     table = table[places]
@@ -492,7 +495,7 @@ def hide(segments: numpy.ndarray) -> None:
 
 def gathered(
     pieces: Iterable[Piece], segments: numpy.ndarray, progress: Callable[[int], None]
-) -> Tuple[Table, numpy.ndarray]:
+) -> Tuple[Rows, numpy.ndarray]:
     """The rows of all pieces, numbered, and which of them are cut. `segments`, an array full of zeros, gets the map,
     and the numbers below 0 of the sources to which pixels belong that the map isn't to show.
     """
@@ -558,7 +561,7 @@ def _extended(window: numpy.ma.MaskedArray, shape: Tuple[int, int]) -> numpy.ma.
     return whole
 
 
-def _without_fill(catalogue: Table, segments: numpy.ndarray, window: numpy.ma.MaskedArray) -> Table:
+def _without_fill(catalogue: Rows, segments: numpy.ndarray, window: numpy.ma.MaskedArray) -> Rows:
     """The sources whose first pixels are defined in a window; the others are taken out of the map."""
     rows, columns = _firsts(catalogue)
     false = numpy.ma.getmaskarray(window)[rows, columns]
@@ -653,7 +656,7 @@ def detect_tiles(
     segments: Optional[numpy.ndarray] = None,
     progress: Callable[[int], None] = lambda count: None,
     **options,
-) -> Tuple[Table, numpy.ndarray]:
+) -> Tuple["Table", numpy.ndarray]:
     """What `detect` answers, for an image of any size: the catalogue and the map of the whole, with its columns,
     rows, centres and numbers.
 
@@ -686,4 +689,4 @@ def detect_tiles(
         table, cut = gathered(pieces, segments, progress)
     if cut.any():
         table.meta["CUT"] = numpy.asarray(table["NUMBER"])[cut].tolist()
-    return table, segments
+    return kernel.described(table), segments

@@ -8,12 +8,12 @@ import dataclasses
 from typing import NamedTuple, Tuple
 
 import numpy
-from astropy.table import Table, vstack
 from scipy import ndimage
 
 from . import kernel, looks, nodes, scaling, sky, smoothing, tiles
 from .errors import Mistake
 from .fields import Field
+from .rows import Rows, behind_each_other
 from .tiles import Box
 
 __all__ = ["Found", "THRESHOLD", "beneath", "found"]
@@ -32,7 +32,7 @@ LARGE, TIMES = BLOCK**2 // 2, 16
 class Found(NamedTuple):
     """Rows of wide sources in the image's columns and rows, and where each has its pixels: a box and truth values."""
 
-    rows: Table
+    rows: Rows
     places: Tuple[Tuple[Box, numpy.ndarray], ...]
 
 
@@ -108,24 +108,22 @@ def _is_halo(labels: numpy.ndarray, blocks: _Blocks, count: int) -> numpy.ndarra
 def found(field: Field, wide_sky: sky.Sky, segments: numpy.ndarray, program=None) -> Found:
     """The wide sources of a field with this sky of wide cells, beside those of its map."""
     if min(field.shape) < BLOCK:
-        return Found(Table(), ())
+        return Found(Rows({}), ())
     blocks = _blocks(field, wide_sky, segments)
     numbers = _numbers(blocks)
     catalogue, labels = kernel.detect_stored(
         numbers, THRESHOLD, program=program, mesh=0, min_area=LEAST_AREA, contrast=CONTRAST, connect=8
     )
     halo, made, places = _is_halo(labels, blocks, len(catalogue)), [], []
-    for row, part in zip(catalogue, ndimage.find_objects(labels)):
-        if halo[row["NUMBER"]]:
+    for number, base, part in zip(catalogue["NUMBER"], catalogue["BASE"], ndimage.find_objects(labels)):
+        if halo[number]:
             continue
         box = Box(*(int(bound) * BLOCK for it in part for bound in (it.start, it.stop)))
-        pixels = numpy.kron(labels[part] == row["NUMBER"], numpy.ones((BLOCK, BLOCK), dtype=bool))
+        pixels = numpy.kron(labels[part] == number, numpy.ones((BLOCK, BLOCK), dtype=bool))
         own = pixels & (numpy.asarray(segments[box.rows, box.columns]) == 0)
         values = numpy.kron(numbers[part], numpy.ones((BLOCK, BLOCK), dtype="i4"))
         made.append(
-            tiles.moved(
-                nodes.rows(values, own.astype("i4"), numpy.array([1]), [int(row["BASE"])])[0], box.left, box.top
-            )
+            tiles.moved(nodes.rows(values, own.astype("i4"), numpy.array([1]), [int(base)])[0], box.left, box.top)
         )
         places.append((box, own))
-    return Found(vstack(made) if made else Table(), tuple(places))
+    return Found(behind_each_other(made) if made else Rows({}), tuple(places))

@@ -23,48 +23,61 @@ NAMES = ("XWIN", "YWIN", "ERRAWIN", "ERRBWIN", "ERRTHETAWIN", "SNR_WIN")
 Noise = Union[float, numpy.ndarray]
 
 
-class _Sums(NamedTuple):
-    """The weights along both axes, the places there from the centre, and the sum of the light under the window."""
-
-    down: Tuple[numpy.ndarray, numpy.ndarray]
-    right: Tuple[numpy.ndarray, numpy.ndarray]
-    light: numpy.ndarray
-
-    @staticmethod
-    def over(values, weighted) -> numpy.ndarray:
-        """The sums over windows of values times a weight for each row and one for each column."""
-        rows, columns = weighted
-        return (rows[:, None, :] @ (values @ columns[:, :, None]))[:, 0, 0]
+def _weighted(places: numpy.ndarray, sigma: numpy.ndarray, power: int, order: int) -> numpy.ndarray:
+    """A Gaussian's weights at places from its centre, to this power, times the places to the powers from 0 to `order`:
+    a line for a source, each with a row for a place.
+    """
+    weights = numpy.exp((-0.5 * power) * (places / sigma[:, None]) ** 2)
+    made = numpy.empty((*places.shape, order + 1))
+    made[:, :, 0] = weights
+    for step in range(order):
+        numpy.multiply(made[:, :, step], places, out=made[:, :, step + 1])
+    return made
 
 
-def _sums(found: stamps.Stamps, values, x, y, sigma) -> _Sums:
-    """Those of windows around these centres."""
-    down, right = found.rows - y[:, None], found.columns - x[:, None]
-    weights = [numpy.exp(-0.5 * (it / sigma[:, None]) ** 2) for it in (down, right)]
-    return _Sums((weights[0], down), (weights[1], right), _Sums.over(values, weights))
+class _Windows(NamedTuple):
+    """Gaussian windows with their centres: the places of their pixels from these, and their standard deviations."""
+
+    down: numpy.ndarray
+    right: numpy.ndarray
+    sigma: numpy.ndarray
+
+    def moments(self, values: numpy.ndarray, order: int, power: int = 1) -> numpy.ndarray:
+        """The sums over windows of values times the weights to a power, times the places down and to the right to the
+        powers that the second and the third index say.
+        """
+        rows, columns = (_weighted(it, self.sigma, power, order) for it in (self.down, self.right))
+        return rows.swapaxes(1, 2) @ (values @ columns)
 
 
 def _mirrored(found: stamps.Stamps) -> numpy.ndarray:
     """The values, with those of the other side of the middle where a pixel isn't the source's own or sky."""
+    if found.own.all():
+        return found.values.astype("f8")
     other = numpy.where(found.own[:, ::-1, ::-1], found.values[:, ::-1, ::-1], 0)
     return numpy.where(found.own, found.values, other).astype("f8")
 
 
 def _centred(found: stamps.Stamps, values, x, y, sigma) -> Tuple[numpy.ndarray, numpy.ndarray, numpy.ndarray]:
     """The centres of the light under windows that stand around them, and where one is found."""
-    x, y = x.copy(), y.copy()
-    start, last = (x.copy(), y.copy()), numpy.full(len(x), numpy.inf)
+    start, last, at = numpy.array([x, y]), numpy.full(len(x), numpy.inf), numpy.arange(len(x))
+    places = start.copy()
     for _ in range(STEPS):
-        sums = _sums(found, values, x, y, sigma)
-        (rows, down), (columns, right) = sums.down, sums.right
+        x, y = places[:, at]
+        sums = _Windows(found.rows[at] - y[:, None], found.columns[at] - x[:, None], sigma[at]).moments(values, 1)
         with numpy.errstate(invalid="ignore", divide="ignore"):
-            step = [2 * sums.over(values, it) / sums.light for it in ((rows, columns * right), (rows * down, columns))]
-        going = (sums.light > 0) & (last > STILL) & (numpy.hypot(x - start[0], y - start[1]) < sigma)
-        x, y = numpy.where(going, x + step[0], x), numpy.where(going, y + step[1], y)
-        last = numpy.where(going, numpy.hypot(*step), last)
-        if not (going & (last > STILL)).any():
+            step = 2 * numpy.array([sums[:, 0, 1], sums[:, 1, 0]]) / sums[:, 0, 0]
+        length = numpy.hypot(*step)
+        going = (sums[:, 0, 0] > 0) & (numpy.hypot(x - start[0, at], y - start[1, at]) < sigma[at])
+        places[:, at[going]] += step[:, going]
+        last[at[going]] = length[going]
+        # What stands still isn't looked at again.
+        going &= length > STILL
+        if not going.all():
+            at, values = at[going], values[going]
+        if not at.size:
             break
-    return x, y, (last <= STILL) & (numpy.hypot(x - start[0], y - start[1]) < sigma)
+    return (*places, (last <= STILL) & (numpy.hypot(*(places - start)) < sigma))
 
 
 def ellipse(xx: numpy.ndarray, yy: numpy.ndarray, xy: numpy.ndarray) -> Tuple[numpy.ndarray, ...]:
@@ -76,22 +89,28 @@ def ellipse(xx: numpy.ndarray, yy: numpy.ndarray, xy: numpy.ndarray) -> Tuple[nu
     return numpy.sqrt(mean + apart), short, numpy.degrees(numpy.arctan2(2 * xy, xx - yy) / 2)
 
 
-def _errors(sums: _Sums, values, variance, sigma) -> Tuple[numpy.ndarray, ...]:
-    """The variances of the centres along x and y, and their covariance."""
-    (rows, down), (columns, right) = sums.down, sums.right
-    products = ((1, right**2), (down**2, 1), (down, right))
-    noise = [sums.over(variance, (rows**2 * a, columns**2 * b)) for a, b in products]
-    light = [sums.over(values, (rows * a, columns * b)) / sums.light / sigma**2 for a, b in products]
+def _errors(sums: numpy.ndarray, noise: numpy.ndarray, sigma: numpy.ndarray) -> Tuple[numpy.ndarray, ...]:
+    """The variances of the centres along x and y, and their covariance, by the moments of the light and of the
+    variance under windows.
+    """
     # By how much less than the centre the light under the window moves when it does.
-    xx, yy = (numpy.maximum(1 - it, 0.1) for it in light[:2])
-    xy = -light[2]
-    lost = numpy.maximum(xx * yy - xy**2, 0.01) * sums.light
+    light = sums / (sums[:, 0, 0] * sigma**2)[:, None, None]
+    xx, yy = (numpy.maximum(1 - it, 0.1) for it in (light[:, 0, 2], light[:, 2, 0]))
+    xy = -light[:, 1, 1]
+    lost = numpy.maximum(xx * yy - xy**2, 0.01) * sums[:, 0, 0]
     a, b, c = yy / lost, xx / lost, -xy / lost
+    along, across, both = noise[:, 0, 2], noise[:, 2, 0], noise[:, 1, 1]
     return (
-        a * a * noise[0] + 2 * a * c * noise[2] + c * c * noise[1],
-        c * c * noise[0] + 2 * b * c * noise[2] + b * b * noise[1],
-        a * c * noise[0] + (a * b + c * c) * noise[2] + b * c * noise[1],
+        a * a * along + 2 * a * c * both + c * c * across,
+        c * c * along + 2 * b * c * both + b * b * across,
+        a * c * along + (a * b + c * c) * both + b * c * across,
     )
+
+
+def _variance(found: stamps.Stamps, values: numpy.ndarray, noise: Noise, gain: Optional[float]) -> numpy.ndarray:
+    """That of the pixels' noise, with the light's own where the gain is known."""
+    even = numpy.asarray(noise if numpy.ndim(noise) == 0 else found.taken(noise), dtype="f8") ** 2
+    return even + numpy.maximum(values, 0) / gain if gain else numpy.broadcast_to(even, values.shape)
 
 
 def _width(half: numpy.ndarray) -> numpy.ndarray:
@@ -127,16 +146,11 @@ def of(
     for found in stamps.batches(residual, undefined, segments, numbers, (y, x), reach(half)):
         values, at, sigma = _mirrored(found), found.places, sigmas[found.places]
         right, down, known = _centred(found, values, x[at], y[at], sigma)
-        sums = _sums(found, values, right, down, sigma)
-        variance = (
-            numpy.full(values.shape, 1.0)
-            * numpy.asarray(noise if numpy.ndim(noise) == 0 else found.taken(noise), dtype="f8") ** 2
-        )
-        if gain:
-            variance += numpy.maximum(values, 0) / gain
+        windows = _Windows(found.rows - down[:, None], found.columns - right[:, None], sigma)
+        sums, variance = windows.moments(values, 2), windows.moments(_variance(found, values, noise, gain), 2, 2)
         with numpy.errstate(invalid="ignore", divide="ignore"):
-            errors = ellipse(*_errors(sums, values, variance, sigma))
-            signal = sums.light / numpy.sqrt(sums.over(variance, (sums.down[0] ** 2, sums.right[0] ** 2)))
+            errors = ellipse(*_errors(sums, variance, sigma))
+            signal = sums[:, 0, 0] / numpy.sqrt(variance[:, 0, 0])
         for name, column in zip(NAMES, (right, down, *errors, signal)):
             made[name][at] = column if name == "SNR_WIN" else numpy.where(known, column, numpy.nan)
     return made

@@ -113,7 +113,7 @@ def test_a_window_decides_as_the_whole(seed):
         part = parts_of(window)
         its = cleaning.kept(window, part.segments, part.labels, THRESHOLD, AREA, WIDTH)
         firsts = {(y + top, x + left): it for y, x, it in zip(part.catalogue["YFIRST"], part.catalogue["XFIRST"], its)}
-        for row, stays in zip(whole.catalogue, kept):
+        for row, stays in zip(whole.catalogue.table(), kept):
             y, x = boxes[components[row["YFIRST"] - 1, row["XFIRST"] - 1] - 1]
             if (
                 min(y.start - top if top else reach, x.start - left if left else reach) >= reach

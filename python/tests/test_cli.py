@@ -13,7 +13,7 @@ from astropy.table import Table
 from astropy.wcs import WCS
 
 from conftest import TOP
-from maxdetect import cli, detection, photometry, tables
+from maxdetect import cataloguing, cli, detection, photometry, tables
 from maxdetect.columns import CATALOGUE
 
 
@@ -276,6 +276,8 @@ WRONG = [
     (["image.fits", "--weight-type", "rms"], "--weight"),
     (["image.fits", "--hdu", "all", "--plot", "a.png"], "--plot"),
     (["image.fits", "--plot", "a.jpg"], "a.jpg"),
+    (["image.fits", "--hdu", "all", "--report", "a.html"], "--report"),
+    (["image.fits", "--report", "a.png"], "a.png"),
     (["image.fits", "--crop", "1,9,1,9"], "--plot"),
     (["image.fits", "--plot", "a.png", "--crop", "1,9,5"], "--crop: 1,9,5 isn't XMIN,XMAX,YMIN,YMAX"),
     (["image.fits", "--plot", "a.png", "--crop", "a,9,5,8"], "--crop: invalid part value: 'a,9,5,8'"),
@@ -333,6 +335,12 @@ def test_prepare(here, capsys):
 
 
 ALL = ["image.fits", "-o", "cat.fits", "--map", "map.fits", "--regions", "all.reg", "--plot", "all.png"]
+
+
+def test_a_page(here, capsys):
+    table = catalogue("image.fits", "-o", "cat.fits", "--report", "page.html", "--rms", "local")
+    text = (here / "page.html").read_text()
+    assert f'"sources": {len(table)},' in text and '"name": "background"' in text and '"name": "noise"' in text
 
 
 def failing(number):
@@ -406,11 +414,11 @@ def test_a_signal_leaves_nothing(here, number, workers, images):
 @pytest.mark.parametrize("number", [signal.SIGINT, signal.SIGTERM, signal.SIGHUP])
 def test_signals_are_as_before(monkeypatch, number):
     seen = []
-    monkeypatch.setattr(cli, "run", lambda words: seen.append(signal.getsignal(number)))
+    monkeypatch.setattr(cataloguing, "run", lambda given: seen.append(signal.getsignal(number)))
     earlier = signal.signal(number, signal.SIG_DFL)
     try:
-        assert cli.main([]) == 0 and signal.getsignal(number) is signal.SIG_DFL is not seen[0]
+        assert cli.main(["image.fits"]) == 0 and signal.getsignal(number) is signal.SIG_DFL is not seen[0]
         signal.signal(number, signal.SIG_IGN)
-        assert cli.main([]) == 0 and seen[1] is signal.getsignal(number) is signal.SIG_IGN
+        assert cli.main(["image.fits"]) == 0 and seen[1] is signal.getsignal(number) is signal.SIG_IGN
     finally:
         signal.signal(number, earlier)

@@ -8,7 +8,7 @@ import pytest
 from astropy.io import fits
 
 import mutated
-from maxdetect import cli, headers
+from maxdetect import cataloguing, cli, headers
 
 FILES = mutated.corpus()
 
@@ -170,14 +170,16 @@ def test_whatever_comes_in_the_way_of_an_image(tmp_path, monkeypatch, capsys, fa
             raise fault
         return sources(field, *given, **more)
 
-    sources = cli.detection.sources
-    monkeypatch.setattr(cli.detection, "sources", failing)
+    sources = cataloguing.detection.sources
+    monkeypatch.setattr(cataloguing.detection, "sources", failing)
     assert cli.main(["a.fits", "b.fits", "--workers", workers]) == 2
     out, err = capsys.readouterr()
     assert out.endswith("b.cat.fits\n") and out.count("\n") == 1
     assert err.startswith("maxcat: a.fits: ") and err.count("\n") == 1
     assert ("memory is wanted" if isinstance(fault, MemoryError) else type(fault).__name__) in err
-    monkeypatch.setattr(cli.detection, "sources", lambda *given, **more: (_ for _ in ()).throw(KeyboardInterrupt()))
+    monkeypatch.setattr(
+        cataloguing.detection, "sources", lambda *given, **more: (_ for _ in ()).throw(KeyboardInterrupt())
+    )
     assert cli.main(["a.fits", "b.fits", "--workers", workers]) == 130
 
 

@@ -8,7 +8,7 @@ from astropy.io import fits
 from astropy.table import Table
 
 from conftest import TOP
-from maxdetect import cli, detection
+from maxdetect import cataloguing, cli, detection
 
 
 @pytest.fixture
@@ -29,14 +29,14 @@ def test_a_worker_that_is_killed(images, monkeypatch):
     monkeypatch.setenv("PYTHONPATH", os.fspath(TOP / "python"))
     how = {"n_workers": 2, "threads_per_worker": 1, "processes": True, "dashboard_address": None}
     with distributed.LocalCluster(**how) as cluster:
-        left, told = [cluster.workers[0].pid], cli._Progress.__call__
+        left, told = [cluster.workers[0].pid], cataloguing._Progress.__call__
 
         def killing(self, count):
             if left:
                 os.kill(left.pop(), signal.SIGKILL)
             told(self, count)
 
-        monkeypatch.setattr(cli._Progress, "__call__", killing)
+        monkeypatch.setattr(cataloguing._Progress, "__call__", killing)
         words = ["a.fits", "-o", "cat.fits", "--map", "map.fits", "--scheduler", cluster.scheduler_address]
         assert cli.main(words) == 0 and not left
     whole, found = (Table.read(name, hdu="SOURCES") for name in ("whole.fits", "cat.fits"))

@@ -6,7 +6,7 @@ from scipy import ndimage
 import maxdetect
 from conftest import add_star
 from maxdetect import scaling, sky
-from maxdetect.noise import of_array
+from maxdetect.estimates import of_array
 
 
 @pytest.mark.parametrize("sigma", [0.8, 1, 1.5, 2.2, 5, 30, 1000])

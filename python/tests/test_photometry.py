@@ -57,7 +57,7 @@ def one_star(**options):
 
 def test_fluxes_of_a_star_without_noise():
     table, image, segments = one_star()
-    star = table[0]
+    star = table.table()[0]
     assert len(table) == 1
     assert (star["X"], star["Y"]) == pytest.approx((81.25, 121.5), abs=0.01)
     assert star["FLUX_ISO"] == pytest.approx((image - SKY)[segments == 1].sum(), rel=1e-6)
@@ -245,7 +245,7 @@ def test_flags():
     segments, catalogue = found(numpy.where(mask, numpy.nan, image), 110)
     catalogue["BASE"][catalogue["XMIN"] > 140] = 130
     table = photometry.measured(image, SKY, SIGMA, segments, catalogue, mask=mask, saturation=4000, threshold=110)
-    flags = {(round(x), round(y)): flags for x, y, flags in table["X", "Y", "FLAGS"]}
+    flags = {(round(x), round(y)): flags for x, y, flags in zip(table["X"], table["Y"], table["FLAGS"])}
     low = photometry.EDGE | photometry.UNDEFINED | photometry.SATURATED | photometry.SPLIT
     near = {place: bits & low for place, bits in flags.items()}
     assert near[3, 61] == photometry.EDGE and flags[3, 61] & photometry.BEYOND

@@ -54,7 +54,7 @@ def test_other_kinds(tmp_path):
 def test_means_over_squares():
     image = numpy.arange(20.0).reshape(4, 5)
     image[0, 0] = numpy.nan
-    reduced = pictures._reduced(image, 2)
+    reduced = pictures.reduced(image, 2)
     assert reduced.shape == (2, 3)
     assert reduced[0, 0] == pytest.approx((1 + 5 + 6) / 3) and reduced[1, 2] == pytest.approx((14 + 19) / 2)
 

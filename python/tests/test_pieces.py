@@ -103,7 +103,7 @@ def test_parts_without_significance_are_joined():
     for least, count in ((3.4, 2), (3.5, 1)):
         parts, catalogue, _ = found(two_peaks(60), least)
         assert len(catalogue) == 2 and len(parts.catalogue) == count
-    joined = parts.catalogue[0]
+    joined = parts.catalogue.table()[0]
     assert (joined["AREA"], joined["LEVEL"], joined["BASE"], joined["PEAK"]) == (65, 100, 0, 1000)
     assert joined["FLUX"] == 65 * 100 + 3 * 900 + 3 * 60 and (parts.labels[1:6, 1:14] == 1).all()
 
@@ -164,7 +164,10 @@ def test_a_window_gives_the_whole_components_sources(seed, least):
         for one, other in zip(sources, inside):
             assert ((whole.labels == one)[seen] == (part.labels == other)).all()
             assert ((whole.segments == one)[seen] == (part.segments == other)).all()
-            row, moved = whole.catalogue[one - 1], dict(zip(part.catalogue.colnames, part.catalogue[other - 1]))
+            row, moved = (
+                {name: values[at - 1] for name, values in it.catalogue.items()}
+                for it, at in ((whole, one), (part, other))
+            )
             for names, by in ((("XMIN", "XMAX", "XFIRST"), left), (("YMIN", "YMAX", "YFIRST"), top)):
                 moved.update({name: moved[name] + by for name in names})
             moved.update(XCEN=moved["XCEN"] + 1000 * left, YCEN=moved["YCEN"] + 1000 * top)

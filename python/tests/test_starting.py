@@ -31,7 +31,7 @@ def test_what_python_lacks_is_told_in_one_line(tmp_path, monkeypatch, words):
 
 
 def test_another_program_is_told_as_always():
-    status, lines = said("-c", "import maxdetect")
+    status, lines = said("-c", "import maxdetect; maxdetect.detect")
     assert (
         status == 1 and lines[0].startswith("Traceback") and lines[-1] == "ModuleNotFoundError: No module named 'numpy'"
     )

@@ -17,7 +17,7 @@ from astropy.table import Table
 from astropy.wcs import WCS
 
 import maxdetect
-from maxdetect import adding, cli, exporting, survey_files, surveys
+from maxdetect import adding, cli, exporting, survey_files, surveys, telling
 from maxdetect.errors import Mistake
 
 SCHEMA = "CREATE TABLE IF NOT EXISTS source (field TEXT NOT NULL PRIMARY KEY, cells BLOB NOT NULL) STRICT"
@@ -468,7 +468,7 @@ def test_two_images_for_one_field(tmp_path, monkeypatch, stars, program, capsys)
 
 
 def exported(capsys, *words):
-    status = cli.told("maxdetect survey", exporting.run, [str(word) for word in words])
+    status = telling.told("maxdetect survey", exporting.run, [str(word) for word in words])
     out, err = capsys.readouterr()
     return status, out, err
 

@@ -14,6 +14,8 @@ CARD = 80
 MOST_CARDS = 36_000
 MOST_DATA = 2**40
 MOST_PIXELS = 2**24
+# What maxwide takes.
+WIDE_PIXELS = 2**31 - 1
 MOST_SIDE = 65_535
 INTEGERS = range(-(2**63), 2**63)
 
@@ -268,13 +270,13 @@ class Image(NamedTuple):
         return len(self.values) // self.width
 
 
-def check_image(hdu: Hdu) -> None:
-    """Faults 10 to 16."""
+def check_image(hdu: Hdu, most: int) -> None:
+    """Faults 10 to 16, where an image has at most so many pixels."""
     width, height = (hdu.axes + [0, 0])[:2]
     tests = {
         10: hdu.kind == "other",
         11: len(hdu.axes) < 2 or 0 in (width, height) or any(axis != 1 for axis in hdu.axes[2:]),
-        12: max(width, height) > MOST_SIDE or width * height > MOST_PIXELS,
+        12: max(width, height) > MOST_SIDE or width * height > most,
         13: hdu.bitpix not in (8, 16, 32, 64),
         14: hdu.bscale != 1,
         15: hdu.bzero is None or abs(hdu.bzero) > 2**32,
@@ -294,23 +296,24 @@ def read_image(data: bytes, hdu: Hdu) -> Tuple[Image, int]:
     form = {8: "B", 16: "h", 32: "i", 64: "q"}[hdu.bitpix]
     stored = struct.unpack(f">{width * height}{form}", data[hdu.head : end])
     values = [None if hdu.has_blank and number == hdu.blank else hdu.bzero + number for number in stored]
+    bound = 2**36 if width * height <= MOST_PIXELS else 2**29
     for pixel, value in enumerate(values):
-        if hdu.bitpix == 64 and value is not None and abs(value) > 2**36:
+        if value is not None and abs(value) > bound:
             raise fault(18, end, f" pixel {pixel} stored {stored[pixel]}")
     return Image(width, values), end
 
 
-def find_image(data: bytes, number: int) -> Tuple[Image, int]:
+def find_image(data: bytes, number: int, most: int) -> Tuple[Image, int]:
     hdu = find_hdu(data, number)
-    check_image(hdu)
+    check_image(hdu, most)
     return read_image(data, hdu)
 
 
-def find_two(data: bytes, detection: int, values: int) -> Tuple[Image, Image, int]:
+def find_two(data: bytes, detection: int, values: int, most: int) -> Tuple[Image, Image, int]:
     """The two images of `measure`, and the place behind the last data byte of the later one."""
-    earlier, _ = find_image(data, min(detection, values))
+    earlier, _ = find_image(data, min(detection, values), most)
     hdu = find_hdu(data, max(detection, values))
-    check_image(hdu)
+    check_image(hdu, most)
     if [earlier.width, earlier.height] != hdu.axes[:2]:
         raise fault(19, hdu.head)
     later, end = read_image(data, hdu)

@@ -109,9 +109,7 @@ RANGES = {
     "flat": (0, 1),
     "values": (0, 65535),
 }
-RANGES.update(
-    {"min-area": (0, MOST_PIXELS), "max-area": (0, MOST_PIXELS), "min-flux": (0, 2**62), "min-fill": (0, 1000)}
-)
+RANGES.update({"min-flux": (0, 2**62), "min-fill": (0, 1000)})
 RANGES.update(
     {
         "threshold": (-(2**37), 2**37),
@@ -132,7 +130,8 @@ OPTIONS = {
 }
 
 
-def option_value(name: str, word: str) -> Union[int, str]:
+def option_value(name: str, word: str, most: int) -> Union[int, str]:
+    """What a word means, where an image has at most so many pixels."""
     if name == "rule":
         if word not in ("min", "max", "direct", "subtractive"):
             raise ValueError(word)
@@ -142,14 +141,16 @@ def option_value(name: str, word: str) -> Union[int, str]:
         if value not in (4, 8):
             raise ValueError(word)
         return value
-    return whole_word(word, *RANGES[name])
+    return whole_word(word, *((0, most) if name.endswith("-area") else RANGES[name]))
 
 
-def read_order(words: List[str]) -> Dict[str, Union[None, int, str]]:
+def read_order(words: List[str], most: int) -> Dict[str, Union[None, int, str]]:
     """The options of the command that the words give, or the first word at fault."""
     if not words or words[0] not in OPTIONS:
         raise WordAtFault(1)
     order, given = {**COMMON, **OPTIONS[words[0]]}, set()
+    if words[0] == "filter":
+        order["max-area"] = most
     for place in range(1, len(words), 2):
         name = words[place][2:]
         if not words[place].startswith("--") or name not in order or name in given:
@@ -157,7 +158,7 @@ def read_order(words: List[str]) -> Dict[str, Union[None, int, str]]:
         if place + 1 == len(words):
             raise WordAtFault(len(words) + 1)
         try:
-            order[name] = option_value(name, words[place + 1])
+            order[name] = option_value(name, words[place + 1], most)
         except ValueError:
             raise WordAtFault(place + 2) from None
         given.add(name)
@@ -226,16 +227,16 @@ def output_of(order, image: Image, values: Optional[Image]) -> bytes:
     return detection_bytes(image, sources, COLUMNS + MEASURES, rows)
 
 
-def answer(words: List[str], data: bytes) -> Answer:
-    """What `maxdetect` answers to its words and its input."""
+def answer(words: List[str], data: bytes, most: int = MOST_PIXELS) -> Answer:
+    """What `maxdetect` answers to its words and its input, or `maxwide` where images have WIDE_PIXELS at most."""
     try:
-        order, values = read_order(words), None
+        order, values = read_order(words, most), None
         if order["command"] == "trial":
             return Answer(0, trial_line(order), "", 0)
         if order["command"] == "measure":
-            image, values, end = find_two(data, order["hdu"], order["values"])
+            image, values, end = find_two(data, order["hdu"], order["values"], most)
         else:
-            image, end = find_image(data, order["hdu"])
+            image, end = find_image(data, order["hdu"], most)
     except WordAtFault as error:
         return Answer(1, b"", f"usage: word {error.word}\n", 0)
     except Fault as error:

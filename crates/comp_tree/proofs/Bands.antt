@@ -9,8 +9,8 @@ use Rattle.std.proofs.Math.Nat.{mul-le-mul_right, zero-mul}
 use Rattle.std.proofs.lemmas.Option.{get_or_from_slice_get, slice_get_within}
 use denote.Ref.{MutBor}
 use denote.Param.Members.{Shared}
-use Rattle.comp_tree.specs.Limits.{IsWithinRange}
-use Rattle.comp_tree.specs.Raster.{HasValuesInRange, value_at}
+use Rattle.comp_tree.specs.Limits.{IsWithin, value_bound}
+use Rattle.comp_tree.specs.Raster.{HasValuesInRange, HasValuesWithin, value_at}
 use Rattle.comp_tree.specs.Bands.{LeavesInRange}
 use Rattle.comp_tree.proofs.Values.{in_range-value}
 
@@ -41,30 +41,32 @@ whole_rows rows width wide = let e : rows * width + 0 ≡ rows * width = omega a
 
 -- ---- values in bands
 
-read : {v : ℤ} (o : Option ℤ) → IfSome o (λ w. IsWithinRange w) → o ≡ Some v → IsWithinRange v
-read None h e = absurd cc
-read (Some w) h e = let same : w ≡ _ = cc in subst (λ (z : ℤ). IsWithinRange z) same h
+read : {v : ℤ} (bound : ℕ) (o : Option ℤ) → IfSome o (λ w. IsWithin bound w) → o ≡ Some v → IsWithin bound v
+read bound None h e = absurd cc
+read bound (Some w) h e = let same : w ≡ _ = cc in subst (λ (z : ℤ). IsWithin bound z) same h
 
--- a band of values within their range is within it
-pub in_range-band : (values band : List (Option ℤ)) (size start : ℕ) → HasValuesInRange values → IsChunk values size start band → HasValuesInRange band
-in_range-band values band size start range chunk p v is =
+-- a band of values within a bound is within it
+pub in_range-band : (bound : ℕ) (values band : List (Option ℤ)) (size start : ℕ) → HasValuesWithin bound values → IsChunk values size start band
+    → HasValuesWithin bound band
+in_range-band bound values band size start range chunk p v is =
     let lt : p < length band = slice_get_within band p (Some v) is in
-    read (value_at values (start + p)) (in_range-value values (start + p) range)
+    read bound (value_at values (start + p)) (in_range-value bound values (start + p) range)
     (sym (chunk.elements p None lt) ∙ get_or_from_slice_get band p (Some v) None is)
 
 -- values that calls left, each in its band, are within their range if all that a call may leave is
 pub in_range-bands : {F : Type 0} (g : Shared F (ℕ × (MutBor (List (Option ℤ)) × Unit {0})) (Unit {0} × (MutBor (List (Option ℤ)) × Unit {0})))
     (f : F) (size : ℕ) (values new : List (Option ℤ)) → LeavesInRange g f size values → length new ≡ length values → AllInChunks g f size values new
-    → HasValuesInRange new
+    → HasValuesWithin (value_bound (length values)) new
 in_range-bands g f size values new leaves same all p v is =
     let in_band = (all p None (omega (arith, same, slice_get_within new p (Some v) is))).1 in
-    read (value_at in_band.after_call.now in_band.offset)
-    (in_range-value in_band.after_call.now in_band.offset (leaves in_band.start in_band.argument in_band.after_call in_band.argument_is in_band.call))
+    read (value_bound (length values)) (value_at in_band.after_call.now in_band.offset)
+    (in_range-value (value_bound (length values)) in_band.after_call.now in_band.offset (leaves in_band.start in_band.argument in_band.after_call in_band.argument_is in_band.call))
     (in_band.new_element ∙ get_or_from_slice_get new p (Some v) None is)
 
 -- also where there was none
 pub in_range-changed : {F X E : Type 0} (g : Shared F (ℕ × (MutBor (List (Option ℤ)) × Unit {0})) (Unit {0} × (MutBor (List (Option ℤ)) × Unit {0})))
     (f : F) (size : ℕ) (values new : List (Option ℤ)) (r : Result X E) → HasValuesInRange values → LeavesInRange g f size values
     → length new ≡ length values → OnOk r (AllInChunks g f size values new) → OnErr r (new ≡ values) → HasValuesInRange new
-in_range-changed g f size values new (Ok x) range leaves same all none = in_range-bands g f size values new leaves same all
+in_range-changed g f size values new (Ok x) range leaves same all none =
+    subst (λ n. HasValuesWithin (value_bound n) new) (sym same) (in_range-bands g f size values new leaves same all)
 in_range-changed g f size values new (Err e) range leaves same all none = subst HasValuesInRange (sym none) range

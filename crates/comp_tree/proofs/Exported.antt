@@ -53,7 +53,7 @@ pub use Rattle.comp_tree.proofs.Representatives.{before_level, last_earlier, las
 -- representatives and parents, read off a forest that stands for a plane's adjacencies
 pub use Rattle.comp_tree.proofs.Canonical.{last_is, last_own, level-value, link_from_representative, parent_from_link, representative_from_link, value-level}
 -- a shape is that of its sides, and a plane that of its shape and values; a plane that is written pixel by pixel
-pub use Rattle.comp_tree.proofs.Shapes.{raster_is, shape_of_sides}
+pub use Rattle.comp_tree.proofs.Shapes.{raster_is, shape_by_sides, shape_of_sides, usual_sides}
 pub use Rattle.comp_tree.proofs.Writing.{written_all, written_itself, written_next, written_none}
 -- two planes whose pixels of at least a level stand in pairs: partners have one level, reach the same partners, and their representatives are
 -- partners; nodes that partners represent are counterparts, of one level and with paired pixels
@@ -70,3 +70,5 @@ pub use Rattle.comp_tree.proofs.Windows.{seen-value, some_columns, sure_componen
 pub use Rattle.comp_tree.proofs.Windows.{window_whole_below}
 -- the parent and the level that a row names are those of the tree at the row's number
 pub use Rattle.comp_tree.proofs.WellFormed.{row-parent, row_level}
+-- the bound of values, by how many pixels there are: never above 2 ^ 37, that of few pixels, and that of the sum of all
+pub use Rattle.comp_tree.proofs.Values.{bound_most, bound_of_sum, half_most, half_twice, usual_bound, usual_half, within_half, within_more, within_range, within_small, within-set}

@@ -5,8 +5,8 @@ use Rattle.std.specs.List.{range_with_len}
 use Rattle.std.proofs.lemmas.List.{length-map, ext_get_or}
 use Rattle.std.proofs.lemmas.List.FromFn.{get_or-map-range_with_len, length-range_with_len}
 use Rattle.comp_tree.specs.declared.shape.Shape.{Shape}
-use Rattle.comp_tree.specs.Raster.{Raster, HasValuesInRange, pixels, value_at, without_unmarked}
-use Rattle.comp_tree.specs.Limits.{IsWithinRange}
+use Rattle.comp_tree.specs.Raster.{Raster, HasValuesInRange, HasValuesWithin, pixels, value_at, without_unmarked}
+use Rattle.comp_tree.specs.Limits.{IsWithin, value_bound}
 use Rattle.std.proofs.lemmas.Option.{get_or_from_slice_get, slice_get_within}
 use Rattle.comp_tree.proofs.Values.{in_range-value}
 use Rattle.comp_tree.proofs.Blocks.{length-marked, marked-at}
@@ -35,8 +35,8 @@ unfolding without_unmarked marked_values pixels
 from-marked_values r marks = refl
 
 -- a marked pixel's value is one of the plane's
-pub in_range-marked : (values : List (Option ℤ)) (marks : List Bool) → HasValuesInRange values → HasValuesInRange (marked_values values marks)
-in_range-marked values marks range p v is = got (value_at (marked_values values marks) p) inside value
+within-marked : (bound : ℕ) (values : List (Option ℤ)) (marks : List Bool) → HasValuesWithin bound values → HasValuesWithin bound (marked_values values marks)
+within-marked bound values marks range p v is = got (value_at (marked_values values marks) p) inside value
   where
     lt : p < length values
     lt = subst (λ n. p < n) (length-marked values marks) (slice_get_within (marked_values values marks) p (Some v) is)
@@ -44,13 +44,18 @@ in_range-marked values marks range p v is = got (value_at (marked_values values 
     value : value_at (marked_values values marks) p ≡ Some v
     value = get_or_from_slice_get (marked_values values marks) p (Some v) None is
 
-    choose : (b : Bool) → IfSome (cond b (value_at values p) None) (λ w. IsWithinRange w)
-    choose true = in_range-value values p range
+    choose : (b : Bool) → IfSome (cond b (value_at values p) None) (λ w. IsWithin bound w)
+    choose true = in_range-value bound values p range
     choose false = tt
 
-    inside : IfSome (value_at (marked_values values marks) p) (λ w. IsWithinRange w)
-    inside = subst (λ (o : Option ℤ). IfSome o (λ w. IsWithinRange w)) (sym (marked-at values marks p lt)) (choose (slice_index_or marks p false))
+    inside : IfSome (value_at (marked_values values marks) p) (λ w. IsWithin bound w)
+    inside = subst (λ (o : Option ℤ). IfSome o (λ w. IsWithin bound w)) (sym (marked-at values marks p lt)) (choose (slice_index_or marks p false))
 
-    got : (o : Option ℤ) → IfSome o (λ w. IsWithinRange w) → o ≡ Some v → IsWithinRange v
+    got : (o : Option ℤ) → IfSome o (λ w. IsWithin bound w) → o ≡ Some v → IsWithin bound v
     got None h e = absurd cc
-    got (Some w) h e = let same : w ≡ v = cc in subst (λ (z : ℤ). IsWithinRange z) same h
+    got (Some w) h e = let same : w ≡ v = cc in subst (λ (z : ℤ). IsWithin bound z) same h
+
+pub in_range-marked : (values : List (Option ℤ)) (marks : List Bool) → HasValuesInRange values → HasValuesInRange (marked_values values marks)
+in_range-marked values marks range =
+    subst (λ n. HasValuesWithin (value_bound n) (marked_values values marks)) (sym (length-marked values marks))
+    (within-marked (value_bound (length values)) values marks range)

@@ -1,9 +1,9 @@
 -- A shape is known by its sides, and a plane by its shape and its values.
-use Rattle.std.proofs.Common.{◌≡◌, ℕ, Bool, true, false, Some, refl, sym, ap, subst, arith}
+use Rattle.std.proofs.Common.{◌≡◌, ℕ, ◌*◌, ◌^◌, ◌≤◌, Bool, true, false, Some, refl, sym, ap, subst, arith}
 use Rattle.std.proofs.lemmas.Bool.Decides.{nat_tests}
 use Rattle.std.specs.Coded.{le_prop}
 use Rattle.comp_tree.specs.declared.shape.Shape.{Shape}
-use Rattle.comp_tree.specs.Limits.{IsWithinLimits}
+use Rattle.comp_tree.specs.Limits.{IsWithinLimits, IsWithinUsualLimits}
 use Rattle.comp_tree.specs.Raster.{Raster}
 use Rattle.comp_tree.specs.Shapes.{fits_limits, shape_if, shape_of}
 
@@ -26,7 +26,7 @@ same_sides width height w h limits others p q =
 pub shape_by_sides : (s t : Shape) → s.width ≡ t.width → s.height ≡ t.height → s ≡ t
 shape_by_sides s t p q = same_sides s.width s.height t.width t.height s.within_limits t.within_limits p q
 
-within_from : (width height : ℕ) → IsWithinLimits width height → fits_limits width height ≡ true
+within_from : (width height : ℕ) → IsWithinUsualLimits width height → fits_limits width height ≡ true
 unfolding fits_limits
 within_from width height limits =
     let columns = limits.some_columns in
@@ -41,12 +41,22 @@ shape_if-true : (width height : ℕ) (within : Bool) (limits : within ≡ true �
 shape_if-true width height true limits s h p q = ap Some (sym (shape_by_sides s (sided width height (limits refl)) p q))
 shape_if-true width height false limits s h p q = absurd (cc)
 
--- the shape of a shape's sides is that shape
-pub shape_of_sides : (width height : ℕ) (s : Shape) → s.width ≡ width → s.height ≡ height → shape_of width height ≡ Some s
+-- the sides of a shape with few pixels are within the usual limits
+pub usual_sides : (s : Shape) → s.width * s.height ≤ 2 ^ 24 → IsWithinUsualLimits s.width s.height
+usual_sides s few = record {
+  some_columns = s.within_limits.some_columns;
+  some_rows = s.within_limits.some_rows;
+  few_columns = s.within_limits.few_columns;
+  few_rows = s.within_limits.few_rows;
+  few_pixels = few;
+}
+
+-- the shape of such a shape's sides is that shape
+pub shape_of_sides : (width height : ℕ) (s : Shape) → s.width ≡ width → s.height ≡ height → s.width * s.height ≤ 2 ^ 24 → shape_of width height ≡ Some s
 unfolding shape_of
-shape_of_sides width height s p q =
+shape_of_sides width height s p q few =
     shape_if-true width height (fits_limits width height) _ s
-    (within_from width height (subst (λ x. IsWithinLimits x height) p (subst (λ y. IsWithinLimits s.width y) q s.within_limits))) p q
+    (within_from width height (subst (λ x. IsWithinUsualLimits x height) p (subst (λ y. IsWithinUsualLimits s.width y) q (usual_sides s few)))) p q
 
 -- two planes of one shape with the same values are one
 pub raster_is : (a b : Raster) → a.shape ≡ b.shape → a.values ≡ b.values → a ≡ b

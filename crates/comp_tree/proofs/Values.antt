@@ -1,18 +1,19 @@
 -- Values of a plane stay within their range, and are read as they were kept.
-use Rattle.std.proofs.Common.{◌≡◌, ◌∙◌, ℕ, zero, suc, ◌+◌, ◌*◌, ◌^◌, ◌==◌, ◌≢◌, ◌<◌, Bool, true, false, cond, ◌&&◌, List}
+use Rattle.std.proofs.Common.{◌≡◌, ◌∙◌, ℕ, zero, suc, ◌+◌, ◌*◌, ◌^◌, ◌==◌, ◌≢◌, ◌<◌, ◌≤◌, Bool, true, false, cond, ◌&&◌, List}
 use Rattle.std.proofs.Common.{[], ◌∷◌, ◌++◌, length, take, get_or, refl, sym, ap, subst, eq-eqb, arith}
-use Rattle.std.specs.Prelude.{ℤ, pos, neg_ℤ, int_le, if◌then◌else◌, Option, Some, None, IfSome, replicate, slice_get, slice_set}
+use Rattle.std.specs.Prelude.{ℤ, pos, neg_ℤ, int_le, nat_le, if◌then◌else◌, Option, Some, None, IfSome, replicate, slice_get, slice_set}
 use Rattle.std.specs.Ordering.{int_eq}
 use Rattle.std.proofs.lemmas.Int.{ints}
 use Rattle.std.specs.List.{list_all}
-use Rattle.std.proofs.lemmas.List.{take_more}
+use Rattle.std.proofs.lemmas.List.{take_more, length-set}
 use Rattle.std.proofs.lemmas.List.Folds.{list_all_more}
-use Rattle.comp_tree.specs.Limits.{IsWithinRange}
+use Rattle.comp_tree.specs.Limits.{most_pixels, IsWithin, IsWithinRange, IsInHalfRange, value_bound, half_bound}
 use Rattle.comp_tree.specs.declared.shape.Shape.{Shape}
-use Rattle.comp_tree.specs.Raster.{Raster, HasValuesInRange, value_at, is_pixel_value, raster_of}
+use Rattle.comp_tree.specs.Raster.{Raster, HasValuesInRange, HasValuesWithin, value_at, is_pixel_value, raster_of}
 use Rattle.comp_tree.specs.Numbers.{undefined_number, pixel_of}
 use Rattle.lemmas.proofs.Exported.{int_eq-true, int_le-true}
-use Rattle.std.proofs.lemmas.Bool.{and_parts, ne_eqb}
+use Rattle.std.proofs.lemmas.Bool.{and_parts, ne_eqb, cond-true}
+use Rattle.std.proofs.lemmas.Bool.Decides.{nat_tests}
 
 none_some : (v : ℤ) → (let o : Option (Option ℤ) = None in o) ≡ Some (Some v) → ⊥
 none_some v h = cc
@@ -20,31 +21,111 @@ none_some v h = cc
 undefined_some : (v : ℤ) → (let o : Option (Option ℤ) = Some None in o) ≡ Some (Some v) → ⊥
 undefined_some v h = cc
 
-pub in_range-blank : (n : ℕ) → HasValuesInRange (replicate n None)
-in_range-blank zero p v h = absurd (none_some v h)
-in_range-blank (suc n) zero v h = absurd (undefined_some v h)
-in_range-blank (suc n) (suc p) v h = in_range-blank n p v h
-
-pub in_range-set : (xs : List (Option ℤ)) (p : ℕ) (value : Option ℤ) → HasValuesInRange xs → IfSome value (λ v. IsWithinRange v)
-    → HasValuesInRange (slice_set xs p value)
-in_range-set [] p value old new q v h = old q v h
-in_range-set (x ∷ xs) zero value old new zero v h = go value new h
+-- the bound is never above 2 ^ 37, and each value in range is below that
+pub bound_most : (count : ℕ) → value_bound count ≤ 2 ^ 37
+unfolding value_bound
+bound_most count = go (nat_le count (2 ^ 24))
   where
-    go : (o : Option ℤ) → IfSome o (λ v. IsWithinRange v) → (let a : Option (Option ℤ) = Some o in a) ≡ Some (Some v) → IsWithinRange v
+    go : (b : Bool) → cond b (2 ^ 37) (2 ^ 30) ≤ 2 ^ 37
+    go true = omega arith
+    go false = omega arith
+
+pub within_more : (a b : ℕ) (v : ℤ) → a ≤ b → IsWithin a v → IsWithin b v
+within_more a b v le h = let low : _ = h.low in let high : _ = h.high in record { low = omega (arith, ints); high = omega (arith, ints) }
+
+-- it is never below 2 ^ 30
+pub within_small : (count : ℕ) (v : ℤ) → IsWithin (2 ^ 30) v → IsWithin (value_bound count) v
+unfolding value_bound
+within_small count v h = go (nat_le count (2 ^ 24))
+  where
+    go : (b : Bool) → IsWithin (cond b (2 ^ 37) (2 ^ 30)) v
+    go true = within_more (2 ^ 30) (2 ^ 37) v (omega arith) h
+    go false = h
+
+pub within_range : (count : ℕ) (v : ℤ) → IsWithin (value_bound count) v → IsWithinRange v
+within_range count v h = within_more (value_bound count) (2 ^ 37) v (bound_most count) h
+
+-- of a plane with few pixels it is 2 ^ 37
+pub usual_bound : (count : ℕ) → count ≤ 2 ^ 24 → value_bound count ≡ 2 ^ 37
+unfolding value_bound
+usual_bound count few = cond-true (nat_le count (2 ^ 24)) (2 ^ 37) (2 ^ 30) (grind (arith, nat_tests))
+
+-- the values of a whole plane add up to at most 2 ^ 61
+pub bound_of_sum : (count : ℕ) → count ≤ most_pixels → value_bound count * count ≤ 2 ^ 61
+unfolding value_bound
+bound_of_sum count few = go (nat_le count (2 ^ 24)) refl
+  where
+    go : (b : Bool) → nat_le count (2 ^ 24) ≡ b → cond b (2 ^ 37) (2 ^ 30) * count ≤ 2 ^ 61
+    go true e = let l : count ≤ 2 ^ 24 = grind (arith, nat_tests) in omega (arith, l)
+    go false e = omega (arith, few)
+
+-- half of it
+pub half_most : (count : ℕ) → half_bound count ≤ 2 ^ 36
+unfolding half_bound
+half_most count = go (nat_le count (2 ^ 24))
+  where
+    go : (b : Bool) → cond b (2 ^ 36) (2 ^ 29) ≤ 2 ^ 36
+    go true = omega arith
+    go false = omega arith
+
+pub half_twice : (count : ℕ) → half_bound count + half_bound count ≡ value_bound count
+unfolding half_bound value_bound
+half_twice count = go (nat_le count (2 ^ 24))
+  where
+    go : (b : Bool) → cond b (2 ^ 36) (2 ^ 29) + cond b (2 ^ 36) (2 ^ 29) ≡ cond b (2 ^ 37) (2 ^ 30)
+    go true = refl
+    go false = refl
+
+pub usual_half : (count : ℕ) → count ≤ 2 ^ 24 → half_bound count ≡ 2 ^ 36
+unfolding half_bound
+usual_half count few = cond-true (nat_le count (2 ^ 24)) (2 ^ 36) (2 ^ 29) (grind (arith, nat_tests))
+
+pub within_half : (count : ℕ) (v : ℤ) → IsWithin (half_bound count) v → IsInHalfRange v
+within_half count v h = within_more (half_bound count) (2 ^ 36) v (half_most count) h
+
+pub some_within_range : (count : ℕ) (o : Option ℤ) → IfSome o (λ v. IsWithin (value_bound count) v) → IfSome o (λ v. IsWithinRange v)
+some_within_range count None h = tt
+some_within_range count (Some v) h = within_range count v h
+
+within-blank : (bound n : ℕ) → HasValuesWithin bound (replicate n None)
+within-blank bound zero p v h = absurd (none_some v h)
+within-blank bound (suc n) zero v h = absurd (undefined_some v h)
+within-blank bound (suc n) (suc p) v h = within-blank bound n p v h
+
+pub in_range-blank : (n : ℕ) → HasValuesInRange (replicate n None)
+in_range-blank n = within-blank (value_bound (length (replicate n None))) n
+
+pub within-set : (bound : ℕ) (xs : List (Option ℤ)) (p : ℕ) (value : Option ℤ) → HasValuesWithin bound xs → IfSome value (λ v. IsWithin bound v)
+    → HasValuesWithin bound (slice_set xs p value)
+within-set bound [] p value old new q v h = old q v h
+within-set bound (x ∷ xs) zero value old new zero v h = go value new h
+  where
+    go : (o : Option ℤ) → IfSome o (λ v. IsWithin bound v) → (let a : Option (Option ℤ) = Some o in a) ≡ Some (Some v) → IsWithin bound v
     go None k e = absurd (undefined_some v e)
-    go (Some w) k e = let f : w ≡ v = cc in subst (λ (z : ℤ). IsWithinRange z) f k
-in_range-set (x ∷ xs) zero value old new (suc q) v h = old (suc q) v h
-in_range-set (x ∷ xs) (suc p) value old new zero v h = old zero v h
-in_range-set (x ∷ xs) (suc p) value old new (suc q) v h = in_range-set xs p value (λ j w k. old (suc j) w k) new q v h
+    go (Some w) k e = let f : w ≡ v = cc in subst (λ (z : ℤ). IsWithin bound z) f k
+within-set bound (x ∷ xs) zero value old new (suc q) v h = old (suc q) v h
+within-set bound (x ∷ xs) (suc p) value old new zero v h = old zero v h
+within-set bound (x ∷ xs) (suc p) value old new (suc q) v h = within-set bound xs p value (λ j w k. old (suc j) w k) new q v h
 
-pub in_range-get : (xs : List (Option ℤ)) (p : ℕ) (o : Option ℤ) → HasValuesInRange xs → slice_get xs p ≡ Some o → IfSome o (λ v. IsWithinRange v)
-in_range-get xs p None h e = tt
-in_range-get xs p (Some v) h e = h p v e
+pub in_range-set : (xs : List (Option ℤ)) (p : ℕ) (value : Option ℤ) → HasValuesInRange xs → IfSome value (λ v. IsWithin (value_bound (length xs)) v)
+    → HasValuesInRange (slice_set xs p value)
+in_range-set xs p value old new =
+    subst (λ n. HasValuesWithin (value_bound n) (slice_set xs p value)) (sym (length-set xs p value))
+    (within-set (value_bound (length xs)) xs p value old new)
 
-pub in_range-value : (values : List (Option ℤ)) (p : ℕ) → HasValuesInRange values → IfSome (value_at values p) (λ v. IsWithinRange v)
-in_range-value [] p h = tt
-in_range-value (x ∷ xs) zero h = in_range-get (x ∷ xs) 0 x h refl
-in_range-value (x ∷ xs) (suc p) h = in_range-value xs p (λ j v e. h (suc j) v e)
+pub in_range-get : (bound : ℕ) (xs : List (Option ℤ)) (p : ℕ) (o : Option ℤ) → HasValuesWithin bound xs → slice_get xs p ≡ Some o
+    → IfSome o (λ v. IsWithin bound v)
+in_range-get bound xs p None h e = tt
+in_range-get bound xs p (Some v) h e = h p v e
+
+pub in_range-value : (bound : ℕ) (values : List (Option ℤ)) (p : ℕ) → HasValuesWithin bound values → IfSome (value_at values p) (λ v. IsWithin bound v)
+in_range-value bound [] p h = tt
+in_range-value bound (x ∷ xs) zero h = in_range-get bound (x ∷ xs) 0 x h refl
+in_range-value bound (x ∷ xs) (suc p) h = in_range-value bound xs p (λ j v e. h (suc j) v e)
+
+-- so it is a value that any pixel may have
+pub in_range-of_value : (values : List (Option ℤ)) (p : ℕ) → HasValuesInRange values → IfSome (value_at values p) (λ v. IsWithinRange v)
+in_range-of_value values p h = some_within_range (length values) (value_at values p) (in_range-value (value_bound (length values)) values p h)
 
 -- ---- pixels as numbers
 
@@ -67,13 +148,13 @@ pixel_of-in_range v r = go (int_eq v undefined_number) refl
 -- ---- pixels that were kept
 
 -- one pixel more
-pub kept_more : (kept values : List (Option ℤ)) (i : ℕ) (value d : Option ℤ) → i < length values
-    → (kept ≡ take i values) × (list_all is_pixel_value (take i values) ≡ true)
-    → value ≡ get_or values i d → is_pixel_value (get_or values i d) ≡ true
-    → (kept ++ value ∷ [] ≡ take (i + 1) values) × (list_all is_pixel_value (take (i + 1) values) ≡ true)
-kept_more kept values i value d within before here may = (
+pub kept_more : (bound : ℕ) (kept values : List (Option ℤ)) (i : ℕ) (value d : Option ℤ) → i < length values
+    → (kept ≡ take i values) × (list_all (is_pixel_value bound) (take i values) ≡ true)
+    → value ≡ get_or values i d → is_pixel_value bound (get_or values i d) ≡ true
+    → (kept ++ value ∷ [] ≡ take (i + 1) values) × (list_all (is_pixel_value bound) (take (i + 1) values) ≡ true)
+kept_more bound kept values i value d within before here may = (
   ap (λ l. l ++ value ∷ []) before.0 ∙ ap (λ v. take i values ++ v ∷ []) here ∙ sym (take_more values i d within),
-  list_all_more is_pixel_value values i d within ∙ ap (λ b. b && is_pixel_value (get_or values i d)) before.1 ∙ may,
+  list_all_more (is_pixel_value bound) values i d within ∙ ap (λ b. b && is_pixel_value bound (get_or values i d)) before.1 ∙ may,
 )
 
 -- ---- planes of given values
@@ -82,25 +163,27 @@ pub of_other_count : (shape : Shape) (values : List (Option ℤ)) → length val
 unfolding raster_of
 of_other_count shape values other = let e : length values == shape.width * shape.height ≡ false = ne_eqb _ _ other in rw e refl
 
-pub of_other_values : (shape : Shape) (values : List (Option ℤ)) → list_all is_pixel_value values ≡ false → raster_of shape values ≡ None
+pub of_other_values : (shape : Shape) (values : List (Option ℤ)) → list_all (is_pixel_value (value_bound (length values))) values ≡ false → raster_of shape values ≡ None
 unfolding raster_of
 of_other_values shape values other = go (length values == shape.width * shape.height)
   where
     go : (b : Bool)
-        → (if b && list_all is_pixel_value values then Some (record { shape = shape; values = values }) else (let o : Option Raster = None in o)) ≡ None
+        → (if b && list_all (is_pixel_value (value_bound (length values))) values then Some (record { shape = shape; values = values }) else (let o : Option Raster = None in o)) ≡ None
     go true = rw other refl
     go false = refl
 
-pub of_values : (shape : Shape) (values : List (Option ℤ)) → length values ≡ shape.width * shape.height → list_all is_pixel_value values ≡ true
+pub of_values : (shape : Shape) (values : List (Option ℤ)) → length values ≡ shape.width * shape.height → list_all (is_pixel_value (value_bound (length values))) values ≡ true
     → raster_of shape values ≡ Some (record { shape = shape; values = values })
 unfolding raster_of
 of_values shape values count may = let e : length values == shape.width * shape.height ≡ true = eq-eqb _ _ count in rw (e, may) refl
 
-pub in_range-of_test : (values : List (Option ℤ)) → list_all is_pixel_value values ≡ true → HasValuesInRange values
-in_range-of_test [] may p v h = absurd (none_some v h)
-in_range-of_test (x ∷ xs) may zero v h =
+pub within-of_test : (bound : ℕ) (values : List (Option ℤ)) → list_all (is_pixel_value bound) values ≡ true → HasValuesWithin bound values
+within-of_test bound [] may p v h = absurd (none_some v h)
+within-of_test bound (x ∷ xs) may zero v h =
     let same : x ≡ Some v = cc in
-    let test : is_pixel_value (Some v) ≡ true = ap is_pixel_value (sym same) ∙ (and_parts (is_pixel_value x) (list_all is_pixel_value xs) may).0 in
-    let sides : _ = and_parts (int_le (neg_ℤ (pos (2 ^ 37))) v) (int_le v (pos (2 ^ 37))) test in
+    let test : is_pixel_value bound (Some v) ≡ true =
+    ap (is_pixel_value bound) (sym same) ∙ (and_parts (is_pixel_value bound x) (list_all (is_pixel_value bound) xs) may).0 in
+    let sides : _ = and_parts (int_le (neg_ℤ (pos bound)) v) (int_le v (pos bound)) test in
     record { low = int_le-true _ _ sides.0; high = int_le-true _ _ sides.1 }
-in_range-of_test (x ∷ xs) may (suc p) v h = in_range-of_test xs (and_parts (is_pixel_value x) (list_all is_pixel_value xs) may).1 p v h
+within-of_test bound (x ∷ xs) may (suc p) v h =
+    within-of_test bound xs (and_parts (is_pixel_value bound x) (list_all (is_pixel_value bound) xs) may).1 p v h

@@ -2,7 +2,7 @@
 use Rattle.std.specs.Prelude.{◌≡◌, ℕ, ◌-◌, List, length, Option, ℤ, ◌⊎◌, ◌↔◌, slice_index_or}
 pub use Rattle.comp_tree.specs.Limits.{no_node}
 pub use Rattle.comp_tree.specs.Raster.{value_at, ReachesLevel, is_before, ComesBefore}
-pub use Rattle.comp_tree.specs.Grid.{IsWithin}
+pub use Rattle.comp_tree.specs.Grid.{LiesInStretch}
 use Rattle.comp_tree.specs.declared.shape.Connect.{Connect}
 use Rattle.comp_tree.specs.Raster.{Raster}
 use Rattle.comp_tree.specs.Grid.{IsAdjacency}
@@ -14,7 +14,7 @@ ComesEarlier values a b = ComesBefore (value_at values a) a (value_at values b) 
 
 -- p is one of these pixels, and its value is at least h
 pub record IsHigh (values : List (Option ℤ)) (first count : ℕ) (h : ℤ) (p : ℕ) : Type 0 where
-  pub within : IsWithin first count p
+  pub within : LiesInStretch first count p
   pub value : ReachesLevel h (value_at values p)
 
 -- ---- links
@@ -25,18 +25,18 @@ link_of first links p = slice_index_or links (p - first) no_node
 
 -- p is one of these pixels, and its link is q
 pub record IsLink (first : ℕ) (links : List ℕ) (p q : ℕ) : Type 0 where
-  pub within : IsWithin first (length links) p
+  pub within : LiesInStretch first (length links) p
   pub link : link_of first links p ≡ q
 
 -- the link of p is none, or one of these pixels and earlier
 abbrev pub LinksToEarlier : List (Option ℤ) → ℕ → List ℕ → ℕ → Type 0
 LinksToEarlier values first links p =
     (link_of first links p ≡ no_node)
-    ⊎ (IsWithin first (length links) (link_of first links p) × ComesEarlier values (link_of first links p) p)
+    ⊎ (LiesInStretch first (length links) (link_of first links p) × ComesEarlier values (link_of first links p) p)
 
 -- the links of all these pixels are so. So an undefined pixel links to none, and nothing links to it
 pub record IsForest (values : List (Option ℤ)) (first : ℕ) (links : List ℕ) : Type 0 where
-  pub earlier : (p : ℕ) → IsWithin first (length links) p → LinksToEarlier values first links p
+  pub earlier : (p : ℕ) → LiesInStretch first (length links) p → LinksToEarlier values first links p
 
 -- z is the last pixel that is high on the walk from p along the links, p included
 pub data WayEndsAt (values : List (Option ℤ)) (first : ℕ) (links : List ℕ) (h : ℤ) : ℕ → ℕ → Type 0 where

@@ -28,12 +28,12 @@ abbrev pub IsAdjacency : List (Option ℤ) → ℕ → Connect → ℕ → ℕ �
 IsAdjacency values width connect p q = IsTrue (are_adjacent values width connect p q)
 
 -- p is one of the count pixels from first on
-pub record IsWithin (first count p : ℕ) : Type 0 where
+pub record LiesInStretch (first count p : ℕ) : Type 0 where
   pub low : first ≤ p
   pub high : p < first + count
 
 -- an adjacency of two of the count pixels from first on
 pub record IsInner (values : List (Option ℤ)) (width : ℕ) (connect : Connect) (first count p q : ℕ) : Type 0 where
   pub adjacent : IsTrue (are_adjacent values width connect p q)
-  pub one : IsWithin first count p
-  pub other : IsWithin first count q
+  pub one : LiesInStretch first count p
+  pub other : LiesInStretch first count q

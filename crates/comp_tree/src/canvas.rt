@@ -1,7 +1,7 @@
 //! Planes that are being painted.
 
 ghost use Rattle.std.specs.Prelude.{◌≡◌, ◌*◌, ◌<◌, None, replicate, slice_set, IfOk, IfSome, length};
-ghost use Rattle.comp_tree.specs.Limits.{IsWithinRange};
+ghost use Rattle.comp_tree.specs.Limits.{IsWithin, value_bound};
 
 use crate::pixel::Pixel;
 use crate::plane::Plane;
@@ -54,7 +54,8 @@ impl Canvas {
     /// Gives a pixel a value, or makes it undefined.
     pub fn set(&mut self, p: u32, value: Option<i64>)
         requires pixel { p < length self.old.values }
-        requires in_range { IfSome value (λ v. IsWithinRange v) }
+        requires in_range { IfSome value
+            (λ v. IsWithin (value_bound (length self.old.values)) v) }
         ensures { self.new ≡ record self.old { values = slice_set self.old.values p value } }
     {
         self.pixels[p as usize] = Pixel::of(value);

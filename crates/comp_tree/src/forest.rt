@@ -1,7 +1,7 @@
 //! Forests of links between the pixels of a plane.
 
 ghost use Rattle.std.specs.Prelude.{◌≡◌, ◌+◌, ◌<◌, ◌≤◌, ◌↔◌, length, IsTrue};
-ghost use Rattle.comp_tree.specs.Forest.{IsWithin, LinksToEarlier, IsForest};
+ghost use Rattle.comp_tree.specs.Forest.{LiesInStretch, LinksToEarlier, IsForest};
 
 use crate::NONE;
 use crate::plane::Plane;
@@ -60,7 +60,7 @@ pub fn is_forest(plane: &Plane, first: u32, parents: &[u32]) -> bool
 // Whether the link of `p` is `NONE`, or one of these pixels and earlier.
 fn is_kept(plane: &Plane, first: u32, parents: &[u32], p: u32) -> bool
     requires rows { first + length parents.now ≤ length plane.now.values }
-    requires pixel { IsWithin first (length parents.now) p }
+    requires pixel { LiesInStretch first (length parents.now) p }
     ensures { IsTrue result ↔ LinksToEarlier plane.now.values first parents.now p }
 {
     let link = parents[(p - first) as usize];

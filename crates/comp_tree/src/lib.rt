@@ -28,5 +28,5 @@ pub use plane::Plane;
 pub use shape::{Connect, Shape};
 pub use tree::{NodeRow, Tree};
 
-/// Stands for "no pixel" and "no node". An image has at most 2^24 pixels, so it is the number of none of them.
+/// Stands for "no pixel" and "no node". An image has at most 2^31 - 1 pixels, so it is the number of none of them.
 pub const NONE: u32 = u32::MAX;

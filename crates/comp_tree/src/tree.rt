@@ -2,6 +2,7 @@
 
 ghost use Rattle.std.specs.Prelude.{◌≡◌, ℕ, ◌+◌, ◌-◌, ◌*◌, ◌^◌, ◌≤◌, ◌<◌, ◌⊎◌, length, slice_index, All};
 ghost use Rattle.comp_tree.specs.ComponentTree.{ComponentTree, IsWellFormed, no_node, parent_in};
+ghost use Rattle.comp_tree.specs.Limits.{most_pixels};
 
 use crate::shape::Shape;
 use std::marker::Model;
@@ -76,7 +77,7 @@ impl Tree {
     /// How many nodes there are: at most one for each pixel.
     pub fn node_count(&self) -> u32
         ensures all { result ≡ length self.now.rows }
-        ensures few { result ≤ 2 ^ 24 }
+        ensures few { result ≤ most_pixels }
     {
         self.rows.len() as u32
     }
@@ -86,7 +87,7 @@ impl Tree {
         requires { n < length self.now.rows }
         ensures same { result ≡ parent_in self.now.rows n }
         ensures smaller { (result ≡ no_node) ⊎ (result < n) }
-        ensures few { length self.now.rows ≤ 2 ^ 24 }
+        ensures few { length self.now.rows ≤ most_pixels }
     {
         self.rows[n as usize].parent
     }

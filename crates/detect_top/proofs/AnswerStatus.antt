@@ -8,7 +8,7 @@ use Rattle.orders.specs.declared.words.Order.{Order}
 use Rattle.orders.specs.declared.words.Job.{Job}
 use Rattle.orders.specs.declared.words.Job.TheVariants.{Tree, Filter, Detect, Trial, Measure}
 use Rattle.orders.specs.declared.words.Usage.{Usage as AtFault}
-use Rattle.orders.specs.Words.{order_of, image_order_of}
+use Rattle.orders.specs.Words.{order_within, image_order_of}
 use Rattle.run_relation.specs.Answers.{end_status}
 use Rattle.run_relation.specs.Laws.{AnswersAreOfWordsAndBytes}
 use Rattle.run_relation.proofs.Exported.{by_verdict}
@@ -27,7 +27,7 @@ by_order limits (Err usage) bytes = omega arith
 by_order limits (Ok order) bytes = by_job limits order order.job bytes
 
 pub status_of_all : AnswersAreOfWordsAndBytes asked_of_all
-status_of_all words bytes = by_order usual_limits (order_of words) bytes
+status_of_all words bytes = by_order usual_limits (order_within usual_limits.pixels words) bytes
 
 pub status_by_words_and_bytes : AnswersAreOfWordsAndBytes asked_of
 status_by_words_and_bytes words bytes = by_order usual_limits (image_order_of words) bytes

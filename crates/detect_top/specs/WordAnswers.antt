@@ -4,7 +4,7 @@ use Rattle.orders.specs.declared.words.Order.{Order}
 use Rattle.orders.specs.declared.words.Job.{Job}
 use Rattle.orders.specs.declared.words.Job.TheVariants.{Tree, Filter, Detect, Trial, Measure}
 use Rattle.orders.specs.declared.words.Usage.{Usage as AtFault}
-use Rattle.orders.specs.Words.{order_of, image_order_of}
+use Rattle.orders.specs.Words.{order_within, image_order_of}
 use Rattle.pixel_plane.specs.declared.limits.Limits.{Limits}
 use Rattle.pixel_plane.specs.ImageLimits.{usual_limits}
 use Rattle.run_relation.specs.Headline.{Answer, Asked, asked_nothing}
@@ -26,7 +26,7 @@ asked_by limits (Ok order) = asked_for limits order order.job
 
 -- what any words ask, where images have these limits
 abbrev pub asked_within : Limits → List (List ℕ) → Asked
-asked_within limits words = asked_by limits (order_of words)
+asked_within limits words = asked_by limits (order_within limits.pixels words)
 
 -- where they have the usual ones
 abbrev pub asked_of_all : List (List ℕ) → Asked

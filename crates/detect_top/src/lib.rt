@@ -5,7 +5,7 @@ pub mod laws;
 mod making;
 mod top;
 
-pub use top::{read_words, run, run_all};
+pub use top::{read_words, run, run_all, run_within};
 
 #[cfg(test)]
 mod detection_tests;
@@ -17,6 +17,8 @@ mod filter_tests;
 mod header_tests;
 #[cfg(test)]
 mod in_memory;
+#[cfg(test)]
+mod limits_tests;
 #[cfg(test)]
 mod measure_tests;
 #[cfg(test)]

@@ -12,7 +12,7 @@ ghost use Rattle.detect_top.specs.Made.{made_bytes, IsMade, IsOfInput};
 use crate::making::{Made, make, make_trial, write_made};
 use dev_io::{Sink, Source};
 use measure_top::measure_input;
-use orders::{Job, Order, Usage, read_order};
+use orders::{Job, Order, Usage, read_order, read_order_within};
 use pixel_plane::{Limits, Stop, read_image};
 use run_relation::{End, tell};
 use std::alloc::Global;
@@ -167,7 +167,8 @@ fn run_order<R: Threads + Sync, S: Source, O: Sink, N: Sink, G: Gate>(
 }
 
 /// Does what the words say, over this input, where images have these limits: with `measure` as the first word, sources are detected in one image and measured in
-/// another of the same file; all other words work on one image, or make one. An image that a trial makes has the usual limits.
+/// another of the same file; all other words work on one image, or make one. No area that the words name is larger than the most pixels of an image.
+/// An image that a trial makes has the usual limits.
 ///
 /// All memory is taken before the first byte of output, which comes in pieces of at most 2,880 bytes.
 pub fn run_within<R: Threads + Sync, S: Source, O: Sink, N: Sink, G: Gate>(
@@ -185,7 +186,7 @@ pub fn run_within<R: Threads + Sync, S: Source, O: Sink, N: Sink, G: Gate>(
         (use_of_output O.written O.settled O.faults output.old output.new)
         (use_of_output N.written N.settled N.faults notes.old notes.new) result }
 {
-    let order = read_order(words);
+    let order = read_order_within(words, limits.pixels);
     run_order(rt, alloc, order, limits, input, output, notes, gate)
 }
 

@@ -1,5 +1,5 @@
 -- Entries of measures, and the values around a node.
-use Rattle.std.proofs.Common.{◌≡◌, ℕ, ◌+◌, ◌-◌, ◌^◌, ◌<◌, ◌≤◌, zero, suc, Bool, true, false, List, [], ◌∷◌, length, map, refl, sym, ◌∙◌, ap, subst, arith}
+use Rattle.std.proofs.Common.{◌≡◌, ℕ, ◌+◌, ◌-◌, ◌<◌, ◌≤◌, zero, suc, Bool, true, false, List, [], ◌∷◌, length, map, refl, sym, ◌∙◌, ap, subst, arith}
 use Rattle.std.proofs.Common.{get_or}
 use Rattle.std.specs.Prelude.{◌==◌, ◌&&◌, not, ℤ, pos, ◌+ℤ◌, ◌-ℤ◌, Some, filter, slice_get, slice_index_or}
 use Rattle.std.specs.List.{range_with_len}
@@ -16,13 +16,13 @@ use Rattle.comp_tree.specs.Raster.{Raster, IsPlane, HasValuesInRange, pixels}
 use Rattle.comp_tree.specs.ComponentTree.{ComponentTree, parent_in, no_node}
 use Rattle.comp_tree.specs.Components.{nodes, is_in_node, tree_of}
 use Rattle.comp_tree.specs.Nesting.{node_numbers, pixels_of}
-use Rattle.node_sums.proofs.Exported.{length-filter-le, parent_holds, rows_are, parent_is}
+use Rattle.node_sums.proofs.Exported.{length-filter-le, level_within, parent_holds, rows_are, parent_is}
 use Rattle.dual_measure.specs.declared.values.Measure.{Measure}
 use Rattle.dual_measure.specs.Measures.{measure_over, measure_of, measures_of, floor_mean, around_node, back_of, IsSumOf, HasMeasureSizes, IsPlanesTree}
 use Rattle.dual_measure.specs.Measures.{AreTheTreesMeasures}
 use Rattle.dual_measure.specs.Adding.{combined, measured_so_far}
-use Rattle.dual_measure.proofs.Passing.{parent_read, parent_there}
-use Rattle.dual_measure.proofs.Measuring.{so_far_is, so_far-union, level_in_range, sum_small, all_counted, sum_fits}
+use Rattle.dual_measure.proofs.Passing.{as_many, parent_read, parent_there}
+use Rattle.dual_measure.proofs.Measuring.{so_far_is, so_far-union, sum_small, all_counted, sum_fits}
 
 -- ---- the entries
 
@@ -45,12 +45,13 @@ one_for_each tree measures h =
     ap length h.measures_are ∙ length-map (node_numbers h.plane h.connect) (measure_of h.values h.plane h.connect)
     ∙ length-range_with_len 0 (length (nodes h.plane h.connect)) ∙ sym (rows_are h.plane h.connect tree h.tree_is)
 
-over_sum : (values : Raster) (ps : List ℕ) → HasValuesInRange values.values → IsSumOf (measure_over values ps).seen (measure_over values ps).v
+over_sum : (values : Raster) (ps : List ℕ) → IsPlane values → length ps ≤ length values.values → HasValuesInRange values.values
+    → IsSumOf (measure_over values ps).seen (measure_over values ps).v
 unfolding measure_over
-over_sum values ps range = sum_small values ps (λ p _. level_in_range values p range)
+over_sum values ps plane few range = sum_small values ps plane few (λ p _. level_within values p range)
 
 few_pixels : (values : Raster) (r : Raster) (connect : Connect) (n : ℕ) → IsPlane r
-    → (measure_of values r connect n).seen + (measure_of values r connect n).missing ≤ 2 ^ 24
+    → (measure_of values r connect n).seen + (measure_of values r connect n).missing ≤ 2147483647
 unfolding measure_of measure_over pixels_of pixels
 few_pixels values r connect n plane =
     omega (
@@ -62,17 +63,31 @@ few_pixels values r connect n plane =
       r.shape.within_limits.few_pixels,
     )
 
-node_sum : (values r : Raster) (connect : Connect) (n : ℕ) → HasValuesInRange values.values
+node_sum : (values r : Raster) (connect : Connect) (n : ℕ) → IsPlane values → length r.values ≤ length values.values → HasValuesInRange values.values
     → IsSumOf (measure_of values r connect n).seen (measure_of values r connect n).v
-unfolding measure_of
-node_sum values r connect n range = over_sum values (pixels_of r connect n) range
+unfolding measure_of pixels_of pixels
+node_sum values r connect n plane few range =
+    over_sum values (pixels_of r connect n) plane
+    (omega (arith, length-filter-le (is_in_node r connect n) (range_with_len 0 (length r.values)), length-range_with_len 0 (length r.values), few)) range
+
+around_few : (r : Raster) (connect : Connect) (n : ℕ) → length (around_node r connect n) ≤ length r.values
+unfolding around_node pixels
+around_few r connect n =
+    omega (
+      arith,
+      length-filter-le (λ p. is_in_node r connect (parent_in (tree_of r connect).rows n) p && not (is_in_node r connect n p)) (range_with_len 0 (length r.values)),
+      length-range_with_len 0 (length r.values),
+    )
+
+same_count : (tree : ComponentTree) (measures : List Measure) (h : AreTheTreesMeasures tree measures) → length h.values.values ≡ length h.plane.values
+same_count tree measures h = as_many h.values h.plane h.connect tree h.value_each h.one_each h.same_shape h.tree_is
 
 pub entry_small : (tree : ComponentTree) (measures : List Measure) (n : ℕ) (entry : Measure) → AreTheTreesMeasures tree measures
     → slice_get measures n ≡ Some entry → HasMeasureSizes entry
 entry_small tree measures n entry h g =
     subst HasMeasureSizes (sym (entry_is h.values h.plane h.connect measures n entry h.measures_are g)) (record {
       few = few_pixels h.values h.plane h.connect n h.one_each;
-      sum = node_sum h.values h.plane h.connect n h.in_range;
+      sum = node_sum h.values h.plane h.connect n h.value_each (omega (arith, same_count tree measures h)) h.in_range;
     })
 
 -- ---- the values around a node
@@ -167,7 +182,7 @@ parts_around tree measures n whole part values r connect plane e f h =
 pub record IsDifference (whole part : Measure) : Type 0 where
   pub less : part.seen ≤ whole.seen
   pub sum : IsSumOf (whole.seen - part.seen) (whole.v -ℤ part.v)
-  pub few : whole.seen ≤ 2 ^ 24
+  pub few : whole.seen ≤ 2147483647
 
 pub parts_differ : (tree : ComponentTree) (measures : List Measure) (n : ℕ) (whole part : Measure) → AreTheTreesMeasures tree measures
     → HasParts tree measures n whole part → IsDifference whole part
@@ -175,7 +190,8 @@ parts_differ tree measures n whole part h p = record {
   less = omega (arith, around.seen);
   sum = subst (IsSumOf (whole.seen - part.seen)) rest
       (subst (λ (k : ℕ). IsSumOf k (measure_over h.values (around_node h.plane h.connect n)).v) count
-      (over_sum h.values (around_node h.plane h.connect n) h.in_range));
+      (over_sum h.values (around_node h.plane h.connect n) h.value_each
+      (omega (arith, same_count tree measures h, around_few h.plane h.connect n)) h.in_range));
   few = omega (arith, (entry_small tree measures (parent_in tree.rows n) whole h p.whole_is).few);
 }
   where

@@ -1,5 +1,5 @@
 -- Measures over lists of pixels: one pixel more, two sets of pixels that share none, how large they are, and what they are in the end.
-use Rattle.std.proofs.Common.{◌≡◌, ℕ, ◌+◌, ◌-◌, ◌*◌, ◌^◌, ◌<◌, ◌≤◌, Bool, true, false, List, [], ◌∷◌, ◌++◌, length, map, refl, sym, ◌∙◌, ap, subst, arith, eqb}
+use Rattle.std.proofs.Common.{◌≡◌, ℕ, ◌+◌, ◌-◌, ◌*◌, ◌^◌, ◌<◌, ◌≤◌, Bool, true, false, List, [], ◌∷◌, ◌++◌, length, map, refl, sym, ◌∙◌, ap, subst, arith, eqb, lit<}
 use Rattle.std.specs.Prelude.{ℤ, pos, neg_ℤ, ◌+ℤ◌, ◌≤ℤ◌, Option, Some, None, filter, fold, unwrap_or}
 use Rattle.std.specs.Int.{int_min, int_max}
 use Rattle.std.specs.List.{range_with_len}
@@ -10,11 +10,13 @@ use Rattle.std.proofs.lemmas.Bool.Decides.{nat_tests}
 use Rattle.std.proofs.lemmas.List.FromFn.{length-range_with_len}
 use Rattle.lemmas.proofs.Exported.{IsAmong, among_from_filter, among_from_range, int_max_assoc, int_max_comm, int_min_assoc, int_min_comm, plus_assoc}
 use Rattle.lemmas.proofs.Exported.{plus_comm, plus_z_assoc, plus_z_comm}
-use Rattle.comp_tree.specs.Limits.{IsWithinRange}
+use Rattle.comp_tree.specs.Limits.{IsWithin, value_bound}
+use Rattle.comp_tree.proofs.Exported.{bound_most, bound_of_sum}
+use Rattle.std.proofs.Math.Nat.{mul-le-mul_left, mul-le-mul_right}
 use Rattle.comp_tree.specs.Raster.{Raster, IsPlane, HasValuesInRange, is_defined, level, value_at}
 use Rattle.node_sums.specs.Sums.{total, highest}
 use Rattle.node_sums.specs.Sizes.{IsUpTo}
-use Rattle.node_sums.proofs.Exported.{total-up_to, value_in_range, length-filter-le, fits}
+use Rattle.node_sums.proofs.Exported.{total-up_to, up_to_more, level_up_to, length-filter-le, fits}
 use Rattle.comp_tree.proofs.Exported.{level-value}
 use Rattle.dual_measure.specs.declared.values.Measure.{Measure}
 use Rattle.dual_measure.specs.Measures.{measure_over, seen_of, missing_of, least_or_zero, greatest_or_zero, IsSumOf, HasMeasureSizes}
@@ -145,16 +147,16 @@ so_far_is values (p ∷ ps) = so_far-cons values p ps ∙ ap (combined (pixel_me
 
 -- ---- in the end
 
-pub level_small : (values : Raster) (p : ℕ) → ((v : ℤ) → value_at values.values p ≡ Some v → IsWithinRange v) → IsUpTo (2 ^ 37) (level values p)
+pub level_small : (values : Raster) (p : ℕ) → ((v : ℤ) → value_at values.values p ≡ Some v → IsWithin (value_bound (length values.values)) v) → IsUpTo (value_bound (length values.values)) (level values p)
 unfolding level
 level_small values p h = go (value_at values.values p) refl
   where
-    go : (o : Option ℤ) → value_at values.values p ≡ o → IsUpTo (2 ^ 37) (unwrap_or o (pos 0))
+    go : (o : Option ℤ) → value_at values.values p ≡ o → IsUpTo (value_bound (length values.values)) (unwrap_or o (pos 0))
     go None e = record { low = omega (arith, ints); high = omega (arith, ints) }
-    go (Some v) e = let k : IsWithinRange v = h v e in record { low = k.low; high = k.high }
+    go (Some v) e = let k : IsWithin (value_bound (length values.values)) v = h v e in record { low = k.low; high = k.high }
 
 pub level_in_range : (values : Raster) (p : ℕ) → HasValuesInRange values.values → IsUpTo (2 ^ 37) (level values p)
-level_in_range values p h = level_small values p (λ v e. value_in_range values.values p v h e)
+level_in_range values p h = level_up_to values p h
 
 fold_least : (f : ℕ → ℤ) (z : ℤ) (qs : List ℕ) → z ≤ℤ pos (2 ^ 63 - 1) → int_min z (lowest_value f qs) ≡ fold int_min z (map f qs)
 fold_least f z [] h = omega (arith, ints, clamps)
@@ -201,16 +203,27 @@ all_counted values (p ∷ ps) = go (is_defined values p) refl (all_counted value
     go true e ih = rw e (omega arith)
     go false e ih = rw e (omega arith)
 
-pub sum_small : (values : Raster) (ps : List ℕ) → ((p : ℕ) → IsAmong p ps → IsUpTo (2 ^ 37) (level values p))
+pub sum_small : (values : Raster) (ps : List ℕ) → IsPlane values → length ps ≤ length values.values
+    → ((p : ℕ) → IsAmong p ps → IsUpTo (value_bound (length values.values)) (level values p))
     → IsSumOf (length (seen_of values ps)) (total (level values) (seen_of values ps))
-sum_small values ps small =
+sum_small values ps plane few small =
+    let sum : IsUpTo ((value_bound (length values.values)) * length (seen_of values ps)) (total (level values) (seen_of values ps)) =
+    total-up_to (level values) (value_bound (length values.values)) (seen_of values ps) (λ p m. small p (among_from_filter (is_defined values) p ps m).0) in
+    let each : (value_bound (length values.values)) * length (seen_of values ps) ≤ 2 ^ 37 * length (seen_of values ps) =
+    mul-le-mul_right (length (seen_of values ps)) (bound_most (length values.values)) in
+    let all : (value_bound (length values.values)) * length (seen_of values ps) ≤ (value_bound (length values.values)) * length values.values =
+    mul-le-mul_left (value_bound (length values.values)) (omega (arith, few, all_counted values ps)) in
+    let most : (value_bound (length values.values)) * length values.values ≤ 2 ^ 61 =
+    bound_of_sum (length values.values) (omega (arith, plane, values.shape.within_limits.few_pixels)) in
     let h : IsUpTo (2 ^ 37 * length (seen_of values ps)) (total (level values) (seen_of values ps)) =
-    total-up_to (level values) (2 ^ 37) (seen_of values ps) (λ p m. small p (among_from_filter (is_defined values) p ps m).0) in
-    record { low = h.low; high = h.high }
+    up_to_more ((value_bound (length values.values)) * length (seen_of values ps)) (2 ^ 37 * length (seen_of values ps)) (total (level values) (seen_of values ps)) sum each in
+    let k : IsUpTo (2 ^ 61) (total (level values) (seen_of values ps)) =
+    up_to_more ((value_bound (length values.values)) * length (seen_of values ps)) (2 ^ 61) (total (level values) (seen_of values ps)) sum (omega (arith, all, most)) in
+    record { low = h.low; high = h.high; least = k.low; most = k.high }
 
 -- of the first n pixels
 pub so_far_small : (values : Raster) (test : ℕ → Bool) (n : ℕ) → IsPlane values → n ≤ length values.values
-    → ((q : ℕ) (v : ℤ) → q < n → value_at values.values q ≡ Some v → IsWithinRange v)
+    → ((q : ℕ) (v : ℤ) → q < n → value_at values.values q ≡ Some v → IsWithin (value_bound (length values.values)) v)
     → HasMeasureSizes (measured_so_far values (filter test (range_with_len 0 n)))
 so_far_small values test n plane within small =
     subst HasMeasureSizes (sym (so_far_is values (filter test (range_with_len 0 n)))) (record {
@@ -222,7 +235,8 @@ so_far_small values test n plane within small =
         plane,
         values.shape.within_limits.few_pixels,
       );
-      sum = sum_small values (filter test (range_with_len 0 n)) (λ p m. level_small values p (λ v e. small p v (inside p m) e));
+      sum = sum_small values (filter test (range_with_len 0 n)) plane
+          (omega (arith, length-filter-le test (range_with_len 0 n), length-range_with_len 0 n, within)) (λ p m. level_small values p (λ v e. small p v (inside p m) e));
     })
   where
     inside : (p : ℕ) → IsAmong p (filter test (range_with_len 0 n)) → p < n
@@ -233,8 +247,5 @@ so_far_small values test n plane within small =
 pub low-read : (a b m : ℤ) → SFits w64 a → SFits w64 b → m ≡ int_min (to_z w64 (of_z w64 a)) (to_z w64 (of_z w64 b)) → m ≡ int_min a b
 low-read a b m f g e = e ∙ ap (λ (x : ℤ). int_min x (to_z w64 (of_z w64 b))) (to_z-of_z w64 a f) ∙ ap (int_min a) (to_z-of_z w64 b g)
 
-pub sum_fits : (count : ℕ) (sum : ℤ) → IsSumOf count sum → count ≤ 2 ^ 24 → SFits w64 sum
-sum_fits count sum h few = fits w64 (2 ^ 37 * count) sum (record { low = h.low; high = h.high }) (small count few)
-  where
-    small : (n : ℕ) → n ≤ 2 ^ 24 → 2 ^ 37 * n < 2 ^ 63
-    small n l = omega arith
+pub sum_fits : (count : ℕ) (sum : ℤ) → IsSumOf count sum → count ≤ 2147483647 → SFits w64 sum
+sum_fits count sum h few = fits w64 (2 ^ 61) sum (record { low = h.least; high = h.most }) (lit< tt)

@@ -10,14 +10,14 @@ use Rattle.lemmas.proofs.Exported.{IsAmong, among_from_range, filter_same_among}
 use Rattle.comp_tree.specs.declared.shape.Connect.{Connect}
 use Rattle.comp_tree.specs.declared.shape.Shape.{Shape}
 use Rattle.comp_tree.specs.declared.tree.NodeRow.{NodeRow}
-use Rattle.comp_tree.specs.Limits.{IsWithinRange}
+use Rattle.comp_tree.specs.Limits.{IsWithin, value_bound}
 use Rattle.comp_tree.specs.Raster.{Raster, IsPlane, HasValuesInRange, pixels, is_defined, value_at}
 use Rattle.comp_tree.specs.ComponentTree.{ComponentTree, parent_in, no_node}
 use Rattle.comp_tree.specs.Components.{nodes, is_in_node, tree_of}
 use Rattle.comp_tree.specs.Nesting.{pixels_of}
 use Rattle.comp_tree.proofs.Exported.{below_no_node, node-undefined}
 use Rattle.node_sums.specs.Counted.{is_counted}
-use Rattle.node_sums.proofs.Exported.{value_in_range, counted-start, counted-end, counted-same, counted-parent, number-within, IsUnion, range-push}
+use Rattle.node_sums.proofs.Exported.{value_within, counted-start, counted-end, counted-same, counted-parent, number-within, IsUnion, range-push}
 use Rattle.node_sums.proofs.Exported.{filter_yes, filter_no, filter_same, rows_are, parent_is, parent_inside, numbers_for_pixels, get-written, row-parent}
 use Rattle.dual_measure.specs.declared.values.Measure.{Measure}
 use Rattle.dual_measure.specs.Measures.{measure_over, measure_of, measures_of, HasMeasureSizes, IsPlanesTree, AreTheTreesMeasures}
@@ -43,12 +43,12 @@ front_none values node_of n entries e = record {
     is_blank (suc k) zero entry g = let x : blank_measure ≡ entry = cc in sym x
     is_blank (suc k) (suc m) entry g = is_blank k m entry g
 
-small_next : (values : Raster) (p : ℕ) → ((q : ℕ) (v : ℤ) → q < p → value_at values.values q ≡ Some v → IsWithinRange v)
-    → ((v : ℤ) → value_at values.values p ≡ Some v → IsWithinRange v)
-    → (q : ℕ) (v : ℤ) → q < p + 1 → value_at values.values q ≡ Some v → IsWithinRange v
+small_next : (values : Raster) (p : ℕ) → ((q : ℕ) (v : ℤ) → q < p → value_at values.values q ≡ Some v → IsWithin (value_bound (length values.values)) v)
+    → ((v : ℤ) → value_at values.values p ≡ Some v → IsWithin (value_bound (length values.values)) v)
+    → (q : ℕ) (v : ℤ) → q < p + 1 → value_at values.values q ≡ Some v → IsWithin (value_bound (length values.values)) v
 small_next values p small here q v l is = go (cases_lt q p)
   where
-    go : (q < p) ⊎ (p ≤ q) → IsWithinRange v
+    go : (q < p) ⊎ (p ≤ q) → IsWithin (value_bound (length values.values)) v
     go (inl k) = small q v k is
     go (inr k) = let e : q ≡ p = omega arith in here v (ap (value_at values.values) (sym e) ∙ is)
 
@@ -56,12 +56,12 @@ small_next values p small here q v l is = go (cases_lt q p)
 pub record IsPixelTurn (values : Raster) (node_of : List ℕ) (entries : List Measure) (p : ℕ) (pixel : Measure) : Type 0 where
   pub front : AreOfFront values node_of p entries
   pub inside : p < length values.values
-  pub in_range : (v : ℤ) → value_at values.values p ≡ Some v → IsWithinRange v
+  pub in_range : (v : ℤ) → value_at values.values p ≡ Some v → IsWithin (value_bound (length values.values)) v
   pub pixel_is : pixel ≡ measure_at (value_at values.values p)
 
 pub turn_from_code : (values : Raster) (node_of : List ℕ) (entries : List Measure) (p : ℕ) (got : Option ℤ) (pixel : Measure)
     → AreOfFront values node_of p entries → p < length values.values
-    → got ≡ value_at values.values p → IfSome got (λ v. IsWithinRange v) → pixel ≡ measure_at got → IsPixelTurn values node_of entries p pixel
+    → got ≡ value_at values.values p → IfSome got (λ v. IsWithin (value_bound (length values.values)) v) → pixel ≡ measure_at got → IsPixelTurn values node_of entries p pixel
 turn_from_code values node_of entries p got pixel front inside reads in_range made = record {
   front = front;
   inside = inside;
@@ -69,9 +69,9 @@ turn_from_code values node_of entries p got pixel front inside reads in_range ma
   pixel_is = made ∙ ap measure_at reads;
 }
   where
-    here : (o : Option ℤ) (v : ℤ) → IfSome o (λ x. IsWithinRange x) → o ≡ Some v → IsWithinRange v
+    here : (o : Option ℤ) (v : ℤ) → IfSome o (λ x. IsWithin (value_bound (length values.values)) x) → o ≡ Some v → IsWithin (value_bound (length values.values)) v
     here None v h e = absurd (cc)
-    here (Some x) v h e = let same : x ≡ v = cc in subst IsWithinRange same h
+    here (Some x) v h e = let same : x ≡ v = cc in subst (IsWithin (value_bound (length values.values))) same h
 
 front_push : (node_of : List ℕ) (n p : ℕ) → slice_index node_of p ≡ n → own_front node_of n (p + 1) ≡ own_front node_of n p ++ p ∷ []
 front_push node_of n p e =
@@ -215,7 +215,7 @@ unfolding pixels
 step_size values tree entries k a entry child plane range of_plane s =
     subst HasMeasureSizes (sym (step_sum values tree entries k a entry child of_plane.plane of_plane.connect of_plane.one_each of_plane.tree_is s))
     (so_far_small values (is_counted of_plane.plane of_plane.connect k a) (length values.values) plane (omega arith)
-    (λ q v _ e. value_in_range values.values q v range e))
+    (λ q v _ e. value_within values.values q v range e))
 
 pub step_yes : (values : Raster) (tree : ComponentTree) (entries : List Measure) (k a : ℕ) (entry child whole : Measure)
     → IsNodeStep values tree entries k a entry child

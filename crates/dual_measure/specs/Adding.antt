@@ -4,7 +4,7 @@ use Rattle.std.specs.Prelude.{List, [], ◌∷◌, length, filter, Option, Some,
 use Rattle.std.specs.Int.{int_min, int_max}
 use Rattle.std.specs.List.{range_with_len}
 use Rattle.comp_tree.specs.declared.shape.Connect.{Connect}
-use Rattle.comp_tree.specs.Limits.{IsWithinRange}
+use Rattle.comp_tree.specs.Limits.{IsWithin, value_bound}
 use Rattle.comp_tree.specs.Raster.{Raster, IsPlane, pixels, value_at}
 use Rattle.comp_tree.specs.ComponentTree.{ComponentTree}
 use Rattle.comp_tree.specs.Components.{tree_of}
@@ -55,7 +55,7 @@ settled_measure m = if m.seen == 0 then record m { low = pos 0; peak = pos 0 } e
 pub record AreOfFront (values : Raster) (node_of : List ℕ) (n : ℕ) (entries : List Measure) : Type 0 where
   pub own : (m : ℕ) (entry : Measure) → slice_get entries m ≡ Some entry
       → entry ≡ measured_so_far values (filter (λ q. slice_index node_of q == m) (range_with_len 0 n))
-  pub small : (q : ℕ) (v : ℤ) → q < n → value_at values.values q ≡ Some v → IsWithinRange v
+  pub small : (q : ℕ) (v : ℤ) → q < n → value_at values.values q ≡ Some v → IsWithin (value_bound (length values.values)) v
 
 -- when the nodes numbered from k on have been added to their parents, the entry of node m has the pixels of m
 -- that belong to no node with a number above m and below k

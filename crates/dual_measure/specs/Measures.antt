@@ -62,14 +62,16 @@ back_of values r connect n = if is_root (tree_of r connect) n then pos 0 else me
 
 -- ---- how large measures are, and what is asked of arguments
 
--- a sum of so many values, each of which is from -2 ^ 37 to 2 ^ 37
+-- a sum of so many values of a plane, each of which is from -2 ^ 37 to 2 ^ 37: all values of a plane come to at most 2 ^ 61
 pub record IsSumOf (count : ℕ) (sum : ℤ) : Type 0 where
   pub low : neg_ℤ (pos (2 ^ 37 * count)) ≤ℤ sum
   pub high : sum ≤ℤ pos (2 ^ 37 * count)
+  pub least : neg_ℤ (pos (2 ^ 61)) ≤ℤ sum
+  pub most : sum ≤ℤ pos (2 ^ 61)
 
 -- how large the measure of a node is: it has at most as many pixels as a plane
 pub record HasMeasureSizes (measure : Measure) : Type 0 where
-  pub few : measure.seen + measure.missing ≤ 2 ^ 24
+  pub few : measure.seen + measure.missing ≤ 2147483647
   pub sum : IsSumOf measure.seen measure.v
 
 -- the tree is some plane's, for some connectivity

@@ -11,7 +11,7 @@ use source_pick::{CatRow, cells};
 
 /// The numbers of a row of the catalogue, and after them SEEN, MISSING, VSUM, VLOW, VPEAK, VMEAN and VBACK. VMEAN is the
 /// mean of the values seen and VBACK, which is `back`, that of the values around the node, both in thousandths and rounded
-/// towards minus infinity. SEEN and MISSING of a measure from [`measures`](crate::measures) are at most 2^24.
+/// towards minus infinity. SEEN and MISSING of a measure from [`measures`](crate::measures) are at most 2^31 - 1.
 pub fn measured_cells(row: &CatRow, measure: &Measure, back: i64) -> [i64; MEASURED_CELLS_IN_ROW]
     requires { IsSumOf measure.now.seen measure.now.v }
     ensures { result ≡ measured_cells_of row.now measure.now back }

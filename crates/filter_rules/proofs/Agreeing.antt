@@ -1,6 +1,8 @@
 -- Where area and flux alone are asked of from below, the rules agree.
-use Rattle.std.proofs.Common.{◌≡◌, ℕ, ◌*◌, ◌^◌, ◌<◌, ◌≤◌, Bool, true, ◌&&◌, ◌||◌, length, refl, sym, ◌∙◌, ap, arith, inl}
+use Rattle.std.proofs.Common.{◌≡◌, ℕ, ◌*◌, ◌<◌, ◌≤◌, Bool, true, ◌&&◌, ◌||◌, length, refl, sym, ◌∙◌, ap, arith, inl}
 use Rattle.std.specs.Prelude.{ℤ, ◌≤ℤ◌, nat_le, int_le}
+use Rattle.std.specs.List.{range_with_len}
+use Rattle.std.proofs.lemmas.List.FromFn.{length-range_with_len}
 use Rattle.std.proofs.lemmas.Int.{ints}
 use Rattle.std.proofs.lemmas.Bool.{and_parts, and_from, leb-true, le-leb}
 use Rattle.lemmas.proofs.Exported.{int_le-from, int_le-true, same_bool}
@@ -13,7 +15,7 @@ use Rattle.node_sums.specs.declared.entry.Sums.{Sums}
 use Rattle.node_sums.specs.Sums.{sums_of}
 use Rattle.comp_tree.specs.Nesting.{pixels_of, is_root}
 use Rattle.node_sums.specs.Flux.{flux_of}
-use Rattle.node_sums.proofs.Exported.{few-pixels_of, flux_grows, sums-area}
+use Rattle.node_sums.proofs.Exported.{length-filter-le, flux_grows, sums-area}
 use Rattle.filter_rules.specs.declared.rule.Rule.TheVariants.{Min, Max, Direct}
 use Rattle.filter_rules.specs.declared.rule.Criterion.{Criterion}
 use Rattle.filter_rules.specs.Criteria.{box_of, is_filled, admits, satisfies}
@@ -41,13 +43,13 @@ admitted criterion s flux h =
     and_parts (nat_le criterion.min_area s.area) (nat_le s.area criterion.max_area) b.0 in
     record { large = leb-true criterion.min_area s.area d.0; bright = int_le-true criterion.min_flux flux b.1 }
 
-admits-from : (criterion : Criterion) (s : Sums) (flux : ℤ) → criterion.max_area ≡ 2 ^ 24 → criterion.min_fill ≡ 0 → s.area ≤ 2 ^ 24
+admits-from : (criterion : Criterion) (s : Sums) (flux : ℤ) → criterion.min_fill ≡ 0 → s.area ≤ criterion.max_area
     → IsAdmitted criterion s flux → admits criterion s flux ≡ true
-admits-from criterion s flux most none few k =
+admits-from criterion s flux none few k =
     and_from (nat_le criterion.min_area s.area && nat_le s.area criterion.max_area && int_le criterion.min_flux flux) (is_filled criterion s)
     (and_from (nat_le criterion.min_area s.area && nat_le s.area criterion.max_area) (int_le criterion.min_flux flux)
     (and_from (nat_le criterion.min_area s.area) (nat_le s.area criterion.max_area) (le-leb criterion.min_area s.area k.large)
-    (le-leb s.area criterion.max_area (omega (arith, most))))
+    (le-leb s.area criterion.max_area few))
     (int_le-from criterion.min_flux flux k.bright))
     (le-leb (criterion.min_fill * box_of s) (1000 * s.area) empty)
   where
@@ -57,13 +59,20 @@ admits-from criterion s flux most none few k =
         zero_times : (k : ℕ) → 0 * k ≡ 0
         zero_times k = omega arith
 
+-- a node has at most the pixels of its plane
+area_within : (r : Raster) (connect : Connect) (n : ℕ) → length (pixels_of r connect n) ≤ length r.values
+unfolding pixels_of pixels
+area_within r connect n =
+    omega (arith, length-filter-le (is_in_node r connect n) (range_with_len 0 (length r.values)), length-range_with_len 0 (length r.values))
+
 -- a node around one that satisfies does too
 satisfies_grows : (r : Raster) (connect : Connect) (criterion : Criterion) (m n : ℕ) → IsPlane r → m < length (nodes r connect) → n < length (nodes r connect)
-    → criterion.max_area ≡ 2 ^ 24 → criterion.min_fill ≡ 0 → IsAbove (tree_of r connect).rows m n → satisfies r connect criterion n ≡ true
+    → length r.values ≤ criterion.max_area → criterion.min_fill ≡ 0 → IsAbove (tree_of r connect).rows m n → satisfies r connect criterion n ≡ true
     → satisfies r connect criterion m ≡ true
 unfolding satisfies
 satisfies_grows r connect criterion m n plane hm hn most none a h =
-    admits-from criterion (sums_of r connect m) (flux_of r connect m) most none (omega (arith, sums-area r connect m, few-pixels_of r connect m plane))
+    admits-from criterion (sums_of r connect m) (flux_of r connect m) none
+    (omega (arith, most, sums-area r connect m, area_within r connect m))
     (record {
       large = omega (arith, k.large, sums-area r connect m, sums-area r connect n, pixels_grow r connect m n w);
       bright = omega (arith, ints, k.bright, flux_grows r connect m n plane hm hn w);

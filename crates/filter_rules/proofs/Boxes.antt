@@ -6,7 +6,8 @@ use Rattle.std.proofs.lemmas.List.{get_or-map}
 use Rattle.std.proofs.lemmas.List.FromFn.{get_or-map-range_with_len}
 use Rattle.lemmas.proofs.Exported.{IsAmong, among_from_filter, int_lt-true}
 use Rattle.comp_tree.specs.declared.shape.Connect.{Connect}
-use Rattle.comp_tree.specs.Limits.{IsWithinRange}
+use Rattle.comp_tree.specs.Limits.{IsWithin, IsWithinRange, value_bound}
+use Rattle.comp_tree.specs.declared.tree.NodeRow.{NodeRow}
 use Rattle.comp_tree.specs.Raster.{Raster, IsPlane, HasValuesInRange, pixels, level}
 use Rattle.comp_tree.specs.ComponentTree.{ComponentTree, parent_in}
 use Rattle.comp_tree.specs.Components.{nodes, is_in_node, tree_of}
@@ -17,10 +18,10 @@ use Rattle.node_sums.specs.declared.outline.Outline.{Outline}
 use Rattle.node_sums.specs.Outlines.{outline_of, outlines_in, AreOutlinesOfTree}
 use Rattle.node_sums.specs.Sums.{sums_of, sums_in, sums_over, x_of, y_of}
 use Rattle.comp_tree.specs.Nesting.{pixels_of, level_in}
-use Rattle.node_sums.proofs.Exported.{few-pixels_of, goes_down, length-sums_in, level-of_node, level_up_to, x_small, y_small}
+use Rattle.node_sums.proofs.Exported.{few-pixels_of, goes_down, length-sums_in, level-of_node, level_up_to, level_within, x_small, y_small}
 use Rattle.node_sums.proofs.Exported.{least_at_most, greatest_at_least, greatest_up_to}
 use Rattle.node_sums.specs.Flux.{flux_of}
-use Rattle.node_sums.specs.Sizes.{IsUpTo, value_bound}
+use Rattle.node_sums.specs.Sizes.{IsUpTo, level_bound}
 use Rattle.filter_rules.specs.declared.rule.Criterion.{Criterion}
 use Rattle.filter_rules.specs.Criteria.{admits, satisfies}
 use Rattle.filter_rules.specs.Passes.{HasRisingLevels, HasBox}
@@ -108,7 +109,7 @@ trees_rise tree outlines t =
     }
       where
         in_range : (p : ℕ) → IsWithinRange (level r p)
-        in_range p = let u : IsUpTo value_bound (level r p) = level_up_to r p range in record { low = u.low; high = u.high }
+        in_range p = let u : IsUpTo level_bound (level r p) = level_up_to r p range in record { low = u.low; high = u.high }
 
         rising : (n : ℕ) → n < length (nodes r connect) → parent_in (tree_of r connect).rows n < length (nodes r connect)
             → level_in (tree_of r connect).rows (parent_in (tree_of r connect).rows n) ≤ℤ level_in (tree_of r connect).rows n
@@ -121,3 +122,12 @@ trees_rise tree outlines t =
             (top_of r connect (parent_in (tree_of r connect).rows n)) =
             level-of_node r connect (parent_in (tree_of r connect).rows n) hp in
             omega (arith, ints)
+
+-- the levels of a tree's rows are within the bound of the plane's values
+pub levels_within : (r : Raster) (connect : Connect) (rows : List NodeRow) → rows ≡ (tree_of r connect).rows → HasValuesInRange r.values
+    → (n : ℕ) → n < length rows → IsWithin (value_bound (length r.values)) (level_in rows n)
+levels_within r connect rows same range n h =
+    let hn : n < length (nodes r connect) = omega (arith, length-rows r connect, ap length same, h) in
+    let u : IsUpTo (value_bound (length r.values)) (level r (top_of r connect n)) = level_within r (top_of r connect n) range in
+    subst (IsWithin (value_bound (length r.values))) (sym (ap (λ (xs : List NodeRow). level_in xs n) same ∙ level-of_node r connect n hn))
+    (record { low = u.low; high = u.high })

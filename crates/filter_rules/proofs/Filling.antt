@@ -1,22 +1,22 @@
 -- The values of nodes and pixels as the code reads and writes them.
-use Rattle.std.proofs.Common.{◌≡◌, ℕ, ◌+◌, ◌<◌, ◌≤◌, suc, Bool, true, false, cond, List, [], ◌∷◌, ◌++◌, length, map, refl, sym, ◌∙◌, ap, subst, arith, ◌⊎◌}
+use Rattle.std.proofs.Common.{◌≡◌, ℕ, ◌+◌, ◌<◌, ◌≤◌, zero, suc, Bool, true, false, cond, List, [], ◌∷◌, ◌++◌, length, map, refl, sym, ◌∙◌, ap, subst, arith, ◌⊎◌}
 use Rattle.std.proofs.Common.{inl, inr, lit<}
-use Rattle.std.specs.Prelude.{◌==◌, ℤ, pos, ◌≤ℤ◌, ◌+ℤ◌, ◌-ℤ◌, Option, None, slice_index, slice_index_or}
+use Rattle.std.specs.Prelude.{◌==◌, ℤ, pos, ◌≤ℤ◌, ◌+ℤ◌, ◌-ℤ◌, Option, None, Some, IfSome, slice_index, slice_index_or}
 use Rattle.std.proofs.lemmas.Int.{ints, to_z-of_z}
-use Rattle.std.proofs.lemmas.Bool.{ne_eqb, cases_lt, eq-eqb}
+use Rattle.std.proofs.lemmas.Bool.{ne_eqb, cases_lt, eq-eqb, true≢false}
 use Rattle.std.proofs.lemmas.List.{length-append}
 use Rattle.std.proofs.Math.ListN.{get_or-append}
 use Rattle.std.proofs.Math.Seq.{get_or-append_seam}
 use mir.Syntax.{w64}
 use mir.Val.{SFits, of_z, to_z}
 use Rattle.comp_tree.specs.declared.tree.NodeRow.{NodeRow}
-use Rattle.comp_tree.specs.Limits.{IsWithinRange}
+use Rattle.comp_tree.specs.Limits.{IsWithin, IsWithinRange}
 use Rattle.comp_tree.specs.ComponentTree.{parent_in, no_node}
 use Rattle.comp_tree.specs.Nesting.{level_in}
-use Rattle.node_sums.specs.Sizes.{IsUpTo, value_bound}
+use Rattle.node_sums.specs.Sizes.{IsUpTo, level_bound}
 use Rattle.node_sums.proofs.Exported.{up_to-minus, fits, row-parent, row_level}
 use Rattle.filter_rules.specs.declared.rule.Rule.{Rule}
-use Rattle.filter_rules.specs.declared.rule.Rule.TheVariants.{Subtractive}
+use Rattle.filter_rules.specs.declared.rule.Rule.TheVariants.{Min, Max, Direct, Subtractive}
 use Rattle.filter_rules.specs.Passes.{HasRisingLevels, flag, filled_pixel, value_in, value_of_kept, value_of_node, AreValues}
 
 -- ---- pixels
@@ -44,7 +44,7 @@ filled_all node_of values pixels p l h = from_places values node_of pixels h.one
 -- ---- reading rows and values
 
 fits_range : (z : ℤ) → IsWithinRange z → SFits w64 z
-fits_range z h = fits w64 value_bound z (record { low = h.low; high = h.high }) (lit< tt)
+fits_range z h = fits w64 level_bound z (record { low = h.low; high = h.high }) (lit< tt)
 
 pub level_read : (rows : List NodeRow) (n : ℕ) (d : NodeRow) → HasRisingLevels rows → n < length rows
     → to_z w64 (of_z w64 (slice_index_or rows n d).level) ≡ level_in rows n
@@ -116,7 +116,7 @@ module _ (rows : List NodeRow) (rule : Rule) (kept : List Bool) (values : List �
         own_level ∙ sym (at (level_in rows n) (level_in rows (parent_in rows n)) (value_in values (parent_in rows n)))
         ∙ ap (λ (t : Rule). value_of_kept t (level_in rows n) (level_in rows (parent_in rows n)) (value_in values (parent_in rows n))) (sym is) ∙ of_kept f
 
-    up_to : (z : ℤ) → IsWithinRange z → IsUpTo value_bound z
+    up_to : (z : ℤ) → IsWithinRange z → IsUpTo level_bound z
     up_to z h = record { low = h.low; high = h.high }
 
     -- the rise, and the sum, as they are computed
@@ -131,8 +131,8 @@ module _ (rows : List NodeRow) (rule : Rule) (kept : List Bool) (values : List �
 
     rise_fits : SFits w64 (level_in rows n -ℤ level_in rows (parent_in rows n))
     rise_fits =
-        fits w64 (value_bound + value_bound) (level_in rows n -ℤ level_in rows (parent_in rows n))
-        (up_to-minus value_bound value_bound (level_in rows n) (level_in rows (parent_in rows n)) (up_to (level_in rows n) (rising.levels n node))
+        fits w64 (level_bound + level_bound) (level_in rows n -ℤ level_in rows (parent_in rows n))
+        (up_to-minus level_bound level_bound (level_in rows n) (level_in rows (parent_in rows n)) (up_to (level_in rows n) (rising.levels n node))
         (up_to (level_in rows (parent_in rows n)) (rising.levels (parent_in rows n) (omega (arith, parent_less))))) (lit< tt)
 
     pub sub_fits : SFits w64 (to_z w64 (of_z w64 (slice_index_or rows n d).level) -ℤ to_z w64
@@ -248,3 +248,67 @@ values_pushed rows rule kept n values lent pushed v rising node h same exact ran
           (exact ∙ ap (λ (xs : List ℤ). value_of_node rows rule kept xs n) same ∙ ap (value_of_node rows rule kept values) (sym h.one_each)) range
           (subst (λ (m : ℕ). v ≤ℤ level_in rows m) (sym h.one_each) most);
     })
+
+-- ---- a narrower range
+
+-- the value of a node, where those of the nodes before it are within the bound
+value_within : (rows : List NodeRow) (rule : Rule) (kept : List Bool) (values : List ℤ) (b m : ℕ) → HasRisingLevels rows → length values ≡ length rows
+    → AreValues rows rule kept values → ((n : ℕ) → n < length rows → IsWithin b (level_in rows n)) → m < length values
+    → ((j : ℕ) → j < m → IsWithin b (value_in values j)) → IsWithin b (value_in values m)
+value_within rows rule kept values b m rising whole made levels h before =
+    subst (IsWithin b) (sym (made.each m h)) (by (parent_in rows m == no_node) refl (flag kept m))
+  where
+    inside : m < length rows
+    inside = omega (arith, whole, h)
+
+    less : (parent_in rows m == no_node) ≡ false → parent_in rows m < m
+    less e = cases (rising.parents m inside)
+      where
+        cases : (parent_in rows m ≡ no_node) ⊎ (parent_in rows m < m) → parent_in rows m < m
+        cases (inl same) = absurd (true≢false (sym (eq-eqb (parent_in rows m) no_node same) ∙ e))
+        cases (inr lower) = lower
+
+    kept_value : (parent_in rows m == no_node) ≡ false → (s : Rule)
+        → IsWithin b (value_of_kept s (level_in rows m) (level_in rows (parent_in rows m)) (value_in values (parent_in rows m)))
+    kept_value e Min = levels m inside
+    kept_value e Max = levels m inside
+    kept_value e Direct = levels m inside
+    kept_value e Subtractive =
+        let a : IsWithin b (value_in values (parent_in rows m)) = before (parent_in rows m) (less e) in
+        let l : IsWithin b (level_in rows m) = levels m inside in
+        let most : value_in values (parent_in rows m) ≤ℤ level_in rows (parent_in rows m) =
+        made.at_most (parent_in rows m) (omega (arith, less e, h)) in
+        let rise : level_in rows (parent_in rows m) ≤ℤ level_in rows m = rising.rising m inside (omega (arith, inside, less e)) in
+        record { low = omega (arith, ints, a.low, rise); high = omega (arith, ints, most, l.high) }
+
+    by : (t : Bool) → (parent_in rows m == no_node) ≡ t → (f : Bool)
+        → IsWithin b (cond t (level_in rows m)
+        (cond f (value_of_kept rule (level_in rows m) (level_in rows (parent_in rows m)) (value_in values (parent_in rows m)))
+        (value_in values (parent_in rows m))))
+    by true e f = levels m inside
+    by false e true = kept_value e rule
+    by false e false = before (parent_in rows m) (less e)
+
+-- values are within any bound that the levels are within
+pub values_within : (rows : List NodeRow) (rule : Rule) (kept : List Bool) (values : List ℤ) (b : ℕ) → HasRisingLevels rows → length values ≡ length rows
+    → AreValues rows rule kept values → ((n : ℕ) → n < length rows → IsWithin b (level_in rows n))
+    → (n : ℕ) → n < length values → IsWithin b (value_in values n)
+values_within rows rule kept values b rising whole made levels n h = go (suc n) n (omega arith) h
+  where
+    go : (k m : ℕ) → m < k → m < length values → IsWithin b (value_in values m)
+    go zero m l h = absurd (omega arith)
+    go (suc k) m l h =
+        value_within rows rule kept values b m rising whole made levels h (λ j less. go k j (omega (arith, less, l)) (omega (arith, less, h)))
+
+-- so is what a pixel gets
+pub filled_within : (values : List ℤ) (b m : ℕ) → (m ≡ no_node) ⊎ (m < length values) → ((n : ℕ) → n < length values → IsWithin b (value_in values n))
+    → IfSome (filled_pixel values m) (λ v. IsWithin b v)
+filled_within values b m known small = go (m == no_node) refl
+  where
+    go : (t : Bool) → (m == no_node) ≡ t → IfSome (cond t None (Some (value_in values m))) (λ v. IsWithin b v)
+    go true e = tt
+    go false e = small m (cases known)
+      where
+        cases : (m ≡ no_node) ⊎ (m < length values) → m < length values
+        cases (inl same) = absurd (true≢false (sym (eq-eqb m no_node same) ∙ e))
+        cases (inr lower) = lower

@@ -1,5 +1,5 @@
 -- Model: the laws of the filter rules.
-use Rattle.std.specs.Prelude.{◌≡◌, ℕ, ◌^◌, IsTrue, Some}
+use Rattle.std.specs.Prelude.{◌≡◌, ℕ, ◌≤◌, length, IsTrue, Some}
 use Rattle.comp_tree.specs.declared.shape.Connect.{Connect}
 use Rattle.comp_tree.specs.Raster.{Raster, IsPlane, is_defined}
 use Rattle.comp_tree.specs.Laws.{IsNode, IsIn, IsNestedIn}
@@ -11,7 +11,7 @@ use Rattle.filter_rules.specs.Filtered.{is_kept, holders, smallest}
 -- where neither the greatest area nor the fill refuses any node, `Min`, `Max` and `Direct` keep the same nodes
 abbrev pub RulesAgreeOnGrowingMeasures : Type 0
 RulesAgreeOnGrowingMeasures = (r : Raster) (connect : Connect) (criterion : Criterion) (n : ℕ)
-    → IsPlane r → IsNode r connect n → criterion.max_area ≡ 2 ^ 24 → criterion.min_fill ≡ 0
+    → IsPlane r → IsNode r connect n → length r.values ≤ criterion.max_area → criterion.min_fill ≡ 0
     → (is_kept r connect Min criterion n ≡ is_kept r connect Direct criterion n)
     × (is_kept r connect Max criterion n ≡ is_kept r connect Direct criterion n)
 

@@ -1,5 +1,5 @@
 -- Bookkeeping: what the passes over the nodes and the pixels make of their lists.
-use Rattle.std.specs.Prelude.{◌≡◌, ℕ, ◌<◌, ◌≤◌, ◌^◌, Bool, true, false, ◌&&◌, ◌||◌, ◌==◌, cond, ◌⊎◌}
+use Rattle.std.specs.Prelude.{◌≡◌, ℕ, ◌<◌, ◌≤◌, Bool, true, false, ◌&&◌, ◌||◌, ◌==◌, cond, ◌⊎◌}
 use Rattle.std.specs.Prelude.{ℤ, pos, ◌+ℤ◌, ◌-ℤ◌, ◌≤ℤ◌, List, length, Option, Some, None, slice_index_or}
 use Rattle.comp_tree.specs.declared.tree.NodeRow.{NodeRow}
 use Rattle.comp_tree.specs.Limits.{IsWithinRange}
@@ -12,14 +12,14 @@ use Rattle.filter_rules.specs.declared.rule.Rule.TheVariants.{Min, Max, Direct, 
 
 -- rows as in the tree of a plane: a parent's number is smaller, its level too, and the levels are in the range of pixels
 pub record HasRisingLevels (rows : List NodeRow) : Type 0 where
-  pub few : length rows ≤ 2 ^ 24
+  pub few : length rows ≤ 2147483647
   pub parents : (n : ℕ) → n < length rows → (parent_in rows n ≡ no_node) ⊎ (parent_in rows n < n)
   pub levels : (n : ℕ) → n < length rows → IsWithinRange (level_in rows n)
   pub rising : (n : ℕ) → n < length rows → parent_in rows n < length rows → level_in rows (parent_in rows n) ≤ℤ level_in rows n
 
 -- an outline as that of a node of an image: the box lies in the image, and so do all pixels
 pub record HasBox (o : Outline) : Type 0 where
-  pub area : o.area ≤ 2 ^ 24
+  pub area : o.area ≤ 2147483647
   pub columns : o.xmin ≤ o.xmax
   pub few_columns : o.xmax ≤ 65535
   pub rows : o.ymin ≤ o.ymax

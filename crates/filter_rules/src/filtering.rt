@@ -2,7 +2,7 @@
 
 ghost use Rattle.std.specs.Prelude.{◌≡◌, ℕ, ◌*◌, ◌<◌, ◌≤◌, ◌⊎◌, ◌≤ℤ◌, IfOk, length, map, slice_index};
 ghost use Rattle.comp_tree.specs.declared.shape.Connect.{Connect};
-ghost use Rattle.comp_tree.specs.Limits.{IsWithinRange};
+ghost use Rattle.comp_tree.specs.Limits.{IsWithin, IsWithinRange, value_bound};
 ghost use Rattle.comp_tree.specs.Components.{tree_of, no_node};
 ghost use Rattle.comp_tree.specs.Nesting.{level_in};
 ghost use Rattle.node_sums.specs.Outlines.{outlines_in, AreOutlinesOfPlane};
@@ -94,7 +94,8 @@ fn fill(alloc: Global, shape: Shape, node_of: &[u32], values: &[i64]) -> Result<
     requires pixels { length node_of.now ≡ shape.width * shape.height }
     requires nodes { (p : ℕ) → p < length node_of.now → (slice_index node_of.now p ≡ no_node)
         ⊎ (slice_index node_of.now p < length values.now) }
-    requires values { (n : ℕ) → n < length values.now → IsWithinRange (value_in values.now n) }
+    requires values { (n : ℕ) → n < length values.now
+        → IsWithin (value_bound (shape.width * shape.height)) (value_in values.now n) }
     ensures shape { IfOk result (λ plane. plane.shape ≡ shape) }
     ensures values { IfOk result (λ plane.
         plane.values ≡ map (filled_pixel_of values.now) node_of.now) }

@@ -86,7 +86,7 @@ one_row columns row are fit =
 
 -- two tables one behind the other
 pub tables_joined : (columns : List Column) (a b : List ℤ) (m n : ℕ) → IsTable columns a → IsTable columns b → length a ≡ length columns * m
-    → length b ≡ length columns * n → m + n ≤ 2 ^ 24 → IsTable columns (a ++ b)
+    → length b ≡ length columns * n → m + n ≤ 2147483647 → IsTable columns (a ++ b)
 tables_joined columns a b m n first second many more few =
     let all : length (a ++ b) ≡ length columns * (m + n) = length-append a b ∙ ap₂ ◌+◌ many more ∙ sym (mul-add (length columns) m n) in
     let rows = rows_of (length columns) (m + n) (length (a ++ b)) first.some_columns all in
@@ -119,7 +119,7 @@ cells_of_rows columns cells (x ∷ rows) fit =
     omega (arith, length-append (cells x) (flat_map cells rows), first, others, mul-suc (length columns) (length rows))
 
 pub rows_are_table : {X : Type 0} (columns : List Column) (cells : X → List ℤ) (rows : List X) → AreColumns columns
-    → AllByRecursion (λ x. FitEach columns (cells x)) rows → length rows ≤ 2 ^ 24 → IsTable columns (flat_map cells rows)
+    → AllByRecursion (λ x. FitEach columns (cells x)) rows → length rows ≤ 2147483647 → IsTable columns (flat_map cells rows)
 rows_are_table columns cells [] are fit few = no_rows columns are
 rows_are_table columns cells (x ∷ rows) are fit few =
     tables_joined columns (cells x) (flat_map cells rows) 1 (length rows) (one_row columns (cells x) are fit.0)

@@ -61,11 +61,11 @@ column_cards n (column ∷ columns) =
 
 -- ---- what can be written
 
--- a table that can be written: from 1 to 99 columns with plain names, and whole rows, at most 2 ^ 24, of cells that fit their columns
+-- a table that can be written: from 1 to 99 columns with plain names, and whole rows, at most 2 ^ 31 - 1, of cells that fit their columns
 pub record IsTable (columns : List Column) (cells : List ℤ) : Type 0 where
   pub some_columns : 0 < length columns
   pub few_columns : length columns ≤ 99
   pub plain_names : IsTrue (list_all (λ column. list_all is_plain column.name) columns)
   pub whole_rows : length cells % length columns ≡ 0
-  pub few_rows : length cells / length columns ≤ 2 ^ 24
+  pub few_rows : length cells / length columns ≤ 2147483647
   pub fits : (k : ℕ) → k < length cells → FitsCell (cell_at columns k) (number_at cells k)

@@ -21,7 +21,7 @@ const PART: usize = 720;
 /// Writes an image extension with BITPIX 32 and the name `SEGMENT` that gives each pixel its number, row by row.
 pub fn put_map<O: Sink>(sink: &mut O, shape: Shape, numbers: &[u32]) -> Result<(), WriteFault>
     requires count { length numbers.now ≡ shape.width * shape.height }
-    requires small { All (λ n. n ≤ 2 ^ 24) numbers.now }
+    requires small { All (λ n. n ≤ 2147483647) numbers.now }
     ensures bytes { PutAppends (O.written sink.old) (O.written sink.new) result
         (map_hdu shape numbers.now) }
     ensures cause { HasCause (O.faults sink.old) (O.faults sink.new) result }

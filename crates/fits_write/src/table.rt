@@ -62,7 +62,7 @@ fn put_header_and_cells<O: Sink>(
 
 fn put_table_header<O: Sink>(sink: &mut O, columns: &[Column], rows: usize) -> Result<(), Failed>
     requires few_columns { length columns.now ≤ 99 }
-    requires few_rows { rows ≤ 2 ^ 24 }
+    requires few_rows { rows ≤ 2147483647 }
     requires plain_names { IsTrue (list_all (λ column. list_all is_plain column.name) columns.now) }
     ensures bytes { PutAppends (O.written sink.old) (O.written sink.new) result
         (header (table_cards columns.now rows)) }
@@ -85,7 +85,7 @@ fn put_table_header<O: Sink>(sink: &mut O, columns: &[Column], rows: usize) -> R
 #[tactic(auto, unfolding(crate::specs::Hdus::table_front))]
 fn table_front(columns: &[Column], rows: usize) -> [Card; 8]
     requires few_columns { length columns.now ≤ 99 }
-    requires few_rows { rows ≤ 2 ^ 24 }
+    requires few_rows { rows ≤ 2147483647 }
     ensures { result ≡ table_front columns.now rows }
 {
     [

@@ -35,7 +35,7 @@ pub many_columns : length measured_columns ≡ measured_cells_in_row
 unfolding measured_columns catalogue_columns
 many_columns = refl
 
-count_fits : (n : ℕ) → n ≤ 2 ^ 24 → FitsColumn (pos n)
+count_fits : (n : ℕ) → n ≤ 2147483647 → FitsColumn (pos n)
 count_fits n few = record { low = omega (arith, ints); high = omega (arith, ints, few) }
 
 -- columns behind others
@@ -89,7 +89,7 @@ one_more plane values connect picked count d within =
     ∙ ap (λ l. flat_map cells (take count picked) ++ l) (append-nil _)
 
 pub rows_more : (tree : ComponentTree) (measures : List Measure) (picked : List PickedNode) (count : ℕ) (d : PickedNode) (items items' row : List ℤ)
-    → AreMeasuredRows tree measures picked count items → length picked ≤ 2 ^ 24 → count < length picked → items' ≡ items ++ row
+    → AreMeasuredRows tree measures picked count items → length picked ≤ 2147483647 → count < length picked → items' ≡ items ++ row
     → length row ≡ measured_cells_in_row → IsTable measured_columns row
     → ((plane values : Raster) (connect : Connect) → IsPlane plane → tree ≡ tree_of plane connect → measures ≡ measures_of values plane connect
     → row ≡ cells_at plane values connect (get_or picked count d))

@@ -26,11 +26,11 @@ are_sources_of plane connect choice picked marked listed numbers found are same_
 }
 
 pub can_be_listed : (plane : Raster) (tree : ComponentTree) (numbers : List ℕ) (found : List PickedNode) → IsTreeOfPlane plane tree → IsPlane plane
-    → length numbers ≡ length tree.node_of → ((p : ℕ) → slice_index numbers p ≤ 2 ^ 24) → length found ≤ 2 ^ 24 → HaveFittingRows found
+    → length numbers ≡ length tree.node_of → ((p : ℕ) → slice_index numbers p ≤ 2147483647) → length found ≤ 2147483647 → HaveFittingRows found
     → CanBeListed plane.shape numbers found
 can_be_listed plane tree numbers found of_plane whole one_each small few fits = record {
   one_each = one_each ∙ numbers-length plane of_plane.0 tree of_plane.1 ∙ whole;
-  small = λ k d within. subst (λ n. n ≤ 2 ^ 24) (get_or_default numbers k 0 d within) (small k);
+  small = λ k d within. subst (λ n. n ≤ 2147483647) (get_or_default numbers k 0 d within) (small k);
   few = few;
   fits = fits;
 }

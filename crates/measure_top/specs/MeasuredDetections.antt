@@ -14,5 +14,5 @@ measured_bytes found = measured_hdus found.shape found.map.items found.cells.ite
 -- a map and cells that can be written
 pub record IsMeasuredDetection (shape : Shape) (numbers : List ℕ) (cells : List ℤ) : Type 0 where
   pub one_each : length numbers ≡ shape.width * shape.height
-  pub small : All (λ n. n ≤ 2 ^ 24) numbers
+  pub small : All (λ n. n ≤ 2147483647) numbers
   pub table : IsTable measured_columns cells

@@ -43,8 +43,8 @@ HaveFittingRows nodes = (k : ℕ) (node : PickedNode) → slice_get nodes k ≡ 
 -- so a map with a number for each pixel, and the cells of the nodes, can be written
 pub record CanBeListed (shape : Shape) (numbers : List ℕ) (nodes : List PickedNode) : Type 0 where
   pub one_each : length numbers ≡ shape.width * shape.height
-  pub small : All (λ n. n ≤ 2 ^ 24) numbers
-  pub few : length nodes ≤ 2 ^ 24
+  pub small : All (λ n. n ≤ 2147483647) numbers
+  pub few : length nodes ≤ 2147483647
   pub fits : HaveFittingRows nodes
 
 -- each has at least this base

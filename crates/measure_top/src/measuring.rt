@@ -84,7 +84,7 @@ fn table_cells(
     requires small { (m : ℕ) (entry : Entry) → slice_get measures.now m ≡ Some entry →
         HasMeasureSizes entry }
     requires there { StandIn tree.now nodes.now }
-    requires few { length nodes.now ≤ 2 ^ 24 }
+    requires few { length nodes.now ≤ 2147483647 }
     requires fits { HaveFittingRows nodes.now }
     ensures exact { IfOk result (λ table. (plane values : Raster) (connect : Connect) →
         IsPlane plane → tree.now ≡ tree_of plane connect
@@ -114,7 +114,7 @@ fn cells_in_tree(
     requires shape { values.now.shape ≡ tree.now.shape }
     requires tree { IsPlanesTree tree.now }
     requires there { StandIn tree.now nodes.now }
-    requires few { length nodes.now ≤ 2 ^ 24 }
+    requires few { length nodes.now ≤ 2147483647 }
     requires fits { HaveFittingRows nodes.now }
     ensures exact { IfOk result (λ cells. (plane : Raster) (connect : Connect) → IsPlane plane →
         tree.now ≡ tree_of plane connect

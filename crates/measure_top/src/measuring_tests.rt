@@ -1,8 +1,8 @@
 //! Sources of small planes, measured in others.
 ghost use Rattle.std.specs.Prelude.{◌≡◌, IfOk, IfSome};
-ghost use Rattle.comp_tree.specs.Limits.{IsInHalfRange};
 ghost use Rattle.comp_tree.specs.Raster.{HasValuesInHalfRange};
 ghost use Rattle.orders.specs.Words.{HasLimits};
+ghost use Rattle.tree_products.specs.TrialSizes.{IsSmall};
 
 use crate::measuring::{measure_sources, put_measured};
 use comp_tree::{Connect, Plane, Shape};
@@ -46,7 +46,7 @@ const ORDER: Order = Order {
 };
 
 fn pixel_of(value: i64) -> Option<i64>
-    ensures { IfSome result IsInHalfRange }
+    ensures { IfSome result IsSmall }
 {
     if value > -99 && value < 99 {
         Some(value)

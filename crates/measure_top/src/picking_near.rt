@@ -39,7 +39,7 @@ fn picked_node(tree: &Tree, sums: &[Sums], number: u32, n: u32) -> PickedNode
     requires sums { AreTheTrees tree.now sums.now }
     requires node { n < length tree.now.rows }
     requires from_one { 1 ≤ number }
-    requires few { number ≤ 2 ^ 24 }
+    requires few { number ≤ 2147483647 }
     ensures row { ForEachPlaneOf tree.now sums.now
         (λ plane connect. result.row ≡ catalogue_row plane connect number n) }
     ensures rep { (plane : Raster) (connect : Connect) → tree.now ≡ tree_of plane connect →
@@ -63,7 +63,7 @@ fn picked_nodes(
     requires disjoint { AreDisjointNodes tree.now picked.now }
     ensures exact { IfOk result (λ nodes. ForEachPlaneOf tree.now sums.now
         (λ plane connect. AreNodesOf plane connect picked.now nodes.items)) }
-    ensures few { IfOk result (λ nodes. length nodes.items ≤ 2 ^ 24) }
+    ensures few { IfOk result (λ nodes. length nodes.items ≤ 2147483647) }
     ensures fits { IfOk result (λ nodes. HaveFittingRows nodes.items) }
 {
     let mut nodes = match Vec::with_capacity(alloc, picked.len()) {

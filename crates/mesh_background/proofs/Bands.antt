@@ -10,12 +10,13 @@ use Rattle.std.proofs.lemmas.List.{length-append, get_or_append_left, get_or-app
 use Rattle.std.proofs.lemmas.Nat.{div-add-mod', div_below, div-mul-add}
 use Rattle.std.proofs.lemmas.Option.{unwrap_or-slice_get}
 use Rattle.comp_tree.specs.declared.shape.Shape.{Shape}
-use Rattle.comp_tree.specs.Limits.{IsInHalfRange, IsWithinRange}
-use Rattle.comp_tree.specs.Raster.{Raster, IsPlane, HasValuesInHalfRange, HasValuesInRange, value_at}
+use Rattle.comp_tree.specs.Limits.{IsWithin, IsInHalfRange, value_bound, half_bound}
+use Rattle.comp_tree.proofs.Exported.{half_twice, within_half}
+use Rattle.comp_tree.specs.Raster.{Raster, IsPlane, HasValuesInHalfRange, HasValuesWithin, value_at}
 use Rattle.mesh_background.specs.Mesh.{mesh_cell_of}
 use Rattle.mesh_background.specs.Lessened.{numbers_under, number_of_cell, level_of, AreNumbers, IsInHalfRangeFrom, IsBand, IsLessened}
-use Rattle.mesh_background.proofs.Levels.{half-zero}
-use Rattle.mesh_background.proofs.Residuals.{half-of, half-pixel_level, half-values, half-smooth, length-values, length-smooth, within_range}
+use Rattle.mesh_background.proofs.Levels.{within-zero}
+use Rattle.mesh_background.proofs.Residuals.{half-of, within-of, within-pixel_level, within-values, within-smooth, length-values, length-smooth, within_twice}
 use Rattle.mesh_background.proofs.Lessening.{lessened-none, lessened-more}
 
 -- ---- whole rows
@@ -89,23 +90,23 @@ band-of r own size start band same plane h rows chunk = subst (λ (s : Shape). I
     from : start % r.shape.width ≡ 0
     from = whole-multiple r.shape.width size start rows chunk.start_is_multiple
 
-half-cell : (mesh width p : ℕ) (numbers : List ℤ) → All IsInHalfRange numbers → IsInHalfRange (number_of_cell mesh width numbers p)
-half-cell mesh width p numbers all = go (cases_lt (mesh_cell_of mesh width p) (length numbers))
+within-cell : (b mesh width p : ℕ) (numbers : List ℤ) → All (IsWithin b) numbers → IsWithin b (number_of_cell mesh width numbers p)
+within-cell b mesh width p numbers all = go (cases_lt (mesh_cell_of mesh width p) (length numbers))
   where
     go : (mesh_cell_of mesh width p < length numbers) ⊎ (length numbers ≤ mesh_cell_of mesh width p)
-        → IsInHalfRange (number_of_cell mesh width numbers p)
+        → IsWithin b (number_of_cell mesh width numbers p)
     go (inl lt) = all (mesh_cell_of mesh width p) (pos 0) lt
-    go (inr le) = subst IsInHalfRange (sym (get_or_past numbers (mesh_cell_of mesh width p) (pos 0) le)) half-zero
+    go (inr le) = subst (IsWithin b) (sym (get_or_past numbers (mesh_cell_of mesh width p) (pos 0) le)) (within-zero b)
 
-pub half-level_of : (flat : Bool) (mesh : ℕ) (shape : Shape) (numbers : List ℤ) (p : ℕ) → 0 < mesh → All IsInHalfRange numbers
-    → IsInHalfRange (level_of flat mesh shape numbers p)
-half-level_of true mesh shape numbers p some all = half-cell mesh shape.width p numbers all
-half-level_of false mesh shape numbers p some all = half-pixel_level mesh shape numbers p some all
+pub within-level_of : (b : ℕ) (flat : Bool) (mesh : ℕ) (shape : Shape) (numbers : List ℤ) (p : ℕ) → 0 < mesh → All (IsWithin b) numbers
+    → IsWithin b (level_of flat mesh shape numbers p)
+within-level_of b true mesh shape numbers p some all = within-cell b mesh shape.width p numbers all
+within-level_of b false mesh shape numbers p some all = within-pixel_level b mesh shape numbers p some all
 
--- what is left is in the range
-pub lessened-in_range : (old new : List (Option ℤ)) (by : ℕ → ℤ) → IsInHalfRangeFrom 0 old → ((k : ℕ) → IsInHalfRange (by k))
-    → IsLessened old by 0 (length old) new → HasValuesInRange new
-lessened-in_range old new by h half less p v e = go (cases_lt p (length old))
+-- what is left is within twice the bound
+pub lessened-within : (b : ℕ) (old new : List (Option ℤ)) (by : ℕ → ℤ) → ((k : ℕ) (v : ℤ) → k < length old → value_at old k ≡ Some v → IsWithin b v)
+    → ((k : ℕ) → IsWithin b (by k)) → IsLessened old by 0 (length old) new → HasValuesWithin (b + b) new
+lessened-within b old new by h half less p v e = go (cases_lt p (length old))
   where
     read : value_at new p ≡ Some v
     read = sym (unwrap_or-slice_get new p None) ∙ ap (λ (o : Option (Option ℤ)). unwrap_or o None) e
@@ -113,13 +114,13 @@ lessened-in_range old new by h half less p v e = go (cases_lt p (length old))
     no_element : None ≡ Some v → ⊥
     no_element e = cc
 
-    difference : (o : Option ℤ) → value_at old p ≡ o → option_map (λ w. w -ℤ by p) o ≡ Some v → IsWithinRange v
-    difference None u f = absurd (no_element f)
-    difference (Some w) u f =
-        let same : w -ℤ by p ≡ v = cc in subst IsWithinRange same (within_range w (by p) (h.each p w (omega arith) u) (half p))
+    difference : p < length old → (o : Option ℤ) → value_at old p ≡ o → option_map (λ w. w -ℤ by p) o ≡ Some v → IsWithin (b + b) v
+    difference lt None u f = absurd (no_element f)
+    difference lt (Some w) u f =
+        let same : w -ℤ by p ≡ v = cc in subst (IsWithin (b + b)) same (within_twice b w (by p) (h p w lt u) (half p))
 
-    go : (p < length old) ⊎ (length old ≤ p) → IsWithinRange v
-    go (inl lt) = difference (value_at old p) refl (sym (less.inside p (omega arith) lt) ∙ read)
+    go : (p < length old) ⊎ (length old ≤ p) → IsWithin (b + b) v
+    go (inl lt) = difference lt (value_at old p) refl (sym (less.inside p (omega arith) lt) ∙ read)
     go (inr le) = let long : length new ≡ length old = less.one_each in
         absurd (no_element (sym (get_or_past new p None (omega (arith, long, le))) ∙ read))
 
@@ -214,18 +215,35 @@ pub numbers-known : (r : Raster) (own : Shape) (mesh : ℕ) (flat : Bool) (numbe
 numbers-known r own mesh flat numbers same h is =
     subst (λ (s : Shape). AreNumbers mesh s numbers) (sym same) (subst (λ (ns : List ℤ). AreNumbers mesh r.shape ns) (sym is) (go flat))
   where
+    weaker : (xs : List ℤ) → All (IsWithin (half_bound (length r.values))) xs → All IsInHalfRange xs
+    weaker xs all k d lt = within_half (length r.values) _ (all k d lt)
+
     go : (f : Bool) → AreNumbers mesh r.shape (numbers_under r mesh f)
-    go true = record { one_each = length-values r mesh; in_range = half-values r mesh h }
-    go false = record { one_each = length-smooth r mesh; in_range = half-smooth r mesh h }
+    go true = record { one_each = length-values r mesh; in_range = weaker _ (within-values (half_bound (length r.values)) r mesh h.each) }
+    go false = record { one_each = length-smooth r mesh; in_range = weaker _ (within-smooth (half_bound (length r.values)) r mesh h.each) }
+
+-- the numbers are within the bound of the plane's values
+numbers-within : (b : ℕ) (r : Raster) (mesh : ℕ) (flat : Bool) (numbers : List ℤ) → HasValuesWithin b r.values → numbers ≡ numbers_under r mesh flat
+    → All (IsWithin b) numbers
+numbers-within b r mesh flat numbers h is = subst (λ (ns : List ℤ). All (IsWithin b) ns) (sym is) (go flat)
+  where
+    go : (f : Bool) → All (IsWithin b) (numbers_under r mesh f)
+    go true = within-values b r mesh h
+    go false = within-smooth b r mesh h
 
 -- what a band leaves is in the range
 pub band-in_range : (r : Raster) (mesh : ℕ) (own : Shape) (flat : Bool) (numbers : List ℤ) (size start : ℕ) (band after : List (Option ℤ)) → 0 < mesh
-    → HasValuesInHalfRange r.values → AreNumbers mesh own numbers → IsChunk r.values size start band
+    → HasValuesInHalfRange r.values → numbers ≡ numbers_under r mesh flat → IsChunk r.values size start band
     → IsLessened band (λ k. level_of flat mesh own numbers (start + k)) 0 (length band) after
-    → HasValuesInRange after
-band-in_range r mesh own flat numbers size start band after some h known chunk less =
-    lessened-in_range band after (λ k. level_of flat mesh own numbers (start + k)) (half-band r size start band h chunk)
-    (λ k. half-level_of flat mesh own numbers (start + k) some known.in_range) less
+    → HasValuesWithin (value_bound (length r.values)) after
+band-in_range r mesh own flat numbers size start band after some h is chunk less =
+    subst (λ (n : ℕ). HasValuesWithin n after) (half_twice (length r.values))
+    (lessened-within b band after (λ k. level_of flat mesh own numbers (start + k))
+    (λ k v lt e. within-of b r (start + k) v h.each (sym (chunk.elements k None lt) ∙ e))
+    (λ k. within-level_of b flat mesh own numbers (start + k) some (numbers-within b r mesh flat numbers h.each is)) less)
+  where
+    b : ℕ
+    b = half_bound (length r.values)
 
 -- a pixel of a plane, which stands in one of its bands
 pub pixel-lessened : (old new band after : List (Option ℤ)) (own shape : Shape) (mesh : ℕ) (flat : Bool) (numbers : List ℤ) (start offset p : ℕ) → own ≡ shape

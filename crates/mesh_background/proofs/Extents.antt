@@ -1,5 +1,5 @@
 -- Which pixels lie in a cell of a mesh, and the values that are gathered over it row by row.
-use Rattle.std.proofs.Common.{◌≡◌, ℕ, ◌+◌, ◌-◌, ◌*◌, ◌/◌, ◌%◌, ◌<◌, ◌≤◌, ◌^◌, zero, suc, min, Bool, true, cond, List, [], ◌∷◌, ◌++◌, length, refl, sym, ap}
+use Rattle.std.proofs.Common.{◌≡◌, ℕ, ◌+◌, ◌-◌, ◌*◌, ◌/◌, ◌%◌, ◌<◌, ◌≤◌, zero, suc, min, Bool, true, cond, List, [], ◌∷◌, ◌++◌, length, refl, sym, ap}
 use Rattle.std.proofs.Common.{subst, ◌∙◌, arith, ◌⊎◌, inl, inr}
 use Rattle.std.specs.Prelude.{◌==◌, filter}
 use Rattle.std.specs.List.{range_with_len}
@@ -41,9 +41,9 @@ along-le mesh side some = go (cases_lt side (cells_along mesh side))
         absurd (omega arith)
 
 -- there are at most as many cells as pixels
-pub cells_few : (mesh width height : ℕ) → 0 < mesh → IsWithinLimits width height → cells_along mesh width * cells_along mesh height ≤ 2 ^ 24
+pub cells_few : (mesh width height : ℕ) → 0 < mesh → IsWithinLimits width height → cells_along mesh width * cells_along mesh height ≤ 2147483647
 cells_few mesh width height some h =
-    let few : width * height ≤ 2 ^ 24 = h.few_pixels in
+    let few : width * height ≤ 2147483647 = h.few_pixels in
     let le : cells_along mesh width * cells_along mesh height ≤ width * height =
     mul-le (cells_along mesh width) (cells_along mesh height) width height (along-le mesh width some) (along-le mesh height some) in
     omega arith
@@ -55,9 +55,9 @@ cell-below mesh width height x y some xl yl =
 
 -- the same, as the code computes them
 pub cells-read : (mesh width height columns rows : ℕ) → 0 < mesh → IsWithinLimits width height → columns ≡ cells_along mesh width
-    → rows ≡ cells_along mesh height → columns * rows ≤ 2 ^ 24
+    → rows ≡ cells_along mesh height → columns * rows ≤ 2147483647
 cells-read mesh width height columns rows some h c r =
-    let few : cells_along mesh width * cells_along mesh height ≤ 2 ^ 24 = cells_few mesh width height some h in
+    let few : cells_along mesh width * cells_along mesh height ≤ 2147483647 = cells_few mesh width height some h in
     let e : columns * rows ≡ cells_along mesh width * cells_along mesh height = ap (λ (n : ℕ). n * rows) c ∙ ap (λ (n : ℕ). cells_along mesh width * n) r in
     omega arith
 
@@ -279,9 +279,9 @@ pixels_of_cell r mesh k = refl
 
 -- a cell has at most as many pixels as the image
 pub room-few : (mesh width height k left right top bottom : ℕ) → IsWithinLimits width height → IsCell mesh width height k left right top bottom
-    → (right - left) * (bottom - top) ≤ 2 ^ 24
+    → (right - left) * (bottom - top) ≤ 2147483647
 room-few mesh width height k left right top bottom limits c =
-    let few : width * height ≤ 2 ^ 24 = limits.few_pixels in
+    let few : width * height ≤ 2147483647 = limits.few_pixels in
     let short : right ≡ min (left + mesh) width = c.right_is in
     let low : bottom ≡ min (top + mesh) height = c.bottom_is in
     let le : (right - left) * (bottom - top) ≤ width * height = mul-le (right - left) (bottom - top) width height (omega arith) (omega arith) in

@@ -1,5 +1,5 @@
 -- Rows from whose values the levels of their pixels are taken away, some pixels at a time, and planes of such rows.
-use Rattle.std.proofs.Common.{◌≡◌, ℕ, ◌+◌, ◌-◌, ◌*◌, ◌/◌, ◌%◌, ◌^◌, ◌<◌, ◌≤◌, min, Bool, true, false, List, length, get_or, refl, sym, ap, subst, ◌∙◌}
+use Rattle.std.proofs.Common.{◌≡◌, ℕ, ◌+◌, ◌-◌, ◌*◌, ◌/◌, ◌%◌, ◌<◌, ◌≤◌, min, Bool, true, false, List, length, get_or, refl, sym, ap, subst, ◌∙◌}
 use Rattle.std.proofs.Common.{arith, ◌⊎◌, inl, inr}
 use Rattle.std.specs.Prelude.{ℤ, pos, ◌-ℤ◌, Option, Some, None, IfSome}
 use Rattle.std.specs.Option.{option_map}
@@ -77,7 +77,7 @@ number-in mesh width columns y i x numbers some c low high inside =
 
 -- the place of a row's cell in the list of all
 pub place-few : (mesh width height columns y i : ℕ) → 0 < mesh → IsWithinLimits width height → columns ≡ cells_along mesh width → y < height → i < columns
-    → (y / mesh * columns + i < cells_along mesh width * cells_along mesh height) × (cells_along mesh width * cells_along mesh height ≤ 2 ^ 24)
+    → (y / mesh * columns + i < cells_along mesh width * cells_along mesh height) × (cells_along mesh width * cells_along mesh height ≤ 2147483647)
 place-few mesh width height columns y i some limits c yl il =
     let down : y / mesh < cells_along mesh height = along-above mesh height y some yl in
     let inside : y / mesh * columns + i < columns * cells_along mesh height = mul-add-lt (y / mesh) columns i (cells_along mesh height) down il in

@@ -10,9 +10,9 @@ use mir.Syntax.{w64}
 use mir.Val.{SFits}
 use native.Mathlib.Nat.{mul-add, add-mul}
 use Rattle.lemmas.proofs.Exported.{floor-from, floor-is, floor-up_to, times-sum, times-times}
-use Rattle.comp_tree.specs.Limits.{IsInHalfRange}
+use Rattle.comp_tree.specs.Limits.{IsWithin, IsInHalfRange}
 use Rattle.mesh_background.specs.Laws.{PixelsLieBetweenCentres, LevelIsWeighed, WeightsComeToAll, LevelsStayBetween}
-use Rattle.mesh_background.specs.Lessened.{IsHalfRangeTimes}
+use Rattle.mesh_background.specs.Lessened.{IsWithinTimes, IsHalfRangeTimes}
 use Rattle.mesh_background.specs.Smoothing.{number_in_grid}
 use Rattle.mesh_background.specs.Interpolation.{pixel_centre, next_cell, past_centre, cell_before, cell_after, part_way, down_column, interpolated}
 use Rattle.mesh_background.proofs.Scaling.{way-from, way-up_to}
@@ -126,23 +126,29 @@ stay_between values columns rows mesh x y low high wide some long cells all =
       level-up_to (2 * mesh) (past_centre mesh x) _ _ high (omega arith) (omega (arith, past)) p.1 q.1,
     )
 
--- ---- in half of the range
+-- ---- within a bound
 
-pub half-zero : IsInHalfRange (pos 0)
-half-zero = record { low = omega (arith, ints); high = omega (arith, ints) }
+pub within-zero : (b : ℕ) → IsWithin b (pos 0)
+within-zero b = record { low = omega (arith, ints); high = omega (arith, ints) }
 
-pub half-number : (values : List ℤ) (columns i j : ℕ) → All IsInHalfRange values → IsInHalfRange (number_in_grid values columns i j)
-half-number values columns i j all = go (cases_lt (j * columns + i) (length values))
+pub within-number : (b : ℕ) (values : List ℤ) (columns i j : ℕ) → All (IsWithin b) values → IsWithin b (number_in_grid values columns i j)
+within-number b values columns i j all = go (cases_lt (j * columns + i) (length values))
   where
-    go : (j * columns + i < length values) ⊎ (length values ≤ j * columns + i) → IsInHalfRange (number_in_grid values columns i j)
+    go : (j * columns + i < length values) ⊎ (length values ≤ j * columns + i) → IsWithin b (number_in_grid values columns i j)
     go (inl lt) = all (j * columns + i) (pos 0) lt
-    go (inr le) = subst IsInHalfRange (sym (get_or_past values (j * columns + i) (pos 0) le)) half-zero
+    go (inr le) = subst (IsWithin b) (sym (get_or_past values (j * columns + i) (pos 0) le)) (within-zero b)
 
 pub half-up_to : (z : ℤ) → IsInHalfRange z → IsUpTo (2 ^ 36) z
 half-up_to z h = record { low = h.low; high = h.high }
 
+within-up_to : (b : ℕ) (z : ℤ) → IsWithin b z → IsUpTo b z
+within-up_to b z h = record { low = h.low; high = h.high }
+
 pub times-up_to : (whole : ℕ) (z : ℤ) → IsHalfRangeTimes whole z → IsUpTo (whole * 2 ^ 36) z
 times-up_to whole z h = record { low = h.low; high = h.high }
+
+within_times-up_to : (b whole : ℕ) (z : ℤ) → IsWithinTimes b whole z → IsUpTo (whole * b) z
+within_times-up_to b whole z h = record { low = h.low; high = h.high }
 
 -- such a number fits its type, so it is kept
 pub times-kept : (mesh : ℕ) (z : ℤ) → mesh ≤ 65535 → IsHalfRangeTimes (2 * mesh) z → IsHalfRangeTimes (2 * mesh) (kept w64 z)
@@ -150,34 +156,34 @@ times-kept mesh z few h =
     let fits : SFits w64 z = up_to-fits w64 (2 * mesh * 2 ^ 36) z (omega (arith, few)) (times-up_to (2 * mesh) z h) in
     subst (λ (y : ℤ). IsHalfRangeTimes (2 * mesh) y) (sym (to_z-of_z w64 z fits)) h
 
-pub half-way : (whole part : ℕ) (p q : ℤ) → part ≤ whole → IsInHalfRange p → IsInHalfRange q → IsHalfRangeTimes whole (part_way whole part p q)
-half-way whole part p q le a b =
-    let k : IsUpTo (whole * 2 ^ 36) (part_way whole part p q) = up_to-way whole part (2 ^ 36) p q le (half-up_to p a) (half-up_to q b) in
+pub within-way : (b whole part : ℕ) (p q : ℤ) → part ≤ whole → IsWithin b p → IsWithin b q → IsWithinTimes b whole (part_way whole part p q)
+within-way b whole part p q le first second =
+    let k : IsUpTo (whole * b) (part_way whole part p q) = up_to-way whole part b p q le (within-up_to b p first) (within-up_to b q second) in
     record { low = k.low; high = k.high }
 
-pub half-level : (whole part : ℕ) (p q : ℤ) → 0 < whole → part ≤ whole → IsHalfRangeTimes whole p → IsHalfRangeTimes whole q
-    → IsInHalfRange (int_div_euclid (part_way whole part p q) (pos (whole * whole)))
-half-level whole part p q some le a b = record {
-  low = level-from whole part p q (neg_ℤ (pos (2 ^ 36))) some le (up_to-low whole (2 ^ 36) p (times-up_to whole p a))
-      (up_to-low whole (2 ^ 36) q (times-up_to whole q b));
-  high = level-up_to whole part p q (pos (2 ^ 36)) some le (up_to-high whole (2 ^ 36) p (times-up_to whole p a))
-      (up_to-high whole (2 ^ 36) q (times-up_to whole q b));
+pub within-level : (b whole part : ℕ) (p q : ℤ) → 0 < whole → part ≤ whole → IsWithinTimes b whole p → IsWithinTimes b whole q
+    → IsWithin b (int_div_euclid (part_way whole part p q) (pos (whole * whole)))
+within-level b whole part p q some le first second = record {
+  low = level-from whole part p q (neg_ℤ (pos b)) some le (up_to-low whole b p (within_times-up_to b whole p first))
+      (up_to-low whole b q (within_times-up_to b whole q second));
+  high = level-up_to whole part p q (pos b) some le (up_to-high whole b p (within_times-up_to b whole p first))
+      (up_to-high whole b q (within_times-up_to b whole q second));
 }
 
-pub half-down : (values : List ℤ) (columns rows mesh y i : ℕ) → 0 < mesh → All IsInHalfRange values
-    → IsHalfRangeTimes (2 * mesh) (down_column values columns rows mesh y i)
-half-down values columns rows mesh y i some all =
+pub within-down : (b : ℕ) (values : List ℤ) (columns rows mesh y i : ℕ) → 0 < mesh → All (IsWithin b) values
+    → IsWithinTimes b (2 * mesh) (down_column values columns rows mesh y i)
+within-down b values columns rows mesh y i some all =
     let past : past_centre mesh y < 2 * mesh = past-below mesh y some in
-    half-way (2 * mesh) (past_centre mesh y) _ _ (omega (arith, past))
-    (half-number values columns i (cell_before rows mesh y) all) (half-number values columns i (cell_after rows mesh y) all)
+    within-way b (2 * mesh) (past_centre mesh y) _ _ (omega (arith, past))
+    (within-number b values columns i (cell_before rows mesh y) all) (within-number b values columns i (cell_after rows mesh y) all)
 
-pub half-interpolated : (values : List ℤ) (columns rows mesh x y : ℕ) → 0 < mesh → All IsInHalfRange values
-    → IsInHalfRange (interpolated values columns rows mesh x y)
+pub within-interpolated : (b : ℕ) (values : List ℤ) (columns rows mesh x y : ℕ) → 0 < mesh → All (IsWithin b) values
+    → IsWithin b (interpolated values columns rows mesh x y)
 unfolding interpolated
-half-interpolated values columns rows mesh x y some all =
+within-interpolated b values columns rows mesh x y some all =
     let past : past_centre mesh x < 2 * mesh = past-below mesh x some in
-    half-level (2 * mesh) (past_centre mesh x) _ _ (omega arith) (omega (arith, past))
-    (half-down values columns rows mesh y (cell_before columns mesh x) some all) (half-down values columns rows mesh y (cell_after columns mesh x) some all)
+    within-level b (2 * mesh) (past_centre mesh x) _ _ (omega arith) (omega (arith, past))
+    (within-down b values columns rows mesh y (cell_before columns mesh x) some all) (within-down b values columns rows mesh y (cell_after columns mesh x) some all)
 
 -- ---- as the code computes it
 

@@ -12,19 +12,19 @@ use Rattle.std.proofs.lemmas.List.{length-map}
 use Rattle.std.proofs.lemmas.List.Elements.{All-nil, All-append, All-map, All-weaker, All-contains, filter_passes}
 use Rattle.std.proofs.lemmas.List.FromFn.{fill_by_all, length-map-range_with_len}
 use Rattle.std.proofs.lemmas.Nat.{div-mul-add, mod-mul-add}
-use Rattle.comp_tree.specs.Limits.{IsWithinRange, IsInHalfRange}
+use Rattle.comp_tree.specs.Limits.{IsWithin, IsInHalfRange, value_bound, half_bound}
 use Rattle.comp_tree.specs.declared.shape.Shape.{Shape}
 use Rattle.comp_tree.specs.Raster.{Raster, pixels, value_at, is_defined, level}
-use Rattle.comp_tree.proofs.Exported.{length-pixels, IsImage, get_from_map, get-pixels, written_all}
+use Rattle.comp_tree.proofs.Exported.{half_twice, within_half, length-pixels, IsImage, get_from_map, get-pixels, written_all}
 use Rattle.mesh_background.specs.Medians.{IsLowerMedian, lower_median}
 use Rattle.mesh_background.specs.Mesh.{cells_along, cell_count, mesh_cell_of, cell_pixels, defined_values, image_value, mesh_value, values_of_mesh}
-use Rattle.comp_tree.specs.Raster.{HasValuesInHalfRange}
+use Rattle.comp_tree.specs.Raster.{HasValuesWithin, HasValuesInHalfRange}
 use Rattle.comp_tree.specs.Writing.{IsWritten}
 use Rattle.mesh_background.specs.Smoothing.{number_in_grid, places_around, numbers_around, filtered_number, filtered_mesh}
 use Rattle.mesh_background.specs.Residuals.{filtered_values, pixel_level, background, residual_at, residual_of}
 use Rattle.mesh_background.specs.Laws.{NoMeshLeavesThePlane, ResidualIsPlane, ResidualIsInRange}
 use Rattle.mesh_background.proofs.Medians.{the_one}
-use Rattle.mesh_background.proofs.Levels.{half-zero, half-number, half-interpolated}
+use Rattle.mesh_background.proofs.Levels.{within-zero, within-number, within-interpolated}
 
 -- ---- without a mesh
 
@@ -63,115 +63,121 @@ get_from_read (x ∷ xs) zero v e = ap Some e
 get_from_read (x ∷ xs) (suc p) v e = get_from_read xs p v e
 
 pub half-of : (r : Raster) (p : ℕ) (v : ℤ) → HasValuesInHalfRange r.values → value_at r.values p ≡ Some v → IsInHalfRange v
-half-of r p v h e = h.each p v (get_from_read r.values p v e)
+half-of r p v h e = within_half (length r.values) v (h.each p v (get_from_read r.values p v e))
 
-half-level : (r : Raster) (p : ℕ) → HasValuesInHalfRange r.values → is_defined r p ≡ true → IsInHalfRange (level r p)
+pub within-of : (b : ℕ) (r : Raster) (p : ℕ) (v : ℤ) → HasValuesWithin b r.values → value_at r.values p ≡ Some v → IsWithin b v
+within-of b r p v h e = h p v (get_from_read r.values p v e)
+
+within-level : (b : ℕ) (r : Raster) (p : ℕ) → HasValuesWithin b r.values → is_defined r p ≡ true → IsWithin b (level r p)
 unfolding level
-half-level r p h d = go (value_at r.values p) refl d
+within-level b r p h d = go (value_at r.values p) refl d
   where
-    go : (o : Option ℤ) → value_at r.values p ≡ o → is_some o ≡ true → IsInHalfRange (unwrap_or o (pos 0))
+    go : (o : Option ℤ) → value_at r.values p ≡ o → is_some o ≡ true → IsWithin b (unwrap_or o (pos 0))
     go None e d = absurd (true≢false (sym d))
-    go (Some v) e d = half-of r p v h e
+    go (Some v) e d = within-of b r p v h e
 
-half-defined : (r : Raster) (ps : List ℕ) → HasValuesInHalfRange r.values → All IsInHalfRange (defined_values r ps)
+within-defined : (b : ℕ) (r : Raster) (ps : List ℕ) → HasValuesWithin b r.values → All (IsWithin b) (defined_values r ps)
 unfolding defined_values
-half-defined r ps h = All-map IsInHalfRange (level r) (filter (is_defined r) ps)
-    (All-weaker (λ p. is_defined r p ≡ true) (λ p. IsInHalfRange (level r p)) (λ p d. half-level r p h d) (filter (is_defined r) ps)
+within-defined b r ps h = All-map (IsWithin b) (level r) (filter (is_defined r) ps)
+    (All-weaker (λ p. is_defined r p ≡ true) (λ p. IsWithin b (level r p)) (λ p d. within-level b r p h d) (filter (is_defined r) ps)
     (filter_passes (is_defined r) ps))
 
-half-median : (xs : List ℤ) (d : ℤ) → All IsInHalfRange xs → IsInHalfRange d → IsInHalfRange (unwrap_or (lower_median xs) d)
-half-median xs d all other = go (lower_median xs) refl
+within-median : (b : ℕ) (xs : List ℤ) (d : ℤ) → All (IsWithin b) xs → IsWithin b d → IsWithin b (unwrap_or (lower_median xs) d)
+within-median b xs d all other = go (lower_median xs) refl
   where
-    go : (o : Option ℤ) → lower_median xs ≡ o → IsInHalfRange (unwrap_or o d)
+    go : (o : Option ℤ) → lower_median xs ≡ o → IsWithin b (unwrap_or o d)
     go None e = other
-    go (Some v) e = let is : IsLowerMedian xs v = (the_one xs v).0 e in All-contains IsInHalfRange xs v all is.member
+    go (Some v) e = let is : IsLowerMedian xs v = (the_one xs v).0 e in All-contains (IsWithin b) xs v all is.member
 
-half-image : (r : Raster) → HasValuesInHalfRange r.values → IsInHalfRange (image_value r)
+within-image : (b : ℕ) (r : Raster) → HasValuesWithin b r.values → IsWithin b (image_value r)
 unfolding image_value
-half-image r h = half-median (defined_values r (pixels r)) (pos 0) (half-defined r (pixels r) h) half-zero
+within-image b r h = within-median b (defined_values r (pixels r)) (pos 0) (within-defined b r (pixels r) h) (within-zero b)
 
-pub half-mesh : (r : Raster) (mesh k : ℕ) → HasValuesInHalfRange r.values → IsInHalfRange (mesh_value r mesh k)
+pub within-mesh : (b : ℕ) (r : Raster) (mesh k : ℕ) → HasValuesWithin b r.values → IsWithin b (mesh_value r mesh k)
 unfolding mesh_value
-half-mesh r mesh k h = half-median (defined_values r (cell_pixels r mesh k)) (image_value r) (half-defined r (cell_pixels r mesh k) h) (half-image r h)
+within-mesh b r mesh k h = within-median b (defined_values r (cell_pixels r mesh k)) (image_value r) (within-defined b r (cell_pixels r mesh k) h) (within-image b r h)
 
 -- ---- the filtered numbers and the levels between them
 
-pub half-values : (r : Raster) (mesh : ℕ) → HasValuesInHalfRange r.values → All IsInHalfRange (values_of_mesh r mesh)
+pub within-values : (b : ℕ) (r : Raster) (mesh : ℕ) → HasValuesWithin b r.values → All (IsWithin b) (values_of_mesh r mesh)
 unfolding values_of_mesh
-half-values r mesh h = All-map IsInHalfRange (mesh_value r mesh) (range_with_len 0 (cell_count mesh r.shape)) (λ k d lt. half-mesh r mesh _ h)
+within-values b r mesh h = All-map (IsWithin b) (mesh_value r mesh) (range_with_len 0 (cell_count mesh r.shape)) (λ k d lt. within-mesh b r mesh _ h)
 
-All-each : {X : Type 0} (f : X → List ℤ) (xs : List X) → ((x : X) → All IsInHalfRange (f x)) → All IsInHalfRange (flat_map f xs)
-All-each f [] h = All-nil IsInHalfRange
-All-each f (x ∷ xs) h = All-append IsInHalfRange (f x) (flat_map f xs) (h x) (All-each f xs h)
+All-each : {X : Type 0} (b : ℕ) (f : X → List ℤ) (xs : List X) → ((x : X) → All (IsWithin b) (f x)) → All (IsWithin b) (flat_map f xs)
+All-each b f [] h = All-nil (IsWithin b)
+All-each b f (x ∷ xs) h = All-append (IsWithin b) (f x) (flat_map f xs) (h x) (All-each b f xs h)
 
-half-filtered : (values : List ℤ) (columns rows n : ℕ) → All IsInHalfRange values → IsInHalfRange (filtered_number values columns rows n)
+within-filtered : (b : ℕ) (values : List ℤ) (columns rows n : ℕ) → All (IsWithin b) values → IsWithin b (filtered_number values columns rows n)
 unfolding filtered_number numbers_around
-half-filtered values columns rows n all = half-median (numbers_around values columns rows (n % columns) (n / columns)) (pos 0)
-    (All-each (λ l. map (λ k. number_in_grid values columns k l) (places_around columns (n % columns))) (places_around rows (n / columns))
-    (λ l. All-map IsInHalfRange (λ k. number_in_grid values columns k l) (places_around columns (n % columns))
-    (λ k d lt. half-number values columns _ l all))) half-zero
+within-filtered b values columns rows n all = within-median b (numbers_around values columns rows (n % columns) (n / columns)) (pos 0)
+    (All-each b (λ l. map (λ k. number_in_grid values columns k l) (places_around columns (n % columns))) (places_around rows (n / columns))
+    (λ l. All-map (IsWithin b) (λ k. number_in_grid values columns k l) (places_around columns (n % columns))
+    (λ k d lt. within-number b values columns _ l all))) (within-zero b)
 
-pub half-smooth : (r : Raster) (mesh : ℕ) → HasValuesInHalfRange r.values → All IsInHalfRange (filtered_values r mesh)
+pub within-smooth : (b : ℕ) (r : Raster) (mesh : ℕ) → HasValuesWithin b r.values → All (IsWithin b) (filtered_values r mesh)
 unfolding filtered_values filtered_mesh
-half-smooth r mesh h =
+within-smooth b r mesh h =
     let columns : ℕ = cells_along mesh r.shape.width in
     let rows : ℕ = cells_along mesh r.shape.height in
-    All-map IsInHalfRange (filtered_number (values_of_mesh r mesh) columns rows) (range_with_len 0 (columns * rows))
-    (λ k d lt. half-filtered (values_of_mesh r mesh) columns rows _ (half-values r mesh h))
+    All-map (IsWithin b) (filtered_number (values_of_mesh r mesh) columns rows) (range_with_len 0 (columns * rows))
+    (λ k d lt. within-filtered b (values_of_mesh r mesh) columns rows _ (within-values b r mesh h))
 
-pub half-pixel_level : (mesh : ℕ) (shape : Shape) (values : List ℤ) (p : ℕ) → 0 < mesh → All IsInHalfRange values
-    → IsInHalfRange (pixel_level mesh shape values p)
+pub within-pixel_level : (b : ℕ) (mesh : ℕ) (shape : Shape) (values : List ℤ) (p : ℕ) → 0 < mesh → All (IsWithin b) values
+    → IsWithin b (pixel_level mesh shape values p)
 unfolding pixel_level
-half-pixel_level mesh shape values p some all =
-    half-interpolated values (cells_along mesh shape.width) (cells_along mesh shape.height) mesh (p % shape.width) (p / shape.width) some all
+within-pixel_level b mesh shape values p some all =
+    within-interpolated b values (cells_along mesh shape.width) (cells_along mesh shape.height) mesh (p % shape.width) (p / shape.width) some all
 
-half-background : (r : Raster) (mesh : ℕ) (flat : Bool) (p : ℕ) → HasValuesInHalfRange r.values → IsInHalfRange (background r mesh flat p)
+within-background : (b : ℕ) (r : Raster) (mesh : ℕ) (flat : Bool) (p : ℕ) → HasValuesWithin b r.values → IsWithin b (background r mesh flat p)
 unfolding background
-half-background r mesh flat p h = go (cases_lt 0 mesh) flat
+within-background b r mesh flat p h = go (cases_lt 0 mesh) flat
   where
     go : (0 < mesh) ⊎ (mesh ≤ 0) → (f : Bool)
-        → IsInHalfRange (cond (mesh == 0) (pos 0)
+        → IsWithin b (cond (mesh == 0) (pos 0)
         (cond f (mesh_value r mesh (mesh_cell_of mesh r.shape.width p)) (pixel_level mesh r.shape (filtered_values r mesh) p)))
     go (inr none) f = let e : mesh ≡ 0 = omega arith in
-        subst (λ (b : Bool). IsInHalfRange (cond b (pos 0)
+        subst (λ (t : Bool). IsWithin b (cond t (pos 0)
         (cond f (mesh_value r mesh (mesh_cell_of mesh r.shape.width p)) (pixel_level mesh r.shape (filtered_values r mesh) p)))) (sym (eq-eqb mesh 0
-        e)) half-zero
+        e)) (within-zero b)
     go (inl some) true =
-        subst (λ (b : Bool). IsInHalfRange (cond b (pos 0) (mesh_value r mesh (mesh_cell_of mesh r.shape.width p))))
-        (sym (ne_eqb mesh 0 (λ e. absurd (omega arith)))) (half-mesh r mesh (mesh_cell_of mesh r.shape.width p) h)
+        subst (λ (t : Bool). IsWithin b (cond t (pos 0) (mesh_value r mesh (mesh_cell_of mesh r.shape.width p))))
+        (sym (ne_eqb mesh 0 (λ e. absurd (omega arith)))) (within-mesh b r mesh (mesh_cell_of mesh r.shape.width p) h)
     go (inl some) false =
-        subst (λ (b : Bool). IsInHalfRange (cond b (pos 0) (pixel_level mesh r.shape (filtered_values r mesh) p)))
+        subst (λ (t : Bool). IsWithin b (cond t (pos 0) (pixel_level mesh r.shape (filtered_values r mesh) p)))
         (sym (ne_eqb mesh 0 (λ e. absurd (omega arith))))
-        (half-pixel_level mesh r.shape (filtered_values r mesh) p some (half-smooth r mesh h))
+        (within-pixel_level b mesh r.shape (filtered_values r mesh) p some (within-smooth b r mesh h))
 
--- the difference of two numbers in half of the range is in the range
-pub within_range : (v b : ℤ) → IsInHalfRange v → IsInHalfRange b → IsWithinRange (v -ℤ b)
-within_range v b h k =
+-- the difference of two numbers within a bound is within twice of it
+pub within_twice : (most : ℕ) (v b : ℤ) → IsWithin most v → IsWithin most b → IsWithin (most + most) (v -ℤ b)
+within_twice most v b h k =
     let vl : _ = h.low in
     let vh : _ = h.high in
     let bl : _ = k.low in
     let bh : _ = k.high in
     record { low = omega (arith, ints); high = omega (arith, ints) }
 
-in_range-at : (r : Raster) (mesh : ℕ) (flat : Bool) (p : ℕ) (v : ℤ) → HasValuesInHalfRange r.values → residual_at r mesh flat p ≡ Some v → IsWithinRange v
+in_range-at : (b : ℕ) (r : Raster) (mesh : ℕ) (flat : Bool) (p : ℕ) (v : ℤ) → HasValuesWithin b r.values → residual_at r mesh flat p ≡ Some v
+    → IsWithin (b + b) v
 unfolding residual_at
-in_range-at r mesh flat p v h e = go (value_at r.values p) refl e
+in_range-at b r mesh flat p v h e = go (value_at r.values p) refl e
   where
     no_element : None ≡ Some v → ⊥
     no_element e = cc
 
-    go : (o : Option ℤ) → value_at r.values p ≡ o → option_map (λ w. w -ℤ background r mesh flat p) o ≡ Some v → IsWithinRange v
+    go : (o : Option ℤ) → value_at r.values p ≡ o → option_map (λ w. w -ℤ background r mesh flat p) o ≡ Some v → IsWithin (b + b) v
     go None u f = absurd (no_element f)
     go (Some w) u f =
         let same : w -ℤ background r mesh flat p ≡ v = cc in
-        subst IsWithinRange same (within_range w (background r mesh flat p) (half-of r p w h u) (half-background r mesh flat p h))
+        subst (IsWithin (b + b)) same (within_twice b w (background r mesh flat p) (within-of b r p w h u) (within-background b r mesh flat p h))
 
 pub in_range : ResidualIsInRange
 unfolding residual_of
 in_range r mesh flat h p v e =
     let image : IsImage (residual_at r mesh flat) (pixels r) p (Some v) = get_from_map (residual_at r mesh flat) (pixels r) p (Some v) e in
     let place : image.it ≡ p = get-pixels r p image.it image.at in
-    in_range-at r mesh flat p v h (subst (λ q. residual_at r mesh flat q ≡ Some v) place image.gives)
+    subst (λ (n : ℕ). IsWithin n v)
+    (half_twice (length r.values) ∙ ap value_bound (sym (length-map (pixels r) (residual_at r mesh flat) ∙ length-pixels r)))
+    (in_range-at (half_bound (length r.values)) r mesh flat p v h.each (subst (λ q. residual_at r mesh flat q ≡ Some v) place image.gives))
 
 -- ---- a plane that is written pixel by pixel
 

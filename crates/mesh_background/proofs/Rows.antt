@@ -1,5 +1,5 @@
 -- Rows of pixels: where they and their cells stand, that these numbers fit, and rows that are lessened as far as their end.
-use Rattle.std.proofs.Common.{◌≡◌, ℕ, ℤ, ◌+◌, ◌*◌, ◌^◌, ◌<◌, ◌≤◌, min, List, Option, Fits, w32, refl, subst, arith}
+use Rattle.std.proofs.Common.{◌≡◌, ℕ, ℤ, ◌+◌, ◌*◌, ◌<◌, ◌≤◌, min, List, Option, Fits, w32, refl, subst, arith}
 use Rattle.std.proofs.Math.Nat.{mul_comm, mul-le-mul_right}
 use Rattle.comp_tree.specs.Limits.{IsWithinLimits}
 use Rattle.mesh_background.specs.Mesh.{cells_along}
@@ -18,13 +18,13 @@ place-within width height y x down across =
 
 pub place-fits : (width height y x : ℕ) → IsWithinLimits width height → y < height → x ≤ width → Fits w32 (y * width + x)
 place-fits width height y x limits down across =
-    let few : width * height ≤ 2 ^ 24 = limits.few_pixels in
+    let few : width * height ≤ 2147483647 = limits.few_pixels in
     let le : y * width + x ≤ width * height = place-within width height y x down across in
     omega (arith, few, le)
 
 pub row-fits : (width height y : ℕ) → IsWithinLimits width height → y < height → Fits w32 (y * width)
 row-fits width height y limits down =
-    let few : width * height ≤ 2 ^ 24 = limits.few_pixels in
+    let few : width * height ≤ 2147483647 = limits.few_pixels in
     let le : y * width + 0 ≤ width * height = place-within width height y 0 down (omega arith) in
     omega (arith, few, le)
 

@@ -7,10 +7,14 @@ use Rattle.comp_tree.specs.Raster.{Raster, value_at}
 use Rattle.mesh_background.specs.Mesh.{cell_count, mesh_cell_of, values_of_mesh}
 use Rattle.mesh_background.specs.Residuals.{filtered_values, pixel_level}
 
+-- a number is `whole` times one within a bound, or between two such
+pub record IsWithinTimes (bound whole : ℕ) (value : ℤ) : Type 0 where
+  pub low : neg_ℤ (pos (whole * bound)) ≤ℤ value
+  pub high : value ≤ℤ pos (whole * bound)
+
 -- a number is `whole` times one in half of the range, or between two such
-pub record IsHalfRangeTimes (whole : ℕ) (value : ℤ) : Type 0 where
-  pub low : neg_ℤ (pos (whole * 2 ^ 36)) ≤ℤ value
-  pub high : value ≤ℤ pos (whole * 2 ^ 36)
+abbrev pub IsHalfRangeTimes : ℕ → ℤ → Type 0
+IsHalfRangeTimes whole value = IsWithinTimes (2 ^ 36) whole value
 
 -- each value from place first on is within half of the range
 pub record IsInHalfRangeFrom (first : ℕ) (values : List (Option ℤ)) : Type 0 where

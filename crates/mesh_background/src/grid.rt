@@ -47,7 +47,7 @@ impl Grid {
     // How many cells there are: at most as many as pixels.
     pub(crate) fn cells(&self) -> u32
         ensures count { result ≡ cell_count self.now.mesh self.now.shape }
-        ensures few { result ≤ 2 ^ 24 }
+        ensures few { result ≤ 2147483647 }
     {
         self.columns * self.rows
     }

@@ -1,7 +1,7 @@
 //! Small planes under meshes with full, short and empty cells.
 
-ghost use Rattle.std.specs.Prelude.{IfOk, IfSome};
-ghost use Rattle.comp_tree.specs.Limits.{IsInHalfRange};
+ghost use Rattle.std.specs.Prelude.{◌^◌, IfOk, IfSome};
+ghost use Rattle.comp_tree.specs.Limits.{IsWithin};
 ghost use Rattle.comp_tree.specs.Raster.{HasValuesInHalfRange};
 
 use crate::{level_at, mesh_values, residual, smooth_mesh, subtract_background};
@@ -32,7 +32,7 @@ fn plane_of(alloc: Global, width: u32, height: u32, values: &[i64]) -> Result<Pl
 
 // A value of such a table, which is a small one.
 fn pixel_of(value: i64) -> Result<Option<i64>, Fail>
-    ensures { IfOk result (λ pixel. IfSome pixel IsInHalfRange) }
+    ensures { IfOk result (λ pixel. IfSome pixel (λ v. IsWithin (2 ^ 29) v)) }
 {
     if value == U {
         return Ok(None);

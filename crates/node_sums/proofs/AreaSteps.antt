@@ -1,5 +1,5 @@
 -- Areas: a pixel is counted at its smallest node, and a node's area is added to that of its parent.
-use Rattle.std.proofs.Common.{◌≡◌, ◌≢◌, ℕ, ◌+◌, ◌-◌, ◌^◌, ◌<◌, ◌≤◌, zero, suc, Bool, true, false, List, [], ◌∷◌, length, map}
+use Rattle.std.proofs.Common.{◌≡◌, ◌≢◌, ℕ, ◌+◌, ◌-◌, ◌<◌, ◌≤◌, zero, suc, Bool, true, false, List, [], ◌∷◌, length, map}
 use Rattle.std.proofs.Common.{replicate, refl, sym, ◌∙◌, ap, subst, arith, ◌⊎◌, inl, inr, set, get_or-set_same, get_or-set_other}
 use Rattle.std.specs.Prelude.{◌==◌, ◌&&◌, filter, slice_index, slice_index_or}
 use Rattle.std.specs.List.{range_with_len}
@@ -128,7 +128,7 @@ parent_area r connect tree areas k a plane s e =
     omega (arith, one, two, union_area r (is_counted r connect k a) (is_counted r connect (suc k) a) (is_counted r connect (suc k) k) (pixels r) u)
 
 pub step_small : (r : Raster) (tree : ComponentTree) (areas : List ℕ) (k a : ℕ) → IsPlane r → IsTreeOfPlane r tree → IsAreaStep r tree areas k a
-    → slice_index areas a + slice_index areas k ≤ 2 ^ 24
+    → slice_index areas a + slice_index areas k ≤ 2147483647
 unfolding pixels
 step_small r tree areas k a plane (connect, e) s =
     omega (

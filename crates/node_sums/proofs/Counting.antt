@@ -1,5 +1,5 @@
 -- Which nodes hold a pixel, and which pixels are in a node's entry while the nodes are added to their parents.
-use Rattle.std.proofs.Common.{◌≡◌, ℕ, ◌^◌, ◌<◌, ◌≤◌, zero, suc, Bool, true, false, ◌&&◌, not, List}
+use Rattle.std.proofs.Common.{◌≡◌, ℕ, ◌<◌, ◌≤◌, zero, suc, Bool, true, false, ◌&&◌, not, List}
 use Rattle.std.proofs.Common.{length, map, refl, sym, ◌∙◌, ap, subst, arith, ◌⊎◌, inl, inr}
 use Rattle.std.specs.Prelude.{◌==◌, nat_lt, slice_index}
 use Rattle.std.proofs.lemmas.Bool.{true≢false, eqb-true, eq-eqb, ltb-true, lt-ltb, le-ltb, and_parts, and_from, and_left, and_right}
@@ -20,7 +20,7 @@ use Rattle.node_sums.specs.Counted.{none_between, is_counted}
 
 -- as in the tree of a plane: the parents of the first count nodes are none or smaller
 pub record GoesDown (rows : List NodeRow) : Type 0 where
-  pub few : length rows ≤ 2 ^ 24
+  pub few : length rows ≤ 2147483647
   pub parents : (n : ℕ) → n < length rows → (parent_in rows n ≡ no_node) ⊎ (parent_in rows n < n)
 
 pub parent_smaller : (rows : List NodeRow) (m n : ℕ) → GoesDown rows → n < length rows → parent_in rows n ≡ m → m < length rows → m < n

@@ -3,7 +3,7 @@
 -- numbers up to a bound from zero: their differences, products and sums stay below the bounds that follow
 pub use Rattle.node_sums.proofs.Sizes.{up_to-minus, up_to-times, up_to_more, total-up_to}
 -- coordinates and values of a plane's pixels are small, and so are the sums over them
-pub use Rattle.node_sums.proofs.Sizes.{x_small, y_small, value_in_range, level_up_to, filtered_pixels, sizes, length-filter-le}
+pub use Rattle.node_sums.proofs.Sizes.{x_small, y_small, value_in_range, value_within, level_up_to, level_within, filtered_pixels, sizes, length-filter-le}
 -- the least and the greatest number of some pixels
 pub use Rattle.node_sums.proofs.Sizes.{least_at_most, greatest_at_least, greatest_up_to}
 -- the numbers of a plane's nodes; the area in a node's sums is the number of its pixels, of which there are few
@@ -30,6 +30,6 @@ pub use Rattle.node_sums.proofs.Fluxes.{level-of_node, level_at_least, BaseCase,
 -- the flux is never negative, and grows with the component
 pub use Rattle.node_sums.proofs.Fluxes.{never_negative, flux_grows}
 -- the flux by the sums of a node is the flux by the definition; there are sums for each row, and for each node
-pub use Rattle.node_sums.proofs.FluxOfSums.{sums-flux, flux-is, base_up_to, trees_rows, length-sums_in}
+pub use Rattle.node_sums.proofs.FluxOfSums.{sums-flux, flux-is, base_up_to, base_within, trees_rows, length-sums_in}
 -- there is an outline for each row
 pub use Rattle.node_sums.proofs.OutlineFlux.{outlines_rows}

@@ -1,5 +1,5 @@
 -- The flux as it is computed from a tree and its sums.
-use Rattle.std.proofs.Common.{◌≡◌, ℕ, ◌+◌, ◌*◌, ◌^◌, ◌<◌, List, length, refl, sym, ◌∙◌, ap, subst, arith, lit<, get_or}
+use Rattle.std.proofs.Common.{◌≡◌, ℕ, ◌+◌, ◌*◌, ◌^◌, ◌≤◌, ◌<◌, List, length, refl, sym, ◌∙◌, ap, subst, arith, lit<, get_or}
 use Rattle.std.specs.Prelude.{ℤ, pos, ◌-ℤ◌, ◌*ℤ◌, ◌≤ℤ◌, Some, slice_get}
 use Rattle.std.specs.List.{range_with_len}
 use Rattle.std.proofs.lemmas.Int.{to_z-of_z, to_z_pos}
@@ -14,12 +14,13 @@ use Rattle.comp_tree.specs.ComponentTree.{ComponentTree}
 use Rattle.comp_tree.specs.Components.{nodes, is_in_node, tree_of}
 use Rattle.comp_tree.specs.Nesting.{pixels_of}
 use Rattle.comp_tree.specs.Laws.{top_of}
-use Rattle.comp_tree.proofs.Exported.{length-rows}
+use Rattle.comp_tree.proofs.Exported.{bound_most, bound_of_sum, length-rows}
+use Rattle.comp_tree.specs.Limits.{value_bound}
 use Rattle.node_sums.specs.declared.entry.Sums.{Sums}
 use Rattle.node_sums.specs.Sums.{sums_over, sums_of, sums_in, AreTheTrees}
 use Rattle.node_sums.specs.Flux.{base_of, flux_of}
-use Rattle.node_sums.specs.Sizes.{IsUpTo, HasSizes, HasFluxSizes, value_bound, total_bound}
-use Rattle.node_sums.proofs.Sizes.{sizes, filtered_pixels, level_up_to, up_to-times, up_to-minus, up_to_more}
+use Rattle.node_sums.specs.Sizes.{IsUpTo, HasSizes, HasFluxSizes, level_bound, total_bound}
+use Rattle.node_sums.proofs.Sizes.{sizes, filtered_pixels, level_within, length-filter-le, up_to-times, up_to-minus, up_to_more}
 use Rattle.node_sums.proofs.Reading.{fits}
 use Rattle.node_sums.proofs.Totals.{total-less}
 use Rattle.node_sums.proofs.Fluxes.{BaseCase, at_root, at_child, base-case, never_negative}
@@ -69,18 +70,29 @@ flux_not_negative tree sums n entry t g =
 
 -- ---- sizes
 
-pub base_up_to : (r : Raster) (connect : Connect) (n : ℕ) → IsPlane r → HasValuesInRange r.values → n < length (nodes r connect)
-    → IsUpTo value_bound (base_of (tree_of r connect) n)
-base_up_to r connect n plane range hn = go (base-case r connect n plane hn)
+pub base_within : (r : Raster) (connect : Connect) (n : ℕ) → IsPlane r → HasValuesInRange r.values → n < length (nodes r connect)
+    → IsUpTo (value_bound (length r.values)) (base_of (tree_of r connect) n)
+base_within r connect n plane range hn = go (base-case r connect n plane hn)
   where
-    go : BaseCase r connect n → IsUpTo value_bound (base_of (tree_of r connect) n)
-    go (at_root e b) = subst (IsUpTo value_bound) (sym b) (level_up_to r (top_of r connect n) range)
-    go (at_child a e ha b l) = subst (IsUpTo value_bound) (sym b) (level_up_to r (top_of r connect a) range)
+    go : BaseCase r connect n → IsUpTo (value_bound (length r.values)) (base_of (tree_of r connect) n)
+    go (at_root e b) = subst (IsUpTo (value_bound (length r.values))) (sym b) (level_within r (top_of r connect n) range)
+    go (at_child a e ha b l) = subst (IsUpTo (value_bound (length r.values))) (sym b) (level_within r (top_of r connect a) range)
+
+pub base_up_to : (r : Raster) (connect : Connect) (n : ℕ) → IsPlane r → HasValuesInRange r.values → n < length (nodes r connect)
+    → IsUpTo level_bound (base_of (tree_of r connect) n)
+base_up_to r connect n plane range hn =
+    up_to_more (value_bound (length r.values)) level_bound (base_of (tree_of r connect) n) (base_within r connect n plane range hn) (bound_most (length r.values))
 
 node_sizes : (r : Raster) (connect : Connect) (n : ℕ) → IsPlane r → HasValuesInRange r.values → HasSizes (sums_of r connect n)
 unfolding sums_of pixels_of pixels
 node_sizes r connect n plane range =
-    sizes r (pixels_of r connect n) plane (filtered_pixels r (is_in_node r connect n) (length r.values) plane (omega arith) (λ q _. level_up_to r q range))
+    sizes r (pixels_of r connect n) plane (filtered_pixels r (is_in_node r connect n) (length r.values) plane (omega arith) (λ q _. level_within r q range))
+
+-- a node has at most the pixels of the plane
+node_area : (r : Raster) (connect : Connect) (n : ℕ) → (sums_of r connect n).area ≤ length r.values
+unfolding sums_of sums_over pixels_of pixels
+node_area r connect n =
+    omega (arith, length-filter-le (is_in_node r connect n) (range_with_len 0 (length r.values)), length-range_with_len 0 (length r.values))
 
 -- the numbers from which the flux is computed, and those met on the way, fit
 pub record FluxFits (sum base : ℤ) (area : ℕ) : Type 0 where
@@ -94,30 +106,33 @@ pub fits_from_sizes : (area : ℕ) (r base : ℤ) → HasFluxSizes area r base �
 fits_from_sizes area r base h = record {
   few = omega (arith, h.few);
   sum_fits = fits w64 total_bound r h.sum (lit< tt);
-  base_fits = fits w64 value_bound base h.level (lit< tt);
-  product_fits = fits w64 total_bound (base *ℤ pos area) product (lit< tt);
-  flux_fits = fits w64 (total_bound + total_bound) (r -ℤ base *ℤ pos area) (up_to-minus total_bound total_bound r (base *ℤ pos area) h.sum product)
+  base_fits = fits w64 level_bound base h.level (lit< tt);
+  product_fits = fits w64 total_bound (base *ℤ pos area) h.product (lit< tt);
+  flux_fits = fits w64 (total_bound + total_bound) (r -ℤ base *ℤ pos area) (up_to-minus total_bound total_bound r (base *ℤ pos area) h.sum h.product)
       (lit< tt);
 }
-  where
-    product : IsUpTo total_bound (base *ℤ pos area)
-    product = up_to-times value_bound (2 ^ 24) area base h.level h.few
 
-flux_sizes : (s : Sums) (base : ℤ) → HasSizes s → IsUpTo value_bound base → HasFluxSizes s.area s.r base
-flux_sizes s base h b = record {
+-- the area is at most that of the plane, and by the number of its pixels the base is bounded
+flux_sizes : (count : ℕ) (s : Sums) (base : ℤ) → HasSizes s → count ≤ 2147483647 → s.area ≤ count → IsUpTo (value_bound count) base → HasFluxSizes s.area s.r base
+flux_sizes count s base h few inside b = record {
   few = h.area;
-  sum = up_to_more (value_bound * s.area) total_bound s.r h.r (omega (arith, h.area));
-  level = b;
+  sum = h.r;
+  level = up_to_more (value_bound count) level_bound base b (bound_most count);
+  product = up_to_more (value_bound count * count) total_bound (base *ℤ pos s.area) (up_to-times (value_bound count) count s.area base b inside)
+      (bound_of_sum count few);
 }
 
 pub flux_numbers : (tree : ComponentTree) (sums : List Sums) (n : ℕ) (entry : Sums) → AreTheTrees tree sums → slice_get sums n ≡ Some entry
     → HasFluxSizes entry.area entry.r (base_of tree n)
 flux_numbers tree sums n entry t g =
-    flux_sizes entry (base_of tree n)
+    flux_sizes (length t.plane.values) entry (base_of tree n)
     (subst HasSizes (sym (entry_is t.plane t.of_plane.connect sums n entry t.of_plane.sums_are g))
     (node_sizes t.plane t.of_plane.connect n t.one_each t.in_range))
-    (subst (λ (x : ComponentTree). IsUpTo value_bound (base_of x n)) (sym t.of_plane.tree_is)
-    (base_up_to t.plane t.of_plane.connect n t.one_each t.in_range inside))
+    (omega (arith, t.one_each, t.plane.shape.within_limits.few_pixels))
+    (subst (λ (s : Sums). s.area ≤ length t.plane.values) (sym (entry_is t.plane t.of_plane.connect sums n entry t.of_plane.sums_are g))
+    (node_area t.plane t.of_plane.connect n))
+    (subst (λ (x : ComponentTree). IsUpTo (value_bound (length t.plane.values)) (base_of x n)) (sym t.of_plane.tree_is)
+    (base_within t.plane t.of_plane.connect n t.one_each t.in_range inside))
   where
     inside : n < length (nodes t.plane t.of_plane.connect)
     inside = omega (arith, slice_get_within sums n entry g, ap length t.of_plane.sums_are, length-sums_in t.plane t.of_plane.connect)

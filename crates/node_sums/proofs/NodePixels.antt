@@ -1,5 +1,5 @@
 -- The numbers of a plane's nodes, and how many pixels a node has.
-use Rattle.std.proofs.Common.{◌≡◌, ℕ, ◌+◌, ◌^◌, ◌<◌, ◌≤◌, length, refl, arith}
+use Rattle.std.proofs.Common.{◌≡◌, ℕ, ◌+◌, ◌<◌, ◌≤◌, length, refl, arith}
 use Rattle.lemmas.proofs.Exported.{IsAmong, among-range, among_from_range}
 use Rattle.comp_tree.specs.declared.shape.Connect.{Connect}
 use Rattle.comp_tree.specs.Raster.{Raster, IsPlane, pixels}
@@ -22,7 +22,7 @@ unfolding sums_of sums_over
 sums-area r connect n = refl
 
 -- a node has at most as many pixels as a plane
-pub few-pixels_of : (r : Raster) (connect : Connect) (n : ℕ) → IsPlane r → length (pixels_of r connect n) ≤ 2 ^ 24
+pub few-pixels_of : (r : Raster) (connect : Connect) (n : ℕ) → IsPlane r → length (pixels_of r connect n) ≤ 2147483647
 unfolding pixels_of
 few-pixels_of r connect n plane =
     omega (arith, length-filter-le (is_in_node r connect n) (pixels r), length-pixels r, plane, r.shape.within_limits.few_pixels)

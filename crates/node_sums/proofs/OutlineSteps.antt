@@ -6,18 +6,17 @@ use mir.Syntax.{w64}
 use mir.Val.{to_z, of_z}
 use Rattle.comp_tree.specs.declared.shape.Connect.{Connect}
 use Rattle.comp_tree.specs.declared.tree.NodeRow.{NodeRow}
-use Rattle.comp_tree.specs.Limits.{IsWithinRange}
+use Rattle.comp_tree.specs.Limits.{IsWithin, value_bound}
 use Rattle.comp_tree.specs.Raster.{Raster, IsPlane, HasValuesInRange, HasGap, pixels, value_at}
 use Rattle.comp_tree.specs.ComponentTree.{ComponentTree, no_node}
 use Rattle.comp_tree.specs.Components.{tree_of}
 use Rattle.node_sums.specs.declared.entry.Sums.{Sums}
 use Rattle.node_sums.specs.declared.outline.Outline.{Outline}
 use Rattle.node_sums.specs.Sums.{sums_over, IsTreeOfPlane}
-use Rattle.node_sums.specs.Sizes.{HasSizes, value_bound, total_bound}
+use Rattle.node_sums.specs.Sizes.{HasSizes}
 use Rattle.node_sums.specs.Merging.{together, sums_at_place, AreCounted, AreOwn, AreOwnTo}
 use Rattle.node_sums.specs.Outlines.{outline_of, outlines_in, AreOutlinesOfPlane, AreOutlinesOfTree}
 use Rattle.node_sums.specs.OutlinePasses.{FitTogether, AreOutlinesOf}
-use Rattle.node_sums.proofs.Sizes.{up_to_more}
 use Rattle.node_sums.proofs.OutlineFlux.{outline_read}
 use Rattle.node_sums.proofs.Passes
 
@@ -42,7 +41,7 @@ outline-together a b whole s t e f area r xmin xmax ymin ymax =
 fit_together : (a b : Outline) (s t : Sums) → a ≡ outline_of s → b ≡ outline_of t → HasSizes (together s t) → FitTogether a b
 fit_together a b s t e f h =
     subst (λ (x : Outline). FitTogether x b) (sym e) (subst (λ (y : Outline). FitTogether (outline_of s) y) (sym f)
-    (record { area = h.area; r = up_to_more (value_bound * (s.area + t.area)) total_bound (s.r +ℤ t.r) h.r (omega (arith, h.area)) }))
+    (record { area = h.area; r = h.r }))
 
 -- what the code answers for two outlines
 abbrev pub IsTogether : Outline → Outline → Outline → Type 0
@@ -96,7 +95,7 @@ pub record IsOutlineTurn (r : Raster) (node_of : List ℕ) (outlines : List Outl
 
 pub outline_turn : (r : Raster) (node_of : List ℕ) (outlines : List Outline) (first row column p : ℕ) (v : ℤ) (got : Option ℤ) (d pixel : Outline)
     → AreOutlinesOf (AreOwnTo r node_of p) outlines → first ≡ row * r.shape.width → p ≡ first + column → column < r.shape.width → p < length r.values
-    → got ≡ value_at r.values p → got ≡ Some v → IsWithinRange v
+    → got ≡ value_at r.values p → got ≡ Some v → IsWithin (value_bound (length r.values)) v
     → ((q : ℕ) → pixel ≡ outline_of (sums_at_place (column + 1) (row + 1) q (to_z w64 (of_z w64 v))))
     → slice_index node_of p < length outlines
     → IsOutlineTurn r node_of outlines p (slice_index node_of p) (get_or outlines (slice_index node_of p) d) pixel

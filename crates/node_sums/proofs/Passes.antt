@@ -1,5 +1,5 @@
 -- The steps of both passes: a pixel is added to its smallest node's entry, and a node's entry to that of its parent.
-use Rattle.std.proofs.Common.{◌≡◌, ℕ, ◌+◌, ◌-◌, ◌*◌, ◌^◌, ◌/◌, ◌%◌, ◌<◌, ◌≤◌, zero, suc, Bool, true, false, cond, List, [], ◌∷◌, ◌++◌}
+use Rattle.std.proofs.Common.{◌≡◌, ℕ, ◌+◌, ◌-◌, ◌*◌, ◌/◌, ◌%◌, ◌<◌, ◌≤◌, zero, suc, Bool, true, false, cond, List, [], ◌∷◌, ◌++◌}
 use Rattle.std.proofs.Common.{length, map, take, refl, sym, ◌∙◌, ap, subst, arith, ◌⊎◌, inl, inr, get_or, set, add-one, lit<}
 use Rattle.std.specs.Prelude.{IsTrue, is_some, ◌==◌, ℤ, Option, Some, None, filter, replicate, slice_get, slice_index, slice_index_or}
 use Rattle.std.specs.List.{range_with_len}
@@ -14,7 +14,8 @@ use mir.Syntax.{w64}
 use mir.Val.{to_z, of_z}
 use Rattle.comp_tree.specs.declared.shape.Connect.{Connect}
 use Rattle.comp_tree.specs.declared.tree.NodeRow.{NodeRow}
-use Rattle.comp_tree.specs.Limits.{IsWithinRange}
+use Rattle.comp_tree.specs.Limits.{IsWithin, value_bound}
+use Rattle.comp_tree.proofs.Exported.{within_range}
 use Rattle.comp_tree.specs.Raster.{Raster, IsPlane, HasValuesInRange, HasGap, pixels, is_defined, level, value_at}
 use Rattle.comp_tree.specs.ComponentTree.{ComponentTree, parent_in, no_node}
 use Rattle.comp_tree.specs.Components.{nodes, node_of, is_in_node, tree_of}
@@ -23,11 +24,11 @@ use Rattle.comp_tree.proofs.Exported.{length-rows, below_no_node, row-parent}
 use Rattle.comp_tree.proofs.Exported as Nodes
 use Rattle.node_sums.specs.declared.entry.Sums.{Sums}
 use Rattle.node_sums.specs.Sums.{sums_over, sums_of, sums_in, IsTreeOfPlane, AreOfPlane, AreTheTrees}
-use Rattle.node_sums.specs.Sizes.{IsUpTo, HasSizes, value_bound}
+use Rattle.node_sums.specs.Sizes.{IsUpTo, HasSizes, level_bound}
 use Rattle.node_sums.specs.Counted.{is_counted}
 use Rattle.node_sums.specs.Merging.{together, sums_of_pixel, is_own, AreCounted, AreOwn, AreOwnTo, sums_at_place}
 use Rattle.node_sums.proofs.Merging.{sums_at, sums_over-push, sums_over-union}
-use Rattle.node_sums.proofs.Sizes.{sizes, filtered_pixels, level_up_to}
+use Rattle.node_sums.proofs.Sizes.{sizes, filtered_pixels, level_within}
 use Rattle.node_sums.proofs.Counting.{GoesDown, goes_down, counted-start, counted-end, counted-same, counted-parent, number-is, IsUnion}
 use Rattle.node_sums.proofs.Reading.{get-written, fits}
 
@@ -59,7 +60,7 @@ own_sum r node_of ps sums n p s h d e g =
 
 pub own_size : (r : Raster) (node_of : List ℕ) (sums : List Sums) (n p : ℕ) (s : Sums) → IsPlane r → AreOwn r node_of (range_with_len 0 p) sums
     → is_defined r p ≡ true
-    → slice_index node_of p ≡ n → slice_get sums n ≡ Some s → p < length r.values → ((q : ℕ) → q < suc p → IsUpTo value_bound (level r q))
+    → slice_index node_of p ≡ n → slice_get sums n ≡ Some s → p < length r.values → ((q : ℕ) → q < suc p → IsUpTo (value_bound (length r.values)) (level r q))
     → HasSizes (together s (sums_at r p))
 own_size r node_of sums n p s plane h d e g l small =
     subst HasSizes (sym (own_sum r node_of (range_with_len 0 p) sums n p s h d e g))
@@ -156,7 +157,7 @@ unfolding pixels
 parent_size r tree sums k a s t plane range h (connect, e) hk p ha f g =
     subst HasSizes (sym (parent_sum r connect tree sums k a s t plane h e hk p ha f g))
     (sizes r (filter (is_counted r connect k a) (range_with_len 0 (length r.values))) plane
-    (filtered_pixels r (is_counted r connect k a) (length r.values) plane (omega arith) (λ q _. level_up_to r q range)))
+    (filtered_pixels r (is_counted r connect k a) (length r.values) plane (omega arith) (λ q _. level_within r q range)))
 
 pub parent_yes : (r : Raster) (tree : ComponentTree) (sums : List Sums) (k a : ℕ) (s t v : Sums) → IsPlane r → AreCounted r tree (suc k) sums
     → k < length tree.rows → parent_in tree.rows k ≡ a → a < length tree.rows → slice_get sums a ≡ Some s → slice_get sums k ≡ Some t
@@ -193,17 +194,17 @@ parent_no r tree sums k plane h hk p = record { one_each = h.one_each; counted =
 -- pixel p has the value v, and the code has made its sums and read its node's entry
 pub record IsTurn (r : Raster) (node_of : List ℕ) (sums : List Sums) (p n : ℕ) (v : ℤ) (entry pixel : Sums) : Type 0 where
   pub own : AreOwn r node_of (range_with_len 0 p) sums
-  pub small : (q : ℕ) → q < p → IsUpTo value_bound (level r q)
+  pub small : (q : ℕ) → q < p → IsUpTo (value_bound (length r.values)) (level r q)
   pub inside : p < length r.values
   pub value : value_at r.values p ≡ Some v
-  pub in_range : IsWithinRange v
+  pub in_range : IsWithin (value_bound (length r.values)) v
   pub node : slice_index node_of p ≡ n
   pub entry_is : slice_get sums n ≡ Some entry
   pub pixel_is : pixel ≡ sums_of_pixel r.shape.width p v
 
 pub turn_from_code : (r : Raster) (node_of : List ℕ) (sums : List Sums) (first row column p : ℕ) (v : ℤ) (got : Option ℤ) (d pixel : Sums)
     → AreOwnTo r node_of p sums → first ≡ row * r.shape.width → p ≡ first + column → column < r.shape.width → p < length r.values
-    → got ≡ value_at r.values p → got ≡ Some v → IsWithinRange v → pixel ≡ sums_at_place (column + 1) (row + 1) p (to_z w64 (of_z w64 v))
+    → got ≡ value_at r.values p → got ≡ Some v → IsWithin (value_bound (length r.values)) v → pixel ≡ sums_at_place (column + 1) (row + 1) p (to_z w64 (of_z w64 v))
     → slice_index node_of p < length sums → IsTurn r node_of sums p (slice_index node_of p) v (get_or sums (slice_index node_of p) d) pixel
 turn_from_code r node_of sums first row column p v got d pixel h begins at within inside reads is in_range made there = record {
   own = h.own;
@@ -215,7 +216,7 @@ turn_from_code r node_of sums first row column p v got d pixel h begins at withi
   entry_is = slice_get-get_or sums (slice_index node_of p) d there;
   pixel_is =
       made
-      ∙ ap (sums_at_place (column + 1) (row + 1) p) (to_z-of_z w64 v (fits w64 value_bound v (record { low = in_range.low; high = in_range.high }) (lit< tt)))
+      ∙ ap (sums_at_place (column + 1) (row + 1) p) (to_z-of_z w64 v (fits w64 level_bound v (record { low = (within_range (length r.values) v in_range).low; high = (within_range (length r.values) v in_range).high }) (lit< tt)))
       ∙ ap (λ (x : ℕ). sums_at_place (x + 1) (row + 1) p v) (sym (ap (λ (n : ℕ). n % r.shape.width) place ∙ mod-mul-add row r.shape.width column within))
       ∙ ap (λ (y : ℕ). sums_at_place (p % r.shape.width + 1) (y + 1) p v)
       (sym (ap (λ (n : ℕ). n / r.shape.width) place ∙ div-mul-add row r.shape.width column within));
@@ -235,7 +236,7 @@ row_in_plane r row plane below =
 -- a row of a plane is within it, and its numbers are small
 pub record RowFits (r : Raster) (row width : ℕ) : Type 0 where
   pub inside : row * width + width ≤ length r.values
-  pub small : row * width + width ≤ 2 ^ 24
+  pub small : row * width + width ≤ 2147483647
   pub few_columns : width ≤ 65535
   pub few_rows : row + 1 ≤ 65535
 
@@ -256,7 +257,7 @@ defined-of r p v e = ap (λ (o : Option ℤ). is_some o) e
 pub undefined-of : (r : Raster) (p : ℕ) → value_at r.values p ≡ None → is_defined r p ≡ false
 undefined-of r p e = ap (λ (o : Option ℤ). is_some o) e
 
-pub level_undefined : (r : Raster) (p : ℕ) → value_at r.values p ≡ None → IsUpTo value_bound (level r p)
+pub level_undefined : (r : Raster) (p : ℕ) → value_at r.values p ≡ None → IsUpTo (value_bound (length r.values)) (level r p)
 unfolding level
 level_undefined r p e = rw e (record { low = omega (arith, ints); high = omega (arith, ints) })
 
@@ -264,15 +265,15 @@ pixel_at : (r : Raster) (p : ℕ) (v : ℤ) (pixel : Sums) → value_at r.values
 pixel_at r p v pixel e k = k ∙ ap (sums_of_pixel r.shape.width p) (sym (Nodes.level-value r p v e))
 
 pub turn_small : (r : Raster) (node_of : List ℕ) (sums : List Sums) (p n : ℕ) (v : ℤ) (entry pixel : Sums) → IsTurn r node_of sums p n v entry pixel
-    → (q : ℕ) → q < p + 1 → IsUpTo value_bound (level r q)
+    → (q : ℕ) → q < p + 1 → IsUpTo (value_bound (length r.values)) (level r q)
 turn_small r node_of sums p n v entry pixel t q l = go (cases_lt q p)
   where
-    go : (q < p) ⊎ (p ≤ q) → IsUpTo value_bound (level r q)
+    go : (q < p) ⊎ (p ≤ q) → IsUpTo (value_bound (length r.values)) (level r q)
     go (inl k) = t.small q k
     go (inr k) =
         let e : p ≡ q = omega arith in
-        subst (λ (j : ℕ). IsUpTo value_bound (level r j)) e
-        (subst (IsUpTo value_bound) (sym (Nodes.level-value r p v t.value)) (record { low = t.in_range.low; high = t.in_range.high }))
+        subst (λ (j : ℕ). IsUpTo (value_bound (length r.values)) (level r j)) e
+        (subst (IsUpTo (value_bound (length r.values))) (sym (Nodes.level-value r p v t.value)) (record { low = t.in_range.low; high = t.in_range.high }))
 
 pub turn_size : (r : Raster) (node_of : List ℕ) (sums : List Sums) (p n : ℕ) (v : ℤ) (entry pixel : Sums) → IsPlane r → IsTurn r node_of sums p n v entry pixel
     → HasSizes (together entry pixel)
@@ -295,13 +296,13 @@ turn_undefined r node_of sums p h e =
     let next : range_with_len 0 (p + 1) ≡ range_with_len 0 p ++ p ∷ [] = rw add-one (range-push 0 p p (omega arith)) in
     subst (λ (ps : List ℕ). AreOwn r node_of ps sums) (sym next) (own_no r node_of (range_with_len 0 p) sums p h (undefined-of r p e))
 
-pub small_undefined : (r : Raster) (p : ℕ) → ((q : ℕ) → q < p → IsUpTo value_bound (level r q)) → value_at r.values p ≡ None → (q : ℕ) → q < p + 1
-    → IsUpTo value_bound (level r q)
+pub small_undefined : (r : Raster) (p : ℕ) → ((q : ℕ) → q < p → IsUpTo (value_bound (length r.values)) (level r q)) → value_at r.values p ≡ None → (q : ℕ) → q < p + 1
+    → IsUpTo (value_bound (length r.values)) (level r q)
 small_undefined r p h e q l = go (cases_lt q p)
   where
-    go : (q < p) ⊎ (p ≤ q) → IsUpTo value_bound (level r q)
+    go : (q < p) ⊎ (p ≤ q) → IsUpTo (value_bound (length r.values)) (level r q)
     go (inl k) = h q k
-    go (inr k) = let f : p ≡ q = omega arith in subst (λ (j : ℕ). IsUpTo value_bound (level r j)) f (level_undefined r p e)
+    go (inr k) = let f : p ≡ q = omega arith in subst (λ (j : ℕ). IsUpTo (value_bound (length r.values)) (level r j)) f (level_undefined r p e)
 
 pub to_next : (r : Raster) (node_of : List ℕ) (sums : List Sums) (p n : ℕ) (v : ℤ) (entry pixel whole : Sums) → IsTurn r node_of sums p n v entry pixel
     → whole ≡ together entry pixel
@@ -339,11 +340,11 @@ to_next_defined r node_of sums n m h le gap =
     over_gap r.values (λ k. AreOwnTo r node_of k sums) (λ p e own. to_next_undefined r node_of sums p own e) n m le gap h
 
 -- when all pixels were read, the values are in the range
-pub range_from_small : (r : Raster) (n : ℕ) → length r.values ≤ n → ((q : ℕ) → q < n → IsUpTo value_bound (level r q)) → HasValuesInRange r.values
+pub range_from_small : (r : Raster) (n : ℕ) → length r.values ≤ n → ((q : ℕ) → q < n → IsUpTo (value_bound (length r.values)) (level r q)) → HasValuesInRange r.values
 range_from_small r n l h p v e =
     let inside : p < length r.values = slice_get_within r.values p (Some v) e in
-    let k : IsUpTo value_bound v =
-    subst (IsUpTo value_bound) (Nodes.level-value r p v (get_or_from_slice_get r.values p (Some v) None e)) (h p (omega arith)) in
+    let k : IsUpTo (value_bound (length r.values)) v =
+    subst (IsUpTo (value_bound (length r.values))) (Nodes.level-value r p v (get_or_from_slice_get r.values p (Some v) None e)) (h p (omega arith)) in
     record { low = k.low; high = k.high }
 
 pub own_all : (r : Raster) (node_of : List ℕ) (n : ℕ) (sums : List Sums) → n ≡ length r.values → AreOwn r node_of (range_with_len 0 n) sums

@@ -9,7 +9,8 @@ use Rattle.comp_tree.specs.ComponentTree.{ComponentTree}
 use Rattle.comp_tree.specs.Components.{tree_of}
 use Rattle.node_sums.specs.declared.entry.Sums.{Sums}
 use Rattle.node_sums.specs.Sums.{sums_over}
-use Rattle.node_sums.specs.Sizes.{IsUpTo, value_bound}
+use Rattle.node_sums.specs.Sizes.{IsUpTo}
+use Rattle.comp_tree.specs.Limits.{value_bound}
 use Rattle.node_sums.specs.Counted.{is_counted}
 
 -- the sums over pixel p, in column x and row y, both from 1, which has this value
@@ -73,4 +74,4 @@ pub record AreOwn (r : Raster) (node_of ps : List ℕ) (sums : List Sums) : Type
 -- each entry has those of the first n pixels whose smallest node it is, and the values of these pixels are small
 pub record AreOwnTo (r : Raster) (node_of : List ℕ) (n : ℕ) (sums : List Sums) : Type 0 where
   pub own : AreOwn r node_of (range_with_len 0 n) sums
-  pub small : (q : ℕ) → q < n → IsUpTo value_bound (level r q)
+  pub small : (q : ℕ) → q < n → IsUpTo (value_bound (length r.values)) (level r q)

@@ -110,5 +110,5 @@ all_named command words (suc n) long good =
     subst (λ m. m ≤ count_by (is_named words m) settings) one (omega arith)
 
 -- each option is given once
-pub few_read : (command : Command) (words : List (List ℕ)) (n : ℕ) → AreRead command words n → n ≤ length settings
-few_read command words n is = omega (arith, all_named command words n is.whole is.names, count_by-le-length (is_named words n) settings)
+pub few_read : (most : ℕ) (command : Command) (words : List (List ℕ)) (n : ℕ) → AreRead most command words n → n ≤ length settings
+few_read most command words n is = omega (arith, all_named command words n is.whole is.names, count_by-le-length (is_named words n) settings)

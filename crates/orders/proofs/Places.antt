@@ -19,7 +19,7 @@ use Rattle.command_line.proofs.Exported.{text_at, text_in}
 use Rattle.orders.specs.Options.{option_name, option_named, is_value, u16_in, threshold_in}
 use Rattle.command_line.specs.Lines.{texts}
 use Rattle.orders.specs.Words.{word_at, names, naming, value_given, is_bad_option, is_bad_name, is_bad_value, is_at_fault, first_at_fault, job_given}
-use Rattle.orders.specs.Words.{order_for, order_unless, order_of, command_of, at_fault, given, hdu_given, choice_given, measure_apart, measuring_given}
+use Rattle.orders.specs.Words.{order_for, order_unless, order_within, command_of, at_fault, given, hdu_given, choice_given, measure_apart, measuring_given}
 use Rattle.orders.specs.Given.{AreRead, AreAllRead, IsFirstFault}
 
 -- word k is the one at place k - 1
@@ -78,35 +78,35 @@ given_by None result read value is reads = reads ∙ ap (option_and_then read) i
 
 -- ---- the places at fault
 
-name_place : (command : Command) (words : List (List ℕ)) (i : ℕ) → is_at_fault command words (2 * i) ≡ is_bad_name command words i
+name_place : (most : ℕ) (command : Command) (words : List (List ℕ)) (i : ℕ) → is_at_fault most command words (2 * i) ≡ is_bad_name command words i
 unfolding is_at_fault
-name_place command words i =
+name_place most command words i =
     let even : (2 * i) % 2 ≡ 0 = omega arith in
     let half : (2 * i) / 2 ≡ i = omega arith in
     rw (even, half) refl
 
-value_place : (command : Command) (words : List (List ℕ)) (i : ℕ) → is_at_fault command words (2 * i + 1) ≡ is_bad_value command words i
+value_place : (most : ℕ) (command : Command) (words : List (List ℕ)) (i : ℕ) → is_at_fault most command words (2 * i + 1) ≡ is_bad_value most command words i
 unfolding is_at_fault
-value_place command words i =
+value_place most command words i =
     let odd : (2 * i + 1) % 2 ≡ 1 = omega arith in
     let half : (2 * i + 1) / 2 ≡ i = omega arith in
     rw (odd, half) refl
 
-none_so_far : (command : Command) (words : List (List ℕ)) (n : ℕ) → AreRead command words n → (j : ℕ) → 2 ≤ j → j < 2 * n + 2
-    → is_at_fault command words j ≡ false
+none_so_far : (most : ℕ) (command : Command) (words : List (List ℕ)) (n : ℕ) → AreRead most command words n → (j : ℕ) → 2 ≤ j → j < 2 * n + 2
+    → is_at_fault most command words j ≡ false
 unfolding is_at_fault
-none_so_far command words n is j low high = by (j % 2 == 0)
+none_so_far most command words n is j low high = by (j % 2 == 0)
   where
-    by : (b : Bool) → cond b (is_bad_name command words (j / 2)) (is_bad_value command words (j / 2)) ≡ false
+    by : (b : Bool) → cond b (is_bad_name command words (j / 2)) (is_bad_value most command words (j / 2)) ≡ false
     by true = is.names (j / 2) (omega arith) (omega arith)
     by false = is.values (j / 2) (omega arith) (omega arith)
 
 -- nor is the next name
-none_with_name : (command : Command) (words : List (List ℕ)) (n : ℕ) → AreRead command words n → is_bad_name command words (n + 1) ≡ false → (j : ℕ)
-    → 2 ≤ j → j < 2 * n + 3 → is_at_fault command words j ≡ false
-none_with_name command words n is good j low high = elim (cases_lt j (2 * n + 2)) [
-  | inl less ↦ none_so_far command words n is j low less
-  | inr more ↦ let there : j ≡ 2 * (n + 1) = omega arith in ap (is_at_fault command words) there ∙ name_place command words (n + 1) ∙ good
+none_with_name : (most : ℕ) (command : Command) (words : List (List ℕ)) (n : ℕ) → AreRead most command words n → is_bad_name command words (n + 1) ≡ false → (j : ℕ)
+    → 2 ≤ j → j < 2 * n + 3 → is_at_fault most command words j ≡ false
+none_with_name most command words n is good j low high = elim (cases_lt j (2 * n + 2)) [
+  | inl less ↦ none_so_far most command words n is j low less
+  | inr more ↦ let there : j ≡ 2 * (n + 1) = omega arith in ap (is_at_fault most command words) there ∙ name_place most command words (n + 1) ∙ good
 ]
 
 -- ---- the next pair
@@ -123,65 +123,65 @@ pub option_by : (words : List (List ℕ)) (n : ℕ) (setting : Setting) → is_b
 option_by words n setting = let one : n + 1 - 1 ≡ n = omega arith in ap (λ m. is_some (naming words setting m)) one
 
 -- so many pairs are read, and the name behind them gives this
-pub record IsNext (command : Command) (words : List (Bor (List ℕ))) (n : ℕ) (named : Option Setting) : Type 0 where
-  read : AreRead command (texts words) n
+pub record IsNext (most : ℕ) (command : Command) (words : List (Bor (List ℕ))) (n : ℕ) (named : Option Setting) : Type 0 where
+  read : AreRead most command (texts words) n
   more : 2 * n + 1 < length (texts words)
   named_is : option_named command (word_at (texts words) (2 * (n + 1))) ≡ named
 
-pub next_is : (command : Command) (words : List (Bor (List ℕ))) (n : ℕ) (d : Bor (List ℕ)) (named : Option Setting) → AreRead command (texts words) n
-    → 2 * n + 1 < length words → named ≡ option_named command (get_or words (2 * n + 2 - 1) d).now → IsNext command words n named
-next_is command words n d named read more is = record {
+pub next_is : (most : ℕ) (command : Command) (words : List (Bor (List ℕ))) (n : ℕ) (d : Bor (List ℕ)) (named : Option Setting) → AreRead most command (texts words) n
+    → 2 * n + 1 < length words → named ≡ option_named command (get_or words (2 * n + 2 - 1) d).now → IsNext most command words n named
+next_is most command words n d named read more is = record {
   read = read;
   more = text_in words _ more;
   named_is = ap (option_named command) (sym (text_of words (2 * (n + 1)) (2 * n + 2 - 1) d (omega arith) (omega arith))) ∙ sym is;
 }
 
-pub name_at_fault : (command : Command) (words : List (Bor (List ℕ))) (n : ℕ) (named : Option Setting) → IsNext command words n named
-    → is_bad_option (texts words) (n + 1) named ≡ true → IsFirstFault command (texts words) (2 * n + 2)
-name_at_fault command words n named next bad =
+pub name_at_fault : (most : ℕ) (command : Command) (words : List (Bor (List ℕ))) (n : ℕ) (named : Option Setting) → IsNext most command words n named
+    → is_bad_option (texts words) (n + 1) named ≡ true → IsFirstFault most command (texts words) (2 * n + 2)
+name_at_fault most command words n named next bad =
     let here : 2 * n + 2 ≡ 2 * (n + 1) = omega arith in
     record {
       behind = omega arith;
       within = omega (arith, next.more);
-      is = ap (is_at_fault command (texts words)) here ∙ name_place command (texts words) (n + 1)
+      is = ap (is_at_fault most command (texts words)) here ∙ name_place most command (texts words) (n + 1)
           ∙ name_by command (texts words) n named next.more next.named_is ∙ bad;
-      none_before = λ j l h. none_so_far command (texts words) n next.read j l (omega arith);
+      none_before = λ j l h. none_so_far most command (texts words) n next.read j l (omega arith);
     }
 
 -- a new option, whose value comes next
-pub record IsNew (command : Command) (words : List (Bor (List ℕ))) (n : ℕ) (setting : Setting) : Type 0 where
-  next : IsNext command words n (Some setting)
+pub record IsNew (most : ℕ) (command : Command) (words : List (Bor (List ℕ))) (n : ℕ) (setting : Setting) : Type 0 where
+  next : IsNext most command words n (Some setting)
   good : is_bad_name command (texts words) (n + 1) ≡ false
 
-pub new_is : (command : Command) (words : List (Bor (List ℕ))) (n : ℕ) (setting : Setting) → IsNext command words n (Some setting)
-    → is_some (naming (texts words) setting n) ≡ false → IsNew command words n setting
-new_is command words n setting next known = record {
+pub new_is : (most : ℕ) (command : Command) (words : List (Bor (List ℕ))) (n : ℕ) (setting : Setting) → IsNext most command words n (Some setting)
+    → is_some (naming (texts words) setting n) ≡ false → IsNew most command words n setting
+new_is most command words n setting next known = record {
   next = next;
   good = name_by command (texts words) n (Some setting) next.more next.named_is ∙ option_by (texts words) n setting ∙ known;
 }
 
-pub value_at_fault : (command : Command) (words : List (Bor (List ℕ))) (n : ℕ) (setting : Setting) → IsNew command words n setting
-    → is_bad_value command (texts words) (n + 1) ≡ true → IsFirstFault command (texts words) (2 * n + 2 + 1)
-value_at_fault command words n setting new bad =
+pub value_at_fault : (most : ℕ) (command : Command) (words : List (Bor (List ℕ))) (n : ℕ) (setting : Setting) → IsNew most command words n setting
+    → is_bad_value most command (texts words) (n + 1) ≡ true → IsFirstFault most command (texts words) (2 * n + 2 + 1)
+value_at_fault most command words n setting new bad =
     let here : 2 * n + 2 + 1 ≡ 2 * (n + 1) + 1 = omega arith in
     record {
       behind = omega arith;
       within = omega (arith, new.next.more);
-      is = ap (is_at_fault command (texts words)) here ∙ value_place command (texts words) (n + 1) ∙ bad;
-      none_before = λ j l h. none_with_name command (texts words) n new.next.read new.good j l (omega arith);
+      is = ap (is_at_fault most command (texts words)) here ∙ value_place most command (texts words) (n + 1) ∙ bad;
+      none_before = λ j l h. none_with_name most command (texts words) n new.next.read new.good j l (omega arith);
     }
 
-pub value_missing : (command : Command) (words : List (Bor (List ℕ))) (n : ℕ) → false ≡ nat_lt (2 * n + 2) (length words)
-    → is_bad_value command (texts words) (n + 1) ≡ true
+pub value_missing : (most : ℕ) (command : Command) (words : List (Bor (List ℕ))) (n : ℕ) → false ≡ nat_lt (2 * n + 2) (length words)
+    → is_bad_value most command (texts words) (n + 1) ≡ true
 unfolding is_bad_value
-value_missing command words n short =
+value_missing most command words n short =
     let there : nat_lt (length (texts words)) (2 * (n + 1) + 1) ≡ true = grind (arith, nat_tests, length-map words (λ (w : Bor (List ℕ)). w.now)) in
     rw there refl
 
-pub value_by : (command : Command) (words : List (Bor (List ℕ))) (n : ℕ) (setting : Setting) (text : Bor (List ℕ)) (b : Bool) → IsNew command words n setting
-    → 2 * n + 2 < length words → text ≡ get_or words (2 * n + 2) text → is_value setting text.now ≡ not b → is_bad_value command (texts words) (n + 1) ≡ b
+pub value_by : (most : ℕ) (command : Command) (words : List (Bor (List ℕ))) (n : ℕ) (setting : Setting) (text : Bor (List ℕ)) (b : Bool) → IsNew most command words n setting
+    → 2 * n + 2 < length words → text ≡ get_or words (2 * n + 2) text → is_value most setting text.now ≡ not b → is_bad_value most command (texts words) (n + 1) ≡ b
 unfolding is_bad_value
-value_by command words n setting text b new within is reads =
+value_by most command words n setting text b new within is reads =
     let long = text_in words _ within in
     let there : nat_lt (length (texts words)) (2 * (n + 1) + 1) ≡ false = grind (arith, nat_tests) in
     let word = ap (λ (w : Bor (List ℕ)). w.now) is ∙ text_of words (2 * (n + 1) + 1) (2 * n + 2) text within (omega arith) in
@@ -191,12 +191,12 @@ value_by command words n setting text b new within is reads =
     twice true = refl
     twice false = refl
 
-pub pair_read : (command : Command) (words : List (Bor (List ℕ))) (n : ℕ) (setting : Setting) → IsNew command words n setting → 2 * n + 2 < length words
-    → is_bad_value command (texts words) (n + 1) ≡ false → AreRead command (texts words) (n + 1)
-pair_read command words n setting new within value = record {
+pub pair_read : (most : ℕ) (command : Command) (words : List (Bor (List ℕ))) (n : ℕ) (setting : Setting) → IsNew most command words n setting → 2 * n + 2 < length words
+    → is_bad_value most command (texts words) (n + 1) ≡ false → AreRead most command (texts words) (n + 1)
+pair_read most command words n setting new within value = record {
   whole = omega (arith, text_in words _ within);
   names = up_to_more (is_bad_name command (texts words)) n new.next.read.names new.good;
-  values = up_to_more (is_bad_value command (texts words)) n new.next.read.values value;
+  values = up_to_more (is_bad_value most command (texts words)) n new.next.read.values value;
 }
 
 -- ---- all words
@@ -206,21 +206,21 @@ pub command_there : (words : List (Bor (List ℕ))) (command : Command) → comm
 command_there [] command is = absurd (cc)
 command_there (first ∷ rest) command is = omega arith
 
-pub nothing_read : (command : Command) (words : List (Bor (List ℕ))) → 0 < length words → AreRead command (texts words) 0
-nothing_read command words some = record {
+pub nothing_read : (most : ℕ) (command : Command) (words : List (Bor (List ℕ))) → 0 < length words → AreRead most command (texts words) 0
+nothing_read most command words some = record {
   whole = omega (arith, length-map words (λ (w : Bor (List ℕ)). w.now));
   names = λ i low high. absurd (omega arith);
   values = λ i low high. absurd (omega arith);
 }
 
-pub all_read : (command : Command) (words : List (Bor (List ℕ))) (n : ℕ) → AreRead command (texts words) n → length words ≤ 2 * n + 1
-    → AreAllRead command (texts words) n
-all_read command words n is all = record { read = is; all = omega (arith, all, length-map words (λ (w : Bor (List ℕ)). w.now)) }
+pub all_read : (most : ℕ) (command : Command) (words : List (Bor (List ℕ))) (n : ℕ) → AreRead most command (texts words) n → length words ≤ 2 * n + 1
+    → AreAllRead most command (texts words) n
+all_read most command words n is all = record { read = is; all = omega (arith, all, length-map words (λ (w : Bor (List ℕ)). w.now)) }
 
-fault_found : (command : Command) (words : List (List ℕ)) (k : ℕ) → IsFirstFault command words k → first_at_fault command words ≡ Some k
+fault_found : (most : ℕ) (command : Command) (words : List (List ℕ)) (k : ℕ) → IsFirstFault most command words k → first_at_fault most command words ≡ Some k
 unfolding first_at_fault
-fault_found command words k fault =
-    find_first (is_at_fault command words) 2 (length words) k fault.behind (omega (arith, fault.within)) fault.is fault.none_before
+fault_found most command words k fault =
+    find_first (is_at_fault most command words) 2 (length words) k fault.behind (omega (arith, fault.within)) fault.is fault.none_before
 
 end_passed : (command : Command) (words : List (List ℕ)) (n : ℕ) → length words ≤ 2 * n + 1 → is_bad_name command words (n + 1) ≡ false
 unfolding is_bad_name
@@ -228,45 +228,45 @@ end_passed command words n all =
     let past : nat_lt (length words) (2 * (n + 1)) ≡ true = grind (arith, nat_tests) in
     rw past refl
 
-all_passed : (command : Command) (words : List (List ℕ)) (n : ℕ) → AreRead command words n → length words ≤ 2 * n + 1
-    → (j : ℕ) → 2 ≤ j → j < 2 + length words → is_at_fault command words j ≡ false
-all_passed command words n is all j low high = none_with_name command words n is (end_passed command words n all) j low (omega arith)
+all_passed : (most : ℕ) (command : Command) (words : List (List ℕ)) (n : ℕ) → AreRead most command words n → length words ≤ 2 * n + 1
+    → (j : ℕ) → 2 ≤ j → j < 2 + length words → is_at_fault most command words j ≡ false
+all_passed most command words n is all j low high = none_with_name most command words n is (end_passed command words n all) j low (omega arith)
 
-no_fault : (command : Command) (words : List (List ℕ)) (n : ℕ) → AreAllRead command words n → first_at_fault command words ≡ None
+no_fault : (most : ℕ) (command : Command) (words : List (List ℕ)) (n : ℕ) → AreAllRead most command words n → first_at_fault most command words ≡ None
 unfolding first_at_fault
-no_fault command words n is = find_nothing (is_at_fault command words) 2 (length words) (all_passed command words n is.read is.all)
+no_fault most command words n is = find_nothing (is_at_fault most command words) 2 (length words) (all_passed most command words n is.read is.all)
 
-half_is : (command : Command) (words : List (List ℕ)) (n : ℕ) → AreAllRead command words n → length words / 2 ≡ n
-half_is command words n is = omega (arith, is.read.whole, is.all)
+half_is : (most : ℕ) (command : Command) (words : List (List ℕ)) (n : ℕ) → AreAllRead most command words n → length words / 2 ≡ n
+half_is most command words n is = omega (arith, is.read.whole, is.all)
 
-end_is : (command : Command) (words : List (List ℕ)) (n : ℕ) → AreAllRead command words n → length words + 1 ≡ 2 * n + 2
-end_is command words n is = omega (arith, is.read.whole, is.all)
+end_is : (most : ℕ) (command : Command) (words : List (List ℕ)) (n : ℕ) → AreAllRead most command words n → length words + 1 ≡ 2 * n + 2
+end_is most command words n is = omega (arith, is.read.whole, is.all)
 
 -- ---- the order
 
-pub refused_at : (command : Command) (words : List (List ℕ)) (k : ℕ) → command_of words ≡ Some command → IsFirstFault command words k
-    → order_of words ≡ at_fault k
-unfolding order_of
-refused_at command words k is fault = let first = fault_found command words k fault in rw (is, first) refl
+pub refused_at : (most : ℕ) (command : Command) (words : List (List ℕ)) (k : ℕ) → command_of words ≡ Some command → IsFirstFault most command words k
+    → order_within most words ≡ at_fault k
+unfolding order_within
+refused_at most command words k is fault = let first = fault_found most command words k fault in rw (is, first) refl
 
 -- all words are read: the order is the one that is given, if nothing is missing
-pub ordered : (command : Command) (words : List (List ℕ)) (n : ℕ) (job : Option Job) → command_of words ≡ Some command → AreAllRead command words n
-    → job_given command words n ≡ job → order_of words ≡ order_unless None (2 * n + 2) (option_map (order_for words n) job)
-unfolding order_of
-ordered command words n job is_command is given =
-    rw (is_command, no_fault command words n is, half_is command words n is, end_is command words n is, given) refl
+pub ordered : (most : ℕ) (command : Command) (words : List (List ℕ)) (n : ℕ) (job : Option Job) → command_of words ≡ Some command → AreAllRead most command words n
+    → job_given most command words n ≡ job → order_within most words ≡ order_unless None (2 * n + 2) (option_map (order_for words n) job)
+unfolding order_within
+ordered most command words n job is_command is given =
+    rw (is_command, no_fault most command words n is, half_is most command words n is, end_is most command words n is, given) refl
 
-pub no_command : (words : List (List ℕ)) → command_of words ≡ None → order_of words ≡ at_fault 1
-unfolding order_of
-no_command words none = rw none refl
+pub no_command : (most : ℕ) (words : List (List ℕ)) → command_of words ≡ None → order_within most words ≡ at_fault 1
+unfolding order_within
+no_command most words none = rw none refl
 
 -- ---- measuring
 
-pub measuring_by : (words : List (List ℕ)) (n : ℕ) (threshold : Option ℤ) (values : Option ℕ) → threshold ≡ given threshold_in words n Threshold
+pub measuring_by : (most : ℕ) (words : List (List ℕ)) (n : ℕ) (threshold : Option ℤ) (values : Option ℕ) → threshold ≡ given threshold_in words n Threshold
     → values ≡ given u16_in words n Values
-    → option_and_then (λ t. option_and_then (measure_apart (hdu_given words n) (choice_given words n t)) values) threshold ≡ measuring_given words n
+    → option_and_then (λ t. option_and_then (measure_apart (hdu_given words n) (choice_given most words n t)) values) threshold ≡ measuring_given most words n
 unfolding measuring_given
-measuring_by words n threshold values p q = rw (p, q) refl
+measuring_by most words n threshold values p q = rw (p, q) refl
 
 pub one_hdu : (hdu : ℕ) (choice : Choice) (values : ℕ) → values ≡ hdu → measure_apart hdu choice values ≡ None
 one_hdu hdu choice values both = let test = eq-eqb values hdu both in rw test refl

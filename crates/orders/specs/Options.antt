@@ -158,9 +158,9 @@ rule_in text =
     else (if bytes_eq text (codes "direct") then Some rule.Direct
     else (if bytes_eq text (codes "subtractive") then Some rule.Subtractive else None)))
 
--- a number of pixels
-unfoldable pub area_in : List ℕ → Option ℕ
-area_in text = count_between (pos 0) (pos (2 ^ 24)) text
+-- a number of pixels, of images with no more than the most
+unfoldable pub area_in : (most : ℕ) → List ℕ → Option ℕ
+area_in most text = count_between (pos 0) (pos most) text
 
 -- a flux, at most 2 ^ 62
 unfoldable pub flux_in : List ℕ → Option ℤ
@@ -178,22 +178,22 @@ threshold_in text = number_between (neg_ℤ (pos (2 ^ 37))) (pos (2 ^ 37)) text
 unfoldable pub seed_in : List ℕ → Option ℕ
 seed_in text = count_between (pos 0) (pos 4294967295) text
 
--- the word is a value of this option
-abbrev pub is_value : Setting → List ℕ → Bool
-is_value Hdu text = is_some (u16_in text)
-is_value Connectivity text = is_some (connect_in text)
-is_value Strips text = is_some (positive_u16_in text)
-is_value Workers text = is_some (workers_in text)
-is_value Mesh text = is_some (u16_in text)
-is_value Flat text = is_some (flat_in text)
-is_value FilterRule text = is_some (rule_in text)
-is_value MinArea text = is_some (area_in text)
-is_value MaxArea text = is_some (area_in text)
-is_value MinFlux text = is_some (flux_in text)
-is_value MinFill text = is_some (thousandths_in text)
-is_value Threshold text = is_some (threshold_in text)
-is_value Contrast text = is_some (thousandths_in text)
-is_value Seed text = is_some (seed_in text)
-is_value Width text = is_some (positive_u16_in text)
-is_value Height text = is_some (positive_u16_in text)
-is_value Values text = is_some (u16_in text)
+-- the word is a value of this option, where images have no more pixels than the most
+abbrev pub is_value : (most : ℕ) → Setting → List ℕ → Bool
+is_value most Hdu text = is_some (u16_in text)
+is_value most Connectivity text = is_some (connect_in text)
+is_value most Strips text = is_some (positive_u16_in text)
+is_value most Workers text = is_some (workers_in text)
+is_value most Mesh text = is_some (u16_in text)
+is_value most Flat text = is_some (flat_in text)
+is_value most FilterRule text = is_some (rule_in text)
+is_value most MinArea text = is_some (area_in most text)
+is_value most MaxArea text = is_some (area_in most text)
+is_value most MinFlux text = is_some (flux_in text)
+is_value most MinFill text = is_some (thousandths_in text)
+is_value most Threshold text = is_some (threshold_in text)
+is_value most Contrast text = is_some (thousandths_in text)
+is_value most Seed text = is_some (seed_in text)
+is_value most Width text = is_some (positive_u16_in text)
+is_value most Height text = is_some (positive_u16_in text)
+is_value most Values text = is_some (u16_in text)

@@ -46,22 +46,22 @@ is_bad_option words i (Some setting) = is_some (naming words setting (i - 1))
 unfoldable pub is_bad_name : Command → List (List ℕ) → ℕ → Bool
 is_bad_name command words i = if nat_lt (length words) (2 * i) then false else is_bad_option words i (option_named command (word_at words (2 * i)))
 
-abbrev pub is_bad_value_of : Option Setting → List ℕ → Bool
-is_bad_value_of None text = true
-is_bad_value_of (Some setting) text = not (is_value setting text)
+abbrev pub is_bad_value_of : (most : ℕ) → Option Setting → List ℕ → Bool
+is_bad_value_of most None text = true
+is_bad_value_of most (Some setting) text = not (is_value most setting text)
 
 -- word 2 * i + 1, which is to be the value of the option that word 2 * i names: it is missing, can't be read or is out of range
-unfoldable pub is_bad_value : Command → List (List ℕ) → ℕ → Bool
-is_bad_value command words i =
-    nat_lt (length words) (2 * i + 1) || is_bad_value_of (option_named command (word_at words (2 * i))) (word_at words (2 * i + 1))
+unfoldable pub is_bad_value : (most : ℕ) → Command → List (List ℕ) → ℕ → Bool
+is_bad_value most command words i =
+    nat_lt (length words) (2 * i + 1) || is_bad_value_of most (option_named command (word_at words (2 * i))) (word_at words (2 * i + 1))
 
 -- word k behind the command is at fault
-unfoldable pub is_at_fault : Command → List (List ℕ) → ℕ → Bool
-is_at_fault command words k = if k % 2 == 0 then is_bad_name command words (k / 2) else is_bad_value command words (k / 2)
+unfoldable pub is_at_fault : (most : ℕ) → Command → List (List ℕ) → ℕ → Bool
+is_at_fault most command words k = if k % 2 == 0 then is_bad_name command words (k / 2) else is_bad_value most command words (k / 2)
 
 -- the first word at fault behind the command; a value that is missing stands behind the last word
-unfoldable pub first_at_fault : Command → List (List ℕ) → Option ℕ
-first_at_fault command words = find (is_at_fault command words) (range_with_len 2 (length words))
+unfoldable pub first_at_fault : (most : ℕ) → Command → List (List ℕ) → Option ℕ
+first_at_fault most command words = find (is_at_fault most command words) (range_with_len 2 (length words))
 
 -- ---- the order
 
@@ -73,29 +73,30 @@ value_given words n setting = option_map (λ i. word_at words (2 * i + 1)) (nami
 abbrev pub given : {T : Type 0} → (List ℕ → Option T) → List (List ℕ) → ℕ → Setting → Option T
 given read words n setting = option_and_then read (value_given words n setting)
 
-unfoldable pub criterion_given : List (List ℕ) → ℕ → Criterion
-criterion_given words n = record {
-  min_area = unwrap_or (given area_in words n MinArea) 0;
-  max_area = unwrap_or (given area_in words n MaxArea) (2 ^ 24);
+-- where no most area is given, it is the most pixels of an image
+unfoldable pub criterion_given : (most : ℕ) → List (List ℕ) → ℕ → Criterion
+criterion_given most words n = record {
+  min_area = unwrap_or (given (area_in most) words n MinArea) 0;
+  max_area = unwrap_or (given (area_in most) words n MaxArea) most;
   min_flux = unwrap_or (given flux_in words n MinFlux) (pos 0);
   min_fill = unwrap_or (given thousandths_in words n MinFill) 0;
 }
 
-unfoldable pub choice_given : List (List ℕ) → ℕ → ℤ → Choice
-choice_given words n threshold = record {
+unfoldable pub choice_given : (most : ℕ) → List (List ℕ) → ℕ → ℤ → Choice
+choice_given most words n threshold = record {
   threshold = threshold;
-  min_area = unwrap_or (given area_in words n MinArea) 1;
+  min_area = unwrap_or (given (area_in most) words n MinArea) 1;
   min_flux = unwrap_or (given flux_in words n MinFlux) (pos 0);
   contrast = unwrap_or (given thousandths_in words n Contrast) 5;
 }
 
--- the shape of a trial's image, if both sides are given and there aren't too many pixels
+-- the shape of a trial's image, if both sides are given and there are at most 2 ^ 24 pixels
 unfoldable pub shape_given : List (List ℕ) → ℕ → Option Shape
 shape_given words n = option_and_then (λ width. option_and_then (shape_of width) (given positive_u16_in words n Height)) (given positive_u16_in words n Width)
 
 -- sources are to be picked, if a threshold is given
-abbrev pub detection_given : List (List ℕ) → ℕ → Option Job
-detection_given words n = option_map (λ threshold. job.Detect (choice_given words n threshold)) (given threshold_in words n Threshold)
+abbrev pub detection_given : (most : ℕ) → List (List ℕ) → ℕ → Option Job
+detection_given most words n = option_map (λ threshold. job.Detect (choice_given most words n threshold)) (given threshold_in words n Threshold)
 
 -- the number of the HDU with the image
 abbrev pub hdu_given : List (List ℕ) → ℕ → ℕ
@@ -106,18 +107,18 @@ abbrev pub measure_apart : ℕ → Choice → ℕ → Option Job
 measure_apart hdu choice values = if values == hdu then None else Some (job.Measure choice values)
 
 -- sources are to be measured in another HDU, if a threshold and that HDU are given
-unfoldable pub measuring_given : List (List ℕ) → ℕ → Option Job
-measuring_given words n =
-    option_and_then (λ threshold. option_and_then (measure_apart (hdu_given words n) (choice_given words n threshold)) (given u16_in words n Values))
+unfoldable pub measuring_given : (most : ℕ) → List (List ℕ) → ℕ → Option Job
+measuring_given most words n =
+    option_and_then (λ threshold. option_and_then (measure_apart (hdu_given words n) (choice_given most words n threshold)) (given u16_in words n Values))
     (given threshold_in words n Threshold)
 
 -- what is to be done, unless something is missing for it
-unfoldable pub job_given : Command → List (List ℕ) → ℕ → Option Job
-job_given command.Tree words n = Some job.Tree
-job_given command.Filter words n = option_map (λ rule. job.Filter rule (criterion_given words n)) (given rule_in words n Rule)
-job_given command.Detect words n = detection_given words n
-job_given command.Trial words n = option_and_then (λ seed. option_map (job.Trial seed) (shape_given words n)) (given seed_in words n Seed)
-job_given command.Measure words n = measuring_given words n
+unfoldable pub job_given : (most : ℕ) → Command → List (List ℕ) → ℕ → Option Job
+job_given most command.Tree words n = Some job.Tree
+job_given most command.Filter words n = option_map (λ rule. job.Filter rule (criterion_given most words n)) (given rule_in words n Rule)
+job_given most command.Detect words n = detection_given most words n
+job_given most command.Trial words n = option_and_then (λ seed. option_map (job.Trial seed) (shape_given words n)) (given seed_in words n Seed)
+job_given most command.Measure words n = measuring_given most words n
 
 unfoldable pub order_for : List (List ℕ) → ℕ → Job → Order
 order_for words n job = record {
@@ -131,8 +132,8 @@ order_for words n job = record {
 }
 
 -- the order that n pairs of a name and a value give, none of which is at fault
-abbrev pub order_given : Command → List (List ℕ) → ℕ → Option Order
-order_given command words n = option_map (order_for words n) (job_given command words n)
+abbrev pub order_given : (most : ℕ) → Command → List (List ℕ) → ℕ → Option Order
+order_given most command words n = option_map (order_for words n) (job_given most command words n)
 
 -- there is no order, and this word is at fault
 abbrev pub at_fault : {T : Type 0} → ℕ → Result T Usage
@@ -147,20 +148,26 @@ abbrev pub command_of : List (List ℕ) → Option Command
 command_of [] = None
 command_of (first ∷ rest) = command_named first
 
-abbrev pub order_by : List (List ℕ) → Option Command → Result Order Usage
-order_by words None = at_fault 1
-order_by words (Some command) = order_unless (first_at_fault command words) (length words + 1) (order_given command words (length words / 2))
+abbrev pub order_by : (most : ℕ) → List (List ℕ) → Option Command → Result Order Usage
+order_by most words None = at_fault 1
+order_by most words (Some command) =
+    order_unless (first_at_fault most command words) (length words + 1) (order_given most command words (length words / 2))
 
--- the order, or the first word at fault; where something is missing at the end, that is the one behind the last
-unfoldable pub order_of : List (List ℕ) → Result Order Usage
-order_of words = order_by words (command_of words)
+-- the order, or the first word at fault, where images have no more pixels than the most; where something is missing at the end, that is the one
+-- behind the last
+unfoldable pub order_within : (most : ℕ) → List (List ℕ) → Result Order Usage
+order_within most words = order_by most words (command_of words)
+
+-- where they have no more than 2 ^ 24
+abbrev pub order_of : List (List ℕ) → Result Order Usage
+order_of words = order_within (2 ^ 24) words
 
 -- the numbers of a job are within their limits
 abbrev pub HasJobLimits : Job → Type 0
 HasJobLimits job.Tree = Unit {0}
 HasJobLimits (job.Filter rule criterion) = criterion.min_fill ≤ 1000
 HasJobLimits (job.Detect choice) = choice.contrast ≤ 1000
-HasJobLimits (job.Trial seed shape) = Unit {0}
+HasJobLimits (job.Trial seed shape) = shape.width * shape.height ≤ 2 ^ 24
 HasJobLimits (job.Measure choice values) = choice.contrast ≤ 1000
 
 -- the HDU with this number isn't that of the values, where a job has any

@@ -4,7 +4,7 @@
 mod options;
 mod words;
 
-pub use words::{Job, Order, Usage, read_order};
+pub use words::{Job, Order, Usage, read_order, read_order_within};
 
 #[cfg(test)]
 mod measure_tests;

@@ -6,9 +6,7 @@ use command_line::numbers::number_between;
 use comp_tree::Connect;
 use filter_rules::Rule;
 
-// The greatest number of pixels of an image, the greatest flux of a node, and the greatest distance of a value from 0.
-const MOST_PIXELS: i64 = 1 << 24;
-
+// The greatest flux of a node, and the greatest distance of a value from 0.
 const MOST_FLUX: i64 = 1 << 62;
 
 const MOST_LEVEL: i64 = 1 << 37;
@@ -145,9 +143,9 @@ impl Setting {
         }
     }
 
-    /// The text is a value of this option.
-    pub(crate) fn accepts(self, text: &str) -> bool
-        ensures { result ≡ is_value self text.now }
+    /// The text is a value of this option, where images have at most so many pixels.
+    pub(crate) fn accepts(self, text: &str, most: u32) -> bool
+        ensures { result ≡ is_value most self text.now }
     {
         match self {
             Setting::Hdu | Setting::Values => hdu(text).is_some(),
@@ -157,7 +155,7 @@ impl Setting {
             Setting::Mesh => mesh(text).is_some(),
             Setting::Flat => flat(text).is_some(),
             Setting::Rule => rule(text).is_some(),
-            Setting::MinArea | Setting::MaxArea => area(text).is_some(),
+            Setting::MinArea | Setting::MaxArea => area(text, most).is_some(),
             Setting::MinFlux => flux(text).is_some(),
             Setting::MinFill | Setting::Contrast => thousandths(text).is_some(),
             Setting::Threshold => threshold(text).is_some(),
@@ -248,12 +246,12 @@ pub(crate) fn rule(text: &str) -> Option<Rule>
     }
 }
 
-/// So many pixels: at most as many as an image has.
+/// So many pixels: at most as many as an image can have.
 #[tactic(auto, unfolding(crate::specs::Options::area_in))]
-pub(crate) fn area(text: &str) -> Option<u32>
-    ensures { result ≡ area_in text.now }
+pub(crate) fn area(text: &str, most: u32) -> Option<u32>
+    ensures { result ≡ area_in most text.now }
 {
-    match number_between(text, 0, MOST_PIXELS) {
+    match number_between(text, 0, i64::from(most)) {
         Some(number) => Some(number as u32),
         None => None,
     }

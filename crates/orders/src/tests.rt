@@ -1,6 +1,7 @@
 //! Words that give an order, and words at fault.
-use crate::{Job, Order, Usage, read_order};
+use crate::{Job, Order, Usage, read_order, read_order_within};
 use comp_tree::Connect;
+use filter_rules::{Criterion, Rule};
 use source_pick::Choice;
 use std::test::Fail;
 
@@ -176,5 +177,31 @@ fn each_wrong_word_of_a_trial_is_named(rt: HostRuntime) -> Result<(), Fail> {
     for (words, word) in cases {
         assert_eq!(rt; read_order(words), Err(Usage { word }));
     }
+    Ok(())
+}
+
+// The greatest area is the most pixels, also where none is given.
+#[test]
+fn areas_go_up_to_the_most_pixels(rt: HostRuntime) -> Result<(), Fail> {
+    let words: [&str; 5] = ["filter", "--rule", "min", "--min-area", "2147483647"];
+    assert_eq!(rt; read_order(&words), Err(Usage { word: 5 }));
+    let order = Order {
+        job: Job::Filter {
+            rule: Rule::Min,
+            criterion: Criterion {
+                min_area: 2_147_483_647,
+                max_area: 2_147_483_647,
+                min_flux: 0,
+                min_fill: 0,
+            },
+        },
+        hdu: 0,
+        connect: Connect::Four,
+        strips: 1,
+        workers: 1,
+        mesh: 0,
+        flat: false,
+    };
+    assert_eq!(rt; read_order_within(&words, 2_147_483_647), Ok(order));
     Ok(())
 }

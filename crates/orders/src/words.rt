@@ -2,8 +2,8 @@
 ghost use Rattle.std.specs.Prelude.{◌≡◌, ◌≤◌, ◌<◌, ◌+◌, ◌*◌, ℕ, IfOk, IfSome, MatchResult, length, is_some};
 ghost use Rattle.std.specs.Option.{option_map};
 ghost use Rattle.command_line.specs.Lines.{texts};
-ghost use Rattle.orders.specs.Options.{settings};
-ghost use Rattle.orders.specs.Words.{order_of, HasLimits, command_of, naming as naming_of, value_given, criterion_given, choice_given, job_given, hdu_given, measuring_given, order_for, order_given, shape_given};
+ghost use Rattle.orders.specs.Options.{settings, area_in};
+ghost use Rattle.orders.specs.Words.{order_of, order_within, HasLimits, command_of, given, naming as naming_of, value_given, criterion_given, choice_given, job_given, hdu_given, measuring_given, order_for, order_given, shape_given};
 ghost use Rattle.orders.specs.Given.{AreRead, AreAllRead, IsFirstFault};
 
 use crate::options::{
@@ -89,13 +89,13 @@ fn value<'a>(words: &[&'a str], setting: Setting, pairs: u32) -> Option<&'a str>
 }
 
 // Judges the name and the value of one option more. The name is word 2 * pair + 2.
-fn judge_pair(command: Command, words: &[&str], pair: u32) -> Result<(), Usage>
-    requires read { AreRead command (texts words.now) pair }
+fn judge_pair(command: Command, words: &[&str], pair: u32, most: u32) -> Result<(), Usage>
+    requires read { AreRead most command (texts words.now) pair }
     requires few { pair ≤ length settings }
     requires more { 2 * pair + 1 < length words.now }
     ensures { MatchResult result
-        (λ _. AreRead command (texts words.now) (pair + 1))
-        (λ usage. IsFirstFault command (texts words.now) usage.word) }
+        (λ _. AreRead most command (texts words.now) (pair + 1))
+        (λ usage. IsFirstFault most command (texts words.now) usage.word) }
 {
     let word = 2 * pair + 2;
     let Some(setting) = command.option(words[word as usize - 1]) else {
@@ -107,25 +107,32 @@ fn judge_pair(command: Command, words: &[&str], pair: u32) -> Result<(), Usage>
     let Some(text) = words.get(word as usize) else {
         return Err(Usage { word: word + 1 });
     };
-    if setting.accepts(text) {
+    if setting.accepts(text, most) {
         Ok(())
     } else {
         Err(Usage { word: word + 1 })
     }
 }
 
-#[tactic(auto, unfolding(crate::specs::Words::criterion_given))]
-fn criterion_for(words: &[&str], pairs: u32) -> Criterion
+// The number of pixels that this option gives, where images have at most so many.
+fn area_for(words: &[&str], setting: Setting, pairs: u32, most: u32) -> Option<u32>
     requires { 2 * pairs + 1 ≤ length words.now }
-    ensures { result ≡ criterion_given (texts words.now) pairs }
+    ensures { result ≡ given (area_in most) (texts words.now) pairs setting }
+{
+    match value(words, setting, pairs) {
+        Some(text) => area(text, most),
+        None => None,
+    }
+}
+
+#[tactic(auto, unfolding(crate::specs::Words::criterion_given))]
+fn criterion_for(words: &[&str], pairs: u32, most: u32) -> Criterion
+    requires { 2 * pairs + 1 ≤ length words.now }
+    ensures { result ≡ criterion_given most (texts words.now) pairs }
 {
     Criterion {
-        min_area: value(words, Setting::MinArea, pairs)
-            .and_then(area)
-            .unwrap_or(0),
-        max_area: value(words, Setting::MaxArea, pairs)
-            .and_then(area)
-            .unwrap_or(1 << 24),
+        min_area: area_for(words, Setting::MinArea, pairs, most).unwrap_or(0),
+        max_area: area_for(words, Setting::MaxArea, pairs, most).unwrap_or(most),
         min_flux: value(words, Setting::MinFlux, pairs)
             .and_then(flux)
             .unwrap_or(0),
@@ -136,15 +143,13 @@ fn criterion_for(words: &[&str], pairs: u32) -> Criterion
 }
 
 #[tactic(auto, unfolding(crate::specs::Words::choice_given))]
-fn choice_for(words: &[&str], pairs: u32, threshold: i64) -> Choice
+fn choice_for(words: &[&str], pairs: u32, most: u32, threshold: i64) -> Choice
     requires { 2 * pairs + 1 ≤ length words.now }
-    ensures { result ≡ choice_given (texts words.now) pairs threshold }
+    ensures { result ≡ choice_given most (texts words.now) pairs threshold }
 {
     Choice {
         threshold,
-        min_area: value(words, Setting::MinArea, pairs)
-            .and_then(area)
-            .unwrap_or(1),
+        min_area: area_for(words, Setting::MinArea, pairs, most).unwrap_or(1),
         min_flux: value(words, Setting::MinFlux, pairs)
             .and_then(flux)
             .unwrap_or(0),
@@ -175,9 +180,9 @@ fn hdu_for(words: &[&str], pairs: u32) -> u16
     value(words, Setting::Hdu, pairs).and_then(hdu).unwrap_or(0)
 }
 
-fn measuring_for(words: &[&str], pairs: u32) -> Option<Job>
+fn measuring_for(words: &[&str], pairs: u32, most: u32) -> Option<Job>
     requires { 2 * pairs + 1 ≤ length words.now }
-    ensures { result ≡ measuring_given (texts words.now) pairs }
+    ensures { result ≡ measuring_given most (texts words.now) pairs }
 {
     let Some(threshold) = value(words, Setting::Threshold, pairs).and_then(threshold) else {
         return None;
@@ -188,14 +193,14 @@ fn measuring_for(words: &[&str], pairs: u32) -> Option<Job>
     if values == hdu_for(words, pairs) {
         return None;
     }
-    let choice = choice_for(words, pairs, threshold);
+    let choice = choice_for(words, pairs, most, threshold);
     Some(Job::Measure { choice, values })
 }
 
 #[tactic(auto, unfolding(crate::specs::Words::job_given))]
-fn job_for(command: Command, words: &[&str], pairs: u32) -> Option<Job>
+fn job_for(command: Command, words: &[&str], pairs: u32, most: u32) -> Option<Job>
     requires { 2 * pairs + 1 ≤ length words.now }
-    ensures { result ≡ job_given command (texts words.now) pairs }
+    ensures { result ≡ job_given most command (texts words.now) pairs }
 {
     match command {
         Command::Tree => Some(Job::Tree),
@@ -203,7 +208,7 @@ fn job_for(command: Command, words: &[&str], pairs: u32) -> Option<Job>
             match value(words, Setting::Rule, pairs).and_then(rule) {
                 Some(rule) => Some(Job::Filter {
                     rule,
-                    criterion: criterion_for(words, pairs),
+                    criterion: criterion_for(words, pairs, most),
                 }),
                 None => None,
             }
@@ -211,7 +216,7 @@ fn job_for(command: Command, words: &[&str], pairs: u32) -> Option<Job>
         Command::Detect => {
             match value(words, Setting::Threshold, pairs).and_then(threshold) {
                 Some(threshold) => Some(Job::Detect {
-                    choice: choice_for(words, pairs, threshold),
+                    choice: choice_for(words, pairs, most, threshold),
                 }),
                 None => None,
             }
@@ -225,7 +230,7 @@ fn job_for(command: Command, words: &[&str], pairs: u32) -> Option<Job>
                 None => None,
             }
         }
-        Command::Measure => measuring_for(words, pairs),
+        Command::Measure => measuring_for(words, pairs, most),
     }
 }
 
@@ -256,17 +261,17 @@ fn order_of_job(words: &[&str], pairs: u32, job: Job) -> Order
 }
 
 // How many pairs of a name and a value stand behind the command, unless one is at fault.
-fn pairs_read(command: Command, words: &[&str]) -> Result<u32, Usage>
+fn pairs_read(command: Command, words: &[&str], most: u32) -> Result<u32, Usage>
     requires { 0 < length words.now }
     ensures told { MatchResult result
-        (λ pairs. AreAllRead command (texts words.now) pairs)
-        (λ usage. IsFirstFault command (texts words.now) usage.word) }
+        (λ pairs. AreAllRead most command (texts words.now) pairs)
+        (λ usage. IsFirstFault most command (texts words.now) usage.word) }
     ensures few { IfOk result (λ pairs. pairs ≤ length settings) }
     ensures there { IfOk result (λ pairs. 2 * pairs + 1 ≤ length words.now) }
 {
     let mut pairs = 0;
     while 2 * pairs as usize + 1 < words.len() {
-        if let Err(usage) = judge_pair(command, words, pairs) {
+        if let Err(usage) = judge_pair(command, words, pairs, most) {
             return Err(usage);
         }
         pairs += 1;
@@ -280,14 +285,23 @@ pub fn read_order(words: &[&str]) -> Result<Order, Usage>
     ensures order { result ≡ order_of (texts words.now) }
     ensures limits { IfOk result HasLimits }
 {
+    read_order_within(words, 1 << 24)
+}
+
+/// The same where images have at most so many pixels: no area is larger, and this is the greatest where none is given. A trial's image
+/// has at most 2^24 pixels all the same.
+pub fn read_order_within(words: &[&str], most: u32) -> Result<Order, Usage>
+    ensures order { result ≡ order_within most (texts words.now) }
+    ensures limits { IfOk result HasLimits }
+{
     let Some(command) = command(words) else {
         return Err(Usage { word: 1 });
     };
-    let pairs = match pairs_read(command, words) {
+    let pairs = match pairs_read(command, words, most) {
         Ok(pairs) => pairs,
         Err(usage) => return Err(usage),
     };
-    match job_for(command, words, pairs) {
+    match job_for(command, words, pairs, most) {
         Some(job) => Ok(order_of_job(words, pairs, job)),
         None => Err(Usage {
             word: 2 * pairs + 2,

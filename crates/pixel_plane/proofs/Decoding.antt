@@ -10,13 +10,13 @@ use Rattle.dev_io.specs.Laws.{Takes-after, TakesAtMost-after}
 use Rattle.std.proofs.lemmas.Bool.{cases_lt}
 use Rattle.std.proofs.lemmas.List.{get_or-set_same, get_or-set_other}
 use Rattle.comp_tree.specs.Raster.{value_at}
-use Rattle.pixel_plane.specs.WithinLimits.{HasValuesWithin}
+use Rattle.pixel_plane.specs.WithinLimits.{HasValuesInLimits}
 use Rattle.pixel_plane.specs.declared.encoding.Encoding.{Encoding}
 use Rattle.pixel_plane.specs.Decoding.{decoded, IsDecoded, IsFar, FarInside, FarRead, ReadSoFar, BytesStopped, RestStopped, PixelsStopped}
 use Rattle.pixel_plane.specs.declared.fault.PlaneFault.TheVariants.{TruncatedData, PixelRange}
 use Rattle.pixel_plane.specs.declared.fault.PlaneStop.{PlaneStop}
 use Rattle.pixel_plane.specs.declared.fault.PlaneStop.TheVariants.{Fault, ReadFault, OutOfMemory}
-use Rattle.pixel_plane.specs.Stored.{stored_number, value_stored_as, pixel_at, is_out_of_range}
+use Rattle.pixel_plane.specs.Stored.{stored_number, value_stored_as, pixel_at, is_out_of_range, holds_narrow}
 use Rattle.pixel_plane.specs.Sizes.{is_number_size, IsFarNumber}
 use Rattle.pixel_plane.proofs.HalfRange.{none_far}
 use Rattle.byteorder.specs.Endian.{big_from}
@@ -58,6 +58,14 @@ one_of_sizes size h =
     (λ (e : (size == 4) ≡ true). inr (inr (inl (equals size 4 e)))) (or_cases (size == 1 || size == 2) (size == 4) three))
     (λ (e : (size == 8) ≡ true). inr (inr (inr (equals size 8 e))))
     (or_cases (size == 1 || size == 2 || size == 4) (size == 8) h)
+
+pub size_at_most : (size : ℕ) → IsTrue (is_number_size size) → size ≤ 8
+size_at_most size h = elim (one_of_sizes size h) [
+  | inl one ↦ omega (arith, one)
+  | inr (inl two) ↦ omega (arith, two)
+  | inr (inr (inl four)) ↦ omega (arith, four)
+  | inr (inr (inr eight)) ↦ omega (arith, eight)
+]
 
 big_from-take : (i n m : ℕ) (bytes : List ℕ) → i + n ≤ m → big_from i n (take m bytes) ≡ big_from i n bytes
 big_from-take i zero m bytes fits = refl
@@ -105,7 +113,7 @@ unfolding pixel_at
 value_from encoding bytes k =
     ap (λ xs. value_stored_as encoding.zero encoding.blank (stored_number encoding.size xs)) (take_rest bytes (k * encoding.size))
 
-pub far_from : (encoding : Encoding) (bytes : List ℕ) (k : ℕ) (stored : ℤ) → encoding.size ≡ 8
+pub far_from : (encoding : Encoding) (bytes : List ℕ) (k : ℕ) (stored : ℤ) → (holds_narrow encoding.limits ≡ true → encoding.size ≡ 8)
     → IsFarNumber encoding.limits encoding.zero encoding.blank stored (stored_number encoding.size (take (length bytes - k * encoding.size) (drop (k * encoding.size) bytes)))
     → IsFar encoding bytes k stored
 unfolding pixel_at
@@ -193,7 +201,7 @@ block_stopped encoding bytes left left' first end count n stop order within size
 far_read : (encoding : Encoding) (bytes : List ℕ) (left : Option (List ℕ)) (first end count : ℕ) (buf : List ℕ) (old new : List (Option ℤ)) (pixel : ℕ)
     (stored : ℤ) → end ≤ count
     → buf ≡ take ((end - first) * encoding.size) (drop (first * encoding.size) bytes)
-    → ((q : ℕ) → q < first → value_at old q ≡ decoded encoding bytes q) → FarInside encoding buf first end old new pixel stored → HasValuesWithin encoding.limits new
+    → ((q : ℕ) → q < first → value_at old q ≡ decoded encoding bytes q) → FarInside encoding buf first end old new pixel stored → HasValuesInLimits encoding.limits new
     → Takes bytes left (count * encoding.size) → FarRead encoding count bytes left pixel stored
 far_read encoding bytes left first end count buf old new pixel stored within same before far near takes = record {
   inside = omega (arith, far.inside, within);
@@ -213,7 +221,7 @@ far_read encoding bytes left first end count buf old new pixel stored within sam
 pub far_stopped : (encoding : Encoding) (bytes : List ℕ) (left left' left'' : Option (List ℕ)) (first end count : ℕ) (buf : List ℕ) (old new : List (Option ℤ))
     (pixel : ℕ) (stored : ℤ)
     (stop : PlaneStop) → first ≤ end → end ≤ count → length buf ≡ (end - first) * encoding.size → ReadSoFar encoding bytes left old first
-    → Fills (drop (first * encoding.size) bytes) left' (length buf) buf → FarInside encoding buf first end old new pixel stored → HasValuesWithin encoding.limits new
+    → Fills (drop (first * encoding.size) bytes) left' (length buf) buf → FarInside encoding buf first end old new pixel stored → HasValuesInLimits encoding.limits new
     → RestStopped ((count - end) * encoding.size) pixel stored (drop (end * encoding.size) bytes) left'' stop → PixelsStopped encoding count bytes left'' stop
 far_stopped encoding bytes left left' left'' first end count buf old new pixel stored stop order within size before fills far near stopped = go stop stopped
   where

@@ -1,22 +1,26 @@
 -- The values of a plane that is read are within its limits.
-use Rattle.std.proofs.Common.{◌≡◌, ◌∙◌, ℕ, ◌<◌, inl, inr, true, false, List, length, get_or, set, replicate, refl, sym, ap, subst, arith, ℤ}
+use Rattle.std.proofs.Common.{◌≡◌, ◌∙◌, ℕ, ◌<◌, inl, inr, true, false, List, length, get_or, set, replicate, refl, sym, ap, subst, arith, ℤ, pos, neg_ℤ, ◌≤ℤ◌, ◌*◌}
 use Rattle.std.specs.Prelude.{slice_get, IfSome, nat_lt}
 use Rattle.std.specs.declared.option.Option.{Option}
 use Rattle.std.specs.Prelude.{Some, None}
 use Rattle.std.proofs.lemmas.Bool.{cases_lt}
-use Rattle.std.proofs.lemmas.Int.{ints}
+use Rattle.std.proofs.lemmas.Int.{ints, clamps}
+use Rattle.std.specs.Int.{int_max, int_min}
 use Rattle.std.proofs.lemmas.List.{length-set, get_or-set_same, get_or-set_other, get_or-replicate, length-replicate, get_or_past}
 use Rattle.std.proofs.lemmas.Option.{slice_get_within, get_or_from_slice_get, slice_get-get_or}
 use Rattle.std.specs.List.{position, position_or_len}
 use Rattle.std.proofs.lemmas.List.Sums.{position_or_len_is}
 use Rattle.std.proofs.lemmas.List.Quantifiers.{position-Some}
 use Rattle.std.proofs.lemmas.Bool.Decides.{nat_tests}
-use Rattle.comp_tree.specs.Limits.{IsInHalfRange}
+use Rattle.comp_tree.specs.Limits.{IsWithin, half_bound, value_bound}
+use Rattle.comp_tree.proofs.Exported.{half_twice, within_more}
 use Rattle.comp_tree.specs.Raster.{HasValuesInHalfRange, value_at}
 use Rattle.pixel_plane.specs.declared.limits.Limits.{Limits}
-use Rattle.pixel_plane.specs.WithinLimits.{IsInRange, HasValuesWithin}
+use Rattle.pixel_plane.specs.WithinLimits.{IsInRange, HasValuesInLimits, SuitCount}
+use Rattle.pixel_plane.specs.ImageLimits.{narrowed}
 use Rattle.comp_tree.proofs.Exported.{int_le-from}
-use Rattle.pixel_plane.specs.Stored.{is_out_of_range}
+use Rattle.pixel_plane.specs.Stored.{is_out_of_range, value_limits}
+use Rattle.comp_tree.specs.declared.shape.Shape.{Shape}
 
 there : (values : List (Option ℤ)) (p : ℕ) (v : ℤ) → p < length values → get_or values p None ≡ Some v → slice_get values p ≡ Some (Some v)
 there values p v within is = slice_get-get_or values p None within ∙ ap Some is
@@ -26,7 +30,7 @@ is_in_range limits (Some x) v h is = let same : x ≡ v = cc in subst (IsInRange
 is_in_range limits None v h is = absurd (cc)
 
 -- a plane without values has none that is not so
-pub blank_in_range : (limits : Limits) (n : ℕ) (values : List (Option ℤ)) → values ≡ replicate n None → HasValuesWithin limits values
+pub blank_in_range : (limits : Limits) (n : ℕ) (values : List (Option ℤ)) → values ≡ replicate n None → HasValuesInLimits limits values
 blank_in_range limits n values blank = record { each = each }
   where
     each : (p : ℕ) (v : ℤ) → slice_get values p ≡ Some (Some v) → IsInRange limits v
@@ -39,8 +43,8 @@ blank_in_range limits n values blank = record { each = each }
         absurd (cc)
 
 -- one value more
-pub set_in_range : (limits : Limits) (values : List (Option ℤ)) (p : ℕ) (value : Option ℤ) → IfSome value (λ v. IsInRange limits v) → HasValuesWithin limits values
-    → HasValuesWithin limits (set values p value)
+pub set_in_range : (limits : Limits) (values : List (Option ℤ)) (p : ℕ) (value : Option ℤ) → IfSome value (λ v. IsInRange limits v) → HasValuesInLimits limits values
+    → HasValuesInLimits limits (set values p value)
 set_in_range limits values p value here all = record { each = each }
   where
     by : (q : ℕ) (v : ℤ) → q < length values → get_or (set values p value) q None ≡ Some v → IsInRange limits v
@@ -59,18 +63,41 @@ set_in_range limits values p value here all = record { each = each }
         by q v (omega (arith, slice_get_within (set values p value) q (Some v) is, length-set values p value))
         (get_or_from_slice_get (set values p value) q (Some v) None is)
 
--- what is within the limits is in half the range of planes
-pub in_half_range : (limits : Limits) (values : List (Option ℤ)) → HasValuesWithin limits values → HasValuesInHalfRange values
-in_half_range limits values all = record { each = each }
-  where
-    each : (p : ℕ) (v : ℤ) → slice_get values p ≡ Some (Some v) → IsInHalfRange v
-    each p v is =
-        let it = all.each p v is in
-        let low = it.low in
-        let high = it.high in
-        let least = limits.range.planes_low in
-        let greatest = limits.range.planes_high in
-        record { low = omega (arith, ints); high = omega (arith, ints) }
+-- what is within limits that suit so many pixels
+half_of : (limits : Limits) (count : ℕ) (v : ℤ) → SuitCount limits count → IsInRange limits v → IsWithin (half_bound count) v
+half_of limits count v suited it =
+    let bound : ℕ = half_bound count in
+    let least : neg_ℤ (pos bound) ≤ℤ limits.least = suited.low in
+    let greatest : limits.greatest ≤ℤ pos bound = suited.high in
+    let low = it.low in
+    let high = it.high in
+    record { low = omega (arith, ints); high = omega (arith, ints) }
+
+-- a canvas with so many pixels takes it
+pub settable : (limits : Limits) (count : ℕ) (value : Option ℤ) → SuitCount limits count → IfSome value (λ v. IsInRange limits v)
+    → IfSome value (λ v. IsWithin (value_bound count) v)
+settable limits count None suited h = tt
+settable limits count (Some v) suited h =
+    within_more (half_bound count) (value_bound count) v (omega (arith, half_twice count)) (half_of limits count v suited h)
+
+-- a plane of so many is in half of its range
+pub in_half_range : (limits : Limits) (values : List (Option ℤ)) → SuitCount limits (length values) → HasValuesInLimits limits values → HasValuesInHalfRange values
+in_half_range limits values suited all = record { each = λ p v is. half_of limits (length values) v suited (all.each p v is) }
+
+cut_suits : (limits : Limits) (count bound : ℕ) → bound ≡ half_bound count
+    → (neg_ℤ (pos bound) ≤ℤ int_max limits.least (neg_ℤ (pos bound))) × (int_min limits.greatest (pos bound) ≤ℤ pos bound)
+cut_suits limits count bound is = (omega (arith, ints, clamps), omega (arith, ints, clamps))
+
+-- narrowed limits suit
+pub narrowed_suits : (limits : Limits) (count : ℕ) → SuitCount (narrowed limits count) count
+unfolding narrowed
+narrowed_suits limits count = let both = cut_suits limits count (half_bound count) refl in record { low = both.0; high = both.1 }
+
+-- those of an image's shape suit its planes
+pub suited_by : (limits : Limits) (shape : Shape) (narrow : Limits) (count : ℕ) → narrow ≡ value_limits limits shape → count ≡ shape.width * shape.height
+    → SuitCount narrow count
+suited_by limits shape narrow count is all =
+    subst (λ n. SuitCount narrow n) (sym all) (subst (λ (l : Limits). SuitCount l (shape.width * shape.height)) (sym is) (narrowed_suits limits (shape.width * shape.height)))
 
 -- ---- no value of such a plane is out of range
 
@@ -81,7 +108,7 @@ not_far : (limits : Limits) (value : Option ℤ) → ((v : ℤ) → value ≡ So
 not_far limits None h = refl
 not_far limits (Some v) h = near limits v (h v refl)
 
-pub none_far : (limits : Limits) (values : List (Option ℤ)) (p : ℕ) → HasValuesWithin limits values → is_out_of_range limits (value_at values p) ≡ false
+pub none_far : (limits : Limits) (values : List (Option ℤ)) (p : ℕ) → HasValuesInLimits limits values → is_out_of_range limits (value_at values p) ≡ false
 none_far limits values p all = elim (cases_lt p (length values)) [
   | inl within ↦ not_far limits (value_at values p) (λ v is. all.each p v (there values p v within is))
   | inr past ↦ let none : value_at values p ≡ None = get_or_past values p None past in rw none refl

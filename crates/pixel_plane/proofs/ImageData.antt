@@ -5,7 +5,7 @@ use Rattle.std.proofs.lemmas.Bool.{not-false}
 use Rattle.std.proofs.lemmas.Bool.Decides.{nat_tests}
 use Rattle.comp_tree.specs.declared.shape.Shape.{Shape}
 use Rattle.comp_tree.specs.Limits.{IsWithinLimits}
-use Rattle.comp_tree.specs.Shapes.{fits_limits, shape_if, shape_of, limits_from}
+use Rattle.comp_tree.specs.Shapes.{shape_if}
 use Rattle.fits_hdu.specs.declared.answer.Hdu.{Hdu}
 use Rattle.fits_hdu.specs.Headers.{found}
 use Rattle.fits_hdu.specs.Finding.{find_of}
@@ -13,6 +13,7 @@ use Rattle.fits_hdu.specs.Sizes.{number_bytes}
 use Rattle.fits_hdu.proofs.Exported.{image_data}
 use Rattle.pixel_plane.specs.declared.fault.ImageFault.{ImageFault}
 use Rattle.pixel_plane.specs.declared.limits.Limits.{Limits}
+use Rattle.pixel_plane.specs.ImageLimits.{fits_plane, plane_shape, plane_sides}
 use Rattle.pixel_plane.specs.Images.{checked, image_fault, shape_unless, has_no_pixels}
 use Rattle.pixel_plane.specs.Reading.{image_bytes}
 use Rattle.pixel_plane.proofs.Readable.{IsReadable, readable, shape_without_fault}
@@ -35,10 +36,10 @@ shape_kept None None s h = absurd (cc)
 shape_kept None (Some t) s h = let same : t ≡ s = cc in ap Some same
 
 has_sides : (limits : Limits) (hdu : Hdu) (shape : Shape) → checked limits hdu ≡ Ok shape → HasSides shape hdu.width hdu.height
-unfolding checked shape_of
+unfolding checked plane_shape
 has_sides limits hdu shape is =
-    sides_if hdu.width hdu.height (fits_limits hdu.width hdu.height) (limits_from hdu.width hdu.height) shape
-    (shape_kept (image_fault limits hdu) (shape_of hdu.width hdu.height) shape is)
+    sides_if hdu.width hdu.height (fits_plane hdu.width hdu.height) (plane_sides hdu.width hdu.height) shape
+    (shape_kept (image_fault limits hdu) (plane_shape hdu.width hdu.height) shape is)
 
 record HasPlane (hdu : Hdu) : Type 0 where
   two : 2 ≤ hdu.naxis

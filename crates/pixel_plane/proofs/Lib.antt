@@ -5,7 +5,9 @@ mod Decoding
 mod Planes
 mod Naming
 mod Narrow
+mod Narrowing
 mod OneLimits
+mod UsualLimits
 mod ImageData
 mod Images
 mod TwoHdus

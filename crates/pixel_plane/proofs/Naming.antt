@@ -1,5 +1,5 @@
 -- The pixel that a fault names.
-use Rattle.std.proofs.Common.{◌≡◌, ℕ, ◌≤◌, ◌*◌, List, ℤ, ap, sym, subst, ◌∙◌, arith}
+use Rattle.std.proofs.Common.{◌≡◌, ℕ, true, ◌≤◌, ◌*◌, List, ℤ, ap, sym, subst, ◌∙◌, arith}
 use Rattle.std.specs.declared.option.Option.{Option}
 use Rattle.std.specs.Prelude.{None}
 use Rattle.comp_tree.specs.declared.shape.Shape.{Shape}
@@ -10,7 +10,7 @@ use Rattle.pixel_plane.specs.declared.fault.PlaneFault.TheVariants.{TruncatedDat
 use Rattle.pixel_plane.specs.declared.fault.PlaneStop.{PlaneStop}
 use Rattle.pixel_plane.specs.declared.fault.PlaneStop.TheVariants.{Fault, ReadFault, OutOfMemory}
 use Rattle.pixel_plane.specs.Images.{image_fault}
-use Rattle.pixel_plane.specs.Stored.{pixel_at, value_stored_as, is_out_of_range}
+use Rattle.pixel_plane.specs.Stored.{pixel_at, value_stored_as, is_out_of_range, holds_narrow}
 use Rattle.pixel_plane.specs.Reading.{NamesPixel}
 use Rattle.pixel_plane.specs.Decoding.{FarInside, IsFarPixel, NamesNone, NamesOnly, NamesFar}
 use Rattle.pixel_plane.proofs.Readable.{wide_bits}
@@ -41,13 +41,13 @@ far_named encoding bytes first end count old new pixel stored (Fault (PixelRange
     subst (λ k. IsFarPixel encoding count k number) (sym same)
     (subst (IsFarPixel encoding count pixel) (sym same_number) (far_pixel encoding bytes first end count old new pixel stored within far))
 
-pub pixel_named : (limits : Limits) (hdu : Hdu) (shape : Shape) (encoding : Encoding) (n : ℕ) (stop : PlaneStop) → IsEncodingOf limits hdu encoding → image_fault limits hdu ≡ None
+pub pixel_named : (limits : Limits) (hdu : Hdu) (shape : Shape) (encoding : Encoding) (n : ℕ) (stop : PlaneStop) → IsEncodingOf limits hdu shape encoding → image_fault limits hdu ≡ None
     → n ≡ shape.width * shape.height → NamesFar encoding n stop → NamesPixel limits hdu shape stop
 pixel_named limits hdu shape encoding n (Fault TruncatedData) e readable count h = tt
 pixel_named limits hdu shape encoding n ReadFault e readable count h = tt
 pixel_named limits hdu shape encoding n OutOfMemory e readable count h = tt
 pixel_named limits hdu shape encoding n (Fault (PixelRange pixel stored)) e readable count far = record {
-  bits = wide_bits limits hdu readable (sym e.size ∙ far.wide);
+  bits = λ holds. wide_bits limits hdu readable (sym e.size ∙ far.wide (subst (λ (l : Limits). holds_narrow l ≡ true) (sym e.within) holds));
   inside = omega (arith, far.inside, count);
   outside = rw (← e.zero, ← e.blank, ← e.within) far.far;
 }

@@ -1,15 +1,15 @@
--- The value of a number of at most 32 bits: it is never out of range.
+-- The value of a number of at most 32 bits: it is never out of range, where the limits hold all such.
 use Rattle.std.proofs.Common.{◌≡◌, ◌^◌, ℤ, pos, neg_ℤ, ◌+ℤ◌, ◌≤ℤ◌, SFits, w64, to_z, of_z, true, refl, sym, subst, arith}
-use Rattle.std.specs.Prelude.{Some, None}
+use Rattle.std.specs.Prelude.{Some, None, int_le}
+use Rattle.std.proofs.lemmas.Bool.{and_parts}
 use Rattle.std.specs.declared.option.Option.{Option}
 use Rattle.std.specs.Option.{option_eq}
 use Rattle.std.specs.Ordering.{int_eq}
 use Rattle.std.proofs.lemmas.Int.{ints}
-use Rattle.comp_tree.proofs.Exported.{int_eq-true, int_eq_refl}
-use Rattle.comp_tree.specs.Limits.{IsWithinRange}
+use Rattle.comp_tree.proofs.Exported.{int_eq-true, int_eq_refl, int_le-true}
 use Rattle.pixel_plane.specs.declared.limits.Limits.{Limits}
 use Rattle.pixel_plane.specs.WithinLimits.{IsInRange}
-use Rattle.pixel_plane.specs.Stored.{value_stored_as}
+use Rattle.pixel_plane.specs.Stored.{value_stored_as, holds_narrow}
 
 -- from -2 ^ 32 to 2 ^ 32
 pub record IsNear (v : ℤ) : Type 0 where
@@ -19,15 +19,11 @@ pub record IsNear (v : ℤ) : Type 0 where
 pub read_near : (v : ℤ) → IsNear v → to_z w64 (of_z w64 v) ≡ v
 read_near v h = let low = h.low in let high = h.high in omega (arith, ints)
 
-pub sum_in_range : (limits : Limits) (a b : ℤ) → IsNear a → IsNear b → IsInRange limits (a +ℤ b)
-sum_in_range limits a b h k =
-    let least = limits.range.narrow_low in
-    let greatest = limits.range.narrow_high in
-    let first = h.low in let second = k.low in let third = h.high in let fourth = k.high in
-    record { low = omega (arith, ints); high = omega (arith, ints) }
-
-pub sum_within : (a b : ℤ) → IsNear a → IsNear b → IsWithinRange (a +ℤ b)
-sum_within a b h k =
+pub sum_in_range : (limits : Limits) (a b : ℤ) → holds_narrow limits ≡ true → IsNear a → IsNear b → IsInRange limits (a +ℤ b)
+sum_in_range limits a b holds h k =
+    let both = and_parts (int_le limits.least (neg_ℤ (pos (2 ^ 33)))) (int_le (pos (2 ^ 33)) limits.greatest) holds in
+    let least = int_le-true limits.least (neg_ℤ (pos (2 ^ 33))) both.0 in
+    let greatest = int_le-true (pos (2 ^ 33)) limits.greatest both.1 in
     let first = h.low in let second = k.low in let third = h.high in let fourth = k.high in
     record { low = omega (arith, ints); high = omega (arith, ints) }
 

@@ -9,7 +9,7 @@ use Rattle.dev_io.specs.Streams.{Takes}
 use Rattle.comp_tree.specs.declared.shape.Shape.{Shape}
 use Rattle.comp_tree.specs.Raster.{Raster}
 use Rattle.comp_tree.specs.Shapes.{shape_of}
-use Rattle.comp_tree.proofs.Exported.{shape_of_sides}
+use Rattle.comp_tree.proofs.Exported.{shape_by_sides}
 use Rattle.fits_hdu.specs.declared.answer.Hdu.{Hdu}
 use Rattle.fits_hdu.specs.declared.fault.HduStop.{HduStop}
 use Rattle.fits_hdu.specs.declared.fault.HduStop.TheVariants.{ReadFault}
@@ -46,9 +46,7 @@ equal n m h = grind (arith, nat_tests)
 same_shapes : (s t : Shape) → is_other_shape s (Some t) ≡ false → s ≡ t
 same_shapes s t h =
     let sides = both_true (eqb s.width t.width) (eqb s.height t.height) h in
-    let one : shape_of t.width t.height ≡ Some s = shape_of_sides t.width t.height s (equal s.width t.width sides.0) (equal s.height t.height sides.1) in
-    let other : shape_of t.width t.height ≡ Some t = shape_of_sides t.width t.height t refl refl in
-    cc
+    shape_by_sides s t (equal s.width t.width sides.0) (equal s.height t.height sides.1)
 
 pub shape_is_same : (s t : Shape) (check : Result Shape ImageFault) → is_other_shape s (result_ok check) ≡ false → check ≡ Ok t → s ≡ t
 shape_is_same s t check h is = same_shapes s t (subst (λ r. is_other_shape s (result_ok r) ≡ false) is h)

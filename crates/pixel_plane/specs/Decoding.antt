@@ -7,7 +7,7 @@ use Rattle.pixel_plane.specs.declared.encoding.Encoding.{Encoding}
 use Rattle.pixel_plane.specs.declared.fault.PlaneFault.TheVariants.{TruncatedData, PixelRange}
 use Rattle.pixel_plane.specs.declared.fault.PlaneStop.{PlaneStop}
 use Rattle.pixel_plane.specs.declared.fault.PlaneStop.TheVariants.{Fault, ReadFault, OutOfMemory}
-use Rattle.pixel_plane.specs.Stored.{stored_number, value_stored_as, pixel_at, is_out_of_range}
+use Rattle.pixel_plane.specs.Stored.{stored_number, value_stored_as, pixel_at, is_out_of_range, holds_narrow}
 
 -- the value of pixel p, where the numbers are encoded so
 abbrev pub decoded : Encoding → List ℕ → ℕ → Option ℤ
@@ -18,9 +18,9 @@ pub record IsDecoded (encoding : Encoding) (bytes : List ℕ) (first end : ℕ) 
   pub before : (p : ℕ) → p < first → value_at new p ≡ value_at old p
   pub here : (p : ℕ) → first ≤ p → p < end → value_at new p ≡ decoded encoding bytes (p - first)
 
--- number k of these bytes is this one, of 8 bytes, and its value is out of range
+-- number k of these bytes is this one, which has 8 bytes unless the limits leave out values of fewer, and its value is out of range
 pub record IsFar (encoding : Encoding) (bytes : List ℕ) (k : ℕ) (stored : ℤ) : Type 0 where
-  pub wide : encoding.size ≡ 8
+  pub wide : holds_narrow encoding.limits ≡ true → encoding.size ≡ 8
   pub number : stored ≡ stored_number encoding.size (drop (k * encoding.size) bytes)
   pub far : is_out_of_range encoding.limits (decoded encoding bytes k) ≡ true
 
@@ -82,7 +82,7 @@ NamesOnly pixel stored stop = Unit {0}
 
 -- one of so many, whose value is out of range
 pub record IsFarPixel (encoding : Encoding) (count pixel : ℕ) (stored : ℤ) : Type 0 where
-  pub wide : encoding.size ≡ 8
+  pub wide : holds_narrow encoding.limits ≡ true → encoding.size ≡ 8
   pub inside : pixel < count
   pub far : is_out_of_range encoding.limits (value_stored_as encoding.zero encoding.blank stored) ≡ true
 

@@ -3,13 +3,12 @@ use Rattle.std.specs.Prelude.{◌^◌, Bool, true, false, ◌||◌, ◌&&◌, �
 use Rattle.std.specs.Prelude.{List, [], ◌∷◌, Option, Some, None, Result, Ok, Err, if◌then◌else◌}
 use Rattle.std.specs.Ordering.{int_eq}
 use Rattle.comp_tree.specs.declared.shape.Shape.{Shape}
-use Rattle.comp_tree.specs.Shapes.{shape_of}
 use Rattle.fits_card.specs.declared.number.Whole.{Whole}
 use Rattle.fits_card.specs.declared.number.Whole.TheVariants.{Is}
 use Rattle.fits_hdu.specs.declared.answer.Hdu.{Hdu}
 use Rattle.fits_hdu.specs.Headers.{is_other}
 use Rattle.pixel_plane.specs.declared.limits.Limits.{Limits}
-use Rattle.pixel_plane.specs.ImageLimits.{fits_within}
+use Rattle.pixel_plane.specs.ImageLimits.{fits_within, plane_shape}
 use Rattle.pixel_plane.specs.declared.fault.ImageFault.{ImageFault}
 use Rattle.pixel_plane.specs.declared.fault.ImageFault.TheVariants.{NotImage, NoImage, ImageTooLarge, Bitpix, Bscale, Bzero, Blank}
 
@@ -60,4 +59,4 @@ shape_unless None (Some shape) = Ok shape
 
 -- the shape of an HDU's image, or its first fault
 unfoldable pub checked : Limits → Hdu → Result Shape ImageFault
-checked limits hdu = shape_unless (image_fault limits hdu) (shape_of hdu.width hdu.height)
+checked limits hdu = shape_unless (image_fault limits hdu) (plane_shape hdu.width hdu.height)

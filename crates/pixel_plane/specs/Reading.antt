@@ -9,7 +9,7 @@ use Rattle.pixel_plane.specs.declared.limits.Limits.{Limits}
 use Rattle.pixel_plane.specs.declared.fault.PlaneFault.TheVariants.{TruncatedData, PixelRange}
 use Rattle.pixel_plane.specs.declared.fault.PlaneStop.{PlaneStop}
 use Rattle.pixel_plane.specs.declared.fault.PlaneStop.TheVariants.{Fault, ReadFault, OutOfMemory}
-use Rattle.pixel_plane.specs.Stored.{size_of, whole_or_zero, blank_of, value_stored_as, stored_plane, stored_at, is_out_of_range, first_out_of_range}
+use Rattle.pixel_plane.specs.Stored.{size_of, whole_or_zero, blank_of, value_stored_as, stored_plane, stored_at, is_out_of_range, holds_narrow, value_limits, first_out_of_range}
 
 -- how many data bytes an image of this shape has
 abbrev pub image_bytes : Hdu → Shape → ℕ
@@ -23,7 +23,7 @@ pub record PlaneRead (limits : Limits) (hdu : Hdu) (shape : Shape) (bytes : List
 
 -- the least pixel out of range and its stored number, and exactly the image's bytes were taken
 pub record PixelOutOfRange (limits : Limits) (hdu : Hdu) (shape : Shape) (bytes : List ℕ) (left : Option (List ℕ)) (pixel : ℕ) (stored : ℤ) : Type 0 where
-  pub bits : hdu.bitpix ≡ pos 64
+  pub bits : holds_narrow (value_limits limits shape) ≡ true → hdu.bitpix ≡ pos 64
   pub least : first_out_of_range limits hdu shape bytes ≡ Some pixel
   pub number : stored ≡ stored_at hdu bytes pixel
   pub takes : Takes bytes left (image_bytes hdu shape)
@@ -38,9 +38,9 @@ PlaneStopped limits hdu shape bytes left OutOfMemory = Takes bytes left 0
 
 -- what is known of such a pixel also where the bytes aren't told
 pub record MayBeOutOfRange (limits : Limits) (hdu : Hdu) (shape : Shape) (pixel : ℕ) (stored : ℤ) : Type 0 where
-  pub bits : hdu.bitpix ≡ pos 64
+  pub bits : holds_narrow (value_limits limits shape) ≡ true → hdu.bitpix ≡ pos 64
   pub inside : pixel < shape.width * shape.height
-  pub outside : is_out_of_range limits (value_stored_as (whole_or_zero hdu.bzero) (blank_of hdu.blank) stored) ≡ true
+  pub outside : is_out_of_range (value_limits limits shape) (value_stored_as (whole_or_zero hdu.bzero) (blank_of hdu.blank) stored) ≡ true
 
 -- a fault that names a pixel comes with that alone
 abbrev pub NamesPixel : Limits → Hdu → Shape → PlaneStop → Type 0

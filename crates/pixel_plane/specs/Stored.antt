@@ -1,5 +1,5 @@
 -- Model: the numbers that an image stores (FITS Standard 4.0, section 5.2), and the plane of their values (section 4.4.2.5, BZERO and BLANK).
-use Rattle.std.specs.Prelude.{ℕ, ◌*◌, ◌/◌, Bool, false, ◌==◌, ◌&&◌, not, List, drop, map, ℤ, pos, ◌+ℤ◌, int_le}
+use Rattle.std.specs.Prelude.{ℕ, ◌*◌, ◌/◌, Bool, false, ◌==◌, ◌&&◌, not, List, drop, map, ℤ, pos, neg_ℤ, ◌+ℤ◌, ◌^◌, int_le}
 use Rattle.std.specs.Prelude.{Option, Some, None, unsigned_abs, slice_index, if◌then◌else◌}
 use Rattle.std.specs.List.{range_with_len, position}
 use Rattle.std.specs.Ordering.{int_eq}
@@ -11,6 +11,7 @@ use Rattle.fits_card.specs.declared.number.Whole.{Whole}
 use Rattle.fits_card.specs.declared.number.Whole.TheVariants.{Is}
 use Rattle.fits_hdu.specs.declared.answer.Hdu.{Hdu}
 use Rattle.pixel_plane.specs.declared.limits.Limits.{Limits}
+use Rattle.pixel_plane.specs.ImageLimits.{narrowed}
 
 -- how many bytes a stored number has
 abbrev pub size_of : Hdu → ℕ
@@ -65,7 +66,14 @@ abbrev pub is_out_of_range : Limits → Option ℤ → Bool
 is_out_of_range limits None = false
 is_out_of_range limits (Some value) = not (int_le limits.least value && int_le value limits.greatest)
 
--- the least pixel that is out of range, of an image of 64 bits; with fewer bits and a BZERO that is accepted no pixel can be
+-- the limits hold the values of all numbers of fewer than 64 bits, whatever BZERO is accepted: only an image of 64 bits can have a pixel that is out of range
+abbrev pub holds_narrow : Limits → Bool
+holds_narrow limits = int_le limits.least (neg_ℤ (pos (2 ^ 33))) && int_le (pos (2 ^ 33)) limits.greatest
+
+-- the limits of the values of an image of this shape
+abbrev pub value_limits : Limits → Shape → Limits
+value_limits limits shape = narrowed limits (shape.width * shape.height)
+
+-- the least pixel that is out of range
 unfoldable pub first_out_of_range : Limits → Hdu → Shape → List ℕ → Option ℕ
-first_out_of_range limits hdu shape bytes =
-    if int_eq hdu.bitpix (pos 64) then position (is_out_of_range limits) (stored_plane hdu shape bytes).values else None
+first_out_of_range limits hdu shape bytes = position (is_out_of_range (value_limits limits shape)) (stored_plane hdu shape bytes).values

@@ -1,9 +1,8 @@
 //! Whether an HDU is an image that can be read.
 ghost use Rattle.std.specs.Prelude.{◌≡◌, ◌<◌, IfOk, IfSome, IsTrue, is_some};
 ghost use Rattle.std.specs.Result.{result_err};
-ghost use Rattle.comp_tree.specs.Shapes.{fits_limits};
 ghost use Rattle.pixel_plane.specs.Images.{checked, image_fault};
-ghost use Rattle.pixel_plane.specs.ImageLimits.{fits_within, usual_limits};
+ghost use Rattle.pixel_plane.specs.ImageLimits.{fits_plane, fits_within, usual_limits};
 
 use crate::{ImageFault, Limits};
 use comp_tree::Shape;
@@ -63,7 +62,7 @@ fn shape_within(width: u64, height: u64, limits: &Limits) -> Option<Shape>
     ensures accepted { is_some result ≡ fits_within limits.now width height }
     ensures sides { IfSome result (λ shape. (shape.width ≡ width) × (shape.height ≡ height)) }
 {
-    let Some(shape) = shape_of(width, height) else {
+    let Some(shape) = plane_shape(width, height) else {
         return None;
     };
     if shape.pixels() > limits.pixels {
@@ -73,13 +72,13 @@ fn shape_within(width: u64, height: u64, limits: &Limits) -> Option<Shape>
 }
 
 // The shape of these sides, where a plane can have them.
-#[tactic(auto, unfolding(comp_tree::specs::Shapes::fits_limits))]
-fn shape_of(width: u64, height: u64) -> Option<Shape>
-    ensures accepted { is_some result ≡ fits_limits width height }
+#[tactic(auto, unfolding(crate::specs::ImageLimits::fits_plane))]
+fn plane_shape(width: u64, height: u64) -> Option<Shape>
+    ensures accepted { is_some result ≡ fits_plane width height }
     ensures sides { IfSome result (λ shape. (shape.width ≡ width) × (shape.height ≡ height)) }
 {
     if width > 65_535 || height > 65_535 {
         return None;
     }
-    Shape::of(width as u32, height as u32)
+    Shape::wide(width as u32, height as u32)
 }

@@ -1,15 +1,18 @@
 //! How an image keeps the values of its pixels as bytes.
-ghost use Rattle.std.specs.Prelude.{◌≡◌, ◌≢◌, ◌≤◌, length, IsTrue, None, Some, IfSome, IfOk, MatchResult, ◌+ℤ◌, ◌≤ℤ◌, pos, neg_ℤ, ◌^◌};
-ghost use Rattle.comp_tree.specs.Limits.{IsWithinRange};
+ghost use Rattle.std.specs.Prelude.{◌≡◌, ◌≢◌, ◌≤◌, ◌==◌, ◌&&◌, not, true, length, IsTrue, None, Some, IfSome, IfOk, MatchResult, ◌+ℤ◌, ◌≤ℤ◌, pos, neg_ℤ, ◌^◌};
 ghost use Rattle.pixel_plane.specs.Images.{image_fault};
 ghost use Rattle.pixel_plane.specs.WithinLimits.{IsInRange};
 ghost use Rattle.pixel_plane.specs.Sizes.{is_number_size, IsFarNumber};
-ghost use Rattle.pixel_plane.specs.Stored.{size_of, stored_number, value_stored_as, is_out_of_range, whole_or_zero, blank_of};
+ghost use Rattle.pixel_plane.specs.Stored.{size_of, stored_number, value_stored_as, is_out_of_range, holds_narrow, value_limits, whole_or_zero, blank_of};
 
 use crate::Limits;
 use byteorder::{BigEndian, ByteOrder};
+use comp_tree::Shape;
 use fits_card::number::Whole;
 use fits_hdu::Hdu;
+
+// The values of all numbers of fewer than 64 bits are nearer to 0 than this, whatever BZERO is accepted.
+const MOST_NARROW: i64 = 1 << 33;
 
 /// The size of the stored numbers in bytes, what is added to each, the number that stands for an undefined pixel, and the limits of the values.
 #[derive(Clone, Copy)]
@@ -24,29 +27,36 @@ pub(crate) struct Encoding {
 }
 
 impl Encoding {
-    /// The encoding of an image that can be read.
-    pub(crate) fn of(hdu: &Hdu, limits: &Limits) -> Encoding
+    /// The encoding of an image of this shape that can be read.
+    pub(crate) fn of(hdu: &Hdu, shape: Shape, limits: &Limits) -> Encoding
         requires { image_fault limits.now hdu.now ≡ None }
         ensures size { result.size ≡ size_of hdu.now }
         ensures zero { result.zero ≡ whole_or_zero hdu.now.bzero }
         ensures blank { result.blank ≡ blank_of hdu.now.blank }
-        ensures limits { result.limits ≡ limits.now }
+        ensures limits { result.limits ≡ value_limits limits.now shape }
     {
         Encoding {
             size: hdu.bitpix.unsigned_abs() as usize / 8,
             zero: whole_or_zero(hdu.bzero),
             blank: blank_of(hdu.blank),
-            limits: *limits,
+            limits: limits.narrowed(shape.pixels()),
         }
     }
 
-    /// The value that the first number of these bytes stands for, where it has at most four bytes: it is never out of range.
+    /// Whether no value can be out of range: each number has at most four bytes, and the limits hold the values of all such.
+    pub(crate) fn is_never_far(&self) -> bool
+        ensures { result ≡ (not (self.now.size == 8) && holds_narrow self.now.limits) }
+    {
+        self.size != 8 && self.limits.least <= -MOST_NARROW && MOST_NARROW <= self.limits.greatest
+    }
+
+    /// The value that the first number of these bytes stands for, where it is never out of range.
     pub(crate) fn value(&self, bytes: &[u8]) -> Option<i64>
         requires room { self.now.size ≤ length bytes.now }
         requires narrow { self.now.size ≢ 8 }
+        requires holds { holds_narrow self.now.limits ≡ true }
         ensures value { result ≡
             value_stored_as self.now.zero self.now.blank (stored_number self.now.size bytes.now) }
-        ensures in_range { IfSome result (λ v. IsWithinRange v) }
         ensures within { IfSome result (λ v. IsInRange self.now.limits v) }
     {
         let stored = self.stored(bytes);
@@ -57,34 +67,32 @@ impl Encoding {
         }
     }
 
+    // The first number of these bytes.
     fn stored(&self, bytes: &[u8]) -> i64
         requires room { self.now.size ≤ length bytes.now }
-        requires narrow { self.now.size ≢ 8 }
         ensures number { result ≡ stored_number self.now.size bytes.now }
-        ensures low { neg_ℤ (pos (2 ^ 32)) ≤ℤ result }
-        ensures high { result ≤ℤ pos (2 ^ 32) }
+        ensures low { self.now.size ≢ 8 → neg_ℤ (pos (2 ^ 32)) ≤ℤ result }
+        ensures high { self.now.size ≢ 8 → result ≤ℤ pos (2 ^ 32) }
     {
         match self.size {
             1 => i64::from(bytes[0]),
             2 => i64::from(BigEndian::read_i16(bytes)),
-            _ => i64::from(BigEndian::read_i32(bytes)),
+            4 => i64::from(BigEndian::read_i32(bytes)),
+            _ => BigEndian::read_i64(bytes),
         }
     }
 
-    /// The value that the first number of these bytes stands for, where it has eight bytes, or the number itself if that value is
-    /// out of range.
-    pub(crate) fn wide_value(&self, bytes: &[u8]) -> Result<Option<i64>, i64>
+    /// The value that the first number of these bytes stands for, or the number itself if that value is out of range.
+    pub(crate) fn compared_value(&self, bytes: &[u8]) -> Result<Option<i64>, i64>
         requires room { self.now.size ≤ length bytes.now }
-        requires wide { self.now.size ≡ 8 }
         ensures value { MatchResult result
             (λ value. value ≡ value_stored_as self.now.zero self.now.blank
             (stored_number self.now.size bytes.now))
             (λ stored. IsFarNumber self.now.limits self.now.zero self.now.blank stored
             (stored_number self.now.size bytes.now)) }
-        ensures in_range { IfOk result (λ value. IfSome value (λ v. IsWithinRange v)) }
         ensures within { IfOk result (λ value. IfSome value (λ v. IsInRange self.now.limits v)) }
     {
-        let stored = BigEndian::read_i64(bytes);
+        let stored = self.stored(bytes);
         if self.blank == Some(stored) {
             return Ok(None);
         }

@@ -62,7 +62,7 @@ pub enum PlaneFault {
     #[error("the input ends before the last pixel")]
     TruncatedData,
     /// The least pixel with a value outside the limits, counted from 0, and its stored number. All bytes of the image were taken.
-    /// Only images of 64 bits have such pixels.
+    /// Where the limits hold all values from -2^33 to 2^33, only images of 64 bits have such pixels.
     #[error("the value of pixel {pixel}, which is stored as {stored}, is outside the limits")]
     PixelRange { pixel: u32, stored: i64 },
 }

@@ -1,11 +1,12 @@
 //! Reading the pixels.
-ghost use Rattle.std.specs.Prelude.{◌≡◌, ◌≢◌, ◌≤◌, ◌-◌, ◌*◌, Ok, length, IfOk, IfErr, IsErrOf, IsTrue, MatchResult};
+ghost use Rattle.std.specs.Prelude.{◌≡◌, ◌≢◌, ◌≤◌, ◌-◌, ◌*◌, Ok, true, length, IfOk, IfErr, IsErrOf, IsTrue, MatchResult};
 ghost use Rattle.std.specs.Option.{ForSome};
 ghost use Rattle.dev_io.specs.Causes.{Rose};
 ghost use Rattle.dev_io.specs.Streams.{Fills};
 ghost use Rattle.comp_tree.specs.Raster.{HasValuesInHalfRange};
 ghost use Rattle.pixel_plane.specs.ImageLimits.{usual_limits};
-ghost use Rattle.pixel_plane.specs.WithinLimits.{HasValuesWithin};
+ghost use Rattle.pixel_plane.specs.WithinLimits.{HasValuesInLimits, SuitCount};
+ghost use Rattle.pixel_plane.specs.Stored.{holds_narrow};
 ghost use Rattle.pixel_plane.specs.Images.{checked};
 ghost use Rattle.pixel_plane.specs.Reading.{PlaneRead, PlaneStopped, NamesPixel};
 ghost use Rattle.pixel_plane.specs.Decoding.{PixelsRead, PixelsStopped, BytesStopped, RestStopped, IsDecoded, FarInside, NamesNone, NamesOnly, NamesFar};
@@ -66,7 +67,7 @@ pub fn read_plane_within<S: Source>(
     let Ok(mut canvas) = Canvas::blank(alloc, shape) else {
         return Err(PlaneStop::OutOfMemory);
     };
-    let encoding = Encoding::of(hdu, limits);
+    let encoding = Encoding::of(hdu, shape, limits);
     match read_pixels(src, &encoding, &mut canvas) {
         Ok(()) => Ok(canvas.into_plane()),
         Err(stop) => Err(stop),
@@ -79,10 +80,11 @@ fn read_pixels<S: Source>(
     encoding: &Encoding,
     canvas: &mut Canvas,
 ) -> Result<(), PlaneStop>
-    requires { HasValuesWithin encoding.now.limits canvas.old.values }
+    requires suited { SuitCount encoding.now.limits (length canvas.old.values) }
+    requires in_limits { HasValuesInLimits encoding.now.limits canvas.old.values }
     ensures shape { canvas.new.shape ≡ canvas.old.shape }
     ensures count { length canvas.new.values ≡ length canvas.old.values }
-    ensures in_limits { HasValuesWithin encoding.now.limits canvas.new.values }
+    ensures in_limits { HasValuesInLimits encoding.now.limits canvas.new.values }
     ensures told { ForSome (S.left src.old) (λ bytes. MatchResult result
         (λ _. PixelsRead encoding.now bytes (S.left src.new) canvas.new.values)
         (λ stop. PixelsStopped encoding.now (length canvas.old.values) bytes
@@ -164,30 +166,33 @@ fn decode(
     requires order { first ≤ end }
     requires room { (end - first) * encoding.now.size ≤ length bytes.now }
     requires within { end ≤ length canvas.old.values }
-    requires in_limits { HasValuesWithin encoding.now.limits canvas.old.values }
+    requires suited { SuitCount encoding.now.limits (length canvas.old.values) }
+    requires in_limits { HasValuesInLimits encoding.now.limits canvas.old.values }
     ensures shape { canvas.new.shape ≡ canvas.old.shape }
     ensures count { length canvas.new.values ≡ length canvas.old.values }
-    ensures in_limits { HasValuesWithin encoding.now.limits canvas.new.values }
+    ensures in_limits { HasValuesInLimits encoding.now.limits canvas.new.values }
     ensures decoded { MatchResult result
         (λ _. IsDecoded encoding.now bytes.now first end canvas.old.values canvas.new.values)
         (λ far. FarInside encoding.now bytes.now first end canvas.old.values canvas.new.values far.pixel far.stored) }
 {
-    // A loop for each, so that no pixel of fewer bits is compared with the range.
-    if encoding.size == 8 {
-        return decode_wide(encoding, bytes, canvas, first, end);
+    // A loop for each, so that no pixel is compared where none can be out of range.
+    if encoding.is_never_far() {
+        decode_narrow(encoding, bytes, canvas, first, end);
+        return Ok(());
     }
-    decode_narrow(encoding, bytes, canvas, first, end);
-    Ok(())
+    decode_compared(encoding, bytes, canvas, first, end)
 }
 
 fn decode_narrow(encoding: &Encoding, bytes: &[u8], canvas: &mut Canvas, first: u32, end: u32)
     requires narrow { encoding.now.size ≢ 8 }
+    requires holds { holds_narrow encoding.now.limits ≡ true }
     requires room { (end - first) * encoding.now.size ≤ length bytes.now }
     requires within { end ≤ length canvas.old.values }
-    requires in_limits { HasValuesWithin encoding.now.limits canvas.old.values }
+    requires suited { SuitCount encoding.now.limits (length canvas.old.values) }
+    requires in_limits { HasValuesInLimits encoding.now.limits canvas.old.values }
     ensures shape { canvas.new.shape ≡ canvas.old.shape }
     ensures count { length canvas.new.values ≡ length canvas.old.values }
-    ensures in_limits { HasValuesWithin encoding.now.limits canvas.new.values }
+    ensures in_limits { HasValuesInLimits encoding.now.limits canvas.new.values }
     ensures decoded { IsDecoded encoding.now bytes.now first end canvas.old.values canvas.new.values }
 {
     for p in first..end {
@@ -196,27 +201,28 @@ fn decode_narrow(encoding: &Encoding, bytes: &[u8], canvas: &mut Canvas, first: 
     }
 }
 
-fn decode_wide(
+fn decode_compared(
     encoding: &Encoding,
     bytes: &[u8],
     canvas: &mut Canvas,
     first: u32,
     end: u32,
 ) -> Result<(), PixelPlace>
-    requires wide { encoding.now.size ≡ 8 }
+    requires wide { holds_narrow encoding.now.limits ≡ true → encoding.now.size ≡ 8 }
     requires room { (end - first) * encoding.now.size ≤ length bytes.now }
     requires within { end ≤ length canvas.old.values }
-    requires in_limits { HasValuesWithin encoding.now.limits canvas.old.values }
+    requires suited { SuitCount encoding.now.limits (length canvas.old.values) }
+    requires in_limits { HasValuesInLimits encoding.now.limits canvas.old.values }
     ensures shape { canvas.new.shape ≡ canvas.old.shape }
     ensures count { length canvas.new.values ≡ length canvas.old.values }
-    ensures in_limits { HasValuesWithin encoding.now.limits canvas.new.values }
+    ensures in_limits { HasValuesInLimits encoding.now.limits canvas.new.values }
     ensures decoded { MatchResult result
         (λ _. IsDecoded encoding.now bytes.now first end canvas.old.values canvas.new.values)
         (λ far. FarInside encoding.now bytes.now first end canvas.old.values canvas.new.values far.pixel far.stored) }
 {
     for p in first..end {
         let at = (p - first) as usize * encoding.size;
-        match encoding.wide_value(&bytes[at..]) {
+        match encoding.compared_value(&bytes[at..]) {
             Ok(value) => canvas.set(p, value),
             Err(stored) => return Err(PixelPlace { pixel: p, stored }),
         }

@@ -332,3 +332,65 @@ fn other_limits_are_kept(rt: HostRuntime) -> Result<(), Fail> {
     );
     Ok(())
 }
+
+// So do those of numbers with fewer bits, where the limits leave out some of them.
+#[test]
+fn narrow_numbers_can_be_out_of_range(rt: HostRuntime) -> Result<(), Fail> {
+    let hdu = Hdu {
+        bitpix: 32,
+        data_bytes: 8,
+        bzero: Whole::Is(-1),
+        ..WIDE
+    };
+    let limits = Limits {
+        pixels: 2,
+        least: -1,
+        greatest: 255,
+    };
+    let shape = check_within(&hdu, &limits)?;
+    // 256, and 257
+    let bytes = [0, 0, 1, 0, 0, 0, 1, 1];
+    let mut source = PlainSource::new(&bytes);
+    assert!(rt;
+        matches!(
+            read_plane_within(rt.alloc(), &mut source, &hdu, shape, &limits),
+            Err(PlaneStop::Fault(PlaneFault::PixelRange {
+                pixel: 1,
+                stored: 257
+            }))
+        )
+    );
+    Ok(())
+}
+
+// One pixel more than usual; and a larger image holds fewer values.
+#[test]
+fn wide_limits_take_large_images(rt: HostRuntime) -> Result<(), Fail> {
+    let hdu = Hdu {
+        width: 16_385,
+        height: 1_024,
+        ..IMAGE
+    };
+    assert!(rt; matches!(check_image(&hdu), Err(ImageFault::ImageTooLarge)));
+    let shape = check_within(&hdu, &Limits::wide())?;
+    assert_eq!(rt; (shape.width, shape.height), (16_385, 1_024));
+    let most = Hdu {
+        width: 65_535,
+        height: 32_769,
+        ..IMAGE
+    };
+    assert!(rt;
+        matches!(
+            check_within(&most, &Limits::wide()),
+            Err(ImageFault::ImageTooLarge)
+        )
+    );
+    let usual = Limits::wide().narrowed(16_777_216);
+    assert_eq!(rt;
+        (usual.least, usual.greatest),
+        (-68_719_476_736, 68_719_476_736)
+    );
+    let large = Limits::wide().narrowed(16_777_217);
+    assert_eq!(rt; (large.least, large.greatest), (-536_870_912, 536_870_912));
+    Ok(())
+}

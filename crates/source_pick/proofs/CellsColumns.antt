@@ -91,7 +91,7 @@ unmoved s row = same_row (moved_row (all_of s) row) row refl refl refl refl refl
 
 -- ---- the columns in which numbers fit
 
-small_column : (n : ℕ) → n ≤ 2 ^ 24 → FitsColumn (pos n)
+small_column : (n : ℕ) → n ≤ 2147483647 → FitsColumn (pos n)
 small_column n h = record { low = omega (arith, ints); high = omega (arith, ints) }
 
 centre_column : (z : ℤ) → IsUpTo 65535000 z → FitsColumn z
@@ -228,7 +228,7 @@ node_peak r connect n range = peak_fits (level r) (pixels_of r connect n) (λ p.
 
 -- the row of a node of a plane fits its columns, and each of its numbers 64 bits
 pub catalogue_row_fits : (r : Raster) (connect : Connect) (n number : ℕ) → IsPlane r → HasValuesInRange r.values → n < length (nodes r connect)
-    → number ≤ 2 ^ 24
+    → number ≤ 2147483647
     → FitsColumns (catalogue_row r connect number n) × AllByRecursion (FitsSigned w64) (cells_of (catalogue_row r connect number n))
 unfolding catalogue_row
 catalogue_row_fits r connect n number plane range hn few =

@@ -20,10 +20,10 @@ pos_widened n l = record { sfits = omega (arith, l) }
 
 -- ---- the weighted sum
 
-weight_fits : (base : ℤ) (sum : ℕ) → IsUpTo (2 ^ 37) base → sum ≤ 2 ^ 40 → IsUpTo (2 ^ 77) (base *ℤ pos sum)
-weight_fits base sum h k = up_to-times (2 ^ 37) (2 ^ 40) sum base h k
+weight_fits : (base : ℤ) (sum : ℕ) → IsUpTo (2 ^ 37) base → sum ≤ 2 ^ 47 → IsUpTo (2 ^ 84) (base *ℤ pos sum)
+weight_fits base sum h k = up_to-times (2 ^ 37) (2 ^ 47) sum base h k
 
-weight-read : (base : ℤ) (sum : ℕ) → sum ≤ 2 ^ 40 → SFits w64 base
+weight-read : (base : ℤ) (sum : ℕ) → sum ≤ 2 ^ 47 → SFits w64 base
     → to_z w128 (of_z w128 (to_z w64 (of_z w64 base))) *ℤ to_z w128 sum ≡ base *ℤ pos sum
 weight-read base sum k f =
     ap (λ (z : ℤ). z *ℤ to_z w128 sum) (wide base f) ∙ ap (λ (z : ℤ). base *ℤ z) (to_z_pos w128 sum (omega (arith, k)))
@@ -32,19 +32,19 @@ pub product_fits : (moment base : ℤ) (sum : ℕ) → IsMoment moment base sum 
     → SFits w128 (to_z w128 (of_z w128 (to_z w64 (of_z w64 base))) *ℤ to_z w128 sum)
 product_fits moment base sum k f =
     subst (SFits w128) (sym (weight-read base sum k.sum_small f))
-    (fits w128 (2 ^ 77) (base *ℤ pos sum) (weight_fits base sum k.base_small k.sum_small) (lit< tt))
+    (fits w128 (2 ^ 84) (base *ℤ pos sum) (weight_fits base sum k.base_small k.sum_small) (lit< tt))
 
 pub weighted_fits : (moment base : ℤ) (sum : ℕ) → IsMoment moment base sum → SFits w64 base
     → SFits w128 (to_z w128 (of_z w128 moment) -ℤ to_z w128 (of_z w128 (to_z w128 (of_z w128 (to_z w64 (of_z w64 base))) *ℤ to_z w128 sum)))
 weighted_fits moment base sum k f =
     subst (SFits w128)
     (sym (ap (λ (z : ℤ). z -ℤ to_z w128 (of_z w128 (to_z w128 (of_z w128 (to_z w64 (of_z w64 base))) *ℤ to_z w128 sum)))
-    (to_z-of_z w128 moment (fits w128 (2 ^ 77) moment k.moment_small (lit< tt)))
+    (to_z-of_z w128 moment (fits w128 (2 ^ 84) moment k.moment_small (lit< tt)))
     ∙ ap (λ (z : ℤ). moment -ℤ to_z w128 (of_z w128 z)) (weight-read base sum k.sum_small f)
-    ∙ ap (λ (z : ℤ). moment -ℤ z) (to_z-of_z w128 (base *ℤ pos sum) (fits w128 (2 ^ 77) (base *ℤ pos sum) weight (lit< tt)))))
-    (fits w128 (2 ^ 77 + 2 ^ 77) (moment -ℤ base *ℤ pos sum) (up_to-minus (2 ^ 77) (2 ^ 77) moment (base *ℤ pos sum) k.moment_small weight) (lit< tt))
+    ∙ ap (λ (z : ℤ). moment -ℤ z) (to_z-of_z w128 (base *ℤ pos sum) (fits w128 (2 ^ 84) (base *ℤ pos sum) weight (lit< tt)))))
+    (fits w128 (2 ^ 84 + 2 ^ 84) (moment -ℤ base *ℤ pos sum) (up_to-minus (2 ^ 84) (2 ^ 84) moment (base *ℤ pos sum) k.moment_small weight) (lit< tt))
   where
-    weight : IsUpTo (2 ^ 77) (base *ℤ pos sum)
+    weight : IsUpTo (2 ^ 84) (base *ℤ pos sum)
     weight = weight_fits base sum k.base_small k.sum_small
 
 -- ---- a coordinate of the centre

@@ -238,17 +238,17 @@ pub weighted-read : (moment base : ℤ) (sum : ℕ) → IsMoment moment base sum
     ≡ moment -ℤ base *ℤ pos sum
 weighted-read moment base sum k f =
     rw (wide base f, to_z_pos w128 sum (omega (arith, k.sum_small)), to_z-of_z w128 moment moment_fits, to_z-of_z w128 (base *ℤ pos sum) product_fits)
-    (to_z-of_z w128 (moment -ℤ base *ℤ pos sum) (fits w128 (2 ^ 77 + 2 ^ 77) (moment -ℤ base *ℤ pos sum)
-    (up_to-minus (2 ^ 77) (2 ^ 77) moment (base *ℤ pos sum) k.moment_small product) (lit< tt)))
+    (to_z-of_z w128 (moment -ℤ base *ℤ pos sum) (fits w128 (2 ^ 84 + 2 ^ 84) (moment -ℤ base *ℤ pos sum)
+    (up_to-minus (2 ^ 84) (2 ^ 84) moment (base *ℤ pos sum) k.moment_small product) (lit< tt)))
   where
-    product : IsUpTo (2 ^ 77) (base *ℤ pos sum)
-    product = up_to-times (2 ^ 37) (2 ^ 40) sum base k.base_small k.sum_small
+    product : IsUpTo (2 ^ 84) (base *ℤ pos sum)
+    product = up_to-times (2 ^ 37) (2 ^ 47) sum base k.base_small k.sum_small
 
     moment_fits : SFits w128 moment
-    moment_fits = fits w128 (2 ^ 77) moment k.moment_small (lit< tt)
+    moment_fits = fits w128 (2 ^ 84) moment k.moment_small (lit< tt)
 
     product_fits : SFits w128 (base *ℤ pos sum)
-    product_fits = fits w128 (2 ^ 77) (base *ℤ pos sum) product (lit< tt)
+    product_fits = fits w128 (2 ^ 84) (base *ℤ pos sum) product (lit< tt)
 
 -- ---- spreads
 
@@ -282,8 +282,8 @@ spread_fits area products first second k = record {
   spread = floor_up_to (pos 1000 *ℤ (pos (area * products) -ℤ pos (first * second))) (area * area) (1000 * 2 ^ 32) some_square thousand;
 }
   where
-    square_small : area * area ≤ 2 ^ 48
-    square_small = mul-le area area (2 ^ 24) (2 ^ 24) k.few k.few
+    square_small : area * area ≤ 2 ^ 62
+    square_small = mul-le area area (2 ^ 31) (2 ^ 31) (omega (arith, k.few)) (omega (arith, k.few))
 
     some_square : 0 < area * area
     some_square = let l : 1 * 1 ≤ area * area = mul-le 1 1 area area k.some k.some in omega arith
@@ -309,24 +309,24 @@ spread_fits area products first second k = record {
         (let e : 1000 * (2 ^ 32 * (area * area)) ≡ 1000 * 2 ^ 32 * (area * area) = omega arith in e)
         (times_thousand (2 ^ 32 * (area * area)) (pos (area * products) -ℤ pos (first * second)) above)
 
-square_bound : (area : ℕ) → area ≤ 2 ^ 24 → 2 ^ 32 * (area * area) ≤ 2 ^ 80
-square_bound area h = let l : area * area ≤ 2 ^ 48 = mul-le area area (2 ^ 24) (2 ^ 24) h h in omega arith
+square_bound : (area : ℕ) → area ≤ 2147483647 → 2 ^ 32 * (area * area) ≤ 2 ^ 94
+square_bound area h = let l : area * area ≤ 2 ^ 62 = mul-le area area (2 ^ 31) (2 ^ 31) (omega (arith, h)) (omega (arith, h)) in omega arith
 
-thousand_bound : (area : ℕ) → area ≤ 2 ^ 24 → 1000 * 2 ^ 32 * (area * area) ≤ 2 ^ 90
-thousand_bound area h = let l : area * area ≤ 2 ^ 48 = mul-le area area (2 ^ 24) (2 ^ 24) h h in omega arith
+thousand_bound : (area : ℕ) → area ≤ 2147483647 → 1000 * 2 ^ 32 * (area * area) ≤ 2 ^ 104
+thousand_bound area h = let l : area * area ≤ 2 ^ 62 = mul-le area area (2 ^ 31) (2 ^ 31) (omega (arith, h)) (omega (arith, h)) in omega arith
 
 narrow : (area products first second : ℕ) → IsSpread area products first second → SFits w128 (pos (area * products) -ℤ pos (first * second))
 narrow area products first second k =
-    fits w128 (2 ^ 80) (pos (area * products) -ℤ pos (first * second))
-    (up_to_more (2 ^ 32 * (area * area)) (2 ^ 80) (pos (area * products) -ℤ pos (first * second)) (spread_fits area products first second k).above
+    fits w128 (2 ^ 94) (pos (area * products) -ℤ pos (first * second))
+    (up_to_more (2 ^ 32 * (area * area)) (2 ^ 94) (pos (area * products) -ℤ pos (first * second)) (spread_fits area products first second k).above
     (square_bound area k.few)) (lit< tt)
 
 -- a thousand times the difference fits
 pub thousand_fits : (area products first second : ℕ) → IsSpread area products first second
     → SFits w128 (pos 1000 *ℤ (pos (area * products) -ℤ pos (first * second)))
 thousand_fits area products first second k =
-    fits w128 (2 ^ 90) (pos 1000 *ℤ (pos (area * products) -ℤ pos (first * second)))
-    (up_to_more (1000 * 2 ^ 32 * (area * area)) (2 ^ 90) (pos 1000 *ℤ (pos (area * products) -ℤ pos (first * second)))
+    fits w128 (2 ^ 104) (pos 1000 *ℤ (pos (area * products) -ℤ pos (first * second)))
+    (up_to_more (1000 * 2 ^ 32 * (area * area)) (2 ^ 104) (pos 1000 *ℤ (pos (area * products) -ℤ pos (first * second)))
     (spread_fits area products first second k).thousand (thousand_bound area k.few)) (lit< tt)
 
 operands-read : (area products first second : ℕ) → IsSpread area products first second

@@ -1,7 +1,10 @@
 -- A catalogue row from the sums of a node.
-use Rattle.std.proofs.Common.{◌≡◌, ℕ, ◌*◌, ◌^◌, ◌<◌, ◌≤◌, true, length, refl, sym, ◌∙◌, ap, subst, arith, lit<}
+use Rattle.std.proofs.Common.{◌≡◌, ℕ, ◌+◌, ◌*◌, ◌^◌, ◌<◌, ◌≤◌, true, length, refl, sym, ◌∙◌, ap, subst, arith, lit<}
 use Rattle.std.specs.Prelude.{ℤ, pos, ◌-ℤ◌, ◌*ℤ◌, ◌≤ℤ◌}
 use Rattle.std.proofs.lemmas.Int.{ints, to_z-of_z}
+use Rattle.std.proofs.Math.Nat.{mul-le-mul_left}
+use Rattle.std.specs.List.{range_with_len}
+use Rattle.std.proofs.lemmas.List.FromFn.{length-range_with_len}
 use mir.Syntax.{w64, w128}
 use mir.Val.{SFits, of_z, to_z}
 use Rattle.lemmas.proofs.Exported.{IsAmong, among-filter, among_from_filter, not_empty}
@@ -9,14 +12,15 @@ use Rattle.comp_tree.specs.declared.shape.Connect.{Connect}
 use Rattle.comp_tree.specs.Raster.{Raster, IsPlane, HasValuesInRange, pixels, level}
 use Rattle.comp_tree.specs.Components.{nodes, is_in_node, tree_of}
 use Rattle.comp_tree.specs.Laws.{top_of}
-use Rattle.comp_tree.proofs.Exported.{among_from_defined, below_from_defined, in_node-defined, top_inside}
+use Rattle.comp_tree.specs.Limits.{value_bound}
+use Rattle.comp_tree.proofs.Exported.{bound_of_sum, among_from_defined, below_from_defined, in_node-defined, top_inside}
 use Rattle.node_sums.specs.declared.entry.Sums.{Sums}
 use Rattle.node_sums.specs.Sums.{total, least, greatest, x_of, y_of, sums_over, sums_of}
 use Rattle.comp_tree.specs.Nesting.{pixels_of, level_of_node}
 use Rattle.node_sums.specs.Flux.{base_of, flux_of}
 use Rattle.node_sums.specs.Sizes.{IsUpTo, HasSizes}
-use Rattle.node_sums.proofs.Exported.{level_at_least, never_negative, BaseCase, at_root, at_child, base-case, base_up_to, fits, sizes, filtered_pixels}
-use Rattle.node_sums.proofs.Exported.{level_up_to, total-up_to, up_to_more, up_to-minus, x_small, y_small}
+use Rattle.node_sums.proofs.Exported.{level_at_least, never_negative, BaseCase, at_root, at_child, base-case, base_up_to, base_within, fits, sizes, filtered_pixels}
+use Rattle.node_sums.proofs.Exported.{level_within, length-filter-le, total-up_to, up_to_more, up_to-minus, x_small, y_small}
 use Rattle.source_pick.specs.Catalogue.{centre_of, measured_row, catalogue_row, IsCentred}
 use Rattle.source_pick.specs.Numbers.{IsMoment, IsMean, IsMeasured}
 use Rattle.source_pick.proofs.OrderListing.{first_below}
@@ -48,14 +52,14 @@ moment-read moment base sum k f g = rw (to_z-of_z w128 moment f, to_z-of_z w64 b
 
 pub moment_of : (base : ℤ) (s : Sums) → IsUpTo (2 ^ 37) base → HasSizes s → IsMoment s.rx base s.x
 moment_of base s b h = record {
-  moment_small = up_to_more (2 ^ 53 * s.area) (2 ^ 77) s.rx h.rx (omega (arith, h.area));
+  moment_small = up_to_more (2 ^ 53 * s.area) (2 ^ 84) s.rx h.rx (omega (arith, h.area));
   base_small = b;
   sum_small = omega (arith, h.x, h.area);
 }
 
 pub moment_along : (base : ℤ) (s : Sums) → IsUpTo (2 ^ 37) base → HasSizes s → IsMoment s.ry base s.y
 moment_along base s b h = record {
-  moment_small = up_to_more (2 ^ 53 * s.area) (2 ^ 77) s.ry h.ry (omega (arith, h.area));
+  moment_small = up_to_more (2 ^ 53 * s.area) (2 ^ 84) s.ry h.ry (omega (arith, h.area));
   base_small = b;
   sum_small = omega (arith, h.y, h.area);
 }
@@ -79,10 +83,10 @@ centre_is got weighed weight sum flux area f g e h =
     ∙ ap (λ (z : ℤ). centre_of weight sum z area) (to_z-of_z w64 flux g)
 
 pub moment_fits : (base : ℤ) (s : Sums) → IsUpTo (2 ^ 37) base → HasSizes s → SFits w128 s.rx
-moment_fits base s b h = fits w128 (2 ^ 77) s.rx (moment_of base s b h).moment_small (lit< tt)
+moment_fits base s b h = fits w128 (2 ^ 84) s.rx (moment_of base s b h).moment_small (lit< tt)
 
 pub moment_fits_along : (base : ℤ) (s : Sums) → IsUpTo (2 ^ 37) base → HasSizes s → SFits w128 s.ry
-moment_fits_along base s b h = fits w128 (2 ^ 77) s.ry (moment_along base s b h).moment_small (lit< tt)
+moment_fits_along base s b h = fits w128 (2 ^ 84) s.ry (moment_along base s b h).moment_small (lit< tt)
 
 -- ---- a node's numbers
 
@@ -90,7 +94,7 @@ module _ (r : Raster) (connect : Connect) (n : ℕ) (plane : IsPlane r) (range :
   node_sizes : HasSizes (sums_of r connect n)
   unfolding sums_of pixels_of pixels
   node_sizes =
-      sizes r (pixels_of r connect n) plane (filtered_pixels r (is_in_node r connect n) (length r.values) plane (omega arith) (λ q _. level_up_to r q range))
+      sizes r (pixels_of r connect n) plane (filtered_pixels r (is_in_node r connect n) (length r.values) plane (omega arith) (λ q _. level_within r q range))
 
   inside : (p : ℕ) → IsAmong p (pixels_of r connect n) → is_in_node r connect n p ≡ true
   unfolding pixels_of
@@ -118,23 +122,29 @@ module _ (r : Raster) (connect : Connect) (n : ℕ) (plane : IsPlane r) (range :
       go (at_root e b) = omega (arith, ints, high)
       go (at_child a e ha b l) = omega (arith, ints, high)
 
-  area_few : length (pixels_of r connect n) ≤ 2 ^ 24
+  area_few : length (pixels_of r connect n) ≤ 2147483647
   unfolding sums_of sums_over
   area_few = node_sizes.area
 
   flux_small : flux_of r connect n ≤ℤ pos (2 ^ 62)
-  unfolding flux_of
+  unfolding flux_of pixels_of pixels
   flux_small =
-      let few : length (pixels_of r connect n) ≤ 2 ^ 24 = area_few in
-      let each : IsUpTo (2 ^ 38 * length (pixels_of r connect n)) (total (λ p. level r p -ℤ base_of (tree_of r connect) n) (pixels_of r connect n)) =
-      total-up_to (λ p. level r p -ℤ base_of (tree_of r connect) n) (2 ^ 38) (pixels_of r connect n)
-      (λ p k. up_to-minus (2 ^ 37) (2 ^ 37) (level r p) (base_of (tree_of r connect) n) (level_up_to r p range) (base_up_to r connect n plane range hn)) in
-      omega (
-        arith,
-        ints,
-        (up_to_more (2 ^ 38 * length (pixels_of r connect n)) (2 ^ 62)
-            (total (λ p. level r p -ℤ base_of (tree_of r connect) n) (pixels_of r connect n)) each (omega arith)).high,
-      )
+      let few : length (pixels_of r connect n) ≤ length r.values =
+      omega (arith, length-filter-le (is_in_node r connect n) (range_with_len 0 (length r.values)), length-range_with_len 0 (length r.values)) in
+      let most : value_bound (length r.values) * length r.values ≤ 2 ^ 61 =
+      bound_of_sum (length r.values) (omega (arith, plane, r.shape.within_limits.few_pixels)) in
+      let fewer : value_bound (length r.values) * length (pixels_of r connect n) ≤ value_bound (length r.values) * length r.values =
+      mul-le-mul_left (value_bound (length r.values)) few in
+      let both : (value_bound (length r.values) + value_bound (length r.values)) * length (pixels_of r connect n)
+      ≡ value_bound (length r.values) * length (pixels_of r connect n) + value_bound (length r.values) * length (pixels_of r connect n) =
+      omega arith in
+      let each : IsUpTo ((value_bound (length r.values) + value_bound (length r.values)) * length (pixels_of r connect n))
+      (total (λ p. level r p -ℤ base_of (tree_of r connect) n) (pixels_of r connect n)) =
+      total-up_to (λ p. level r p -ℤ base_of (tree_of r connect) n) (value_bound (length r.values) + value_bound (length r.values)) (pixels_of r connect n)
+      (λ p k. up_to-minus (value_bound (length r.values)) (value_bound (length r.values)) (level r p) (base_of (tree_of r connect) n)
+      (level_within r p range) (base_within r connect n plane range hn)) in
+      (up_to_more ((value_bound (length r.values) + value_bound (length r.values)) * length (pixels_of r connect n)) (2 ^ 62)
+      (total (λ p. level r p -ℤ base_of (tree_of r connect) n) (pixels_of r connect n)) each (omega (arith, both, fewer, most))).high
 
   across : IsMean ((sums_of r connect n).rx -ℤ base_of (tree_of r connect) n *ℤ pos (sums_of r connect n).x) (sums_of r connect n).x (flux_of r connect n)
       (sums_of r connect n).area
@@ -186,7 +196,7 @@ module _ (r : Raster) (connect : Connect) (n : ℕ) (plane : IsPlane r) (range :
         (λ p k. (above_base p k, greatest_high (y_of r) (pixels_of r connect n) p k));
   }
 
-  pub measured : (number : ℕ) → number ≤ 2 ^ 24 → IsMeasured number (base_of (tree_of r connect) n) (flux_of r connect n) r.shape.width (sums_of r connect n)
+  pub measured : (number : ℕ) → number ≤ 2147483647 → IsMeasured number (base_of (tree_of r connect) n) (flux_of r connect n) r.shape.width (sums_of r connect n)
   measured number h = record {
     few = h;
     some_columns = r.shape.within_limits.some_columns;

@@ -25,6 +25,10 @@ mod LocalityAlongInPlace
 mod Locality
 mod Windows
 mod WindowsTiling
+mod SheetsLarge
+mod SheetsParts
+mod SheetsCopies
+mod Sheets
 mod LocalityKeeping
 mod LocalityAround
 mod LocalityNearing

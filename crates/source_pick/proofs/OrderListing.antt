@@ -49,7 +49,7 @@ first_inside r connect n plane hn =
     small : (p : ℕ) → IsAmong p (filter (is_in_node r connect n) (pixels r)) → p < 2 ^ 32 - 1
     small p k =
         let l : p < length r.values = below_from_defined r p (in_node-defined r connect n p (among_from_filter (is_in_node r connect n) p (pixels r) k).1) in
-        let f : r.shape.width * r.shape.height ≤ 2 ^ 24 = r.shape.within_limits.few_pixels in
+        let f : r.shape.width * r.shape.height ≤ 2147483647 = r.shape.within_limits.few_pixels in
         let e : length r.values ≡ r.shape.width * r.shape.height = plane in
         omega arith
 

@@ -1,5 +1,5 @@
 -- The steps of the passes that count strong children, and hand splits upwards.
-use Rattle.std.proofs.Common.{◌≡◌, ℕ, ◌+◌, ◌^◌, ◌<◌, ◌≤◌, Bool, true, false, List, length, refl, sym, ◌∙◌, ap, subst, arith, ◌⊎◌, inl, inr}
+use Rattle.std.proofs.Common.{◌≡◌, ℕ, ◌+◌, ◌<◌, ◌≤◌, Bool, true, false, List, length, refl, sym, ◌∙◌, ap, subst, arith, ◌⊎◌, inl, inr}
 use Rattle.std.proofs.Common.{get_or, set, replicate}
 use Rattle.std.specs.Prelude.{slice_get, slice_index_or, Some}
 use Rattle.std.proofs.lemmas.Bool.{cases_lt, cases_eq}
@@ -163,5 +163,5 @@ passed_all rows splits k flags h e = record { one_each = h.one_each; sound = h.s
 -- ---- as the code reads it
 
 -- a parent that is none is no row's number
-pub none_outside : (rows : List NodeRow) (n m x : ℕ) → length rows ≤ 2 ^ 24 → x ≡ parent_in rows n → x ≡ no_node → parent_in rows n ≡ m → m < length rows → ⊥
+pub none_outside : (rows : List NodeRow) (n m x : ℕ) → length rows ≤ 2147483647 → x ≡ parent_in rows n → x ≡ no_node → parent_in rows n ≡ m → m < length rows → ⊥
 none_outside rows n m x few e f g l = absurd (omega arith)

@@ -1,5 +1,5 @@
 -- Numbers of nodes in a list, as the map gives them to pixels.
-use Rattle.std.proofs.Common.{◌≡◌, ℕ, ◌+◌, ◌*◌, ◌^◌, ◌<◌, ◌≤◌, zero, suc, Bool, true, false, cond, List, [], ◌∷◌, length, refl, sym, ◌∙◌, ap, subst, arith}
+use Rattle.std.proofs.Common.{◌≡◌, ℕ, ◌+◌, ◌*◌, ◌<◌, ◌≤◌, zero, suc, Bool, true, false, cond, List, [], ◌∷◌, length, refl, sym, ◌∙◌, ap, subst, arith}
 use Rattle.std.proofs.Common.{◌⊎◌, inl, inr, set, ◌↔◌}
 use Rattle.std.specs.Prelude.{Option, Some, unwrap_or, replicate, slice_get, slice_index, ◌==◌}
 use Rattle.std.specs.List.{range_with_len, position_from, list_any, IsDistinct, AllByRecursion}
@@ -119,12 +119,12 @@ few_marked tree marked d =
     below : (q : ℕ) → (i : ℕ) × (slice_get marked i ≡ Some q) → q < length tree.rows
     below q (i, g) = d.nodes i q g
 
-pub few_rows : (tree : ComponentTree) (marked : List ℕ) → AreDisjointNodes tree marked → length tree.rows ≤ 2 ^ 24
+pub few_rows : (tree : ComponentTree) (marked : List ℕ) → AreDisjointNodes tree marked → length tree.rows ≤ 2147483647
 few_rows tree marked d =
     let a : length tree.rows ≡ length (nodes d.plane d.connect) = rows_are d.plane d.connect tree d.tree_is in
     let b : length (nodes d.plane d.connect) ≤ length d.plane.values = length-nodes-le d.plane d.connect in
     let e : length d.plane.values ≡ d.plane.shape.width * d.plane.shape.height = d.one_each in
-    let f : d.plane.shape.width * d.plane.shape.height ≤ 2 ^ 24 = d.plane.shape.within_limits.few_pixels in
+    let f : d.plane.shape.width * d.plane.shape.height ≤ 2147483647 = d.plane.shape.within_limits.few_pixels in
     omega arith
 
 -- ---- the number of a pixel
@@ -398,19 +398,19 @@ pixels_all r connect tree marked numbers same l h =
     (λ p x. h p (let e : length tree.node_of ≡ length r.values = numbers-length r connect tree same in omega arith))
 
 pub map_bound : (tree : ComponentTree) (marked numbers : List ℕ) → (d : AreDisjointNodes tree marked) → numbers ≡ segmentation_of d.plane d.connect marked
-    → (p : ℕ) → slice_index numbers p ≤ 2 ^ 24
+    → (p : ℕ) → slice_index numbers p ≤ 2147483647
 unfolding segmentation_of pixels
 map_bound tree marked numbers d e p = go (cases_lt p (length d.plane.values))
   where
-    few : length marked ≤ 2 ^ 24
-    few = let a : length marked ≤ length tree.rows = few_marked tree marked d in let b : length tree.rows ≤ 2 ^ 24 = few_rows tree marked d in omega arith
+    few : length marked ≤ 2147483647
+    few = let a : length marked ≤ length tree.rows = few_marked tree marked d in let b : length tree.rows ≤ 2147483647 = few_rows tree marked d in omega arith
 
     past : (xs : List ℕ) (n : ℕ) → length xs ≤ n → slice_index xs n ≡ 0
     past [] n h = refl
     past (x ∷ xs) zero h = absurd (omega arith)
     past (x ∷ xs) (suc n) h = past xs n (omega arith)
 
-    go : (p < length d.plane.values) ⊎ (length d.plane.values ≤ p) → slice_index numbers p ≤ 2 ^ 24
+    go : (p < length d.plane.values) ⊎ (length d.plane.values ≤ p) → slice_index numbers p ≤ 2147483647
     go (inl l) =
         let a : slice_index numbers p ≡ source_number_at d.plane d.connect marked p =
         ap (λ (xs : List ℕ). slice_index xs p) e

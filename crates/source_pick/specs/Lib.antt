@@ -7,3 +7,4 @@ pub mod Numbers
 pub mod Locality
 pub mod Clearing
 pub mod Windows
+pub mod Sheets

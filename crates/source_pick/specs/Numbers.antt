@@ -5,14 +5,14 @@ use Rattle.node_sums.specs.Sizes.{IsUpTo, HasSizes}
 
 -- a sum of value times coordinate, a base and a sum of coordinates
 pub record IsMoment (moment base : ℤ) (sum : ℕ) : Type 0 where
-  pub moment_small : IsUpTo (2 ^ 77) moment
+  pub moment_small : IsUpTo (2 ^ 84) moment
   pub base_small : IsUpTo (2 ^ 37) base
-  pub sum_small : sum ≤ 2 ^ 40
+  pub sum_small : sum ≤ 2 ^ 47
 
 -- a moment above the base, the sum of the coordinates, the flux and the area, where each coordinate is from low to high
 pub record IsMean (moment : ℤ) (sum : ℕ) (flux : ℤ) (area low high : ℕ) : Type 0 where
   pub some : 0 < area
-  pub few : area ≤ 2 ^ 24
+  pub few : area ≤ 2147483647
   pub ordered : low ≤ high
   pub high_small : high ≤ 65535
   pub sum_low : low * area ≤ sum
@@ -25,14 +25,14 @@ pub record IsMean (moment : ℤ) (sum : ℕ) (flux : ℤ) (area low high : ℕ) 
 -- an area, and sums of products of two coordinates and of either
 pub record IsSpread (area products first second : ℕ) : Type 0 where
   pub some : 0 < area
-  pub few : area ≤ 2 ^ 24
+  pub few : area ≤ 2147483647
   pub products_small : products ≤ 2 ^ 32 * area
   pub first_small : first ≤ 2 ^ 16 * area
   pub second_small : second ≤ 2 ^ 16 * area
 
 -- what a row is made of
 pub record IsMeasured (number : ℕ) (base flux : ℤ) (width : ℕ) (s : Sums) : Type 0 where
-  pub few : number ≤ 2 ^ 24
+  pub few : number ≤ 2147483647
   pub some_columns : 0 < width
   pub few_columns : width ≤ 65535
   pub few_rows : s.first / width + 1 ≤ 65535

@@ -41,7 +41,7 @@ pub fn row(tree: &Tree, sums: &[Sums], number: u32, n: u32) -> CatRow
     requires sums { AreTheTrees tree.now sums.now }
     requires node { n < length tree.now.rows }
     requires from_one { 1 ≤ number }
-    requires few { number ≤ 2 ^ 24 }
+    requires few { number ≤ 2147483647 }
     ensures exact { ForEachPlaneOf tree.now sums.now
         (λ plane connect. result ≡ catalogue_row plane connect number n) }
     ensures columns { FitsColumns result }

@@ -15,6 +15,15 @@ ghost use Rattle.source_pick.specs.Windows.{
   OwnSourcesAreDistinct,
   TilesGiveTheCatalogue,
 };
+ghost use Rattle.source_pick.specs.Sheets.{
+  CopiesAreParts,
+  HeldPixelsHoldSources,
+  SourcesAreLarge,
+  SourcesStandInTheSheet,
+  SourcesComeFromThePlane,
+  SheetGivesTheCatalogue,
+  SheetGivesTheMap,
+};
 ghost use Rattle.source_pick.specs.Locality.{SourcesAreLocal, KeptIsAPlane, KeptHasTheSameSources};
 
 /// No two entries share a pixel.
@@ -61,4 +70,17 @@ pub fn sources_of_tiles()
     ensures own { OwnSourcesAreTheWholes }
     ensures distinct { OwnSourcesAreDistinct }
     ensures catalogue { TilesGiveTheCatalogue }
+{}
+
+/// Where the pixels of at least the threshold lie in parts that stand in a sheet as they do in the plane, with all that is
+/// beside them, the sources of the plane are those of the sheet, and its catalogue is the sheet's: the rows are taken back
+/// to the places of the plane, in the order of the least pixels there, and numbered.
+pub fn sources_of_sheets()
+    ensures parts { CopiesAreParts }
+    ensures held { HeldPixelsHoldSources }
+    ensures large { SourcesAreLarge }
+    ensures stand { SourcesStandInTheSheet }
+    ensures come { SourcesComeFromThePlane }
+    ensures catalogue { SheetGivesTheCatalogue }
+    ensures map { SheetGivesTheMap }
 {}

@@ -21,7 +21,7 @@ pub fn segment(alloc: Global, tree: &Tree, sources: &[u32]) -> Result<Vec<u32>, 
         → tree.now ≡ tree_of plane connect
         → numbers.items ≡ segmentation_of plane connect sources.now) }
     ensures one_each { IfOk result (λ numbers. length numbers.items ≡ length tree.now.node_of) }
-    ensures few { IfOk result (λ numbers. (p : ℕ) → slice_index numbers.items p ≤ 2 ^ 24) }
+    ensures few { IfOk result (λ numbers. (p : ℕ) → slice_index numbers.items p ≤ 2147483647) }
 {
     let numbers = numbers_of_nodes(alloc, tree, sources)?;
     let mut map = zeros(alloc, tree.node_of().len())?;
@@ -43,7 +43,7 @@ pub fn segment_in_parts<R: Threads + Sync>(
         → tree.now ≡ tree_of plane connect
         → numbers.items ≡ segmentation_of plane connect sources.now) }
     ensures one_each { IfOk result (λ numbers. length numbers.items ≡ length tree.now.node_of) }
-    ensures few { IfOk result (λ numbers. (p : ℕ) → slice_index numbers.items p ≤ 2 ^ 24) }
+    ensures few { IfOk result (λ numbers. (p : ℕ) → slice_index numbers.items p ≤ 2147483647) }
 {
     let numbers = numbers_of_nodes(alloc, tree, sources)?;
     let mut map = zeros(alloc, tree.node_of().len())?;
@@ -72,7 +72,7 @@ fn numbers_of_nodes(alloc: Global, tree: &Tree, sources: &[u32]) -> Result<Vec<u
 
 fn mark_sources(sources: &[u32], numbers: &mut [u32])
     requires inside { (i n : ℕ) → slice_get sources.now i ≡ Some n → n < length numbers.old }
-    requires few { length sources.now ≤ 2 ^ 24 }
+    requires few { length sources.now ≤ 2147483647 }
     requires none { (n : ℕ) → slice_index numbers.old n ≡ 0 }
     ensures { AreMarked (length numbers.old) sources.now (length sources.now) numbers.new }
 {

@@ -42,7 +42,7 @@ fn numbers_of(tree: &Tree, sums: &[Sums], number: u32, n: u32) -> [i64; CELLS_IN
     requires sums { AreTheTrees tree.now sums.now }
     requires node { n < length tree.now.rows }
     requires from_one { 1 ≤ number }
-    requires few { number ≤ 2 ^ 24 }
+    requires few { number ≤ 2147483647 }
 {
     cells(&row(tree, sums, number, n))
 }
@@ -282,6 +282,44 @@ fn source_of_its_window(rt: HostRuntime) -> Result<(), Fail> {
         rows: &[[
             1, 6, 2, 3, 16, 9, 2, 3, 2, 3, 2, 2, 2437, 2250, 222, 222, -112,
         ]],
+    };
+    try_case(&rt, rt.alloc(), 2, &case)
+}
+
+// A plane with two groups of high pixels, and in the next test a sheet that has both with all that is beside them, the
+// second one first: the rows are the same but for the places, which are moved, and the numbers.
+#[test]
+fn sources_of_two_groups(rt: HostRuntime) -> Result<(), Fail> {
+    let case = Case {
+        width: 8,
+        height: 1,
+        values: &[2, 7, 2, 2, 2, 2, 9, 8],
+        threshold: 5,
+        contrast: 1000,
+        nodes: &[1, 2],
+        map: &[0, 1, 0, 0, 0, 0, 2, 2],
+        rows: &[
+            [1, 7, 2, 1, 5, 7, 2, 2, 1, 1, 2, 1, 2000, 1000, 0, 0, 0],
+            [2, 8, 2, 2, 13, 9, 7, 8, 1, 1, 7, 1, 7461, 1000, 250, 0, 0],
+        ],
+    };
+    try_case(&rt, rt.alloc(), 1, &case)
+}
+
+#[test]
+fn sources_of_their_sheet(rt: HostRuntime) -> Result<(), Fail> {
+    let case = Case {
+        width: 7,
+        height: 1,
+        values: &[2, 9, 8, 0, 2, 7, 2],
+        threshold: 5,
+        contrast: 1000,
+        nodes: &[3, 2],
+        map: &[0, 1, 1, 0, 0, 2, 0],
+        rows: &[
+            [1, 8, 2, 2, 13, 9, 2, 3, 1, 1, 2, 1, 2461, 1000, 250, 0, 0],
+            [2, 7, 2, 1, 5, 7, 6, 6, 1, 1, 6, 1, 6000, 1000, 0, 0, 0],
+        ],
     };
     try_case(&rt, rt.alloc(), 2, &case)
 }

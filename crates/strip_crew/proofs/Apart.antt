@@ -8,7 +8,7 @@ use Rattle.std.proofs.lemmas.Int.{ints}
 use Rattle.std.proofs.lemmas.List.{length-drop}
 use Rattle.comp_tree.specs.Raster.{ReachesLevel, ComesBefore, value_at}
 use Rattle.comp_tree.specs.Joined.{IsPairOf, Joined, Or}
-use Rattle.comp_tree.specs.Forest.{no_node, link_of, IsWithin, IsHigh, IsLink, ComesEarlier, IsForest, StandsFor, JoinSame}
+use Rattle.comp_tree.specs.Forest.{no_node, link_of, LiesInStretch, IsHigh, IsLink, ComesEarlier, IsForest, StandsFor, JoinSame}
 use Rattle.comp_tree.specs.Grid.{IsAdjacency}
 use Rattle.tree_join.specs.Boundary.{IsBoundary}
 use Rattle.tree_join.specs.Strips.{IsRowOf, IsStripPair, IsCutBoundary}
@@ -75,9 +75,9 @@ module _ (plan : Plan) (is_plan : IsPlan plan) where
     linked : (p q : ℕ) → IsLink 0 links p q → q ≢ no_node → (h : ℤ) × Joined (IsHigh values 0 (length links) h) Pairs p q
     linked p q link some = ⊎_elim
         (λ (none : link_of 0 links p ≡ no_node). absurd (some (sym link.link ∙ none)))
-        (λ (kept : IsWithin 0 (length links) (link_of 0 links p) × ComesEarlier values (link_of 0 links p) p).
-        let s : IsWithin 0 (length links) q × ComesEarlier values q p =
-        subst (λ (x : ℕ). IsWithin 0 (length links) x × ComesEarlier values x p) link.link kept in
+        (λ (kept : LiesInStretch 0 (length links) (link_of 0 links p) × ComesEarlier values (link_of 0 links p) p).
+        let s : LiesInStretch 0 (length links) q × ComesEarlier values q p =
+        subst (λ (x : ℕ). LiesInStretch 0 (length links) x × ComesEarlier values x p) link.link kept in
         let level = common_level (value_at values q) (value_at values p) q p s.1 in (
           level.0,
           ((stands_gives values 0 links copied.forest small Pairs copied.stands).same level.0 p q).0

@@ -3,10 +3,11 @@ use Rattle.std.proofs.Common.{◌^◌, ◌≡◌, ℕ, zero, suc, ◌+◌, ◌-�
 use Rattle.std.proofs.Common.{sym, refl, ap, ◌∙◌, subst, inl, inr, ⊎_elim, arith, length-append, zero-mul, add-mul, mul_comm, mul-le-mul_right, is_some, None}
 use Rattle.std.proofs.Math.Nat.{div-lt_iff_lt-mul, le-div_iff_mul-le}
 use Rattle.std.proofs.lemmas.Bool.{cases_eq, cases_lt, and_parts}
+use Rattle.comp_tree.specs.Limits.{most_pixels}
 use Rattle.comp_tree.specs.declared.shape.Connect.{Connect}
 use Rattle.comp_tree.specs.declared.shape.Shape.{Shape}
 use Rattle.comp_tree.specs.Joined.{Or}
-use Rattle.comp_tree.specs.Forest.{no_node, value_at, IsWithin, IsLink, IsForest, StandsFor, JoinSame}
+use Rattle.comp_tree.specs.Forest.{no_node, value_at, LiesInStretch, IsLink, IsForest, StandsFor, JoinSame}
 use Rattle.comp_tree.specs.Grid.{are_adjacent, IsAdjacency, IsInner}
 use Rattle.tree_join.specs.Groups.{HasPairsWithin}
 use Rattle.tree_join.specs.Cuts.{IsCut}
@@ -95,7 +96,7 @@ module _ (plan : Plan) (is_plan : IsPlan plan) where
   row_mono : (a b : ℕ) → a ≤ b → a * width ≤ b * width
   row_mono a b h = mul-le-mul_right width h
 
-  top_small : (r : ℕ) → r ≤ plan.plane.shape.height → r * width ≤ 2 ^ 24
+  top_small : (r : ℕ) → r ≤ plan.plane.shape.height → r * width ≤ most_pixels
   top_small r h = let a = row_mono r plan.plane.shape.height h in let b = mul_comm plan.plane.shape.height width in let e =
       plan.plane.shape.within_limits.few_pixels in omega arith
 
@@ -121,7 +122,7 @@ module _ (plan : Plan) (is_plan : IsPlan plan) where
     to = row_at plan (i + 1)
 
     -- pixels of the strips below i
-    pair_low : (p s : ℕ) → s < i → IsRowOf cut s (p / width) → IsWithin 0 (from * width) p
+    pair_low : (p s : ℕ) → s < i → IsRowOf cut s (p / width) → LiesInStretch 0 (from * width) p
     pair_low p s h r = record {
       low = omega arith;
       high = (let e = row_is i near in let u = row_under s i h near in let b = r.high (omega arith) in let l : p / width < from = omega arith in let g =
@@ -188,8 +189,8 @@ module _ (plan : Plan) (is_plan : IsPlan plan) where
         let stands' : StandsFor values (0 + length links) more New = subst (λ (x : ℕ). StandsFor values x more New) (sym at) stands in
         let both = forest_groups values 0 links more small copied.forest forest' in
         let old_inside : HasPairsWithin 0 (length links) (IsStripPair values width connect cut i) = record {
-          one = λ p q e. subst (λ (x : ℕ). IsWithin 0 x p) (sym copied.count) (pair_low p e.strip e.low e.one);
-          other = λ p q e. subst (λ (x : ℕ). IsWithin 0 x q) (sym copied.count) (pair_low q e.strip e.low e.other);
+          one = λ p q e. subst (λ (x : ℕ). LiesInStretch 0 x p) (sym copied.count) (pair_low p e.strip e.low e.one);
+          other = λ p q e. subst (λ (x : ℕ). LiesInStretch 0 x q) (sym copied.count) (pair_low q e.strip e.low e.other);
         } in
         let new_inside : HasPairsWithin (0 + length links) (length more) New = record {
           one = λ p q e. record { low = (let l = e.one.low in omega arith); high = (let l = e.one.high in omega arith) };
@@ -247,7 +248,7 @@ module _ (plan : Plan) (is_plan : IsPlan plan) where
       → StandsFor values 0 new (IsAdjacency values width connect)
   all_stand links new copied forest long joined =
       let top : row_at plan (length cut) ≡ plan.plane.shape.height = past_or cut (length cut) plan.plane.shape.height (omega arith) in
-      let small : length links ≤ 2 ^ 24 = (let c = copied.count in let b = top_small (row_at plan (length cut)) (row_top (length cut)) in omega arith) in
+      let small : length links ≤ most_pixels = (let c = copied.count in let b = top_small (row_at plan (length cut)) (row_top (length cut)) in omega arith) in
       let n : ℕ = length links in
       let B : ℕ → ℕ → Type 0 = IsCutBoundary values width connect cut (length cut) in
       let S : ℕ → ℕ → Type 0 = IsStripPair values width connect cut (length cut) in

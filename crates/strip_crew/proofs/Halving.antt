@@ -8,7 +8,7 @@ use Rattle.std.proofs.lemmas.List.{get_or-take, get_or-drop, length-take, length
 use Rattle.comp_tree.specs.declared.shape.Connect.{Connect}
 use Rattle.comp_tree.specs.Raster.{Raster}
 use Rattle.comp_tree.specs.Joined.{Or}
-use Rattle.comp_tree.specs.Forest.{no_node, link_of, IsWithin, IsLink, ComesEarlier, IsForest, LinksToEarlier, JoinSame}
+use Rattle.comp_tree.specs.Forest.{no_node, link_of, LiesInStretch, IsLink, ComesEarlier, IsForest, LinksToEarlier, JoinSame}
 use Rattle.tree_join.specs.Boundary.{IsBoundary}
 use Rattle.strip_crew.specs.Boundaries.{IsAcross, AreRows, AreApart, IsRowsPair}
 use Rattle.strip_crew.specs.Halves.{IsGroup, IsGroupJoined}
@@ -33,7 +33,7 @@ group_none plane connect first_row links rows group none = record {
 
 -- the pixels of the boundaries of a group are the group's
 pair_within : (values : List (Option ℤ)) (width : ℕ) (connect : Connect) (first_row count : ℕ) (rows : List ℕ) → 0 < width → AreRows width first_row count rows
-    → (x y : ℕ) → IsRowsPair values width connect rows x y → IsWithin (first_row * width) count x × IsWithin (first_row * width) count y
+    → (x y : ℕ) → IsRowsPair values width connect rows x y → LiesInStretch (first_row * width) count x × LiesInStretch (first_row * width) count y
 pair_within values width connect first_row count rows pos are x y pair =
     let row : ℕ = get_or rows pair.place 0 in
     let low : first_row < row = are.low pair.place pair.inside in
@@ -100,31 +100,31 @@ module _ (plane : Raster) (connect : Connect) (first_row : ℕ) (links rows : Li
   whole_apart : AreApart width first (left ++ right) rows
   whole_apart = subst (λ (l : List ℕ). AreApart width first l rows) is group.apart
 
-  left_kept : (p : ℕ) → IsWithin first (length left) p → LinksToEarlier values first left p
+  left_kept : (p : ℕ) → LiesInStretch first (length left) p → LinksToEarlier values first left p
   left_kept p w = let e = link_left first left right p w in let q : ℕ = link_of first (left ++ right) p in let high : p < first + length left = w.high in ⊎_elim
       (λ (n : q ≡ no_node). inl (sym e ∙ n))
-      (λ (s : IsWithin first (length (left ++ right)) q × ComesEarlier values q p). let low : first ≤ q =
+      (λ (s : LiesInStretch first (length (left ++ right)) q × ComesEarlier values q p). let low : first ≤ q =
       s.0.low in let top : q < first + (length left + length right) = rw length-append at s.0.high in
       let fits = group.fits in let small = group.small in let c = counts in ⊎_elim
       (λ (stays : q < first + length left). inr
-      (subst (λ (x : ℕ). IsWithin first (length left) x × ComesEarlier values x p) e (record { low = low; high = stays }, s.1)))
+      (subst (λ (x : ℕ). LiesInStretch first (length left) x × ComesEarlier values x p) e (record { low = low; high = stays }, s.1)))
       (λ (leaves : first + length left ≤ q). absurd
       (whole_apart.apart k p q near (record { within = part_left first left right p w; link = refl }) (λ n. omega arith)
       (inl (omega (arith, at), omega (arith, at)))))
       (cases_lt q (first + length left)))
       (whole.earlier p (part_left first left right p w))
 
-  right_kept : (p : ℕ) → IsWithin (first + length left) (length right) p → LinksToEarlier values (first + length left) right p
+  right_kept : (p : ℕ) → LiesInStretch (first + length left) (length right) p → LinksToEarlier values (first + length left) right p
   right_kept p w = let e = link_right first left right p w in let q : ℕ = link_of first (left ++ right) p in let low : first + length left ≤ p = w.low in ⊎_elim
       (λ (n : q ≡ no_node). inl (sym e ∙ n))
-      (λ (s : IsWithin first (length (left ++ right)) q × ComesEarlier values q p). let top : q < first + (length left + length right) =
+      (λ (s : LiesInStretch first (length (left ++ right)) q × ComesEarlier values q p). let top : q < first + (length left + length right) =
       rw length-append at s.0.high in
       let fits = group.fits in let small = group.small in let c = counts in ⊎_elim
       (λ (leaves : q < first + length left). absurd
       (whole_apart.apart k p q near (record { within = part_right first left right p w; link = refl }) (λ n. omega arith)
       (inr (omega (arith, at), omega (arith, at)))))
       (λ (stays : first + length left ≤ q). inr
-      (subst (λ (x : ℕ). IsWithin (first + length left) (length right) x × ComesEarlier values x p) e (record { low = stays; high = omega arith }, s.1)))
+      (subst (λ (x : ℕ). LiesInStretch (first + length left) (length right) x × ComesEarlier values x p) e (record { low = stays; high = omega arith }, s.1)))
       (cases_lt q (first + length left)))
       (whole.earlier p (part_right first left right p w))
 
@@ -225,18 +225,18 @@ module _ (plane : Raster) (connect : Connect) (first_row : ℕ) (links rows : Li
     pos : 0 < width
     pos = plane.shape.within_limits.some_columns
 
-    front_within : (x y : ℕ) → IsWithin first (length (above ++ below)) x → IsWithin first (length (above ++ below)) y → Or Left Front x y
-        → IsWithin first (length above) x × IsWithin first (length above) y
-    front_within x y wx wy (inl l) = subst (λ (n : ℕ). IsWithin first n x × IsWithin first n y) (sym above_is.same_length)
+    front_within : (x y : ℕ) → LiesInStretch first (length (above ++ below)) x → LiesInStretch first (length (above ++ below)) y → Or Left Front x y
+        → LiesInStretch first (length above) x × LiesInStretch first (length above) y
+    front_within x y wx wy (inl l) = subst (λ (n : ℕ). LiesInStretch first n x × LiesInStretch first n y) (sym above_is.same_length)
         (link_inside values first above below new_small above_is.forest below_forest first left front_group.forest x y wy l)
-    front_within x y wx wy (inr p) = subst (λ (n : ℕ). IsWithin first n x × IsWithin first n y) (sym above_is.same_length)
+    front_within x y wx wy (inr p) = subst (λ (n : ℕ). LiesInStretch first n x × LiesInStretch first n y) (sym above_is.same_length)
         (pair_within values width connect first_row (length left) front pos front_rows x y p)
 
-    back_within : (x y : ℕ) → IsWithin first (length (above ++ below)) x → IsWithin first (length (above ++ below)) y → Or Right Back x y
-        → IsWithin (row * width) (length below) x × IsWithin (row * width) (length below) y
-    back_within x y wx wy (inl l) = subst (λ (n : ℕ). IsWithin (row * width) n x × IsWithin (row * width) n y) (sym below_is.same_length)
+    back_within : (x y : ℕ) → LiesInStretch first (length (above ++ below)) x → LiesInStretch first (length (above ++ below)) y → Or Right Back x y
+        → LiesInStretch (row * width) (length below) x × LiesInStretch (row * width) (length below) y
+    back_within x y wx wy (inl l) = subst (λ (n : ℕ). LiesInStretch (row * width) n x × LiesInStretch (row * width) n y) (sym below_is.same_length)
         (link_inside values first above below new_small above_is.forest below_forest (row * width) right back_group.forest x y wy l)
-    back_within x y wx wy (inr p) = subst (λ (n : ℕ). IsWithin (row * width) n x × IsWithin (row * width) n y) (sym below_is.same_length)
+    back_within x y wx wy (inr p) = subst (λ (n : ℕ). LiesInStretch (row * width) n x × LiesInStretch (row * width) n y) (sym below_is.same_length)
         (pair_within values width connect row (length right) back pos back_rows x y p)
 
     above_same : JoinSame values first (length above) (IsLink first above) (Or Left Front)
@@ -249,7 +249,7 @@ module _ (plane : Raster) (connect : Connect) (first_row : ℕ) (links rows : Li
     halves_same : JoinSame values first (length links) (IsLink first (above ++ below)) (Or (Or Left Front) (Or Right Back))
     halves_same = subst (λ (n : ℕ). JoinSame values first n (IsLink first (above ++ below)) (Or (Or Left Front) (Or Right Back))) halves_length
         (groups_same values first above below new_small above_is.forest below_forest (Or Left Front) (Or Right Back) front_within
-        (λ x y wx wy e. subst (λ (n : ℕ). IsWithin n (length below) x × IsWithin n (length below) y) (sym base) (back_within x y wx wy e))
+        (λ x y wx wy e. subst (λ (n : ℕ). LiesInStretch n (length below) x × LiesInStretch n (length below) y) (sym base) (back_within x y wx wy e))
         above_same below_same)
 
     links_same : JoinSame values first (length links) (IsLink first links) (Or Left Right)

@@ -1,5 +1,5 @@
 -- Model: the fixed data of a run, and the job of each of its strips.
-use Rattle.std.specs.Prelude.{◌≡◌, ℕ, ◌+◌, ◌*◌, ◌/◌, ◌<◌, ◌≤◌, List, [], map, length, slice_index, slice_index_or}
+use Rattle.std.specs.Prelude.{◌≡◌, ℕ, ◌+◌, ◌-◌, ◌*◌, ◌/◌, ◌^◌, ◌<◌, ◌≤◌, List, [], map, length, slice_index, slice_index_or}
 use Rattle.std.specs.List.{range_with_len}
 use Rattle.std.proofs.Common.{arith}
 use Rattle.comp_tree.specs.declared.shape.Connect.{Connect}
@@ -38,6 +38,11 @@ one_pixel = record { some_columns = omega arith; some_rows = omega arith; few_co
 -- the run of a seat that was joined away: of one pixel, with no strip and no worker
 abbrev pub no_run : Run
 no_run = run_with (record { shape = record { width = 1; height = 1; within_limits = one_pixel }; values = [] }) Four [] 0
+
+-- in a plane of more than 2 ^ 24 pixels no strip of a cut has more than that, which is as many as its flooding may have
+abbrev pub HasShortStrips : ℕ → ℕ → List ℕ → Type 0
+HasShortStrips width height cut =
+    2 ^ 24 < width * height → (i : ℕ) → i < length cut → (slice_index_or cut (i + 1) height - slice_index cut i) * width ≤ 2 ^ 24
 
 -- the limits of a run
 pub record IsSized (strips workers : ℕ) : Type 0 where

@@ -6,7 +6,7 @@ ghost use Rattle.comp_tree.specs.Grid.{IsAdjacency};
 ghost use Rattle.tree_join.specs.Cuts.{IsCut};
 ghost use Rattle.comp_tree.specs.Forest.{IsForest, StandsFor};
 ghost use Rattle.strip_crew.specs.Copied.{AreCopied};
-ghost use Rattle.strip_crew.specs.Run.{IsSized, plan_of, run_with, strips};
+ghost use Rattle.strip_crew.specs.Run.{HasShortStrips, IsSized, plan_of, run_with, strips};
 ghost use Rattle.strip_crew.specs.Counting.{fresh};
 ghost use Rattle.strip_crew.specs.Claims.{view, run_of, opening_view, AreReady, IsRunOver};
 ghost use Rattle.strip_crew.specs.Workers.{AreFlooded, IsRecruit, IsVeteran, HasPast, HasSettled};
@@ -287,6 +287,7 @@ fn flood_strips<R: Threads + Sync, G: Gate>(
     gate: &G,
 ) -> Result<Vec<u32>, OutOfMemory>
     requires cut { IsCut plane.now.shape.height cut.now }
+    requires short { HasShortStrips plane.now.shape.width plane.now.shape.height cut.now }
     requires some { 0 < workers }
     requires most { workers ≤ 64 }
     ensures { IfOk result
@@ -305,8 +306,8 @@ fn flood_strips<R: Threads + Sync, G: Gate>(
 /// cut, the number of workers and the schedule.
 ///
 /// `cut` has the first row of each strip: it begins with 0 and rises, up to a row of the plane (`even_cut` gives such
-/// a one). There are from 1 to 64 workers, each in a thread of its own where one can be made; else they run one after
-/// another. All memory is taken before the first of them starts: the jobs of the strips (prepared in parallel), the
+/// a one). In a plane of more than 2^24 pixels no strip has more than that. There are from 1 to 64 workers, each in a
+/// thread of its own where one can be made; else they run one after another. All memory is taken before the first of them starts: the jobs of the strips (prepared in parallel), the
 /// table of claims, a place for each worker's seat, and the links, which one strip's job has already. Once all strips are
 /// flooded, `join_group` joins them with 6 forks, so up to 64 groups of strips at once, whatever the number of workers.
 pub fn flood_all<R: Threads + Sync, G: Gate>(
@@ -319,6 +320,7 @@ pub fn flood_all<R: Threads + Sync, G: Gate>(
     gate: &G,
 ) -> Result<Forest, OutOfMemory>
     requires cut { IsCut plane.now.shape.height cut.now }
+    requires short { HasShortStrips plane.now.shape.width plane.now.shape.height cut.now }
     requires some { 0 < workers }
     requires most { workers ≤ 64 }
     ensures count { IfOk result (λ forest. length forest ≡ length plane.now.values) }

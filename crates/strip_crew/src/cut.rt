@@ -1,6 +1,6 @@
 //! Cuts of a plane into strips, and the joining of strips at their boundaries.
 
-ghost use Rattle.std.specs.Prelude.{◌≡◌, ℕ, ◌<◌, ◌≤◌, min, IfOk, length};
+ghost use Rattle.std.specs.Prelude.{◌≡◌, ℕ, ◌+◌, ◌*◌, ◌<◌, ◌≤◌, min, IfOk, length, slice_index, slice_index_or};
 ghost use Rattle.comp_tree.specs.Forest.{IsForest, StandsFor};
 ghost use Rattle.comp_tree.specs.Grid.{IsAdjacency};
 ghost use Rattle.tree_join.specs.Cuts.{IsCut};
@@ -24,6 +24,8 @@ pub fn even_cut(alloc: Global, height: u32, strips: u32) -> Result<Vec<u32>, Out
     requires most_strips { strips ≤ 65535 }
     ensures rows { IfOk result (λ cut. cut.items ≡ even_rows height (min height strips)) }
     ensures cut { IfOk result (λ cut. IsCut height cut.items) }
+    ensures even { IfOk result (λ cut. (n : ℕ) → height ≤ n * min height strips → (i : ℕ) → i < length cut.items
+        → slice_index_or cut.items (i + 1) height ≤ slice_index cut.items i + n) }
 {
     let count = height.min(strips);
     let mut cut = Vec::with_capacity(alloc, count as usize)?;

@@ -2,7 +2,7 @@
 
 ghost use Rattle.std.specs.Prelude.{◌≡◌, ℕ, ◌+◌, ◌*◌, ◌<◌, ◌≤◌, ◌++◌, min, List, IfOk, OnOk, length, slice_index, vec_items};
 ghost use Rattle.tree_join.specs.Cuts.{IsCut};
-ghost use Rattle.strip_crew.specs.Run.{plan_of, row_at};
+ghost use Rattle.strip_crew.specs.Run.{plan_of, row_at, HasShortStrips};
 ghost use Rattle.strip_crew.specs.Grouping.{groups_of};
 ghost use Rattle.strip_crew.specs.Claims.{AreReady};
 ghost use Rattle.strip_crew.specs.Workers.{AreGroup, AreParts};
@@ -39,6 +39,7 @@ fn prepare_group(
     limit: usize,
 ) -> Result<Vec<StripJob>, OutOfMemory>
     requires cut { IsCut plane.now.shape.height cut.now }
+    requires short { HasShortStrips plane.now.shape.width plane.now.shape.height cut.now }
     requires order { first ≤ limit }
     requires inside { limit ≤ length cut.now }
     ensures { IfOk result (λ jobs. AreReady (plan_of plane.now connect cut.now) first limit jobs.items) }
@@ -60,6 +61,7 @@ fn prepare_part(
     group: usize,
 ) -> Result<Vec<StripJob>, OutOfMemory>
     requires cut { IsCut plane.now.shape.height cut.now }
+    requires short { HasShortStrips plane.now.shape.width plane.now.shape.height cut.now }
     requires size { size ≤ length cut.now }
     requires inside { group * size < length cut.now }
     ensures { IfOk result (λ jobs. AreGroup (plan_of plane.now connect cut.now) size group jobs.items) }
@@ -79,6 +81,7 @@ fn prepare_parts<R: Threads + Sync>(
     size: usize,
 ) -> Result<Vec<Result<Vec<StripJob>, OutOfMemory>>, OutOfMemory>
     requires cut { IsCut plane.now.shape.height cut.now }
+    requires short { HasShortStrips plane.now.shape.width plane.now.shape.height cut.now }
     requires some { 0 < size }
     requires most { size ≤ length cut.now }
     ensures parts { IfOk result
@@ -91,6 +94,7 @@ fn prepare_parts<R: Threads + Sync>(
         cut.len().div_ceil(size),
         &|group: usize| -> Result<Vec<StripJob>, OutOfMemory>
             requires { IsCut plane.now.shape.height cut.now
+                × HasShortStrips plane.now.shape.width plane.now.shape.height cut.now
                 × (size ≤ length cut.now)
                 × (group * size < length cut.now) }
             ensures { IfOk result (λ jobs. AreGroup (plan_of plane.entry.now connect cut.entry.now) size group jobs.items) }
@@ -109,6 +113,7 @@ pub fn prepare_all<R: Threads + Sync>(
     workers: u32,
 ) -> Result<Vec<StripJob>, OutOfMemory>
     requires cut { IsCut plane.now.shape.height cut.now }
+    requires short { HasShortStrips plane.now.shape.width plane.now.shape.height cut.now }
     requires workers { 0 < workers }
     ensures { IfOk result
         (λ jobs. AreReady (plan_of plane.now connect cut.now) 0 (length cut.now) jobs.items) }

@@ -4,6 +4,7 @@ ghost use Rattle.std.specs.Prelude.{◌≡◌, ◌+◌, ◌<◌, ◌≤◌, leng
 ghost use Rattle.std.specs.List.{range_with_len};
 ghost use Rattle.tree_join.specs.Cuts.{IsCut};
 
+use crate::component::least_strips;
 use crate::prepare::prepare_all;
 use crate::{
     ClaimTable, Gate, Key, OpenGate, component_tree, even_cut, flood_all, join_group, worker,
@@ -41,6 +42,23 @@ fn even_cuts_round_down(rt: HostRuntime) -> Result<(), Fail> {
     try_even(&rt, rt.alloc(), 3, 2, &[0, 1])?;
     try_even(&rt, rt.alloc(), 5, 3, &[0, 1, 3])?;
     try_even(&rt, rt.alloc(), 3, 9, &[0, 1, 2])
+}
+
+// Whether a plane of this size is cut into so many strips at least.
+fn has_least_strips(width: u32, height: u32, strips: u32) -> bool {
+    match Shape::wide(width, height) {
+        Some(shape) => least_strips(shape) == strips,
+        None => false,
+    }
+}
+
+// In 65,535 columns up to 256 rows have no more than 2^24 pixels.
+#[test]
+fn strips_of_large_planes_are_short(rt: HostRuntime) {
+    assert!(rt; has_least_strips(65535, 256, 1));
+    assert!(rt; has_least_strips(65535, 257, 2));
+    assert!(rt; has_least_strips(65535, 32768, 128));
+    assert!(rt; has_least_strips(4096, 4096, 1));
 }
 
 // The width of each plane, and its pixels row by row: digits are values, and a point is an undefined pixel.
@@ -139,8 +157,9 @@ fn claims_of_one_worker<R: Threads + Sync>(
 ) -> Result<u64, Fail>
     requires { IsCut plane.now.shape.height cut.now }
 {
-    // for its clauses alone: how many rows a plane has
-    let _shape = plane.shape();
+    if plane.shape().pixels() > 1 << 24 {
+        return Err("a large plane".into());
+    }
     let jobs = prepare_all(rt, alloc, plane, Connect::Four, cut, 1)?;
     let mut rows = Vec::new(alloc);
     rows.extend_from_slice(cut)?;
@@ -258,6 +277,9 @@ fn wanted_strips(flooded: bool) -> u64 {
 // Whether the plane of two hills was flooded in three strips.
 fn flood_hills<R: Threads + Sync, G: Gate>(rt: &R, alloc: Global, gate: &G) -> Result<bool, Fail> {
     let plane = two_hills(alloc)?;
+    if plane.shape().pixels() > 1 << 24 {
+        return Err("a large plane".into());
+    }
     let cut = even_cut(alloc, plane.shape().height, 3)?;
     Ok(flood_all(rt, alloc, &plane, Connect::Four, &cut, 2, gate).is_ok())
 }

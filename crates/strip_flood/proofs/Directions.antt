@@ -7,7 +7,7 @@ use Rattle.std.proofs.lemmas.Bool.Decides.{nat_tests}
 use Rattle.std.proofs.lemmas.Nat.{div-mul-add, mod-mul-add, mod_below, div-add-mod'}
 use Rattle.comp_tree.specs.declared.shape.Connect.{Connect}
 use Rattle.comp_tree.specs.declared.shape.Connect.TheVariants.{Four, Eight}
-use Rattle.comp_tree.specs.Forest.{value_at, IsWithin}
+use Rattle.comp_tree.specs.Forest.{value_at, LiesInStretch}
 use Rattle.comp_tree.specs.Grid.{distance, are_neighbours, IsInner}
 use Rattle.strip_flood.specs.Flood.{direction_count, cell, cell_of, direction, IsAt, IsNeighbour, HasCell}
 use Rattle.comp_tree.proofs.Exported.{adjacent_turned, neighbours_four, neighbours_eight}
@@ -171,7 +171,7 @@ at_near Eight width p k q pos l at =
     ((neighbours_eight width p q).1 g.0, ap (λ m. cond (nat_lt m 4) m (m - 1)) g.1 ∙ ce.1.1)
 
 -- the neighbour that was found
-pub found : (connect : Connect) (width first count p k q : ℕ) → 0 < width → k < direction_count connect → IsWithin first count q
+pub found : (connect : Connect) (width first count p k q : ℕ) → 0 < width → k < direction_count connect → LiesInStretch first count q
     → IsAt width p (cell connect k) q → IsNeighbour connect width first count p k q
 found connect width first count p k q pos l w at = record {
   inside = w;
@@ -192,7 +192,7 @@ cell_found connect width first count p k q pos l there e =
     (record { place = e; low = there.left; high = there.right })
 
 -- a neighbour's cell is there
-pub near_cell : (connect : Connect) (width first count p q : ℕ) → 0 < width → IsWithin first count q → are_neighbours connect width p q ≡ true
+pub near_cell : (connect : Connect) (width first count p q : ℕ) → 0 < width → LiesInStretch first count q → are_neighbours connect width p q ≡ true
     → HasCell width first count p (cell connect (direction connect width p q))
 near_cell connect width first count p q pos w e = by (cell connect (direction connect width p q)) (near_at connect width p q pos e) where
   by : (m : ℕ) → IsAt width p m q → HasCell width first count p m

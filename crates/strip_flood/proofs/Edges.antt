@@ -7,7 +7,7 @@ use Rattle.std.proofs.lemmas.Nat.{mod_below, div-add-mod'}
 use Rattle.std.proofs.lemmas.Nat.Bits.{bit_at-zero, bit_at_and, bit_at_or, bit_at_not, bit_at_ones}
 use Rattle.comp_tree.specs.declared.shape.Connect.{Connect}
 use Rattle.comp_tree.specs.declared.shape.Connect.TheVariants.{Four, Eight}
-use Rattle.comp_tree.specs.Forest.{IsWithin}
+use Rattle.comp_tree.specs.Forest.{LiesInStretch}
 use Rattle.strip_flood.specs.Flood.{direction_count, cell, IsInterior, HasCell, HasDirections, AreSides}
 use Rattle.strip_flood.proofs.Directions.{cell_nine}
 use Rattle.strip_flood.proofs.Flow.{ends_small}
@@ -100,7 +100,7 @@ rows_by width first count p r c a b low high less at start end = record {
   to : p + width ≤ first + count + c
   to = let t : (r + 1) * width ≤ b * width = mul-le-mul_right width (omega (arith, ended)) in omega arith
 
-pub in_rows : (width first count p : ℕ) → 0 < width → first % width ≡ 0 → (first + count) % width ≡ 0 → IsWithin first count p
+pub in_rows : (width first count p : ℕ) → 0 < width → first % width ≡ 0 → (first + count) % width ≡ 0 → LiesInStretch first count p
     → IsInRows width first count p (p % width)
 in_rows width first count p pos starts ends inside = rows_by width first count p (p / width) (p % width) (first / width) ((first + count) / width)
     inside.low inside.high (mod_below p width pos) (div-add-mod' p width)
@@ -154,7 +154,7 @@ pub record IsOver (Edge Inner : Type 0) (side over : ℕ) : Type 0 where
   pub inner : Inner → over ≡ 0
 
 module _ (connect : Connect) (width first count p : ℕ) (pos : 0 < width) (starts : first % width ≡ 0) (ends : (first + count) % width ≡ 0)
-    (inside : IsWithin first count p) (above left right below a l r b : ℕ) (sides : AreSides connect above left right below)
+    (inside : LiesInStretch first count p) (above left right below a l r b : ℕ) (sides : AreSides connect above left right below)
     (oa : IsOver (p - first < width) (width ≤ p - first) above a) (ol : IsOver (p % width ≡ 0) (0 < p % width) left l)
     (or : IsOver (width ≤ p % width + 1) (p % width + 1 < width) right r) (ob : IsOver (first + count ≤ p + width) (p + width < first + count) below b)
     (fits : bit_or (bit_or (bit_or a l) r) b < 2 ^ 32) where
@@ -251,7 +251,7 @@ module _ (connect : Connect) (width first count p : ℕ) (pos : 0 < width) (star
   edge_directions = record { there = there; all = all }
 
 -- a pixel with all nine around it has all directions
-pub inner_directions : (connect : Connect) (width first count p : ℕ) → 0 < width → first % width ≡ 0 → (first + count) % width ≡ 0 → IsWithin first count p
+pub inner_directions : (connect : Connect) (width first count p : ℕ) → 0 < width → first % width ≡ 0 → (first + count) % width ≡ 0 → LiesInStretch first count p
     → IsInterior width first count p → HasDirections connect width first count p (2 ^ direction_count connect - 1)
 inner_directions connect width first count p pos starts ends inside inner = record {
   there = λ k more e. has_cell width first count p pos (in_rows width first count p pos starts ends inside) inside.high (mod_below p width pos)

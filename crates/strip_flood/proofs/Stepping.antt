@@ -4,7 +4,7 @@ use Rattle.std.proofs.Common.{◌∙◌, ⊎_elim, arith, length-set, get_or-set
 use Rattle.std.proofs.lemmas.Bool.{cases_eq, cases_lt}
 use Rattle.comp_tree.specs.Joined.{Joined, Or, Only}
 use Rattle.strip_flood.specs.Joining.{Both, With, AllBut, IsSound, IsComplete}
-use Rattle.comp_tree.specs.Forest.{no_node, ComesEarlier, IsWithin, IsHigh, link_of, IsLink, IsForest}
+use Rattle.comp_tree.specs.Forest.{no_node, ComesEarlier, LiesInStretch, IsHigh, link_of, IsLink, IsForest}
 use Rattle.comp_tree.specs.Grid.{IsInner}
 use Rattle.strip_flood.specs.Flood.{Ground, FloodState, state_with, list_at, direction_count, direction, IsOf, rank_of, cursor_of, IsInQueue, IsEarliestKept}
 use Rattle.strip_flood.specs.Flood.{IsOpen, WasLookedAt, IsRanked, IsListed, IsKeptAt, IsFair}
@@ -238,8 +238,8 @@ module _ (g : Ground) (s : FloodState) (ok : IsRanked g) (fair : IsFair g s) (a 
   links : List ℕ
   links = s.links
 
-  wide : (x : ℕ) → IsOf g x → IsWithin g.first (length s.links) x
-  wide x w = subst (λ n. IsWithin g.first n x) (sym fair.links_length) w
+  wide : (x : ℕ) → IsOf g x → LiesInStretch g.first (length s.links) x
+  wide x w = subst (λ n. LiesInStretch g.first n x) (sym fair.links_length) w
 
   pub hung_forest : IsForest g.values g.first (set s.links (a - g.first) b)
   hung_forest = forest_hung g.first s.links a b (wide a wa) g.values fair.forest (wide b wb) earlier

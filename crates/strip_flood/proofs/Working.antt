@@ -12,9 +12,9 @@ use Rattle.std.proofs.lemmas.Option.{slice_get_past, slice_get-get_or}
 use Rattle.std.specs.declared.alloc.Global.{Global}
 use Rattle.std.specs.declared.vec.Vec.{Vec}
 use Rattle.comp_tree.specs.declared.shape.Connect.{Connect}
-use Rattle.comp_tree.specs.Forest.{no_node, value_at, ReachesLevel, ComesBefore, IsWithin, link_of, IsForest, StandsFor}
+use Rattle.comp_tree.specs.Forest.{no_node, value_at, ReachesLevel, ComesBefore, LiesInStretch, link_of, IsForest, StandsFor}
 use Rattle.comp_tree.specs.Defined.{HasValue}
-use Rattle.comp_tree.specs.Limits.{IsWithinLimits}
+use Rattle.comp_tree.specs.Limits.{most_pixels, IsWithinLimits}
 use Rattle.comp_tree.specs.Raster.{Raster}
 use Rattle.comp_tree.specs.Counts.{count_below, sum_below, count_defined}
 use Rattle.comp_tree.specs.Grid.{are_adjacent, are_neighbours, IsInner}
@@ -71,7 +71,7 @@ module _ (levels : List ℤ) (rising : IsRising levels) where
 module _ (values : List (Option ℤ)) (width : ℕ) (connect : Connect) (first : ℕ) (ranks : List ℕ) (levels : List ℤ) (pos_width : 0 < width)
     (small : first + length ranks ≤ no_node) (rising : IsRising levels)
     (same : (i : ℕ) → i < length (ranked_values levels ranks) → value_at values (first + i) ≡ get_or (ranked_values levels ranks) i None) where
-  value_is : (p : ℕ) → IsWithin first (length ranks) p → value_at values p ≡ slice_get levels (get_or ranks (p - first) 0)
+  value_is : (p : ℕ) → LiesInStretch first (length ranks) p → value_at values p ≡ slice_get levels (get_or ranks (p - first) 0)
   value_is p w = let a : first ≤ p = w.low in let b : p < first + length ranks = w.high in let at : first + (p - first) ≡ p = omega arith in
       let l : p - first < length ranks = omega arith in
       let m : p - first < length (ranked_values levels ranks) = rw length-map l in
@@ -214,11 +214,11 @@ inner_agree v w width connect first count a =
 
 -- the strip lies in the plane
 pub strip_small : (width height first_row end_row count : ℕ) → IsWithinLimits width height → first_row < end_row → end_row ≤ height
-    → count ≡ (end_row - first_row) * width → first_row * width + count ≤ 2 ^ 24
+    → count ≡ (end_row - first_row) * width → first_row * width + count ≤ most_pixels
 strip_small width height first_row end_row count limits l h e = by (end_row - first_row) (omega arith) e where
-  by : (n : ℕ) → first_row + n ≡ end_row → count ≡ n * width → first_row * width + count ≤ 2 ^ 24
+  by : (n : ℕ) → first_row + n ≡ end_row → count ≡ n * width → first_row * width + count ≤ most_pixels
   by n at c = let whole : (first_row + n) * width ≤ height * width = mul-le-mul_right width (omega arith) in
-      let limit : width * height ≤ 2 ^ 24 = limits.few_pixels in omega arith
+      let limit : width * height ≤ most_pixels = limits.few_pixels in omega arith
 
 -- whole rows end where a row does
 whole_rows : (width n : ℕ) → 0 < width → n * width % width ≡ 0
@@ -236,7 +236,7 @@ pub strip_known : (connect : Connect) (width height first_row end_row : ℕ) (ra
     → length ranks.items ≡ (end_row - first_row) * width → IsRising levels.items → HasOffsets connect width offsets
     → IsStrip (record { connect = connect; width = width; first = first_row * width; ranks = ranks; levels = levels; offsets = offsets })
 strip_known connect width height first_row end_row ranks levels offsets limits rows inside count rising far =
-    let small : first_row * width + length ranks.items ≤ 2 ^ 24 = strip_small width height first_row end_row (length ranks.items) limits rows inside count in
+    let small : first_row * width + length ranks.items ≤ most_pixels = strip_small width height first_row end_row (length ranks.items) limits rows inside count in
     record {
       ranked = job_ranked (plane_values (first_row * width) levels.items ranks.items) width connect
           (first_row * width) ranks.items levels.items limits.some_columns (omega arith) rising

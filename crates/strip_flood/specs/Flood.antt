@@ -4,7 +4,7 @@ use Rattle.std.specs.Prelude.{Bool, ◌&&◌, IsTrue, List, [], length, slice_in
 use Rattle.std.specs.Int.{bit_at}
 use Rattle.comp_tree.specs.declared.shape.Connect.{Connect}
 use Rattle.comp_tree.specs.declared.shape.Connect.TheVariants.{Four, Eight}
-use Rattle.comp_tree.specs.Forest.{no_node, value_at, ReachesLevel, ComesEarlier, IsWithin, IsHigh, link_of, IsLink, IsForest}
+use Rattle.comp_tree.specs.Forest.{no_node, value_at, ReachesLevel, ComesEarlier, LiesInStretch, IsHigh, link_of, IsLink, IsForest}
 use Rattle.comp_tree.specs.Defined.{HasValue}
 use Rattle.comp_tree.specs.Counts.{count_below, sum_below}
 use Rattle.comp_tree.specs.Grid.{are_neighbours, are_adjacent, IsInner}
@@ -54,7 +54,7 @@ direction Four width p q = cell_of width p q / 2
 direction Eight width p q = cond (nat_lt (cell_of width p q) 4) (cell_of width p q) (cell_of width p q - 1)
 
 abbrev pub IsOf : Ground → ℕ → Type 0
-IsOf g p = IsWithin g.first (length g.ranks) p
+IsOf g p = LiesInStretch g.first (length g.ranks) p
 
 abbrev pub rank_of : Ground → ℕ → ℕ
 rank_of g p = slice_index g.ranks (p - g.first)
@@ -142,10 +142,10 @@ pub record IsAt (width p m q : ℕ) : Type 0 where
 
 -- n is the neighbour of p in direction k
 pub record IsNeighbour (connect : Connect) (width first count p k n : ℕ) : Type 0 where
-  pub inside : IsWithin first count n
+  pub inside : LiesInStretch first count n
   pub near : IsTrue (are_neighbours connect width p n)
   pub turned : direction connect width p n ≡ k
-  pub only : (y : ℕ) → IsWithin first count y → IsTrue (are_neighbours connect width p y) → direction connect width p y ≡ k → y ≡ n
+  pub only : (y : ℕ) → LiesInStretch first count y → IsTrue (are_neighbours connect width p y) → direction connect width p y ≡ k → y ≡ n
 
 -- how far the pixel in each direction lies behind the first of the nine around and at a pixel
 pub record HasOffsets (connect : Connect) (width : ℕ) (offsets : List ℕ) : Type 0 where

@@ -1,5 +1,6 @@
 -- Bookkeeping: a strip and its flooding as the code keeps them.
 use Rattle.std.specs.Prelude.{◌^◌, ◌≡◌, ℕ, ◌+◌, ◌-◌, ◌%◌, ◌<◌, ◌≤◌, ◌++◌, List, length, map, replicate, slice_get, slice_set, Option, None, ℤ}
+use Rattle.comp_tree.specs.Limits.{most_pixels}
 use Rattle.comp_tree.specs.Counts.{count_defined}
 use Rattle.comp_tree.specs.Forest.{no_node, StandsFor}
 use Rattle.comp_tree.specs.Grid.{IsInner}
@@ -33,7 +34,7 @@ state_of f = state_with f.queue.lists f.cursors.items f.earliest.items f.links.i
 pub record IsStrip (s : Strip) : Type 0 where
   pub ranked : IsRanked (ground_of s)
   pub narrow : s.width ≤ 65535
-  pub few : s.first + length s.ranks.items ≤ 2 ^ 24
+  pub few : s.first + length s.ranks.items ≤ most_pixels
   pub starts : s.first % s.width ≡ 0
   pub ends : (s.first + length s.ranks.items) % s.width ≡ 0
   pub offsets : HasOffsets s.connect s.width s.offsets

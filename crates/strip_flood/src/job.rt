@@ -1,6 +1,6 @@
 //! A strip's job: all that its flooding takes, and then its links.
 
-ghost use Rattle.std.specs.Prelude.{◌≡◌, ◌+◌, ◌-◌, ◌*◌, ◌<◌, ◌≤◌, length, true, false, IfOk};
+ghost use Rattle.std.specs.Prelude.{◌≡◌, ◌+◌, ◌-◌, ◌*◌, ◌^◌, ◌<◌, ◌≤◌, length, true, false, IfOk};
 ghost use Rattle.comp_tree.specs.Forest.{no_node};
 ghost use Rattle.strip_flood.specs.Jobs.{SuitsStrip, IsStanding, IsStandingWhereFlooded, defined_count, adjacency_count};
 ghost use Rattle.strip_flood.specs.Jobs.{IsAll};
@@ -38,7 +38,8 @@ impl Model for StripJob {
 }
 
 impl StripJob {
-    /// A job for these rows, not flooded. It takes all memory that the flooding needs.
+    /// A job for these rows, not flooded: of a plane of more than 2^24 pixels they have no more. It takes all memory that the flooding
+    /// needs.
     pub fn prepare(
         alloc: Global,
         plane: &Plane,
@@ -48,6 +49,8 @@ impl StripJob {
     ) -> Result<StripJob, OutOfMemory>
         requires rows { first_row < end_row }
         requires inside { end_row ≤ plane.now.shape.height }
+        requires short { 2 ^ 24 < plane.now.shape.width * plane.now.shape.height
+            → (end_row - first_row) * plane.now.shape.width ≤ 2 ^ 24 }
         ensures fit { IfOk result (λ job. SuitsStrip job plane.now) }
         ensures connect { IfOk result (λ job. job.connect ≡ connect) }
         ensures first_row { IfOk result (λ job. job.first_row ≡ first_row) }

@@ -99,6 +99,7 @@ fn try_rows<A: Ledger, B: Ledger>(
     looked: &mut Steps<B>,
 ) -> Result<(), Fail> {
     assert!(rt; case.first_row < case.end_row && case.end_row <= plane.shape().height);
+    assert!(rt; plane.shape().pixels() <= 1 << 24);
     let first = case.first_row * plane.shape().width;
     let mut job = StripJob::prepare(alloc, plane, case.connect, case.first_row, case.end_row)?;
     flood_job(rt, &mut job, plane, case, queued, looked);
@@ -530,6 +531,7 @@ fn try_sorting(
     ranks: &[u32],
 ) -> Result<(), Fail> {
     assert!(rt; first <= end && end <= plane.shape().pixels());
+    assert!(rt; end <= 1 << 24);
     let found = rank_by_order(alloc, plane, first, end)?;
     try_found(rt, &found, levels, ranks);
     Ok(())

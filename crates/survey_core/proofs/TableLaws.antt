@@ -1,10 +1,11 @@
 -- A field after some commands, by the last of them that names it.
-use Rattle.std.proofs.Common.{◌≡◌, ◌≢◌, ◌∙◌, ℕ, Bool, true, false, not, cond, ◌||◌, List, [], ◌∷◌, ◌++◌, drop, Some, None, refl, rules, sym, ap}
+use Rattle.std.proofs.Common.{◌≡◌, ◌≢◌, ◌∙◌, ℕ, ◌+◌, Bool, true, false, not, cond, ◌||◌, List, [], ◌∷◌, ◌++◌, drop, Some, None, refl, rules, sym, ap}
 use Rattle.std.proofs.Common.{subst, ℤ, Ordering, Less, Equal, Greater, is_eq}
 use Rattle.std.specs.Prelude.{Option, is_some}
 use Rattle.std.specs.List.{list_any}
 use Rattle.std.specs.Ordering.{match_ordering}
 use Rattle.std.specs.Str.{bytes_eq}
+use Rattle.std.proofs.lemmas.List.{drop-drop}
 use Rattle.survey_core.specs.declared.words.Command.{Command}
 use Rattle.survey_core.specs.declared.words.Command.TheVariants.{Add, Drop, List as Listing, Brightest}
 use Rattle.survey_core.specs.declared.fault.Stop.{Stop}
@@ -13,10 +14,10 @@ use Rattle.survey_core.specs.declared.fault.Fault.TheVariants.{NoSuchField}
 use Rattle.survey_core.specs.Fields.{name_cmp}
 use Rattle.survey_core.specs.Tables.{Table, cells_of_field, put, without_field}
 use Rattle.survey_core.specs.Catalogues.{Reading, accepted, rejected, catalogue_in}
-use Rattle.survey_core.specs.Sessions.{Outcome, effect, added, changes, fails, followed_by, joined_unless, session}
-use Rattle.survey_core.specs.Laws.{is_on, NoneIsOn, UnnamedFieldsStay, LastAddIsKept, LastDropIsKept}
+use Rattle.survey_core.specs.Sessions.{Outcome, effect, added, changes, fails, followed_by, joined_outcomes, joined_unless, session}
+use Rattle.survey_core.specs.Laws.{is_on, NoneIsOn, UnnamedFieldsStay, LastAddIsKept, LastDropIsKept, StopsBehind, TablesBeforeAStopAreKept}
 use Rattle.survey_core.proofs.TableLemmas.{same_name, name_itself}
-use Rattle.survey_core.proofs.Going.{session_app}
+use Rattle.survey_core.proofs.Going.{session_app, session_stops}
 
 -- ---- one change
 
@@ -174,3 +175,81 @@ last_drop bytes ts before after field none passed =
         → cells_of_field field (cond b (changes 0 (without_field field t)) (fails (Refused NoSuchField) 0 t)).tables ≡ None
     by true e = gone field t
     by false e = nothing_there (cells_of_field field t) e
+
+-- ---- a session that stops
+
+-- a command that fails changes no table
+failing_keeps : (bytes : List ℕ) (ts : List Table) (x : Command) (stop : Stop) → (effect bytes ts x).stop ≡ Some stop → (effect bytes ts x).tables ≡ ts
+failing_keeps bytes ts (Add field) stop h = by (catalogue_in bytes) h
+  where
+    by : (reading : Reading) → (added field ts reading).stop ≡ Some stop → (added field ts reading).tables ≡ ts
+    by (accepted cells taken) h = absurd (cc)
+    by (rejected why taken) h = refl
+failing_keeps bytes ts (Drop field) stop h = by (is_some (cells_of_field field ts)) h
+  where
+    by : (b : Bool) → (cond b (changes 0 (without_field field ts)) (fails (Refused NoSuchField) 0 ts)).stop ≡ Some stop
+        → (cond b (changes 0 (without_field field ts)) (fails (Refused NoSuchField) 0 ts)).tables ≡ ts
+    by true h = absurd (cc)
+    by false h = refl
+failing_keeps bytes ts Listing stop h = absurd (cc)
+failing_keeps bytes ts (Brightest count) stop h = absurd (cc)
+
+-- where it stands: a session without a fault is before it
+record FailsAt (bytes : List ℕ) (ts : List Table) (xs : List Command) (stop : Stop) : Type 0 where
+  before : List Command
+  failing : Command
+  after : List Command
+  split : xs ≡ before ++ failing ∷ after
+  passed : (session bytes ts before).stop ≡ None
+  fails : (effect (drop (session bytes ts before).taken bytes) (session bytes ts before).tables failing).stop ≡ Some stop
+
+-- one command more in front, which doesn't fail
+fails_later : (bytes : List ℕ) (ts : List Table) (x : Command) (xs : List Command) (stop : Stop) → (effect bytes ts x).stop ≡ None
+    → FailsAt (drop (effect bytes ts x).taken bytes) (effect bytes ts x).tables xs stop → FailsAt bytes ts (x ∷ xs) stop
+unfolding session
+fails_later bytes ts x xs stop here k =
+    let e = effect bytes ts x in
+    let s = session (drop e.taken bytes) e.tables k.before in
+    let joined : followed_by e s ≡ joined_outcomes e s = ap (λ o. joined_unless o e s) here in
+    let failing : (effect (drop s.taken (drop e.taken bytes)) s.tables k.failing).stop ≡ Some stop = k.fails in
+    let moved : (effect (drop (e.taken + s.taken) bytes) s.tables k.failing).stop ≡ Some stop =
+    subst (λ b. (effect b s.tables k.failing).stop ≡ Some stop) (drop-drop s.taken e.taken bytes) failing in
+    record {
+      before = x ∷ k.before;
+      failing = k.failing;
+      after = k.after;
+      split = ap (λ (ys : List Command). x ∷ ys) k.split;
+      passed = ap (λ (o : Outcome). o.stop) joined ∙ k.passed;
+      fails = subst (λ (o : Outcome). (effect (drop o.taken bytes) o.tables k.failing).stop ≡ Some stop) (sym joined) moved;
+    }
+
+fails_at : (bytes : List ℕ) (ts : List Table) (xs : List Command) (stop : Stop) → (session bytes ts xs).stop ≡ Some stop → FailsAt bytes ts xs stop
+unfolding session
+fails_at bytes ts [] stop h = absurd (let bad : None ≡ Some stop = h in cc)
+fails_at bytes ts (x ∷ xs) stop h = by (effect bytes ts x).stop refl h (λ k. fails_at (drop (effect bytes ts x).taken bytes) (effect bytes ts x).tables xs stop k)
+  where
+    by : (o : Option Stop) → (effect bytes ts x).stop ≡ o
+        → (joined_unless o (effect bytes ts x) (session (drop (effect bytes ts x).taken bytes) (effect bytes ts x).tables xs)).stop ≡ Some stop
+        → ((session (drop (effect bytes ts x).taken bytes) (effect bytes ts x).tables xs).stop ≡ Some stop
+        → FailsAt (drop (effect bytes ts x).taken bytes) (effect bytes ts x).tables xs stop)
+        → FailsAt bytes ts (x ∷ xs) stop
+    by None e h more = fails_later bytes ts x xs stop e (more h)
+    by (Some other) e h more = record { before = []; failing = x; after = xs; split = refl; passed = refl; fails = h }
+
+pub stops_behind : TablesBeforeAStopAreKept
+stops_behind bytes ts xs stop h =
+    let k = fails_at bytes ts xs stop h in
+    let b = drop (session bytes ts k.before).taken bytes in
+    let t = (session bytes ts k.before).tables in
+    let all : session bytes ts (k.before ++ k.failing ∷ k.after) ≡ joined_outcomes (session bytes ts k.before) (effect b t k.failing) =
+    session_stops bytes ts k.before k.failing k.after stop k.passed k.fails in
+    record {
+      before = k.before;
+      failing = k.failing;
+      after = k.after;
+      commands_are = k.split;
+      passed = k.passed;
+      fails = k.fails;
+      tables_are = ap (λ (ys : List Command). (session bytes ts ys).tables) k.split ∙ ap (λ (o : Outcome). o.tables) all
+          ∙ failing_keeps b t k.failing stop k.fails;
+    }

@@ -1,11 +1,13 @@
 -- Model: catalogues that are added one after the other.
-use Rattle.std.specs.Prelude.{◌≡◌, ℕ, true, List, [], ◌∷◌, ◌++◌, length, codes, ℤ}
+use Rattle.std.specs.Prelude.{◌≡◌, ℕ, true, List, [], ◌∷◌, ◌++◌, length, codes, ℤ, Ok}
 use Rattle.std.specs.List.{AllByRecursion}
+use Rattle.survey_core.specs.declared.words.Command.{Command}
+use Rattle.survey_core.specs.Commands.{read}
 use Rattle.survey_core.specs.Fields.{is_name}
 use Rattle.survey_core.specs.Tables.{Table, put}
 use Rattle.survey_core.specs.Catalogues.{accepted, catalogue_in}
-use Rattle.survey_core.specs.Sessions.{changes}
-use Rattle.survey_core.specs.Answers.{session_answer, session_status}
+use Rattle.survey_core.specs.Sessions.{changes, joined_outcomes, session}
+use Rattle.survey_core.specs.Answers.{answer_to_outcome, session_answer, session_status}
 
 -- a field, the bytes of a catalogue, and its cells
 pub record Addition : Type 0 where
@@ -40,3 +42,12 @@ EachAddTakesItsCatalogue =
     → let all = first ∷ others in
     let answer = session_answer (words_that_add all) (bytes_to_add all ++ rest) tables in
     (session_status answer.end ≡ 0) × (answer.does ≡ changes (length (bytes_to_add all)) (tables_with all tables))
+
+-- Whatever commands stand behind them, these find just those tables, and the bytes that are left.
+abbrev pub CommandsBehindFindTheCatalogues : Type 0
+CommandsBehindFindTheCatalogues =
+    (first : Addition) (others : List Addition) (words : List (List ℕ)) (commands : List Command) (rest : List ℕ) (tables : List Table)
+    → AllByRecursion IsAddition (first ∷ others) → read words ≡ Ok commands
+    → let all = first ∷ others in
+    session_answer (words_that_add all ++ words) (bytes_to_add all ++ rest) tables
+    ≡ answer_to_outcome (joined_outcomes (changes (length (bytes_to_add all)) (tables_with all tables)) (session rest (tables_with all tables) commands))

@@ -4,9 +4,10 @@ use Rattle.std.specs.List.{list_any}
 use Rattle.std.specs.Str.{bytes_eq}
 use Rattle.survey_core.specs.declared.words.Command.{Command}
 use Rattle.survey_core.specs.declared.words.Command.TheVariants.{Add, Drop, List as Listing, Brightest}
+use Rattle.survey_core.specs.declared.fault.Stop.{Stop}
 use Rattle.survey_core.specs.Tables.{Table, cells_of_field}
 use Rattle.survey_core.specs.Catalogues.{accepted, catalogue_in}
-use Rattle.survey_core.specs.Sessions.{session}
+use Rattle.survey_core.specs.Sessions.{effect, session}
 
 -- a command on this field
 abbrev pub is_on : List ℕ → Command → Bool
@@ -38,3 +39,19 @@ LastDropIsKept =
     (bytes : List ℕ) (tables : List Table) (before after : List Command) (field : List ℕ) → NoneIsOn field after
     → (session bytes tables (before ++ Drop field ∷ after)).stop ≡ None
     → cells_of_field field (session bytes tables (before ++ Drop field ∷ after)).tables ≡ None
+
+-- the first command that fails, with this fault, behind a session that doesn't stop and whose tables are kept
+pub record StopsBehind (bytes : List ℕ) (tables : List Table) (commands : List Command) (stop : Stop) : Type 0 where
+  pub before : List Command
+  pub failing : Command
+  pub after : List Command
+  pub commands_are : commands ≡ before ++ failing ∷ after
+  pub passed : (session bytes tables before).stop ≡ None
+  pub fails : (effect (drop (session bytes tables before).taken bytes) (session bytes tables before).tables failing).stop ≡ Some stop
+  pub tables_are : (session bytes tables commands).tables ≡ (session bytes tables before).tables
+
+-- a session that stops has the tables of the commands before the one that fails, so that the laws above speak of them too
+abbrev pub TablesBeforeAStopAreKept : Type 0
+TablesBeforeAStopAreKept =
+    (bytes : List ℕ) (tables : List Table) (commands : List Command) (stop : Stop) → (session bytes tables commands).stop ≡ Some stop
+    → StopsBehind bytes tables commands stop

@@ -1,5 +1,5 @@
 -- What is written of a plane's sources is accepted, or refused where they are too many.
-use Rattle.std.proofs.Common.{◌≡◌, ◌∙◌, ℕ, ◌+◌, ◌*◌, ◌/◌, ◌<◌, ◌≤◌, ◌==◌, ◌&&◌, Bool, true, false, List, [], ◌∷◌, ◌++◌, length, drop, replicate, min}
+use Rattle.std.proofs.Common.{◌≡◌, ◌∙◌, ℕ, ◌+◌, ◌*◌, ◌/◌, ◌^◌, ◌<◌, ◌≤◌, ◌==◌, ◌&&◌, Bool, true, false, List, [], ◌∷◌, ◌++◌, length, drop, replicate, min}
 use Rattle.std.proofs.Common.{refl, sym, ap, ap₂, arith, append_assoc, length-append, ℤ, nat_lt, nat_le}
 use Rattle.std.specs.List.{AllByRecursion, list_all, range_with_len}
 use Rattle.std.proofs.lemmas.Bool.Decides.{nat_tests}
@@ -13,7 +13,7 @@ use Rattle.fits_hdu.specs.Headers.{found}
 use Rattle.fits_hdu.specs.Finding.{find_of, padded}
 use Rattle.fits_write.specs.declared.table.Column.{Column}
 use Rattle.fits_write.specs.Blocks.{filled, room_after}
-use Rattle.fits_write.specs.Columns.{table_bytes}
+use Rattle.fits_write.specs.Columns.{row_size, table_bytes}
 use Rattle.fits_write.specs.Hdus.{header, table_cards, empty_primary, map_hdu, table_hdu}
 use Rattle.fits_write.specs.CatalogueColumns.{catalogue_columns, cells_in_row, bytes_in_row}
 use Rattle.fits_write.specs.Rows.{table_cells}
@@ -29,7 +29,7 @@ use Rattle.survey_core.specs.Catalogues.{most_rows, accepted, too_many_rows, is_
 use Rattle.survey_core.specs.Catalogues.{reading_by, catalogue_in}
 use Rattle.tree_products.specs.Catalogues.{catalogue_cells, detected_hdus}
 use Rattle.survey_laws.specs.Laws.{IsRunsPlane}
-use Rattle.survey_laws.proofs.CatalogueRows.{many_cells, none_misnumbered, table_is, cells_are_64}
+use Rattle.survey_laws.proofs.CatalogueRows.{few_sources, many_cells, none_misnumbered, table_is, cells_are_64}
 
 itself : (n : ℕ) → (n == n) ≡ true
 itself n = grind (arith, nat_tests)
@@ -118,12 +118,19 @@ module _ (find_law : WrittenTableIsFound) (read_law : WrittenTableIsReadBack) (s
       ∙ ap (λ k. length empty_primary + k) (length-append the_map (the_header ++ the_data) ∙ ap (λ k. length the_map + k) (length-append the_header the_data))
       ∙ omega (arith, data_size)
 
+  -- the rows of any image's sources are few enough
+  few_bytes : row_size catalogue_columns * (length cells / length catalogue_columns) ≤ 2 ^ 40
+  few_bytes =
+      let few : n ≤ 2147483647 = few_sources order_law disjoint_law r connect choice is in
+      let size : row_size catalogue_columns * (length cells / length catalogue_columns) ≡ bytes_in_row * n = ap₂ ◌*◌ columns_size rows in
+      omega (arith, few, size)
+
   found_there : find_of (detected_hdus r connect choice ++ rest) 2 ≡ found (table_said catalogue_columns n) head
   unfolding detected_hdus
   found_there =
       ap (λ l. find_of l 2) (nested empty_primary the_map (table_hdu catalogue_columns cells) rest)
       ∙ find_law r.shape (segmentation r connect choice) catalogue_columns cells rest (map_many r connect choice is)
-      (table_is order_law disjoint_law r connect choice is) names_short
+      (table_is order_law disjoint_law r connect choice is) names_short few_bytes
       ∙ ap (λ k. found (table_said catalogue_columns k) (table_start r.shape (segmentation r connect choice) catalogue_columns k)) rows
 
   said_is : is_catalogue (table_said catalogue_columns n) ≡ true

@@ -1,5 +1,5 @@
 -- The rows of a plane's catalogue: they can be written, and each has the number of its place.
-use Rattle.std.proofs.Common.{◌≡◌, ◌∙◌, ℕ, zero, suc, ◌+◌, ◌-◌, ◌*◌, ◌/◌, ◌^◌, ◌<◌, ◌≤◌, true, false, not, List, [], ◌∷◌, ◌++◌}
+use Rattle.std.proofs.Common.{◌≡◌, ◌∙◌, ℕ, zero, suc, ◌+◌, ◌-◌, ◌*◌, ◌/◌, ◌<◌, ◌≤◌, true, false, not, List, [], ◌∷◌, ◌++◌}
 use Rattle.std.proofs.Common.{length, map, get_or, refl, sym, ap, subst, arith, flat_map, ℤ, pos, FitsSigned, w64, All, None}
 use Rattle.std.proofs.Common.{slice_get, Some, IsTrue, inl, inr}
 use Rattle.std.specs.List.{AllByRecursion, enumerate_from}
@@ -109,7 +109,7 @@ module _ (order_law : SourcesAreInOrder) (disjoint_law : SourcesAreDisjoint) (r 
       (λ same. let first : (sums_of r connect s).first
       ≡ (sums_of r connect t).first = ap (λ n. (sums_of r connect n).first) same in absurd (omega (arith, first, rising)))
 
-  pub few_sources : length (sources r connect choice) ≤ 2 ^ 24
+  pub few_sources : length (sources r connect choice) ≤ 2147483647
   few_sources = few_picked (tree_of r connect) (sources r connect choice) (record {
     plane = r;
     connect = connect;
@@ -121,7 +121,7 @@ module _ (order_law : SourcesAreInOrder) (disjoint_law : SourcesAreDisjoint) (r 
 
   -- ---- they can be written
 
-  rows_fit : (first : ℕ) (picked : List ℕ) → first + length picked ≤ 2 ^ 24 + 1 → ((n : ℕ) → IsAmong n picked → IsNode r connect n)
+  rows_fit : (first : ℕ) (picked : List ℕ) → first + length picked ≤ 2147483648 → ((n : ℕ) → IsAmong n picked → IsNode r connect n)
       → AllByRecursion (λ row. FitEach catalogue_columns (cells_of row)) (rows_from r connect first picked)
   rows_fit first [] few each = tt
   rows_fit first (n ∷ picked) few each = (
@@ -134,7 +134,7 @@ module _ (order_law : SourcesAreInOrder) (disjoint_law : SourcesAreDisjoint) (r 
   with_row [] more a b = b
   with_row (z ∷ cells) more a b = (a.0, with_row cells more a.1 b)
 
-  cells_fit : (first : ℕ) (picked : List ℕ) → first + length picked ≤ 2 ^ 24 + 1 → ((n : ℕ) → IsAmong n picked → IsNode r connect n)
+  cells_fit : (first : ℕ) (picked : List ℕ) → first + length picked ≤ 2147483648 → ((n : ℕ) → IsAmong n picked → IsNode r connect n)
       → AllByRecursion (FitsSigned w64) (flat_map cells_of (rows_from r connect first picked))
   cells_fit first [] few each = tt
   cells_fit first (n ∷ picked) few each =
@@ -150,7 +150,7 @@ module _ (order_law : SourcesAreInOrder) (disjoint_law : SourcesAreDisjoint) (r 
   each_node : (n : ℕ) → IsAmong n (sources r connect choice) → IsNode r connect n
   each_node n m = (source_from_among r connect choice n is.one_each m).0
 
-  few_numbers : 1 + length (sources r connect choice) ≤ 2 ^ 24 + 1
+  few_numbers : 1 + length (sources r connect choice) ≤ 2147483648
   few_numbers = omega (arith, few_sources)
 
   pub table_is : IsTable catalogue_columns (catalogue_cells r connect choice)

@@ -1,5 +1,5 @@
 -- The three HDUs one behind the other: where each begins, and what is found there.
-use Rattle.std.proofs.Common.{◌≡◌, ◌∙◌, ℕ, ◌+◌, ◌*◌, ◌/◌, ◌≤◌, List, [], ◌∷◌, ◌++◌}
+use Rattle.std.proofs.Common.{◌≡◌, ◌∙◌, ℕ, ◌+◌, ◌*◌, ◌^◌, ◌/◌, ◌≤◌, List, [], ◌∷◌, ◌++◌}
 use Rattle.std.proofs.Common.{length, map, replicate, refl, sym, ap, arith, append_assoc, length-append, zero-add, ℤ, pos, nat_lt, false, true}
 use Rattle.std.specs.List.{concat, AllByRecursion}
 use Rattle.std.proofs.lemmas.List.{length-replicate}
@@ -12,7 +12,7 @@ use Rattle.fits_hdu.specs.Headers.{found, header_at}
 use Rattle.fits_hdu.specs.Finding.{padded, following, following_found, find_of}
 use Rattle.fits_write.specs.declared.table.Column.{Column}
 use Rattle.fits_write.specs.Blocks.{filled, room_after}
-use Rattle.fits_write.specs.Columns.{table_bytes, IsTable}
+use Rattle.fits_write.specs.Columns.{row_size, table_bytes, IsTable}
 use Rattle.fits_write.specs.Hdus.{header, primary_cards, empty_primary, map_cards, map_bytes, map_hdu, table_cards, table_hdu}
 use Rattle.survey_laws.specs.WrittenTables.{table_said, table_start}
 use Rattle.survey_laws.proofs.Headers.{header_found, not_below}
@@ -50,7 +50,8 @@ table_header columns cells = header (table_cards columns (length cells / length 
 module _ (logicals : LogicalIsReadBack) (integers : IntegerIsReadBack) (texts : TextIsReadBack)
     (shape : Shape) (numbers : List ℕ) (columns : List Column) (cells : List ℤ) (rest : List ℕ)
     (one_each : length numbers ≡ shape.width * shape.height) (table : IsTable columns cells)
-    (short : AllByRecursion (λ column. length column.name ≤ 68) columns) where
+    (short : AllByRecursion (λ column. length column.name ≤ 68) columns)
+    (few_bytes : row_size columns * (length cells / length columns) ≤ 2 ^ 40) where
   abbrev rows : ℕ
   rows = length cells / length columns
 
@@ -116,5 +117,5 @@ module _ (logicals : LogicalIsReadBack) (integers : IntegerIsReadBack) (texts : 
       ∙ next_there bytes 2 size head (length front) next within
       ∙ ap (λ l. header_at l 2 (length front)) behind_table
       ∙ header_found 2 front (filled 0 (table_bytes columns cells) ++ rest) (table_cards columns rows) (table_said columns rows)
-      (table_header_is integers texts columns rows table.few_columns table.few_rows short)
+      (table_header_is integers texts columns rows table.few_columns table.few_rows few_bytes short)
       ∙ ap (found (table_said columns rows)) place

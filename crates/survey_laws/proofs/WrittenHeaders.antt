@@ -1,6 +1,6 @@
 -- The headers of an empty primary HDU, of a map and of a table, and what they say.
 use Rattle.std.proofs.Common.{◌≡◌, ◌∙◌, ℕ, zero, suc, ◌+◌, ◌*◌, ◌^◌, ◌<◌, ◌≤◌, Bool, true, false, List, [], ◌∷◌, ◌++◌}
-use Rattle.std.proofs.Common.{length, refl, sym, ap, subst, arith, append_assoc, length-append, mul-one, mul-le-mul, pos}
+use Rattle.std.proofs.Common.{length, refl, sym, ap, subst, arith, append_assoc, length-append, mul-one, pos}
 use Rattle.std.proofs.Common.{Ok, IsTrue}
 use Rattle.std.specs.Prelude.{codes, unwrap_or, is_some}
 use Rattle.std.specs.Fmt.{decimal}
@@ -239,7 +239,7 @@ map_header integers texts shape =
       wide = let l : shape.width ≤ 65535 = limits.few_columns in omega (arith, l);
       high = let l : shape.height ≤ 65535 = limits.few_rows in omega (arith, l);
       size_is = refl;
-      small = let l : shape.width * shape.height ≤ 2 ^ 24 = limits.few_pixels in omega (arith, l);
+      small = let l : shape.width * shape.height ≤ 2147483647 = limits.few_pixels in omega (arith, l);
       others = (extname_quiet (codes "SEGMENT") (omega arith), tt);
       few = omega arith;
     })
@@ -324,10 +324,11 @@ table_cards_are columns rows =
     ∷ written_integer (codes "TFIELDS ") (pos (length columns)) ∷ l)
     (append_assoc (column_cards 1 columns) (written_text (codes "EXTNAME ") (codes "SOURCES") ∷ []) (written_end ∷ []))
 
-pub table_header_is : IntegerIsReadBack → TextIsReadBack → (columns : List Column) (rows : ℕ) → length columns ≤ 99 → rows ≤ 2 ^ 24
+pub table_header_is : IntegerIsReadBack → TextIsReadBack → (columns : List Column) (rows : ℕ) → length columns ≤ 99 → rows ≤ 2147483647
+    → row_size columns * rows ≤ 2 ^ 40
     → AllByRecursion (λ column. length column.name ≤ 68) columns
     → IsHeader false (table_cards columns rows) (hdu_said false (pos 8) (row_size columns) rows (row_size columns * rows))
-table_header_is integers texts columns rows few_columns few_rows short =
+table_header_is integers texts columns rows few_columns few_rows few_bytes short =
     subst (λ l. IsHeader false l (hdu_said false (pos 8) (row_size columns) rows (row_size columns * rows)))
     (table_cards_are columns rows)
     (extension_header integers texts (codes "BINTABLE") 8 (row_size columns) rows (row_size columns * rows) tail false
@@ -340,8 +341,7 @@ table_header_is integers texts columns rows few_columns few_rows short =
       wide = omega (arith, row_few columns, few_columns);
       high = omega (arith, few_rows);
       size_is = let one : 1 * (row_size columns * rows) ≡ row_size columns * rows = omega arith in one;
-      small = let wide : row_size columns ≤ 792 = omega (arith, row_few columns, few_columns) in
-          let size : row_size columns * rows ≤ 792 * 2 ^ 24 = mul-le-mul wide few_rows in omega (arith, size);
+      small = few_bytes;
       others = (
         quiet (codes "TFIELDS ") fields (integer_keyword (codes "TFIELDS ") (pos (length columns)) refl)
             (full_integer (codes "TFIELDS ") (length columns) refl (omega (arith, few_columns))) apart_fields,

@@ -1,7 +1,7 @@
 //! The law over both programs: what `maxdetect detect` writes, `maxsurvey add` accepts. Each part is the contract of a function that does
 //! nothing but name the laws from which it follows, and speaks of the definitions alone.
 
-ghost use Rattle.survey_laws.specs.Laws.{DetectionIsAccepted, TooManySourcesAreRefused, AnswerIsAccepted, DetectionsAreAdded};
+ghost use Rattle.survey_laws.specs.Laws.{DetectionIsAccepted, TooManySourcesAreRefused, AnswerIsAccepted, DetectionsAreAdded, DoneIsOfAnImage, SurveysHaveWhatIsDetected};
 
 use crate::written_tables::written_table_is_found;
 use fits_write::laws::written_cells_are_read_back;
@@ -21,9 +21,10 @@ pub fn detection_is_accepted()
     sources_are_disjoint();
 }
 
-/// So is what the words of `detect` answer to an input with an image.
+/// So is what the words of `detect` answer to an input with an image; where they are answered with status 0 there is one.
 pub fn answer_is_accepted()
-    ensures { AnswerIsAccepted }
+    ensures accepted { AnswerIsAccepted }
+    ensures done { DoneIsOfAnImage }
 {
     detection_is_accepted();
     residual_is_a_plane();
@@ -34,5 +35,13 @@ pub fn detections_are_added()
     ensures { DetectionsAreAdded }
 {
     detection_is_accepted();
+    each_add_takes_its_catalogue();
+}
+
+/// From words and bytes to a survey's answers: what `detect` answers with status 0, `add` takes, and any commands behind find just that.
+pub fn surveys_have_what_is_detected()
+    ensures { SurveysHaveWhatIsDetected }
+{
+    answer_is_accepted();
     each_add_takes_its_catalogue();
 }

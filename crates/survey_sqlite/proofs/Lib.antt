@@ -9,3 +9,4 @@ pub mod Listing
 pub mod Steps
 pub mod Memory
 pub mod Kept
+pub mod Worked

@@ -11,7 +11,7 @@ use Rattle.survey_core.specs.Tables.{Table}
 use Rattle.std.specs.Coded.{coded_ℕ, coded_ℤ, coded_list, coded×}
 use base.Stored.{Coded-set}
 use Rattle.survey_sqlite.specs.Steps.{tables_of}
-use Rattle.survey_sqlite.specs.Calls.{Turns, StaysOpen}
+use Rattle.survey_sqlite.specs.Turns.{Turns, StaysOpen}
 use Rattle.survey_sqlite.specs.Keepers.{tables_held, Rests}
 
 -- two lists of tables are equal in one way at most

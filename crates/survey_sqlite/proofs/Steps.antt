@@ -24,7 +24,9 @@ use Rattle.survey_sqlite.specs.Queries.{rows_text, names_text}
 use Rattle.survey_sqlite.specs.Schemas.{source, source_schema}
 use Rattle.survey_sqlite.specs.Blobs.{blob_cells}
 use Rattle.survey_sqlite.specs.Source.{AreFieldRows, IsAtRest, tables_in}
-use Rattle.survey_sqlite.specs.Calls.{Turns, CountsFound, AnswersCells, AnswersNames}
+use Rattle.survey_sqlite.specs.Turns.{Turns}
+use Rattle.survey_sqlite.specs.Calls.{CountsFound}
+use Rattle.survey_sqlite.specs.Calls.{AnswersCells, AnswersNames}
 use Rattle.survey_sqlite.proofs.Compiled.{create_is, created_is, create_plain, replace_is, replace_plain, replace_command, remove_is}
 use Rattle.survey_sqlite.proofs.Compiled.{remove_plain, remove_command, rows_is, rows_plain, rows_command, names_is, names_plain, names_command}
 use Rattle.survey_sqlite.proofs.RowLemmas.{Replaces, Removes, replaced_rows, replaced_tables, removed_rows, removed_tables, cells_there, cells_not_there}

@@ -6,6 +6,7 @@ pub mod Source
 pub mod Steps
 pub mod Rows
 pub mod Queries
+pub mod Turns
 pub mod Calls
 pub mod Keepers
 pub mod Laws

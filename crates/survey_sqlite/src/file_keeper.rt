@@ -1,8 +1,14 @@
 //! Tables in a database file.
-ghost use Rattle.std.specs.Prelude.{◌≡◌, IfOk, IfSome};
+ghost use Rattle.std.specs.Prelude.{◌≡◌, ◌≤◌, ◌*◌, length, None, Some, IfOk, OnOk, OnErr, IfSome, is_some};
 ghost use Rattle.std.specs.Option.{option_map};
-ghost use Rattle.survey_core.specs.Tables.{IsNumbered, cells_of_field, names_of};
-ghost use Rattle.survey_core.specs.Clauses.{Stays, HasFault};
+ghost use Rattle.sqlite.specs.Files.{file_state};
+ghost use Rattle.fits_write.specs.CatalogueColumns.{cells_in_row};
+ghost use Rattle.survey_core.specs.Catalogues.{most_rows};
+ghost use Rattle.survey_core.specs.Tables.{IsNumbered, put, without_field, cells_of_field, names_of};
+ghost use Rattle.survey_core.specs.Clauses.{Becomes, Stays, HasFault};
+ghost use Rattle.survey_sqlite.specs.Tables.{HasSource};
+ghost use Rattle.survey_sqlite.specs.Turns.{Turns, ShowsCells, ShowsNames, IsWorkedOn, Worked, TurnedTo};
+ghost use Rattle.survey_sqlite.specs.Calls.{CountsFound, Untouched};
 ghost use Rattle.survey_sqlite.specs.Steps.{AreRising};
 ghost use Rattle.survey_sqlite.specs.Blobs.{blob_cells};
 
@@ -25,7 +31,9 @@ pub struct FileKeeper<'a> {
 }
 
 /// The database of the file, with the table.
-fn opened(rt: &HostRuntime, path: &str) -> Result<Connection<FileStore<File>>, Error> {
+fn opened(rt: &HostRuntime, path: &str) -> Result<Connection<FileStore<File>>, Error>
+    ensures { IfOk result (λ conn. HasSource conn.schema) }
+{
     let mut conn = Connection::open(rt, path)?;
     make_table(&mut conn)?;
     Ok(conn)
@@ -48,7 +56,9 @@ impl<'a> FileKeeper<'a> {
 
     /// Takes the connection out, or makes one.
     fn taken(&mut self) -> Result<Connection<FileStore<File>>, Error>
-        ensures { self.new.faults ≡ self.old.faults }
+        ensures same { self.new.faults ≡ self.old.faults }
+        ensures worked_on { IfOk result (λ conn. IsWorkedOn file_state self.old.conn conn) }
+        ensures none { OnErr result ((self.old.conn ≡ None) × (self.new.conn ≡ None)) }
     {
         match self.conn.take() {
             Some(conn) => Ok(conn),
@@ -58,7 +68,8 @@ impl<'a> FileKeeper<'a> {
 
     /// Puts the connection back. None stands in its place, which `taken` left empty.
     fn put_back(&mut self, conn: Connection<FileStore<File>>)
-        ensures { self.new.faults ≡ self.old.faults }
+        ensures same { self.new.faults ≡ self.old.faults }
+        ensures there { self.new.conn ≡ Some conn }
     {
         if let Some(other) = self.conn.replace(conn) {
             let _ = other.close();
@@ -68,7 +79,9 @@ impl<'a> FileKeeper<'a> {
     /// Gives the field this blob.
     fn put(&mut self, field: &Field, blob: &[u8]) -> Result<usize, Error>
         requires { IsNumbered (blob_cells blob.now) }
-        ensures { self.new.faults ≡ self.old.faults }
+        ensures same { self.new.faults ≡ self.old.faults }
+        ensures turned { OnOk result (TurnedTo file_state self.old.conn self.new.conn (put field.now (blob_cells blob.now))) }
+        ensures untouched { OnErr result (Untouched file_state self.old.conn self.new.conn) }
     {
         match self.taken() {
             Ok(mut conn) => {
@@ -82,7 +95,10 @@ impl<'a> FileKeeper<'a> {
 
     /// Takes the field out, and answers how many rows that changed.
     fn take_out(&mut self, field: &Field) -> Result<usize, Error>
-        ensures { self.new.faults ≡ self.old.faults }
+        ensures same { self.new.faults ≡ self.old.faults }
+        ensures turned { OnOk result (TurnedTo file_state self.old.conn self.new.conn (without_field field.now)) }
+        ensures found { IfOk result (λ count. Worked file_state self.old.conn self.new.conn (λ s t. CountsFound s t field.now count)) }
+        ensures untouched { OnErr result (Untouched file_state self.old.conn self.new.conn) }
     {
         match self.taken() {
             Ok(mut conn) => {
@@ -98,6 +114,8 @@ impl<'a> FileKeeper<'a> {
     fn fields(&mut self, alloc: Global) -> Result<Vec<Field>, Unshown>
         ensures same { self.new.faults ≡ self.old.faults }
         ensures rising { IfOk result (λ fields. AreRising fields.items) }
+        ensures shown { IfOk result (λ fields. Worked file_state self.old.conn self.new.conn (λ s t. ShowsNames s t fields.items)) }
+        ensures untouched { Untouched file_state self.old.conn self.new.conn }
     {
         match self.taken() {
             Ok(mut conn) => {
@@ -113,6 +131,9 @@ impl<'a> FileKeeper<'a> {
     fn cells(&mut self, alloc: Global, field: &Field) -> Result<Option<Vec<i64>>, Unshown>
         ensures same { self.new.faults ≡ self.old.faults }
         ensures numbered { IfOk result (λ cells. IfSome cells (λ cells. IsNumbered cells.items)) }
+        ensures shown { IfOk result
+            (λ cells. Worked file_state self.old.conn self.new.conn (λ s t. ShowsCells s t field.now (option_map (λ c. c.items) cells))) }
+        ensures untouched { Untouched file_state self.old.conn self.new.conn }
     {
         match self.taken() {
             Ok(mut conn) => {
@@ -140,7 +161,15 @@ impl Keeper for FileKeeper<'_> {
 
     ghost faults = { λ k. file_faults k };
 
-    fn replace(&mut self, alloc: Global, field: Field, cells: &[i64]) -> Result<(), Refused> {
+    fn replace(&mut self, alloc: Global, field: Field, cells: &[i64]) -> Result<(), Refused>
+        requires numbered { IsNumbered cells.now }
+        requires few { length cells.now ≤ cells_in_row * most_rows }
+        ensures done { OnOk result (Becomes (file_tables self.old) (file_tables self.new) (put field cells.now)) }
+        ensures kept { OnErr result (Stays (file_tables self.old) (file_tables self.new)) }
+        ensures cause { HasFault (file_faults self.old) (file_faults self.new) result }
+        // As far as the file shows its tables, they become these.
+        ensures turned { OnOk result (TurnedTo file_state self.old.conn self.new.conn (put field cells.now)) }
+    {
         let blob = match blob_of(alloc, cells) {
             Ok(blob) => blob,
             Err(_) => return Err(Refused::OutOfMemory),
@@ -151,7 +180,14 @@ impl Keeper for FileKeeper<'_> {
         }
     }
 
-    fn remove(&mut self, _alloc: Global, field: Field) -> Result<bool, Refused> {
+    fn remove(&mut self, _alloc: Global, field: Field) -> Result<bool, Refused>
+        ensures done { OnOk result (Becomes (file_tables self.old) (file_tables self.new) (without_field field)) }
+        ensures found { IfOk result (λ found. IfSome (file_tables self.old) (λ tables. found ≡ is_some (cells_of_field field tables))) }
+        ensures kept { OnErr result (Stays (file_tables self.old) (file_tables self.new)) }
+        ensures cause { HasFault (file_faults self.old) (file_faults self.new) result }
+        // As far as the file shows its tables, they become these.
+        ensures turned { OnOk result (TurnedTo file_state self.old.conn self.new.conn (without_field field)) }
+    {
         match self.take_out(&field) {
             Ok(count) => Ok(count == 1),
             Err(error) => Err(refused(&mut self.faults, error)),
@@ -164,6 +200,8 @@ impl Keeper for FileKeeper<'_> {
         ensures cause { HasFault (file_faults self.old) (file_faults self.new) result }
         // Whatever the file holds, the fields that come of it rise.
         ensures rising { IfOk result (λ fields. AreRising fields.items) }
+        // As far as the file shows its tables, these are their fields.
+        ensures shown { IfOk result (λ fields. Worked file_state self.old.conn self.new.conn (λ s t. ShowsNames s t fields.items)) }
     {
         match self.fields(alloc) {
             Ok(fields) => Ok(fields),
@@ -177,6 +215,9 @@ impl Keeper for FileKeeper<'_> {
         ensures cause { HasFault (file_faults self.old) (file_faults self.new) result }
         // Whatever the file holds, what comes of it is whole rows, each with the number of its place.
         ensures numbered { IfOk result (λ rows. IfSome rows (λ cells. IsNumbered cells.items)) }
+        // As far as the file shows its tables, these are the field's cells.
+        ensures shown { IfOk result
+            (λ rows. Worked file_state self.old.conn self.new.conn (λ s t. ShowsCells s t field (option_map (λ c. c.items) rows))) }
     {
         match self.cells(alloc, &field) {
             Ok(cells) => Ok(cells),

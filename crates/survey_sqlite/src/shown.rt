@@ -4,7 +4,7 @@ ghost use Rattle.std.specs.Option.{option_map};
 ghost use Rattle.survey_core.specs.Tables.{IsNumbered};
 ghost use Rattle.sqlite.specs.Held.{state};
 ghost use Rattle.survey_sqlite.specs.Steps.{AreRising};
-ghost use Rattle.survey_sqlite.specs.Calls.{ShowsCells, ShowsNames};
+ghost use Rattle.survey_sqlite.specs.Turns.{Turns, StaysOpen, ShowsCells, ShowsNames};
 
 use crate::reading::{Unread, read_cells, read_names};
 use crate::statements::{find_blob, list_names};
@@ -27,6 +27,8 @@ pub(crate) fn cells_shown<S: Alter>(
 ) -> Result<Option<Vec<i64>>, Unshown>
     ensures cells { IfOk result (λ cells. ShowsCells (state S.Store conn.old) (state S.Store conn.new) field.now (option_map (λ c. c.items) cells)) }
     ensures numbered { IfOk result (λ cells. IfSome cells (λ cells. IsNumbered cells.items)) }
+    ensures kept { Turns (state S.Store conn.old) (state S.Store conn.new) (λ tables. tables) }
+    ensures still { StaysOpen (state S.Store conn.old) (state S.Store conn.new) }
 {
     let rows = match find_blob(conn, field) {
         Ok(rows) => rows,
@@ -45,6 +47,8 @@ pub(crate) fn names_shown<S: Alter>(
 ) -> Result<Vec<Field>, Unshown>
     ensures names { IfOk result (λ fields. ShowsNames (state S.Store conn.old) (state S.Store conn.new) fields.items) }
     ensures rising { IfOk result (λ fields. AreRising fields.items) }
+    ensures kept { Turns (state S.Store conn.old) (state S.Store conn.new) (λ tables. tables) }
+    ensures still { StaysOpen (state S.Store conn.old) (state S.Store conn.new) }
 {
     let rows = match list_names(conn) {
         Ok(rows) => rows,

@@ -7,7 +7,9 @@ ghost use Rattle.sqlite.specs.State.{HasCleanDisk};
 ghost use Rattle.survey_sqlite.specs.Tables.{HasSource, LacksSource};
 ghost use Rattle.survey_sqlite.specs.Blobs.{blob_cells};
 ghost use Rattle.survey_sqlite.specs.Steps.{MakesTable};
-ghost use Rattle.survey_sqlite.specs.Calls.{Turns, StaysOpen, AnswersCells, CountsFound, AnswersNames};
+ghost use Rattle.survey_sqlite.specs.Turns.{Turns, StaysOpen};
+ghost use Rattle.survey_sqlite.specs.Calls.{CountsFound};
+ghost use Rattle.survey_sqlite.specs.Calls.{AnswersCells, AnswersNames};
 
 use crate::schema::{has_source, lacks_source};
 use sqlite::{Alter, Connection, Error, ErrorCode, Row};

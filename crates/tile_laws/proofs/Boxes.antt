@@ -77,7 +77,11 @@ answers_without : NoMeshLeavesThePlane → (connect : Connect) (choice : Choice)
 answers_without none connect choice r t k = record {
   inside = k.inside;
   on_mesh = λ some. absurd (omega arith);
-  core_sure = boxes_are_sure_without_mesh r t.window true t.core k.core_seen;
+  core_sure = λ p own. record {
+    box = window_box t.window;
+    sure = boxes_are_sure_without_mesh r t.window true (window_box t.window) (box_itself t.window);
+    there = k.core_seen p own;
+  };
   components = λ q core high. record {
     box = window_box t.window;
     sure = boxes_are_sure_without_mesh r t.window true (window_box t.window) (box_itself t.window);

@@ -4,7 +4,7 @@ use Rattle.std.specs.Prelude.{IsTrue, Contains, Some, None, slice_get}
 use Rattle.std.proofs.lemmas.Option.{same_Some}
 use Rattle.lemmas.proofs.Exported.{ArePaired, IsAmong, among_get, among_of, at_end, at_more, contains_from_among}
 use Rattle.comp_tree.specs.Raster.{Raster, IsPlane}
-use Rattle.comp_tree.specs.Windows.{is_in_box, seen_through}
+use Rattle.comp_tree.specs.Windows.{seen_through}
 use Rattle.comp_tree.proofs.Exported.{in_whole-one}
 use Rattle.mesh_background.specs.Residuals.{residual_of}
 use Rattle.node_sums.specs.Sums.{sums_of}
@@ -91,7 +91,7 @@ module _ (laws : MapLaws) (d : DetectionChoice) (r : Raster) (pieces : List Piec
   one_piece t u row other a b f g e = (one, same_row t row other a f (subst (λ (x : Piece). IsFromPiece d r x other) (sym one) g) e)
     where
       one : t ≡ u
-      one = apart (first_pixel r.shape.width row) t u a b f.own (subst (λ (p : ℕ). IsTrue (is_in_box r.shape.width u.core p)) (sym e) g.own)
+      one = apart (first_pixel r.shape.width row) t u a b f.own (subst (λ (p : ℕ). IsTrue (u.core p)) (sym e) g.own)
 
   -- ---- a row for each source
 

@@ -10,3 +10,4 @@ mod Depth
 mod Measured
 mod Backed
 mod Existing
+mod NodeBoxes

@@ -6,7 +6,7 @@ use Rattle.lemmas.proofs.Exported.{IsAmong, IsRisingBy, among-map, among_get, am
 use Rattle.comp_tree.specs.declared.shape.Connect.{Connect}
 use Rattle.comp_tree.specs.Raster.{Raster, IsPlane}
 use Rattle.comp_tree.specs.Laws.{IsNode}
-use Rattle.comp_tree.specs.Windows.{Window, in_whole, is_in_box, seen_through, DeepComponentsLieSure}
+use Rattle.comp_tree.specs.Windows.{Window, in_whole, seen_through, DeepComponentsLieSure}
 use Rattle.mesh_background.specs.Residuals.{residual_of}
 use Rattle.node_sums.specs.Sums.{sums_of}
 use Rattle.source_pick.specs.declared.catalogue.CatRow.{CatRow}
@@ -127,7 +127,7 @@ module _ (laws : TileLaws) (d : DetectionChoice) (r : Raster) (pieces : List Pie
       covered : (p : ℕ) → p < length R.values → (x : Tile) × Contains tiles x × IsTrue (x.core p)
       covered p l =
           let e : length R.values ≡ r.shape.width * r.shape.height = plane_R in
-          let c : (t : Piece) × Contains pieces t × IsTrue (is_in_box r.shape.width t.core p) = cover p (omega (arith, l, e)) in
+          let c : (t : Piece) × Contains pieces t × IsTrue (t.core p) = cover p (omega (arith, l, e)) in
           (tile_of d r c.0, contains_from_among (tile_of d r c.0) tiles (among-map (tile_of d r) c.0 pieces (among_of c.0 pieces c.1)), c.2)
 
       g : (x : Tile) × Contains tiles x × ((m : ℕ) × IsFromTile R d.connect d.choice x n m)
@@ -159,7 +159,7 @@ module _ (laws : TileLaws) (d : DetectionChoice) (r : Raster) (pieces : List Pie
       listed = subst (λ (rows : List CatRow). Contains rows row) (sym (catalogue-is (part t) d.connect d.choice))
           (contains_from_among row (rows_from (catalogue_row (part t) d.connect) 1 (sources (part t) d.connect d.choice)) there);
       moved = refl;
-      own = subst (λ (p : ℕ). IsTrue (is_in_box r.shape.width t.core p)) place k.from.from.own;
+      own = subst (λ (p : ℕ). IsTrue (t.core p)) place k.from.from.own;
     };
   }
     where
@@ -230,7 +230,7 @@ module _ (laws : TileLaws) (d : DetectionChoice) (r : Raster) (pieces : List Pie
       own = record {
         node = is.0;
         source = is.1;
-        own = subst (λ (p : ℕ). IsTrue (is_in_box r.shape.width t.core p))
+        own = subst (λ (p : ℕ). IsTrue (t.core p))
             (ap (first_pixel r.shape.width) row_is ∙ moved_first t (e.index + 1) e.it) f.own;
       }
 

@@ -3,3 +3,5 @@ pub mod Clear
 pub mod Laws
 pub mod Extents
 pub mod SecondImage
+pub mod Knowing
+pub mod Boxed

@@ -14,7 +14,7 @@ use Rattle.source_pick.specs.declared.catalogue.CatRow.{CatRow}
 use Rattle.source_pick.specs.Catalogue.{catalogue}
 use Rattle.source_pick.specs.Segmentation.{segmentation}
 use Rattle.source_pick.specs.Catalogue.{moved_row}
-use Rattle.tile_laws.specs.Clear.{window_box, IsBoxWithin, IsSureBox}
+use Rattle.tile_laws.specs.Clear.{window_box, IsSureBox}
 
 -- what detection is told: the size of the mesh (0: no background), whether the background is flat, the connectivity, and which nodes are
 -- sources
@@ -36,12 +36,18 @@ detected d r = catalogue (searched d r) d.connect d.choice
 abbrev pub mapped : DetectionChoice → Raster → List ℕ
 mapped d r = segmentation (searched d r) d.connect d.choice
 
--- a piece of an image: the window that is given to detection, and the core: the pixels of the image for whose sources it answers
+-- a piece of an image: the window that is given to detection, and the core: which pixels of the image it answers for: whose sources it tells
 pub record Piece : Type 0 where
   pub window : Window
-  pub core : Box
+  pub core : ℕ → Bool
 
 -- ---- which pieces answer for their cores
+
+-- pixel p of the image lies in a box in which the piece's background is the image's
+pub record LiesInSureBox (r : Raster) (w : Window) (flat : Bool) (mesh p : ℕ) : Type 0 where
+  pub box : Box
+  pub sure : IsSureBox r w flat mesh box
+  pub there : IsTrue (is_in_box r.shape.width box p)
 
 -- Pixel q of the piece has at least the threshold. Its component there lies deep in a box in which the piece's background is the image's:
 -- with a pixel to spare, but for the image's own edges
@@ -56,8 +62,8 @@ pub record HasSureBox (d : DetectionChoice) (r : Raster) (t : Piece) (q : ℕ) :
 pub record AnswersForCore (d : DetectionChoice) (r : Raster) (t : Piece) : Type 0 where
   pub inside : IsInside r.shape t.window
   pub on_mesh : 0 < d.mesh → IsOnMesh d.mesh t.window
-  pub core_sure : IsSureBox r t.window d.flat d.mesh t.core
-  pub components : (q : ℕ) → IsTrue (is_in_box r.shape.width t.core (in_whole r.shape.width t.window q))
+  pub core_sure : (p : ℕ) → IsTrue (t.core p) → LiesInSureBox r t.window d.flat d.mesh p
+  pub components : (q : ℕ) → IsTrue (t.core (in_whole r.shape.width t.window q))
       → IsTrue (is_at_least (searched d (seen_through t.window r)) d.choice.threshold q) → HasSureBox d r t q
 
 -- detection without a background
@@ -73,19 +79,19 @@ without_mesh connect choice = record {
 -- in the window
 pub record ShowsItsCore (connect : Connect) (choice : Choice) (r : Raster) (t : Piece) : Type 0 where
   pub inside : IsInside r.shape t.window
-  pub core_seen : IsBoxWithin (window_box t.window) t.core
-  pub components : (q b : ℕ) → IsTrue (is_in_box r.shape.width t.core (in_whole r.shape.width t.window q))
+  pub core_seen : (p : ℕ) → IsTrue (t.core p) → IsTrue (is_in_box r.shape.width (window_box t.window) p)
+  pub components : (q b : ℕ) → IsTrue (t.core (in_whole r.shape.width t.window q))
       → IsTrue (is_at_least (seen_through t.window r) choice.threshold q) → IsReached (seen_through t.window r) connect choice.threshold q b
       → IsDeepIn r.shape (window_box t.window) (in_whole r.shape.width t.window b)
 
 -- the cores cover an image of so many columns and rows
 abbrev pub CoversImage : Shape → List Piece → Type 0
-CoversImage whole pieces = (p : ℕ) → p < whole.width * whole.height → (t : Piece) × Contains pieces t × IsTrue (is_in_box whole.width t.core p)
+CoversImage whole pieces = (p : ℕ) → p < whole.width * whole.height → (t : Piece) × Contains pieces t × IsTrue (t.core p)
 
 -- and no two of them share a pixel
 abbrev pub CoresAreApart : Shape → List Piece → Type 0
-CoresAreApart whole pieces = (p : ℕ) (t u : Piece) → Contains pieces t → Contains pieces u → IsTrue (is_in_box whole.width t.core p)
-    → IsTrue (is_in_box whole.width u.core p) → t ≡ u
+CoresAreApart whole pieces = (p : ℕ) (t u : Piece) → Contains pieces t → Contains pieces u → IsTrue (t.core p)
+    → IsTrue (u.core p) → t ≡ u
 
 -- ---- how their catalogues are put together
 
@@ -98,7 +104,7 @@ pub record IsFromPiece (d : DetectionChoice) (r : Raster) (t : Piece) (row : Cat
   pub it : CatRow
   pub listed : Contains (detected d (seen_through t.window r)) it
   pub moved : row ≡ moved_row t.window it
-  pub own : IsTrue (is_in_box r.shape.width t.core (first_pixel r.shape.width row))
+  pub own : IsTrue (t.core (first_pixel r.shape.width row))
 
 -- all these rows of all pieces, in the order of their first pixels
 pub record AreMerged (d : DetectionChoice) (r : Raster) (pieces : List Piece) (rows : List CatRow) : Type 0 where

@@ -26,5 +26,5 @@ pub record HasMeasuredBox (d : DetectionChoice) (r values : Raster) (t : Piece) 
 
 -- so does that of each pixel of the core that has at least the threshold
 abbrev pub MeasuresItsCore : DetectionChoice → Raster → Raster → Piece → Type 0
-MeasuresItsCore d r values t = (q : ℕ) → IsTrue (is_in_box r.shape.width t.core (in_whole r.shape.width t.window q))
+MeasuresItsCore d r values t = (q : ℕ) → IsTrue (t.core (in_whole r.shape.width t.window q))
     → IsTrue (is_at_least (searched d (seen_through t.window r)) d.choice.threshold q) → HasMeasuredBox d r values t q

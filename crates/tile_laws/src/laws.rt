@@ -12,6 +12,7 @@ ghost use Rattle.tile_laws.specs.Laws.{
   NoMeshDetectsInTheImage,
   PiecesGiveThePlanesCatalogue,
 };
+ghost use Rattle.tile_laws.specs.Knowing.{BoxesTellTheCore, KnownCoresAreAnswered};
 
 use comp_tree::laws::sure_components_are_the_same;
 use mesh_background::laws::{no_mesh_leaves_the_plane, residual_is_a_plane, residual_is_seen};
@@ -52,3 +53,9 @@ pub fn pieces_give_the_planes_catalogue()
     no_mesh_leaves_the_plane();
     pieces_give_the_catalogue();
 }
+
+/// A window knows its core where the boxes of its nodes are settled, and answers for it then.
+pub fn boxes_tell_the_core()
+    ensures told { BoxesTellTheCore }
+    ensures answered { KnownCoresAreAnswered }
+{}

@@ -2,8 +2,10 @@
 #![tactic(auto)]
 
 mod extents;
+mod knowing;
 pub mod laws;
 #[cfg(test)]
 mod tests;
 
 pub use extents::{Extent, Interval, clear_extent, lies_deep};
+pub use knowing::{WindowPlace, box_of, first_open};

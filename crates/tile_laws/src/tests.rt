@@ -124,3 +124,35 @@ fn sources_of_two_windows(rt: HostRuntime) -> Result<(), Fail> {
     assert_eq!(rt; row_of(rt.alloc(), 4, &whole[2..], 1)?, seen);
     Ok(())
 }
+
+// Columns 2 to 5 of six. The star in column 5 ends at the image's edge; that in columns 2 and 3 may go on in column 1.
+#[test]
+fn open_nodes_of_a_window(rt: HostRuntime) -> Result<(), Fail> {
+    let whole = Shape::of(6, 1).ok_or("a shape")?;
+    let window = Shape::of(4, 1).ok_or("a shape")?;
+    assert_eq!(rt; (whole.width, whole.height), (6, 1));
+    assert_eq!(rt; (window.width, window.height), (4, 1));
+    let plane = plane_of(rt.alloc(), window, &[5, 6, 1, 7])?;
+    let tree = plain_tree(rt.alloc(), &plane, Connect::Four)?;
+    let found = sums(rt.alloc(), &plane, &tree)?;
+    let choice = Choice {
+        threshold: 2,
+        min_area: 1,
+        min_flux: 0,
+        contrast: 5,
+    };
+    let place = WindowPlace {
+        left: 2,
+        top: 0,
+        whole,
+    };
+    let shape = tree.shape();
+    assert_eq!(rt; (shape.width, shape.height), (4, 1));
+    let seen = clear_extent(false, 0, whole, 2, 0, window);
+    // node 0 has all four pixels, below the threshold; node 1 is the star in columns 2 and 3
+    let open = first_open(&tree, &found, &choice, &place, &first_row(3, 6), &seen);
+    assert_eq!(rt; open, Some(1));
+    let apart = first_open(&tree, &found, &choice, &place, &first_row(4, 6), &seen);
+    assert_eq!(rt; apart, None);
+    Ok(())
+}

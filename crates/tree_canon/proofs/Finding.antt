@@ -6,7 +6,7 @@ use Rattle.std.specs.List.{range_with_len}
 use Rattle.std.proofs.lemmas.Bool.{true≢false, eq-eqb}
 use Rattle.std.proofs.lemmas.List.{get_or_default, append-nil}
 use Rattle.comp_tree.specs.Raster.{Raster, HasGap, value_at, is_defined, is_at_least, level, pixels}
-use Rattle.comp_tree.specs.Forest.{no_node, IsWithin, ComesEarlier, link_of, IsForest}
+use Rattle.comp_tree.specs.Forest.{no_node, LiesInStretch, ComesEarlier, link_of, IsForest}
 use Rattle.comp_tree.proofs.Exported.{before_defined}
 use Rattle.tree_canon.specs.Canonical.{is_canonical}
 
@@ -24,7 +24,7 @@ pub record IsPixelLink (r : Raster) (links : List ℕ) (p : ℕ) : Type 0 where
 pub pixel_link : (r : Raster) (links : List ℕ) (p : ℕ) → IsForest r.values 0 links → p < length links → link_of 0 links p ≢ no_node → IsPixelLink r links p
 pixel_link r links p forest lt some = on (forest.earlier p (record { low = omega arith; high = omega arith }))
   where
-    on : (link_of 0 links p ≡ no_node) ⊎ (IsWithin 0 (length links) (link_of 0 links p) × ComesEarlier r.values (link_of 0 links p) p) → IsPixelLink r links p
+    on : (link_of 0 links p ≡ no_node) ⊎ (LiesInStretch 0 (length links) (link_of 0 links p) × ComesEarlier r.values (link_of 0 links p) p) → IsPixelLink r links p
     on (inl e) = absurd (some e)
     on (inr k) =
         let d = before_defined (value_at r.values (link_of 0 links p)) (value_at r.values p) (link_of 0 links p) p k.1 in

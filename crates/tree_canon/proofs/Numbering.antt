@@ -6,6 +6,7 @@ use Rattle.std.proofs.lemmas.Bool.{true≢false, cases_eq, cases_lt}
 use Rattle.std.proofs.lemmas.Bool.Decides.{leb_tells}
 use Rattle.std.proofs.lemmas.List.{get_or_past, get_or_default, get_or-map, length-map, length-replicate, get_or-replicate}
 use Rattle.std.proofs.lemmas.Option.{slice_get_within, same_Some, slice_get-get_or}
+use Rattle.comp_tree.specs.Limits.{most_pixels}
 use Rattle.comp_tree.specs.declared.tree.NodeRow.{NodeRow}
 use Rattle.comp_tree.specs.Raster.{Raster, HasGap, value_at, level, pixels}
 use Rattle.comp_tree.specs.Forest.{no_node, link_of, IsForest}
@@ -64,14 +65,14 @@ pub record IsFollowedTo (links old new : List ℕ) (k : ℕ) : Type 0 where
   pub ahead : (p : ℕ) → k ≤ p → node_number_at new p ≡ node_number_at old p
 
 -- the link of a pixel without a number leads to no pixel whose number is written now or later
-link_below : (links old : List ℕ) (p k : ℕ) → LeadBack links old → p < length links → length links ≤ 2 ^ 24 → node_number_at old p ≡ no_node → p ≤ k
+link_below : (links old : List ℕ) (p k : ℕ) → LeadBack links old → p < length links → length links ≤ most_pixels → node_number_at old p ≡ no_node → p ≤ k
     → k < length links → link_of 0 links p ≢ k
 link_below links old p k back lt few none le inside e = elim (back p lt none) [
   | inl far ↦ absurd (omega (arith, far, e, few, inside))
   | inr near ↦ absurd (omega (arith, near, e, le))
 ]
 
-module _ (links old new : List ℕ) (k : ℕ) (back : LeadBack links old) (few : length links ≤ 2 ^ 24) (count : length old ≡ length links)
+module _ (links old new : List ℕ) (k : ℕ) (back : LeadBack links old) (few : length links ≤ most_pixels) (count : length old ≡ length links)
     (inside : k < length links) (h : IsFollowedTo links old new k) where
   -- the next pixel has no number yet
   pub followed_more : node_number_at new k ≡ no_node → IsFollowedTo links old (set new k (node_number_at new (link_of 0 links k))) (k + 1)
@@ -120,7 +121,7 @@ link_none r links p forest lt undefined = elim (cases_eq (link_of 0 links p) no_
 ]
 
 -- so pixels without values have the number of their links, which is none
-pub followed_over : (r : Raster) (links old new : List ℕ) (n m : ℕ) → IsForest r.values 0 links → length links ≤ 2 ^ 24 → length old ≡ length links
+pub followed_over : (r : Raster) (links old new : List ℕ) (n m : ℕ) → IsForest r.values 0 links → length links ≤ most_pixels → length old ≡ length links
     → n ≤ m → m ≤ length links → HasGap r.values n m → IsFollowedTo links old new n → IsFollowedTo links old new m
 followed_over r links old new n m forest few count le within gap h = record {
   one_each = h.one_each;
@@ -138,7 +139,7 @@ followed_over r links old new n m forest few count le within gap h = record {
 pub followed_none : (links old : List ℕ) → IsFollowedTo links old old 0
 followed_none links old = record { one_each = refl; kept = λ p some. refl; followed = λ p lt none. absurd (omega (arith, lt)); ahead = λ p from. refl }
 
-pub followed_all : (links old new : List ℕ) → length links ≤ 2 ^ 24 → length old ≡ length links → IsFollowedTo links old new (length links)
+pub followed_all : (links old new : List ℕ) → length links ≤ most_pixels → length old ≡ length links → IsFollowedTo links old new (length links)
     → HasLinkNumbers links old new
 followed_all links old new few count h = record {
   one_each = h.one_each;
@@ -174,14 +175,14 @@ length-filter_le t (p ∷ ps) = on (t p) (length-filter_le t ps)
 pub found_few : (r : Raster) (links ps : List ℕ) → length links ≡ length r.values → ps ≡ filter (is_canonical r links) (pixels r) → length ps ≤ length links
 found_few r links ps whole is = omega (arith, ap length is, length-filter_le (is_canonical r links) (pixels r), length-pixels r)
 
-module _ (r : Raster) (links : List ℕ) (whole : length links ≡ length r.values) (forest : IsForest r.values 0 links) (few : length links ≤ 2 ^ 24)
+module _ (r : Raster) (links : List ℕ) (whole : length links ≡ length r.values) (forest : IsForest r.values 0 links) (few : length links ≤ most_pixels)
     (rows : List NodeRow) (is : rows ≡ map (loose_row r) (canonical_pixels r links)) where
   canonical_few : length (canonical_pixels r links) ≤ length links
   unfolding canonical_pixels
   canonical_few =
       omega (arith, length-in_order r (filter (is_canonical r links) (pixels r)), length-filter_le (is_canonical r links) (pixels r), length-pixels r, whole)
 
-  pub rows_few : length rows ≤ 2 ^ 24
+  pub rows_few : length rows ≤ most_pixels
   rows_few = omega (arith, ap length is, length-map (canonical_pixels r links) (loose_row r), canonical_few, few)
 
   -- the row at a place is that of the canonical pixel there

@@ -1,6 +1,7 @@
 //! The nodes of a forest and their numbers.
 
 ghost use Rattle.std.specs.Prelude.{◌≡◌, ◌≤◌, ◌^◌, length, map, filter, IfOk};
+ghost use Rattle.comp_tree.specs.Limits.{most_pixels};
 ghost use Rattle.comp_tree.specs.Raster.{pixels as all_pixels};
 ghost use Rattle.comp_tree.specs.Forest.{IsForest};
 ghost use Rattle.tree_canon.specs.Canonical.{is_canonical as is_canonical_in, canonical_pixels, loose_row, IsNumbering};
@@ -28,7 +29,7 @@ fn number_by_order(
 ) -> Result<Numbered, OutOfMemory>
     requires one_each { length links.now ≡ length plane.now.values }
     requires forest { IsForest plane.now.values 0 links.now }
-    requires few { length links.now ≤ 2 ^ 24 }
+    requires few { length links.now ≤ most_pixels }
     requires canonical { pixels.now ≡ filter (is_canonical_in plane.now links.now) (all_pixels plane.now) }
     ensures rows { IfOk result (λ made. made.rows.items ≡ map (loose_row plane.now) (canonical_pixels plane.now links.now)) }
     ensures numbers { IfOk result (λ made. IsNumbering plane.now links.now made.numbers.items) }
@@ -48,7 +49,7 @@ pub(crate) fn number_nodes(
 ) -> Result<Numbered, OutOfMemory>
     requires one_each { length links.now ≡ length plane.now.values }
     requires forest { IsForest plane.now.values 0 links.now }
-    requires few { length links.now ≤ 2 ^ 24 }
+    requires few { length links.now ≤ most_pixels }
     requires canonical { pixels.now ≡ filter (is_canonical_in plane.now links.now) (all_pixels plane.now) }
     ensures rows { IfOk result (λ made. made.rows.items ≡ map (loose_row plane.now) (canonical_pixels plane.now links.now)) }
     ensures numbers { IfOk result (λ made. IsNumbering plane.now links.now made.numbers.items) }

@@ -1,6 +1,7 @@
 //! The number of each pixel's node.
 
 ghost use Rattle.std.specs.Prelude.{◌≡◌, ◌+◌, ◌<◌, ◌≤◌, ◌^◌, length, map, All, IfOk};
+ghost use Rattle.comp_tree.specs.Limits.{most_pixels};
 ghost use Rattle.comp_tree.specs.Raster.{HasGap};
 ghost use Rattle.comp_tree.specs.Forest.{IsForest};
 ghost use Rattle.tree_canon.specs.Canonical.{canonical_pixels, loose_row, node_number_at as number_in, IsNumbering};
@@ -19,7 +20,7 @@ pub(crate) fn number_pixels(
 ) -> Result<Vec<u32>, OutOfMemory>
     requires one_each { length links.now ≡ length plane.now.values }
     requires forest { IsForest plane.now.values 0 links.now }
-    requires few { length links.now ≤ 2 ^ 24 }
+    requires few { length links.now ≤ most_pixels }
     requires canonical { rows.now ≡ map (loose_row plane.now) (canonical_pixels plane.now links.now) }
     ensures { IfOk result (λ numbers. IsNumbering plane.now links.now numbers.items) }
 {
@@ -39,7 +40,7 @@ pub(crate) fn node_number_at(numbers: &[u32], p: u32) -> u32
 
 // Gives the pixel of each row the number of the row.
 fn number_rows(rows: &[NodeRow], numbers: &mut [u32])
-    requires few { length rows.now ≤ 2 ^ 24 }
+    requires few { length rows.now ≤ most_pixels }
     requires within { All (λ row. row.rep < length numbers.old) rows.now }
     requires apart { HaveOwnPixels rows.now }
     ensures { HasRowNumbers rows.now numbers.old numbers.new }
@@ -71,7 +72,7 @@ pub(crate) fn number_others(plane: &Plane, links: &[u32], numbers: &mut [u32])
     requires link_each { length links.now ≡ length plane.now.values }
     requires forest { IsForest plane.now.values 0 links.now }
     requires one_each { length numbers.old ≡ length links.now }
-    requires few { length links.now ≤ 2 ^ 24 }
+    requires few { length links.now ≤ most_pixels }
     requires back { LeadBack links.now numbers.old }
     ensures { HasLinkNumbers links.now numbers.old numbers.new }
 {

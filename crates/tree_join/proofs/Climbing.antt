@@ -7,7 +7,7 @@ use Rattle.std.proofs.lemmas.List.{get_or-set_same, get_or-set_other, length-set
 use Rattle.std.proofs.lemmas.Grind.{get_or_default_zero}
 use Rattle.comp_tree.specs.Joined.{Joined, Or, Only}
 use Rattle.comp_tree.specs.EarlierCounts.{earlier_count}
-use Rattle.comp_tree.specs.Forest.{no_node, value_at, ReachesLevel, IsWithin, IsHigh, ComesEarlier, link_of, IsLink, IsForest, JoinSame}
+use Rattle.comp_tree.specs.Forest.{no_node, value_at, ReachesLevel, LiesInStretch, IsHigh, ComesEarlier, link_of, IsLink, IsForest, JoinSame}
 use Rattle.comp_tree.specs.Defined.{HasValue}
 use Rattle.tree_join.specs.Skips.{IsPixel, IsSkip, AreSkips, IsPutDown, IsLeft, IsNoted}
 use Rattle.tree_join.specs.Walks.{AreLike, IsWalk, IsUp}
@@ -159,16 +159,16 @@ module _ (values : List (Option ℤ)) (first : ℕ) (start links : List ℕ) (fo
     (same_length : length links ≡ length start)
     (same : JoinSame values first (length start) (IsLink first links) (IsLink first start))
     (a : ℕ) (pa : IsPixel values first (length start) a) (ne : get_or links (a - first) 0 ≡ no_node → ⊥) where
-  wa : IsWithin first (length links) a
-  wa = subst (λ n. IsWithin first n a) (sym same_length) pa.within
+  wa : LiesInStretch first (length links) a
+  wa = subst (λ n. LiesInStretch first n a) (sym same_length) pa.within
 
   link_read : link_of first links a ≡ get_or links (a - first) 0
   link_read = get_or_default_zero links (a - first) no_node (let low : first ≤ a = wa.low in let high : a < first + length links = wa.high in omega arith)
 
-  fits : IsWithin first (length links) (get_or links (a - first) 0) × ComesEarlier values (get_or links (a - first) 0) a
-  fits = subst (λ q. IsWithin first (length links) q × ComesEarlier values q a) link_read (⊎_elim
+  fits : LiesInStretch first (length links) (get_or links (a - first) 0) × ComesEarlier values (get_or links (a - first) 0) a
+  fits = subst (λ q. LiesInStretch first (length links) q × ComesEarlier values q a) link_read (⊎_elim
       (λ (e : link_of first links a ≡ no_node). absurd (ne (sym link_read ∙ e)))
-      (λ (e : IsWithin first (length links) (link_of first links a) × ComesEarlier values (link_of first links a) a). e) (forest.earlier a wa))
+      (λ (e : LiesInStretch first (length links) (link_of first links a) × ComesEarlier values (link_of first links a) a). e) (forest.earlier a wa))
 
   pub link_earlier : ComesEarlier values (get_or links (a - first) 0) a
   link_earlier = fits.1
@@ -176,7 +176,7 @@ module _ (values : List (Option ℤ)) (first : ℕ) (start links : List ℕ) (fo
   pub link_skip : IsSkip values first (length start) (IsLink first start) a (get_or links (a - first) 0)
   link_skip = record {
     pixel = record {
-      within = subst (λ n. IsWithin first n (get_or links (a - first) 0)) same_length fits.0;
+      within = subst (λ n. LiesInStretch first n (get_or links (a - first) 0)) same_length fits.0;
       value = (before_defined (value_at values (get_or links (a - first) 0)) (value_at values a) (get_or links (a - first) 0) a fits.1).0;
     };
     joins = λ h g. (same.same h a (get_or links (a - first) 0)).0

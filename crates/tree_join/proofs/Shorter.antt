@@ -6,7 +6,7 @@ use Rattle.std.proofs.lemmas.Bool.{true≢false}
 use Rattle.std.proofs.lemmas.Grind.{get_or_default_zero}
 use Rattle.comp_tree.specs.Joined.{Joined, Only}
 use Rattle.comp_tree.specs.Raster.{Raster, level}
-use Rattle.comp_tree.specs.Forest.{no_node, value_at, ReachesLevel, IsWithin, IsHigh, ComesEarlier, link_of, IsLink, IsForest, JoinSame}
+use Rattle.comp_tree.specs.Forest.{no_node, value_at, ReachesLevel, LiesInStretch, IsHigh, ComesEarlier, link_of, IsLink, IsForest, JoinSame}
 use Rattle.tree_join.specs.Skips.{IsPixel}
 use Rattle.comp_tree.proofs.Exported.{links_before, links_after, link_hung, forest_hung, joined_trans, joined_sym, joined_pair, joined_within, at_only}
 use Rattle.comp_tree.proofs.Exported.{int_le-true, int_le-from, before_irrefl, before_trans, high_up}
@@ -48,36 +48,36 @@ unfolding level
 low_read r c h w e a = subst (λ z. ReachesLevel z w) (sym e) a
 
 -- What is read of a pixel's link, and where that leads.
-module _ (values : List (Option ℤ)) (first : ℕ) (links : List ℕ) (forest : IsForest values first links) (p link : ℕ) (inside : IsWithin first (length links) p)
+module _ (values : List (Option ℤ)) (first : ℕ) (links : List ℕ) (forest : IsForest values first links) (p link : ℕ) (inside : LiesInStretch first (length links) p)
     (read : get_or links (p - first) 0 ≡ link) where
   pub link_told : link_of first links p ≡ link
   link_told = get_or_default_zero links (p - first) no_node
       (let low : first ≤ p = inside.low in let high : p < first + length links = inside.high in omega arith) ∙ read
 
-  pub link_leads : (link ≡ no_node → ⊥) → IsWithin first (length links) link × ComesEarlier values link p
-  link_leads some = subst (λ z. IsWithin first (length links) z × ComesEarlier values z p) link_told (⊎_elim
+  pub link_leads : (link ≡ no_node → ⊥) → LiesInStretch first (length links) link × ComesEarlier values link p
+  link_leads some = subst (λ z. LiesInStretch first (length links) z × ComesEarlier values z p) link_told (⊎_elim
       (λ (n : link_of first links p ≡ no_node). absurd (some (sym link_told ∙ n)))
-      (λ (f : IsWithin first (length links) (link_of first links p) × ComesEarlier values (link_of first links p) p). f)
+      (λ (f : LiesInStretch first (length links) (link_of first links p) × ComesEarlier values (link_of first links p) p). f)
       (forest.earlier p inside))
 
 -- The code reads the links with the default 0.
 module _ (values : List (Option ℤ)) (first : ℕ) (links : List ℕ) (forest : IsForest values first links) (small : first + length links ≤ no_node)
     (a c d : ℕ) (pa : IsPixel values first (length links) a) (link : get_or links (a - first) 0 ≡ c) (linked : c ≡ no_node → ⊥)
     (next : get_or links (c - first) 0 ≡ d) (more : d ≡ no_node → ⊥) where
-  read_link : (x : ℕ) → IsWithin first (length links) x → link_of first links x ≡ get_or links (x - first) 0
+  read_link : (x : ℕ) → LiesInStretch first (length links) x → link_of first links x ≡ get_or links (x - first) 0
   read_link x w = get_or_default_zero links (x - first) no_node (let low : first ≤ x = w.low in let high : x < first + length links = w.high in omega arith)
 
-  link_fits : (x q : ℕ) → IsWithin first (length links) x → get_or links (x - first) 0 ≡ q → (q ≡ no_node → ⊥)
-      → IsWithin first (length links) q × ComesEarlier values q x
-  link_fits x q w e ne = subst (λ z. IsWithin first (length links) z × ComesEarlier values z x) (read_link x w ∙ e) (⊎_elim
+  link_fits : (x q : ℕ) → LiesInStretch first (length links) x → get_or links (x - first) 0 ≡ q → (q ≡ no_node → ⊥)
+      → LiesInStretch first (length links) q × ComesEarlier values q x
+  link_fits x q w e ne = subst (λ z. LiesInStretch first (length links) z × ComesEarlier values z x) (read_link x w ∙ e) (⊎_elim
       (λ (n : link_of first links x ≡ no_node). absurd (ne (sym e ∙ (sym (read_link x w) ∙ n))))
-      (λ (f : IsWithin first (length links) (link_of first links x) × ComesEarlier values (link_of first links x) x). f)
+      (λ (f : LiesInStretch first (length links) (link_of first links x) × ComesEarlier values (link_of first links x) x). f)
       (forest.earlier x w))
 
-  c_fits : IsWithin first (length links) c × ComesEarlier values c a
+  c_fits : LiesInStretch first (length links) c × ComesEarlier values c a
   c_fits = link_fits a c pa.within link linked
 
-  d_fits : IsWithin first (length links) d × ComesEarlier values d c
+  d_fits : LiesInStretch first (length links) d × ComesEarlier values d c
   d_fits = link_fits c d c_fits.0 next more
 
   pub past_earlier : ComesEarlier values d a

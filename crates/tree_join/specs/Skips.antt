@@ -1,12 +1,12 @@
 -- Bookkeeping: skips over ways that were joined before, and the table that holds them.
 use Rattle.std.specs.Prelude.{◌≡◌, ℕ, ◌<◌, ◌⊎◌, List, length, Option, ℤ, slice_index, set}
 use Rattle.comp_tree.specs.Joined.{Joined}
-use Rattle.comp_tree.specs.Forest.{no_node, value_at, IsWithin, IsHigh}
+use Rattle.comp_tree.specs.Forest.{no_node, value_at, LiesInStretch, IsHigh}
 use Rattle.comp_tree.specs.Defined.{HasValue}
 
 -- p is one of the count pixels from first on, and defined
 pub record IsPixel (values : List (Option ℤ)) (first count p : ℕ) : Type 0 where
-  pub within : IsWithin first count p
+  pub within : LiesInStretch first count p
   pub value : HasValue (value_at values p)
 
 -- E joins x with the pixel y at each level up to the value of y

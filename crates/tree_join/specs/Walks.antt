@@ -1,5 +1,6 @@
 -- Bookkeeping: what a walk needs and keeps, and its steps.
 use Rattle.std.specs.Prelude.{ℕ, ◌+◌, ◌^◌, ◌≤◌, List, length, Option, ℤ}
+use Rattle.comp_tree.specs.Limits.{most_pixels}
 use Rattle.comp_tree.specs.Joined.{Or, Only}
 use Rattle.comp_tree.specs.Forest.{ComesEarlier, IsForest, IsLink, JoinSame}
 use Rattle.tree_join.specs.Skips.{IsPixel, IsSkip, AreSkips}
@@ -7,7 +8,7 @@ use Rattle.tree_join.specs.Skips.{IsPixel, IsSkip, AreSkips}
 -- the links of some pixels of a plane, in the order of a forest
 pub record AreLinks (values : List (Option ℤ)) (first : ℕ) (links : List ℕ) : Type 0 where
   pub inside : first + length links ≤ length values
-  pub small : length values ≤ 2 ^ 24
+  pub small : length values ≤ most_pixels
   pub forest : IsForest values first links
 
 -- other links in this order that join the same

@@ -17,9 +17,10 @@
 #![tactic(auto)]
 
 ghost use Rattle.std.specs.Prelude.{◌^◌, ◌≡◌, ℕ, ◌+◌, ◌*◌, ◌<◌, ◌≤◌, length, List};
+ghost use Rattle.comp_tree.specs.Limits.{most_pixels};
 ghost use Rattle.comp_tree.specs.Joined.{Or, Has};
 ghost use Rattle.comp_tree.specs.Counts.{count_defined};
-ghost use Rattle.comp_tree.specs.Forest.{StandsFor, IsForest, IsLink, JoinSame, IsWithin};
+ghost use Rattle.comp_tree.specs.Forest.{StandsFor, IsForest, IsLink, JoinSame, LiesInStretch};
 ghost use Rattle.tree_join.specs.Moves.{IsSpan, span_size};
 ghost use Rattle.tree_join.specs.Walks.{HaveTrueSkips};
 ghost use Rattle.tree_join.specs.Boundary.{row_start, IsBoundary, boundary_size};
@@ -54,7 +55,7 @@ fn join_span<L: Ledger, M: Ledger>(
     requires low { rows.now.first ≤ low }
     requires span { low ≤ high }
     requires high { high ≤ rows.now.first + length links.old.places.now }
-    requires p_in { IsWithin rows.now.first (length links.old.places.now) p }
+    requires p_in { LiesInStretch rows.now.first (length links.old.places.now) p }
     ensures same_reference { links.new.places.ghost_name ≡ links.old.places.ghost_name }
     ensures same_length { length links.new.places.now ≡ length links.old.places.now }
     ensures ready { HaveTrueSkips rows.now.plane.now.values rows.now.first links.new.places.now skips.new.from skips.new.to }
@@ -82,7 +83,7 @@ fn join_span<L: Ledger, M: Ledger>(
 // The columns from and up to which a pixel of column `x` has neighbours in the next row.
 fn columns(connect: Connect, width: u32, x: u32) -> (u32, u32)
     requires inside { x < width }
-    requires small { width ≤ 2 ^ 24 }
+    requires small { width ≤ most_pixels }
     ensures first { result.0 ≡ first_column connect x }
     ensures end { result.1 ≡ end_column connect width x }
 {
@@ -105,7 +106,7 @@ fn join_rows<L: Ledger, M: Ledger>(
 )
     requires width { 0 < width }
     requires rows { first_row * width + length links.old.places.now ≤ length plane.now.values }
-    requires small { length plane.now.values ≤ 2 ^ 24 }
+    requires small { length plane.now.values ≤ most_pixels }
     requires below { first_row < row }
     requires inside { (row + 1) * width ≤ first_row * width + length links.old.places.now }
     requires forest { IsForest plane.now.values (first_row * width) links.old.places.now }

@@ -30,7 +30,7 @@ pub record AreCells (tree : ComponentTree) (sums : List Sums) (picked : List ℕ
   pub exact : (plane : Raster) (connect : Connect) → tree ≡ tree_of plane connect → sums ≡ sums_in plane connect
       → rows ≡ take count (catalogue_of plane connect picked)
 
-pub few_picked : (tree : ComponentTree) (picked : List ℕ) → AreDisjointNodes tree picked → length picked ≤ 2 ^ 24
+pub few_picked : (tree : ComponentTree) (picked : List ℕ) → AreDisjointNodes tree picked → length picked ≤ 2147483647
 few_picked tree picked d = omega (arith, few_marked tree picked d, few_rows tree picked d)
 
 pub no_cells : (tree : ComponentTree) (sums : List Sums) (picked : List ℕ) (items : List ℤ) → items ≡ [] → AreCells tree sums picked 0 items
@@ -96,7 +96,7 @@ all_cells tree sums picked count items are whole plane connect tree_is sums_are 
     are.made ∙ ap (flat_map cells_of) (rows_all plane connect picked count are.rows (are.exact plane connect tree_is sums_are) whole)
 
 pub cells_table : (tree : ComponentTree) (sums : List Sums) (picked : List ℕ) (count : ℕ) (items : List ℤ) → AreCells tree sums picked count items
-    → count ≤ 2 ^ 24
+    → count ≤ 2147483647
     → IsTable catalogue_columns items
 cells_table tree sums picked count items are few =
     let rows = rows_are_table catalogue_columns cells_of are.rows catalogue_are_columns are.fit (omega (arith, are.one_each, few)) in

@@ -44,12 +44,12 @@ map_cut a b c shape numbers numbers' rest first second same =
 -- a map with a number for each pixel, and a table, can be written
 pub can_be_written : (plane : Raster) (tree : ComponentTree) (shape : Shape) (numbers : List ℕ) (cells : List ℤ) → IsTreeOfPlane plane tree
     → shape ≡ plane.shape
-    → length plane.values ≡ shape.width * shape.height → length numbers ≡ length tree.node_of → ((p : ℕ) → slice_index numbers p ≤ 2 ^ 24)
+    → length plane.values ≡ shape.width * shape.height → length numbers ≡ length tree.node_of → ((p : ℕ) → slice_index numbers p ≤ 2147483647)
     → IsTable catalogue_columns cells
     → IsDetection shape numbers cells
 can_be_written plane tree shape numbers cells of_plane same whole one_each few table = record {
   one_each = one_each ∙ numbers-length plane of_plane.0 tree of_plane.1 ∙ whole;
-  small = λ k d within. subst (λ n. n ≤ 2 ^ 24) (get_or_default numbers k 0 d within) (few k);
+  small = λ k d within. subst (λ n. n ≤ 2147483647) (get_or_default numbers k 0 d within) (few k);
   table = table;
 }
 

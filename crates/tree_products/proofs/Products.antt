@@ -1,5 +1,5 @@
 -- What is made of an image is what its order writes.
-use Rattle.std.proofs.Common.{◌≡◌, ◌∙◌, ap, sym, subst, ℕ, Bool, Result, Ok, Err, IfOk}
+use Rattle.std.proofs.Common.{◌≡◌, ◌∙◌, ap, sym, subst, ℕ, ◌*◌, ◌^◌, ◌≤◌, Bool, Result, Ok, Err, IfOk}
 use Rattle.comp_tree.specs.declared.shape.Shape.{Shape}
 use Rattle.comp_tree.specs.declared.shape.Connect.{Connect}
 use Rattle.comp_tree.specs.Raster.{Raster}
@@ -10,6 +10,7 @@ use Rattle.orders.specs.declared.words.Order.{Order}
 use Rattle.tree_products.specs.declared.product.Product.{Product}
 use Rattle.orders.specs.declared.words.Job.{Job}
 use Rattle.orders.specs.declared.words.Job.TheVariants.{Trial}
+use Rattle.orders.specs.Words.{HasJobLimits}
 use Rattle.tree_products.specs.Products.{output_of_job, output_of}
 use Rattle.tree_products.specs.Writables.{bytes_of, SuitsJob}
 use Rattle.tree_products.specs.Trials.{trial_image}
@@ -26,7 +27,8 @@ made_of_image order image plane left tree (Ok product) residual same is bytes =
 made_of_image order image plane left tree (Err e) residual same is bytes = tt
 
 -- a trial takes its image less the background
-pub suits_made : (job : Job) (seed : ℕ) (shape : Shape) (mesh : ℕ) (flat : Bool) → job ≡ Trial seed shape
+pub suits_made : (job : Job) (seed : ℕ) (shape : Shape) (mesh : ℕ) (flat : Bool) → job ≡ Trial seed shape → HasJobLimits job
     → SuitsJob job (residual_of (trial_image seed shape) mesh flat)
-suits_made job seed shape mesh flat is =
-    subst (λ j. SuitsJob j (residual_of (trial_image seed shape) mesh flat)) (sym is) (trial_residual_is_small seed shape mesh flat)
+suits_made job seed shape mesh flat is limits =
+    let few : shape.width * shape.height ≤ 2 ^ 24 = subst HasJobLimits is limits in
+    subst (λ j. SuitsJob j (residual_of (trial_image seed shape) mesh flat)) (sym is) (trial_residual_is_small seed shape mesh flat few)

@@ -1,17 +1,17 @@
 -- The residual of a trial's image has small values.
-use Rattle.std.proofs.Common.{◌≡◌, ℕ, ◌+◌, ◌*◌, ◌/◌, ◌%◌, ◌<◌, ◌≤◌, ◌⊎◌, inl, inr, get_or, Bool, true, false, cond, List, [], ◌∷◌, length, map}
-use Rattle.std.proofs.Common.{refl, sym, subst, arith}
+use Rattle.std.proofs.Common.{◌≡◌, ℕ, ◌+◌, ◌*◌, ◌/◌, ◌%◌, ◌^◌, ◌<◌, ◌≤◌, ◌⊎◌, inl, inr, get_or, Bool, true, false, cond, List, [], ◌∷◌, length, map}
+use Rattle.std.proofs.Common.{refl, sym, subst, arith, ◌∙◌}
 use Rattle.std.specs.Prelude.{◌==◌, ◌≢◌, ℤ, pos, ◌-ℤ◌, filter, slice_get, Option, Some, None, unwrap_or, All}
 use Rattle.std.specs.Option.{option_map}
 use Rattle.std.specs.List.{flat_map, range_with_len}
 use Rattle.std.proofs.lemmas.Bool.{cases_lt, eqb-false}
 use Rattle.std.proofs.lemmas.Int.{ints}
-use Rattle.std.proofs.lemmas.List.{get_or_past}
+use Rattle.std.proofs.lemmas.List.{get_or_past, length-map}
 use Rattle.std.proofs.lemmas.List.Elements.{All-nil, All-append, All-map, All-contains}
 use Rattle.std.proofs.lemmas.Option.{none-some}
 use Rattle.comp_tree.specs.declared.shape.Shape.{Shape}
 use Rattle.comp_tree.specs.Raster.{Raster, pixels, value_at, is_defined, level}
-use Rattle.comp_tree.proofs.Exported.{IsImage, get_from_map, get-pixels}
+use Rattle.comp_tree.proofs.Exported.{IsImage, get_from_map, get-pixels, length-pixels}
 use Rattle.mesh_background.specs.Medians.{IsLowerMedian, lower_median}
 use Rattle.mesh_background.specs.Mesh.{cells_along, cell_count, mesh_cell_of, cell_pixels, defined_values, image_value, mesh_value, values_of_mesh}
 use Rattle.mesh_background.specs.Smoothing.{number_in_grid, places_around, numbers_around, filtered_number, filtered_mesh}
@@ -19,7 +19,7 @@ use Rattle.mesh_background.specs.Residuals.{filtered_values, pixel_level, backgr
 use Rattle.mesh_background.proofs.Exported.{the_one, stay_between, columns-some, length-smooth}
 use Rattle.tree_products.specs.Trials.{trial_image}
 use Rattle.tree_products.specs.TrialSizes.{IsSmall, HasSmallValues}
-use Rattle.tree_products.proofs.Trials.{IsByte, trial_bytes, get_from_read, level-from}
+use Rattle.tree_products.proofs.Trials.{IsByte, trial_bytes, trial_length, get_from_read, level-from}
 
 -- a plane whose values are from 0 to 255
 record HasBytes (r : Raster) : Type 0 where
@@ -118,6 +118,13 @@ small-residual r mesh flat p v h e =
     let place : image.it ≡ p = get-pixels r p image.it image.at in
     small-at r mesh flat p v h (subst (λ q. residual_at r mesh flat q ≡ Some v) place image.gives)
 
-pub trial_residual_is_small : (seed : ℕ) (shape : Shape) (mesh : ℕ) (flat : Bool) → HasSmallValues (residual_of (trial_image seed shape) mesh flat).values
-trial_residual_is_small seed shape mesh flat =
-    record { each = λ p v e. small-residual (trial_image seed shape) mesh flat p v (record { each = trial_bytes seed shape }) e }
+length-residual : (r : Raster) (mesh : ℕ) (flat : Bool) → length (residual_of r mesh flat).values ≡ length r.values
+unfolding residual_of
+length-residual r mesh flat = length-map (pixels r) (residual_at r mesh flat) ∙ length-pixels r
+
+pub trial_residual_is_small : (seed : ℕ) (shape : Shape) (mesh : ℕ) (flat : Bool) → shape.width * shape.height ≤ 2 ^ 24
+    → HasSmallValues (residual_of (trial_image seed shape) mesh flat).values
+trial_residual_is_small seed shape mesh flat few = record {
+  each = λ p v e. small-residual (trial_image seed shape) mesh flat p v (record { each = trial_bytes seed shape }) e;
+  few = omega (arith, few, length-residual (trial_image seed shape) mesh flat, trial_length seed shape);
+}

@@ -1,7 +1,7 @@
 -- The trial's image: its states, its values, and how large what is made of it is.
 use Rattle.std.proofs.Common.{◌≡◌, ℕ, ◌+◌, ◌*◌, ◌/◌, ◌^◌, ◌<◌, ◌≤◌, zero, suc, List, [], ◌∷◌, length, map}
 use Rattle.std.proofs.Common.{refl, sym, ap, subst, ◌∙◌, arith}
-use Rattle.std.specs.Prelude.{ℤ, pos, ◌-ℤ◌, ◌≤ℤ◌, slice_get, Option, Some, None, unwrap_or}
+use Rattle.std.specs.Prelude.{ℤ, pos, nat_le, Bool, true, false, cond, ◌-ℤ◌, ◌≤ℤ◌, slice_get, Option, Some, None, unwrap_or}
 use Rattle.std.proofs.lemmas.Int.{ints}
 use Rattle.std.proofs.lemmas.Nat.{mod_below}
 use Rattle.std.proofs.lemmas.List.{length-map}
@@ -10,16 +10,18 @@ use Rattle.comp_tree.specs.declared.shape.Shape.{Shape}
 use Rattle.comp_tree.specs.declared.shape.Connect.{Connect}
 use Rattle.comp_tree.specs.Raster.{Raster, IsPlane, value_at, level}
 use Rattle.comp_tree.specs.ComponentTree.{ComponentTree}
-use Rattle.comp_tree.specs.Components.{nodes, tree_of}
+use Rattle.comp_tree.specs.Components.{nodes, tree_of, is_in_node}
 use Rattle.comp_tree.specs.Laws.{top_of}
 use Rattle.comp_tree.proofs.Exported.{length-rows}
-use Rattle.comp_tree.specs.Raster.{HasValuesInHalfRange}
+use Rattle.comp_tree.specs.Raster.{HasValuesInHalfRange, pixels}
+use Rattle.comp_tree.specs.Limits.{IsWithin, value_bound, half_bound}
+use Rattle.comp_tree.proofs.Exported.{half_twice, within_more, length-pixels}
 use Rattle.node_sums.specs.declared.entry.Sums.{Sums}
 use Rattle.comp_tree.specs.Nesting.{pixels_of}
 use Rattle.node_sums.specs.Sums.{AreOfPlane}
 use Rattle.node_sums.specs.Flux.{base_of, flux_of}
 use Rattle.node_sums.specs.Sizes.{IsUpTo}
-use Rattle.node_sums.proofs.Exported.{few-pixels_of, up_to-minus, total-up_to, BaseCase, at_root, at_child, base-case, flux-is}
+use Rattle.node_sums.proofs.Exported.{length-filter-le, up_to-minus, total-up_to, BaseCase, at_root, at_child, base-case, flux-is}
 use Rattle.tree_products.specs.Trials.{next_state, states_behind, value_of_state, trial_image}
 use Rattle.tree_products.specs.TrialSizes.{IsSmall, HasSmallValues}
 use Rattle.tree_products.specs.TrialSizes.{HasSmallFluxes, flux_bound}
@@ -70,7 +72,7 @@ pub record IsByte (value : ℤ) : Type 0 where
   pub low : pos 0 ≤ℤ value
   pub high : value ≤ℤ pos 255
 
-byte-of_state : (state : ℕ) → state < 2 ^ 32 → IsByte (pos (state / 2 ^ 24))
+pub byte-of_state : (state : ℕ) → state < 2 ^ 32 → IsByte (pos (state / 2 ^ 24))
 byte-of_state state h = let l : state / 2 ^ 24 ≤ 255 = omega arith in record { low = omega (arith, ints); high = omega (arith, ints) }
 
 bytes-of_states : (state n p : ℕ) (v : ℤ) → slice_get (map value_of_state (states_behind state n)) p ≡ Some (Some v) → IsByte v
@@ -84,15 +86,36 @@ pub trial_bytes : (seed : ℕ) (shape : Shape) (p : ℕ) (v : ℤ) → slice_get
 unfolding trial_image
 trial_bytes seed shape p v e = bytes-of_states seed (shape.width * shape.height) p v e
 
+bytes_half : (count : ℕ) → 255 ≤ half_bound count
+unfolding half_bound
+bytes_half count = go (nat_le count (2 ^ 24))
+  where
+    go : (b : Bool) → 255 ≤ cond b (2 ^ 36) (2 ^ 29)
+    go true = omega arith
+    go false = omega arith
+
+-- a small value is within half of the range of any plane
+pub small_in_half : (count : ℕ) (v : ℤ) → IsSmall v → IsWithin (half_bound count) v
+small_in_half count v small = within_more 255 (half_bound count) v (bytes_half count) (record { low = small.low; high = small.high })
+
 pub trial_is_storable : (seed : ℕ) (shape : Shape) → HasValuesInHalfRange (trial_image seed shape).values
 trial_is_storable seed shape = record {
-  each = λ p v e. let b : IsByte v = trial_bytes seed shape p v e in record { low = omega (arith, ints, b.low); high = omega (arith, ints, b.high) };
+  each = λ p v e.
+      let b : IsByte v = trial_bytes seed shape p v e in
+      small_in_half (length (trial_image seed shape).values) v (record { low = omega (arith, ints, b.low); high = b.high });
 }
 
-pub trial_is_small : (seed : ℕ) (shape : Shape) → HasSmallValues (trial_image seed shape).values
-trial_is_small seed shape = record {
+pub trial_is_small : (seed : ℕ) (shape : Shape) → shape.width * shape.height ≤ 2 ^ 24 → HasSmallValues (trial_image seed shape).values
+trial_is_small seed shape few = record {
   each = λ p v e. let b : IsByte v = trial_bytes seed shape p v e in record { low = omega (arith, ints, b.low); high = b.high };
+  few = omega (arith, few, trial_length seed shape);
 }
+
+-- such a value stands in any plane
+pub byte_in_range : (count : ℕ) (v : ℤ) → IsByte v → IsWithin (value_bound count) v
+byte_in_range count v b =
+    let small : IsWithin 255 v = record { low = omega (arith, ints, b.low); high = b.high } in
+    within_more 255 (value_bound count) v (omega (arith, bytes_half count, half_twice count)) small
 
 -- ---- the level of a pixel
 
@@ -128,11 +151,15 @@ small-base r connect n plane small hn = go (base-case r connect n plane hn)
 up_to-area : (area : ℕ) (z : ℤ) → area ≤ 2 ^ 24 → IsUpTo (510 * area) z → z ≤ℤ pos flux_bound
 up_to-area area z few h = omega (arith, ints, h.high)
 
+few_of_node : (r : Raster) (connect : Connect) (n : ℕ) → length r.values ≤ 2 ^ 24 → length (pixels_of r connect n) ≤ 2 ^ 24
+unfolding pixels_of
+few_of_node r connect n few = omega (arith, length-filter-le (is_in_node r connect n) (pixels r), length-pixels r, few)
+
 small-flux : (r : Raster) (connect : Connect) (n : ℕ) → IsPlane r → HasSmallValues r.values → n < length (nodes r connect)
     → flux_of r connect n ≤ℤ pos flux_bound
 unfolding flux_of
 small-flux r connect n plane small hn =
-    up_to-area (length (pixels_of r connect n)) _ (few-pixels_of r connect n plane)
+    up_to-area (length (pixels_of r connect n)) _ (few_of_node r connect n small.few)
     (total-up_to (λ p. level r p -ℤ base_of (tree_of r connect) n) 510 (pixels_of r connect n)
     (λ p m. up_to-minus 255 255 (level r p) (base_of (tree_of r connect) n) (small-level r p small) (small-base r connect n plane small hn)))
 

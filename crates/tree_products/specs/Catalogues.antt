@@ -26,5 +26,5 @@ detected_hdus r connect choice = hdus r.shape (segmentation r connect choice) (c
 -- a map and cells that can be written
 pub record IsDetection (shape : Shape) (numbers : List ℕ) (cells : List ℤ) : Type 0 where
   pub one_each : length numbers ≡ shape.width * shape.height
-  pub small : All (λ n. n ≤ 2 ^ 24) numbers
+  pub small : All (λ n. n ≤ 2147483647) numbers
   pub table : IsTable catalogue_columns cells

@@ -11,7 +11,7 @@ use Rattle.tree_products.specs.Catalogues.{hdus, IsDetection}
 use Rattle.tree_products.specs.Trials.{trial_line}
 use Rattle.tree_products.specs.TrialSizes.{HasSmallValues}
 
--- the values of a trial's plane are small, so that its fluxes can be added up; no plane by itself suits a job that measures
+-- the values of a trial's plane are small and few, so that its fluxes can be added up; no plane by itself suits a job that measures
 abbrev pub SuitsJob : Job → Raster → Type 0
 SuitsJob Tree plane = Unit {0}
 SuitsJob (Filter rule criterion) plane = Unit {0}

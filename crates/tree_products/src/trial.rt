@@ -1,5 +1,5 @@
 //! The trial: an image that is made from a number, and what is told of it.
-ghost use Rattle.std.specs.Prelude.{◌≡◌, ◌≤◌, ◌^◌, length, count_by, sum_by, IfOk};
+ghost use Rattle.std.specs.Prelude.{◌≡◌, ◌≤◌, length, count_by, sum_by, IfOk};
 ghost use Rattle.dev_io.specs.Causes.{HasCause};
 ghost use Rattle.dev_io.specs.Streams.{PutAppends};
 ghost use Rattle.comp_tree.specs.declared.shape.Connect.{Connect};
@@ -67,7 +67,7 @@ pub fn trial_image(alloc: Global, seed: u32, shape: Shape) -> Result<Plane, OutO
 }
 
 fn count_roots(rows: &[NodeRow]) -> u32
-    requires { length rows.now ≤ 2 ^ 24 }
+    requires { length rows.now ≤ 2147483647 }
     ensures { result ≡ count_by is_root_row rows.now }
 {
     let mut roots = 0;
@@ -80,7 +80,7 @@ fn count_roots(rows: &[NodeRow]) -> u32
 }
 
 fn count_mapped(numbers: &[u32]) -> u32
-    requires { length numbers.now ≤ 2 ^ 24 }
+    requires { length numbers.now ≤ 2147483647 }
     ensures { result ≡ count_by is_mapped numbers.now }
 {
     let mut mapped = 0;
@@ -93,7 +93,7 @@ fn count_mapped(numbers: &[u32]) -> u32
 }
 
 fn sum_areas(sums: &[Sums]) -> u64
-    requires { length sums.now ≤ 2 ^ 24 }
+    requires { length sums.now ≤ 2147483647 }
     ensures { result ≡ sum_by (λ s. s.area) sums.now }
 {
     let mut areas = 0;

@@ -1,5 +1,5 @@
 use Rattle.std.proofs.Common.{◌≡◌, ℕ, ◌+◌, ◌<◌, false, true, length, arith, refl, below_more}
-use Rattle.comp_tree.specs.Forest.{IsWithin, LinksToEarlier}
+use Rattle.comp_tree.specs.Forest.{LiesInStretch, LinksToEarlier}
 use Rattle.comp_tree.proofs.forest.is_forest.Goals as goal
 use Rattle.comp_tree.proofs.forest.is_forest.Goals.{else-p-first-via-then-p-first+else-not-is_kept, else-p-first-via-else-p-first}
 
@@ -21,7 +21,7 @@ returns-then-not-is_kept c = (
 
 pub loop-p-preserved : goal.loop-p-preserved
 loop-p-preserved c =
-    more (LinksToEarlier c.args.plane.now.values c.args.first c.args.parents.now) (IsWithin c.args.first (length c.args.parents.now)) c.loop-p.p
+    more (LinksToEarlier c.args.plane.now.values c.args.first c.args.parents.now) (LiesInStretch c.args.first (length c.args.parents.now)) c.loop-p.p
     c.loop-p.invariant
     (elim c.else-p-first.branch [
       | else-p-first-via-then-p-first+else-not-is_kept w ↦ λ _. w.if-not-is_kept.ensures.0 refl

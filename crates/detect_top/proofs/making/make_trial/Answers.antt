@@ -14,4 +14,4 @@ make-requires-clause-storable g c κs within =
 pub make-requires-clause-suits : goal.make-requires-clause-suits
 make-requires-clause-suits g c κs within =
     subst (λ (r : Raster). SuitsJob c.args.order.job (residual_of r c.args.order.mesh c.args.order.flat)) (sym c.in_ok-image.ensures)
-    (suits_made c.args.order.job c.args.seed c.args.shape c.args.order.mesh c.args.order.flat c.requires.trial)
+    (suits_made c.args.order.job c.args.seed c.args.shape c.args.order.mesh c.args.order.flat c.requires.trial c.requires.limits.job)

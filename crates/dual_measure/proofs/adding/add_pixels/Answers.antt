@@ -11,7 +11,7 @@ combined-requires c =
     omega (arith, c.loop-p-test.true, c.pixels-p-end.ensures.product, c.shape-shape.ensures.pixels) in
     turn_size c.args.values.now c.args.node_of.now c.loop-p.entries c.loop-p.p _ _ c.of_pixel-pixel.result
     (c.shape-shape.ensures.pixels ∙ ap (λ (s : Shape). s.width * s.height) c.shape-shape.ensures.same)
-    (turn_from_code _ _ _ _ _ _ c.loop-p.invariant.front inside c.get.ensures.value c.get.ensures.in_range c.of_pixel-pixel.ensures)
+    (turn_from_code _ _ _ _ _ _ c.loop-p.invariant.front inside c.get.ensures.value c.get.ensures.bounded c.of_pixel-pixel.ensures)
     refl (slice_get-get_or _ _ _ c.if-node-entries.true)
 
 pub loop-p-preserved : goal.loop-p-preserved
@@ -21,7 +21,7 @@ loop-p-preserved c =
     elim c.if-node-entries.branch [
       | then-node-entries w ↦ record {
         front = rw w.entries-is (turn_yes c.args.values.now c.args.node_of.now c.loop-p.entries c.loop-p.p _ _ w.of_pixel-pixel.result w.combined.result
-            (turn_from_code _ _ _ _ _ _ c.loop-p.invariant.front inside w.get.ensures.value w.get.ensures.in_range w.of_pixel-pixel.ensures)
+            (turn_from_code _ _ _ _ _ _ c.loop-p.invariant.front inside w.get.ensures.value w.get.ensures.bounded w.of_pixel-pixel.ensures)
             refl (slice_get-get_or _ _ _ w.if-node-entries.true) w.combined.ensures);
         same_length = c.if-node-entries.auto.entries ∙ c.loop-p.invariant.same_length;
       }

@@ -7,8 +7,10 @@ use Rattle.comp_tree.specs.ComponentTree.{ComponentTree, no_node}
 use Rattle.node_sums.specs.declared.outline.Outline.{Outline}
 use Rattle.node_sums.specs.Outlines.{AreOutlinesOfPlane, AreOutlinesOfTree}
 use Rattle.node_sums.proofs.Exported.{numbers_for_pixels}
-use Rattle.filter_rules.specs.Passes.{HasRisingLevels, AreValues, flag, filled_pixel}
-use Rattle.filter_rules.proofs.Boxes.{trees_rise}
+use Rattle.filter_rules.specs.Passes.{HasRisingLevels, AreValues, flag, filled_pixel, value_in}
+use Rattle.filter_rules.proofs.Boxes.{trees_rise, levels_within}
+use Rattle.filter_rules.proofs.Filling.{values_within}
+use Rattle.comp_tree.specs.Limits.{IsWithin, value_bound}
 use Rattle.filter_rules.proofs.Whole.{both_ok, made_is_filtered, numbers_fit}
 use Rattle.filter_rules.proofs.filtering.filter.Goals as goal
 
@@ -50,6 +52,22 @@ fill-requires-clause-nodes c =
     (subst (λ (k : ℕ). (p : ℕ) → p < length c.args.tree.now.node_of → (slice_index c.args.tree.now.node_of p ≡ no_node) ⊎ (slice_index c.args.tree.now.node_of
     p < k)) (sym count)
     (numbers_fit c.args.plane.now c.requires.of_plane.connect c.args.tree.now plane c.requires.of_plane.tree_is))
+
+pub fill-requires-clause-values : goal.fill-requires-clause-values
+fill-requires-clause-values c =
+    let trees =
+    of_tree c.args.plane.now _ _ c.shape-shape.result c.shape-shape.ensures.pixels c.shape-shape.ensures.same c.shape-shape.ensures.in_range
+    c.requires.of_plane in
+    let count : length c.deref-3.result.now ≡ length c.args.tree.now.rows =
+    ap length c.deref-3.ensures.value ∙ c.in_ok-values.ensures.one_each ∙ ap length c.rows.ensures in
+    subst (λ (k : ℕ). (n : ℕ) → n < length c.deref-3.result.now → IsWithin (value_bound k) (value_in c.deref-3.result.now n)) c.shape-shape.ensures.pixels
+    (values_within c.args.tree.now.rows c.args.rule c.deref-2.result.now c.deref-3.result.now (value_bound (length c.args.plane.now.values))
+    (trees_rise c.args.tree.now c.args.outlines.items trees) count
+    (subst (λ (values : List ℤ). AreValues c.args.tree.now.rows c.args.rule c.deref-2.result.now values) (sym c.deref-3.ensures.value)
+    (subst (λ (rows : List NodeRow). AreValues rows c.args.rule c.deref-2.result.now c.in_ok-values.values.items) c.rows.ensures
+    c.in_ok-values.ensures.values))
+    (levels_within c.args.plane.now c.requires.of_plane.connect c.args.tree.now.rows (ap (λ (t : ComponentTree). t.rows) c.requires.of_plane.tree_is)
+    c.shape-shape.ensures.in_range))
 
 pub returns : goal.returns
 returns c =

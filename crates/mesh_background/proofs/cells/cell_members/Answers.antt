@@ -1,4 +1,4 @@
-use Rattle.std.proofs.Common.{◌≡◌, ℕ, ◌+◌, ◌-◌, ◌*◌, ◌<◌, ◌≤◌, ◌^◌, min, Fits, w32, sym, ap, subst, ◌∙◌, arith}
+use Rattle.std.proofs.Common.{◌≡◌, ℕ, ◌+◌, ◌-◌, ◌*◌, ◌<◌, ◌≤◌, min, Fits, w32, sym, ap, subst, ◌∙◌, arith}
 use Rattle.comp_tree.specs.Limits.{IsWithinLimits}
 use Rattle.comp_tree.specs.declared.shape.Shape.{Shape}
 use Rattle.comp_tree.specs.Raster.{IsPlane}
@@ -38,7 +38,7 @@ pub overflow_mul-room : goal.overflow_mul-room
 overflow_mul-room c =
     let g = c.args.grid.now in
     let b = c.cell-bounds.result in
-    let most : (b.right - b.left) * (b.bottom - b.top) ≤ 2 ^ 24 =
+    let most : (b.right - b.left) * (b.bottom - b.top) ≤ 2147483647 =
     room-few g.mesh g.shape.width g.shape.height c.args.cell b.left b.right b.top b.bottom g.shape.within_limits c.cell-bounds.ensures in
     omega (arith, most)
 
@@ -92,7 +92,7 @@ pub overflow_cast-room : goal.overflow_cast-room
 overflow_cast-room c =
     let g = c.args.grid.now in
     let b = c.cell-bounds.result in
-    let most : (b.right - b.left) * (b.bottom - b.top) ≤ 2 ^ 24 =
+    let most : (b.right - b.left) * (b.bottom - b.top) ≤ 2147483647 =
     room-few g.mesh g.shape.width g.shape.height c.args.cell b.left b.right b.top b.bottom g.shape.within_limits c.cell-bounds.ensures in
     omega (arith, most)
 

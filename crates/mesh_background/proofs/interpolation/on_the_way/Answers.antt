@@ -6,7 +6,7 @@ use Rattle.comp_tree.specs.Limits.{IsInHalfRange}
 use Rattle.mesh_background.specs.Interpolation.{part_way}
 use Rattle.mesh_background.specs.Lessened.{IsHalfRangeTimes}
 use Rattle.mesh_background.proofs.Fitting.{up_to-fits, up_to-way, kept, product-fits, way-computed}
-use Rattle.mesh_background.proofs.Levels.{half-up_to, half-way}
+use Rattle.mesh_background.proofs.Levels.{half-up_to, within-way}
 use Rattle.mesh_background.proofs.interpolation.on_the_way.Goals as goal
 
 way-fits : (whole part : ℕ) (p q : ℤ) → part ≤ whole → whole ≤ 131070 → IsInHalfRange p → IsInHalfRange q → SFits w64 (part_way whole part p q)
@@ -60,4 +60,4 @@ returns-clause-in_range c =
     ∙ to_z-of_z w64 (part_way c.args.whole c.args.part c.args.p c.args.q)
     (way-fits c.args.whole c.args.part c.args.p c.args.q c.requires.part c.requires.whole c.requires.first c.requires.second) in
     subst (λ (z : ℤ). IsHalfRangeTimes c.args.whole z) (sym value)
-    (half-way c.args.whole c.args.part c.args.p c.args.q c.requires.part c.requires.first c.requires.second)
+    (within-way (2 ^ 36) c.args.whole c.args.part c.args.p c.args.q c.requires.part c.requires.first c.requires.second)

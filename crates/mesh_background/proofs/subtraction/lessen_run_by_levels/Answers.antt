@@ -1,4 +1,4 @@
-use Rattle.std.proofs.Common.{rules, ◌≡◌, ◌+◌, ◌-◌, ◌*◌, ◌<◌, ◌≤◌, ℕ, ℤ, List, length, sym, ap, subst, ◌∙◌, arith}
+use Rattle.std.proofs.Common.{◌^◌, rules, ◌≡◌, ◌+◌, ◌-◌, ◌*◌, ◌<◌, ◌≤◌, ℕ, ℤ, List, length, sym, ap, subst, ◌∙◌, arith}
 use Rattle.std.proofs.lemmas.Int.{to_z-of_z}
 use mir.Syntax.{w64}
 use mir.Val.{SFits}
@@ -12,7 +12,7 @@ use Rattle.mesh_background.specs.Lessened.{IsInHalfRangeFrom, IsLessened}
 use Rattle.mesh_background.specs.Slopes.{steps_on, first_before}
 use Rattle.mesh_background.proofs.Extents.{columns-some}
 use Rattle.mesh_background.proofs.Fitting.{kept}
-use Rattle.mesh_background.proofs.Levels.{past-below, cell-within, half-interpolated, times-kept, IsPlaced}
+use Rattle.mesh_background.proofs.Levels.{past-below, cell-within, within-interpolated, times-kept, IsPlaced}
 use Rattle.mesh_background.proofs.Slopes.{IsRun, run-is, run-level, run-along}
 use Rattle.mesh_background.proofs.Lessening.{run-lessened}
 use Rattle.mesh_background.proofs.Rows.{columns-few, run-order}
@@ -135,7 +135,7 @@ lessen_slope-requires-clause-levels c =
     let is =
     ap (λ (n : ℕ). steps_on n level step k) c.parts_of.ensures.parts
     ∙ run-level c.args.numbers.now g.columns g.rows g.mesh c.args.y left (left + k) k level step run along in
-    subst (λ (z : ℤ). IsInHalfRange z) (sym is) (half-interpolated c.args.numbers.now g.columns g.rows g.mesh (left + k) c.args.y g.some
+    subst (λ (z : ℤ). IsInHalfRange z) (sym is) (within-interpolated (2 ^ 36) c.args.numbers.now g.columns g.rows g.mesh (left + k) c.args.y g.some
     c.requires.numbers.in_range)
 
 pub returns : goal.returns

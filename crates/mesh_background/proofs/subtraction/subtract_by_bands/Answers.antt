@@ -23,7 +23,7 @@ change_bands-requires-clause-in_range g c = λ κs within start band after chunk
     let grid = c.args.grid.now in
     let r : Raster = c.args.plane.now in
     band-in_range r grid.mesh grid.shape c.args.flat c.args.numbers.now c.band_size-size.result start band.now after.now grid.some c.requires.in_range
-    (numbers-known r grid.shape grid.mesh c.args.flat c.args.numbers.now c.requires.shape c.requires.in_range c.requires.numbers) chunk less
+    c.requires.numbers chunk less
 
 pub returns-clause-subtracted : goal.returns-clause-subtracted
 returns-clause-subtracted g c = on_ok_weaker c.change_bands.result (λ changed.

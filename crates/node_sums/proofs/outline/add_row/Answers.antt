@@ -19,7 +19,7 @@ together-requires c =
     (c.loop-p.p - c.args.row * c.args.width)
     c.loop-p.p c.in-Some.value c.get.result _ c.of_pixel-pixel.result c.loop-p.invariant.own (ap (λ n. c.args.row * n) c.requires.width)
     (omega (arith, c.loop-p.invariant.low)) (omega (arith, c.loop-p.invariant.low, c.loop-p-test.true, c.requires.width))
-    (omega (arith, c.loop-p-test.true, row)) c.get.ensures.value c.in-Some.is c.in-Some.ensures.in_range c.of_pixel-pixel.ensures
+    (omega (arith, c.loop-p-test.true, row)) c.get.ensures.value c.in-Some.is c.in-Some.ensures.bounded c.of_pixel-pixel.ensures
     (omega (
       arith,
       c.loop-p.invariant.same_length,
@@ -48,7 +48,7 @@ loop-p-preserved-in-Some c =
           (c.loop-p.p - c.args.row * c.args.width)
           c.loop-p.p c.in-Some.value c.get.result _ c.of_pixel-pixel.result c.loop-p.invariant.own (ap (λ n. c.args.row * n) c.requires.width)
           (omega (arith, c.loop-p.invariant.low)) (omega (arith, c.loop-p.invariant.low, c.loop-p-test.true, c.requires.width))
-          (omega (arith, c.loop-p-test.true, row)) c.get.ensures.value c.in-Some.is c.in-Some.ensures.in_range c.of_pixel-pixel.ensures
+          (omega (arith, c.loop-p-test.true, row)) c.get.ensures.value c.in-Some.is c.in-Some.ensures.bounded c.of_pixel-pixel.ensures
           (omega (
             arith,
             c.loop-p.invariant.same_length,

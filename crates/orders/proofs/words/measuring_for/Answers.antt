@@ -13,18 +13,18 @@ use Rattle.orders.proofs.words.measuring_for.Goals as goal
 pub returns-in_default : goal.returns-in_default
 returns-in_default c =
     let words = texts c.args.words.now in
-    measuring_by words c.args.pairs None (given u16_in words c.args.pairs Values) (given_by _ None threshold_in _ c.value.ensures c.in_default.ensures) refl
+    measuring_by c.args.most words c.args.pairs None (given u16_in words c.args.pairs Values) (given_by _ None threshold_in _ c.value.ensures c.in_default.ensures) refl
 
 pub returns-in_default-and_then : goal.returns-in_default-and_then
 returns-in_default-and_then c =
-    measuring_by (texts c.args.words.now) c.args.pairs (Some c.in-Some.threshold) None
+    measuring_by c.args.most (texts c.args.words.now) c.args.pairs (Some c.in-Some.threshold) None
     (given_by _ (Some c.in-Some.threshold) threshold_in _ c.value.ensures c.in-Some.ensures)
     (given_by _ None u16_in _ c.value-2.ensures c.in_default-and_then.ensures)
 
 pub returns-then-values-hdu_for : goal.returns-then-values-hdu_for
 returns-then-values-hdu_for c =
     sym (one_hdu _ _ c.in-Some-and_then.values (c.if-values-hdu_for.true ∙ c.hdu_for.ensures))
-    ∙ measuring_by (texts c.args.words.now) c.args.pairs (Some c.in-Some.threshold) (Some c.in-Some-and_then.values)
+    ∙ measuring_by c.args.most (texts c.args.words.now) c.args.pairs (Some c.in-Some.threshold) (Some c.in-Some-and_then.values)
     (given_by _ (Some c.in-Some.threshold) threshold_in _ c.value.ensures c.in-Some.ensures)
     (given_by _ (Some c.in-Some-and_then.values) u16_in _ c.value-2.ensures c.in-Some-and_then.ensures)
 
@@ -33,8 +33,8 @@ returns c =
     let fits : SFits w64 c.in-Some.threshold = search rules in
     let apart = subst (λ h. c.in-Some-and_then.values ≢ h) c.hdu_for.ensures c.if-values-hdu_for.false in
     ap (λ (choice : Choice). Some (Measure choice c.in-Some-and_then.values))
-    (c.choice_for-choice.ensures ∙ ap (choice_given (texts c.args.words.now) c.args.pairs) (to_z-of_z w64 c.in-Some.threshold fits))
+    (c.choice_for-choice.ensures ∙ ap (choice_given c.args.most (texts c.args.words.now) c.args.pairs) (to_z-of_z w64 c.in-Some.threshold fits))
     ∙ sym (two_hdus _ _ c.in-Some-and_then.values apart)
-    ∙ measuring_by (texts c.args.words.now) c.args.pairs (Some c.in-Some.threshold) (Some c.in-Some-and_then.values)
+    ∙ measuring_by c.args.most (texts c.args.words.now) c.args.pairs (Some c.in-Some.threshold) (Some c.in-Some-and_then.values)
     (given_by _ (Some c.in-Some.threshold) threshold_in _ c.value.ensures c.in-Some.ensures)
     (given_by _ (Some c.in-Some-and_then.values) u16_in _ c.value-2.ensures c.in-Some-and_then.ensures)

@@ -1,7 +1,8 @@
-use Rattle.std.proofs.Common.{◌≡◌, ◌-◌, ◌∙◌, ◌<◌, length, arith}
+use Rattle.std.proofs.Common.{◌≡◌, ◌-◌, ◌∙◌, ◌<◌, length, sym, subst, arith}
 use Rattle.std.proofs.lemmas.List.{length-set}
+use Rattle.pixel_plane.specs.WithinLimits.{SuitCount}
 use Rattle.pixel_plane.specs.Decoding.{decoded}
-use Rattle.pixel_plane.proofs.HalfRange.{set_in_range}
+use Rattle.pixel_plane.proofs.HalfRange.{set_in_range, settable}
 use Rattle.pixel_plane.proofs.Decoding.{decoded_next, value_from}
 use Rattle.pixel_plane.proofs.read.decode_narrow.Goals as goal
 
@@ -16,3 +17,9 @@ loop-p-preserved c =
       in_limits = set_in_range _ _ _ _ c.value.ensures.within c.loop-p.invariant.in_limits;
       decoded = decoded_next _ _ _ _ _ _ _ c.loop-p.auto.p inside value c.loop-p.invariant.decoded;
     })
+
+pub set-requires-clause-in_range : goal.set-requires-clause-in_range
+set-requires-clause-in_range c =
+    let suited : SuitCount c.args.encoding.now.limits (length c.loop-p.canvas.values) =
+    subst (λ n. SuitCount c.args.encoding.now.limits n) (sym c.loop-p.invariant.count) c.requires.suited in
+    settable c.args.encoding.now.limits (length c.loop-p.canvas.values) c.value.result suited c.value.ensures.within

@@ -1,6 +1,6 @@
-use Rattle.std.proofs.Common.{rules, arith, ◌≤◌, ◌≡◌, ◌-◌, ◌*◌, length, subst}
+use Rattle.std.proofs.Common.{rules, arith, ℕ, ◌≤◌, ◌≡◌, ◌-◌, ◌*◌, length, subst, mul-le-mul}
 use Rattle.pixel_plane.specs.Decoding.{ReadSoFar, PixelsStopped}
-use Rattle.pixel_plane.proofs.Decoding.{read_more, taken_to, block_stopped, far_stopped}
+use Rattle.pixel_plane.proofs.Decoding.{read_more, taken_to, block_stopped, far_stopped, size_at_most}
 use Rattle.pixel_plane.proofs.Naming.{none_far_named, far_named}
 use Rattle.pixel_plane.proofs.read.read_pixels.Goals as goal
 
@@ -63,3 +63,12 @@ pub returns-in-Err-decode-clause-range : goal.returns-in-Err-decode-clause-range
 returns-in-Err-decode-clause-range g c =
     let within : c.min-end.result ≤ length c.args.canvas.now.values = search rules in
     far_named c.args.encoding.now _ _ _ _ _ _ _ _ c.stop_at_range.result within c.in-Err-decode.ensures.decoded c.stop_at_range.ensures.range
+
+pub overflow_mul-count : goal.overflow_mul-count
+overflow_mul-count g c =
+    let size : ℕ = c.args.encoding.now.size in
+    let rest : ℕ = c.pixels-count.result - c.min-end.result in
+    let small : size ≤ 8 = size_at_most size c.args.encoding.now.sizes in
+    let few : rest ≤ 2147483647 = omega (arith, c.pixels-count.ensures.few) in
+    let product : rest * size ≤ 2147483647 * 8 = mul-le-mul few small in
+    omega (arith, product)

@@ -1,7 +1,7 @@
 -- The pixels before the first are read, from exactly the bytes of their numbers.
 use Rattle.std.proofs.Common.{◌≡◌, ◌-◌, ◌≤◌, length}
 use Rattle.std.specs.Option.{ForSome}
-use Rattle.pixel_plane.specs.WithinLimits.{HasValuesWithin}
+use Rattle.pixel_plane.specs.WithinLimits.{HasValuesInLimits}
 use Rattle.pixel_plane.specs.Decoding.{ReadSoFar}
 use Rattle.pixel_plane.proofs.read.read_pixels.Given as goal
 
@@ -10,7 +10,7 @@ invariant-loop-first g l = record {
   within : l.first ≤ l.count;
   shape : l.canvas.shape ≡ l.initial.canvas.shape;
   values : length l.canvas.values ≡ length l.initial.canvas.values;
-  in_limits : HasValuesWithin l.encoding.limits l.canvas.values;
+  in_limits : HasValuesInLimits l.encoding.limits l.canvas.values;
   told : ForSome (g.S.Source.left l.initial.src) (λ bytes. ReadSoFar l.encoding bytes (g.S.Source.left l.src) l.canvas.values l.first);
   later : g.S.Source.faults l.initial.src ≤ g.S.Source.faults l.src;
 }

@@ -1,9 +1,9 @@
 use Rattle.std.proofs.Common.{◌∙◌, ◌≡◌, ◌*◌, ap, length, subst}
 use Rattle.std.proofs.lemmas.List.{length-replicate}
 use Rattle.pixel_plane.specs.declared.limits.Limits.{Limits}
-use Rattle.pixel_plane.specs.WithinLimits.{HasValuesWithin}
+use Rattle.pixel_plane.specs.WithinLimits.{HasValuesInLimits}
 use Rattle.pixel_plane.proofs.Readable.{shape_without_fault}
-use Rattle.pixel_plane.proofs.HalfRange.{blank_in_range, in_half_range}
+use Rattle.pixel_plane.proofs.HalfRange.{blank_in_range, in_half_range, suited_by}
 use Rattle.pixel_plane.proofs.Planes.{IsEncodingOf, plane_is_read, plane_stopped}
 use Rattle.pixel_plane.proofs.Naming.{pixel_named}
 use Rattle.pixel_plane.proofs.read.read_plane_within.Goals as goal
@@ -13,7 +13,7 @@ of-encoding-requires g c = shape_without_fault c.args.limits.now c.args.hdu.now 
 
 pub returns-in-Ok-read_pixels-clause-told : goal.returns-in-Ok-read_pixels-clause-told
 returns-in-Ok-read_pixels-clause-told g c = λ x e.
-    let encoding : IsEncodingOf c.args.limits.now c.args.hdu.now c.of-encoding.result = record {
+    let encoding : IsEncodingOf c.args.limits.now c.args.hdu.now c.args.shape c.of-encoding.result = record {
       size = c.of-encoding.ensures.size;
       zero = c.of-encoding.ensures.zero;
       blank = c.of-encoding.ensures.blank;
@@ -22,14 +22,19 @@ returns-in-Ok-read_pixels-clause-told g c = λ x e.
     let blank : length c.in-Ok.canvas.values ≡ c.args.shape.width * c.args.shape.height = ap length c.in-Ok.ensures.undefined ∙ length-replicate _ _ in
     rw c.into_plane.ensures
     (plane_is_read c.args.limits.now c.args.hdu.now c.args.shape c.of-encoding.result x _ _ encoding (c.in-Ok-read_pixels.ensures.shape ∙ c.in-Ok.ensures.shape)
-    (c.in-Ok-read_pixels.ensures.count ∙ blank) (subst (λ (l : Limits). HasValuesWithin l c.read_pixels.new.canvas.values) c.of-encoding.ensures.limits c.in-Ok-read_pixels.ensures.in_limits) (c.in-Ok-read_pixels.ensures.told x e))
+    (c.in-Ok-read_pixels.ensures.count ∙ blank) (subst (λ (l : Limits). HasValuesInLimits l c.read_pixels.new.canvas.values) c.of-encoding.ensures.limits c.in-Ok-read_pixels.ensures.in_limits) (c.in-Ok-read_pixels.ensures.told x e))
 
-pub read_pixels-requires : goal.read_pixels-requires
-read_pixels-requires g c = blank_in_range _ _ _ c.in-Ok.ensures.undefined
+pub read_pixels-requires-clause-in_limits : goal.read_pixels-requires-clause-in_limits
+read_pixels-requires-clause-in_limits g c = blank_in_range _ _ _ c.in-Ok.ensures.undefined
+
+pub read_pixels-requires-clause-suited : goal.read_pixels-requires-clause-suited
+read_pixels-requires-clause-suited g c =
+    let blank : length c.in-Ok.canvas.values ≡ c.args.shape.width * c.args.shape.height = ap length c.in-Ok.ensures.undefined ∙ length-replicate _ _ in
+    suited_by c.args.limits.now c.args.shape c.of-encoding.result.limits (length c.in-Ok.canvas.values) c.of-encoding.ensures.limits blank
 
 pub returns-in-Err-clause-told : goal.returns-in-Err-clause-told
 returns-in-Err-clause-told g c = λ x e.
-    let encoding : IsEncodingOf c.args.limits.now c.args.hdu.now c.of-encoding.result = record {
+    let encoding : IsEncodingOf c.args.limits.now c.args.hdu.now c.args.shape c.of-encoding.result = record {
       size = c.of-encoding.ensures.size;
       zero = c.of-encoding.ensures.zero;
       blank = c.of-encoding.ensures.blank;
@@ -42,7 +47,7 @@ returns-in-Err-clause-told g c = λ x e.
 
 pub returns-in-Err-clause-range : goal.returns-in-Err-clause-range
 returns-in-Err-clause-range g c =
-    let encoding : IsEncodingOf c.args.limits.now c.args.hdu.now c.of-encoding.result = record {
+    let encoding : IsEncodingOf c.args.limits.now c.args.hdu.now c.args.shape c.of-encoding.result = record {
       size = c.of-encoding.ensures.size;
       zero = c.of-encoding.ensures.zero;
       blank = c.of-encoding.ensures.blank;
@@ -54,4 +59,7 @@ returns-in-Err-clause-range g c =
 
 pub returns-in-Ok-read_pixels-clause-half_range : goal.returns-in-Ok-read_pixels-clause-half_range
 returns-in-Ok-read_pixels-clause-half_range g c =
-    rw c.into_plane.ensures (in_half_range c.of-encoding.result.limits _ c.in-Ok-read_pixels.ensures.in_limits)
+    let blank : length c.in-Ok.canvas.values ≡ c.args.shape.width * c.args.shape.height = ap length c.in-Ok.ensures.undefined ∙ length-replicate _ _ in
+    rw c.into_plane.ensures (in_half_range c.of-encoding.result.limits _
+    (suited_by c.args.limits.now c.args.shape c.of-encoding.result.limits _ c.of-encoding.ensures.limits (c.in-Ok-read_pixels.ensures.count ∙ blank))
+    c.in-Ok-read_pixels.ensures.in_limits)

@@ -1,4 +1,4 @@
-use Rattle.std.proofs.Common.{◌≡◌, ◌∙◌, ◌≤◌, ◌^◌, ℕ, List, sym, ap, subst, arith, length}
+use Rattle.std.proofs.Common.{◌≡◌, ◌∙◌, ◌≤◌, ℕ, List, sym, ap, subst, arith, length}
 use Rattle.std.proofs.lemmas.List.{length-replicate}
 use Rattle.node_sums.proofs.Exported.{take_front}
 use Rattle.source_pick.specs.Passes.{AreMarked, AreNumbered}
@@ -14,7 +14,7 @@ mark_sources-requires-clause-inside c = λ i n g.
 pub mark_sources-requires-clause-few : goal.mark_sources-requires-clause-few
 mark_sources-requires-clause-few c =
     let few : length c.args.sources.now ≤ length c.args.tree.now.rows = few_marked c.args.tree.now c.args.sources.now c.requires in
-    let rows : length c.args.tree.now.rows ≤ 2 ^ 24 = few_rows c.args.tree.now c.args.sources.now c.requires in
+    let rows : length c.args.tree.now.rows ≤ 2147483647 = few_rows c.args.tree.now c.args.sources.now c.requires in
     omega (arith, few, rows)
 
 pub mark_sources-requires-clause-none : goal.mark_sources-requires-clause-none

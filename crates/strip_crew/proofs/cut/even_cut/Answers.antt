@@ -1,7 +1,7 @@
-use Rattle.std.proofs.Common.{◌≡◌, ℕ, ◌*◌, ◌/◌, ◌<◌, ◌≤◌, ◌++◌, List, [], ◌∷◌, sym, ap, ◌∙◌, subst, arith, mul-le-mul_left}
+use Rattle.std.proofs.Common.{◌≡◌, ℕ, ◌+◌, length, get_or, ◌*◌, ◌/◌, ◌<◌, ◌≤◌, ◌++◌, List, [], ◌∷◌, sym, ap, ◌∙◌, subst, arith, mul-le-mul_left}
 use Rattle.tree_join.specs.Cuts.{IsCut}
 use Rattle.strip_crew.specs.Run.{rows_of_cut}
-use Rattle.strip_crew.proofs.EvenCuts.{rows_none, rows_more, even_is_cut}
+use Rattle.strip_crew.proofs.EvenCuts.{rows_none, rows_more, even_is_cut, even_is_even}
 use Rattle.strip_crew.proofs.cut.even_cut.Goals as goal
 
 pub loop-i-init : goal.loop-i-init
@@ -37,3 +37,12 @@ returns-clause-cut c =
     let some_strip : 0 < n = omega (arith, c.min-count.ensures, c.requires.some_row, c.requires.some_strip) in
     let few : n ≤ c.args.height = omega (arith, c.min-count.ensures) in
     subst (IsCut c.args.height) (sym (c.loop-i.invariant.0 ∙ ap (rows_of_cut c.args.height n) all)) (even_is_cut c.args.height n some_strip few)
+
+pub returns-clause-even : goal.returns-clause-even
+returns-clause-even c k enough =
+    let n = c.min-count.result in
+    let all : c.loop-i.i ≡ n = omega (arith, c.loop-i-test.false, c.loop-i.auto.i-end) in
+    let some_strip : 0 < n = omega (arith, c.min-count.ensures, c.requires.some_row, c.requires.some_strip) in
+    let same : c.loop-i.cut.items ≡ rows_of_cut c.args.height n n = c.loop-i.invariant.0 ∙ ap (rows_of_cut c.args.height n) all in
+    subst (λ (rows : List ℕ). (i : ℕ) → i < length rows → get_or rows (i + 1) c.args.height ≤ get_or rows i 0 + k) (sym same)
+    (even_is_even c.args.height n k some_strip (subst (λ (m : ℕ). c.args.height ≤ k * m) (sym c.min-count.ensures) enough))

@@ -1,4 +1,5 @@
-use Rattle.std.proofs.Common.{sym, ◌∙◌, subst, [], ◌∷◌, ◌+◌, List}
+use Rattle.std.specs.Prelude.{slice_index}
+use Rattle.std.proofs.Common.{ℕ, ◌-◌, ◌*◌, ◌^◌, ◌≤◌, arith, sym, ◌∙◌, subst, [], ◌∷◌, ◌+◌, List}
 use Rattle.strip_flood.specs.Jobs.{JobView}
 use Rattle.strip_crew.specs.Run.{plan_of}
 use Rattle.strip_crew.specs.Claims.{AreReady}
@@ -18,3 +19,9 @@ loop-i-preserved c =
       end_row =
           made.end_row ∙ c.row_after.ensures.value c.args.connect;
     }) made.unflooded))
+
+pub prepare-requires-clause-short : goal.prepare-requires-clause-short
+prepare-requires-clause-short c many =
+    let i = c.loop-i.i in
+    subst (λ (n : ℕ). (n - slice_index c.args.cut.now i) * c.args.plane.now.shape.width ≤ 2 ^ 24) (sym (c.row_after.ensures.value c.args.connect))
+    (c.requires.short many i (omega (arith, c.loop-i-test.true, c.requires.inside)))

@@ -8,6 +8,7 @@ use Rattle.strip_crew.proofs.prepare.prepare_parts.Goals as goal
 pub map_indices-requires-after_bounds : goal.map_indices-requires-after_bounds
 map_indices-requires-after_bounds g c κs within i h = (
   c.requires.cut,
+  c.requires.short,
   c.requires.most,
   group_inside (length c.args.cut.now) c.args.size i c.requires.some (subst (λ (x : ℕ). i < x) c.div_ceil.ensures h),
 )

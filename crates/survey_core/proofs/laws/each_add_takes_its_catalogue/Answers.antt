@@ -1,5 +1,5 @@
-use Rattle.survey_core.proofs.Adding.{each_add}
+use Rattle.survey_core.proofs.Adding.{each_add, commands_behind}
 use Rattle.survey_core.proofs.laws.each_add_takes_its_catalogue.Goals as goal
 
 pub returns : goal.returns
-returns c = each_add
+returns c = record { taken = each_add; found = commands_behind }

@@ -5,5 +5,5 @@ use Rattle.survey_laws.proofs.laws.detections_are_added.Goals as goal
 
 pub returns : goal.returns
 returns c = λ first others rest tables all.
-    c.each_add_takes_its_catalogue.ensures (addition_of first) (map addition_of others) rest tables
+    c.each_add_takes_its_catalogue.ensures.taken (addition_of first) (map addition_of others) rest tables
     (are_additions c.detection_is_accepted.ensures.accepted (first ∷ others) all)

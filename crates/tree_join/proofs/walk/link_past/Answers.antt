@@ -1,7 +1,7 @@
 use Rattle.std.proofs.Common.{rules, w64, to_z, of_z, sym, ap, ◌∙◌, arith, ◌+◌, ◌-◌, ◌<◌, ◌≤◌, length, length-set, get_or-set_same}
 use Rattle.std.proofs.lemmas.Int.{to_z-of_z}
 use mir.Val.{SFits}
-use Rattle.comp_tree.specs.Forest.{no_node, IsWithin, link_of}
+use Rattle.comp_tree.specs.Forest.{no_node, LiesInStretch, link_of}
 use Rattle.tree_join.proofs.walk.link_past.Goals as goal
 use Rattle.tree_join.proofs.Shorter.{past_forest, past_same, past_earlier, high_read, link_told, link_leads}
 use Rattle.tree_join.proofs.Climbing.{own_skip, past_skip}
@@ -39,14 +39,14 @@ returns-clause-skip g c = past_skip c.args.rows.now.plane.now.values c.args.rows
 
 pub overflow_sub-link : goal.overflow_sub-link
 overflow_sub-link g c =
-    let within : IsWithin c.args.rows.now.first (length c.args.links.now.places.now) c.read-link.result =
+    let within : LiesInStretch c.args.rows.now.first (length c.args.links.now.places.now) c.read-link.result =
     (link_leads c.args.rows.now.plane.now.values c.args.rows.now.first c.args.links.now.places.now c.requires.links.forest c.args.p
     c.read-link.result c.requires.p_in.within (sym c.read-link.ensures.link) c.if-link.false).0 in
     within.low
 
 pub read-next-requires : goal.read-next-requires
 read-next-requires g c =
-    let within : IsWithin c.args.rows.now.first (length c.args.links.now.places.now) c.read-link.result =
+    let within : LiesInStretch c.args.rows.now.first (length c.args.links.now.places.now) c.read-link.result =
     (link_leads c.args.rows.now.plane.now.values c.args.rows.now.first c.args.links.now.places.now c.requires.links.forest c.args.p
     c.read-link.result c.requires.p_in.within (sym c.read-link.ensures.link) c.if-link.false).0 in
     let low : c.args.rows.now.first ≤ c.read-link.result = within.low in
@@ -55,7 +55,7 @@ read-next-requires g c =
 
 pub level-requires : goal.level-requires
 level-requires g c =
-    let within : IsWithin c.args.rows.now.first (length c.args.links.now.places.now) c.read-link.result =
+    let within : LiesInStretch c.args.rows.now.first (length c.args.links.now.places.now) c.read-link.result =
     (link_leads c.args.rows.now.plane.now.values c.args.rows.now.first c.args.links.now.places.now c.requires.links.forest c.args.p
     c.read-link.result c.requires.p_in.within (sym c.read-link.ensures.link) c.if-link.false).0 in
     let high : c.read-link.result < c.args.rows.now.first + length c.args.links.now.places.now = within.high in
@@ -63,10 +63,10 @@ level-requires g c =
 
 pub is_at_least-requires : goal.is_at_least-requires
 is_at_least-requires g c =
-    let within : IsWithin c.args.rows.now.first (length c.args.links.now.places.now) c.read-link.result =
+    let within : LiesInStretch c.args.rows.now.first (length c.args.links.now.places.now) c.read-link.result =
     (link_leads c.args.rows.now.plane.now.values c.args.rows.now.first c.args.links.now.places.now c.requires.links.forest c.args.p
     c.read-link.result c.requires.p_in.within (sym c.read-link.ensures.link) c.if-link.false).0 in
-    let next : IsWithin c.args.rows.now.first (length c.args.links.now.places.now) c.read-next.result =
+    let next : LiesInStretch c.args.rows.now.first (length c.args.links.now.places.now) c.read-next.result =
     (link_leads c.args.rows.now.plane.now.values c.args.rows.now.first c.args.links.now.places.now c.requires.links.forest c.read-link.result
     c.read-next.result within (sym c.read-next.ensures.link) c.if-next.false).0 in
     let high : c.read-next.result < c.args.rows.now.first + length c.args.links.now.places.now = next.high in

@@ -1,4 +1,4 @@
-use Rattle.std.proofs.Common.{◌≡◌, ◌<◌, ◌≤◌, ◌∙◌, ap, length, arith, rules}
+use Rattle.std.proofs.Common.{◌≡◌, ◌+◌, ◌*◌, ◌<◌, ◌≤◌, ◌∙◌, ap, length, arith, rules}
 use Rattle.std.specs.Prelude.{unsigned_abs}
 use mir.Syntax.{w64}
 use mir.Val.{SFits}
@@ -14,12 +14,21 @@ read c =
     let fits : SFits w64 c.flux.result = search rules in
     c.unsigned_abs-fluxes.ensures.value ∙ ap unsigned_abs (to_z-of_z w64 c.flux.result fits)
 
-pub loop-n-preserved : goal.loop-n-preserved
-loop-n-preserved c =
+-- the flux of a node is small
+at_most : (c : goal.After-unsigned_abs-fluxes) → unsigned_abs c.flux.result ≤ flux_bound
+at_most c =
     let rows : length c.args.sums.now ≡ length c.args.tree.now.rows = trees_rows c.args.tree.now c.args.sums.now c.requires.sums in
     let inside : c.loop-n.n < length c.args.sums.now = omega (arith, rows, c.loop-n-test.true, c.node_count-n-end.ensures.all) in
-    let one : unsigned_abs c.flux.result ≤ flux_bound =
-    flux_at_most c.args.tree.now c.args.sums.now c.loop-n.n c.flux.result c.requires.small inside c.flux.ensures.of_sums c.flux.ensures.never_negative in
+    flux_at_most c.args.tree.now c.args.sums.now c.loop-n.n c.flux.result c.requires.small inside c.flux.ensures.of_sums c.flux.ensures.never_negative
+
+pub overflow_add-fluxes : goal.overflow_add-fluxes
+overflow_add-fluxes c =
+    let below : c.loop-n.n < 2147483647 = omega (arith, c.loop-n-test.true, c.node_count-n-end.ensures.few) in
+    let all : flux_bound * c.loop-n.n + flux_bound ≤ flux_bound * 2147483647 = omega (arith, below) in
+    omega (arith, at_most c, read c, c.loop-n.invariant.small, all)
+
+pub loop-n-preserved : goal.loop-n-preserved
+loop-n-preserved c =
     record {
       so_far = λ plane connect is sums_are.
           let before = c.loop-n.invariant.so_far plane connect is sums_are in
@@ -27,7 +36,7 @@ loop-n-preserved c =
           let here : c.unsigned_abs-fluxes.result ≡ unsigned_abs (flux_of plane connect c.loop-n.n) =
           read c ∙ ap unsigned_abs (c.flux.ensures.exact plane connect is sums_are) in
           omega (arith, before, more, here);
-      small = omega (arith, one, read c, c.loop-n.invariant.small);
+      small = omega (arith, at_most c, read c, c.loop-n.invariant.small);
     }
 
 pub returns : goal.returns

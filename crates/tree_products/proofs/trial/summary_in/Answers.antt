@@ -1,4 +1,4 @@
-use Rattle.std.proofs.Common.{◌≡◌, ◌≤◌, ◌^◌, ◌*◌, ℕ, List, length, ap, sym, subst, ◌∙◌, arith}
+use Rattle.std.proofs.Common.{◌≡◌, ◌≤◌, ◌*◌, ℕ, List, length, ap, sym, subst, ◌∙◌, arith}
 use Rattle.std.specs.Prelude.{count_by, sum_by}
 use Rattle.comp_tree.specs.declared.shape.Shape.{Shape}
 use Rattle.comp_tree.specs.Raster.{IsPlane}
@@ -28,7 +28,7 @@ pub overflow_cast-result : goal.overflow_cast-result
 overflow_cast-result g c =
     let d = c.in_ok-sources.ensures.disjoint in
     let few : length c.in_ok-sources.sources.items ≤ length c.args.tree.now.rows = few_marked c.args.tree.now c.in_ok-sources.sources.items d in
-    let rows : length c.args.tree.now.rows ≤ 2 ^ 24 = few_rows c.args.tree.now c.in_ok-sources.sources.items d in
+    let rows : length c.args.tree.now.rows ≤ 2147483647 = few_rows c.args.tree.now c.in_ok-sources.sources.items d in
     record { fits = omega (arith, few, rows, c.len.ensures, c.deref-2.ensures.len, ap length c.deref-2.ensures.value) }
 
 pub count_mapped-requires : goal.count_mapped-requires

@@ -21,7 +21,7 @@ loop-p-init c =
 pub set-requires : goal.set-requires
 set-requires c = record {
   pixel = omega (arith, c.loop-p.invariant.written.one_each, trial_length c.args.seed c.args.shape, c.loop-p-test.true, c.pixels-p-end.ensures.product);
-  in_range = value-in_range c.step-next.result _ c.step-next.type_inv (value-read c.step-next.result c.from.result c.step-next.type_inv c.from.ensures);
+  in_range = value-in_range (length c.loop-p.canvas.values) c.step-next.result _ c.step-next.type_inv (value-read c.step-next.result c.from.result c.step-next.type_inv c.from.ensures);
 }
 
 pub loop-p-preserved : goal.loop-p-preserved

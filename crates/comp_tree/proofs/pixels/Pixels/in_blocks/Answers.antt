@@ -1,6 +1,7 @@
 use Rattle.std.proofs.Common.{◌≡◌, ◌≤◌, ◌∙◌, List, length, ap, sym, subst, arith}
 use Rattle.std.specs.Prelude.{ℤ, Option, None, IfSome}
 use Rattle.std.specs.Option.{option_map}
+use Rattle.comp_tree.specs.Limits.{most_pixels}
 use Rattle.comp_tree.specs.Stored.{shown_values}
 use Rattle.comp_tree.proofs.Blocks.{kept-length, same-each, count-each, if-made}
 use Rattle.comp_tree.proofs.pixels.Pixels.in_blocks.Goals as goal
@@ -10,7 +11,7 @@ blocks_of-requires-clause-few c =
     let none : option_map (λ runs. runs.items) c.self.inside.runs ≡ None = ap (option_map (λ runs. runs.items)) c.in-None.is in
     let size : length c.self.inside.kept.items ≡ c.self.inside.count =
     count-each c.self.inside.count (option_map (λ runs. runs.items) c.self.inside.runs) c.self.inside.kept.items c.self.invariant none in
-    let few : c.self.inside.count ≤ 16777216 = subst (λ n. n ≤ 16777216) (kept-length _ _ _) (rw (← c.self.view_is) at c.requires.few) in
+    let few : c.self.inside.count ≤ most_pixels = subst (λ n. n ≤ most_pixels) (kept-length _ _ _) (rw (← c.self.view_is) at c.requires.few) in
     omega (arith, ap length c.deref.ensures.value, size, few)
 
 pub blocks_of-requires-clause-one_each : goal.blocks_of-requires-clause-one_each

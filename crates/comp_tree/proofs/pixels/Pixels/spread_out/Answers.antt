@@ -4,7 +4,7 @@ use Rattle.std.proofs.lemmas.List.{take_more}
 use Rattle.comp_tree.specs.Limits.{IsWithinRange}
 use Rattle.comp_tree.specs.Raster.{value_at}
 use Rattle.comp_tree.proofs.Blocks.{kept-length}
-use Rattle.comp_tree.proofs.Values.{in_range-value}
+use Rattle.comp_tree.proofs.Values.{in_range-of_value}
 use Rattle.comp_tree.proofs.pixels.Pixels.spread_out.Goals as goal
 
 pub get-requires : goal.get-requires
@@ -12,7 +12,7 @@ get-requires c = subst (λ n. c.loop-p.p < n) (sym (kept-length _ _ _) ∙ ap le
 
 pub of-requires : goal.of-requires
 of-requires c =
-    subst (λ (v : Option ℤ). IfSome v (λ w. IsWithinRange w)) (sym c.get.ensures) (in_range-value c.args.self.now c.loop-p.p c.requires)
+    subst (λ (v : Option ℤ). IfSome v (λ w. IsWithinRange w)) (sym c.get.ensures) (in_range-of_value c.args.self.now c.loop-p.p c.requires)
 
 pub loop-p-preserved : goal.loop-p-preserved
 loop-p-preserved c =

@@ -1,8 +1,9 @@
 use Rattle.std.proofs.Common.{◌≡◌, ◌∙◌, ◌*◌, true, false, length, Some, ap, sym, subst}
 use Rattle.std.specs.List.{list_all}
 use Rattle.comp_tree.specs.Raster.{is_pixel_value as may_stand}
+use Rattle.comp_tree.specs.Limits.{value_bound}
 use Rattle.comp_tree.specs.Raster.{HasValuesInRange}
-use Rattle.comp_tree.proofs.Values.{of_other_count, of_other_values, of_values, in_range-of_test}
+use Rattle.comp_tree.proofs.Values.{of_other_count, of_other_values, of_values, within-of_test}
 use Rattle.comp_tree.proofs.plane.Plane.of.Goals as goal
 
 pub returns-then-values-pixels : goal.returns-then-values-pixels
@@ -16,18 +17,18 @@ of_pixels-requires-clause-one_each c =
 pub of_pixels-requires-clause-in_range : goal.of_pixels-requires-clause-in_range
 of_pixels-requires-clause-in_range c =
     let same : c.in-Some.pixels.items ≡ c.args.values.now = rw c.in-Some.is at c.in_ok-pixels.ensures.same in
-    let there : true ≡ list_all may_stand c.args.values.now = rw c.in-Some.is at c.in_ok-pixels.ensures.there in
-    subst (λ l. HasValuesInRange l) (sym same) (in_range-of_test c.args.values.now (sym there))
+    let there : true ≡ list_all (may_stand (value_bound (length c.args.values.now))) c.args.values.now = rw c.in-Some.is at c.in_ok-pixels.ensures.there in
+    subst (λ l. HasValuesInRange l) (sym same) (within-of_test (value_bound (length c.args.values.now)) c.args.values.now (sym there))
 
 pub returns-in-Some : goal.returns-in-Some
 returns-in-Some c =
     let same : c.in-Some.pixels.items ≡ c.args.values.now = rw c.in-Some.is at c.in_ok-pixels.ensures.same in
-    let there : true ≡ list_all may_stand c.args.values.now = rw c.in-Some.is at c.in_ok-pixels.ensures.there in
+    let there : true ≡ list_all (may_stand (value_bound (length c.args.values.now))) c.args.values.now = rw c.in-Some.is at c.in_ok-pixels.ensures.there in
     let count : length c.args.values.now ≡ c.args.shape.width * c.args.shape.height = c.if-values-pixels.false ∙ c.pixels.ensures.product in
     ap Some c.of_pixels.ensures ∙ ap (λ l. Some (record { shape = c.args.shape; values = l })) same
     ∙ sym (of_values c.args.shape c.args.values.now count (sym there))
 
 pub returns-in-None : goal.returns-in-None
 returns-in-None c =
-    let there : false ≡ list_all may_stand c.args.values.now = rw c.in-None.is at c.in_ok-pixels.ensures.there in
+    let there : false ≡ list_all (may_stand (value_bound (length c.args.values.now))) c.args.values.now = rw c.in-None.is at c.in_ok-pixels.ensures.there in
     sym (of_other_values c.args.shape c.args.values.now (sym there))

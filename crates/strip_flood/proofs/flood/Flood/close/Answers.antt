@@ -1,4 +1,5 @@
 use Rattle.std.proofs.Common.{◌^◌, ◌≡◌, ◌+◌, ◌-◌, ◌<◌, ◌≤◌, set, slice_index, length, subst, arith}
+use Rattle.comp_tree.specs.Limits.{most_pixels}
 use Rattle.comp_tree.specs.Forest.{no_node}
 use Rattle.strip_flood.specs.Flood.{state_with, IsInQueue, IsTurning}
 use Rattle.strip_flood.specs.Strips.{ground_of, state_of}
@@ -20,7 +21,7 @@ overflow_add-pixel c =
     let q : IsInQueue (ground_of c.args.strip.now) c.args.self.now.cursors.items (c.args.strip.now.first + c.in-Some-front.item) =
     front_queued (ground_of c.args.strip.now) (state_of c.args.self.now) c.requires.fair c.in-Some.next c.in-Some-front.item c.in-Some-front.ensures.first in
     let l : c.args.strip.now.first + c.in-Some-front.item < c.args.strip.now.first + length c.args.strip.now.ranks.items = q.inside.high in
-    let few : c.args.strip.now.first + length c.args.strip.now.ranks.items ≤ 2 ^ 24 = c.requires.strip.few in omega arith
+    let few : c.args.strip.now.first + length c.args.strip.now.ranks.items ≤ most_pixels = c.requires.strip.few in omega arith
 
 pub returns-clause-between : goal.returns-clause-between
 returns-clause-between c =

@@ -1,4 +1,5 @@
 use Rattle.std.proofs.Common.{◌^◌, ◌+◌, ◌<◌, ◌≤◌, length, arith, ◌∙◌}
+use Rattle.comp_tree.specs.Limits.{most_pixels}
 use Rattle.strip_flood.specs.Flood.{IsInQueue}
 use Rattle.strip_flood.specs.Strips.{ground_of, state_of}
 use Rattle.strip_flood.proofs.Retiring.{still_turning, front_queued}
@@ -10,7 +11,7 @@ overflow_add-result c =
     let q : IsInQueue (ground_of c.args.strip.now) c.retire.new.self.cursors.items (c.args.strip.now.first + c.in-Some.item) =
     front_queued (ground_of c.args.strip.now) (state_of c.retire.new.self) c.retire.ensures.fair c.args.at.rank c.in-Some.item c.in-Some.ensures.first in
     let l : c.args.strip.now.first + c.in-Some.item < c.args.strip.now.first + length c.args.strip.now.ranks.items = q.inside.high in
-    let few : c.args.strip.now.first + length c.args.strip.now.ranks.items ≤ 2 ^ 24 = c.requires.strip.few in omega arith
+    let few : c.args.strip.now.first + length c.args.strip.now.ranks.items ≤ most_pixels = c.requires.strip.few in omega arith
 
 pub returns-in-Some-clause-between : goal.returns-in-Some-clause-between
 returns-in-Some-clause-between c = record {

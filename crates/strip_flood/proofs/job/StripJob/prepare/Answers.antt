@@ -1,10 +1,10 @@
-use Rattle.std.proofs.Common.{◌≡◌, ◌-◌, ◌*◌, ◌≤◌, length, sym, subst, subst₂, ap, ◌∙◌, refl, arith}
+use Rattle.std.proofs.Common.{◌≡◌, ◌-◌, ◌*◌, ◌^◌, ◌≤◌, length, sym, subst, subst₂, ap, ◌∙◌, refl, arith}
 use Rattle.std.proofs.lemmas.List.{length-map}
 use Rattle.comp_tree.specs.declared.shape.Shape.{Shape}
 use Rattle.strip_flood.specs.Strips.{IsFresh}
 use Rattle.strip_flood.proofs.Working.{rows_times, ranks_fit, strip_known}
 use Rattle.std.proofs.lemmas.Result.{IfOk-from_err}
-use Rattle.strip_flood.proofs.Fitting.{count_fits, rows_few, rows_order, rows_within, few_less}
+use Rattle.strip_flood.proofs.Fitting.{count_fits, rows_few, rows_order, rows_within, strip_short}
 use Rattle.strip_flood.proofs.job.StripJob.prepare.Goals as goal
 
 pub invariant_of-result : goal.invariant_of-result
@@ -117,9 +117,30 @@ rank_pixels-requires-clause-inside c = rows_within c.shape-shape.result.width c.
     c.shape-shape.ensures.same)) c.requires.inside)
 
 pub rank_pixels-requires-clause-few : goal.rank_pixels-requires-clause-few
-rank_pixels-requires-clause-few c = few_less (c.args.end_row * c.shape-shape.result.width) (c.args.first_row * c.shape-shape.result.width) (rows_few
-    c.shape-shape.result.width c.shape-shape.result.height c.args.end_row c.shape-shape.result.within_limits (subst (λ n. c.args.end_row ≤ n) (sym (ap
-    (λ (s : Shape). s.height) c.shape-shape.ensures.same)) c.requires.inside))
+rank_pixels-requires-clause-few c =
+    let e = rows_times c.shape-shape.result.width c.args.first_row c.args.end_row c.requires.rows in
+    let short : (c.args.end_row - c.args.first_row) * c.shape-shape.result.width ≤ 2 ^ 24 =
+    subst (λ (s : Shape). (c.args.end_row - c.args.first_row) * s.width ≤ 2 ^ 24) (sym c.shape-shape.ensures.same)
+    (strip_short c.args.plane.now.shape.width c.args.plane.now.shape.height c.args.first_row c.args.end_row c.requires.inside c.requires.short) in
+    omega (arith, e, short)
+
+pub new-requires-clause-count : goal.new-requires-clause-count
+new-requires-clause-count c =
+    let e = rows_times c.shape-shape.result.width c.args.first_row c.args.end_row c.requires.rows in
+    let short : (c.args.end_row - c.args.first_row) * c.shape-shape.result.width ≤ 2 ^ 24 =
+    subst (λ (s : Shape). (c.args.end_row - c.args.first_row) * s.width ≤ 2 ^ 24) (sym c.shape-shape.ensures.same)
+    (strip_short c.args.plane.now.shape.width c.args.plane.now.shape.height c.args.first_row c.args.end_row c.requires.inside c.requires.short) in
+    let same = c.len.ensures ∙ c.in_ok-ranking.ranking.ranks.ok.0 in
+    omega (arith, e, short, same, c.in_ok-ranking.ensures.length)
+
+pub new-requires-clause-ranks : goal.new-requires-clause-ranks
+new-requires-clause-ranks c =
+    let e = rows_times c.shape-shape.result.width c.args.first_row c.args.end_row c.requires.rows in
+    let short : (c.args.end_row - c.args.first_row) * c.shape-shape.result.width ≤ 2 ^ 24 =
+    subst (λ (s : Shape). (c.args.end_row - c.args.first_row) * s.width ≤ 2 ^ 24) (sym c.shape-shape.ensures.same)
+    (strip_short c.args.plane.now.shape.width c.args.plane.now.shape.height c.args.first_row c.args.end_row c.requires.inside c.requires.short) in
+    let same = c.len-2.ensures ∙ c.in_ok-ranking.ranking.levels.ok.0 in
+    omega (arith, e, short, same, c.in_ok-ranking.ensures.few)
 
 pub returns-clause-unlinked : goal.returns-clause-unlinked
 returns-clause-unlinked c = c.in_ok-flood.ensures.fresh.unlinked

@@ -1,0 +1,36 @@
+//! The program for large images: hands its words and its streams to `run_within` with the limits of large images, and exits with its status.
+#![tactic(auto)]
+
+use command_line::words::{NO_MEMORY, words};
+use detect_top::run_within;
+use dev_io::{ReadSource, WriteSink};
+use pixel_plane::Limits;
+use std::process::ExitCode;
+use strip_crew::OpenGate;
+
+fn main(rt: HostRuntime) -> ExitCode {
+    let alloc = rt.alloc();
+    let Ok(words) = words(&rt) else {
+        return ExitCode::from(NO_MEMORY);
+    };
+    let mut texts = Vec::new(alloc);
+    for word in &words {
+        if texts.push(word.as_str()).is_err() {
+            return ExitCode::from(NO_MEMORY);
+        }
+    }
+    let mut input = ReadSource::new(rt.stdin());
+    let mut output = WriteSink::new(rt.stdout());
+    let mut notes = WriteSink::new(rt.stderr());
+    let status = run_within(
+        &rt,
+        alloc,
+        &texts,
+        &Limits::wide(),
+        &mut input,
+        &mut output,
+        &mut notes,
+        &OpenGate,
+    );
+    ExitCode::from(status)
+}

@@ -1,0 +1,132 @@
+"""Workers that are processes: the same rows for any number of them, and an end in one line with nothing left."""
+import os
+import pathlib
+import signal
+import subprocess
+import sys
+import time
+
+import numpy
+import pytest
+from astropy.io import fits
+
+from conftest import add_star
+from maxdetect import cataloguing, cli, pools
+from maxdetect.errors import Mistake
+
+TOP = pathlib.Path(__file__).resolve().parent.parent.parent
+ENVIRONMENT = {**os.environ, "PYTHONPATH": str(TOP / "python")}
+
+pytestmark = pytest.mark.skipif(not pools._can_fork(), reason="wants a system that forks processes")
+
+
+@pytest.fixture
+def here(tmp_path, monkeypatch):
+    """A folder with an image of several blocks, and small ones."""
+    rng = numpy.random.default_rng(5)
+    expected = numpy.full((64, 2100), 900.0)
+    for x in range(20, 2090, 40):
+        add_star(expected, x + rng.uniform(-3, 3), 32 + rng.uniform(-9, 9), 10 ** rng.uniform(3.5, 5))
+    image = rng.poisson(expected).astype("f4")
+    fits.writeto(tmp_path / "image.fits", image)
+    for number in range(4):
+        fits.writeto(tmp_path / f"{number}.fits", image[:, 200 * number : 200 * number + 300])
+    monkeypatch.chdir(tmp_path)
+    return tmp_path
+
+
+def table(path):
+    with fits.open(path) as hdus:
+        return hdus["SOURCES"].data.tobytes()
+
+
+def test_any_number_of_workers_finds_the_same(here):
+    assert cli.main(["image.fits", "--workers", "1", "-o", "one.fits", "--map", "one.map.fits"]) == 0
+    assert cli.main(["image.fits", "--workers", "3", "-o", "three.fits", "--map", "three.map.fits"]) == 0
+    assert table("one.fits") == table("three.fits") and len(table("one.fits"))
+    assert pathlib.Path("one.map.fits").read_bytes() == pathlib.Path("three.map.fits").read_bytes()
+    names = [f"{number}.fits" for number in range(4)]
+    assert cli.main([*names, "--workers", "1"]) == 0
+    alone = [table(f"{number}.cat.fits") for number in range(4)]
+    for workers in ("3", "8"):
+        # A worker for each file; and a few files whose tiles share the workers.
+        assert cli.main([*names, "--workers", workers]) == 0
+        assert [table(f"{number}.cat.fits") for number in range(4)] == alone
+
+
+def test_what_comes_in_a_workers_way_comes_through():
+    with pools.Processes(2) as pool:
+        assert [it.result() for it in [pool.submit(divmod, 7, number) for number in (2, 3)]] == [(3, 1), (2, 1)]
+        with pytest.raises(ZeroDivisionError):
+            pool.submit(divmod, 7, 0).result()
+        with pytest.raises(Mistake, match="can't be sent"):
+            pool.submit(memoryview, b"").result()
+        assert pool.submit(max, 1, 2).result() == 2
+
+
+def test_a_worker_that_is_killed():
+    with pools.Processes(2) as pool:
+        killed = pool.submit(os.kill, pool._workers[0].process.pid, signal.SIGKILL)
+        asleep = pool.submit(time.sleep, 0.2)
+        outcomes = [it.exception() for it in (killed, asleep)]
+        assert sum(isinstance(it, Mistake) for it in outcomes) <= 1
+        # The other one goes on.
+        later = [pool.submit(max, number, 2).exception() for number in range(4)]
+        assert sum(it is None for it in later) >= 3
+    assert not any(worker.process.is_alive() for worker in pool._workers)
+
+
+@pytest.mark.parametrize("names", [["image.fits"], ["0.fits", "1.fits"]])
+def test_a_worker_that_is_killed_is_told_in_one_line(here, names, monkeypatch, capsys):
+    def killing(*given, **more):
+        os.kill(os.getpid(), signal.SIGKILL)
+
+    # Workers are forked, so they have what stands in its place here.
+    monkeypatch.setattr(cataloguing.measuring.photometry, "measured", killing)
+    assert cli.main([*names, "--workers", "2"]) == 2
+    lines = capsys.readouterr().err.splitlines()
+    assert lines == [f"maxcat: {name}: {pools.Lost()}" for name in names]
+    assert not list(here.glob("*.cat.fits"))
+
+
+def left(folder):
+    """The processes that work in a folder."""
+    found = []
+    for process in pathlib.Path("/proc").glob("[0-9]*/cwd"):
+        try:
+            found += [process.parent.name] if os.readlink(process) == str(folder) else []
+        except OSError:
+            pass
+    return found
+
+
+@pytest.mark.skipif(not pathlib.Path("/proc/self/cwd").exists(), reason="looks for processes in /proc")
+@pytest.mark.parametrize("number", [signal.SIGTERM, signal.SIGINT])
+@pytest.mark.parametrize("names", [["image.fits"], ["0.fits", "1.fits", "2.fits"]])
+def test_a_signal_leaves_nothing(here, names, number, monkeypatch):
+    monkeypatch.chdir(TOP)
+    words = [sys.executable, "-m", "maxdetect.cli", *names, "--workers", "2"]
+    heard = {"preexec_fn": lambda: signal.signal(signal.SIGINT, signal.SIG_DFL)}
+    with subprocess.Popen(words, cwd=here, env=ENVIRONMENT, stderr=subprocess.PIPE, text=True, **heard) as running:
+        until = time.monotonic() + 60
+        while len(left(here)) < 3 and running.poll() is None and time.monotonic() < until:
+            time.sleep(0.01)
+        time.sleep(0.1)
+        running.send_signal(number)
+        told = running.communicate(timeout=60)[1]
+    assert running.returncode in (128 + number, 0) and told == ""
+    until = time.monotonic() + 10
+    while left(here) and time.monotonic() < until:
+        time.sleep(0.05)
+    assert not left(here) and not list(here.glob(".maxdetect*"))
+
+
+def test_a_full_disk_is_told_in_one_line(here, monkeypatch, capsys):
+    def full(*given, **more):
+        raise OSError(28, "No space left on device")
+
+    monkeypatch.setattr(cataloguing.tables.fitstables, "write", full)
+    assert cli.main(["0.fits", "1.fits", "--workers", "2"]) == 2
+    lines = capsys.readouterr().err.splitlines()
+    assert len(lines) == 2 and all("No space left on device" in line for line in lines)
+    assert not list(here.glob("*.cat.fits")) and not list(here.glob(".maxdetect*"))
