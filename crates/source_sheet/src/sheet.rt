@@ -1,0 +1,27 @@
+//! A sheet, and where its places are.
+
+ghost use Rattle.std.specs.Prelude.{◌≡◌, IfOk, IfSome};
+ghost use Rattle.source_sheet.specs.Laid.{IsLaidOut};
+
+use comp_tree::{Connect, Plane, Shape};
+use costs::OutOfMemory;
+use source_pick::Choice;
+use std::alloc::Global;
+
+/// A window of a plane and its like on the sheet, both of this shape: where the first pixel of each stands.
+#[derive(Clone, Copy, PartialEq, Eq, Debug)]
+pub struct Place {
+    pub left: u32,
+    pub top: u32,
+    pub to_left: u32,
+    pub to_top: u32,
+    pub shape: Shape,
+}
+
+/// A small plane with the high pixels of a plane of shape `whole`, each group at a place of its own.
+#[derive(Drop)]
+pub struct Sheet {
+    pub plane: Plane,
+    pub whole: Shape,
+    pub places: Vec<Place>,
+}
