@@ -5,7 +5,8 @@ pub mod laws;
 mod making;
 mod top;
 
-pub use top::{read_words, run, run_all, run_within};
+pub use run_relation::End;
+pub use top::{end_within, read_words, run, run_all, run_within};
 
 #[cfg(test)]
 mod detection_tests;

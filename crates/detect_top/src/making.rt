@@ -19,7 +19,7 @@ use orders::Order;
 use std::alloc::Global;
 use std::thread::Threads;
 use strip_crew::{Gate, component_tree};
-use tree_products::{Product, WriteFault, make_of, trial_image, working_plane, write};
+use tree_products::{Product, WriteFault, ground_of, make_of, trial_image, write};
 
 /// What stands ready to be written.
 #[derive(Drop)]
@@ -52,17 +52,17 @@ pub(crate) fn make<R: Threads + Sync, G: Gate>(
         order.flat,
         order.workers,
     )?;
-    let plane = working_plane(rt, alloc, residual, order)?;
+    let ground = ground_of(rt, alloc, residual, order)?;
     let tree = component_tree(
         rt,
         alloc,
-        &plane,
+        ground.plane(),
         order.connect,
         order.strips,
         order.workers,
         gate,
     )?;
-    make_of(rt, alloc, order.job, order.workers, plane, tree)
+    make_of(rt, alloc, order.job, order.workers, ground, tree)
 }
 
 /// What a trial of this seed and this shape makes.

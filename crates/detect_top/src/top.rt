@@ -166,11 +166,36 @@ fn run_order<R: Threads + Sync, S: Source, O: Sink, N: Sink, G: Gate>(
     end.status()
 }
 
-/// Does what the words say, over this input, where images have these limits: with `measure` as the first word, sources are detected in one image and measured in
-/// another of the same file; all other words work on one image, or make one. No area that the words name is larger than the most pixels of an image.
-/// An image that a trial makes has the usual limits.
+/// Does what the words say, over this input, where images have these limits, and tells how it ended: all of a run but its line on the notes. With
+/// `measure` as the first word, sources are detected in one image and measured in another of the same file; all other words work on one image, or
+/// make one. No area that the words name is larger than the most pixels of an image. An image that a trial makes has the usual limits.
 ///
 /// All memory is taken before the first byte of output, which comes in pieces of at most 2,880 bytes.
+pub fn end_within<R: Threads + Sync, S: Source, O: Sink, G: Gate>(
+    rt: &R,
+    alloc: Global,
+    words: &[&str],
+    limits: &Limits,
+    input: &mut S,
+    output: &mut O,
+    gate: &G,
+) -> End
+    ensures bytes { (bytes : List ℕ) → Tells (asked_within limits.now (texts words.now)) (S.left input.old) bytes →
+        EndBytes (asked_within limits.now (texts words.now)) bytes
+        (use_of_input S.left S.ended S.faults input.old input.new)
+        (use_of_output O.written O.settled O.faults output.old output.new) result }
+    ensures cause { EndCause (asked_within limits.now (texts words.now))
+        (use_of_input S.left S.ended S.faults input.old input.new)
+        (use_of_output O.written O.settled O.faults output.old output.new) result }
+    ensures untouched { (asked_within limits.now (texts words.now)).reads ≡ false →
+        IsUnused (use_of_input S.left S.ended S.faults input.old input.new) }
+{
+    let order = read_order_within(words, limits.pixels);
+    work(rt, alloc, order, limits, input, output, gate)
+}
+
+/// The whole run. Its input, its output and its status are those of [`end_within`], which has no notes: so notes decide nothing, whether they take
+/// their line or not.
 pub fn run_within<R: Threads + Sync, S: Source, O: Sink, N: Sink, G: Gate>(
     rt: &R,
     alloc: Global,
@@ -186,8 +211,9 @@ pub fn run_within<R: Threads + Sync, S: Source, O: Sink, N: Sink, G: Gate>(
         (use_of_output O.written O.settled O.faults output.old output.new)
         (use_of_output N.written N.settled N.faults notes.old notes.new) result }
 {
-    let order = read_order_within(words, limits.pixels);
-    run_order(rt, alloc, order, limits, input, output, notes, gate)
+    let end = end_within(rt, alloc, words, limits, input, output, gate);
+    tell(notes, end);
+    end.status()
 }
 
 /// The same where images have the usual limits.

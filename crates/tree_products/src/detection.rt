@@ -14,6 +14,7 @@ ghost use Rattle.source_pick.specs.Catalogue.{catalogue_of, cells_of};
 ghost use Rattle.fits_write.specs.CatalogueColumns.{catalogue_columns};
 ghost use Rattle.tree_products.specs.Catalogues.{hdus, detected_hdus};
 ghost use Rattle.tree_products.specs.Catalogues.{IsDetection};
+ghost use Rattle.source_sheet.specs.Laid.{IsLaidOut, IsTreeOfSheet};
 
 use comp_tree::{Plane, Shape, Tree};
 use costs::OutOfMemory;
@@ -23,6 +24,7 @@ use fits_write::{
 };
 use node_sums::{Sums, sums};
 use source_pick::{CatRow, Choice, cells, pick, row, segment_in_parts};
+use source_sheet::{Sheet, sources_of_sheet};
 use std::alloc::Global;
 use std::thread::Threads;
 
@@ -123,6 +125,32 @@ pub fn detect<R: Threads + Sync>(
         shape,
         map,
         cells: listed.cells,
+    })
+}
+
+/// The sources of the plane for which a sheet was laid out, with the sheet's tree. So many workers fill the map.
+pub fn detect_on_sheet<R: Threads + Sync>(
+    rt: &R,
+    alloc: Global,
+    sheet: &Sheet,
+    tree: &Tree,
+    choice: &Choice,
+    workers: u32,
+) -> Result<Detection, OutOfMemory>
+    requires laid_out { IsTreeOfSheet choice.now sheet.now tree.now }
+    requires contrast { choice.now.contrast ≤ 1000 }
+    ensures writable { IfOk result
+        (λ found. IsDetection found.shape found.map.items found.cells.items) }
+    ensures bytes { IfOk result (λ found. (plane : Raster) (connect : Connect)
+        → IsLaidOut plane connect choice.now sheet.now → tree.now ≡ tree_of sheet.now.plane connect
+        → hdus found.shape found.map.items found.cells.items ≡
+        detected_hdus plane connect choice.now) }
+{
+    let found = sources_of_sheet(rt, alloc, sheet, tree, choice, workers)?;
+    Ok(Detection {
+        shape: sheet.whole,
+        map: found.map,
+        cells: found.cells,
     })
 }
 

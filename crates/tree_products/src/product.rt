@@ -6,14 +6,19 @@ ghost use Rattle.comp_tree.specs.declared.shape.Connect.{Connect};
 ghost use Rattle.comp_tree.specs.Components.{tree_of};
 ghost use Rattle.node_sums.specs.Sums.{IsTreeOfPlane};
 ghost use Rattle.filter_rules.specs.Filtered.{filtered as filtered_of};
+ghost use Rattle.comp_tree.specs.Raster.{Raster};
 ghost use Rattle.orders.specs.Words.{HasJobLimits};
+ghost use Rattle.orders.specs.declared.words.Job.TheVariants.{Detect};
 ghost use Rattle.tree_products.specs.Catalogues.{detected_hdus};
+ghost use Rattle.tree_products.specs.Grounds.{ground_plane, IsGroundFor, IsSheetFor, IsTreeOfGround, IsTreeOfJobsSheet};
 ghost use Rattle.tree_products.specs.Lines.{tree_lines, node_list};
 ghost use Rattle.tree_products.specs.Products.{output_of_job};
 ghost use Rattle.tree_products.specs.Writables.{bytes_of, SuitsJob, IsWritable};
 
+use crate::ground::Ground;
 use crate::{
-    Detection, Nodes, Summary, detect, node_areas, put_detection, put_tree, put_trial, summarize,
+    Detection, Nodes, Summary, detect, detect_on_sheet, node_areas, put_detection, put_tree,
+    put_trial, summarize,
 };
 use comp_tree::{Connect, Plane, Tree};
 use costs::OutOfMemory;
@@ -23,6 +28,7 @@ use fits_write::{WriteFault, put_plane};
 use node_sums::outlines;
 use orders::{Job, Order};
 use source_pick::{Choice, clear_far};
+use source_sheet::{Sheet, lay_out};
 use std::alloc::Global;
 use std::thread::Threads;
 
@@ -71,8 +77,30 @@ fn filtered_by(
     filter(alloc, plane, tree, outlines, rule, criterion)
 }
 
-/// What a job that works on one plane makes of it and its tree, which are gone when this returns. So many workers fill a map. The one error is that memory was refused.
+/// What a job makes of a plane, from the ground on which it works and its tree, which are gone when this returns. So many workers fill a map. The
+/// one error is that memory was refused.
 pub fn make_of<R: Threads + Sync>(
+    rt: &R,
+    alloc: Global,
+    job: Job,
+    workers: u32,
+    ground: Ground,
+    tree: Tree,
+) -> Result<Product, OutOfMemory>
+    requires of_ground { IsTreeOfGround job ground tree }
+    requires limits { HasJobLimits job }
+    ensures writable { IfOk result (λ product. IsWritable product) }
+    ensures bytes { IfOk result (λ product. (plane : Raster) (connect : Connect) → IsGroundFor job connect plane ground
+        → tree ≡ tree_of (ground_plane ground) connect → bytes_of product ≡ output_of_job job connect plane) }
+{
+    match ground {
+        Ground::Whole(plane) => make_of_plane(rt, alloc, job, workers, plane, tree),
+        Ground::Sheet(sheet) => make_of_sheet(rt, alloc, job, workers, &sheet, &tree),
+    }
+}
+
+// Of a plane itself.
+fn make_of_plane<R: Threads + Sync>(
     rt: &R,
     alloc: Global,
     job: Job,
@@ -100,24 +128,65 @@ pub fn make_of<R: Threads + Sync>(
     }
 }
 
-/// The plane on which a job works, in the place of this one. For the sources of a plane only its pixels near those of at least the threshold matter, so
-/// the others are left out before its tree is made.
-pub fn working_plane<R: Threads + Sync>(
+// Of a sheet, which stands only for a plane whose sources are wanted.
+fn make_of_sheet<R: Threads + Sync>(
+    rt: &R,
+    alloc: Global,
+    job: Job,
+    workers: u32,
+    sheet: &Sheet,
+    tree: &Tree,
+) -> Result<Product, OutOfMemory>
+    requires of_sheet { IsTreeOfJobsSheet job sheet.now tree.now }
+    requires limits { HasJobLimits job }
+    ensures writable { IfOk result (λ product. IsWritable product) }
+    ensures bytes { IfOk result (λ product. (plane : Raster) (connect : Connect) → IsSheetFor job connect plane sheet.now
+        → tree.now ≡ tree_of sheet.now.plane connect → bytes_of product ≡ output_of_job job connect plane) }
+{
+    match job {
+        Job::Detect { choice } => Ok(Product::Sources(detect_on_sheet(
+            rt, alloc, sheet, tree, &choice, workers,
+        )?)),
+        Job::Tree | Job::Filter { .. } | Job::Trial { .. } | Job::Measure { .. } => unreachable!(),
+    }
+}
+
+/// The ground on which a job works, in the place of this plane. The sources of a plane are decided by the pixels of at least the threshold and those
+/// around them, so these alone are kept: on a sheet where they are few, else in the plane.
+pub fn ground_of<R: Threads + Sync>(
     rt: &R,
     alloc: Global,
     plane: Plane,
     order: Order,
-) -> Result<Plane, OutOfMemory>
+) -> Result<Ground, OutOfMemory>
     requires suits { SuitsJob order.job plane }
-    ensures suits { IfOk result (λ left. SuitsJob order.job left) }
-    ensures same { IfOk result (λ left. output_of_job order.job order.connect left ≡
-        output_of_job order.job order.connect plane) }
+    ensures { IfOk result (λ ground. IsGroundFor order.job order.connect plane ground) }
 {
     match order.job {
         Job::Detect { choice } => {
-            without_far(rt, alloc, plane, order.connect, choice, order.workers)
+            ground_for_sources(rt, alloc, plane, order.connect, choice, order.workers)
         }
-        Job::Tree | Job::Filter { .. } | Job::Trial { .. } | Job::Measure { .. } => Ok(plane),
+        Job::Tree | Job::Filter { .. } | Job::Trial { .. } | Job::Measure { .. } => {
+            Ok(Ground::Whole(plane))
+        }
+    }
+}
+
+fn ground_for_sources<R: Threads + Sync>(
+    rt: &R,
+    alloc: Global,
+    plane: Plane,
+    connect: Connect,
+    choice: Choice,
+    workers: u32,
+) -> Result<Ground, OutOfMemory>
+    ensures { IfOk result (λ ground. IsGroundFor (Detect choice) connect plane ground) }
+{
+    match lay_out(alloc, &plane, connect, &choice)? {
+        Some(sheet) => Ok(Ground::Sheet(sheet)),
+        None => Ok(Ground::Whole(without_far(
+            rt, alloc, plane, connect, choice, workers,
+        )?)),
     }
 }
 

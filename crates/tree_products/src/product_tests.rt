@@ -1,5 +1,5 @@
 //! What three jobs make of a plane of two pixels.
-use crate::{make_of, working_plane, write};
+use crate::{Ground, ground_of, make_of, write};
 use comp_tree::{Connect, Plane, Shape, plain_tree};
 use dev_io::MemSink;
 use filter_rules::{Criterion, Rule};
@@ -18,7 +18,7 @@ fn the_list_of_two_nodes(rt: HostRuntime) -> Result<(), Fail> {
     let alloc = rt.alloc();
     let plane = plane_of_two(alloc)?;
     let tree = plain_tree(alloc, &plane, Connect::Four)?;
-    let product = make_of(&rt, alloc, Job::Tree, 1, plane, tree)?;
+    let product = make_of(&rt, alloc, Job::Tree, 1, Ground::Whole(plane), tree)?;
     let mut sink = MemSink::new(vec![in alloc; 0; 99]?, &[], 0);
     assert!(rt; write(&mut sink, &product).is_ok());
     assert_eq!(rt; sink.bytes(), b"0 -3 0 - 2\n1 5 1 0 1\n".as_slice());
@@ -41,7 +41,7 @@ fn the_plane_of_the_root_alone(rt: HostRuntime) -> Result<(), Fail> {
         rule: Rule::Direct,
         criterion,
     };
-    let product = make_of(&rt, alloc, job, 1, plane, tree)?;
+    let product = make_of(&rt, alloc, job, 1, Ground::Whole(plane), tree)?;
     let mut sink = MemSink::new(vec![in alloc; 0; 5760]?, &[], 0);
     assert!(rt; write(&mut sink, &product).is_ok());
     assert_eq!(rt; sink.bytes().len(), 5760);
@@ -66,7 +66,8 @@ fn near_pixels_stay(rt: HostRuntime) -> Result<(), Fail> {
         mesh: 0,
         flat: false,
     };
-    let plane = working_plane(&rt, rt.alloc(), plane_of_two(rt.alloc())?, order)?;
+    let ground = ground_of(&rt, rt.alloc(), plane_of_two(rt.alloc())?, order)?;
+    let plane = ground.plane();
     assert!(rt; plane.shape().pixels() == 2 && plane.is_defined(0) && plane.is_defined(1));
     Ok(())
 }
