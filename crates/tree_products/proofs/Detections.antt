@@ -69,3 +69,12 @@ pub detection_same : (r s : Raster) (connect : Connect) (choice : Choice) → r.
     → detected_hdus r connect choice ≡ detected_hdus s connect choice
 unfolding detected_hdus catalogue_cells
 detection_same r s connect choice same h = λ i. hdus (same i) (h.numbers i) (flat_map cells_of (h.rows i))
+
+-- also where both were taken from a sheet
+pub sheet_is_detection : (plane : Raster) (connect : Connect) (choice : Choice) (shape : Shape) (numbers : List ℕ) (cells : List ℤ) → shape ≡ plane.shape
+    → numbers ≡ segmentation plane connect choice → cells ≡ flat_map cells_of (catalogue plane connect choice)
+    → hdus shape numbers cells ≡ detected_hdus plane connect choice
+unfolding detected_hdus catalogue_cells
+sheet_is_detection plane connect choice shape numbers cells same numbers_are cells_are =
+    ap (λ s. hdus s numbers cells) same ∙ ap (λ n. hdus plane.shape n cells) numbers_are
+    ∙ ap (hdus plane.shape (segmentation plane connect choice)) cells_are

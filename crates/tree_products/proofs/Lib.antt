@@ -8,3 +8,4 @@ mod Causes
 mod TrialResiduals
 mod Products
 pub mod Exported
+mod OnSheets
