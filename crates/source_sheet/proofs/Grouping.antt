@@ -1,6 +1,6 @@
 -- Groups of pixels that are flooded: marks spread, and what is marked stands in a list.
 use Rattle.std.proofs.Common.{◌≡◌, ◌∙◌, ℕ, ◌+◌, ◌*◌, ◌<◌, ◌≤◌, zero, suc, Bool, true, false, List, [], ◌∷◌, ◌++◌, length, refl, sym, ap, subst, arith}
-use Rattle.std.proofs.Common.{◌⊎◌, inl, inr, append-nil, append_assoc, length-append, get_or, get_or-set_same, get_or-set_other, length-set, replicate}
+use Rattle.std.proofs.Common.{◌⊎◌, inl, inr, append-nil, append_assoc, length-append, get_or, get_or-set_same, get_or-set_other, length-set, replicate, take}
 use Rattle.std.specs.Prelude.{IsTrue, All, Contains, Option, Some, None, slice_get, slice_set, ◌==◌, ℤ, filter}
 use Rattle.std.specs.List.{range_with_len}
 use Rattle.std.proofs.lemmas.Bool.{cases_lt, eqb-true, eqb-false, true≢false}
@@ -40,13 +40,21 @@ at_cut : (seen rest : List ℕ) (x d : ℕ) → get_or (seen ++ x ∷ rest) (len
 at_cut [] rest x d = refl
 at_cut (y ∷ seen) rest x d = at_cut seen rest x d
 
+take_front : (front added : List ℕ) → take (length front) (front ++ added) ≡ front
+take_front [] added = refl
+take_front (x ∷ front) added = ap (λ xs. x ∷ xs) (take_front front added)
+
+-- what was added is taken off again
+pub taken_off : (front added items : List ℕ) (n : ℕ) → items ≡ front ++ added → n ≡ length front → take n items ≡ front
+taken_off front added items n e f = rw (e, f) (take_front front added)
+
 -- the place between seen pixels and those that wait moves on by one, while others are added
 cut-moved : (seen rest added : List ℕ) (x : ℕ) → (seen ++ x ∷ rest) ++ added ≡ (seen ++ x ∷ []) ++ (rest ++ added)
 cut-moved seen rest added x = append_assoc seen (x ∷ rest) added ∙ sym (append_assoc seen (x ∷ []) (rest ++ added))
 
 -- ---- marks
 
-no_mark : (n a : ℕ) → is_marked (replicate n false) a ≡ false
+pub no_mark : (n a : ℕ) → is_marked (replicate n false) a ≡ false
 no_mark zero a = refl
 no_mark (suc n) zero = refl
 no_mark (suc n) (suc a) = no_mark n a
@@ -335,27 +343,38 @@ scan_start r connect h min_area p n marks items e count none gap = record {
     unmarked a m = absurd (true≢false (sym m ∙ ap (λ xs. is_marked xs a) e ∙ no_mark n a))
 
 -- a pixel that is low, or marked already
-pub scan_past : (r : Raster) (connect : Connect) (h : ℤ) (min_area p q : ℕ) (marks : List Bool) (items : List ℕ)
-    → AreGroupedBefore r connect h min_area p marks items → (IsTrue (is_at_least r h p) → IsTrue (is_marked marks p)) → HasGap r.values (p + 1) q
-    → AreGroupedBefore r connect h min_area q marks items
-scan_past r connect h min_area p q marks items b here gap = record {
+pub scan_past : (r : Raster) (connect : Connect) (h : ℤ) (min_area p : ℕ) (marks : List Bool) (items : List ℕ)
+    → AreGroupedBefore r connect h min_area p marks items → (IsTrue (is_at_least r h p) → IsTrue (is_marked marks p))
+    → AreGroupedBefore r connect h min_area (p + 1) marks items
+scan_past r connect h min_area p marks items b here = record {
   grouped = b.grouped;
-  marked = λ a l high. go a l high (cases_lt a p) (cases_lt p a);
+  marked = λ a l high. go a l high (cases_lt a p);
 }
   where
-    go : (a : ℕ) → a < q → IsTrue (is_at_least r h a) → (a < p) ⊎ (p ≤ a) → (p < a) ⊎ (a ≤ p) → IsTrue (is_marked marks a)
-    go a l high (inl m) _ = b.marked a m high
-    go a l high (inr m) (inl k) = absurd (not_in_gap r h (p + 1) q a gap (omega arith) l high)
-    go a l high (inr m) (inr k) =
+    go : (a : ℕ) → a < p + 1 → IsTrue (is_at_least r h a) → (a < p) ⊎ (p ≤ a) → IsTrue (is_marked marks a)
+    go a l high (inl m) = b.marked a m high
+    go a l high (inr m) =
         let e : p ≡ a = omega arith in
         subst (λ (x : ℕ). IsTrue (is_at_least r h x) → IsTrue (is_marked marks x)) e here high
 
--- a pixel whose group is marked
-pub scan_group : (r : Raster) (connect : Connect) (h : ℤ) (min_area p q : ℕ) (marks new : List Bool) (front items : List ℕ)
-    → AreGroupedBefore r connect h min_area p marks front → HasGrouped r connect h min_area p marks new items → HasGap r.values (p + 1) q
-    → AreGroupedBefore r connect h min_area q new items
-scan_group r connect h min_area p q marks new front items b g gap =
-    scan_past r connect h min_area p q new items (record { grouped = g.grouped; marked = λ a l high. g.kept a (b.marked a l high) }) (λ _. g.begun) gap
+-- a pixel whose group is marked now
+pub scan_group : (r : Raster) (connect : Connect) (h : ℤ) (min_area p : ℕ) (marks new : List Bool) (front items : List ℕ)
+    → AreGroupedBefore r connect h min_area p marks front → HasGrouped r connect h min_area p marks new items
+    → AreGroupedBefore r connect h min_area (p + 1) new items
+scan_group r connect h min_area p marks new front items b g =
+    scan_past r connect h min_area p new items (record { grouped = g.grouped; marked = λ a l high. g.kept a (b.marked a l high) }) (λ _. g.begun)
+
+-- pixels that are undefined
+pub scan_gap : (r : Raster) (connect : Connect) (h : ℤ) (min_area p q : ℕ) (marks : List Bool) (items : List ℕ)
+    → AreGroupedBefore r connect h min_area p marks items → HasGap r.values p q → AreGroupedBefore r connect h min_area q marks items
+scan_gap r connect h min_area p q marks items b gap = record {
+  grouped = b.grouped;
+  marked = λ a l high. go a l high (cases_lt a p);
+}
+  where
+    go : (a : ℕ) → a < q → IsTrue (is_at_least r h a) → (a < p) ⊎ (p ≤ a) → IsTrue (is_marked marks a)
+    go a l high (inl m) = b.marked a m high
+    go a l high (inr m) = absurd (not_in_gap r h p q a gap m l high)
 
 pub scan_end : (r : Raster) (connect : Connect) (choice : Choice) (p : ℕ) (marks : List Bool) (items : List ℕ)
     → AreGroupedBefore r connect choice.threshold choice.min_area p marks items → length r.values ≤ p → HoldsGroups r connect choice items

@@ -1,9 +1,8 @@
 //! Groups of high pixels: those of at least the threshold that reach each other.
 
-ghost use Rattle.std.specs.Prelude.{◌≡◌, ℕ, ◌<◌, ◌≤◌, true, length, All, IfOk, OnOk, IfSome};
-ghost use Rattle.comp_tree.specs.Limits.{most_pixels};
+ghost use Rattle.std.specs.Prelude.{◌≡◌, ◌+◌, ◌<◌, ◌≤◌, true, false, [], length, replicate, All, IfOk, OnOk, IfSome};
 ghost use Rattle.source_sheet.specs.Laid.{HoldsGroups};
-ghost use Rattle.source_sheet.specs.Groups.{HasLookedAt, HasLookedAtFirst, HasSpread, IsFlooded, AreGrouped, HasGrouped};
+ghost use Rattle.source_sheet.specs.Groups.{HasLookedAt, HasLookedAtFirst, HasSpread, IsFlooded, AreGrouped, HasGrouped, AreGroupedBefore};
 
 use comp_tree::{Connect, Plane, neighbours};
 use costs::OutOfMemory;
@@ -32,24 +31,73 @@ pub(crate) fn large_groups(
     ensures inside { IfOk result (λ found. IfSome found
         (λ groups. All (λ p. p < length plane.now.values) groups.pixels.items)) }
 {
-    let count = plane.shape().pixels();
-    let mut marks = vec![in alloc; false; count as usize]?;
+    let mut marks = no_marks(alloc, plane.shape().pixels() as usize)?;
     let mut groups = Groups {
         pixels: Vec::new(alloc),
         ends: Vec::new(alloc),
     };
+    if !scan(plane, connect, choice, &mut marks, &mut groups)? {
+        return Ok(None);
+    }
+    Ok(Some(groups))
+}
+
+// Marks for so many pixels, none of them set.
+pub(crate) fn no_marks(alloc: Global, count: usize) -> Result<Vec<bool>, OutOfMemory>
+    ensures { IfOk result (λ marks. marks.items ≡ replicate count false) }
+{
+    let marks = vec![in alloc; false; count]?;
+    Ok(marks)
+}
+
+// Finds the groups of all pixels. It gives up where they have more than half of the pixels, and tells whether it didn't.
+fn scan(
+    plane: &Plane,
+    connect: Connect,
+    choice: &Choice,
+    marks: &mut [bool],
+    groups: &mut Groups,
+) -> Result<bool, OutOfMemory>
+    requires blank { marks.old ≡ replicate (length plane.now.values) false }
+    requires empty { groups.old.pixels.items ≡ [] }
+    ensures held { IfOk result (λ whole. whole ≡ true → HoldsGroups plane.now connect choice.now groups.new.pixels.items) }
+    ensures inside { IfOk result (λ whole. whole ≡ true → All (λ p. p < length plane.now.values) groups.new.pixels.items) }
+{
+    let count = plane.shape().pixels();
     let mut p = plane.next_defined(0, count);
     while p < count {
-        // most pixels are low: their marks aren't read
-        if plane.is_at_least(choice.threshold, p)
-            && !marks[p as usize]
-            && !add_group(plane, connect, choice, count / 2, p, &mut marks, &mut groups)?
-        {
-            return Ok(None);
+        if !look_at(plane, connect, choice, count / 2, p, marks, groups)? {
+            return Ok(false);
         }
         p = plane.next_defined(p + 1, count);
     }
-    Ok(Some(groups))
+    Ok(true)
+}
+
+// Finds the group of `p`, if it is high and its group isn't known. It gives up where the groups have more than `most` pixels, and tells
+// whether it didn't.
+#[inline]
+fn look_at(
+    plane: &Plane,
+    connect: Connect,
+    choice: &Choice,
+    most: u32,
+    p: u32,
+    marks: &mut [bool],
+    groups: &mut Groups,
+) -> Result<bool, OutOfMemory>
+    requires pixel { p < length plane.now.values }
+    requires before { AreGroupedBefore plane.now connect choice.now.threshold choice.now.min_area p marks.old groups.old.pixels.items }
+    requires few { length groups.old.pixels.items ≤ most }
+    ensures few { IfOk result (λ whole. whole ≡ true → length groups.new.pixels.items ≤ most) }
+    ensures before { IfOk result (λ whole. whole ≡ true
+        → AreGroupedBefore plane.now connect choice.now.threshold choice.now.min_area (p + 1) marks.new groups.new.pixels.items) }
+{
+    // most pixels are low: their marks aren't read
+    if !plane.is_at_least(choice.threshold, p) || marks[p as usize] {
+        return Ok(true);
+    }
+    add_group(plane, connect, choice, most, p, marks, groups)
 }
 
 // Marks the group of `p`, and adds it to the groups if it is large enough. It gives up where they have more than `most` pixels, and tells
