@@ -1,1 +1,2 @@
 mod Grouping
+mod Held
