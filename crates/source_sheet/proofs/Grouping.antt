@@ -1,7 +1,7 @@
 -- Groups of pixels that are flooded: marks spread, and what is marked stands in a list.
 use Rattle.std.proofs.Common.{◌≡◌, ◌∙◌, ℕ, ◌+◌, ◌*◌, ◌<◌, ◌≤◌, zero, suc, Bool, true, false, List, [], ◌∷◌, ◌++◌, length, refl, sym, ap, subst, arith}
 use Rattle.std.proofs.Common.{◌⊎◌, inl, inr, append-nil, append_assoc, length-append, get_or, get_or-set_same, get_or-set_other, length-set, replicate, take}
-use Rattle.std.specs.Prelude.{IsTrue, All, Contains, Option, Some, None, slice_get, slice_set, ◌==◌, ℤ, filter}
+use Rattle.std.specs.Prelude.{IsTrue, All, Contains, Option, Some, slice_get, slice_set, ◌==◌, ℤ, filter}
 use Rattle.std.specs.List.{range_with_len}
 use Rattle.std.proofs.lemmas.Bool.{cases_lt, eqb-true, eqb-false, true≢false}
 use Rattle.std.proofs.lemmas.List.{length-replicate}
@@ -11,10 +11,9 @@ use Rattle.std.proofs.lemmas.Option.{slice_get_within}
 use Rattle.lemmas.proofs.Exported.{IsAmong, among-append_left, among-append_right, among-filter, among_of, among_get, contains_from_among}
 use Rattle.comp_tree.specs.declared.shape.Connect.{Connect}
 use Rattle.comp_tree.specs.declared.shape.Shape.{Shape}
-use Rattle.comp_tree.specs.Raster.{Raster, HasGap, pixels, value_at, at_least, is_at_least}
+use Rattle.comp_tree.specs.Raster.{Raster, HasGap, pixels, at_least, is_at_least}
 use Rattle.comp_tree.specs.Grid.{are_neighbours, IsAdjacency}
 use Rattle.comp_tree.specs.Joined.{IsPairOf}
-use Rattle.comp_tree.specs.Components.{IsReached}
 use Rattle.comp_tree.specs.Marks.{is_marked}
 use Rattle.comp_tree.proofs.Exported.{along_joined, adjacent_ends, adjacent_turned, among_from_defined, below_from_defined, defined_from_at_least}
 use Rattle.source_pick.specs.declared.choice.Choice.{Choice}
@@ -82,7 +81,7 @@ listed_one r old front p below each = record {
   items_are = refl;
   below = All-cons (λ a. a < length r.values) p [] below (All-nil (λ a. a < length r.values));
   kept = λ a m. mark_kept old p a (omega (arith, each)) m;
-  listed = λ a m. elim (mark_set old p a m) [ | inl k ↦ inl k | inr e ↦ inr (contains-one a p e) ];
+  listed = λ a m. elim (mark_set old p a m) [ inl k ↦ inl k | inr e ↦ inr (contains-one a p e) ];
 }
 
 listed_none : (r : Raster) (marks : List Bool) (items : List ℕ) → HasListed r marks items marks items
@@ -104,7 +103,7 @@ listed_trans r old front mid most new items f g = record {
   below = All-append (λ a. a < length r.values) f.added g.added f.below g.below;
   kept = λ a m. g.kept a (f.kept a m);
   listed = λ a m. elim (g.listed a m) [
-    | inl k ↦ elim (f.listed a k) [ | inl l ↦ inl l | inr l ↦ inr (contains-left a f.added g.added l) ]
+    | inl k ↦ elim (f.listed a k) [ inl l ↦ inl l | inr l ↦ inr (contains-left a f.added g.added l) ]
     | inr k ↦ inr (contains-right a f.added g.added k)
   ];
 }
@@ -205,7 +204,7 @@ flood_start r connect h p old front new items below each all e f =
       cut = refl;
       at = refl;
       all_below = listed_below r old front (slice_set old p true) (front ++ p ∷ []) one all;
-      surrounded = λ a m. elim (mark_set old p a m) [ | inl k ↦ inl k | inr k ↦ inr (inr (contains-one a p k)) ];
+      surrounded = λ a m. elim (mark_set old p a m) [ inl k ↦ inl k | inr k ↦ inr (inr (contains-one a p k)) ];
     }
 
 pub flood_step : (r : Raster) (connect : Connect) (h : ℤ) (p : ℕ) (old : List Bool) (front : List ℕ) (cursor a : ℕ) (mid : List Bool) (most : List ℕ)
@@ -225,7 +224,7 @@ flood_step r connect h p old front cursor a mid most new items f below is s = go
       cut = s.more.items_are ∙ ap (λ xs. xs ++ s.more.added) cut ∙ cut-moved seen rest s.more.added x;
       at = length-append seen (x ∷ []) ∙ ap (λ n. n + 1) at;
       all_below = listed_below r mid most new items s.more f.all_below;
-      surrounded = λ b m. elim (s.more.listed b m) [ | inl k ↦ before b (around b k) | inr k ↦ inr (inr (contains-right b rest s.more.added k)) ];
+      surrounded = λ b m. elim (s.more.listed b m) [ inl k ↦ before b (around b k) | inr k ↦ inr (inr (contains-right b rest s.more.added k)) ];
     }
       where
         here : a ≡ x
@@ -247,7 +246,7 @@ flood_end r connect h p old front cursor new items f end = record {
   begun = f.begun;
   surrounded = λ a m. elim (f.surrounded a m) [
     | inl k ↦ inl k
-    | inr k ↦ elim k [ | inl l ↦ inr l | inr l ↦ absurd (contains-none a f.rest none l) ]
+    | inr k ↦ elim k [ inl l ↦ inr l | inr l ↦ absurd (contains-none a f.rest none l) ]
   ];
 }
   where
@@ -285,7 +284,7 @@ module _ (r : Raster) (connect : Connect) (h : ℤ) (min_area p : ℕ) (old : Li
       go true u = absurd (true≢false (sym (g.closed b u a high_a (adjacent_turned r.values r.shape.width connect a b (either a b pair))) ∙ n.unmarked))
 
   new_listed : (a : ℕ) → IsNew a → Contains f.more.added a
-  new_listed a n = elim (f.more.listed a n.marked) [ | inl k ↦ absurd (true≢false (sym k ∙ n.unmarked)) | inr k ↦ k ]
+  new_listed a n = elim (f.more.listed a n.marked) [ inl k ↦ absurd (true≢false (sym k ∙ n.unmarked)) | inr k ↦ k ]
 
   few_around : (a : ℕ) → length f.more.added < min_area → IsNew a → HasFewAround r connect h min_area a
   few_around a few n = record {
@@ -319,7 +318,7 @@ module _ (r : Raster) (connect : Connect) (h : ℤ) (min_area p : ℕ) (old : Li
       behind a c = subst (λ (xs : List ℕ). Contains xs a) (sym f.more.items_are) c
 
       go : (a : ℕ) → IsTrue (is_marked old a) ⊎ Contains f.more.added a → Contains items a ⊎ HasFewAround r connect h min_area a
-      go a (inl k) = elim (g.held a k) [ | inl l ↦ inl (behind a (contains-left a front f.more.added l)) | inr l ↦ inr l ]
+      go a (inl k) = elim (g.held a k) [ inl l ↦ inl (behind a (contains-left a front f.more.added l)) | inr l ↦ inr l ]
       go a (inr k) = inl (behind a (contains-right a front f.more.added k))
 
 -- ---- the scan

@@ -1,6 +1,6 @@
 -- Pixels that places hold: each is marked once.
-use Rattle.std.proofs.Common.{◌≡◌, ◌∙◌, ℕ, ◌+◌, ◌-◌, ◌*◌, ◌/◌, ◌%◌, ◌<◌, ◌≤◌, zero, suc, Bool, true, false, ◌&&◌, List, length, refl, sym, ap, subst, arith}
-use Rattle.std.proofs.Common.{◌⊎◌, inl, inr, get_or, get_or-set_same, length-set, replicate}
+use Rattle.std.proofs.Common.{◌≡◌, ◌∙◌, ℕ, ◌+◌, ◌-◌, ◌*◌, ◌/◌, ◌%◌, ◌<◌, ◌≤◌, Bool, true, false, List, length, refl, sym, ap, subst, arith}
+use Rattle.std.proofs.Common.{◌⊎◌, inl, inr, get_or-set_same, length-set, replicate}
 use Rattle.std.specs.Prelude.{IsTrue, All, Contains, Some, slice_get, slice_set, nat_lt, ℤ}
 use Rattle.std.proofs.lemmas.Bool.{cases_lt, and_parts, and_from, ltb-true, lt-ltb, true≢false}
 use Rattle.std.proofs.lemmas.List.{length-replicate}
@@ -34,7 +34,7 @@ held_high s h there p marks below high free = record {
   free = λ _. free;
   set = λ _. get_or-set_same marks p true false below;
   kept = λ a m. mark_kept marks p a below m;
-  listed = λ a m. elim (mark_set marks p a m) [ | inl k ↦ inl k | inr e ↦ inr (e, high) ];
+  listed = λ a m. elim (mark_set marks p a m) [ inl k ↦ inl k | inr e ↦ inr (e, high) ];
 }
 
 -- ---- a row
@@ -46,7 +46,7 @@ unfolding in_whole
 place_of width w row column below =
     let next : (row + 1) * w.shape.width ≡ row * w.shape.width + w.shape.width = omega arith in
     let at : ((row * w.shape.width + column) / w.shape.width ≡ row) × ((row * w.shape.width + column) % w.shape.width
-        ≡ row * w.shape.width + column - row * w.shape.width) =
+    ≡ row * w.shape.width + column - row * w.shape.width) =
     row-from w.shape.width row (row * w.shape.width + column) (omega arith) (omega arith) (omega arith) in
     let rows : (row * w.shape.width + column) / w.shape.width + w.top ≡ w.top + row = omega (arith, at.0) in
     let columns : (row * w.shape.width + column) % w.shape.width + w.left ≡ w.left + column = omega (arith, at.1) in
@@ -84,7 +84,7 @@ first_step r s h c q there p old mid new f g inside from to = record {
   free = λ k l high. free k high (cases_lt k q) l;
   set = λ k l high. set k high (cases_lt k q) l;
   kept = λ a m. g.kept a (f.kept a m);
-  listed = λ a m. elim (g.listed a m) [ | inl k ↦ f.listed a k | inr k ↦ inr (holds a k.0 k.1) ];
+  listed = λ a m. elim (g.listed a m) [ inl k ↦ f.listed a k | inr k ↦ inr (holds a k.0 k.1) ];
 }
   where
     high_here : IsTrue (is_high_there s h (window_pair c).to q) → IsTrue (is_at_least s h there)

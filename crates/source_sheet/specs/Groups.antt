@@ -1,5 +1,5 @@
 -- Bookkeeping: marks and lists of pixels, while groups are flooded.
-use Rattle.std.specs.Prelude.{◌≡◌, ℕ, ◌<◌, ◌⊎◌, ◌++◌, Bool, true, IsTrue, ℤ, List, length, All, Contains, slice_get, Some}
+use Rattle.std.specs.Prelude.{◌≡◌, ℕ, ◌<◌, ◌⊎◌, ◌++◌, Bool, IsTrue, ℤ, List, length, All, Contains, slice_get, Some}
 use Rattle.comp_tree.specs.declared.shape.Connect.{Connect}
 use Rattle.comp_tree.specs.Raster.{Raster, is_at_least}
 use Rattle.comp_tree.specs.Grid.{IsAdjacency}

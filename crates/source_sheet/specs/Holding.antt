@@ -1,5 +1,5 @@
 -- Bookkeeping: marks on the pixels of a plane that places hold.
-use Rattle.std.specs.Prelude.{◌≡◌, ℕ, ◌+◌, ◌<◌, ◌⊎◌, Bool, true, false, IsTrue, ℤ, List, length, slice_get, Some}
+use Rattle.std.specs.Prelude.{◌≡◌, ℕ, ◌<◌, ◌⊎◌, Bool, false, IsTrue, ℤ, List, length, slice_get, Some}
 use Rattle.comp_tree.specs.Raster.{Raster, is_at_least}
 use Rattle.comp_tree.specs.Marks.{is_marked}
 use Rattle.comp_tree.specs.Windows.{IsInside, in_whole}

@@ -68,7 +68,13 @@ fn are_marked(marks: &[bool], listed: &[u32]) -> bool
 }
 
 // Marks what each place holds. It stops where a pixel would be marked twice, and tells whether it didn't.
-fn mark_places(plane: &Plane, sheet: &Plane, choice: &Choice, places: &[Place], marks: &mut [bool]) -> bool
+fn mark_places(
+    plane: &Plane,
+    sheet: &Plane,
+    choice: &Choice,
+    places: &[Place],
+    marks: &mut [bool],
+) -> bool
     requires inside { AreInside plane.now sheet.now places.now }
     requires blank { marks.old ≡ replicate (length plane.now.values) false }
     ensures { result ≡ true
@@ -83,7 +89,13 @@ fn mark_places(plane: &Plane, sheet: &Plane, choice: &Choice, places: &[Place], 
 }
 
 // Marks what a place holds, row by row, as `mark_places` does.
-fn mark_place(plane: &Plane, sheet: &Plane, choice: &Choice, place: &Place, marks: &mut [bool]) -> bool
+fn mark_place(
+    plane: &Plane,
+    sheet: &Plane,
+    choice: &Choice,
+    place: &Place,
+    marks: &mut [bool],
+) -> bool
     requires inside { IsPlaceInside plane.now sheet.now place.now }
     requires one_each { length marks.old ≡ length plane.now.values }
     ensures { result ≡ true → HasHeldAll plane.now sheet.now choice.now.threshold place.now marks.old marks.new }
@@ -97,7 +109,14 @@ fn mark_place(plane: &Plane, sheet: &Plane, choice: &Choice, place: &Place, mark
 }
 
 // Marks what a place holds of this row of its window, as `mark_places` does.
-fn mark_row(plane: &Plane, sheet: &Plane, choice: &Choice, place: &Place, row: u32, marks: &mut [bool]) -> bool
+fn mark_row(
+    plane: &Plane,
+    sheet: &Plane,
+    choice: &Choice,
+    place: &Place,
+    row: u32,
+    marks: &mut [bool],
+) -> bool
     requires inside { IsPlaceInside plane.now sheet.now place.now }
     requires row { row < place.now.shape.height }
     requires one_each { length marks.old ≡ length plane.now.values }

@@ -1,4 +1,4 @@
-use Rattle.std.proofs.Common.{◌≡◌, ◌+◌, length, subst, ℕ, arith}
+use Rattle.std.proofs.Common.{◌≡◌, length, subst, ℕ, arith}
 use Rattle.std.proofs.lemmas.Option.{slice_get-get_or}
 use Rattle.source_sheet.specs.Groups.{HasLookedAtFirst}
 use Rattle.source_sheet.proofs.Grouping.{first_none, first_more}

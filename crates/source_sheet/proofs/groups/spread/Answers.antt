@@ -1,8 +1,5 @@
-use Rattle.std.proofs.Common.{◌≡◌, ◌∙◌, List, ℕ}
-use Rattle.std.specs.Prelude.{filter}
+use Rattle.std.proofs.Common.{◌∙◌}
 use Rattle.std.proofs.lemmas.Result.{on_ok_weaker}
-use Rattle.comp_tree.specs.Raster.{pixels}
-use Rattle.comp_tree.specs.Grid.{are_neighbours}
 use Rattle.source_sheet.proofs.Grouping.{near_is, near_below, spread_all}
 use Rattle.source_sheet.proofs.groups.spread.Goals as goal
 
