@@ -1,1 +1,3 @@
 pub mod Laid
+pub mod Groups
+pub mod Holding
