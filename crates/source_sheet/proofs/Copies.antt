@@ -5,7 +5,7 @@ use Rattle.std.specs.List.{range_with_len}
 use Rattle.std.proofs.lemmas.Bool.{and_parts, ltb-true, cases_lt, true≢false}
 use Rattle.std.proofs.lemmas.Nat.{div-add-mod', div-mul-add, mod-mul-add, mod_below, div_below, mul-add-lt}
 use Rattle.std.proofs.lemmas.Grind.{get_or_default_zero}
-use Rattle.std.proofs.lemmas.Option.{get_or_from_slice_get, slice_get_within}
+use Rattle.std.proofs.lemmas.Option.{get_or_from_slice_get, slice_get_within, same_Some}
 use Rattle.lemmas.proofs.Exported.{IsAmong, all_from_among, among-filter, among-range, among_from_filter, among_from_range, among_get}
 use Rattle.comp_tree.specs.declared.shape.Connect.{Connect}
 use Rattle.comp_tree.specs.declared.shape.Shape.{Shape}
@@ -16,7 +16,7 @@ use Rattle.comp_tree.proofs.Exported.{some_columns, adjacent_ends, below_from_de
 use Rattle.source_pick.specs.Sheets.{WindowPair, IsCopied, window_size, is_high_there}
 use Rattle.source_sheet.specs.declared.sheet.Place.{Place}
 use Rattle.source_sheet.specs.Laid.{window_pair}
-use Rattle.source_sheet.specs.Checks.{IsSeen, StaysWithin, IsPixelCopied, AreCopied}
+use Rattle.source_sheet.specs.Checks.{IsSeen, StaysWithin, IsPixelCopied, AreCopied, AreAllCopied}
 
 -- ---- lists of neighbours
 
@@ -164,3 +164,15 @@ copied_from r s connect h c inside inside_sheet copied = record {
         ltb-true q (window_size (window_pair c).to)
         (and_parts (nat_lt q (window_size (window_pair c).to)) (is_at_least s h (in_whole s.shape.width (window_pair c).to q)) k).0 in
         copied.each q (omega arith) (omega arith) k
+
+-- ---- place by place
+
+pub all_copied_more : (r s : Raster) (connect : Connect) (h : ℤ) (places : List Place) (count : ℕ) (c : Place) → slice_get places count ≡ Some c
+    → IsCopied r s connect h (window_pair c) → AreAllCopied r s connect h places count → AreAllCopied r s connect h places (count + 1)
+all_copied_more r s connect h places count c here copied before i d l g = go (cases_lt i count)
+  where
+    go : (i < count) ⊎ (count ≤ i) → IsCopied r s connect h (window_pair d)
+    go (inl m) = before i d m g
+    go (inr m) =
+        let same : i ≡ count = omega arith in
+        subst (λ (x : Place). IsCopied r s connect h (window_pair x)) (sym (same_Some d c (sym g ∙ ap (slice_get places) same ∙ here))) copied

@@ -1,2 +1,4 @@
 pub mod Apart
+pub mod Bounds
 pub mod Copies
+pub mod Laying

@@ -1,13 +1,13 @@
 -- Model: what the checks of a sheet find, pixel by pixel.
-use Rattle.std.specs.Prelude.{◌≡◌, ℕ, ◌+◌, ◌*◌, ◌<◌, ◌≤◌, Bool, false, IsTrue, ℤ, List, length, Some, slice_get, slice_index_or}
+use Rattle.std.specs.Prelude.{◌≡◌, ℕ, ◌+◌, ◌*◌, ◌<◌, ◌≤◌, Bool, false, IsTrue, ℤ, List, length, Contains, Some, slice_get, slice_index_or}
 use Rattle.comp_tree.specs.declared.shape.Connect.{Connect}
 use Rattle.comp_tree.specs.declared.shape.Shape.{Shape}
-use Rattle.comp_tree.specs.Raster.{Raster, value_at}
+use Rattle.comp_tree.specs.Raster.{Raster, IsPlane, value_at}
 use Rattle.comp_tree.specs.Grid.{are_neighbours, IsAdjacency}
 use Rattle.comp_tree.specs.Windows.{Window, IsInside, in_whole}
-use Rattle.source_pick.specs.Sheets.{WindowPair, window_size, is_high_there}
+use Rattle.source_pick.specs.Sheets.{WindowPair, IsCopied, window_size, is_high_there}
 use Rattle.source_sheet.specs.declared.sheet.Place.{Place}
-use Rattle.source_sheet.specs.Laid.{window_pair}
+use Rattle.source_sheet.specs.Laid.{window_pair, AreApartThere, AreApart, HoldsPixel}
 
 -- ---- copies
 
@@ -72,3 +72,18 @@ pub record AreAllApart (width : ℕ) (places : List Place) (count : ℕ) (marks 
   pub marked : (i p : ℕ) (c : Place) → i < count → slice_get places i ≡ Some c → IsInRows width (window_pair c).to c.shape.height p → IsTrue (has_mark marks p)
   pub apart : (i j p : ℕ) (c e : Place) → i < count → j < count → slice_get places i ≡ Some c → slice_get places j ≡ Some e
       → IsInRows width (window_pair c).to c.shape.height p → IsInRows width (window_pair e).to e.shape.height p → i ≡ j
+
+-- ---- a sheet
+
+-- each of the first places is a copy
+abbrev pub AreAllCopied : Raster → Raster → Connect → ℤ → List Place → ℕ → Type 0
+AreAllCopied r s connect h places count = (i : ℕ) (c : Place) → i < count → slice_get places i ≡ Some c → IsCopied r s connect h (window_pair c)
+
+-- the places are copies, none overlaps another one, and they hold each listed pixel
+pub record AreGoodPlaces (r s : Raster) (connect : Connect) (h : ℤ) (places : List Place) (listed : List ℕ) : Type 0 where
+  pub one_each : IsPlane r
+  pub one_each_there : IsPlane s
+  pub copied : AreAllCopied r s connect h places (length places)
+  pub apart_there : AreApartThere s places
+  pub apart : AreApart r s h places
+  pub held : (p : ℕ) → Contains listed p → (i : ℕ) × ((c : Place) × (slice_get places i ≡ Some c) × HoldsPixel r s h c p)

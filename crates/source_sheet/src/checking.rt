@@ -1,4 +1,4 @@
-//! Checks of a sheet: whether its places are copies, and apart.
+//! The check that a sheet may stand for a plane.
 
 ghost use Rattle.std.specs.Prelude.{◌≡◌, ℕ, ◌+◌, ◌-◌, ◌*◌, ◌<◌, ◌≤◌, length, IsTrue, IfOk, All};
 ghost use Rattle.comp_tree.specs.Raster.{value_at, is_defined};
@@ -16,25 +16,69 @@ ghost use Rattle.source_sheet.specs.Checks.{
   LieInside,
   AreNewlyMarked,
   AreAllApart,
+  AreAllCopied,
+  AreGoodPlaces,
   IsBetween,
   IsInRows,
 };
 
+use crate::holding::hold_all;
 use crate::sheet::Place;
 use comp_tree::{Connect, Plane, Shape, neighbours};
 use costs::OutOfMemory;
 use source_pick::Choice;
 use std::alloc::Global;
 
-/// Whether what a place shows of the sheet is a copy: each pixel of at least the threshold has its value and its
-/// surroundings in the plane.
-pub(crate) fn is_copied(
+/// Whether a sheet may stand for the plane: its places are copies, none overlaps another one, and they hold each pixel that
+/// is listed. The one error is that memory was refused.
+pub(crate) fn is_laid_out(
+    alloc: Global,
     plane: &Plane,
     sheet: &Plane,
     connect: Connect,
     choice: &Choice,
-    place: &Place,
+    places: &[Place],
+    listed: &[u32],
+) -> Result<bool, OutOfMemory>
+    requires { All (λ p. p < length plane.now.values) listed.now }
+    ensures { IfOk result (λ good. IsTrue good
+        → AreGoodPlaces plane.now sheet.now connect choice.now.threshold places.now listed.now) }
+{
+    // for their clauses alone: how many pixels there are
+    let _shapes = (plane.shape(), sheet.shape());
+    if !are_copied(plane, sheet, connect, choice, places) {
+        return Ok(false);
+    }
+    let apart = are_apart(alloc, sheet, places)?;
+    if !apart {
+        return Ok(false);
+    }
+    let held = hold_all(alloc, plane, sheet, choice, places, listed)?;
+    Ok(held)
+}
+
+// Whether each place is a copy.
+fn are_copied(
+    plane: &Plane,
+    sheet: &Plane,
+    connect: Connect,
+    choice: &Choice,
+    places: &[Place],
 ) -> bool
+    ensures { IsTrue result
+        → AreAllCopied plane.now sheet.now connect choice.now.threshold places.now (length places.now) }
+{
+    for place in places {
+        if !is_copied(plane, sheet, connect, choice, place) {
+            return false;
+        }
+    }
+    true
+}
+
+// Whether what a place shows of the sheet is a copy: each pixel of at least the threshold has its value and its
+// surroundings in the plane.
+fn is_copied(plane: &Plane, sheet: &Plane, connect: Connect, choice: &Choice, place: &Place) -> bool
     ensures { IsTrue result → IsCopied plane.now sheet.now connect choice.now.threshold (window_pair place.now) }
 {
     lies_inside(plane.shape(), sheet.shape(), place)
@@ -279,8 +323,8 @@ pub(crate) fn pixel_at(whole: Shape, column: u32, row: u32) -> u32
     row * whole.width + column
 }
 
-/// Whether no pixel of the sheet lies in two places.
-pub(crate) fn are_apart(alloc: Global, sheet: &Plane, places: &[Place]) -> Result<bool, OutOfMemory>
+// Whether no pixel of the sheet lies in two places.
+fn are_apart(alloc: Global, sheet: &Plane, places: &[Place]) -> Result<bool, OutOfMemory>
     requires { LieInside sheet.now.shape places.now }
     ensures { IfOk result (λ apart. IsTrue apart → AreApartThere sheet.now places.now) }
 {
