@@ -1,2 +1,6 @@
 mod Grouping
 mod Held
+mod Apart
+mod Bounds
+mod Copies
+mod Laying

@@ -1,3 +1,4 @@
+pub mod Checks
 pub mod Laid
 pub mod Groups
 pub mod Holding

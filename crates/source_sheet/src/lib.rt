@@ -1,7 +1,14 @@
-//! Sources of a plane whose high pixels are few.
+//! Sources of a plane whose high pixels are few. The pixels of at least the threshold are copied, group by group and each with what is beside
+//! it, onto a sheet: a small plane, which then has the same sources. Its component tree takes time and memory for these pixels alone, and rows
+//! and map are taken back to the plane.
 #![tactic(auto)]
 
 mod back;
+mod checking;
+mod copying;
+mod groups;
+mod holding;
+mod layout;
 mod sheet;
 
 pub use back::{SheetDetection, sources_of_sheet};

@@ -3,6 +3,10 @@
 ghost use Rattle.std.specs.Prelude.{◌≡◌, IfOk, IfSome};
 ghost use Rattle.source_sheet.specs.Laid.{IsLaidOut};
 
+use crate::checking::is_laid_out;
+use crate::copying::copy_groups;
+use crate::groups::large_groups;
+use crate::layout::lay_groups;
 use comp_tree::{Connect, Plane, Shape};
 use costs::OutOfMemory;
 use source_pick::Choice;
@@ -26,15 +30,40 @@ pub struct Sheet {
     pub places: Vec<Place>,
 }
 
-/// Lays the high pixels of a plane out on a sheet. `None` where the sheet would take more than half of the plane's pixels: then the plane is
-/// worked on whole.
+/// Lays the high pixels of a plane out on a sheet. `None` where the sheet would take more than half of the plane's pixels:
+/// then the plane is worked on whole. The one error is that memory was refused.
 pub fn lay_out(
-    _alloc: Global,
+    alloc: Global,
     plane: &Plane,
     connect: Connect,
     choice: &Choice,
 ) -> Result<Option<Sheet>, OutOfMemory>
     ensures { IfOk result (λ found. IfSome found (λ sheet. IsLaidOut plane.now connect choice.now sheet)) }
 {
-    Ok(None)
+    let Some(groups) = large_groups(alloc, plane, connect, choice)? else {
+        return Ok(None);
+    };
+    let whole = plane.shape();
+    let Some(layout) = lay_groups(alloc, whole, &groups)? else {
+        return Ok(None);
+    };
+    let copy = copy_groups(alloc, plane, connect, &groups, &layout)?;
+    let places = layout.places;
+    let good = is_laid_out(
+        alloc,
+        plane,
+        &copy,
+        connect,
+        choice,
+        &places,
+        &groups.pixels,
+    )?;
+    if !good {
+        return Ok(None);
+    }
+    Ok(Some(Sheet {
+        plane: copy,
+        whole,
+        places,
+    }))
 }

@@ -1,0 +1,178 @@
+-- What is found about the pixels of a place, one after the other, and around each.
+use Rattle.std.proofs.Common.{◌≡◌, ℕ, ◌+◌, ◌-◌, ◌*◌, ◌/◌, ◌%◌, ◌<◌, ◌≤◌, false, List, length, get_or, refl, sym, ◌∙◌, ap, subst, arith, ◌⊎◌, inl, inr}
+use Rattle.std.specs.Prelude.{IsTrue, ℤ, All, filter, nat_lt, slice_get, Some}
+use Rattle.std.specs.List.{range_with_len}
+use Rattle.std.proofs.lemmas.Bool.{and_parts, ltb-true, cases_lt, true≢false}
+use Rattle.std.proofs.lemmas.Nat.{div-add-mod', div-mul-add, mod-mul-add, mod_below, div_below, mul-add-lt}
+use Rattle.std.proofs.lemmas.Grind.{get_or_default_zero}
+use Rattle.std.proofs.lemmas.Option.{get_or_from_slice_get, slice_get_within, same_Some}
+use Rattle.lemmas.proofs.Exported.{IsAmong, all_from_among, among-filter, among-range, among_from_filter, among_from_range, among_get}
+use Rattle.comp_tree.specs.declared.shape.Connect.{Connect}
+use Rattle.comp_tree.specs.declared.shape.Shape.{Shape}
+use Rattle.comp_tree.specs.Raster.{Raster, is_defined, is_at_least}
+use Rattle.comp_tree.specs.Grid.{are_neighbours}
+use Rattle.comp_tree.specs.Windows.{Window, IsInside, in_whole}
+use Rattle.comp_tree.proofs.Exported.{some_columns, adjacent_ends, below_from_defined}
+use Rattle.source_pick.specs.Sheets.{WindowPair, IsCopied, window_size, is_high_there}
+use Rattle.source_sheet.specs.declared.sheet.Place.{Place}
+use Rattle.source_sheet.specs.Laid.{window_pair}
+use Rattle.source_sheet.specs.Checks.{IsSeen, StaysWithin, IsPixelCopied, AreCopied, AreAllCopied}
+
+-- ---- lists of neighbours
+
+-- what holds of each place of a list holds of its members
+pub at_member : (P : ℕ → Type 0) (xs : List ℕ) (x : ℕ) → All P xs → IsAmong x xs → P x
+at_member P xs x each among =
+    let g : (j : ℕ) × (slice_get xs j ≡ Some x) = among_get x xs among in
+    subst P (get_or_from_slice_get xs g.0 x x g.1) (each g.0 x (slice_get_within xs g.0 x g.1))
+
+-- a list of neighbours has pixels alone
+pub near_below : (connect : Connect) (width count p : ℕ) (near : List ℕ) → near ≡ filter (are_neighbours connect width p) (range_with_len 0 count)
+    → All (λ a. a < count) near
+near_below connect width count p near e =
+    all_from_among (λ a. a < count) near
+    (λ a m. let k : (0 ≤ a) × (a < 0 + count) =
+    among_from_range 0 count a (among_from_filter (are_neighbours connect width p) a (range_with_len 0 count)
+    (subst (λ (xs : List ℕ). IsAmong a xs) e m)).0 in
+    omega (arith, k.1))
+
+-- and each neighbour
+pub near_has : (connect : Connect) (width count p a : ℕ) (near : List ℕ) → near ≡ filter (are_neighbours connect width p) (range_with_len 0 count)
+    → a < count → IsTrue (are_neighbours connect width p a) → IsAmong a near
+near_has connect width count p a near e l k =
+    subst (λ (xs : List ℕ). IsAmong a xs) (sym e)
+    (among-filter (are_neighbours connect width p) a (range_with_len 0 count) (among-range 0 count a (omega arith) (omega arith)) k)
+
+-- so what is adjacent to a pixel lies in the window where each defined neighbour does
+pub stays_from : (r : Raster) (connect : Connect) (w : Window) (count p : ℕ) (near : List ℕ)
+    → near ≡ filter (are_neighbours connect r.shape.width p) (range_with_len 0 count) → length r.values ≡ count
+    → All (λ a. IsTrue (is_defined r a) → IsSeen r.shape.width w a) near → StaysWithin r connect w p
+stays_from r connect w count p near e one_each seen a adjacent =
+    let ends : _ = adjacent_ends r.values r.shape.width connect p a adjacent in
+    let below : a < length r.values = below_from_defined r a ends.1 in
+    at_member (λ b. IsTrue (is_defined r b) → IsSeen r.shape.width w b) near a seen
+    (near_has connect r.shape.width count p a near e (omega arith) ends.2) ends.1
+
+-- what holds at each place
+pub all_by_place : (P : ℕ → Type 0) (xs : List ℕ) → ((k : ℕ) → k < length xs → P (get_or xs k 0)) → All P xs
+all_by_place P xs each k d l = subst P (sym (get_or_default_zero xs k d l)) (each k l)
+
+-- ---- places in a window
+
+-- a pixel whose column and row are the window's lies in it
+pub seen_from : (width : ℕ) (w : Window) (p : ℕ) → w.left ≤ p % width → w.top ≤ p / width → p % width - w.left < w.shape.width
+    → p / width - w.top < w.shape.height → IsSeen width w p
+unfolding in_whole
+seen_from width w p left top columns rows = (q, mul-add-lt y w.shape.width x w.shape.height rows columns, place)
+  where
+    x : ℕ
+    x = p % width - w.left
+
+    y : ℕ
+    y = p / width - w.top
+
+    q : ℕ
+    q = y * w.shape.width + x
+
+    row : q / w.shape.width + w.top ≡ p / width
+    row = let e : q / w.shape.width ≡ y = div-mul-add y w.shape.width x columns in omega (arith, e, top)
+
+    column : q % w.shape.width + w.left ≡ p % width
+    column = let e : q % w.shape.width ≡ x = mod-mul-add y w.shape.width x columns in omega (arith, e, left)
+
+    place : (q / w.shape.width + w.top) * width + (q % w.shape.width + w.left) ≡ p
+    place =
+        ap (λ (z : ℕ). z * width + (q % w.shape.width + w.left)) row
+        ∙ ap (λ (z : ℕ). p / width * width + z) column
+        ∙ div-add-mod' p width
+
+-- where a window's pixel stands, by its column and row
+pub in_whole-by : (width : ℕ) (w : Window) (q : ℕ)
+    → in_whole width w q ≡ (q / w.shape.width + w.top) * width + (q % w.shape.width + w.left)
+unfolding in_whole
+in_whole-by width w q = refl
+
+pub in_whole-row : (width : ℕ) (w : Window) (row column : ℕ) → column < w.shape.width
+    → in_whole width w (row * w.shape.width + column) ≡ (row + w.top) * width + (column + w.left)
+unfolding in_whole
+in_whole-row width w row column l =
+    rw (div-mul-add row w.shape.width column l, mod-mul-add row w.shape.width column l) refl
+
+-- its column and row lie in the image
+pub columns_inside : (whole : Shape) (w : Window) (q : ℕ) → IsInside whole w → q < window_size w
+    → (q % w.shape.width + w.left < whole.width) × (q / w.shape.width + w.top < whole.height)
+columns_inside whole w q inside l =
+    let column : q % w.shape.width < w.shape.width = mod_below q w.shape.width (some_columns w.shape) in
+    let row : q / w.shape.width < w.shape.height = div_below q w.shape.width w.shape.height (some_columns w.shape) (omega arith) in
+    let right : w.left + w.shape.width ≤ whole.width = inside.columns in
+    let bottom : w.top + w.shape.height ≤ whole.height = inside.rows in
+    (omega arith, omega arith)
+
+-- ---- pixel by pixel
+
+module _ (r s : Raster) (connect : Connect) (h : ℤ) (c : WindowPair) where
+  pub copied_none : (first end : ℕ) → end ≤ first → AreCopied r s connect h c first end
+  copied_none first end l = record { each = λ q low high k. absurd (omega arith) }
+
+  pub copied_more : (first p : ℕ) → AreCopied r s connect h c first p
+      → (IsTrue (is_high_there s h c.to p) → IsPixelCopied r s connect c p) → AreCopied r s connect h c first (p + 1)
+  copied_more first p before here = record { each = λ q low high k. go q (cases_lt q p) low high k }
+    where
+      go : (q : ℕ) → (q < p) ⊎ (p ≤ q) → first ≤ q → q < p + 1 → IsTrue (is_high_there s h c.to q) → IsPixelCopied r s connect c q
+      go q (inl l) low high k = before.each q low l k
+      go q (inr l) low high k =
+          let e : p ≡ q = omega arith in
+          subst (λ (n : ℕ). IsTrue (is_high_there s h c.to n) → IsPixelCopied r s connect c n) e here k
+
+  pub copied_joined : (first middle end : ℕ) → AreCopied r s connect h c first middle → AreCopied r s connect h c middle end
+      → AreCopied r s connect h c first end
+  copied_joined first middle end before behind = record { each = λ q low high k. go q (cases_lt q middle) low high k }
+    where
+      go : (q : ℕ) → (q < middle) ⊎ (middle ≤ q) → first ≤ q → q < end → IsTrue (is_high_there s h c.to q) → IsPixelCopied r s connect c q
+      go q (inl l) low high k = before.each q low l k
+      go q (inr l) low high k = behind.each q l high k
+
+  pub copied_at : (first end last : ℕ) → AreCopied r s connect h c first end → end ≡ last → AreCopied r s connect h c first last
+  copied_at first end last copied e = subst (λ (n : ℕ). AreCopied r s connect h c first n) e copied
+
+  -- a pixel that is low needn't be one
+  pub low_there : (q there : ℕ) → in_whole s.shape.width c.to q ≡ there → is_at_least s h there ≡ false
+      → IsTrue (is_high_there s h c.to q) → IsPixelCopied r s connect c q
+  unfolding is_high_there
+  low_there q there e low k =
+      let high : IsTrue (is_at_least s h (in_whole s.shape.width c.to q)) =
+      (and_parts (nat_lt q (window_size c.to)) (is_at_least s h (in_whole s.shape.width c.to q)) k).1 in
+      absurd (true≢false (sym high ∙ ap (is_at_least s h) e ∙ low))
+
+-- the place is a copy where each of its pixels is one
+pub copied_from : (r s : Raster) (connect : Connect) (h : ℤ) (c : Place) → IsInside r.shape (window_pair c).from → IsInside s.shape (window_pair c).to
+    → AreCopied r s connect h (window_pair c) 0 (c.shape.height * c.shape.width) → IsCopied r s connect h (window_pair c)
+unfolding is_high_there
+copied_from r s connect h c inside inside_sheet copied = record {
+  same_shape = refl;
+  inside = inside;
+  inside_sheet = inside_sheet;
+  same = λ q k. (at q k).same;
+  beside = λ q b k. (at q k).beside b;
+  beyond = λ q a k. (at q k).beyond a;
+  beyond_sheet = λ q a k. (at q k).beyond_sheet a;
+}
+  where
+    at : (q : ℕ) → IsTrue (is_high_there s h (window_pair c).to q) → IsPixelCopied r s connect (window_pair c) q
+    at q k =
+        let few : q < c.shape.width * c.shape.height =
+        ltb-true q (window_size (window_pair c).to)
+        (and_parts (nat_lt q (window_size (window_pair c).to)) (is_at_least s h (in_whole s.shape.width (window_pair c).to q)) k).0 in
+        copied.each q (omega arith) (omega arith) k
+
+-- ---- place by place
+
+pub all_copied_more : (r s : Raster) (connect : Connect) (h : ℤ) (places : List Place) (count : ℕ) (c : Place) → slice_get places count ≡ Some c
+    → IsCopied r s connect h (window_pair c) → AreAllCopied r s connect h places count → AreAllCopied r s connect h places (count + 1)
+all_copied_more r s connect h places count c here copied before i d l g = go (cases_lt i count)
+  where
+    go : (i < count) ⊎ (count ≤ i) → IsCopied r s connect h (window_pair d)
+    go (inl m) = before i d m g
+    go (inr m) =
+        let same : i ≡ count = omega arith in
+        subst (λ (x : Place). IsCopied r s connect h (window_pair x)) (sym (same_Some d c (sym g ∙ ap (slice_get places) same ∙ here))) copied

@@ -1,0 +1,89 @@
+-- Model: what the checks of a sheet find, pixel by pixel.
+use Rattle.std.specs.Prelude.{◌≡◌, ℕ, ◌+◌, ◌*◌, ◌<◌, ◌≤◌, Bool, false, IsTrue, ℤ, List, length, Contains, Some, slice_get, slice_index_or}
+use Rattle.comp_tree.specs.declared.shape.Connect.{Connect}
+use Rattle.comp_tree.specs.declared.shape.Shape.{Shape}
+use Rattle.comp_tree.specs.Raster.{Raster, IsPlane, value_at}
+use Rattle.comp_tree.specs.Grid.{are_neighbours, IsAdjacency}
+use Rattle.comp_tree.specs.Windows.{Window, IsInside, in_whole}
+use Rattle.source_pick.specs.Sheets.{WindowPair, IsCopied, window_size, is_high_there}
+use Rattle.source_sheet.specs.declared.sheet.Place.{Place}
+use Rattle.source_sheet.specs.Laid.{window_pair, AreApartThere, AreApart, HoldsPixel}
+
+-- ---- copies
+
+-- the window of this shape with this corner
+abbrev pub window_at : ℕ → ℕ → Shape → Window
+window_at left top shape = record { left = left; top = top; shape = shape }
+
+-- pixel p of an image with so many columns lies in the window
+abbrev pub IsSeen : ℕ → Window → ℕ → Type 0
+IsSeen width w p = (b : ℕ) × (b < window_size w) × (in_whole width w b ≡ p)
+
+-- what is adjacent to pixel p lies in the window
+abbrev pub StaysWithin : Raster → Connect → Window → ℕ → Type 0
+StaysWithin r connect w p = (a : ℕ) → IsAdjacency r.values r.shape.width connect p a → IsSeen r.shape.width w a
+
+-- pixel q of the windows has the same value in both planes, or none
+abbrev pub IsSameAt : Raster → Raster → WindowPair → ℕ → Type 0
+IsSameAt r s c q = value_at r.values (in_whole r.shape.width c.from q) ≡ value_at s.values (in_whole s.shape.width c.to q)
+
+-- pixel q of the windows is a copy, with what is around it
+pub record IsPixelCopied (r s : Raster) (connect : Connect) (c : WindowPair) (q : ℕ) : Type 0 where
+  pub same : IsSameAt r s c q
+  pub beside : (b : ℕ) → b < window_size c.to → IsTrue (are_neighbours connect c.to.shape.width q b) → IsSameAt r s c b
+  pub beyond : StaysWithin r connect c.from (in_whole r.shape.width c.from q)
+  pub beyond_sheet : StaysWithin s connect c.to (in_whole s.shape.width c.to q)
+
+-- so is each pixel of at least h from the first one up to the end
+pub record AreCopied (r s : Raster) (connect : Connect) (h : ℤ) (c : WindowPair) (first end : ℕ) : Type 0 where
+  pub each : (q : ℕ) → first ≤ q → q < end → IsTrue (is_high_there s h c.to q) → IsPixelCopied r s connect c q
+
+-- ---- marks
+
+-- each place lies inside the sheet
+abbrev pub LieInside : Shape → List Place → Type 0
+LieInside whole places = (i : ℕ) (c : Place) → slice_get places i ≡ Some c → IsInside whole (window_pair c).to
+
+-- the pixel has a mark
+abbrev pub has_mark : List Bool → ℕ → Bool
+has_mark marks p = slice_index_or marks p false
+
+-- no pixel that lies there had a mark, each has one now, and other marks are kept
+pub record AreNewlyMarked (old new : List Bool) (LiesThere : ℕ → Type 0) : Type 0 where
+  pub same_length : length new ≡ length old
+  pub kept : (p : ℕ) → IsTrue (has_mark old p) → IsTrue (has_mark new p)
+  pub free : (p : ℕ) → LiesThere p → has_mark old p ≡ false
+  pub all : (p : ℕ) → LiesThere p → IsTrue (has_mark new p)
+
+-- p is one of the pixels from the first one up to the end
+pub record IsBetween (first end p : ℕ) : Type 0 where
+  pub low : first ≤ p
+  pub high : p < end
+
+-- p lies in one of the first rows of the window
+pub record IsInRows (width : ℕ) (w : Window) (rows p : ℕ) : Type 0 where
+  pub row : ℕ
+  pub below : row < rows
+  pub low : (row + w.top) * width + w.left ≤ p
+  pub high : p < (row + w.top) * width + (w.left + w.shape.width)
+
+-- each pixel of the first places has a mark, and none lies in two of them
+pub record AreAllApart (width : ℕ) (places : List Place) (count : ℕ) (marks : List Bool) : Type 0 where
+  pub marked : (i p : ℕ) (c : Place) → i < count → slice_get places i ≡ Some c → IsInRows width (window_pair c).to c.shape.height p → IsTrue (has_mark marks p)
+  pub apart : (i j p : ℕ) (c e : Place) → i < count → j < count → slice_get places i ≡ Some c → slice_get places j ≡ Some e
+      → IsInRows width (window_pair c).to c.shape.height p → IsInRows width (window_pair e).to e.shape.height p → i ≡ j
+
+-- ---- a sheet
+
+-- each of the first places is a copy
+abbrev pub AreAllCopied : Raster → Raster → Connect → ℤ → List Place → ℕ → Type 0
+AreAllCopied r s connect h places count = (i : ℕ) (c : Place) → i < count → slice_get places i ≡ Some c → IsCopied r s connect h (window_pair c)
+
+-- the places are copies, none overlaps another one, and they hold each listed pixel
+pub record AreGoodPlaces (r s : Raster) (connect : Connect) (h : ℤ) (places : List Place) (listed : List ℕ) : Type 0 where
+  pub one_each : IsPlane r
+  pub one_each_there : IsPlane s
+  pub copied : AreAllCopied r s connect h places (length places)
+  pub apart_there : AreApartThere s places
+  pub apart : AreApart r s h places
+  pub held : (p : ℕ) → Contains listed p → (i : ℕ) × ((c : Place) × (slice_get places i ≡ Some c) × HoldsPixel r s h c p)
