@@ -1,25 +1,22 @@
 -- Groups of pixels that are flooded: marks spread, and what is marked stands in a list.
-use Rattle.std.proofs.Common.{◌≡◌, ◌∙◌, ℕ, ◌+◌, ◌*◌, ◌<◌, ◌≤◌, zero, suc, Bool, true, false, List, [], ◌∷◌, ◌++◌, length, refl, sym, ap, subst, arith}
-use Rattle.std.proofs.Common.{◌⊎◌, inl, inr, append-nil, append_assoc, length-append, get_or, get_or-set_same, get_or-set_other, length-set, replicate, take}
-use Rattle.std.specs.Prelude.{IsTrue, All, Contains, Option, Some, slice_get, slice_set, ◌==◌, ℤ, filter}
+use Rattle.std.proofs.Common.{◌≡◌, ◌∙◌, ℕ, ◌+◌, ◌*◌, ◌<◌, ◌≤◌, Bool, true, false, List, [], ◌∷◌, ◌++◌, length, refl, sym, ap, subst, arith}
+use Rattle.std.proofs.Common.{◌⊎◌, inl, inr, append-nil, append_assoc, length-append, get_or, get_or-set_same, get_or-set_other, length-set, take}
+use Rattle.std.specs.Prelude.{IsTrue, All, Contains, Some, slice_get, slice_set, ◌==◌, ℤ, filter}
 use Rattle.std.specs.List.{range_with_len}
 use Rattle.std.proofs.lemmas.Bool.{cases_lt, eqb-true, eqb-false, true≢false}
-use Rattle.std.proofs.lemmas.List.{length-replicate}
 use Rattle.std.proofs.lemmas.List.Elements.{All-nil, All-cons, All-append, All-filter}
 use Rattle.std.proofs.lemmas.List.FromFn.{get_or-range_with_len, length-range_with_len}
 use Rattle.std.proofs.lemmas.Option.{slice_get_within}
 use Rattle.lemmas.proofs.Exported.{IsAmong, among-append_left, among-append_right, among-filter, among_of, among_get, contains_from_among}
 use Rattle.comp_tree.specs.declared.shape.Connect.{Connect}
 use Rattle.comp_tree.specs.declared.shape.Shape.{Shape}
-use Rattle.comp_tree.specs.Raster.{Raster, HasGap, pixels, at_least, is_at_least}
+use Rattle.comp_tree.specs.Raster.{Raster, pixels, is_at_least}
 use Rattle.comp_tree.specs.Grid.{are_neighbours, IsAdjacency}
 use Rattle.comp_tree.specs.Joined.{IsPairOf}
 use Rattle.comp_tree.specs.Marks.{is_marked}
-use Rattle.comp_tree.proofs.Exported.{along_joined, adjacent_ends, adjacent_turned, among_from_defined, below_from_defined, defined_from_at_least}
-use Rattle.source_pick.specs.declared.choice.Choice.{Choice}
-use Rattle.source_sheet.specs.Laid.{HasFewAround, HoldsGroups}
+use Rattle.comp_tree.proofs.Exported.{along_joined, adjacent_ends, adjacent_turned, among_from_defined, defined_from_at_least}
+use Rattle.source_sheet.specs.Laid.{HasFewAround}
 use Rattle.source_sheet.specs.Groups.{IsSurrounded, HasListed, HasLookedAt, HasLookedAtFirst, HasSpread, IsFlooding, IsFlooded, AreGrouped, HasGrouped}
-use Rattle.source_sheet.specs.Groups.{AreGroupedBefore}
 
 -- ---- lists
 
@@ -31,9 +28,6 @@ contains-right x xs ys c = contains_from_among x (xs ++ ys) (among-append_right 
 
 contains-one : (x y : ℕ) → y ≡ x → Contains (y ∷ []) x
 contains-one x y e = contains_from_among x (y ∷ []) (inl e)
-
-contains-none : (x : ℕ) (xs : List ℕ) → length xs ≤ 0 → Contains xs x → ⊥
-contains-none x xs none c = absurd (let k : c.0 < length xs = c.1 in omega arith)
 
 at_cut : (seen rest : List ℕ) (x d : ℕ) → get_or (seen ++ x ∷ rest) (length seen) d ≡ x
 at_cut [] rest x d = refl
@@ -53,19 +47,14 @@ cut-moved seen rest added x = append_assoc seen (x ∷ rest) added ∙ sym (appe
 
 -- ---- marks
 
-pub no_mark : (n a : ℕ) → is_marked (replicate n false) a ≡ false
-no_mark zero a = refl
-no_mark (suc n) zero = refl
-no_mark (suc n) (suc a) = no_mark n a
-
-pub mark_kept : (marks : List Bool) (p a : ℕ) → p < length marks → IsTrue (is_marked marks a) → IsTrue (is_marked (slice_set marks p true) a)
+mark_kept : (marks : List Bool) (p a : ℕ) → p < length marks → IsTrue (is_marked marks a) → IsTrue (is_marked (slice_set marks p true) a)
 mark_kept marks p a below m = go (a == p) refl
   where
     go : (t : Bool) → a == p ≡ t → IsTrue (is_marked (slice_set marks p true) a)
     go true u = subst (λ (x : ℕ). IsTrue (is_marked (slice_set marks p true) x)) (sym (eqb-true a p u)) (get_or-set_same marks p true false below)
     go false u = get_or-set_other marks p a true false (eqb-false a p u) ∙ m
 
-pub mark_set : (marks : List Bool) (p a : ℕ) → IsTrue (is_marked (slice_set marks p true) a) → IsTrue (is_marked marks a) ⊎ (p ≡ a)
+mark_set : (marks : List Bool) (p a : ℕ) → IsTrue (is_marked (slice_set marks p true) a) → IsTrue (is_marked marks a) ⊎ (p ≡ a)
 mark_set marks p a m = go (a == p) refl
   where
     go : (t : Bool) → a == p ≡ t → IsTrue (is_marked marks a) ⊎ (p ≡ a)
@@ -114,19 +103,6 @@ listed_below r old front new items f below =
     subst (λ (xs : List ℕ). All (λ a. a < length r.values) xs) (sym f.items_are) (All-append (λ a. a < length r.values) front f.added below f.below)
 
 -- ---- pixels that are looked at
-
-pub looked_marked : (r : Raster) (h : ℤ) (b : ℕ) (marks : List Bool) (items : List ℕ) → IsTrue (is_marked marks b) → HasLookedAt r h b marks items marks items
-looked_marked r h b marks items m = record { more = listed_none r marks items; marked = λ _. m }
-
-pub looked_low : (r : Raster) (h : ℤ) (b : ℕ) (marks : List Bool) (items : List ℕ) → is_at_least r h b ≡ false → HasLookedAt r h b marks items marks items
-looked_low r h b marks items low = record { more = listed_none r marks items; marked = λ high. absurd (true≢false (sym high ∙ low)) }
-
-pub looked_new : (r : Raster) (h : ℤ) (b : ℕ) (marks new : List Bool) (front items : List ℕ) → b < length r.values → length marks ≡ length r.values
-    → new ≡ slice_set marks b true → items ≡ front ++ b ∷ [] → HasLookedAt r h b marks front new items
-looked_new r h b marks new front items below each e f =
-    subst (λ (xs : List Bool). HasLookedAt r h b marks front xs items) (sym e)
-    (subst (λ (ys : List ℕ). HasLookedAt r h b marks front (slice_set marks b true) ys) (sym f)
-    (record { more = listed_one r marks front b below each; marked = λ _. get_or-set_same marks b true false (omega (arith, each)) }))
 
 pub first_none : (r : Raster) (h : ℤ) (near : List ℕ) (marks : List Bool) (items : List ℕ) → HasLookedAtFirst r h near 0 marks items marks items
 first_none r h near marks items = record { more = listed_none r marks items; marked = λ k b l _ _. absurd (omega arith) }
@@ -239,20 +215,6 @@ flood_step r connect h p old front cursor a mid most new items f below is s = go
           | inr l ↦ inr (inr (contains-left b rest s.more.added (contains_from_among b rest l)))
         ]
 
-pub flood_end : (r : Raster) (connect : Connect) (h : ℤ) (p : ℕ) (old : List Bool) (front : List ℕ) (cursor : ℕ) (new : List Bool) (items : List ℕ)
-    → IsFlooding r connect h p old front cursor new items → length items ≤ cursor → IsFlooded r connect h p old front new items
-flood_end r connect h p old front cursor new items f end = record {
-  more = f.more;
-  begun = f.begun;
-  surrounded = λ a m. elim (f.surrounded a m) [
-    | inl k ↦ inl k
-    | inr k ↦ elim k [ inl l ↦ inr l | inr l ↦ absurd (contains-none a f.rest none l) ]
-  ];
-}
-  where
-    none : length f.rest ≤ 0
-    none = omega (arith, ap length f.cut, length-append f.seen f.rest, f.at)
-
 -- ---- groups
 
 module _ (r : Raster) (connect : Connect) (h : ℤ) (min_area p : ℕ) (old : List Bool) (front : List ℕ) (new : List Bool) (items : List ℕ)
@@ -320,63 +282,3 @@ module _ (r : Raster) (connect : Connect) (h : ℤ) (min_area p : ℕ) (old : Li
       go : (a : ℕ) → IsTrue (is_marked old a) ⊎ Contains f.more.added a → Contains items a ⊎ HasFewAround r connect h min_area a
       go a (inl k) = elim (g.held a k) [ inl l ↦ inl (behind a (contains-left a front f.more.added l)) | inr l ↦ inr l ]
       go a (inr k) = inl (behind a (contains-right a front f.more.added k))
-
--- ---- the scan
-
-not_in_gap : (r : Raster) (h : ℤ) (first end a : ℕ) → HasGap r.values first end → first ≤ a → a < end → IsTrue (is_at_least r h a) → ⊥
-not_in_gap r h first end a gap low below high = absurd (true≢false (sym (subst (λ (v : Option ℤ). IsTrue (at_least h v)) (gap a low below) high)))
-
-pub scan_start : (r : Raster) (connect : Connect) (h : ℤ) (min_area p n : ℕ) (marks : List Bool) (items : List ℕ) → marks ≡ replicate n false
-    → n ≡ length r.values → items ≡ [] → HasGap r.values 0 p → AreGroupedBefore r connect h min_area p marks items
-scan_start r connect h min_area p n marks items e count none gap = record {
-  grouped = record {
-    one_each = ap length e ∙ length-replicate n false ∙ count;
-    below = subst (λ (xs : List ℕ). All (λ a. a < length r.values) xs) (sym none) (All-nil (λ a. a < length r.values));
-    closed = λ a m. absurd (unmarked a m);
-    held = λ a m. absurd (unmarked a m);
-  };
-  marked = λ a l high. absurd (not_in_gap r h 0 p a gap (omega arith) l high);
-}
-  where
-    unmarked : (a : ℕ) → IsTrue (is_marked marks a) → ⊥
-    unmarked a m = absurd (true≢false (sym m ∙ ap (λ xs. is_marked xs a) e ∙ no_mark n a))
-
--- a pixel that is low, or marked already
-pub scan_past : (r : Raster) (connect : Connect) (h : ℤ) (min_area p : ℕ) (marks : List Bool) (items : List ℕ)
-    → AreGroupedBefore r connect h min_area p marks items → (IsTrue (is_at_least r h p) → IsTrue (is_marked marks p))
-    → AreGroupedBefore r connect h min_area (p + 1) marks items
-scan_past r connect h min_area p marks items b here = record {
-  grouped = b.grouped;
-  marked = λ a l high. go a l high (cases_lt a p);
-}
-  where
-    go : (a : ℕ) → a < p + 1 → IsTrue (is_at_least r h a) → (a < p) ⊎ (p ≤ a) → IsTrue (is_marked marks a)
-    go a l high (inl m) = b.marked a m high
-    go a l high (inr m) =
-        let e : p ≡ a = omega arith in
-        subst (λ (x : ℕ). IsTrue (is_at_least r h x) → IsTrue (is_marked marks x)) e here high
-
--- a pixel whose group is marked now
-pub scan_group : (r : Raster) (connect : Connect) (h : ℤ) (min_area p : ℕ) (marks new : List Bool) (front items : List ℕ)
-    → AreGroupedBefore r connect h min_area p marks front → HasGrouped r connect h min_area p marks new items
-    → AreGroupedBefore r connect h min_area (p + 1) new items
-scan_group r connect h min_area p marks new front items b g =
-    scan_past r connect h min_area p new items (record { grouped = g.grouped; marked = λ a l high. g.kept a (b.marked a l high) }) (λ _. g.begun)
-
--- pixels that are undefined
-pub scan_gap : (r : Raster) (connect : Connect) (h : ℤ) (min_area p q : ℕ) (marks : List Bool) (items : List ℕ)
-    → AreGroupedBefore r connect h min_area p marks items → HasGap r.values p q → AreGroupedBefore r connect h min_area q marks items
-scan_gap r connect h min_area p q marks items b gap = record {
-  grouped = b.grouped;
-  marked = λ a l high. go a l high (cases_lt a p);
-}
-  where
-    go : (a : ℕ) → a < q → IsTrue (is_at_least r h a) → (a < p) ⊎ (p ≤ a) → IsTrue (is_marked marks a)
-    go a l high (inl m) = b.marked a m high
-    go a l high (inr m) = absurd (not_in_gap r h p q a gap m l high)
-
-pub scan_end : (r : Raster) (connect : Connect) (choice : Choice) (p : ℕ) (marks : List Bool) (items : List ℕ)
-    → AreGroupedBefore r connect choice.threshold choice.min_area p marks items → length r.values ≤ p → HoldsGroups r connect choice items
-scan_end r connect choice p marks items b end a high =
-    let below : a < length r.values = below_from_defined r a (defined_from_at_least r choice.threshold a high) in
-    b.grouped.held a (b.marked a (omega arith) high)

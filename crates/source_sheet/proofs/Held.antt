@@ -1,7 +1,7 @@
 -- Pixels that places hold: each is marked once.
-use Rattle.std.proofs.Common.{◌≡◌, ◌∙◌, ℕ, ◌+◌, ◌-◌, ◌*◌, ◌/◌, ◌%◌, ◌<◌, ◌≤◌, Bool, true, false, List, length, refl, sym, ap, subst, arith}
-use Rattle.std.proofs.Common.{◌⊎◌, inl, inr, get_or-set_same, length-set, replicate}
-use Rattle.std.specs.Prelude.{IsTrue, All, Contains, Some, slice_get, slice_set, nat_lt, ℤ}
+use Rattle.std.proofs.Common.{◌≡◌, ◌∙◌, ℕ, ◌+◌, ◌-◌, ◌*◌, ◌/◌, ◌%◌, ◌<◌, ◌≤◌, zero, suc, Bool, true, false, List, length, refl, sym, ap, subst, arith}
+use Rattle.std.proofs.Common.{◌⊎◌, inl, inr, replicate}
+use Rattle.std.specs.Prelude.{IsTrue, All, Contains, Some, slice_get, nat_lt, ℤ}
 use Rattle.std.proofs.lemmas.Bool.{cases_lt, and_parts, and_from, ltb-true, lt-ltb, true≢false}
 use Rattle.std.proofs.lemmas.List.{length-replicate}
 use Rattle.std.proofs.Math.Nat.{mul-le-mul_right, mul_comm}
@@ -14,28 +14,6 @@ use Rattle.source_pick.specs.Sheets.{is_high_there, window_size}
 use Rattle.source_sheet.specs.declared.sheet.Place.{Place}
 use Rattle.source_sheet.specs.Laid.{window_pair, HoldsPixel, AreApart}
 use Rattle.source_sheet.specs.Holding.{HasHeld, HasHeldFirst, HasHeldAll, IsHeldBySome, AreHeldApart}
-use Rattle.source_sheet.proofs.Grouping.{mark_kept, mark_set, no_mark}
-
--- ---- one pixel
-
-pub held_low : (s : Raster) (h : ℤ) (there p : ℕ) (marks : List Bool) → is_at_least s h there ≡ false → HasHeld s h there p marks marks
-held_low s h there p marks low = record {
-  one_each = refl;
-  free = λ high. absurd (true≢false (sym high ∙ low));
-  set = λ high. absurd (true≢false (sym high ∙ low));
-  kept = λ a m. m;
-  listed = λ a m. inl m;
-}
-
-pub held_high : (s : Raster) (h : ℤ) (there p : ℕ) (marks : List Bool) → p < length marks → IsTrue (is_at_least s h there) → is_marked marks p ≡ false
-    → HasHeld s h there p marks (slice_set marks p true)
-held_high s h there p marks below high free = record {
-  one_each = length-set marks p true;
-  free = λ _. free;
-  set = λ _. get_or-set_same marks p true false below;
-  kept = λ a m. mark_kept marks p a below m;
-  listed = λ a m. elim (mark_set marks p a m) [ inl k ↦ inl k | inr e ↦ inr (e, high) ];
-}
 
 -- ---- a row
 
@@ -152,6 +130,11 @@ first_all r s h c count old new f all = record {
     below q e = let l : q < window_size (window_pair c).to = high_below s h (window_pair c).to q e in omega (arith, l, all)
 
 -- ---- all places
+
+no_mark : (n a : ℕ) → is_marked (replicate n false) a ≡ false
+no_mark zero a = refl
+no_mark (suc n) zero = refl
+no_mark (suc n) (suc a) = no_mark n a
 
 pub apart_none : (r s : Raster) (h : ℤ) (places : List Place) (marks : List Bool) → marks ≡ replicate (length r.values) false
     → AreHeldApart r s h places 0 marks
