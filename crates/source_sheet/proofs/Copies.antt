@@ -1,5 +1,5 @@
 -- What is found about the pixels of a place, one after the other, and around each.
-use Rattle.std.proofs.Common.{◌≡◌, ℕ, ◌+◌, ◌-◌, ◌*◌, ◌/◌, ◌%◌, ◌<◌, ◌≤◌, false, List, length, get_or, refl, sym, ◌∙◌, ap, subst, arith, ◌⊎◌, inl, inr}
+use Rattle.std.proofs.Common.{true, max, ◌≡◌, ℕ, ◌+◌, ◌-◌, ◌*◌, ◌/◌, ◌%◌, ◌<◌, ◌≤◌, false, List, length, get_or, refl, sym, ◌∙◌, ap, subst, arith, ◌⊎◌, inl, inr}
 use Rattle.std.specs.Prelude.{IsTrue, ℤ, All, filter, nat_lt, slice_get, Some}
 use Rattle.std.specs.List.{range_with_len}
 use Rattle.std.proofs.lemmas.Bool.{and_parts, ltb-true, cases_lt, true≢false}
@@ -10,13 +10,14 @@ use Rattle.lemmas.proofs.Exported.{IsAmong, all_from_among, among-filter, among-
 use Rattle.comp_tree.specs.declared.shape.Connect.{Connect}
 use Rattle.comp_tree.specs.declared.shape.Shape.{Shape}
 use Rattle.comp_tree.specs.Raster.{Raster, is_defined, is_at_least}
-use Rattle.comp_tree.specs.Grid.{are_neighbours}
+use Rattle.comp_tree.specs.declared.shape.Connect.TheVariants.{Four, Eight}
+use Rattle.comp_tree.specs.Grid.{distance, are_neighbours}
 use Rattle.comp_tree.specs.Windows.{Window, IsInside, in_whole}
-use Rattle.comp_tree.proofs.Exported.{some_columns, adjacent_ends, below_from_defined}
+use Rattle.comp_tree.proofs.Exported.{some_columns, adjacent_ends, adjacent_near, below_from_defined, neighbours_eight, neighbours_four, IsAt, in_whole-at}
 use Rattle.source_pick.specs.Sheets.{WindowPair, IsCopied, window_size, is_high_there}
 use Rattle.source_sheet.specs.declared.sheet.Place.{Place}
 use Rattle.source_sheet.specs.Laid.{window_pair}
-use Rattle.source_sheet.specs.Checks.{IsSeen, StaysWithin, IsPixelCopied, AreCopied, AreAllCopied}
+use Rattle.source_sheet.specs.Checks.{LiesInside, IsSeen, StaysWithin, IsPixelCopied, AreCopied, AreAllCopied}
 
 -- ---- lists of neighbours
 
@@ -85,6 +86,51 @@ seen_from width w p left top columns rows = (q, mul-add-lt y w.shape.width x w.s
         ap (λ (z : ℕ). z * width + (q % w.shape.width + w.left)) row
         ∙ ap (λ (z : ℕ). p / width * width + z) column
         ∙ div-add-mod' p width
+
+-- the columns of neighbours are the same or next to each other
+near_columns : (connect : Connect) (width p q : ℕ) → are_neighbours connect width p q ≡ true → (p % width ≤ q % width + 1) × (q % width ≤ p % width + 1)
+unfolding distance
+near_columns Four width p q e = let n : distance (p / width) (q / width) + distance (p % width) (q % width) ≡ 1 =
+    (neighbours_four width p q).0 e in (omega arith, omega arith)
+near_columns Eight width p q e = let n : max (distance (p / width) (q / width)) (distance (p % width) (q % width)) ≡ 1 =
+    (neighbours_eight width p q).0 e in (omega arith, omega arith)
+
+-- what is adjacent to a pixel that isn't at the window's edge lies in the window
+pub inside_stays : (r : Raster) (connect : Connect) (w : Window) (q : ℕ) → IsInside r.shape w → LiesInside w.shape q
+    → StaysWithin r connect w (in_whole r.shape.width w q)
+inside_stays r connect w q inside within a adjacent = seen_from r.shape.width w a
+    (omega (arith, column, near.0, near.1, left)) (omega (arith, row, rows.0, rows.1, top))
+    (omega (arith, column, near.0, near.1, left, right)) (omega (arith, row, rows.0, rows.1, top, bottom))
+  where
+    p : ℕ
+    p = in_whole r.shape.width w q
+
+    at : IsAt r.shape.width w.shape.width w.left w.top p q
+    at = in_whole-at r.shape w q inside
+
+    column : p % r.shape.width ≡ q % w.shape.width + w.left
+    column = at.column
+
+    row : p / r.shape.width ≡ q / w.shape.width + w.top
+    row = at.row
+
+    rows : (p / r.shape.width ≤ a / r.shape.width + 1) × (a / r.shape.width ≤ p / r.shape.width + 1)
+    rows = adjacent_near r.values r.shape.width connect p a adjacent
+
+    near : (p % r.shape.width ≤ a % r.shape.width + 1) × (a % r.shape.width ≤ p % r.shape.width + 1)
+    near = near_columns connect r.shape.width p a (adjacent_ends r.values r.shape.width connect p a adjacent).2
+
+    left : 0 < q % w.shape.width
+    left = within.left
+
+    right : q % w.shape.width + 1 < w.shape.width
+    right = within.right
+
+    top : 0 < q / w.shape.width
+    top = within.top
+
+    bottom : q / w.shape.width + 1 < w.shape.height
+    bottom = within.bottom
 
 -- where a window's pixel stands, by its column and row
 pub in_whole-by : (width : ℕ) (w : Window) (q : ℕ)

@@ -1,5 +1,5 @@
 -- Model: what the checks of a sheet find, pixel by pixel.
-use Rattle.std.specs.Prelude.{◌≡◌, ℕ, ◌+◌, ◌*◌, ◌<◌, ◌≤◌, Bool, false, IsTrue, ℤ, List, length, Contains, Some, slice_get, slice_index_or}
+use Rattle.std.specs.Prelude.{◌≡◌, ℕ, ◌+◌, ◌*◌, ◌/◌, ◌%◌, ◌<◌, ◌≤◌, Bool, false, IsTrue, ℤ, List, length, Contains, Some, slice_get, slice_index_or}
 use Rattle.comp_tree.specs.declared.shape.Connect.{Connect}
 use Rattle.comp_tree.specs.declared.shape.Shape.{Shape}
 use Rattle.comp_tree.specs.Raster.{Raster, IsPlane, value_at}
@@ -22,6 +22,13 @@ IsSeen width w p = (b : ℕ) × (b < window_size w) × (in_whole width w b ≡ p
 -- what is adjacent to pixel p lies in the window
 abbrev pub StaysWithin : Raster → Connect → Window → ℕ → Type 0
 StaysWithin r connect w p = (a : ℕ) → IsAdjacency r.values r.shape.width connect p a → IsSeen r.shape.width w a
+
+-- pixel q of a window of this shape isn't at its edge
+pub record LiesInside (shape : Shape) (q : ℕ) : Type 0 where
+  pub left : 0 < q % shape.width
+  pub right : q % shape.width + 1 < shape.width
+  pub top : 0 < q / shape.width
+  pub bottom : q / shape.width + 1 < shape.height
 
 -- pixel q of the windows has the same value in both planes, or none
 abbrev pub IsSameAt : Raster → Raster → WindowPair → ℕ → Type 0

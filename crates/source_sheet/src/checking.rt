@@ -20,6 +20,7 @@ ghost use Rattle.source_sheet.specs.Checks.{
   AreGoodPlaces,
   IsBetween,
   IsInRows,
+  LiesInside,
 };
 
 use crate::holding::hold_all;
@@ -256,6 +257,26 @@ fn value_in(plane: &Plane, left: u32, top: u32, shape: Shape, q: u32) -> Option<
 
 // Whether what is adjacent to the window's pixel q lies in the window.
 fn stays_within(plane: &Plane, connect: Connect, left: u32, top: u32, shape: Shape, q: u32) -> bool
+    requires inside { IsInside plane.now.shape (window_at left top shape) }
+    requires pixel { q < window_size (window_at left top shape) }
+    ensures { IsTrue result → StaysWithin plane.now connect (window_at left top shape)
+        (in_whole plane.now.shape.width (window_at left top shape) q) }
+{
+    is_inner(shape, q) || has_around(plane, connect, left, top, shape, q)
+}
+
+// Whether the window has a pixel on each side of its pixel q: then nothing that is adjacent to it lies beyond.
+fn is_inner(shape: Shape, q: u32) -> bool
+    requires pixel { q < shape.width * shape.height }
+    ensures { IsTrue result → LiesInside shape q }
+{
+    let column = q % shape.width;
+    let row = q / shape.width;
+    0 < column && column + 1 < shape.width && 0 < row && row + 1 < shape.height
+}
+
+// The same, by a look at what is adjacent.
+fn has_around(plane: &Plane, connect: Connect, left: u32, top: u32, shape: Shape, q: u32) -> bool
     requires inside { IsInside plane.now.shape (window_at left top shape) }
     requires pixel { q < window_size (window_at left top shape) }
     ensures { IsTrue result → StaysWithin plane.now connect (window_at left top shape)

@@ -6,9 +6,10 @@ ghost use Rattle.source_sheet.specs.declared.sheet.Place.{Place};
 ghost use Rattle.source_sheet.specs.Laid.{AreApart, HoldsPixel};
 ghost use Rattle.source_sheet.specs.Holding.{AreInside, IsPlaceInside, HasHeld, HasHeldFirst, HasHeldAll, AreHeldApart};
 
+use crate::checking::pixel_at;
 use crate::groups::no_marks;
 use crate::sheet::Place;
-use comp_tree::{Plane, Shape};
+use comp_tree::Plane;
 use costs::OutOfMemory;
 use source_pick::Choice;
 use std::alloc::Global;
@@ -135,16 +136,6 @@ fn mark_row(
         }
     }
     true
-}
-
-// The pixel in a column of a row.
-fn pixel_at(shape: Shape, column: u32, row: u32) -> u32
-    requires column { column < shape.width }
-    requires row { row < shape.height }
-    ensures is { result ≡ row * shape.width + column }
-    ensures inside { result < shape.width * shape.height }
-{
-    row * shape.width + column
 }
 
 // Marks pixel `p` if pixel `there` of the sheet is high, and tells whether it had no mark.

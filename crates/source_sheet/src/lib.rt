@@ -13,3 +13,6 @@ mod sheet;
 
 pub use back::{SheetDetection, sources_of_sheet};
 pub use sheet::{Place, Sheet, lay_out};
+
+#[cfg(test)]
+mod tests;

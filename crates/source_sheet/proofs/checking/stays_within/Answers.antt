@@ -1,26 +1,7 @@
-use Rattle.std.proofs.Common.{◌≡◌, ◌∙◌, ◌*◌, ℕ, sym, ap, subst}
-use Rattle.std.specs.Prelude.{filter, All, ◌<◌}
-use Rattle.std.specs.List.{range_with_len}
-use Rattle.comp_tree.specs.declared.shape.Shape.{Shape}
-use Rattle.comp_tree.specs.Grid.{are_neighbours}
-use Rattle.comp_tree.specs.Windows.{in_whole}
-use Rattle.source_sheet.specs.Checks.{window_at, StaysWithin}
-use Rattle.source_sheet.proofs.Copies.{near_below, stays_from}
+use Rattle.source_sheet.specs.Checks.{window_at}
+use Rattle.source_sheet.proofs.Copies.{inside_stays}
 use Rattle.source_sheet.proofs.checking.stays_within.Goals as goal
 
-pub are_all_seen-requires : goal.are_all_seen-requires
-are_all_seen-requires c =
-    subst (λ (n : ℕ). All (λ a. a < n) c.deref.result.now) (sym c.shape-whole.ensures.pixels)
-    (near_below c.args.connect c.shape-whole.result.width (c.shape-whole.result.width * c.shape-whole.result.height) c.pixel_in.result c.deref.result.now
-    (c.deref.ensures.0 ∙ c.neighbours-near.ensures))
-
-pub returns : goal.returns
-returns c = λ k.
-    let wide : c.shape-whole.result.width ≡ c.args.plane.now.shape.width = ap (λ (x : Shape). x.width) c.shape-whole.ensures.same in
-    subst (λ (p : ℕ). StaysWithin c.args.plane.now c.args.connect (window_at c.args.left c.args.top c.args.shape) p)
-    (c.pixel_in.ensures.is ∙ ap (λ (n : ℕ). in_whole n (window_at c.args.left c.args.top c.args.shape) c.args.q) wide)
-    (stays_from c.args.plane.now c.args.connect (window_at c.args.left c.args.top c.args.shape) (c.shape-whole.result.width * c.shape-whole.result.height)
-    c.pixel_in.result c.deref.result.now
-    (c.deref.ensures.0 ∙ c.neighbours-near.ensures
-    ∙ ap (λ (n : ℕ). filter (are_neighbours c.args.connect n c.pixel_in.result) (range_with_len 0 (c.shape-whole.result.width * c.shape-whole.result.height))) wide)
-    c.shape-whole.ensures.pixels (c.are_all_seen.ensures k))
+pub returns-then-is_inner : goal.returns-then-is_inner
+returns-then-is_inner c = λ k.
+    inside_stays c.args.plane.now c.args.connect (window_at c.args.left c.args.top c.args.shape) c.args.q c.requires.inside (c.is_inner.ensures k)

@@ -1,0 +1,61 @@
+//! Sheets of small planes, and what they tell of them.
+use crate::{lay_out, sources_of_sheet};
+use comp_tree::{Connect, Plane, Shape, plain_tree};
+use source_pick::Choice;
+use std::alloc::Global;
+use std::test::Fail;
+
+const CHOICE: Choice = Choice {
+    threshold: 5,
+    min_area: 2,
+    min_flux: 0,
+    contrast: 0,
+};
+
+// A plane of five columns and four rows, 0 but for these pixels.
+fn plane_with(alloc: Global, high: &[(usize, i64)]) -> Result<Plane, Fail> {
+    let shape = Shape::of(5, 4).ok_or("a shape")?;
+    let mut values = vec![in alloc; Some(0i64); 20]?;
+    for (p, value) in high {
+        if let Some(pixel) = values.get_mut(*p) {
+            *pixel = Some(*value);
+        }
+    }
+    Ok(Plane::of(alloc, shape, &values)?.ok_or("a plane")?)
+}
+
+// The pair in the last row stands in a window of four columns and two rows, and the pixel in the first row has too few around it.
+#[test]
+fn a_group_stands_on_the_sheet(rt: HostRuntime) -> Result<(), Fail> {
+    let alloc = rt.alloc();
+    let plane = plane_with(alloc, &[(0, 6), (17, 7), (18, 9)])?;
+    let sheet = lay_out(alloc, &plane, Connect::Four, &CHOICE)?.ok_or("a sheet")?;
+    assert_eq!(rt; sheet.plane.shape().pixels(), 8);
+    assert!(rt; sheet.whole == plane.shape() && sheet.places.len() == 1);
+    Ok(())
+}
+
+// Where most pixels are high the plane is worked on whole.
+#[test]
+fn a_plane_of_high_pixels_has_no_sheet(rt: HostRuntime) -> Result<(), Fail> {
+    let alloc = rt.alloc();
+    let shape = Shape::of(3, 1).ok_or("a shape")?;
+    let plane = Plane::of(alloc, shape, &[Some(5), Some(5), None])?.ok_or("a plane")?;
+    assert!(rt; lay_out(alloc, &plane, Connect::Four, &CHOICE)?.is_none());
+    Ok(())
+}
+
+// The pair's row and its numbers in the map are those of the plane.
+#[test]
+fn a_source_is_taken_back(rt: HostRuntime) -> Result<(), Fail> {
+    let alloc = rt.alloc();
+    let plane = plane_with(alloc, &[(0, 6), (17, 7), (18, 9)])?;
+    let sheet = lay_out(alloc, &plane, Connect::Four, &CHOICE)?.ok_or("a sheet")?;
+    let tree = plain_tree(alloc, &sheet.plane, Connect::Four)?;
+    let found = sources_of_sheet(&rt, alloc, &sheet, &tree, &CHOICE, 2)?;
+    let row = [1, 7, 0, 2, 16, 9, 3, 4, 4, 4, 3, 4, 3562, 4000, 250, 0, 0];
+    assert!(rt; found.cells == row);
+    let map = [0, 0, 0, 0, 0, 0, 0, 0, 0, 0, 0, 0, 0, 0, 0, 0, 0, 1, 1, 0];
+    assert!(rt; found.map == map);
+    Ok(())
+}
