@@ -1,8 +1,10 @@
 -- The rows of the sheet's sources, taken back to the plane, and their cells.
-use Rattle.std.proofs.Common.{◌≡◌, ℕ, ◌+◌, ◌*◌, ◌^◌, ◌<◌, ◌≤◌, true, List, [], ◌∷◌, ◌++◌, length, map, take, get_or, refl, sym, ◌∙◌, ap, subst, arith, append-nil, length-append, ℤ}
+use Rattle.std.proofs.Common.{◌≡◌, ℕ, ◌+◌, ◌*◌, ◌^◌, ◌<◌, ◌≤◌, true, List, [], ◌∷◌, ◌++◌, length, map, take, get_or, refl, sym, ◌∙◌, ap, subst, arith, append-nil, length-append, ℤ, ◌-◌, neg_ℤ, lit<}
 use Rattle.std.specs.Prelude.{pos, ◌+ℤ◌, ◌-ℤ◌, ◌*ℤ◌, ◌≤ℤ◌, Some, slice_get}
 use Rattle.std.specs.List.{flat_map, enumerate_from, AllByRecursion}
-use Rattle.std.proofs.lemmas.Int.{ints}
+use Rattle.std.proofs.lemmas.Int.{ints, to_z-of_z, to_z_pos}
+use mir.Syntax.{w64}
+use mir.Val.{SFits, of_z, to_z}
 use Rattle.std.proofs.lemmas.Grind.{flat_map-append}
 use Rattle.std.proofs.lemmas.List.{take_more, take_all, length-map, get_or-map}
 use Rattle.std.proofs.lemmas.List.FromFn.{length-enumerate_from, get_or-enumerate_from}
@@ -17,7 +19,7 @@ use Rattle.comp_tree.specs.Nesting.{pixels_of}
 use Rattle.comp_tree.proofs.Exported.{among_pixels, below_from_defined, in_node-defined, in_node_from_among, top_inside}
 use Rattle.node_sums.specs.declared.entry.Sums.{Sums}
 use Rattle.node_sums.specs.Sums.{x_of, y_of, least, greatest, sums_over, sums_of, sums_in}
-use Rattle.node_sums.proofs.Exported.{x_small, y_small, least_at_most, greatest_up_to}
+use Rattle.node_sums.proofs.Exported.{x_small, y_small, least_at_most, greatest_up_to, fits}
 use Rattle.fits_write.specs.Columns.{IsTable}
 use Rattle.fits_write.specs.CatalogueColumns.{catalogue_columns}
 use Rattle.fits_write.proofs.Exported.{FitEach, catalogue_are_columns, rows_are_table}
@@ -90,9 +92,9 @@ moved_centre z x y a b above below u v l m =
 pub back_fits : (t : Raster) (h : ℤ) (c : Place) (row : CatRow) → FitsColumns row → IsSmallRow row → IsCentred row → IsNear c
     → FitsColumns (row_back (part_of t h c) row)
 unfolding row_back
-back_fits t h c row fits small centred near = record {
-  number = fits.number;
-  area = fits.area;
+back_fits t h c row columns small centred near = record {
+  number = columns.number;
+  area = columns.area;
   xmin = moved_side row.xmin c.left c.to_left small.xmin near.left near.to_left;
   xmax = moved_side row.xmax c.left c.to_left small.xmax near.left near.to_left;
   ymin = moved_side row.ymin c.top c.to_top small.ymin near.top near.to_top;
@@ -148,12 +150,12 @@ pub cells_more : (tree : ComponentTree) (sums : List Sums) (taken : List Taken) 
     → ((s : Raster) (connect : Connect) → tree ≡ tree_of s connect → sums ≡ sums_in s connect → (t : Raster) (h : ℤ)
     → row ≡ row_back (part_of t h e.place) (catalogue_row s connect (count + 1) e.node))
     → AreCellsBack tree sums taken (count + 1) items'
-cells_more tree sums taken count items items' e row before got more fits is = record {
+cells_more tree sums taken count items items' e row before got more columns is = record {
   rows = before.rows ++ row ∷ [];
   made = more ∙ ap (λ l. l ++ cells_of row) before.made ∙ ap (λ l. flat_map cells_of before.rows ++ l) (sym (append-nil (cells_of row)))
       ∙ sym (flat_map-append cells_of before.rows (row ∷ []));
   one_each = length-append before.rows (row ∷ []) ∙ omega (arith, before.one_each);
-  fit = all_more (λ (r : CatRow). FitEach catalogue_columns (cells_of r)) before.rows row before.fit (row_fits row fits);
+  fit = all_more (λ (r : CatRow). FitEach catalogue_columns (cells_of r)) before.rows row before.fit (row_fits row columns);
   exact = λ s connect tree_is sums_are h.
       ap (λ (l : List CatRow). l ++ row ∷ []) (before.exact s connect tree_is sums_are h)
       ∙ ap (λ (r : CatRow). take count (sheet_rows s connect (found_of s h taken)) ++ r ∷ [])
@@ -201,3 +203,51 @@ same_row a b number level base area flux peak xmin xmax ymin ymax xfirst yfirst 
   yvar = yvar i;
   xycov = xycov i;
 }
+
+column_fits : (z : ℤ) → FitsColumn z → SFits w64 z
+column_fits z k =
+    let low : neg_ℤ (pos (2 ^ 31)) ≤ℤ z = k.low in
+    let high : z ≤ℤ pos (2 ^ 31 - 1) = k.high in
+    fits w64 (2 ^ 31) z (record { low = low; high = omega (arith, ints, high) }) (lit< tt)
+
+pub column_read : (z : ℤ) → FitsColumn z → to_z w64 (of_z w64 z) ≡ z
+column_read z k = to_z-of_z w64 z (column_fits z k)
+
+-- by how far the place is moved
+moved_by : (a b : ℕ) → a ≤ 65535 → b ≤ 65535 → to_z w64 (of_z w64 (to_z w64 a -ℤ to_z w64 b)) ≡ pos a -ℤ pos b
+moved_by a b l m =
+    ap (λ (x : ℤ). to_z w64 (of_z w64 (x -ℤ to_z w64 b))) (to_z_pos w64 a (omega (arith, l)))
+    ∙ ap (λ (x : ℤ). to_z w64 (of_z w64 (pos a -ℤ x))) (to_z_pos w64 b (omega (arith, m)))
+    ∙ to_z-of_z w64 (pos a -ℤ pos b)
+    (fits w64 65535 (pos a -ℤ pos b) (record { low = omega (arith, ints, l, m); high = omega (arith, ints, l, m) }) (lit< tt))
+
+pub moved_read : (z : ℤ) (a b : ℕ) → FitsColumn z → a ≤ 65535 → b ≤ 65535
+    → to_z w64 (of_z w64 (to_z w64 (of_z w64 z) +ℤ to_z w64 (of_z w64 (to_z w64 a -ℤ to_z w64 b)))) ≡ z +ℤ pos a -ℤ pos b
+moved_read z a b k l m =
+    let low : neg_ℤ (pos (2 ^ 31)) ≤ℤ z = k.low in
+    let high : z ≤ℤ pos (2 ^ 31 - 1) = k.high in
+    let same : z +ℤ (pos a -ℤ pos b) ≡ z +ℤ pos a -ℤ pos b = omega (arith, ints) in
+    ap (λ (x : ℤ). to_z w64 (of_z w64 (x +ℤ to_z w64 (of_z w64 (to_z w64 a -ℤ to_z w64 b))))) (column_read z k)
+    ∙ ap (λ (x : ℤ). to_z w64 (of_z w64 (z +ℤ x))) (moved_by a b l m)
+    ∙ to_z-of_z w64 (z +ℤ (pos a -ℤ pos b))
+    (fits w64 (2 ^ 32) (z +ℤ (pos a -ℤ pos b)) (record { low = omega (arith, ints, low, l, m); high = omega (arith, ints, high, l, m) }) (lit< tt))
+    ∙ same
+
+pub moved_centre_read : (z : ℤ) (a b : ℕ) → FitsColumn z → a ≤ 65535 → b ≤ 65535
+    → to_z w64 (of_z w64 (to_z w64 (of_z w64 z) +ℤ to_z w64 (of_z w64 (pos 1000 *ℤ to_z w64 (of_z w64 (to_z w64 a -ℤ to_z w64 b))))))
+    ≡ z +ℤ pos (1000 * a) -ℤ pos (1000 * b)
+moved_centre_read z a b k l m =
+    let low : neg_ℤ (pos (2 ^ 31)) ≤ℤ z = k.low in
+    let high : z ≤ℤ pos (2 ^ 31 - 1) = k.high in
+    let thousand : pos 1000 *ℤ (pos a -ℤ pos b) ≡ pos (1000 * a) -ℤ pos (1000 * b) = omega (arith, ints) in
+    let same : z +ℤ (pos (1000 * a) -ℤ pos (1000 * b)) ≡ z +ℤ pos (1000 * a) -ℤ pos (1000 * b) = omega (arith, ints) in
+    ap (λ (x : ℤ). to_z w64 (of_z w64 (x +ℤ to_z w64 (of_z w64 (pos 1000 *ℤ to_z w64 (of_z w64 (to_z w64 a -ℤ to_z w64 b))))))) (column_read z k)
+    ∙ ap (λ (x : ℤ). to_z w64 (of_z w64 (z +ℤ to_z w64 (of_z w64 (pos 1000 *ℤ x))))) (moved_by a b l m)
+    ∙ ap (λ (x : ℤ). to_z w64 (of_z w64 (z +ℤ to_z w64 (of_z w64 x)))) thousand
+    ∙ ap (λ (x : ℤ). to_z w64 (of_z w64 (z +ℤ x)))
+    (to_z-of_z w64 (pos (1000 * a) -ℤ pos (1000 * b))
+    (fits w64 65535000 (pos (1000 * a) -ℤ pos (1000 * b)) (record { low = omega (arith, ints, l, m); high = omega (arith, ints, l, m) }) (lit< tt)))
+    ∙ to_z-of_z w64 (z +ℤ (pos (1000 * a) -ℤ pos (1000 * b)))
+    (fits w64 (2 ^ 32) (z +ℤ (pos (1000 * a) -ℤ pos (1000 * b))) (record { low = omega (arith, ints, low, l, m); high = omega (arith, ints, high, l, m) })
+    (lit< tt))
+    ∙ same

@@ -1,10 +1,11 @@
 -- The map that is taken to the plane is the plane's.
 use Rattle.std.proofs.Common.{◌≡◌, ℕ, ◌+◌, ◌-◌, ◌*◌, ◌/◌, ◌%◌, ◌<◌, ◌≤◌, zero, suc, Bool, true, false, cond, ◌&&◌, List, [], ◌∷◌, length, map, refl, sym, ◌∙◌, ap, subst, arith, ◌⊎◌, inl, inr}
 use Rattle.std.specs.Prelude.{IsTrue, ℤ, Some, slice_get, slice_index, nat_le, nat_lt, unwrap_or, Option}
-use Rattle.std.specs.List.{position_from}
+use Rattle.std.specs.List.{position_from, flat_map}
 use Rattle.std.proofs.lemmas.Bool.{and_from, and_parts, le-leb, lt-ltb, leb-true, ltb-true, false_from_ne_true, true≢false}
 use Rattle.std.proofs.lemmas.Nat.{div-add-mod', div-mul-add, mod-mul-add, mod_below, div_below, mul-add-lt}
 use Rattle.std.proofs.lemmas.Option.{slice_get_within, same_Some, none-some}
+use Rattle.std.proofs.lemmas.List.{length-map}
 use Rattle.std.proofs.lemmas.List.FromFn.{fill_by_all, get_or-map-range_with_len}
 use Rattle.comp_tree.specs.declared.shape.Connect.{Connect}
 use Rattle.comp_tree.specs.declared.shape.Shape.{Shape}
@@ -17,15 +18,36 @@ use Rattle.comp_tree.proofs.Exported.{IsAt, in_whole-at, in_whole-below, some_co
 use Rattle.node_sums.specs.Sums.{sums_of}
 use Rattle.source_pick.specs.declared.choice.Choice.{Choice}
 use Rattle.source_pick.specs.Sources.{is_source}
-use Rattle.source_pick.specs.Segmentation.{source_number_at, segmentation_of, segmentation}
+use Rattle.source_pick.specs.Catalogue.{catalogue, cells_of}
+use Rattle.source_pick.specs.Segmentation.{source_number_at, segmentation_of, segmentation, AreDisjointNodes}
+use Rattle.source_pick.proofs.Exported.{few_marked, few_rows}
 use Rattle.source_pick.specs.Sheets.{Part, IsHeld, AreTakenBack, taken_back, window_size, put_on, from_box, has_on_sheet, sheet_number}
 use Rattle.source_sheet.specs.declared.sheet.Place.{Place}
 use Rattle.source_sheet.specs.declared.sheet.Sheet.{Sheet}
 use Rattle.source_sheet.specs.declared.back.Taken.{Taken}
 use Rattle.source_sheet.specs.Laid.{window_pair, part_of, parts_of, IsLaidOut}
-use Rattle.source_sheet.specs.Backs.{SheetLaws, IsPlaced, IsInWindow, found_as, found_of, nodes_in, AreListed, IsFromPlace, AreTakenTo, ShowsNodes}
+use Rattle.source_sheet.specs.Backs.{SheetLaws, IsPlaced, ArePlaced, IsNear, IsNodeAt, AreOwners, IsInWindow, found_as, found_of, nodes_in, AreListed, IsFromPlace, AreTakenTo, ShowsNodes}
 use Rattle.source_sheet.proofs.Sheeted.{is_sheet_of, placed, held_lies, held_all, IsPlacedSource, one_source}
 use Rattle.source_sheet.proofs.Taking.{get_mapped, got_mapped}
+
+-- ---- places
+
+near_from : (whole onto : Shape) (c : Place) → IsPlaced whole onto c → IsNear c
+near_from whole onto c p =
+    let rows : c.top + c.shape.height ≤ whole.height = p.from.rows in
+    let columns : c.left + c.shape.width ≤ whole.width = p.from.columns in
+    let rows_there : c.to_top + c.shape.height ≤ onto.height = p.to.rows in
+    let columns_there : c.to_left + c.shape.width ≤ onto.width = p.to.columns in
+    let high : whole.height ≤ 65535 = whole.within_limits.few_rows in
+    let wide : whole.width ≤ 65535 = whole.within_limits.few_columns in
+    let high_there : onto.height ≤ 65535 = onto.within_limits.few_rows in
+    let wide_there : onto.width ≤ 65535 = onto.within_limits.few_columns in
+    record {
+      left = omega (arith, columns, wide);
+      top = omega (arith, rows, high);
+      to_left = omega (arith, columns_there, wide_there);
+      to_top = omega (arith, rows_there, high_there);
+    }
 
 -- ---- the place of the first that passes
 
@@ -107,9 +129,10 @@ module _ (r s : Raster) (connect : Connect) (h : ℤ) (c : Place) (p : IsPlaced 
   from_in_box : (x : ℕ) → IsTrue (is_in_box r.shape.width (from_box (part_of s h c)) x) → IsInWindow r.shape.width (window_pair c).from x
   unfolding is_in_box in_whole
   from_in_box x k =
-      let a = and_parts _ _ k in
-      let b = and_parts _ _ a.0 in
-      let d = and_parts _ _ a.1 in
+      let a : IsTrue (nat_le c.left (x % r.shape.width) && nat_lt (x % r.shape.width) (c.left + c.shape.width))
+      × IsTrue (nat_le c.top (x / r.shape.width) && nat_lt (x / r.shape.width) (c.top + c.shape.height)) = and_parts _ _ k in
+      let b : IsTrue (nat_le c.left (x % r.shape.width)) × IsTrue (nat_lt (x % r.shape.width) (c.left + c.shape.width)) = and_parts _ _ a.0 in
+      let d : IsTrue (nat_le c.top (x / r.shape.width)) × IsTrue (nat_lt (x / r.shape.width) (c.top + c.shape.height)) = and_parts _ _ a.1 in
       let l : c.left ≤ x % r.shape.width = leb-true c.left (x % r.shape.width) b.0 in
       let m : x % r.shape.width < c.left + c.shape.width = ltb-true (x % r.shape.width) (c.left + c.shape.width) b.1 in
       let n : c.top ≤ x / r.shape.width = leb-true c.top (x / r.shape.width) d.0 in
@@ -318,3 +341,59 @@ module _ (r : Raster) (connect : Connect) (choice : Choice) (sheet : Sheet) (l :
       (size ∙ ap (λ (x : Shape). x.width * x.height) l.whole ∙ sym l.one_each) (λ p few. number_shown p)
       ∙ sym (laws.map r s connect choice (parts_of s h sheet.places.items) found l.one_each l.one_each_there
       (is_sheet_of r connect choice sheet l laws) listed.back)
+
+-- ---- as the code makes it
+
+pub shows_from : (tree : ComponentTree) (sheet : Sheet) (nodes : List ℕ) (onto : Shape) (places : List Place) (numbers numbers' shown shown' : List ℕ)
+    → onto ≡ sheet.plane.shape → places ≡ sheet.places.items → numbers' ≡ numbers → shown ≡ shown'
+    → ((s : Raster) (connect : Connect) → tree ≡ tree_of s connect → numbers ≡ segmentation_of s connect nodes)
+    → AreTakenTo sheet.whole.width onto.width places numbers' (length places) shown' → ShowsNodes tree sheet nodes shown
+shows_from tree sheet nodes onto places numbers numbers' shown shown' e f g i exact are = record {
+  numbers = numbers';
+  exact = λ s connect same. g ∙ exact s connect same;
+  taken = subst (λ (x : List ℕ). AreTakenTo sheet.whole.width sheet.plane.shape.width sheet.places.items numbers' (length sheet.places.items) x) (sym i)
+      (subst (λ (x : Shape). AreTakenTo sheet.whole.width x.width sheet.places.items numbers' (length sheet.places.items) shown') e
+      (subst (λ (x : List Place). AreTakenTo sheet.whole.width onto.width x numbers' (length x) shown') f are));
+}
+
+-- the cells are the plane's
+pub cells_are : (r : Raster) (connect : Connect) (choice : Choice) (sheet : Sheet) → IsLaidOut r connect choice sheet → SheetLaws → (nodes : List ℕ)
+    (cells : List ℤ) → AreListed r connect choice sheet nodes cells → cells ≡ flat_map cells_of (catalogue r connect choice)
+cells_are r connect choice sheet l laws nodes cells k =
+    k.cells_are
+    ∙ ap (flat_map cells_of) (sym (laws.catalogue r sheet.plane connect choice (parts_of sheet.plane choice.threshold sheet.places.items)
+    (found_of sheet.plane choice.threshold k.taken) l.one_each l.one_each_there (is_sheet_of r connect choice sheet l laws) k.back))
+
+-- the places lie in their images
+pub all_placed : (r : Raster) (connect : Connect) (choice : Choice) (sheet : Sheet) → IsLaidOut r connect choice sheet → SheetLaws
+    → ArePlaced sheet.whole sheet.plane.shape sheet.places.items
+all_placed r connect choice sheet l laws =
+    subst (λ (x : Shape). ArePlaced x sheet.plane.shape sheet.places.items) (sym l.whole) (placed r connect choice sheet l laws)
+
+-- a node of the list, as its row is made
+pub node_at : (r : Raster) (connect : Connect) (choice : Choice) (sheet : Sheet) → IsLaidOut r connect choice sheet → SheetLaws → (tree : ComponentTree)
+    (taken : List Taken) → AreDisjointNodes tree (nodes_in taken)
+    → ((i : ℕ) (e : Taken) → slice_get taken i ≡ Some e → (j : ℕ) × (slice_get sheet.places.items j ≡ Some e.place))
+    → (i : ℕ) (e : Taken) → slice_get taken i ≡ Some e → IsNodeAt tree e
+node_at r connect choice sheet l laws tree taken d at i e g =
+    let k : (j : ℕ) × (slice_get sheet.places.items j ≡ Some e.place) = at i e g in
+    let p : IsPlaced r.shape sheet.plane.shape e.place = placed r connect choice sheet l laws k.0 e.place k.1 in
+    record { node = d.nodes i e.node (get_mapped (λ (x : Taken). x.node) taken i e g); near = near_from r.shape sheet.plane.shape e.place p }
+
+pub few_taken : (tree : ComponentTree) (taken : List Taken) → AreDisjointNodes tree (nodes_in taken) → length taken ≤ 2147483647
+few_taken tree taken d =
+    let a : length (nodes_in taken) ≤ length tree.rows = few_marked tree (nodes_in taken) d in
+    let b : length tree.rows ≤ 2147483647 = few_rows tree (nodes_in taken) d in
+    let e : length (nodes_in taken) ≡ length taken = length-map taken (λ (x : Taken). x.node) in
+    omega (arith, a, b, e)
+
+-- as places and owners are read
+pub placed_read : (whole onto shape : Shape) (places places' : List Place) → onto ≡ shape → places' ≡ places → ArePlaced whole shape places
+    → ArePlaced whole onto places'
+placed_read whole onto shape places places' e f k =
+    subst (λ (x : Shape). ArePlaced whole x places') (sym e) (subst (λ (x : List Place). ArePlaced whole shape x) (sym f) k)
+
+pub owners_read : (width : ℕ) (places places' : List Place) (owners owners' : List ℕ) → places ≡ places' → owners' ≡ owners
+    → AreOwners width places (length places) owners → AreOwners width places' (length places') owners'
+owners_read width places places' owners owners' e f k =
+    subst (λ (x : List ℕ). AreOwners width places' (length places') x) (sym f) (subst (λ (x : List Place). AreOwners width x (length x) owners) e k)

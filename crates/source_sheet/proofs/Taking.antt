@@ -419,3 +419,52 @@ module _ (r : Raster) (connect : Connect) (choice : Choice) (sheet : Sheet) (l :
       there i n g =
           let e : (x : Taken) × (slice_get sorted i ≡ Some x) × (x.node ≡ n) = got_mapped (λ (x : Taken). x.node) sorted i n g in
           subst (λ (x : ℕ). IsNode s connect x × IsTrue (is_source s connect choice x)) e.2 (source_there e.0 (among_got e.0 sorted i e.1))
+
+-- ---- as the code makes them
+
+-- what was done to the picked nodes: places were looked up, and the sources sorted
+pub record IsRun (sheet : Sheet) (sums : List Sums) (picked : List ℕ) (sorted : List Taken) : Type 0 where
+  pub owners : List ℕ
+  pub taken : List Taken
+  pub owned : AreOwners sheet.plane.shape.width sheet.places.items (length sheet.places.items) owners
+  pub taken_are : AreTaken sheet.whole.width sheet.plane.shape.width sheet.places.items owners sums picked (length picked) taken
+  pub moved : IsPermutation taken sorted
+  pub up : IsNonDecreasingBy (λ (x : Taken). x.first) sorted
+
+-- the same from what the code read and wrote
+pub run_from : (sheet : Sheet) (sums : List Sums) (onto : Shape) (places places' : List Place) (picked picked' owners owners' : List ℕ)
+    (taken sorted : List Taken) → onto ≡ sheet.plane.shape → places ≡ sheet.places.items → places' ≡ sheet.places.items → picked' ≡ picked
+    → owners' ≡ owners → AreOwners onto.width places (length places) owners
+    → AreTaken sheet.whole.width onto.width places' owners' sums picked' (length picked') taken → IsPermutation taken sorted
+    → IsNonDecreasingBy (λ (x : Taken). x.first) sorted → IsRun sheet sums picked sorted
+run_from sheet sums onto places places' picked picked' owners owners' taken sorted e f g i j owned are moved up = record {
+  owners = owners;
+  taken = taken;
+  owned = subst (λ (x : Shape). AreOwners x.width sheet.places.items (length sheet.places.items) owners) e
+      (subst (λ (x : List Place). AreOwners onto.width x (length x) owners) f owned);
+  taken_are = subst (λ (x : Shape). AreTaken sheet.whole.width x.width sheet.places.items owners sums picked (length picked) taken) e
+      (subst (λ (x : List Place). AreTaken sheet.whole.width onto.width x owners sums picked (length picked) taken) g
+      (subst (λ (x : List ℕ). AreTaken sheet.whole.width onto.width places' owners sums x (length x) taken) i
+      (subst (λ (x : List ℕ). AreTaken sheet.whole.width onto.width places' x sums picked' (length picked') taken) j are)));
+  moved = moved;
+  up = up;
+}
+
+pub run_taken_back : (r : Raster) (connect : Connect) (choice : Choice) (sheet : Sheet) → IsLaidOut r connect choice sheet → SheetLaws → (sums : List Sums)
+    (picked : List ℕ) (sorted : List Taken) → sums ≡ sums_in sheet.plane connect → picked ≡ sources sheet.plane connect choice
+    → IsRun sheet sums picked sorted
+    → AreTakenBack r sheet.plane connect choice (parts_of sheet.plane choice.threshold sheet.places.items) (found_of sheet.plane choice.threshold sorted)
+run_taken_back r connect choice sheet l laws sums picked sorted e f k =
+    are_taken_back r connect choice sheet l laws sums picked k.owners k.taken sorted e f k.owned k.taken_are k.moved k.up
+
+pub run_disjoint : (r : Raster) (connect : Connect) (choice : Choice) (sheet : Sheet) → IsLaidOut r connect choice sheet → SheetLaws → (sums : List Sums)
+    (picked : List ℕ) (sorted : List Taken) → sums ≡ sums_in sheet.plane connect → picked ≡ sources sheet.plane connect choice
+    → IsRun sheet sums picked sorted → (tree : ComponentTree) → tree ≡ tree_of sheet.plane connect → AreDisjointNodes tree (nodes_in sorted)
+run_disjoint r connect choice sheet l laws sums picked sorted e f k tree same =
+    are_disjoint_nodes r connect choice sheet l laws sums picked k.owners k.taken sorted e f k.owned k.taken_are k.moved k.up tree same
+
+pub run_placed : (r : Raster) (connect : Connect) (choice : Choice) (sheet : Sheet) → IsLaidOut r connect choice sheet → SheetLaws → (sums : List Sums)
+    (picked : List ℕ) (sorted : List Taken) → sums ≡ sums_in sheet.plane connect → picked ≡ sources sheet.plane connect choice
+    → IsRun sheet sums picked sorted → (i : ℕ) (e : Taken) → slice_get sorted i ≡ Some e → (j : ℕ) × (slice_get sheet.places.items j ≡ Some e.place)
+run_placed r connect choice sheet l laws sums picked sorted e f k =
+    at_places r connect choice sheet l laws sums picked k.owners k.taken sorted e f k.owned k.taken_are k.moved k.up

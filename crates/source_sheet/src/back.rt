@@ -188,6 +188,8 @@ fn sorted_sources(
     ensures placed { IfOk result (λ taken. (i : ℕ) (e : Source) → slice_get taken.items i ≡ Some e
         → (j : ℕ) × (slice_get sheet.now.places.items j ≡ Some e.place)) }
     ensures nodes { IfOk result (λ taken. AreDisjointNodes tree.now (nodes_in taken.items)) }
+    ensures at { IfOk result (λ taken. (i : ℕ) (e : Source) → slice_get taken.items i ≡ Some e → IsNodeAt tree.now e) }
+    ensures few { IfOk result (λ taken. length taken.items ≤ 2147483647) }
 {
     laws_of_sheets();
     let onto = sheet.plane.shape();
@@ -208,7 +210,8 @@ fn sorted_sources(
 
 // A row of the sheet, as a row of the plane.
 fn row_back(row: &CatRow, place: &Place) -> CatRow
-    requires { FitsColumns row.now }
+    requires fits { FitsColumns row.now }
+    requires near { IsNear place.now }
     ensures { (s : Raster) (h : ℤ) → result ≡ row_back (part_of s h place.now) row.now }
 {
     let right = place.left as i64 - place.to_left as i64;
