@@ -184,7 +184,7 @@ module _ (r : Raster) (connect : Connect) (choice : Choice) (sheet : Sheet) (l :
   abbrev found : List (Part × ℕ)
   found = found_of s h listed.taken
 
-  numbers : List ℕ
+  abbrev numbers : List ℕ
   numbers = shows.numbers
 
   taken_to : AreTakenTo r.shape.width s.shape.width sheet.places.items numbers (length sheet.places.items) shown
@@ -344,16 +344,16 @@ module _ (r : Raster) (connect : Connect) (choice : Choice) (sheet : Sheet) (l :
 
 -- ---- as the code makes it
 
-pub shows_from : (tree : ComponentTree) (sheet : Sheet) (nodes : List ℕ) (onto : Shape) (places : List Place) (numbers numbers' shown shown' : List ℕ)
-    → onto ≡ sheet.plane.shape → places ≡ sheet.places.items → numbers' ≡ numbers → shown ≡ shown'
-    → ((s : Raster) (connect : Connect) → tree ≡ tree_of s connect → numbers ≡ segmentation_of s connect nodes)
-    → AreTakenTo sheet.whole.width onto.width places numbers' (length places) shown' → ShowsNodes tree sheet nodes shown
-shows_from tree sheet nodes onto places numbers numbers' shown shown' e f g i exact are = record {
-  numbers = numbers';
+pub shows_from : (tree : ComponentTree) (sheet : Sheet) (nodes : List ℕ) (onto : Shape) (places : List Place) (made read shown shown' : List ℕ)
+    → onto ≡ sheet.plane.shape → places ≡ sheet.places.items → read ≡ made → shown ≡ shown'
+    → ((s : Raster) (connect : Connect) → tree ≡ tree_of s connect → made ≡ segmentation_of s connect nodes)
+    → AreTakenTo sheet.whole.width onto.width places read (length places) shown' → ShowsNodes tree sheet nodes shown
+shows_from tree sheet nodes onto places made read shown shown' e f g i exact are = record {
+  numbers = read;
   exact = λ s connect same. g ∙ exact s connect same;
-  taken = subst (λ (x : List ℕ). AreTakenTo sheet.whole.width sheet.plane.shape.width sheet.places.items numbers' (length sheet.places.items) x) (sym i)
-      (subst (λ (x : Shape). AreTakenTo sheet.whole.width x.width sheet.places.items numbers' (length sheet.places.items) shown') e
-      (subst (λ (x : List Place). AreTakenTo sheet.whole.width onto.width x numbers' (length x) shown') f are));
+  taken = subst (λ (x : List ℕ). AreTakenTo sheet.whole.width sheet.plane.shape.width sheet.places.items read (length sheet.places.items) x) (sym i)
+      (subst (λ (x : Shape). AreTakenTo sheet.whole.width x.width sheet.places.items read (length sheet.places.items) shown') e
+      (subst (λ (x : List Place). AreTakenTo sheet.whole.width onto.width x read (length x) shown') f are));
 }
 
 -- the cells are the plane's

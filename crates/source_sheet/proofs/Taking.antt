@@ -114,7 +114,7 @@ rising_filter f test (x ∷ xs) k = go (test x) (rising_filter f test xs k.1)
     go false rest = rest
 
 -- what stands at a place of a mapped list
-got_mapped : {X Y : Type 0} (f : X → Y) (xs : List X) (i : ℕ) (y : Y) → slice_get (map f xs) i ≡ Some y → (x : X) × (slice_get xs i ≡ Some x) × (f x ≡ y)
+pub got_mapped : {X Y : Type 0} (f : X → Y) (xs : List X) (i : ℕ) (y : Y) → slice_get (map f xs) i ≡ Some y → (x : X) × (slice_get xs i ≡ Some x) × (f x ≡ y)
 got_mapped f [] i y e = absurd (none-some y e)
 got_mapped f (x ∷ xs) zero y e = (x, refl, same_Some (f x) y e)
 got_mapped f (x ∷ xs) (suc i) y e = got_mapped f xs i y e
@@ -224,7 +224,8 @@ module _ (r : Raster) (connect : Connect) (choice : Choice) (sheet : Sheet) (l :
   entry : (e : Taken) → IsAmong e sorted → IsEntry e
   entry e m = All-contains IsEntry sorted e (All-permutation IsEntry taken sorted moved t.each) (contains_from_among e sorted m)
 
-  own : List ℕ
+  -- the picked nodes that have owners
+  abbrev own : List ℕ
   own = filter (has_owner owners sums) picked
 
   nodes_moved : IsPermutation own (nodes_in sorted)
