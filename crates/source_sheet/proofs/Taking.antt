@@ -388,9 +388,13 @@ module _ (r : Raster) (connect : Connect) (choice : Choice) (sheet : Sheet) (l :
         let m : IsAmong e.0 sorted = among_got e.0 sorted i e.1 in
         let f = placed_source e.0 m in
         subst (λ (x : Part × ℕ). Contains (parts_of s h sheet.places.items) x.0 × IsNode s connect x.1 × IsTrue (is_source s connect choice x.1)
-        × IsHeld s x.0.to x.0.own (top_of s connect x.1)) e.2
-        (contains_from_among (part_of s h e.0.place) (parts_of s h sheet.places.items)
-        (among-map (part_of s h) e.0.place sheet.places.items (among_got e.0.place sheet.places.items f.place f.got)), f.node, f.source, f.held);
+        × IsHeld s x.0.to x.0.own (top_of s connect x.1)) e.2 (
+          contains_from_among (part_of s h e.0.place) (parts_of s h sheet.places.items)
+              (among-map (part_of s h) e.0.place sheet.places.items (among_got e.0.place sheet.places.items f.place f.got)),
+          f.node,
+          f.source,
+          f.held,
+        );
     rise = λ i j u v k m less f g.
         let d : (x : Taken) × (slice_get sorted i ≡ Some x) × (found_as s h x ≡ (u, k)) = got_mapped (found_as s h) sorted i (u, k) f in
         let e : (x : Taken) × (slice_get sorted j ≡ Some x) × (found_as s h x ≡ (v, m)) = got_mapped (found_as s h) sorted j (v, m) g in

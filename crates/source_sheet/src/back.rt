@@ -142,7 +142,11 @@ fn taken_at(
     }
     let place = places[owner as usize - 1];
     let first = back(whole, onto, &place, first);
-    Some(Taken { first, node: n, place })
+    Some(Taken {
+        first,
+        node: n,
+        place,
+    })
 }
 
 // The picked nodes whose least pixels some place has.

@@ -23,17 +23,17 @@ pub loop-n-preserved : goal.loop-n-preserved
 loop-n-preserved c =
     elim c.match-taken_at.branch [
       | in-Some+in_ok-push w ↦
-        subst (λ (xs : List Taken). AreTaken c.args.whole.width c.args.onto.width c.args.places.now c.args.owners.now c.args.sums.now c.args.picked.now
-        (c.loop-n.n-index + 1) xs)
-        (sym (ap (λ (v : Vec Taken Global). v.items) w.taken-is ∙ w.in_ok-push.ensures.items))
-        (more_taken c.args.whole.width c.args.onto.width c.args.places.now c.args.owners.now c.args.sums.now c.args.picked.now c.loop-n.n-index _
-        c.loop-n.taken.items c.loop-n.invariant c.loop-n-test.true w.in-Some.ensures)
+          subst (λ (xs : List Taken). AreTaken c.args.whole.width c.args.onto.width c.args.places.now c.args.owners.now c.args.sums.now c.args.picked.now
+          (c.loop-n.n-index + 1) xs)
+          (sym (ap (λ (v : Vec Taken Global). v.items) w.taken-is ∙ w.in_ok-push.ensures.items))
+          (more_taken c.args.whole.width c.args.onto.width c.args.places.now c.args.owners.now c.args.sums.now c.args.picked.now c.loop-n.n-index _
+          c.loop-n.taken.items c.loop-n.invariant c.loop-n-test.true w.in-Some.ensures)
       | in_default w ↦
-        subst (λ (xs : List Taken). AreTaken c.args.whole.width c.args.onto.width c.args.places.now c.args.owners.now c.args.sums.now c.args.picked.now
-        (c.loop-n.n-index + 1) xs)
-        (sym (ap (λ (v : Vec Taken Global). v.items) w.taken-is))
-        (same_taken c.args.whole.width c.args.onto.width c.args.places.now c.args.owners.now c.args.sums.now c.args.picked.now c.loop-n.n-index
-        c.loop-n.taken.items c.loop-n.invariant c.loop-n-test.true w.in_default.ensures)
+          subst (λ (xs : List Taken). AreTaken c.args.whole.width c.args.onto.width c.args.places.now c.args.owners.now c.args.sums.now c.args.picked.now
+          (c.loop-n.n-index + 1) xs)
+          (sym (ap (λ (v : Vec Taken Global). v.items) w.taken-is))
+          (same_taken c.args.whole.width c.args.onto.width c.args.places.now c.args.owners.now c.args.sums.now c.args.picked.now c.loop-n.n-index
+          c.loop-n.taken.items c.loop-n.invariant c.loop-n-test.true w.in_default.ensures)
     ]
 
 pub returns : goal.returns

@@ -43,8 +43,7 @@ placed_sources-requires-clause-nodes c = λ i n g.
     let k = picked_within c.args.sheet.now.plane t.connect c.args.choice.now c.args.sums.now c.in_ok-picked.picked.items t.laid_out.one_each_there
     (c.requires.exact t.connect t.tree_is)
     (c.in_ok-picked.ensures.exact c.args.sheet.now.plane t.connect t.tree_is (c.requires.exact t.connect t.tree_is)) i n
-    (ap (λ xs. slice_get xs i) (sym c.deref-4.ensures.value) ∙ g) in
-    (
+    (ap (λ xs. slice_get xs i) (sym c.deref-4.ensures.value) ∙ g) in (
       k.0,
       subst (λ (x : ℕ). first_in c.args.sums.now n < x)
           (sym (ap length c.deref-3.ensures.value ∙ c.in_ok-owners.ensures.one_each ∙ ap (λ (x : Shape). x.width * x.height) c.shape-onto.ensures.same)) k.1,
