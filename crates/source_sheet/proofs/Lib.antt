@@ -4,3 +4,10 @@ mod Apart
 mod Bounds
 mod Copies
 mod Laying
+mod Spots
+mod Owning
+mod Sheeted
+mod Taking
+mod Putting
+mod Rows
+mod Showing

@@ -2,3 +2,4 @@ pub mod Checks
 pub mod Laid
 pub mod Groups
 pub mod Holding
+pub mod Backs

@@ -9,6 +9,7 @@ mod copying;
 mod groups;
 mod holding;
 mod layout;
+mod map;
 mod sheet;
 
 pub use back::{SheetDetection, sources_of_sheet};
