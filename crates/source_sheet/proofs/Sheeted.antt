@@ -1,5 +1,5 @@
 -- A sheet that is laid out is one of the law, and what its places hold.
-use Rattle.std.proofs.Common.{◌≡◌, ℕ, ◌<◌, ◌≤◌, zero, suc, Bool, List, [], ◌∷◌, length, refl, sym, ◌∙◌, ap, subst, arith, ◌⊎◌, inl, inr}
+use Rattle.std.proofs.Common.{◌≡◌, ℕ, ◌<◌, ◌≤◌, zero, suc, List, [], ◌∷◌, length, refl, sym, ◌∙◌, ap, subst, arith, ◌⊎◌, inl, inr}
 use Rattle.std.specs.Prelude.{IsTrue, ℤ, map, Contains, Some, slice_get, nat_lt, true}
 use Rattle.std.proofs.lemmas.Bool.{and_from, and_parts, lt-ltb, ltb-true, cases_eq}
 use Rattle.std.proofs.lemmas.Option.{same_Some, none-some}
@@ -8,13 +8,13 @@ use Rattle.comp_tree.specs.declared.shape.Connect.{Connect}
 use Rattle.comp_tree.specs.Raster.{Raster, IsPlane, is_at_least}
 use Rattle.comp_tree.specs.Components.{is_in_node, reaches}
 use Rattle.comp_tree.specs.Laws.{IsNode, top_of}
-use Rattle.comp_tree.specs.Windows.{Window, in_whole}
+use Rattle.comp_tree.specs.Windows.{in_whole}
 use Rattle.comp_tree.specs.Grid.{IsAdjacency}
 use Rattle.comp_tree.specs.Joined.{IsPairOf}
 use Rattle.comp_tree.proofs.Exported.{adjacent_turned, along_joined, in_whole-one, seen-length, reaches-is_IsReached, reaches_end, reaches_sym}
 use Rattle.source_pick.specs.declared.choice.Choice.{Choice}
 use Rattle.source_pick.specs.Sources.{is_source}
-use Rattle.source_pick.specs.Sheets.{Part, IsPartOf, StandsIn, IsHeld, IsSheetOf, IsMovedSource, is_high_there, window_size}
+use Rattle.source_pick.specs.Sheets.{Part, IsPartOf, IsHeld, IsSheetOf, IsMovedSource, is_high_there, window_size}
 use Rattle.source_pick.proofs.Exported.{top_high, in_node_reached}
 use Rattle.source_sheet.specs.declared.sheet.Place.{Place}
 use Rattle.source_sheet.specs.declared.sheet.Sheet.{Sheet}

@@ -1,6 +1,6 @@
 -- The map that is taken to the plane is the plane's.
-use Rattle.std.proofs.Common.{◌≡◌, ℕ, ◌+◌, ◌-◌, ◌*◌, ◌/◌, ◌%◌, ◌<◌, ◌≤◌, zero, suc, Bool, true, false, cond, ◌&&◌, List, [], ◌∷◌, length, map, refl, sym, ◌∙◌, ap, subst, arith, ◌⊎◌, inl, inr}
-use Rattle.std.specs.Prelude.{IsTrue, ℤ, Some, slice_get, slice_index, nat_le, nat_lt, unwrap_or, Option}
+use Rattle.std.proofs.Common.{◌≡◌, ℕ, ◌+◌, ◌-◌, ◌*◌, ◌/◌, ◌%◌, ◌<◌, ◌≤◌, zero, suc, Bool, true, false, cond, ◌&&◌, List, [], ◌∷◌, length, refl, sym, ◌∙◌, ap, subst, arith, ◌⊎◌, inl, inr}
+use Rattle.std.specs.Prelude.{IsTrue, ℤ, Some, slice_get, slice_index, nat_le, nat_lt, unwrap_or}
 use Rattle.std.specs.List.{position_from, flat_map}
 use Rattle.std.proofs.lemmas.Bool.{and_from, and_parts, le-leb, lt-ltb, leb-true, ltb-true, false_from_ne_true, true≢false}
 use Rattle.std.proofs.lemmas.Nat.{div-add-mod', div-mul-add, mod-mul-add, mod_below, div_below, mul-add-lt}
@@ -9,19 +9,17 @@ use Rattle.std.proofs.lemmas.List.{length-map}
 use Rattle.std.proofs.lemmas.List.FromFn.{fill_by_all, get_or-map-range_with_len}
 use Rattle.comp_tree.specs.declared.shape.Connect.{Connect}
 use Rattle.comp_tree.specs.declared.shape.Shape.{Shape}
-use Rattle.comp_tree.specs.Raster.{Raster, IsPlane, pixels}
+use Rattle.comp_tree.specs.Raster.{Raster, pixels}
 use Rattle.comp_tree.specs.ComponentTree.{ComponentTree}
 use Rattle.comp_tree.specs.Components.{is_in_node, tree_of}
-use Rattle.comp_tree.specs.Laws.{IsNode, top_of}
 use Rattle.comp_tree.specs.Windows.{in_whole, is_in_box}
 use Rattle.comp_tree.proofs.Exported.{IsAt, in_whole-at, in_whole-below, some_columns}
 use Rattle.node_sums.specs.Sums.{sums_of}
 use Rattle.source_pick.specs.declared.choice.Choice.{Choice}
-use Rattle.source_pick.specs.Sources.{is_source}
 use Rattle.source_pick.specs.Catalogue.{catalogue, cells_of}
 use Rattle.source_pick.specs.Segmentation.{source_number_at, segmentation_of, segmentation, AreDisjointNodes}
 use Rattle.source_pick.proofs.Exported.{few_marked, few_rows}
-use Rattle.source_pick.specs.Sheets.{Part, IsHeld, AreTakenBack, taken_back, window_size, put_on, from_box, has_on_sheet, sheet_number}
+use Rattle.source_pick.specs.Sheets.{Part, taken_back, window_size, put_on, from_box, has_on_sheet, sheet_number}
 use Rattle.source_sheet.specs.declared.sheet.Place.{Place}
 use Rattle.source_sheet.specs.declared.sheet.Sheet.{Sheet}
 use Rattle.source_sheet.specs.declared.back.Taken.{Taken}

@@ -1,6 +1,6 @@
 -- The sources of the sheet that places hold, in the order of their least pixels in the plane.
 use Rattle.std.proofs.Common.{◌≡◌, ℕ, ◌+◌, ◌<◌, ◌≤◌, zero, suc, Bool, true, false, cond, List, [], ◌∷◌, ◌++◌, length, map, take, get_or, eqb, IsPermutation, refl, sym, ◌∙◌, ap, subst, arith, ◌⊎◌, inl, inr, append-nil, zero-mul, ◌*◌}
-use Rattle.std.specs.Prelude.{IsTrue, ℤ, Contains, Some, slice_get, slice_index, filter, not, All, ◌==◌}
+use Rattle.std.specs.Prelude.{IsTrue, ℤ, Contains, Some, slice_get, slice_index, filter, not}
 use Rattle.std.specs.Option.{option_map}
 use Rattle.std.specs.List.{IsDistinct, AllByRecursion, range_with_len, list_any}
 use Rattle.std.proofs.lemmas.Nat.{mul-add-lt}

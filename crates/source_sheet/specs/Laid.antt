@@ -1,13 +1,13 @@
 -- Model: a sheet as it is laid out: which places of the plane stand where on it, and that they have all that decides the plane's sources.
-use Rattle.std.specs.Prelude.{◌≡◌, ℕ, ◌+◌, ◌<◌, ◌⊎◌, IsTrue, ℤ, List, length, map, Contains, Some, slice_get}
+use Rattle.std.specs.Prelude.{◌≡◌, ℕ, ◌<◌, ◌⊎◌, IsTrue, ℤ, List, length, map, Contains, Some, slice_get}
 use Rattle.comp_tree.specs.declared.shape.Connect.{Connect}
 use Rattle.comp_tree.specs.Raster.{Raster, IsPlane, is_at_least}
 use Rattle.comp_tree.specs.Components.{IsReached}
 use Rattle.comp_tree.specs.ComponentTree.{ComponentTree}
 use Rattle.comp_tree.specs.Components.{tree_of}
-use Rattle.comp_tree.specs.Windows.{Window, in_whole, is_in_box}
+use Rattle.comp_tree.specs.Windows.{in_whole}
 use Rattle.source_pick.specs.declared.choice.Choice.{Choice}
-use Rattle.source_pick.specs.Sheets.{WindowPair, Part, IsCopied, IsHeld, IsSheetOf, part_at, window_size, is_high_there}
+use Rattle.source_pick.specs.Sheets.{WindowPair, Part, IsCopied, IsHeld, part_at, window_size}
 use Rattle.source_sheet.specs.declared.sheet.Place.{Place}
 use Rattle.source_sheet.specs.declared.sheet.Sheet.{Sheet}
 

@@ -1,4 +1,4 @@
-use Rattle.std.proofs.Common.{refl, arith, ◌≡◌, ◌≤◌, ◌<◌, ◌+◌, ◌-◌, ◌*◌, ◌/◌, ◌%◌}
+use Rattle.std.proofs.Common.{refl, arith, ◌≡◌, ◌≤◌, ◌+◌, ◌/◌, ◌%◌}
 use Rattle.source_pick.specs.Sheets.{taken_back}
 use Rattle.source_sheet.proofs.Spots.{IsBack, back_from, back_few}
 use Rattle.source_sheet.proofs.back.back.Goals as goal

@@ -1,6 +1,6 @@
 use Rattle.std.proofs.Common.{arith, length, refl}
 use Rattle.std.proofs.lemmas.Option.{slice_get_read}
-use Rattle.source_sheet.proofs.Owning.{owners_none, owners_more, owners_up_to}
+use Rattle.source_sheet.proofs.Owning.{owners_more, owners_up_to}
 use Rattle.source_sheet.proofs.back.mark_places.Goals as goal
 
 pub loop-i-preserved : goal.loop-i-preserved

@@ -1,4 +1,4 @@
-use Rattle.std.proofs.Common.{sym, ◌∙◌, ap, subst, get_or, length, List, Vec, Global, ◌+◌, arith}
+use Rattle.std.proofs.Common.{sym, ◌∙◌, ap, subst, get_or, List, Vec, Global, ◌+◌, arith}
 use Rattle.std.proofs.lemmas.Option.{slice_get-get_or}
 use Rattle.source_sheet.specs.declared.back.Taken.{Taken}
 use Rattle.source_sheet.specs.Backs.{AreTaken}

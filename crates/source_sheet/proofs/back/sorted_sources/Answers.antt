@@ -1,4 +1,4 @@
-use Rattle.std.proofs.Common.{◌≡◌, ℕ, ◌*◌, ◌<◌, List, length, sym, ◌∙◌, ap, subst, rules}
+use Rattle.std.proofs.Common.{ℕ, ◌*◌, ◌<◌, length, sym, ◌∙◌, ap, subst, rules}
 use Rattle.std.specs.Prelude.{slice_get}
 use Rattle.std.proofs.lemmas.List.Sorted.{IsNonDecreasingBy-from_sort_by_key}
 use Rattle.comp_tree.specs.declared.shape.Shape.{Shape}

@@ -1,4 +1,4 @@
-use Rattle.std.proofs.Common.{ℕ, List, ◌≤◌, subst, sym, ◌∙◌}
+use Rattle.std.proofs.Common.{ℕ, List, ◌≤◌, subst, sym}
 use Rattle.std.proofs.lemmas.List.{get_or_default}
 use Rattle.source_pick.specs.Segmentation.{AreDisjointNodes}
 use Rattle.source_pick.proofs.Exported.{tree-shape}
