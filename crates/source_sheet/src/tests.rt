@@ -50,12 +50,14 @@ fn a_plane_of_high_pixels_has_no_sheet(rt: HostRuntime) -> Result<(), Fail> {
 fn a_source_is_taken_back(rt: HostRuntime) -> Result<(), Fail> {
     let alloc = rt.alloc();
     let plane = plane_with(alloc, &[(0, 6), (17, 7), (18, 9)])?;
-    let sheet = lay_out(alloc, &plane, Connect::Four, &CHOICE)?.ok_or("a sheet")?;
+    let Some(sheet) = lay_out(alloc, &plane, Connect::Four, &CHOICE)? else {
+        return Err(Fail::from("a sheet"));
+    };
     let tree = plain_tree(alloc, &sheet.plane, Connect::Four)?;
     let found = sources_of_sheet(&rt, alloc, &sheet, &tree, &CHOICE, 2)?;
     let row = [1, 7, 0, 2, 16, 9, 3, 4, 4, 4, 3, 4, 3562, 4000, 250, 0, 0];
-    assert!(rt; found.cells == row);
+    assert!(rt; found.cells.as_slice() == row.as_slice());
     let map = [0, 0, 0, 0, 0, 0, 0, 0, 0, 0, 0, 0, 0, 0, 0, 0, 0, 1, 1, 0];
-    assert!(rt; found.map == map);
+    assert!(rt; found.map.as_slice() == map.as_slice());
     Ok(())
 }

@@ -26,9 +26,9 @@ ground_is_sheet job on sheet tree is of_ground =
 -- and what is made of the sheet is made of the ground
 pub made_of_sheet : {E : Type 0} (job : Job) (on : Ground) (sheet : Sheet) (tree : ComponentTree) (made : Result Product E) → on ≡ ground.Sheet sheet
     → IfOk made (λ product. (plane : Raster) (connect : Connect) → IsSheetFor job connect plane sheet → tree ≡ tree_of sheet.plane connect
-        → bytes_of product ≡ output_of_job job connect plane)
+    → bytes_of product ≡ output_of_job job connect plane)
     → IfOk made (λ product. (plane : Raster) (connect : Connect) → IsGroundFor job connect plane on → tree ≡ tree_of (ground_plane on) connect
-        → bytes_of product ≡ output_of_job job connect plane)
+    → bytes_of product ≡ output_of_job job connect plane)
 made_of_sheet job on sheet tree (Ok product) is bytes = λ plane connect is_ground tree_is.
     bytes plane connect (subst (IsGroundFor job connect plane) is is_ground) (subst (λ g. tree ≡ tree_of (ground_plane g) connect) is tree_is)
 made_of_sheet job on sheet tree (Err e) is bytes = tt

@@ -22,7 +22,7 @@ pub made_of_image : {E : Type 0} (order : Order) (image plane given : Raster) (o
     → plane ≡ residual_of image order.mesh order.flat → IsGroundFor order.job order.connect plane on
     → given ≡ ground_plane on → tree ≡ tree_of given order.connect
     → IfOk made (λ product. (p : Raster) (connect : Connect) → IsGroundFor order.job connect p on → tree ≡ tree_of (ground_plane on) connect
-        → bytes_of product ≡ output_of_job order.job connect p)
+    → bytes_of product ≡ output_of_job order.job connect p)
     → IfOk made (λ product. bytes_of product ≡ output_of order image)
 unfolding output_of
 made_of_image order image plane given on tree (Ok product) residual is_ground is_given is bytes =

@@ -184,9 +184,7 @@ fn ground_for_sources<R: Threads + Sync>(
 {
     match lay_out(alloc, &plane, connect, &choice)? {
         Some(sheet) => Ok(Ground::Sheet(sheet)),
-        None => Ok(Ground::Whole(without_far(
-            rt, alloc, plane, connect, choice, workers,
-        )?)),
+        None => Ok(Ground::Whole(without_far(rt, alloc, plane, connect, choice, workers)?)),
     }
 }
 
