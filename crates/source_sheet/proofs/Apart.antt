@@ -11,22 +11,23 @@ use Rattle.comp_tree.specs.Raster.{Raster}
 use Rattle.comp_tree.specs.Windows.{Window, IsInside, in_whole}
 use Rattle.comp_tree.proofs.Exported.{some_columns}
 use Rattle.source_sheet.specs.declared.sheet.Place.{Place}
-use Rattle.source_sheet.specs.Laid.{window_pair, LiesAt, AreApartThere}
-use Rattle.source_sheet.specs.Checks.{has_mark, AreNewlyMarked, IsBetween, IsInRows, AreAllApart}
+use Rattle.source_sheet.specs.Laid.{windows_of, LiesAt, AreApartThere}
+use Rattle.comp_tree.specs.Marks.{is_marked}
+use Rattle.source_sheet.specs.Checks.{AreNewlyMarked, IsBetween, IsInRows, AreAllApart}
 
 -- ---- one mark
 
-mark_kept : (marks : List Bool) (p q : ℕ) → p < length marks → IsTrue (has_mark marks q) → IsTrue (has_mark (set marks p true) q)
+mark_kept : (marks : List Bool) (p q : ℕ) → p < length marks → IsTrue (is_marked marks q) → IsTrue (is_marked (set marks p true) q)
 mark_kept marks p q l k = go (cases_eq q p)
   where
-    go : (q ≡ p) ⊎ (q ≡ p → ⊥) → has_mark (set marks p true) q ≡ true
-    go (inl e) = ap (has_mark (set marks p true)) e ∙ get_or-set_same marks p true false l
+    go : (q ≡ p) ⊎ (q ≡ p → ⊥) → is_marked (set marks p true) q ≡ true
+    go (inl e) = ap (is_marked (set marks p true)) e ∙ get_or-set_same marks p true false l
     go (inr n) = get_or-set_other marks p q true false n ∙ k
 
 module _ (old new : List Bool) (LiesThere : ℕ → Type 0) (newly : AreNewlyMarked old new LiesThere) where
   -- a pixel without a mark had none before
-  unmarked_before : (p : ℕ) → has_mark new p ≡ false → has_mark old p ≡ false
-  unmarked_before p e = false_from_ne_true (has_mark old p) (λ k. true≢false (sym (newly.kept p k) ∙ e))
+  unmarked_before : (p : ℕ) → is_marked new p ≡ false → is_marked old p ≡ false
+  unmarked_before p e = false_from_ne_true (is_marked old p) (λ k. true≢false (sym (newly.kept p k) ∙ e))
 
 -- ---- one pixel after the other
 
@@ -38,7 +39,7 @@ newly_none marks first = record {
   all = λ p b. let low : first ≤ p = b.low in let high : p < first = b.high in absurd (omega arith);
 }
 
-pub newly_more : (old marks : List Bool) (first p : ℕ) → p < length marks → has_mark marks p ≡ false → AreNewlyMarked old marks (IsBetween first p)
+pub newly_more : (old marks : List Bool) (first p : ℕ) → p < length marks → is_marked marks p ≡ false → AreNewlyMarked old marks (IsBetween first p)
     → AreNewlyMarked old (set marks p true) (IsBetween first (p + 1))
 newly_more old marks first p l none before = record {
   same_length = length-set marks p true ∙ before.same_length;
@@ -50,14 +51,14 @@ newly_more old marks first p l none before = record {
     same : (q : ℕ) → IsBetween first (p + 1) q → p ≤ q → p ≡ q
     same q b k = let high : q < p + 1 = b.high in omega arith
 
-    free : (q : ℕ) → IsBetween first (p + 1) q → (q < p) ⊎ (p ≤ q) → has_mark old q ≡ false
+    free : (q : ℕ) → IsBetween first (p + 1) q → (q < p) ⊎ (p ≤ q) → is_marked old q ≡ false
     free q b (inl k) = before.free q (record { low = b.low; high = k })
     free q b (inr k) =
-        subst (λ (n : ℕ). has_mark old n ≡ false) (same q b k) (unmarked_before old marks (IsBetween first p) before p none)
+        subst (λ (n : ℕ). is_marked old n ≡ false) (same q b k) (unmarked_before old marks (IsBetween first p) before p none)
 
-    all : (q : ℕ) → IsBetween first (p + 1) q → (q < p) ⊎ (p ≤ q) → has_mark (set marks p true) q ≡ true
+    all : (q : ℕ) → IsBetween first (p + 1) q → (q < p) ⊎ (p ≤ q) → is_marked (set marks p true) q ≡ true
     all q b (inl k) = mark_kept marks p q l (before.all q (record { low = b.low; high = k }))
-    all q b (inr k) = subst (λ (n : ℕ). has_mark (set marks p true) n ≡ true) (same q b k) (get_or-set_same marks p true false l)
+    all q b (inr k) = subst (λ (n : ℕ). is_marked (set marks p true) n ≡ true) (same q b k) (get_or-set_same marks p true false l)
 
 pub newly_at : (old new : List Bool) (first p end : ℕ) → AreNewlyMarked old new (IsBetween first p) → p ≡ end → AreNewlyMarked old new (IsBetween first end)
 newly_at old new first p end newly e = subst (λ (n : ℕ). AreNewlyMarked old new (IsBetween first n)) e newly
@@ -73,11 +74,11 @@ newly_joined old middle new P Q R split before behind = record {
   all = λ p k. all p (split p k);
 }
   where
-    free : (p : ℕ) → P p ⊎ Q p → has_mark old p ≡ false
+    free : (p : ℕ) → P p ⊎ Q p → is_marked old p ≡ false
     free p (inl k) = before.free p k
     free p (inr k) = unmarked_before old middle P before p (behind.free p k)
 
-    all : (p : ℕ) → P p ⊎ Q p → has_mark new p ≡ true
+    all : (p : ℕ) → P p ⊎ Q p → is_marked new p ≡ true
     all p (inl k) = behind.kept p (before.all p k)
     all p (inr k) = behind.all p k
 
@@ -128,7 +129,7 @@ apart_none width places marks = record {
 }
 
 pub apart_more : (width : ℕ) (places : List Place) (count : ℕ) (c : Place) (old new : List Bool) → slice_get places count ≡ Some c
-    → AreAllApart width places count old → AreNewlyMarked old new (IsInRows width (window_pair c).to c.shape.height)
+    → AreAllApart width places count old → AreNewlyMarked old new (IsInRows width (windows_of c).to c.shape.height)
     → AreAllApart width places (count + 1) new
 apart_more width places count c old new here before newly = record {
   marked = λ i p d l g k. marked i p d l g k (cases_lt i count);
@@ -136,24 +137,24 @@ apart_more width places count c old new here before newly = record {
 }
   where
     last : (i p : ℕ) (d : Place) → i < count + 1 → count ≤ i → slice_get places i ≡ Some d
-        → IsInRows width (window_pair d).to d.shape.height p → IsInRows width (window_pair c).to c.shape.height p
+        → IsInRows width (windows_of d).to d.shape.height p → IsInRows width (windows_of c).to c.shape.height p
     last i p d l m g k =
         let same : i ≡ count = omega arith in
         let one : d ≡ c = same_Some d c (sym g ∙ ap (slice_get places) same ∙ here) in
-        subst (λ (x : Place). IsInRows width (window_pair x).to x.shape.height p) one k
+        subst (λ (x : Place). IsInRows width (windows_of x).to x.shape.height p) one k
 
-    marked : (i p : ℕ) (d : Place) → i < count + 1 → slice_get places i ≡ Some d → IsInRows width (window_pair d).to d.shape.height p
-        → (i < count) ⊎ (count ≤ i) → has_mark new p ≡ true
+    marked : (i p : ℕ) (d : Place) → i < count + 1 → slice_get places i ≡ Some d → IsInRows width (windows_of d).to d.shape.height p
+        → (i < count) ⊎ (count ≤ i) → is_marked new p ≡ true
     marked i p d l g k (inl m) = newly.kept p (before.marked i p d m g k)
     marked i p d l g k (inr m) = newly.all p (last i p d l m g k)
 
     -- a pixel of an earlier place was marked, and one of the last place wasn't
     both : (i j p : ℕ) (d e : Place) → i < count → j < count + 1 → count ≤ j → slice_get places i ≡ Some d → slice_get places j ≡ Some e
-        → IsInRows width (window_pair d).to d.shape.height p → IsInRows width (window_pair e).to e.shape.height p → ⊥
+        → IsInRows width (windows_of d).to d.shape.height p → IsInRows width (windows_of e).to e.shape.height p → ⊥
     both i j p d e l m n f g h k = true≢false (sym (before.marked i p d l f h) ∙ newly.free p (last j p e m n g k))
 
     apart : (i j p : ℕ) (d e : Place) → i < count + 1 → j < count + 1 → slice_get places i ≡ Some d → slice_get places j ≡ Some e
-        → IsInRows width (window_pair d).to d.shape.height p → IsInRows width (window_pair e).to e.shape.height p
+        → IsInRows width (windows_of d).to d.shape.height p → IsInRows width (windows_of e).to e.shape.height p
         → (i < count) ⊎ (count ≤ i) → (j < count) ⊎ (count ≤ j) → i ≡ j
     apart i j p d e l m f g h k (inl u) (inl v) = before.apart i j p d e u v f g h k
     apart i j p d e l m f g h k (inl u) (inr v) = absurd (both i j p d e u m v f g h k)
@@ -165,7 +166,7 @@ pub apart_at : (width : ℕ) (places : List Place) (i count : ℕ) (marks : List
 apart_at width places i count marks apart e = subst (λ (n : ℕ). AreAllApart width places n marks) e apart
 
 -- a pixel of a place lies in one of its rows
-lies_in_rows : (s : Raster) (c : Place) (p : ℕ) → LiesAt s c p → IsInRows s.shape.width (window_pair c).to c.shape.height p
+lies_in_rows : (s : Raster) (c : Place) (p : ℕ) → LiesAt s c p → IsInRows s.shape.width (windows_of c).to c.shape.height p
 unfolding in_whole
 lies_in_rows s c p k =
     let place : (k.it / c.shape.width + c.to_top) * s.shape.width + (k.it % c.shape.width + c.to_left) ≡ p = k.place in
@@ -182,5 +183,5 @@ pub apart_from : (s : Raster) (width : ℕ) (places : List Place) (marks : List 
     → AreAllApart width places (length places) marks → AreApartThere s places
 apart_from s width places marks wide apart i j p c e f g h k =
     apart.apart i j p c e (slice_get_within places i c f) (slice_get_within places j e g) f g
-    (subst (λ (n : ℕ). IsInRows n (window_pair c).to c.shape.height p) (sym wide) (lies_in_rows s c p h))
-    (subst (λ (n : ℕ). IsInRows n (window_pair e).to e.shape.height p) (sym wide) (lies_in_rows s e p k))
+    (subst (λ (n : ℕ). IsInRows n (windows_of c).to c.shape.height p) (sym wide) (lies_in_rows s c p h))
+    (subst (λ (n : ℕ). IsInRows n (windows_of e).to e.shape.height p) (sym wide) (lies_in_rows s e p k))

@@ -16,8 +16,8 @@ use Rattle.comp_tree.specs.Windows.{Window, IsInside, in_whole}
 use Rattle.comp_tree.proofs.Exported.{some_columns, adjacent_ends, adjacent_near, below_from_defined, neighbours_eight, neighbours_four, IsAt, in_whole-at}
 use Rattle.source_pick.specs.Sheets.{WindowPair, IsCopied, window_size, is_high_there}
 use Rattle.source_sheet.specs.declared.sheet.Place.{Place}
-use Rattle.source_sheet.specs.Laid.{window_pair}
-use Rattle.source_sheet.specs.Checks.{LiesInside, IsSeen, StaysWithin, IsPixelCopied, AreCopied, AreAllCopied}
+use Rattle.source_sheet.specs.Laid.{windows_of}
+use Rattle.source_sheet.specs.Checks.{LiesInside, IsSeen, StaysWithin, IsPixelCopied, ArePixelsCopied, AreAllCopied}
 
 -- ---- lists of neighbours
 
@@ -157,11 +157,11 @@ columns_inside whole w q inside l =
 -- ---- pixel by pixel
 
 module _ (r s : Raster) (connect : Connect) (h : ℤ) (c : WindowPair) where
-  pub copied_none : (first end : ℕ) → end ≤ first → AreCopied r s connect h c first end
+  pub copied_none : (first end : ℕ) → end ≤ first → ArePixelsCopied r s connect h c first end
   copied_none first end l = record { each = λ q low high k. absurd (omega arith) }
 
-  pub copied_more : (first p : ℕ) → AreCopied r s connect h c first p
-      → (IsTrue (is_high_there s h c.to p) → IsPixelCopied r s connect c p) → AreCopied r s connect h c first (p + 1)
+  pub copied_more : (first p : ℕ) → ArePixelsCopied r s connect h c first p
+      → (IsTrue (is_high_there s h c.to p) → IsPixelCopied r s connect c p) → ArePixelsCopied r s connect h c first (p + 1)
   copied_more first p before here = record { each = λ q low high k. go q (cases_lt q p) low high k }
     where
       go : (q : ℕ) → (q < p) ⊎ (p ≤ q) → first ≤ q → q < p + 1 → IsTrue (is_high_there s h c.to q) → IsPixelCopied r s connect c q
@@ -170,16 +170,16 @@ module _ (r s : Raster) (connect : Connect) (h : ℤ) (c : WindowPair) where
           let e : p ≡ q = omega arith in
           subst (λ (n : ℕ). IsTrue (is_high_there s h c.to n) → IsPixelCopied r s connect c n) e here k
 
-  pub copied_joined : (first middle end : ℕ) → AreCopied r s connect h c first middle → AreCopied r s connect h c middle end
-      → AreCopied r s connect h c first end
+  pub copied_joined : (first middle end : ℕ) → ArePixelsCopied r s connect h c first middle → ArePixelsCopied r s connect h c middle end
+      → ArePixelsCopied r s connect h c first end
   copied_joined first middle end before behind = record { each = λ q low high k. go q (cases_lt q middle) low high k }
     where
       go : (q : ℕ) → (q < middle) ⊎ (middle ≤ q) → first ≤ q → q < end → IsTrue (is_high_there s h c.to q) → IsPixelCopied r s connect c q
       go q (inl l) low high k = before.each q low l k
       go q (inr l) low high k = behind.each q l high k
 
-  pub copied_at : (first end last : ℕ) → AreCopied r s connect h c first end → end ≡ last → AreCopied r s connect h c first last
-  copied_at first end last copied e = subst (λ (n : ℕ). AreCopied r s connect h c first n) e copied
+  pub copied_at : (first end last : ℕ) → ArePixelsCopied r s connect h c first end → end ≡ last → ArePixelsCopied r s connect h c first last
+  copied_at first end last copied e = subst (λ (n : ℕ). ArePixelsCopied r s connect h c first n) e copied
 
   -- a pixel that is low needn't be one
   pub low_there : (q there : ℕ) → in_whole s.shape.width c.to q ≡ there → is_at_least s h there ≡ false
@@ -191,8 +191,8 @@ module _ (r s : Raster) (connect : Connect) (h : ℤ) (c : WindowPair) where
       absurd (true≢false (sym high ∙ ap (is_at_least s h) e ∙ low))
 
 -- the place is a copy where each of its pixels is one
-pub copied_from : (r s : Raster) (connect : Connect) (h : ℤ) (c : Place) → IsInside r.shape (window_pair c).from → IsInside s.shape (window_pair c).to
-    → AreCopied r s connect h (window_pair c) 0 (c.shape.height * c.shape.width) → IsCopied r s connect h (window_pair c)
+pub copied_from : (r s : Raster) (connect : Connect) (h : ℤ) (c : Place) → IsInside r.shape (windows_of c).from → IsInside s.shape (windows_of c).to
+    → ArePixelsCopied r s connect h (windows_of c) 0 (c.shape.height * c.shape.width) → IsCopied r s connect h (windows_of c)
 unfolding is_high_there
 copied_from r s connect h c inside inside_sheet copied = record {
   same_shape = refl;
@@ -204,21 +204,21 @@ copied_from r s connect h c inside inside_sheet copied = record {
   beyond_sheet = λ q a k. (at q k).beyond_sheet a;
 }
   where
-    at : (q : ℕ) → IsTrue (is_high_there s h (window_pair c).to q) → IsPixelCopied r s connect (window_pair c) q
+    at : (q : ℕ) → IsTrue (is_high_there s h (windows_of c).to q) → IsPixelCopied r s connect (windows_of c) q
     at q k =
         let few : q < c.shape.width * c.shape.height =
-        ltb-true q (window_size (window_pair c).to)
-        (and_parts (nat_lt q (window_size (window_pair c).to)) (is_at_least s h (in_whole s.shape.width (window_pair c).to q)) k).0 in
+        ltb-true q (window_size (windows_of c).to)
+        (and_parts (nat_lt q (window_size (windows_of c).to)) (is_at_least s h (in_whole s.shape.width (windows_of c).to q)) k).0 in
         copied.each q (omega arith) (omega arith) k
 
 -- ---- place by place
 
 pub all_copied_more : (r s : Raster) (connect : Connect) (h : ℤ) (places : List Place) (count : ℕ) (c : Place) → slice_get places count ≡ Some c
-    → IsCopied r s connect h (window_pair c) → AreAllCopied r s connect h places count → AreAllCopied r s connect h places (count + 1)
+    → IsCopied r s connect h (windows_of c) → AreAllCopied r s connect h places count → AreAllCopied r s connect h places (count + 1)
 all_copied_more r s connect h places count c here copied before i d l g = go (cases_lt i count)
   where
-    go : (i < count) ⊎ (count ≤ i) → IsCopied r s connect h (window_pair d)
+    go : (i < count) ⊎ (count ≤ i) → IsCopied r s connect h (windows_of d)
     go (inl m) = before i d m g
     go (inr m) =
         let same : i ≡ count = omega arith in
-        subst (λ (x : Place). IsCopied r s connect h (window_pair x)) (sym (same_Some d c (sym g ∙ ap (slice_get places) same ∙ here))) copied
+        subst (λ (x : Place). IsCopied r s connect h (windows_of x)) (sym (same_Some d c (sym g ∙ ap (slice_get places) same ∙ here))) copied

@@ -12,7 +12,7 @@ use Rattle.comp_tree.specs.Windows.{Window, in_whole}
 use Rattle.comp_tree.proofs.Exported.{row-from}
 use Rattle.source_pick.specs.Sheets.{is_high_there, window_size}
 use Rattle.source_sheet.specs.declared.sheet.Place.{Place}
-use Rattle.source_sheet.specs.Laid.{window_pair, HoldsPixel, AreApart}
+use Rattle.source_sheet.specs.Laid.{windows_of, HoldsPixel, AreHeldOnce}
 use Rattle.source_sheet.specs.Holding.{HasHeld, HasHeldFirst, HasHeldAll, IsHeldBySome, AreHeldApart}
 
 -- ---- a row
@@ -55,7 +55,7 @@ unfolding is_high_there
 high_from s h v q l e = and_from (nat_lt q (window_size v)) (is_at_least s h (in_whole s.shape.width v q)) (lt-ltb q (window_size v) l) e
 
 pub first_step : (r s : Raster) (h : ℤ) (c : Place) (q there p : ℕ) (old mid new : List Bool) → HasHeldFirst r s h c q old mid → HasHeld s h there p mid new
-    → q < window_size (window_pair c).to → p ≡ in_whole r.shape.width (window_pair c).from q → there ≡ in_whole s.shape.width (window_pair c).to q
+    → q < window_size (windows_of c).to → p ≡ in_whole r.shape.width (windows_of c).from q → there ≡ in_whole s.shape.width (windows_of c).to q
     → HasHeldFirst r s h c (q + 1) old new
 first_step r s h c q there p old mid new f g inside from to = record {
   one_each = g.one_each ∙ f.one_each;
@@ -65,39 +65,39 @@ first_step r s h c q there p old mid new f g inside from to = record {
   listed = λ a m. elim (g.listed a m) [ inl k ↦ f.listed a k | inr k ↦ inr (holds a k.0 k.1) ];
 }
   where
-    high_here : IsTrue (is_high_there s h (window_pair c).to q) → IsTrue (is_at_least s h there)
-    high_here high = subst (λ (x : ℕ). IsTrue (is_at_least s h x)) (sym to) (high_at s h (window_pair c).to q high)
+    high_here : IsTrue (is_high_there s h (windows_of c).to q) → IsTrue (is_at_least s h there)
+    high_here high = subst (λ (x : ℕ). IsTrue (is_at_least s h x)) (sym to) (high_at s h (windows_of c).to q high)
 
     not_yet : (t : Bool) → is_marked old p ≡ t → is_marked mid p ≡ false → is_marked old p ≡ false
     not_yet false e none = e
     not_yet true e none = absurd (true≢false (sym (f.kept p e) ∙ none))
 
-    free_here : IsTrue (is_high_there s h (window_pair c).to q) → is_marked old (in_whole r.shape.width (window_pair c).from q) ≡ false
+    free_here : IsTrue (is_high_there s h (windows_of c).to q) → is_marked old (in_whole r.shape.width (windows_of c).from q) ≡ false
     free_here high = subst (λ (x : ℕ). is_marked old x ≡ false) from (not_yet (is_marked old p) refl (g.free (high_here high)))
 
-    set_here : IsTrue (is_high_there s h (window_pair c).to q) → IsTrue (is_marked new (in_whole r.shape.width (window_pair c).from q))
+    set_here : IsTrue (is_high_there s h (windows_of c).to q) → IsTrue (is_marked new (in_whole r.shape.width (windows_of c).from q))
     set_here high = subst (λ (x : ℕ). IsTrue (is_marked new x)) from (g.set (high_here high))
 
-    free : (k : ℕ) → IsTrue (is_high_there s h (window_pair c).to k) → (k < q) ⊎ (q ≤ k) → k < q + 1
-        → is_marked old (in_whole r.shape.width (window_pair c).from k) ≡ false
+    free : (k : ℕ) → IsTrue (is_high_there s h (windows_of c).to k) → (k < q) ⊎ (q ≤ k) → k < q + 1
+        → is_marked old (in_whole r.shape.width (windows_of c).from k) ≡ false
     free k high (inl m) l = f.free k m high
     free k high (inr m) l =
         let e : q ≡ k = omega arith in
-        subst (λ (x : ℕ). IsTrue (is_high_there s h (window_pair c).to x) → is_marked old (in_whole r.shape.width (window_pair c).from x) ≡ false) e
+        subst (λ (x : ℕ). IsTrue (is_high_there s h (windows_of c).to x) → is_marked old (in_whole r.shape.width (windows_of c).from x) ≡ false) e
         free_here high
 
-    set : (k : ℕ) → IsTrue (is_high_there s h (window_pair c).to k) → (k < q) ⊎ (q ≤ k) → k < q + 1
-        → IsTrue (is_marked new (in_whole r.shape.width (window_pair c).from k))
-    set k high (inl m) l = g.kept (in_whole r.shape.width (window_pair c).from k) (f.set k m high)
+    set : (k : ℕ) → IsTrue (is_high_there s h (windows_of c).to k) → (k < q) ⊎ (q ≤ k) → k < q + 1
+        → IsTrue (is_marked new (in_whole r.shape.width (windows_of c).from k))
+    set k high (inl m) l = g.kept (in_whole r.shape.width (windows_of c).from k) (f.set k m high)
     set k high (inr m) l =
         let e : q ≡ k = omega arith in
-        subst (λ (x : ℕ). IsTrue (is_high_there s h (window_pair c).to x) → IsTrue (is_marked new (in_whole r.shape.width (window_pair c).from x))) e
+        subst (λ (x : ℕ). IsTrue (is_high_there s h (windows_of c).to x) → IsTrue (is_marked new (in_whole r.shape.width (windows_of c).from x))) e
         set_here high
 
     holds : (a : ℕ) → p ≡ a → IsTrue (is_at_least s h there) → HoldsPixel r s h c a
     holds a e high = record {
       it = q;
-      is_own = high_from s h (window_pair c).to q inside (subst (λ (x : ℕ). IsTrue (is_at_least s h x)) to high);
+      is_own = high_from s h (windows_of c).to q inside (subst (λ (x : ℕ). IsTrue (is_at_least s h x)) to high);
       place = sym from ∙ e;
     }
 
@@ -117,7 +117,7 @@ first_none r s h c marks = record {
 }
 
 pub first_all : (r s : Raster) (h : ℤ) (c : Place) (count : ℕ) (old new : List Bool) → HasHeldFirst r s h c count old new
-    → window_size (window_pair c).to ≤ count → HasHeldAll r s h c old new
+    → window_size (windows_of c).to ≤ count → HasHeldAll r s h c old new
 first_all r s h c count old new f all = record {
   one_each = f.one_each;
   free = λ p k. subst (λ (x : ℕ). is_marked old x ≡ false) k.place (f.free k.it (below k.it k.is_own) k.is_own);
@@ -126,8 +126,8 @@ first_all r s h c count old new f all = record {
   listed = f.listed;
 }
   where
-    below : (q : ℕ) → IsTrue (is_high_there s h (window_pair c).to q) → q < count
-    below q e = let l : q < window_size (window_pair c).to = high_below s h (window_pair c).to q e in omega (arith, l, all)
+    below : (q : ℕ) → IsTrue (is_high_there s h (windows_of c).to q) → q < count
+    below q e = let l : q < window_size (windows_of c).to = high_below s h (windows_of c).to q e in omega (arith, l, all)
 
 -- ---- all places
 
@@ -180,7 +180,7 @@ apart_more r s h places count c mid new f is g = record {
     set i p d d_is hd (inr k) m = g.set p (here i p d d_is (omega arith) hd)
 
 pub apart_all : (r s : Raster) (h : ℤ) (places : List Place) (marks : List Bool) → AreHeldApart r s h places (length places) marks
-    → AreApart r s h places
+    → AreHeldOnce r s h places
 apart_all r s h places marks f i j p c e c_is e_is hc he =
     f.apart i j p c e (slice_get_within places i c c_is) (slice_get_within places j e e_is) c_is e_is hc he
 

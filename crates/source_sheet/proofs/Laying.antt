@@ -7,7 +7,8 @@ use Rattle.comp_tree.specs.Raster.{Raster}
 use Rattle.source_pick.specs.declared.choice.Choice.{Choice}
 use Rattle.source_sheet.specs.declared.sheet.Place.{Place}
 use Rattle.source_sheet.specs.declared.sheet.Sheet.{Sheet}
-use Rattle.source_sheet.specs.Laid.{HoldsPixel, HasFewAround, HoldsGroups, IsLaidOut}
+use Rattle.source_sheet.specs.Groups.{HoldsGroups}
+use Rattle.source_sheet.specs.Laid.{HoldsPixel, HasFewAround, IsLaidOut}
 use Rattle.source_sheet.specs.Checks.{AreGoodPlaces}
 
 pub laid_out_from : (r : Raster) (connect : Connect) (choice : Choice) (sheet : Sheet) (ps : List ℕ) → sheet.whole ≡ r.shape

@@ -7,7 +7,7 @@ use Rattle.std.proofs.lemmas.Option.{same_Some}
 use Rattle.comp_tree.specs.Windows.{Window, in_whole}
 use Rattle.source_pick.specs.Sheets.{window_size}
 use Rattle.source_sheet.specs.declared.sheet.Place.{Place}
-use Rattle.source_sheet.specs.Laid.{window_pair}
+use Rattle.source_sheet.specs.Laid.{windows_of}
 use Rattle.source_sheet.specs.Backs.{IsInWindow, AreMarkedIn, IsOwned, AreOwners}
 
 -- ---- one window
@@ -49,28 +49,28 @@ pub owners_none : (width : ℕ) (places : List Place) (owners : List ℕ) → ((
 owners_none width places owners blank = record { sound = λ p. inl (blank p); complete = λ i p c l. absurd (omega (arith, l)) }
 
 pub owners_more : (width : ℕ) (places : List Place) (i : ℕ) (c : Place) (before after : List ℕ) → AreOwners width places i before
-    → slice_get places i ≡ Some c → AreMarkedIn width (window_pair c).to (i + 1) (window_size (window_pair c).to) before after
+    → slice_get places i ≡ Some c → AreMarkedIn width (windows_of c).to (i + 1) (window_size (windows_of c).to) before after
     → AreOwners width places (i + 1) after
 owners_more width places i c before after h got m = record {
   sound = λ p. sound p (m.sound p) (h.sound p);
   complete = λ j p d l g w z. complete j p d (cases_lt j i) (m.sound p) l g w z;
 }
   where
-    sound : (p : ℕ) → (slice_index after p ≡ slice_index before p) ⊎ (IsInWindow width (window_pair c).to p × (slice_index after p ≡ i + 1))
+    sound : (p : ℕ) → (slice_index after p ≡ slice_index before p) ⊎ (IsInWindow width (windows_of c).to p × (slice_index after p ≡ i + 1))
         → (slice_index before p ≡ 0) ⊎ IsOwned width places before p → (slice_index after p ≡ 0) ⊎ IsOwned width places after p
     sound p (inr (w, n)) old = inr (record { it = i; place = c; at = got; lies = w; number = n })
     sound p (inl e) (inl z) = inl (e ∙ z)
     sound p (inl e) (inr o) = inr (record { it = o.it; place = o.place; at = o.at; lies = o.lies; number = e ∙ o.number })
 
     complete : (j p : ℕ) (d : Place) → (j < i) ⊎ (i ≤ j)
-        → (slice_index after p ≡ slice_index before p) ⊎ (IsInWindow width (window_pair c).to p × (slice_index after p ≡ i + 1))
-        → j < i + 1 → slice_get places j ≡ Some d → IsInWindow width (window_pair d).to p → slice_index after p ≡ 0 → ⊥
+        → (slice_index after p ≡ slice_index before p) ⊎ (IsInWindow width (windows_of c).to p × (slice_index after p ≡ i + 1))
+        → j < i + 1 → slice_get places j ≡ Some d → IsInWindow width (windows_of d).to p → slice_index after p ≡ 0 → ⊥
     complete j p d (inl t) (inl e) l g w z = h.complete j p d t g w (sym e ∙ z)
     complete j p d (inl t) (inr (v, n)) l g w z = absurd (omega (arith, n, z))
     complete j p d (inr t) k l g w z =
         let e : j ≡ i = omega (arith, t, l) in
         let same : d ≡ c = same_Some d c (sym g ∙ ap (slice_get places) e ∙ got) in
-        let v : IsInWindow width (window_pair c).to p = subst (λ (x : Place). IsInWindow width (window_pair x).to p) same w in
+        let v : IsInWindow width (windows_of c).to p = subst (λ (x : Place). IsInWindow width (windows_of x).to p) same w in
         let n : slice_index after p ≡ i + 1 = ap (λ (x : ℕ). slice_index after x) (sym v.place) ∙ m.complete v.it v.below in
         absurd (omega (arith, n, z))
 

@@ -30,12 +30,12 @@ use Rattle.source_pick.proofs.Exported.{first_inside, row_fits}
 use Rattle.source_sheet.specs.declared.sheet.Place.{Place}
 use Rattle.source_sheet.specs.declared.back.Taken.{Taken}
 use Rattle.source_sheet.specs.Laid.{part_of}
-use Rattle.source_sheet.specs.Backs.{IsSide, IsSmallRow, IsNear, found_as, found_of}
+use Rattle.source_sheet.specs.Backs.{IsCoordinate, IsSmallRow, IsNear, found_as, found_of}
 use Rattle.source_sheet.proofs.Taking.{get_mapped}
 
 -- ---- how large the numbers of a row are
 
-side : (n : ℕ) → n ≤ 65535 → IsSide (pos n)
+side : (n : ℕ) → n ≤ 65535 → IsCoordinate (pos n)
 side n l = record { low = omega (arith, ints); high = omega (arith, ints, l) }
 
 pub small_row : (s : Raster) (connect : Connect) (number k : ℕ) → IsPlane s → IsNode s connect k → IsSmallRow (catalogue_row s connect number k)
@@ -75,13 +75,13 @@ small_row s connect number k plane hk = record {
     below : (p : ℕ) → is_in_node s connect k p ≡ true → p < length s.values
     below p i = below_from_defined s p (in_node-defined s connect k p i)
 
-moved_side : (z : ℤ) (a b : ℕ) → IsSide z → a ≤ 65535 → b ≤ 65535 → FitsColumn (z +ℤ pos a -ℤ pos b)
+moved_side : (z : ℤ) (a b : ℕ) → IsCoordinate z → a ≤ 65535 → b ≤ 65535 → FitsColumn (z +ℤ pos a -ℤ pos b)
 moved_side z a b k l m =
     let low : pos 0 ≤ℤ z = k.low in
     let high : z ≤ℤ pos 65535 = k.high in
     record { low = omega (arith, ints, low, l, m); high = omega (arith, ints, high, l, m) }
 
-moved_centre : (z x y : ℤ) (a b : ℕ) → (pos 1000 *ℤ x) ≤ℤ z → z ≤ℤ (pos 1000 *ℤ y) → IsSide x → IsSide y → a ≤ 65535 → b ≤ 65535
+moved_centre : (z x y : ℤ) (a b : ℕ) → (pos 1000 *ℤ x) ≤ℤ z → z ≤ℤ (pos 1000 *ℤ y) → IsCoordinate x → IsCoordinate y → a ≤ 65535 → b ≤ 65535
     → FitsColumn (z +ℤ pos (1000 * a) -ℤ pos (1000 * b))
 moved_centre z x y a b above below u v l m =
     let low : pos 0 ≤ℤ x = u.low in

@@ -18,8 +18,8 @@ use Rattle.source_pick.specs.Sheets.{Part, IsPartOf, IsHeld, IsSheetOf, IsMovedS
 use Rattle.source_pick.proofs.Exported.{top_high, in_node_reached}
 use Rattle.source_sheet.specs.declared.sheet.Place.{Place}
 use Rattle.source_sheet.specs.declared.sheet.Sheet.{Sheet}
-use Rattle.source_sheet.specs.Laid.{window_pair, part_of, parts_of, IsLaidOut, HasFewAround, HoldsPixel}
-use Rattle.source_sheet.specs.Backs.{IsPlaced, IsInWindow, SheetLaws}
+use Rattle.source_sheet.specs.Laid.{windows_of, part_of, IsLaidOut, HasFewAround, HoldsPixel}
+use Rattle.source_sheet.specs.Backs.{LiesInBoth, IsInWindow, SheetLaws, parts_of}
 
 -- ---- members
 
@@ -52,9 +52,9 @@ module _ (r : Raster) (connect : Connect) (choice : Choice) (sheet : Sheet) (l :
   h = choice.threshold
 
   part_is : (i : ℕ) (c : Place) → slice_get sheet.places.items i ≡ Some c → IsPartOf r s connect h (part_of s h c)
-  part_is i c got = laws.parts r s connect h (window_pair c) l.one_each_there (l.copied i c got)
+  part_is i c got = laws.parts r s connect h (windows_of c) l.one_each_there (l.copied i c got)
 
-  pub placed : (i : ℕ) (c : Place) → slice_get sheet.places.items i ≡ Some c → IsPlaced r.shape s.shape c
+  pub placed : (i : ℕ) (c : Place) → slice_get sheet.places.items i ≡ Some c → LiesInBoth r.shape s.shape c
   placed i c got = let k = l.copied i c got in record { from = k.inside; to = k.inside_sheet }
 
   pub is_sheet_of : IsSheetOf r s connect choice (parts_of s h sheet.places.items)
@@ -86,22 +86,22 @@ module _ (r : Raster) (connect : Connect) (choice : Choice) (sheet : Sheet) (l :
   abbrev HoldsThere : Place → ℕ → Type 0
   HoldsThere c p = IsHeld s (part_of s h c).to (part_of s h c).own p
 
-  pub held_lies : (c : Place) (p : ℕ) → HoldsThere c p → IsInWindow s.shape.width (window_pair c).to p
+  pub held_lies : (c : Place) (p : ℕ) → HoldsThere c p → IsInWindow s.shape.width (windows_of c).to p
   unfolding is_high_there
   held_lies c p k = record {
     it = k.it;
-    below = ltb-true k.it (window_size (window_pair c).to)
-        (and_parts (nat_lt k.it (window_size (window_pair c).to)) (is_at_least s h (in_whole s.shape.width (window_pair c).to k.it)) k.is_own).0;
+    below = ltb-true k.it (window_size (windows_of c).to)
+        (and_parts (nat_lt k.it (window_size (windows_of c).to)) (is_at_least s h (in_whole s.shape.width (windows_of c).to k.it)) k.is_own).0;
     place = k.place;
   }
 
-  pub held_from : (c : Place) (p : ℕ) → IsInWindow s.shape.width (window_pair c).to p → IsTrue (is_at_least s h p) → HoldsThere c p
+  pub held_from : (c : Place) (p : ℕ) → IsInWindow s.shape.width (windows_of c).to p → IsTrue (is_at_least s h p) → HoldsThere c p
   unfolding is_high_there
   held_from c p k high = record {
     it = k.it;
     is_own =
-        and_from (nat_lt k.it (window_size (window_pair c).to)) (is_at_least s h (in_whole s.shape.width (window_pair c).to k.it))
-        (lt-ltb k.it (window_size (window_pair c).to) k.below) (subst (λ (x : ℕ). IsTrue (is_at_least s h x)) (sym k.place) high);
+        and_from (nat_lt k.it (window_size (windows_of c).to)) (is_at_least s h (in_whole s.shape.width (windows_of c).to k.it))
+        (lt-ltb k.it (window_size (windows_of c).to) k.below) (subst (λ (x : ℕ). IsTrue (is_at_least s h x)) (sym k.place) high);
     place = k.place;
   }
 
@@ -116,7 +116,7 @@ module _ (r : Raster) (connect : Connect) (choice : Choice) (sheet : Sheet) (l :
 
       step : (x y : ℕ) → HoldsThere c x → IsAdjacency s.values s.shape.width connect x y → IsTrue (is_at_least s h y) → HoldsThere c y
       step x y held e high =
-          let g : (b : ℕ) × (b < window_size (window_pair c).to) × (in_whole s.shape.width (window_pair c).to b ≡ y) =
+          let g : (b : ℕ) × (b < window_size (windows_of c).to) × (in_whole s.shape.width (windows_of c).to b ≡ y) =
           (l.copied i c got).beyond_sheet held.it y held.is_own (subst (λ (z : ℕ). IsAdjacency s.values s.shape.width connect z y) (sym held.place) e) in
           held_from c y (record { it = g.0; below = g.1; place = g.2 }) high
 
@@ -132,7 +132,7 @@ module _ (r : Raster) (connect : Connect) (choice : Choice) (sheet : Sheet) (l :
   held_all i c got k p hk source held inside = held_along i c got (top_of s connect k) p held (way_down k p hk source inside)
 
   pub held_top : (i : ℕ) (c : Place) → slice_get sheet.places.items i ≡ Some c → (k p : ℕ) → IsNode s connect k → IsTrue (is_source s connect choice k)
-      → IsInWindow s.shape.width (window_pair c).to p → is_in_node s connect k p ≡ true → HoldsThere c (top_of s connect k)
+      → IsInWindow s.shape.width (windows_of c).to p → is_in_node s connect k p ≡ true → HoldsThere c (top_of s connect k)
   held_top i c got k p hk source lies inside =
       held_along i c got p (top_of s connect k)
       (held_from c p lies (reaches_end s connect h (top_of s connect k) p (way_down k p hk source inside)))
@@ -162,19 +162,19 @@ module _ (r : Raster) (connect : Connect) (choice : Choice) (sheet : Sheet) (l :
       laws.come r s connect choice (part_of s h c) k l.one_each l.one_each_there (part_is g.place c g.got) g.node g.source g.held
 
   -- a pixel of it on the sheet is one of the plane's source, where the place's window has it
-  pub moved_pixel : (c : Place) (k : ℕ) → (g : IsPlacedSource c k) → (q : ℕ) → q < window_size (window_pair c).to
-      → is_in_node s connect k (in_whole s.shape.width (window_pair c).to q) ≡ is_in_node r connect (moved_source c k g).0 (in_whole r.shape.width (window_pair c).from q)
+  pub moved_pixel : (c : Place) (k : ℕ) → (g : IsPlacedSource c k) → (q : ℕ) → q < window_size (windows_of c).to
+      → is_in_node s connect k (in_whole s.shape.width (windows_of c).to q) ≡ is_in_node r connect (moved_source c k g).0 (in_whole r.shape.width (windows_of c).from q)
   moved_pixel c k g q few =
       let m : IsMovedSource r s connect choice (part_of s h c) (moved_source c k g).0 k = (moved_source c k g).1 in
-      let below : q < length (part_of s h c).plane.values = subst (λ (x : ℕ). q < x) (sym (seen-length (window_pair c).to s)) few in
+      let below : q < length (part_of s h c).plane.values = subst (λ (x : ℕ). q < x) (sym (seen-length (windows_of c).to s)) few in
       m.to.pixels q below ∙ sym (m.from.pixels q below)
 
   -- two that share a pixel of the plane are one source at one place
   pub one_source : (c e : Place) (k j : ℕ) → (g : IsPlacedSource c k) → (f : IsPlacedSource e j) → (a b : ℕ)
-      → a < window_size (window_pair c).to → b < window_size (window_pair e).to
-      → in_whole r.shape.width (window_pair c).from a ≡ in_whole r.shape.width (window_pair e).from b
-      → is_in_node s connect k (in_whole s.shape.width (window_pair c).to a) ≡ true
-      → is_in_node s connect j (in_whole s.shape.width (window_pair e).to b) ≡ true → (g.place ≡ f.place) × (c ≡ e) × (k ≡ j)
+      → a < window_size (windows_of c).to → b < window_size (windows_of e).to
+      → in_whole r.shape.width (windows_of c).from a ≡ in_whole r.shape.width (windows_of e).from b
+      → is_in_node s connect k (in_whole s.shape.width (windows_of c).to a) ≡ true
+      → is_in_node s connect j (in_whole s.shape.width (windows_of e).to b) ≡ true → (g.place ≡ f.place) × (c ≡ e) × (k ≡ j)
   one_source c e k j g f a b few_a few_b same in_k in_j = (places, same_place, nodes)
     where
       m : (n : ℕ) × IsMovedSource r s connect choice (part_of s h c) n k
@@ -183,15 +183,15 @@ module _ (r : Raster) (connect : Connect) (choice : Choice) (sheet : Sheet) (l :
       u : (n : ℕ) × IsMovedSource r s connect choice (part_of s h e) n j
       u = moved_source e j f
 
-      in_m : is_in_node r connect m.0 (in_whole r.shape.width (window_pair c).from a) ≡ true
+      in_m : is_in_node r connect m.0 (in_whole r.shape.width (windows_of c).from a) ≡ true
       in_m = sym (moved_pixel c k g a few_a) ∙ in_k
 
-      in_u : is_in_node r connect u.0 (in_whole r.shape.width (window_pair c).from a) ≡ true
+      in_u : is_in_node r connect u.0 (in_whole r.shape.width (windows_of c).from a) ≡ true
       in_u = ap (is_in_node r connect u.0) same ∙ sym (moved_pixel e j f b few_b) ∙ in_j
 
       one : m.0 ≡ u.0
       one =
-          same_from_share r m.0 u.0 (in_whole r.shape.width (window_pair c).from a) l.one_each m.1.node u.1.node m.1.source u.1.source in_m in_u
+          same_from_share r m.0 u.0 (in_whole r.shape.width (windows_of c).from a) l.one_each m.1.node u.1.node m.1.source u.1.source in_m in_u
 
       places : g.place ≡ f.place
       places =
@@ -203,11 +203,11 @@ module _ (r : Raster) (connect : Connect) (choice : Choice) (sheet : Sheet) (l :
 
       spot : a ≡ b
       spot =
-          in_whole-one r.shape (window_pair c).from a b (placed g.place c g.got).from
-          (same ∙ ap (λ (x : Place). in_whole r.shape.width (window_pair x).from b) (sym same_place))
+          in_whole-one r.shape (windows_of c).from a b (placed g.place c g.got).from
+          (same ∙ ap (λ (x : Place). in_whole r.shape.width (windows_of x).from b) (sym same_place))
 
       nodes : k ≡ j
       nodes =
-          same_from_share s k j (in_whole s.shape.width (window_pair c).to a) l.one_each_there g.node f.node g.source f.source in_k
-          (ap (λ (x : ℕ). is_in_node s connect j (in_whole s.shape.width (window_pair c).to x)) spot
-          ∙ ap (λ (x : Place). is_in_node s connect j (in_whole s.shape.width (window_pair x).to b)) same_place ∙ in_j)
+          same_from_share s k j (in_whole s.shape.width (windows_of c).to a) l.one_each_there g.node f.node g.source f.source in_k
+          (ap (λ (x : ℕ). is_in_node s connect j (in_whole s.shape.width (windows_of c).to x)) spot
+          ∙ ap (λ (x : Place). is_in_node s connect j (in_whole s.shape.width (windows_of x).to b)) same_place ∙ in_j)

@@ -23,14 +23,14 @@ use Rattle.source_pick.specs.Sheets.{Part, taken_back, window_size, put_on, from
 use Rattle.source_sheet.specs.declared.sheet.Place.{Place}
 use Rattle.source_sheet.specs.declared.sheet.Sheet.{Sheet}
 use Rattle.source_sheet.specs.declared.back.Taken.{Taken}
-use Rattle.source_sheet.specs.Laid.{window_pair, part_of, parts_of, IsLaidOut}
-use Rattle.source_sheet.specs.Backs.{SheetLaws, IsPlaced, ArePlaced, IsNear, IsNodeAt, AreOwners, IsInWindow, found_as, found_of, nodes_in, AreListed, IsFromPlace, AreTakenTo, ShowsNodes}
+use Rattle.source_sheet.specs.Laid.{windows_of, part_of, IsLaidOut}
+use Rattle.source_sheet.specs.Backs.{SheetLaws, LiesInBoth, LieInBoth, IsNear, IsNodeAt, AreOwners, IsInWindow, found_as, found_of, nodes_in, AreListed, IsFromPlace, AreTakenTo, ShowsNodes, parts_of}
 use Rattle.source_sheet.proofs.Sheeted.{is_sheet_of, placed, held_lies, held_all, IsPlacedSource, one_source}
 use Rattle.source_sheet.proofs.Taking.{get_mapped, got_mapped}
 
 -- ---- places
 
-near_from : (whole onto : Shape) (c : Place) → IsPlaced whole onto c → IsNear c
+near_from : (whole onto : Shape) (c : Place) → LiesInBoth whole onto c → IsNear c
 near_from whole onto c p =
     let rows : c.top + c.shape.height ≤ whole.height = p.from.rows in
     let columns : c.left + c.shape.width ≤ whole.width = p.from.columns in
@@ -94,13 +94,13 @@ none_found test k (x ∷ xs) h = let off : test x ≡ false = h 0 x refl in rw o
 
 -- ---- what a part has at a pixel of the plane
 
-module _ (r s : Raster) (connect : Connect) (h : ℤ) (c : Place) (p : IsPlaced r.shape s.shape c) where
-  stands : (q : ℕ) → IsAt r.shape.width c.shape.width c.left c.top (in_whole r.shape.width (window_pair c).from q) q
-  stands q = in_whole-at r.shape (window_pair c).from q p.from
+module _ (r s : Raster) (connect : Connect) (h : ℤ) (c : Place) (p : LiesInBoth r.shape s.shape c) where
+  stands : (q : ℕ) → IsAt r.shape.width c.shape.width c.left c.top (in_whole r.shape.width (windows_of c).from q) q
+  stands q = in_whole-at r.shape (windows_of c).from q p.from
 
   -- the pixel of the sheet for one of the plane
-  put_on_is : (x q : ℕ) → in_whole r.shape.width (window_pair c).from q ≡ x
-      → put_on r.shape.width s.shape.width (part_of s h c) x ≡ in_whole s.shape.width (window_pair c).to q
+  put_on_is : (x q : ℕ) → in_whole r.shape.width (windows_of c).from q ≡ x
+      → put_on r.shape.width s.shape.width (part_of s h c) x ≡ in_whole s.shape.width (windows_of c).to q
   unfolding put_on in_whole
   put_on_is x q e =
       let at : IsAt r.shape.width c.shape.width c.left c.top x q = subst (λ (y : ℕ). IsAt r.shape.width c.shape.width c.left c.top y q) e (stands q) in
@@ -111,7 +111,7 @@ module _ (r s : Raster) (connect : Connect) (h : ℤ) (c : Place) (p : IsPlaced 
       ap (λ (y : ℕ). y * s.shape.width + (x % r.shape.width + c.to_left - c.left)) row
       ∙ ap (λ (y : ℕ). (q / c.shape.width + c.to_top) * s.shape.width + y) column
 
-  in_box : (x q : ℕ) → q < window_size (window_pair c).from → in_whole r.shape.width (window_pair c).from q ≡ x
+  in_box : (x q : ℕ) → q < window_size (windows_of c).from → in_whole r.shape.width (windows_of c).from q ≡ x
       → IsTrue (is_in_box r.shape.width (from_box (part_of s h c)) x)
   unfolding is_in_box
   in_box x q l e =
@@ -124,7 +124,7 @@ module _ (r s : Raster) (connect : Connect) (h : ℤ) (c : Place) (p : IsPlaced 
       (and_from _ _ (le-leb c.left (x % r.shape.width) (omega (arith, b))) (lt-ltb (x % r.shape.width) (c.left + c.shape.width) (omega (arith, b, u))))
       (and_from _ _ (le-leb c.top (x / r.shape.width) (omega (arith, a))) (lt-ltb (x / r.shape.width) (c.top + c.shape.height) (omega (arith, a, v))))
 
-  from_in_box : (x : ℕ) → IsTrue (is_in_box r.shape.width (from_box (part_of s h c)) x) → IsInWindow r.shape.width (window_pair c).from x
+  from_in_box : (x : ℕ) → IsTrue (is_in_box r.shape.width (from_box (part_of s h c)) x) → IsInWindow r.shape.width (windows_of c).from x
   unfolding is_in_box in_whole
   from_in_box x k =
       let a : IsTrue (nat_le c.left (x % r.shape.width) && nat_lt (x % r.shape.width) (c.left + c.shape.width))
@@ -152,19 +152,19 @@ module _ (r s : Raster) (connect : Connect) (h : ℤ) (c : Place) (p : IsPlaced 
             ∙ div-add-mod' x r.shape.width;
       }
 
-  pub has_from : (n x q : ℕ) → q < window_size (window_pair c).from → in_whole r.shape.width (window_pair c).from q ≡ x
-      → is_in_node s connect n (in_whole s.shape.width (window_pair c).to q) ≡ true → has_on_sheet r s connect x (part_of s h c, n) ≡ true
+  pub has_from : (n x q : ℕ) → q < window_size (windows_of c).from → in_whole r.shape.width (windows_of c).from q ≡ x
+      → is_in_node s connect n (in_whole s.shape.width (windows_of c).to q) ≡ true → has_on_sheet r s connect x (part_of s h c, n) ≡ true
   unfolding has_on_sheet
   has_from n x q l e k =
       and_from (is_in_box r.shape.width (from_box (part_of s h c)) x) (is_in_node s connect n (put_on r.shape.width s.shape.width (part_of s h c) x))
       (in_box x q l e) (ap (is_in_node s connect n) (put_on_is x q e) ∙ k)
 
   pub has_parts : (n x : ℕ) → has_on_sheet r s connect x (part_of s h c, n) ≡ true
-      → (w : IsInWindow r.shape.width (window_pair c).from x) × (is_in_node s connect n (in_whole s.shape.width (window_pair c).to w.it) ≡ true)
+      → (w : IsInWindow r.shape.width (windows_of c).from x) × (is_in_node s connect n (in_whole s.shape.width (windows_of c).to w.it) ≡ true)
   unfolding has_on_sheet
   has_parts n x k =
       let a = and_parts (is_in_box r.shape.width (from_box (part_of s h c)) x) (is_in_node s connect n (put_on r.shape.width s.shape.width (part_of s h c) x)) k in
-      let w : IsInWindow r.shape.width (window_pair c).from x = from_in_box x a.0 in
+      let w : IsInWindow r.shape.width (windows_of c).from x = from_in_box x a.0 in
       (w, ap (is_in_node s connect n) (sym (put_on_is x w.it w.place)) ∙ a.1)
 
 -- ---- the map
@@ -202,11 +202,11 @@ module _ (r : Raster) (connect : Connect) (choice : Choice) (sheet : Sheet) (l :
       ap (λ (xs : List ℕ). slice_index xs x) (shows.exact s connect tree_is)
       ∙ get_or-map-range_with_len (source_number_at s connect nodes) 0 (length s.values) x x 0 few (omega arith)
 
-  within : (i q : ℕ) (c : Place) → slice_get sheet.places.items i ≡ Some c → q < window_size (window_pair c).to
-      → in_whole s.shape.width (window_pair c).to q < length s.values
+  within : (i q : ℕ) (c : Place) → slice_get sheet.places.items i ≡ Some c → q < window_size (windows_of c).to
+      → in_whole s.shape.width (windows_of c).to q < length s.values
   within i q c got few =
-      let a : in_whole s.shape.width (window_pair c).to q < s.shape.width * s.shape.height =
-      in_whole-below s.shape (window_pair c).to q (placed r connect choice sheet l laws i c got).to few in
+      let a : in_whole s.shape.width (windows_of c).to q < s.shape.width * s.shape.height =
+      in_whole-below s.shape (windows_of c).to q (placed r connect choice sheet l laws i c got).to few in
       let e : length s.values ≡ s.shape.width * s.shape.height = l.one_each_there in
       omega (arith, a, e)
 
@@ -227,12 +227,12 @@ module _ (r : Raster) (connect : Connect) (choice : Choice) (sheet : Sheet) (l :
           f : IsPlacedSource r connect choice sheet l laws d.place d.node
           f = source_at j d e.1
 
-          w : (w : IsInWindow r.shape.width (window_pair d.place).from p) × (is_in_node s connect d.node (in_whole s.shape.width (window_pair d.place).to w.it) ≡ true)
+          w : (w : IsInWindow r.shape.width (windows_of d.place).from p) × (is_in_node s connect d.node (in_whole s.shape.width (windows_of d.place).to w.it) ≡ true)
           w = has_parts r s connect h d.place (placed r connect choice sheet l laws f.place d.place f.got) d.node p
               (subst (λ (u : Part × ℕ). has_on_sheet r s connect p u ≡ true) (sym e.2) k)
 
           x : ℕ
-          x = in_whole s.shape.width (window_pair d.place).to w.0.it
+          x = in_whole s.shape.width (windows_of d.place).to w.0.it
 
           zero_here : slice_index numbers x ≡ 0
           zero_here =
@@ -283,7 +283,7 @@ module _ (r : Raster) (connect : Connect) (choice : Choice) (sheet : Sheet) (l :
       go (inr f) = by_number (numbered (λ n. is_in_node s connect n x) 1 nodes)
         where
           x : ℕ
-          x = in_whole s.shape.width (window_pair f.place).to f.pixel
+          x = in_whole s.shape.width (windows_of f.place).to f.pixel
 
           number_is : slice_index shown p ≡ unwrap_or (position_from (λ n. is_in_node s connect n x) 1 nodes) 0
           number_is = f.number ∙ number_there x (within f.it f.pixel f.place f.at f.below)
@@ -309,7 +309,7 @@ module _ (r : Raster) (connect : Connect) (choice : Choice) (sheet : Sheet) (l :
               inside : is_in_node s connect d.node x ≡ true
               inside = ap (λ (u : ℕ). is_in_node s connect u x) e.2 ∙ n.passes
 
-              lies : IsInWindow s.shape.width (window_pair d.place).to x
+              lies : IsInWindow s.shape.width (windows_of d.place).to x
               lies = held_lies r connect choice sheet l laws d.place x
                   (held_all r connect choice sheet l laws g.place d.place g.got d.node x g.node g.source g.held inside)
 
@@ -364,9 +364,9 @@ cells_are r connect choice sheet l laws nodes cells k =
 
 -- the places lie in their images
 pub all_placed : (r : Raster) (connect : Connect) (choice : Choice) (sheet : Sheet) → IsLaidOut r connect choice sheet → SheetLaws
-    → ArePlaced sheet.whole sheet.plane.shape sheet.places.items
+    → LieInBoth sheet.whole sheet.plane.shape sheet.places.items
 all_placed r connect choice sheet l laws =
-    subst (λ (x : Shape). ArePlaced x sheet.plane.shape sheet.places.items) (sym l.whole) (placed r connect choice sheet l laws)
+    subst (λ (x : Shape). LieInBoth x sheet.plane.shape sheet.places.items) (sym l.whole) (placed r connect choice sheet l laws)
 
 -- a node of the list, as its row is made
 pub node_at : (r : Raster) (connect : Connect) (choice : Choice) (sheet : Sheet) → IsLaidOut r connect choice sheet → SheetLaws → (tree : ComponentTree)
@@ -375,7 +375,7 @@ pub node_at : (r : Raster) (connect : Connect) (choice : Choice) (sheet : Sheet)
     → (i : ℕ) (e : Taken) → slice_get taken i ≡ Some e → IsNodeAt tree e
 node_at r connect choice sheet l laws tree taken d at i e g =
     let k : (j : ℕ) × (slice_get sheet.places.items j ≡ Some e.place) = at i e g in
-    let p : IsPlaced r.shape sheet.plane.shape e.place = placed r connect choice sheet l laws k.0 e.place k.1 in
+    let p : LiesInBoth r.shape sheet.plane.shape e.place = placed r connect choice sheet l laws k.0 e.place k.1 in
     record { node = d.nodes i e.node (get_mapped (λ (x : Taken). x.node) taken i e g); near = near_from r.shape sheet.plane.shape e.place p }
 
 pub few_taken : (tree : ComponentTree) (taken : List Taken) → AreDisjointNodes tree (nodes_in taken) → length taken ≤ 2147483647
@@ -386,10 +386,10 @@ few_taken tree taken d =
     omega (arith, a, b, e)
 
 -- as places and owners are read
-pub placed_read : (whole onto shape : Shape) (places places' : List Place) → onto ≡ shape → places' ≡ places → ArePlaced whole shape places
-    → ArePlaced whole onto places'
+pub placed_read : (whole onto shape : Shape) (places places' : List Place) → onto ≡ shape → places' ≡ places → LieInBoth whole shape places
+    → LieInBoth whole onto places'
 placed_read whole onto shape places places' e f k =
-    subst (λ (x : Shape). ArePlaced whole x places') (sym e) (subst (λ (x : List Place). ArePlaced whole shape x) (sym f) k)
+    subst (λ (x : Shape). LieInBoth whole x places') (sym e) (subst (λ (x : List Place). LieInBoth whole shape x) (sym f) k)
 
 pub owners_read : (width : ℕ) (places places' : List Place) (owners owners' : List ℕ) → places ≡ places' → owners' ≡ owners
     → AreOwners width places (length places) owners → AreOwners width places' (length places') owners'

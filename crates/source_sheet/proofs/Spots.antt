@@ -8,8 +8,8 @@ use Rattle.comp_tree.specs.Windows.{in_whole}
 use Rattle.comp_tree.proofs.Exported.{IsAt, in_whole-at, some_columns}
 use Rattle.source_pick.specs.Sheets.{taken_back}
 use Rattle.source_sheet.specs.declared.sheet.Place.{Place}
-use Rattle.source_sheet.specs.Laid.{window_pair, part_of}
-use Rattle.source_sheet.specs.Backs.{IsPlaced, IsInWindow}
+use Rattle.source_sheet.specs.Laid.{windows_of, part_of}
+use Rattle.source_sheet.specs.Backs.{LiesInBoth, IsInWindow}
 
 -- where a pixel of the place's window on the sheet stands, there and in the plane
 pub record IsBack (whole onto : Shape) (c : Place) (p : ℕ) : Type 0 where
@@ -23,11 +23,11 @@ pub record IsBack (whole onto : Shape) (c : Place) (p : ℕ) : Type 0 where
   pub few_rows : p / onto.width ≤ 65535
   pub few_columns : p % onto.width ≤ 65535
 
-pub stands_there : (whole onto : Shape) (c : Place) (p : ℕ) → IsPlaced whole onto c → (l : IsInWindow onto.width (window_pair c).to p)
+pub stands_there : (whole onto : Shape) (c : Place) (p : ℕ) → LiesInBoth whole onto c → (l : IsInWindow onto.width (windows_of c).to p)
     → IsAt onto.width c.shape.width c.to_left c.to_top p l.it
-stands_there whole onto c p i l = subst (λ (x : ℕ). IsAt onto.width c.shape.width c.to_left c.to_top x l.it) l.place (in_whole-at onto (window_pair c).to l.it i.to)
+stands_there whole onto c p i l = subst (λ (x : ℕ). IsAt onto.width c.shape.width c.to_left c.to_top x l.it) l.place (in_whole-at onto (windows_of c).to l.it i.to)
 
-pub back_from : (whole onto : Shape) (c : Place) (p : ℕ) → IsPlaced whole onto c → IsInWindow onto.width (window_pair c).to p → IsBack whole onto c p
+pub back_from : (whole onto : Shape) (c : Place) (p : ℕ) → LiesInBoth whole onto c → IsInWindow onto.width (windows_of c).to p → IsBack whole onto c p
 back_from whole onto c p i l =
     let at : IsAt onto.width c.shape.width c.to_left c.to_top p l.it = stands_there whole onto c p i l in
     let row : p / onto.width ≡ l.it / c.shape.width + c.to_top = at.row in
@@ -78,8 +78,8 @@ back_few whole onto c p b =
     omega (arith, l, f)
 
 -- it is where the window of the plane has this pixel
-pub back_is : (whole onto : Shape) (s : Raster) (h : ℤ) (c : Place) (p : ℕ) → IsPlaced whole onto c → (l : IsInWindow onto.width (window_pair c).to p)
-    → taken_back whole.width onto.width (part_of s h c) p ≡ in_whole whole.width (window_pair c).from l.it
+pub back_is : (whole onto : Shape) (s : Raster) (h : ℤ) (c : Place) (p : ℕ) → LiesInBoth whole onto c → (l : IsInWindow onto.width (windows_of c).to p)
+    → taken_back whole.width onto.width (part_of s h c) p ≡ in_whole whole.width (windows_of c).from l.it
 unfolding taken_back in_whole
 back_is whole onto s h c p i l =
     let at : IsAt onto.width c.shape.width c.to_left c.to_top p l.it = stands_there whole onto c p i l in

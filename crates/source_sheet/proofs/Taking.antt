@@ -34,8 +34,8 @@ use Rattle.source_pick.proofs.Exported.{first_inside, among_sources, source_from
 use Rattle.source_sheet.specs.declared.sheet.Place.{Place}
 use Rattle.source_sheet.specs.declared.sheet.Sheet.{Sheet}
 use Rattle.source_sheet.specs.declared.back.Taken.{Taken}
-use Rattle.source_sheet.specs.Laid.{window_pair, part_of, parts_of, IsLaidOut, AreApartThere}
-use Rattle.source_sheet.specs.Backs.{SheetLaws, IsInWindow, AreOwners, IsOwned, first_in, has_owner, IsTakenAs, AreTaken, found_as, found_of, nodes_in}
+use Rattle.source_sheet.specs.Laid.{windows_of, part_of, IsLaidOut, AreApartThere}
+use Rattle.source_sheet.specs.Backs.{SheetLaws, IsInWindow, AreOwners, IsOwned, first_in, has_owner, IsTakenAs, AreTaken, found_as, found_of, nodes_in, parts_of}
 use Rattle.source_sheet.proofs.Spots.{back_is}
 use Rattle.source_sheet.proofs.Sheeted.{IsMapped, mapped_from, among_got, placed, held_lies, held_all, held_top, IsPlacedSource, one_source}
 
@@ -170,7 +170,7 @@ any_got (x ∷ xs) q h = go (or_cases (eqb q x) (list_any (eqb q) xs) h) (any_go
     go (inr e) ih = later (ih e)
 
 -- there are few places: the first pixels of their windows on the sheet are different ones
-pub few_places : (s : Raster) (places : List Place) → ((i : ℕ) (c : Place) → slice_get places i ≡ Some c → IsInside s.shape (window_pair c).to)
+pub few_places : (s : Raster) (places : List Place) → ((i : ℕ) (c : Place) → slice_get places i ≡ Some c → IsInside s.shape (windows_of c).to)
     → AreApartThere s places → length places ≤ 2147483647
 few_places s places inside apart =
     let a : length firsts ≤ s.shape.width * s.shape.height =
@@ -180,12 +180,12 @@ few_places s places inside apart =
     omega (arith, a, b, f)
   where
     first : Place → ℕ
-    first c = in_whole s.shape.width (window_pair c).to 0
+    first c = in_whole s.shape.width (windows_of c).to 0
 
     firsts : List ℕ
     firsts = map first places
 
-    some : (c : Place) → 0 < window_size (window_pair c).to
+    some : (c : Place) → 0 < window_size (windows_of c).to
     some c =
         let l : 0 * c.shape.width + 0 < c.shape.width * c.shape.height =
         mul-add-lt 0 c.shape.width 0 c.shape.height c.shape.within_limits.some_rows c.shape.within_limits.some_columns in
@@ -194,7 +194,7 @@ few_places s places inside apart =
     below : (q : ℕ) → (i : ℕ) × (slice_get firsts i ≡ Some q) → q < s.shape.width * s.shape.height
     below q (i, g) =
         let e : (c : Place) × (slice_get places i ≡ Some c) × (first c ≡ q) = got_mapped first places i q g in
-        subst (λ (x : ℕ). x < s.shape.width * s.shape.height) e.2 (in_whole-below s.shape (window_pair e.0).to 0 (inside i e.0 e.1) (some e.0))
+        subst (λ (x : ℕ). x < s.shape.width * s.shape.height) e.2 (in_whole-below s.shape (windows_of e.0).to 0 (inside i e.0 e.1) (some e.0))
 
     different : (i j a b : ℕ) → i < j → slice_get firsts i ≡ Some a → slice_get firsts j ≡ Some b → a ≡ b → ⊥
     different i j a b less f g same =
@@ -280,7 +280,7 @@ module _ (r : Raster) (connect : Connect) (choice : Choice) (sheet : Sheet) (l :
       ∙ ap (taken_back r.shape.width s.shape.width (part_of s h e.place)) (first_there e m)
 
   first_place : (e : Taken) → (m : IsAmong e sorted)
-      → e.first ≡ in_whole r.shape.width (window_pair e.place).from ((entry e m).lies).it
+      → e.first ≡ in_whole r.shape.width (windows_of e.place).from ((entry e m).lies).it
   first_place e m =
       (entry e m).back s h
       ∙ ap (λ (x : ℕ). taken_back x s.shape.width (part_of s h e.place) (first_in sums e.node)) (ap (λ (x : Shape). x.width) l.whole)
@@ -345,7 +345,7 @@ module _ (r : Raster) (connect : Connect) (choice : Choice) (sheet : Sheet) (l :
       inside : is_in_node s connect k p ≡ true
       inside = subst (λ (x : ℕ). is_in_node s connect k x ≡ true) (sym (first-is s connect sums k sums_are hk)) (first_inside s connect k l.one_each_there hk)
 
-      lies : IsInWindow s.shape.width (window_pair c).to p
+      lies : IsInWindow s.shape.width (windows_of c).to p
       lies = held_lies r connect choice sheet l laws c p (held_all r connect choice sheet l laws i c got k p hk source held inside)
 
       there : has_owner owners sums k ≡ true
@@ -367,8 +367,8 @@ module _ (r : Raster) (connect : Connect) (choice : Choice) (sheet : Sheet) (l :
       a : IsEntry g.it
       a = entry g.it (among_got g.it sorted g.place g.got)
 
-      lies_too : IsInWindow s.shape.width (window_pair g.it.place).to p
-      lies_too = subst (λ (x : ℕ). IsInWindow s.shape.width (window_pair g.it.place).to (first_in sums x)) g.is a.lies
+      lies_too : IsInWindow s.shape.width (windows_of g.it.place).to p
+      lies_too = subst (λ (x : ℕ). IsInWindow s.shape.width (windows_of g.it.place).to (first_in sums x)) g.is a.lies
 
       places : a.it ≡ i
       places =

@@ -18,7 +18,7 @@ use Rattle.source_pick.specs.Sheets.{CopiesAreParts, SourcesAreLarge, SourcesCom
 use Rattle.source_sheet.specs.declared.sheet.Place.{Place}
 use Rattle.source_sheet.specs.declared.sheet.Sheet.{Sheet}
 use Rattle.source_sheet.specs.declared.back.Taken.{Taken}
-use Rattle.source_sheet.specs.Laid.{window_pair, part_of, parts_of}
+use Rattle.source_sheet.specs.Laid.{windows_of, part_of}
 
 -- the laws that this rests on
 pub record SheetLaws : Type 0 where
@@ -31,13 +31,17 @@ pub record SheetLaws : Type 0 where
 
 -- ---- places
 
--- both windows of a place lie in their images
-pub record IsPlaced (whole onto : Shape) (c : Place) : Type 0 where
-  pub from : IsInside whole (window_pair c).from
-  pub to : IsInside onto (window_pair c).to
+-- the parts that the places show
+abbrev pub parts_of : Raster → ℤ → List Place → List Part
+parts_of s h places = map (part_of s h) places
 
-abbrev pub ArePlaced : Shape → Shape → List Place → Type 0
-ArePlaced whole onto places = (i : ℕ) (c : Place) → slice_get places i ≡ Some c → IsPlaced whole onto c
+-- both windows of a place lie in their images
+pub record LiesInBoth (whole onto : Shape) (c : Place) : Type 0 where
+  pub from : IsInside whole (windows_of c).from
+  pub to : IsInside onto (windows_of c).to
+
+abbrev pub LieInBoth : Shape → Shape → List Place → Type 0
+LieInBoth whole onto places = (i : ℕ) (c : Place) → slice_get places i ≡ Some c → LiesInBoth whole onto c
 
 -- pixel p of an image with so many columns lies in the window
 pub record IsInWindow (width : ℕ) (w : Window) (p : ℕ) : Type 0 where
@@ -57,13 +61,13 @@ pub record IsOwned (width : ℕ) (places : List Place) (owners : List ℕ) (p : 
   pub it : ℕ
   pub place : Place
   pub at : slice_get places it ≡ Some place
-  pub lies : IsInWindow width (window_pair place).to p
+  pub lies : IsInWindow width (windows_of place).to p
   pub number : slice_index owners p ≡ it + 1
 
 -- so have all pixels of the windows of the first count places, and all others have 0
 pub record AreOwners (width : ℕ) (places : List Place) (count : ℕ) (owners : List ℕ) : Type 0 where
   pub sound : (p : ℕ) → (slice_index owners p ≡ 0) ⊎ IsOwned width places owners p
-  pub complete : (i p : ℕ) (c : Place) → i < count → slice_get places i ≡ Some c → IsInWindow width (window_pair c).to p → slice_index owners p ≡ 0 → ⊥
+  pub complete : (i p : ℕ) (c : Place) → i < count → slice_get places i ≡ Some c → IsInWindow width (windows_of c).to p → slice_index owners p ≡ 0 → ⊥
 
 -- ---- sources
 
@@ -80,7 +84,7 @@ pub record IsTakenAs (width columns : ℕ) (places : List Place) (owners : List 
   pub node : e.node ≡ n
   pub it : ℕ
   pub at : slice_get places it ≡ Some e.place
-  pub lies : IsInWindow columns (window_pair e.place).to (first_in sums n)
+  pub lies : IsInWindow columns (windows_of e.place).to (first_in sums n)
   pub number : slice_index owners (first_in sums n) ≡ it + 1
   pub back : (s : Raster) (h : ℤ) → e.first ≡ taken_back width columns (part_of s h e.place) (first_in sums n)
 
@@ -107,18 +111,18 @@ nodes_in taken = map (λ (e : Taken). e.node) taken
 -- ---- rows
 
 -- a number of columns or rows, or a place among them
-pub record IsSide (z : ℤ) : Type 0 where
+pub record IsCoordinate (z : ℤ) : Type 0 where
   pub low : pos 0 ≤ℤ z
   pub high : z ≤ℤ pos 65535
 
 -- a row whose pixels lie in a small plane
 pub record IsSmallRow (row : CatRow) : Type 0 where
-  pub xmin : IsSide row.xmin
-  pub xmax : IsSide row.xmax
-  pub ymin : IsSide row.ymin
-  pub ymax : IsSide row.ymax
-  pub xfirst : IsSide row.xfirst
-  pub yfirst : IsSide row.yfirst
+  pub xmin : IsCoordinate row.xmin
+  pub xmax : IsCoordinate row.xmax
+  pub ymin : IsCoordinate row.ymin
+  pub ymax : IsCoordinate row.ymax
+  pub xfirst : IsCoordinate row.xfirst
+  pub yfirst : IsCoordinate row.yfirst
 
 -- a place whose windows begin within the limits of images
 pub record IsNear (c : Place) : Type 0 where
@@ -148,24 +152,24 @@ pub record IsFromPlace (width columns : ℕ) (places : List Place) (numbers map 
   pub place : Place
   pub at : slice_get places it ≡ Some place
   pub pixel : ℕ
-  pub below : pixel < window_size (window_pair place).from
-  pub there : in_whole width (window_pair place).from pixel ≡ p
-  pub number : slice_index map p ≡ slice_index numbers (in_whole columns (window_pair place).to pixel)
+  pub below : pixel < window_size (windows_of place).from
+  pub there : in_whole width (windows_of place).from pixel ≡ p
+  pub number : slice_index map p ≡ slice_index numbers (in_whole columns (windows_of place).to pixel)
 
 -- of one place, the first count pixels were taken to the plane: a number that isn't 0 is there, or another one that isn't
 pub record ArePutIn (width columns : ℕ) (c : Place) (numbers : List ℕ) (count : ℕ) (before after : List ℕ) : Type 0 where
   pub sound : (p : ℕ) → (slice_index after p ≡ slice_index before p)
-      ⊎ ((q : ℕ) × (q < window_size (window_pair c).from) × (in_whole width (window_pair c).from q ≡ p)
-      × (slice_index after p ≡ slice_index numbers (in_whole columns (window_pair c).to q)))
-  pub complete : (q : ℕ) → q < count → slice_index after (in_whole width (window_pair c).from q) ≡ 0
-      → slice_index numbers (in_whole columns (window_pair c).to q) ≡ 0
+      ⊎ ((q : ℕ) × (q < window_size (windows_of c).from) × (in_whole width (windows_of c).from q ≡ p)
+      × (slice_index after p ≡ slice_index numbers (in_whole columns (windows_of c).to q)))
+  pub complete : (q : ℕ) → q < count → slice_index after (in_whole width (windows_of c).from q) ≡ 0
+      → slice_index numbers (in_whole columns (windows_of c).to q) ≡ 0
   pub kept : (p : ℕ) → slice_index after p ≡ 0 → slice_index before p ≡ 0
 
 -- those of the first count places
 pub record AreTakenTo (width columns : ℕ) (places : List Place) (numbers : List ℕ) (count : ℕ) (map : List ℕ) : Type 0 where
   pub sound : (p : ℕ) → (slice_index map p ≡ 0) ⊎ IsFromPlace width columns places numbers map p
-  pub complete : (i q : ℕ) (c : Place) → i < count → slice_get places i ≡ Some c → q < window_size (window_pair c).from
-      → slice_index map (in_whole width (window_pair c).from q) ≡ 0 → slice_index numbers (in_whole columns (window_pair c).to q) ≡ 0
+  pub complete : (i q : ℕ) (c : Place) → i < count → slice_get places i ≡ Some c → q < window_size (windows_of c).from
+      → slice_index map (in_whole width (windows_of c).from q) ≡ 0 → slice_index numbers (in_whole columns (windows_of c).to q) ≡ 0
 
 -- the map shows the numbers that the sheet's pixels have by these nodes
 pub record ShowsNodes (tree : ComponentTree) (sheet : Sheet) (nodes map : List ℕ) : Type 0 where

@@ -1,19 +1,16 @@
--- Model: what the checks of a sheet find, pixel by pixel.
+-- Bookkeeping: what the checks of a sheet find, pixel by pixel.
 use Rattle.std.specs.Prelude.{◌≡◌, ℕ, ◌+◌, ◌*◌, ◌/◌, ◌%◌, ◌<◌, ◌≤◌, Bool, false, IsTrue, ℤ, List, length, Contains, Some, slice_get, slice_index_or}
 use Rattle.comp_tree.specs.declared.shape.Connect.{Connect}
 use Rattle.comp_tree.specs.declared.shape.Shape.{Shape}
 use Rattle.comp_tree.specs.Raster.{Raster, IsPlane, value_at}
+use Rattle.comp_tree.specs.Marks.{is_marked}
 use Rattle.comp_tree.specs.Grid.{are_neighbours, IsAdjacency}
 use Rattle.comp_tree.specs.Windows.{Window, IsInside, in_whole}
 use Rattle.source_pick.specs.Sheets.{WindowPair, IsCopied, window_size, is_high_there}
 use Rattle.source_sheet.specs.declared.sheet.Place.{Place}
-use Rattle.source_sheet.specs.Laid.{window_pair, AreApartThere, AreApart, HoldsPixel}
+use Rattle.source_sheet.specs.Laid.{windows_of, AreApartThere, AreHeldOnce, HoldsPixel}
 
 -- ---- copies
-
--- the window of this shape with this corner
-abbrev pub window_at : ℕ → ℕ → Shape → Window
-window_at left top shape = record { left = left; top = top; shape = shape }
 
 -- pixel p of an image with so many columns lies in the window
 abbrev pub IsSeen : ℕ → Window → ℕ → Type 0
@@ -42,25 +39,21 @@ pub record IsPixelCopied (r s : Raster) (connect : Connect) (c : WindowPair) (q 
   pub beyond_sheet : StaysWithin s connect c.to (in_whole s.shape.width c.to q)
 
 -- so is each pixel of at least h from the first one up to the end
-pub record AreCopied (r s : Raster) (connect : Connect) (h : ℤ) (c : WindowPair) (first end : ℕ) : Type 0 where
+pub record ArePixelsCopied (r s : Raster) (connect : Connect) (h : ℤ) (c : WindowPair) (first end : ℕ) : Type 0 where
   pub each : (q : ℕ) → first ≤ q → q < end → IsTrue (is_high_there s h c.to q) → IsPixelCopied r s connect c q
 
 -- ---- marks
 
 -- each place lies inside the sheet
 abbrev pub LieInside : Shape → List Place → Type 0
-LieInside whole places = (i : ℕ) (c : Place) → slice_get places i ≡ Some c → IsInside whole (window_pair c).to
-
--- the pixel has a mark
-abbrev pub has_mark : List Bool → ℕ → Bool
-has_mark marks p = slice_index_or marks p false
+LieInside whole places = (i : ℕ) (c : Place) → slice_get places i ≡ Some c → IsInside whole (windows_of c).to
 
 -- no pixel that lies there had a mark, each has one now, and other marks are kept
 pub record AreNewlyMarked (old new : List Bool) (LiesThere : ℕ → Type 0) : Type 0 where
   pub same_length : length new ≡ length old
-  pub kept : (p : ℕ) → IsTrue (has_mark old p) → IsTrue (has_mark new p)
-  pub free : (p : ℕ) → LiesThere p → has_mark old p ≡ false
-  pub all : (p : ℕ) → LiesThere p → IsTrue (has_mark new p)
+  pub kept : (p : ℕ) → IsTrue (is_marked old p) → IsTrue (is_marked new p)
+  pub free : (p : ℕ) → LiesThere p → is_marked old p ≡ false
+  pub all : (p : ℕ) → LiesThere p → IsTrue (is_marked new p)
 
 -- p is one of the pixels from the first one up to the end
 pub record IsBetween (first end p : ℕ) : Type 0 where
@@ -76,15 +69,15 @@ pub record IsInRows (width : ℕ) (w : Window) (rows p : ℕ) : Type 0 where
 
 -- each pixel of the first places has a mark, and none lies in two of them
 pub record AreAllApart (width : ℕ) (places : List Place) (count : ℕ) (marks : List Bool) : Type 0 where
-  pub marked : (i p : ℕ) (c : Place) → i < count → slice_get places i ≡ Some c → IsInRows width (window_pair c).to c.shape.height p → IsTrue (has_mark marks p)
+  pub marked : (i p : ℕ) (c : Place) → i < count → slice_get places i ≡ Some c → IsInRows width (windows_of c).to c.shape.height p → IsTrue (is_marked marks p)
   pub apart : (i j p : ℕ) (c e : Place) → i < count → j < count → slice_get places i ≡ Some c → slice_get places j ≡ Some e
-      → IsInRows width (window_pair c).to c.shape.height p → IsInRows width (window_pair e).to e.shape.height p → i ≡ j
+      → IsInRows width (windows_of c).to c.shape.height p → IsInRows width (windows_of e).to e.shape.height p → i ≡ j
 
 -- ---- a sheet
 
 -- each of the first places is a copy
 abbrev pub AreAllCopied : Raster → Raster → Connect → ℤ → List Place → ℕ → Type 0
-AreAllCopied r s connect h places count = (i : ℕ) (c : Place) → i < count → slice_get places i ≡ Some c → IsCopied r s connect h (window_pair c)
+AreAllCopied r s connect h places count = (i : ℕ) (c : Place) → i < count → slice_get places i ≡ Some c → IsCopied r s connect h (windows_of c)
 
 -- the places are copies, none overlaps another one, and they hold each listed pixel
 pub record AreGoodPlaces (r s : Raster) (connect : Connect) (h : ℤ) (places : List Place) (listed : List ℕ) : Type 0 where
@@ -92,5 +85,5 @@ pub record AreGoodPlaces (r s : Raster) (connect : Connect) (h : ℤ) (places : 
   pub one_each_there : IsPlane s
   pub copied : AreAllCopied r s connect h places (length places)
   pub apart_there : AreApartThere s places
-  pub apart : AreApart r s h places
+  pub apart : AreHeldOnce r s h places
   pub held : (p : ℕ) → Contains listed p → (i : ℕ) × ((c : Place) × (slice_get places i ≡ Some c) × HoldsPixel r s h c p)

@@ -4,7 +4,13 @@ use Rattle.comp_tree.specs.declared.shape.Connect.{Connect}
 use Rattle.comp_tree.specs.Raster.{Raster, is_at_least}
 use Rattle.comp_tree.specs.Grid.{IsAdjacency}
 use Rattle.comp_tree.specs.Marks.{is_marked}
+use Rattle.source_pick.specs.declared.choice.Choice.{Choice}
 use Rattle.source_sheet.specs.Laid.{HasFewAround}
+
+-- each pixel of at least the threshold is in the list, or has too few around it
+abbrev pub HoldsGroups : Raster → Connect → Choice → List ℕ → Type 0
+HoldsGroups r connect choice ps = (p : ℕ) → IsTrue (is_at_least r choice.threshold p)
+    → Contains ps p ⊎ HasFewAround r connect choice.threshold choice.min_area p
 
 -- each pixel of at least h beside a is marked
 abbrev pub IsSurrounded : Raster → Connect → ℤ → List Bool → ℕ → Type 0

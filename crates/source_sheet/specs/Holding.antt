@@ -5,12 +5,12 @@ use Rattle.comp_tree.specs.Marks.{is_marked}
 use Rattle.comp_tree.specs.Windows.{IsInside, in_whole}
 use Rattle.source_pick.specs.Sheets.{is_high_there}
 use Rattle.source_sheet.specs.declared.sheet.Place.{Place}
-use Rattle.source_sheet.specs.Laid.{window_pair, HoldsPixel}
+use Rattle.source_sheet.specs.Laid.{windows_of, HoldsPixel}
 
 -- a place lies in the plane and on the sheet
 pub record IsPlaceInside (r s : Raster) (c : Place) : Type 0 where
-  pub from : IsInside r.shape (window_pair c).from
-  pub to : IsInside s.shape (window_pair c).to
+  pub from : IsInside r.shape (windows_of c).from
+  pub to : IsInside s.shape (windows_of c).to
 
 -- each of the places does
 abbrev pub AreInside : Raster → Raster → List Place → Type 0
@@ -27,8 +27,8 @@ pub record HasHeld (s : Raster) (h : ℤ) (there p : ℕ) (old new : List Bool) 
 -- the first pixels of a place's window were looked at: those that the place holds had no mark, and got one
 pub record HasHeldFirst (r s : Raster) (h : ℤ) (c : Place) (count : ℕ) (old new : List Bool) : Type 0 where
   pub one_each : length new ≡ length old
-  pub free : (q : ℕ) → q < count → IsTrue (is_high_there s h (window_pair c).to q) → is_marked old (in_whole r.shape.width (window_pair c).from q) ≡ false
-  pub set : (q : ℕ) → q < count → IsTrue (is_high_there s h (window_pair c).to q) → IsTrue (is_marked new (in_whole r.shape.width (window_pair c).from q))
+  pub free : (q : ℕ) → q < count → IsTrue (is_high_there s h (windows_of c).to q) → is_marked old (in_whole r.shape.width (windows_of c).from q) ≡ false
+  pub set : (q : ℕ) → q < count → IsTrue (is_high_there s h (windows_of c).to q) → IsTrue (is_marked new (in_whole r.shape.width (windows_of c).from q))
   pub kept : (a : ℕ) → IsTrue (is_marked old a) → IsTrue (is_marked new a)
   pub listed : (a : ℕ) → IsTrue (is_marked new a) → IsTrue (is_marked old a) ⊎ HoldsPixel r s h c a
 

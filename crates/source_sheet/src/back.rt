@@ -13,23 +13,8 @@ ghost use Rattle.comp_tree.specs.Raster.{Raster};
 ghost use Rattle.comp_tree.specs.Windows.{IsInside, in_whole};
 ghost use Rattle.source_pick.specs.Sheets.{taken_back, row_back, sheet_rows, AreTakenBack};
 ghost use Rattle.source_sheet.specs.declared.back.Taken.{Taken as Source};
-ghost use Rattle.source_sheet.specs.Laid.{window_pair, part_of, parts_of, IsLaidOut, IsTreeOfSheet};
-ghost use Rattle.source_sheet.specs.Backs.{
-  SheetLaws,
-  IsPlaced,
-  ArePlaced,
-  IsInWindow,
-  AreMarkedIn,
-  AreOwners,
-  first_in,
-  IsTakenIfOwned,
-  AreTaken,
-  found_of,
-  nodes_in,
-  IsNear,
-  IsNodeAt,
-  AreListed,
-};
+ghost use Rattle.source_sheet.specs.Laid.{windows_of, part_of, IsLaidOut, IsTreeOfSheet};
+ghost use Rattle.source_sheet.specs.Backs.{SheetLaws, LiesInBoth, LieInBoth, IsInWindow, AreMarkedIn, AreOwners, first_in, IsTakenIfOwned, AreTaken, found_of, nodes_in, IsNear, IsNodeAt, AreListed, parts_of};
 
 use crate::map::map_of_sheet;
 use crate::sheet::{Place, Sheet};
@@ -62,8 +47,8 @@ pub(crate) fn stands_at(whole: Shape, left: u32, top: u32, shape: Shape, q: u32)
 
 // A pixel that the place's window on the sheet has, as a pixel of the plane.
 fn back(whole: Shape, onto: Shape, place: &Place, p: u32) -> u32
-    requires placed { IsPlaced whole onto place.now }
-    requires lies { IsInWindow onto.width (window_pair place.now).to p }
+    requires placed { LiesInBoth whole onto place.now }
+    requires lies { IsInWindow onto.width (windows_of place.now).to p }
     ensures { (s : Raster) (h : ℤ) → result ≡ taken_back whole.width onto.width (part_of s h place.now) p }
 {
     let row = p / onto.width + place.top - place.to_top;
@@ -78,7 +63,7 @@ fn owners(
     onto: Shape,
     places: &[Place],
 ) -> Result<Vec<u32>, OutOfMemory>
-    requires placed { ArePlaced whole onto places.now }
+    requires placed { LieInBoth whole onto places.now }
     requires few { length places.now ≤ 2147483647 }
     ensures owners { IfOk result (λ owners. AreOwners onto.width places.now (length places.now) owners.items) }
     ensures one_each { IfOk result (λ owners. length owners.items ≡ onto.width * onto.height) }
@@ -89,7 +74,7 @@ fn owners(
 }
 
 fn mark_places(whole: Shape, onto: Shape, places: &[Place], owners: &mut [u32])
-    requires placed { ArePlaced whole onto places.now }
+    requires placed { LieInBoth whole onto places.now }
     requires few { length places.now ≤ 2147483647 }
     requires blank { (p : ℕ) → slice_index owners.old p ≡ 0 }
     requires one_each { length owners.old ≡ onto.width * onto.height }
@@ -102,9 +87,9 @@ fn mark_places(whole: Shape, onto: Shape, places: &[Place], owners: &mut [u32])
 
 // Marks the pixels of the place's window on the sheet.
 fn mark_window(onto: Shape, place: &Place, number: u32, owners: &mut [u32])
-    requires inside { IsInside onto (window_pair place.now).to }
+    requires inside { IsInside onto (windows_of place.now).to }
     requires one_each { length owners.old ≡ onto.width * onto.height }
-    ensures { AreMarkedIn onto.width (window_pair place.now).to number (place.now.shape.width * place.now.shape.height) owners.old owners.new }
+    ensures { AreMarkedIn onto.width (windows_of place.now).to number (place.now.shape.width * place.now.shape.height) owners.old owners.new }
 {
     for q in 0..place.shape.pixels() {
         let p = stands_at(onto, place.to_left, place.to_top, place.shape, q);
@@ -129,7 +114,7 @@ fn taken_at(
     sums: &[Sums],
     n: u32,
 ) -> Option<Taken>
-    requires placed { ArePlaced whole onto places.now }
+    requires placed { LieInBoth whole onto places.now }
     requires owners { AreOwners onto.width places.now (length places.now) owners.now }
     requires node { n < length sums.now }
     requires first { first_in sums.now n < length owners.now }
@@ -159,7 +144,7 @@ fn placed_sources(
     sums: &[Sums],
     picked: &[u32],
 ) -> Result<Vec<Taken>, OutOfMemory>
-    requires placed { ArePlaced whole onto places.now }
+    requires placed { LieInBoth whole onto places.now }
     requires owners { AreOwners onto.width places.now (length places.now) owners.now }
     requires nodes { (i n : ℕ) → slice_get picked.now i ≡ Some n → (n < length sums.now) × (first_in sums.now n < length owners.now) }
     ensures { IfOk result (λ taken. AreTaken whole.width onto.width places.now owners.now sums.now picked.now (length picked.now) taken.items) }

@@ -5,23 +5,8 @@ ghost use Rattle.comp_tree.specs.Raster.{value_at, is_defined};
 ghost use Rattle.comp_tree.specs.Grid.{are_neighbours};
 ghost use Rattle.comp_tree.specs.Windows.{IsInside, in_whole};
 ghost use Rattle.source_pick.specs.Sheets.{IsCopied, window_size, is_high_there};
-ghost use Rattle.source_sheet.specs.Laid.{window_pair, AreApartThere};
-ghost use Rattle.source_sheet.specs.Checks.{
-  window_at,
-  IsSeen,
-  StaysWithin,
-  IsSameAt,
-  IsPixelCopied,
-  AreCopied,
-  LieInside,
-  AreNewlyMarked,
-  AreAllApart,
-  AreAllCopied,
-  AreGoodPlaces,
-  IsBetween,
-  IsInRows,
-  LiesInside,
-};
+ghost use Rattle.source_sheet.specs.Laid.{windows_of, AreApartThere, window_at};
+ghost use Rattle.source_sheet.specs.Checks.{IsSeen, StaysWithin, IsSameAt, IsPixelCopied, ArePixelsCopied, LieInside, AreNewlyMarked, AreAllApart, AreAllCopied, AreGoodPlaces, IsBetween, IsInRows, LiesInside};
 
 use crate::holding::hold_all;
 use crate::sheet::Place;
@@ -80,7 +65,7 @@ fn are_copied(
 // Whether what a place shows of the sheet is a copy: each pixel of at least the threshold has its value and its
 // surroundings in the plane.
 fn is_copied(plane: &Plane, sheet: &Plane, connect: Connect, choice: &Choice, place: &Place) -> bool
-    ensures { IsTrue result → IsCopied plane.now sheet.now connect choice.now.threshold (window_pair place.now) }
+    ensures { IsTrue result → IsCopied plane.now sheet.now connect choice.now.threshold (windows_of place.now) }
 {
     lies_inside(plane.shape(), sheet.shape(), place)
         && are_rows_copied(plane, sheet, connect, choice, place)
@@ -88,7 +73,7 @@ fn is_copied(plane: &Plane, sheet: &Plane, connect: Connect, choice: &Choice, pl
 
 // Whether a place lies in an image and a sheet of these shapes.
 fn lies_inside(whole: Shape, sheet: Shape, place: &Place) -> bool
-    ensures { IsTrue result → IsInside whole (window_pair place.now).from × IsInside sheet (window_pair place.now).to }
+    ensures { IsTrue result → IsInside whole (windows_of place.now).from × IsInside sheet (windows_of place.now).to }
 {
     is_inside(whole, place.left, place.top, place.shape)
         && is_inside(sheet, place.to_left, place.to_top, place.shape)
@@ -112,9 +97,9 @@ fn are_rows_copied(
     choice: &Choice,
     place: &Place,
 ) -> bool
-    requires inside { IsInside plane.now.shape (window_pair place.now).from }
-    requires inside_sheet { IsInside sheet.now.shape (window_pair place.now).to }
-    ensures { IsTrue result → AreCopied plane.now sheet.now connect choice.now.threshold (window_pair place.now) 0
+    requires inside { IsInside plane.now.shape (windows_of place.now).from }
+    requires inside_sheet { IsInside sheet.now.shape (windows_of place.now).to }
+    ensures { IsTrue result → ArePixelsCopied plane.now sheet.now connect choice.now.threshold (windows_of place.now) 0
         (place.now.shape.height * place.now.shape.width) }
 {
     for row in 0..place.shape.height {
@@ -134,10 +119,10 @@ fn is_row_copied(
     place: &Place,
     row: u32,
 ) -> bool
-    requires inside { IsInside plane.now.shape (window_pair place.now).from }
-    requires inside_sheet { IsInside sheet.now.shape (window_pair place.now).to }
+    requires inside { IsInside plane.now.shape (windows_of place.now).from }
+    requires inside_sheet { IsInside sheet.now.shape (windows_of place.now).to }
     requires row { row < place.now.shape.height }
-    ensures { IsTrue result → AreCopied plane.now sheet.now connect choice.now.threshold (window_pair place.now)
+    ensures { IsTrue result → ArePixelsCopied plane.now sheet.now connect choice.now.threshold (windows_of place.now)
         (row * place.now.shape.width) ((row + 1) * place.now.shape.width) }
 {
     for column in 0..place.shape.width {
@@ -159,12 +144,12 @@ fn is_copied_at(
     column: u32,
     row: u32,
 ) -> bool
-    requires inside { IsInside plane.now.shape (window_pair place.now).from }
-    requires inside_sheet { IsInside sheet.now.shape (window_pair place.now).to }
+    requires inside { IsInside plane.now.shape (windows_of place.now).from }
+    requires inside_sheet { IsInside sheet.now.shape (windows_of place.now).to }
     requires column { column < place.now.shape.width }
     requires row { row < place.now.shape.height }
-    ensures { IsTrue result → IsTrue (is_high_there sheet.now choice.now.threshold (window_pair place.now).to (row * place.now.shape.width + column))
-        → IsPixelCopied plane.now sheet.now connect (window_pair place.now) (row * place.now.shape.width + column) }
+    ensures { IsTrue result → IsTrue (is_high_there sheet.now choice.now.threshold (windows_of place.now).to (row * place.now.shape.width + column))
+        → IsPixelCopied plane.now sheet.now connect (windows_of place.now) (row * place.now.shape.width + column) }
 {
     let there = pixel_at(sheet.shape(), column + place.to_left, row + place.to_top);
     if !sheet.is_at_least(choice.threshold, there) {
@@ -181,10 +166,10 @@ fn is_copied_at(
 
 // Whether pixel q of the place is a copy, with what is around it.
 fn is_pixel_copied(plane: &Plane, sheet: &Plane, connect: Connect, place: &Place, q: u32) -> bool
-    requires inside { IsInside plane.now.shape (window_pair place.now).from }
-    requires inside_sheet { IsInside sheet.now.shape (window_pair place.now).to }
-    requires pixel { q < window_size (window_pair place.now).to }
-    ensures { IsTrue result → IsPixelCopied plane.now sheet.now connect (window_pair place.now) q }
+    requires inside { IsInside plane.now.shape (windows_of place.now).from }
+    requires inside_sheet { IsInside sheet.now.shape (windows_of place.now).to }
+    requires pixel { q < window_size (windows_of place.now).to }
+    ensures { IsTrue result → IsPixelCopied plane.now sheet.now connect (windows_of place.now) q }
 {
     if !is_same(plane, sheet, place, q) {
         return false;
@@ -198,11 +183,11 @@ fn is_pixel_copied(plane: &Plane, sheet: &Plane, connect: Connect, place: &Place
 
 // Whether each neighbour of q within the window is the same in both planes.
 fn are_same_beside(plane: &Plane, sheet: &Plane, connect: Connect, place: &Place, q: u32) -> bool
-    requires inside { IsInside plane.now.shape (window_pair place.now).from }
-    requires inside_sheet { IsInside sheet.now.shape (window_pair place.now).to }
-    requires pixel { q < window_size (window_pair place.now).to }
-    ensures { IsTrue result → (b : ℕ) → b < window_size (window_pair place.now).to
-        → IsTrue (are_neighbours connect place.now.shape.width q b) → IsSameAt plane.now sheet.now (window_pair place.now) b }
+    requires inside { IsInside plane.now.shape (windows_of place.now).from }
+    requires inside_sheet { IsInside sheet.now.shape (windows_of place.now).to }
+    requires pixel { q < window_size (windows_of place.now).to }
+    ensures { IsTrue result → (b : ℕ) → b < window_size (windows_of place.now).to
+        → IsTrue (are_neighbours connect place.now.shape.width q b) → IsSameAt plane.now sheet.now (windows_of place.now) b }
 {
     let near = neighbours(place.shape, connect, q);
     are_all_same(plane, sheet, place, &near)
@@ -210,10 +195,10 @@ fn are_same_beside(plane: &Plane, sheet: &Plane, connect: Connect, place: &Place
 
 // Whether each of these pixels of the window is the same in both planes.
 fn are_all_same(plane: &Plane, sheet: &Plane, place: &Place, near: &[u32]) -> bool
-    requires inside { IsInside plane.now.shape (window_pair place.now).from }
-    requires inside_sheet { IsInside sheet.now.shape (window_pair place.now).to }
-    requires pixels { All (λ b. b < window_size (window_pair place.now).to) near.now }
-    ensures { IsTrue result → All (IsSameAt plane.now sheet.now (window_pair place.now)) near.now }
+    requires inside { IsInside plane.now.shape (windows_of place.now).from }
+    requires inside_sheet { IsInside sheet.now.shape (windows_of place.now).to }
+    requires pixels { All (λ b. b < window_size (windows_of place.now).to) near.now }
+    ensures { IsTrue result → All (IsSameAt plane.now sheet.now (windows_of place.now)) near.now }
 {
     for b in near {
         if !is_same(plane, sheet, place, *b) {
@@ -225,10 +210,10 @@ fn are_all_same(plane: &Plane, sheet: &Plane, place: &Place, near: &[u32]) -> bo
 
 // Whether pixel q of the window is the same in both planes.
 fn is_same(plane: &Plane, sheet: &Plane, place: &Place, q: u32) -> bool
-    requires inside { IsInside plane.now.shape (window_pair place.now).from }
-    requires inside_sheet { IsInside sheet.now.shape (window_pair place.now).to }
-    requires pixel { q < window_size (window_pair place.now).to }
-    ensures { IsTrue result → IsSameAt plane.now sheet.now (window_pair place.now) q }
+    requires inside { IsInside plane.now.shape (windows_of place.now).from }
+    requires inside_sheet { IsInside sheet.now.shape (windows_of place.now).to }
+    requires pixel { q < window_size (windows_of place.now).to }
+    ensures { IsTrue result → IsSameAt plane.now sheet.now (windows_of place.now) q }
 {
     let value = value_in(plane, place.left, place.top, place.shape, q);
     let copy = value_in(sheet, place.to_left, place.to_top, place.shape, q);

@@ -1,8 +1,7 @@
 //! Groups of high pixels: those of at least the threshold that reach each other.
 
 ghost use Rattle.std.specs.Prelude.{◌≡◌, ◌+◌, ◌<◌, ◌≤◌, true, false, [], length, replicate, All, IfOk, OnOk, IfSome};
-ghost use Rattle.source_sheet.specs.Laid.{HoldsGroups};
-ghost use Rattle.source_sheet.specs.Groups.{HasLookedAt, HasLookedAtFirst, HasSpread, IsFlooded, AreGrouped, HasGrouped, AreGroupedBefore};
+ghost use Rattle.source_sheet.specs.Groups.{HasLookedAt, HasLookedAtFirst, HasSpread, IsFlooded, AreGrouped, HasGrouped, AreGroupedBefore, HoldsGroups};
 
 use comp_tree::{Connect, Plane, neighbours};
 use costs::OutOfMemory;

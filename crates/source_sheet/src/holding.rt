@@ -3,7 +3,7 @@
 ghost use Rattle.std.specs.Prelude.{◌≡◌, ℕ, ◌+◌, ◌*◌, ◌<◌, true, false, IsTrue, Bool, List, length, replicate, All, Contains, IfOk, slice_get, Some};
 ghost use Rattle.comp_tree.specs.Marks.{is_marked};
 ghost use Rattle.source_sheet.specs.declared.sheet.Place.{Place};
-ghost use Rattle.source_sheet.specs.Laid.{AreApart, HoldsPixel};
+ghost use Rattle.source_sheet.specs.Laid.{AreHeldOnce, HoldsPixel};
 ghost use Rattle.source_sheet.specs.Holding.{AreInside, IsPlaceInside, HasHeld, HasHeldFirst, HasHeldAll, AreHeldApart};
 
 use crate::checking::pixel_at;
@@ -25,7 +25,7 @@ pub(crate) fn hold_all(
 ) -> Result<bool, OutOfMemory>
     requires inside { AreInside plane.now sheet.now places.now }
     requires listed { All (λ p. p < length plane.now.values) listed.now }
-    ensures apart { IfOk result (λ all. all ≡ true → AreApart plane.now sheet.now choice.now.threshold places.now) }
+    ensures apart { IfOk result (λ all. all ≡ true → AreHeldOnce plane.now sheet.now choice.now.threshold places.now) }
     ensures held { IfOk result (λ all. all ≡ true → (p : ℕ) → Contains listed.now p
         → (i : ℕ) × ((c : Place) × (slice_get places.now i ≡ Some c) × HoldsPixel plane.now sheet.now choice.now.threshold c p)) }
 {
@@ -45,7 +45,7 @@ fn hold_listed(
     requires inside { AreInside plane.now sheet.now places.now }
     requires listed { All (λ p. p < length plane.now.values) listed.now }
     requires blank { marks.old ≡ replicate (length plane.now.values) false }
-    ensures apart { result ≡ true → AreApart plane.now sheet.now choice.now.threshold places.now }
+    ensures apart { result ≡ true → AreHeldOnce plane.now sheet.now choice.now.threshold places.now }
     ensures held { result ≡ true → (p : ℕ) → Contains listed.now p
         → (i : ℕ) × ((c : Place) × (slice_get places.now i ≡ Some c) × HoldsPixel plane.now sheet.now choice.now.threshold c p) }
 {

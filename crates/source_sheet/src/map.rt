@@ -3,8 +3,8 @@
 ghost use Rattle.std.specs.Prelude.{◌≡◌, ◌≤◌, ◌*◌, ℕ, IfOk, length, slice_index};
 ghost use Rattle.source_pick.specs.Segmentation.{AreDisjointNodes};
 ghost use Rattle.source_sheet.specs.Backs.{
-  IsPlaced,
-  ArePlaced,
+  LiesInBoth,
+  LieInBoth,
   ArePutIn,
   AreTakenTo,
   ShowsNodes,
@@ -29,7 +29,7 @@ pub(crate) fn map_of_sheet<R: Threads + Sync>(
     workers: u32,
 ) -> Result<Vec<u32>, OutOfMemory>
     requires disjoint { AreDisjointNodes tree.now nodes.now }
-    requires placed { ArePlaced sheet.now.whole sheet.now.plane.shape sheet.now.places.items }
+    requires placed { LieInBoth sheet.now.whole sheet.now.plane.shape sheet.now.places.items }
     requires of_sheet { tree.now.shape ≡ sheet.now.plane.shape }
     ensures shows { IfOk result (λ map. ShowsNodes tree.now sheet.now nodes.now map.items) }
     ensures one_each { IfOk result (λ map. length map.items ≡ sheet.now.whole.width * sheet.now.whole.height) }
@@ -50,7 +50,7 @@ pub(crate) fn map_of_sheet<R: Threads + Sync>(
 }
 
 fn put_places(whole: Shape, onto: Shape, places: &[Place], numbers: &[u32], map: &mut [u32])
-    requires placed { ArePlaced whole onto places.now }
+    requires placed { LieInBoth whole onto places.now }
     requires there { length numbers.now ≡ onto.width * onto.height }
     requires one_each { length map.old ≡ whole.width * whole.height }
     requires blank { (p : ℕ) → slice_index map.old p ≡ 0 }
@@ -63,7 +63,7 @@ fn put_places(whole: Shape, onto: Shape, places: &[Place], numbers: &[u32], map:
 
 // A number that isn't 0 is one of a source, which has no pixel at any other place. So the places may overlap in the plane.
 fn put_place(whole: Shape, onto: Shape, place: &Place, numbers: &[u32], map: &mut [u32])
-    requires placed { IsPlaced whole onto place.now }
+    requires placed { LiesInBoth whole onto place.now }
     requires there { length numbers.now ≡ onto.width * onto.height }
     requires one_each { length map.old ≡ whole.width * whole.height }
     ensures { ArePutIn whole.width onto.width place.now numbers.now (place.now.shape.width * place.now.shape.height) map.old map.new }

@@ -26,10 +26,6 @@ clear_box flat mesh whole w = record {
   bottom = clear_to flat mesh whole.height (w.top + w.shape.height);
 }
 
--- the window of this shape whose first pixel stands in column `left` of row `top`
-abbrev pub window_at : ℕ → ℕ → Shape → Window
-window_at left top shape = record { left = left; top = top; shape = shape }
-
 -- the box of the window itself
 abbrev pub window_box : Window → Box
 window_box w = record {

@@ -2,7 +2,8 @@
 
 ghost use Rattle.std.specs.Prelude.{◌≡◌, ℕ, ◌+◌, ◌<◌, ◌≤◌, ◌^◌, ◌↔◌, IsTrue};
 ghost use Rattle.comp_tree.specs.Windows.{IsInside, IsDeep, IsDeepIn, is_in_box};
-ghost use Rattle.tile_laws.specs.Clear.{window_at, clear_from, clear_to, clear_box};
+ghost use Rattle.source_sheet.specs.Laid.{window_at};
+ghost use Rattle.tile_laws.specs.Clear.{clear_from, clear_to, clear_box};
 ghost use Rattle.tile_laws.specs.Extents.{extent_box};
 
 use comp_tree::Shape;

@@ -4,7 +4,7 @@
 ghost use Rattle.std.specs.Prelude.{◌≡◌, ℕ, ◌+◌, ◌-◌, ◌<◌, ◌≤◌, ◌↔◌, IsTrue, IsFalse, MatchOption, length, int_le, ◌≤ℤ◌};
 ghost use Rattle.comp_tree.specs.Windows.{IsInside};
 ghost use Rattle.node_sums.specs.Sums.{AreTheTrees};
-ghost use Rattle.tile_laws.specs.Clear.{window_at};
+ghost use Rattle.source_sheet.specs.Laid.{window_at};
 ghost use Rattle.tile_laws.specs.Extents.{extent_box};
 ghost use Rattle.tile_laws.specs.Knowing.{node_box, DoMeet, IsSettled, AreSettled, IsUnsettled};
 ghost use Rattle.tile_laws.specs.Boxed.{HasBoxIn, DoMeetAlong};

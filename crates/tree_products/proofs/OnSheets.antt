@@ -12,7 +12,8 @@ use Rattle.source_sheet.specs.Laid.{IsTreeOfSheet}
 use Rattle.tree_products.specs.declared.ground.Ground.{Ground}
 use Rattle.tree_products.specs.declared.ground.Ground.TheVariants as ground
 use Rattle.tree_products.specs.declared.product.Product.{Product}
-use Rattle.tree_products.specs.Grounds.{ground_plane, IsGroundFor, IsSheetFor, IsTreeOfGround, IsTreeOfJobsSheet}
+use Rattle.tree_products.specs.Grounds.{ground_plane, IsGroundFor, IsSheetFor, IsTreeOfGround}
+use Rattle.tree_products.specs.JobSheets.{IsTreeOfJobsSheet}
 use Rattle.tree_products.specs.Products.{output_of_job}
 use Rattle.tree_products.specs.Writables.{bytes_of}
 

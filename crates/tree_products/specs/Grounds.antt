@@ -42,10 +42,3 @@ pub record IsTreeOfGround (job : Job) (on : Ground) (tree : ComponentTree) : Typ
   pub connect : Connect
   pub is_ground : IsGroundFor job connect plane on
   pub tree_is : tree ≡ tree_of (ground_plane on) connect
-
--- and that of a sheet which stands for some plane
-pub record IsTreeOfJobsSheet (job : Job) (sheet : Sheet) (tree : ComponentTree) : Type 0 where
-  pub plane : Raster
-  pub connect : Connect
-  pub is_sheet : IsSheetFor job connect plane sheet
-  pub tree_is : tree ≡ tree_of sheet.plane connect

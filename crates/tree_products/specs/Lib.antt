@@ -5,3 +5,4 @@ pub mod TrialSizes
 pub mod Products
 pub mod Writables
 pub mod Grounds
+pub mod JobSheets

@@ -1,7 +1,8 @@
 use Rattle.std.proofs.Common.{below_more, arith}
 use Rattle.std.specs.Prelude.{IsTrue}
 use Rattle.comp_tree.specs.Raster.{is_defined}
-use Rattle.source_sheet.specs.Checks.{window_at, IsSeen}
+use Rattle.source_sheet.specs.Laid.{window_at}
+use Rattle.source_sheet.specs.Checks.{IsSeen}
 use Rattle.source_sheet.proofs.Copies.{all_by_place}
 use Rattle.source_sheet.proofs.checking.are_all_seen.Goals as goal
 

@@ -1,7 +1,8 @@
 use Rattle.std.proofs.Common.{ℕ, ◌<◌, get_or}
 use Rattle.std.specs.Prelude.{IsTrue}
 use Rattle.comp_tree.specs.Raster.{is_defined}
-use Rattle.source_sheet.specs.Checks.{window_at, IsSeen}
+use Rattle.source_sheet.specs.Laid.{window_at}
+use Rattle.source_sheet.specs.Checks.{IsSeen}
 use Rattle.source_sheet.proofs.checking.are_all_seen.Given as goal
 
 abbrev pub invariant-loop-a : goal.invariant-loop-a

@@ -4,7 +4,8 @@ use Rattle.std.specs.List.{range_with_len}
 use Rattle.comp_tree.specs.declared.shape.Shape.{Shape}
 use Rattle.comp_tree.specs.Grid.{are_neighbours}
 use Rattle.comp_tree.specs.Windows.{in_whole}
-use Rattle.source_sheet.specs.Checks.{window_at, StaysWithin}
+use Rattle.source_sheet.specs.Laid.{window_at}
+use Rattle.source_sheet.specs.Checks.{StaysWithin}
 use Rattle.source_sheet.proofs.Copies.{near_below, stays_from}
 use Rattle.source_sheet.proofs.checking.has_around.Goals as goal
 

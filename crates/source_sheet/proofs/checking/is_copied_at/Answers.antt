@@ -2,16 +2,16 @@ use Rattle.std.proofs.Common.{◌∙◌, ◌+◌, ◌*◌, ℕ, ℤ, sym, ap, su
 use Rattle.std.proofs.lemmas.Int.{to_z-of_z}
 use Rattle.comp_tree.specs.declared.shape.Shape.{Shape}
 use Rattle.comp_tree.specs.Raster.{is_at_least}
-use Rattle.source_sheet.specs.Laid.{window_pair}
+use Rattle.source_sheet.specs.Laid.{windows_of}
 use Rattle.source_sheet.specs.Checks.{IsPixelCopied}
 use Rattle.source_sheet.proofs.Copies.{low_there, in_whole-row}
 use Rattle.source_sheet.proofs.checking.is_copied_at.Goals as goal
 
 pub returns-then-not-is_at_least : goal.returns-then-not-is_at_least
 returns-then-not-is_at_least c = λ _.
-    low_there c.args.plane.now c.args.sheet.now c.args.connect c.args.choice.now.threshold (window_pair c.args.place.now)
+    low_there c.args.plane.now c.args.sheet.now c.args.connect c.args.choice.now.threshold (windows_of c.args.place.now)
     (c.args.row * c.args.place.now.shape.width + c.args.column) c.pixel_at-there.result
-    (in_whole-row c.args.sheet.now.shape.width (window_pair c.args.place.now).to c.args.row c.args.column c.requires.column
+    (in_whole-row c.args.sheet.now.shape.width (windows_of c.args.place.now).to c.args.row c.args.column c.requires.column
     ∙ ap (λ (x : Shape). (c.args.row + c.args.place.now.to_top) * x.width + (c.args.column + c.args.place.now.to_left)) (sym c.shape.ensures.same)
     ∙ sym c.pixel_at-there.ensures.is)
     (ap (λ (h : ℤ). is_at_least c.args.sheet.now h c.pixel_at-there.result) (sym (to_z-of_z w64 c.args.choice.now.threshold (search rules)))
@@ -19,5 +19,5 @@ returns-then-not-is_at_least c = λ _.
 
 pub returns : goal.returns
 returns c = λ k _.
-    subst (λ (q : ℕ). IsPixelCopied c.args.plane.now c.args.sheet.now c.args.connect (window_pair c.args.place.now) q) c.pixel_at.ensures.is
+    subst (λ (q : ℕ). IsPixelCopied c.args.plane.now c.args.sheet.now c.args.connect (windows_of c.args.place.now) q) c.pixel_at.ensures.is
     (c.is_pixel_copied.ensures k)

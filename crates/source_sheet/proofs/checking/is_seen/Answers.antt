@@ -1,4 +1,4 @@
-use Rattle.source_sheet.specs.Checks.{window_at}
+use Rattle.source_sheet.specs.Laid.{window_at}
 use Rattle.source_sheet.proofs.Copies.{seen_from}
 use Rattle.source_sheet.proofs.checking.is_seen.Goals as goal
 

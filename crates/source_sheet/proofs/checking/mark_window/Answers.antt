@@ -1,5 +1,5 @@
 use Rattle.std.proofs.Common.{◌≤◌, ◌+◌, ◌*◌, refl, arith}
-use Rattle.source_sheet.specs.Checks.{window_at}
+use Rattle.source_sheet.specs.Laid.{window_at}
 use Rattle.source_sheet.proofs.Apart.{rows_none, rows_more, rows_at, row_inside}
 use Rattle.source_sheet.proofs.checking.mark_window.Goals as goal
 

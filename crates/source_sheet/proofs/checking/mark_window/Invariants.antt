@@ -1,4 +1,5 @@
-use Rattle.source_sheet.specs.Checks.{window_at, AreNewlyMarked, IsInRows}
+use Rattle.source_sheet.specs.Laid.{window_at}
+use Rattle.source_sheet.specs.Checks.{AreNewlyMarked, IsInRows}
 use Rattle.source_sheet.proofs.checking.mark_window.Given as goal
 
 abbrev pub invariant-loop-row : goal.invariant-loop-row

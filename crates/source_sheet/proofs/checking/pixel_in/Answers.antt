@@ -1,5 +1,5 @@
 use Rattle.std.proofs.Common.{◌∙◌, sym}
-use Rattle.source_sheet.specs.Checks.{window_at}
+use Rattle.source_sheet.specs.Laid.{window_at}
 use Rattle.source_sheet.proofs.Copies.{in_whole-by}
 use Rattle.source_sheet.proofs.checking.pixel_in.Goals as goal
 

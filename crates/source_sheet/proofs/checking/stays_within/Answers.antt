@@ -1,4 +1,4 @@
-use Rattle.source_sheet.specs.Checks.{window_at}
+use Rattle.source_sheet.specs.Laid.{window_at}
 use Rattle.source_sheet.proofs.Copies.{inside_stays}
 use Rattle.source_sheet.proofs.checking.stays_within.Goals as goal
 
