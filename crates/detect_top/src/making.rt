@@ -52,17 +52,17 @@ pub(crate) fn make<R: Threads + Sync, G: Gate>(
         order.flat,
         order.workers,
     )?;
-    let ground = ground_of(rt, alloc, residual, order)?;
+    let on = ground_of(rt, alloc, residual, order)?;
     let tree = component_tree(
         rt,
         alloc,
-        ground.plane(),
+        on.plane(),
         order.connect,
         order.strips,
         order.workers,
         gate,
     )?;
-    make_of(rt, alloc, order.job, order.workers, ground, tree)
+    make_of(rt, alloc, order.job, order.workers, on, tree)
 }
 
 /// What a trial of this seed and this shape makes.

@@ -7,7 +7,7 @@ use Rattle.comp_tree.specs.ComponentTree.{ComponentTree}
 use Rattle.comp_tree.specs.Components.{tree_of}
 use Rattle.mesh_background.specs.Residuals.{residual_of}
 use Rattle.orders.specs.declared.words.Order.{Order}
-use Rattle.tree_products.specs.declared.ground.Ground.{Ground}
+use Rattle.tree_products.specs.declared.standing.Ground.{Ground}
 use Rattle.tree_products.specs.declared.product.Product.{Product}
 use Rattle.tree_products.specs.Grounds.{ground_plane, IsGroundFor}
 use Rattle.orders.specs.declared.words.Job.{Job}

@@ -8,15 +8,15 @@ use Rattle.orders.specs.declared.words.Job.{Job}
 use Rattle.orders.specs.declared.words.Job.TheVariants.{Tree, Filter, Detect, Trial, Measure}
 use Rattle.source_sheet.specs.declared.sheet.Sheet.{Sheet}
 use Rattle.source_sheet.specs.Laid.{IsLaidOut}
-use Rattle.tree_products.specs.declared.ground.Ground.{Ground}
-use Rattle.tree_products.specs.declared.ground.Ground.TheVariants as ground
+use Rattle.tree_products.specs.declared.standing.Ground.{Ground}
+use Rattle.tree_products.specs.declared.standing.Ground.TheVariants as stands
 use Rattle.tree_products.specs.Products.{output_of_job}
 use Rattle.tree_products.specs.Writables.{SuitsJob}
 
 -- the plane whose tree is made
 abbrev pub ground_plane : Ground → Raster
-ground_plane (ground.Whole plane) = plane
-ground_plane (ground.Sheet sheet) = sheet.plane
+ground_plane (stands.Whole plane) = plane
+ground_plane (stands.Sheet sheet) = sheet.plane
 
 -- a job finds sources on a sheet, and nothing else
 abbrev pub IsSheetFor : Job → Connect → Raster → Sheet → Type 0
@@ -33,8 +33,8 @@ pub record IsAlikeFor (job : Job) (connect : Connect) (plane left : Raster) : Ty
 
 -- what stands for a plane
 abbrev pub IsGroundFor : Job → Connect → Raster → Ground → Type 0
-IsGroundFor job connect plane (ground.Whole left) = IsAlikeFor job connect plane left
-IsGroundFor job connect plane (ground.Sheet sheet) = IsSheetFor job connect plane sheet
+IsGroundFor job connect plane (stands.Whole left) = IsAlikeFor job connect plane left
+IsGroundFor job connect plane (stands.Sheet sheet) = IsSheetFor job connect plane sheet
 
 -- the tree is that of the ground, which stands for some plane
 pub record IsTreeOfGround (job : Job) (on : Ground) (tree : ComponentTree) : Type 0 where

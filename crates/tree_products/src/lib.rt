@@ -2,16 +2,16 @@
 #![tactic(auto)]
 
 mod detection;
-mod ground;
 mod lines;
 mod product;
+mod standing;
 mod trial;
 
 pub use detection::{Detection, detect, detect_on_sheet, put_detection};
 pub use fits_write::WriteFault;
-pub use ground::Ground;
 pub use lines::{Nodes, node_areas, put_tree};
 pub use product::{Product, ground_of, make_of, write};
+pub use standing::Ground;
 pub use trial::{Summary, put_trial, summarize, trial_image};
 
 #[cfg(test)]

@@ -16,7 +16,7 @@ ghost use Rattle.tree_products.specs.Lines.{tree_lines, node_list};
 ghost use Rattle.tree_products.specs.Products.{output_of_job};
 ghost use Rattle.tree_products.specs.Writables.{bytes_of, SuitsJob, IsWritable};
 
-use crate::ground::Ground;
+use crate::standing::Ground;
 use crate::{
     Detection, Nodes, Summary, detect, detect_on_sheet, node_areas, put_detection, put_tree,
     put_trial, summarize,
@@ -85,16 +85,16 @@ pub fn make_of<R: Threads + Sync>(
     alloc: Global,
     job: Job,
     workers: u32,
-    ground: Ground,
+    on: Ground,
     tree: Tree,
 ) -> Result<Product, OutOfMemory>
-    requires of_ground { IsTreeOfGround job ground tree }
+    requires of_ground { IsTreeOfGround job on tree }
     requires limits { HasJobLimits job }
     ensures writable { IfOk result (λ product. IsWritable product) }
-    ensures bytes { IfOk result (λ product. (plane : Raster) (connect : Connect) → IsGroundFor job connect plane ground
-        → tree ≡ tree_of (ground_plane ground) connect → bytes_of product ≡ output_of_job job connect plane) }
+    ensures bytes { IfOk result (λ product. (plane : Raster) (connect : Connect) → IsGroundFor job connect plane on
+        → tree ≡ tree_of (ground_plane on) connect → bytes_of product ≡ output_of_job job connect plane) }
 {
-    match ground {
+    match on {
         Ground::Whole(plane) => make_of_plane(rt, alloc, job, workers, plane, tree),
         Ground::Sheet(sheet) => make_of_sheet(rt, alloc, job, workers, &sheet, &tree),
     }
@@ -161,7 +161,7 @@ pub fn ground_of<R: Threads + Sync>(
     order: Order,
 ) -> Result<Ground, OutOfMemory>
     requires suits { SuitsJob order.job plane }
-    ensures { IfOk result (λ ground. IsGroundFor order.job order.connect plane ground) }
+    ensures { IfOk result (λ on. IsGroundFor order.job order.connect plane on) }
 {
     match order.job {
         Job::Detect { choice } => {
@@ -181,7 +181,7 @@ fn ground_for_sources<R: Threads + Sync>(
     choice: Choice,
     workers: u32,
 ) -> Result<Ground, OutOfMemory>
-    ensures { IfOk result (λ ground. IsGroundFor (Detect choice) connect plane ground) }
+    ensures { IfOk result (λ on. IsGroundFor (Detect choice) connect plane on) }
 {
     match lay_out(alloc, &plane, connect, &choice)? {
         Some(sheet) => Ok(Ground::Sheet(sheet)),

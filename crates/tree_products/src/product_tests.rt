@@ -66,8 +66,8 @@ fn near_pixels_stay(rt: HostRuntime) -> Result<(), Fail> {
         mesh: 0,
         flat: false,
     };
-    let ground = ground_of(&rt, rt.alloc(), plane_of_two(rt.alloc())?, order)?;
-    let plane = ground.plane();
+    let on = ground_of(&rt, rt.alloc(), plane_of_two(rt.alloc())?, order)?;
+    let plane = on.plane();
     assert!(rt; plane.shape().pixels() == 2 && plane.is_defined(0) && plane.is_defined(1));
     Ok(())
 }
