@@ -8,6 +8,24 @@ use source_pick::Choice;
 use std::alloc::Global;
 use std::test::Fail;
 
+// An order to detect from 5 on.
+const DETECTION: Order = Order {
+    job: Job::Detect {
+        choice: Choice {
+            threshold: 5,
+            min_area: 1,
+            min_flux: 0,
+            contrast: 0,
+        },
+    },
+    hdu: 0,
+    connect: Connect::Four,
+    strips: 1,
+    workers: 1,
+    mesh: 0,
+    flat: false,
+};
+
 fn plane_of_two(alloc: Global) -> Result<Plane, Fail> {
     let shape = Shape::of(2, 1).ok_or("a shape")?;
     Ok(Plane::of(alloc, shape, &[Some(-3), Some(5)])?.ok_or("a plane")?)
@@ -51,23 +69,22 @@ fn the_plane_of_the_root_alone(rt: HostRuntime) -> Result<(), Fail> {
 // The pixel below the threshold is a neighbour of the one above it, so it stays.
 #[test]
 fn near_pixels_stay(rt: HostRuntime) -> Result<(), Fail> {
-    let choice = Choice {
-        threshold: 5,
-        min_area: 1,
-        min_flux: 0,
-        contrast: 0,
-    };
-    let order = Order {
-        job: Job::Detect { choice },
-        hdu: 0,
-        connect: Connect::Four,
-        strips: 1,
-        workers: 1,
-        mesh: 0,
-        flat: false,
-    };
-    let on = ground_of(&rt, rt.alloc(), plane_of_two(rt.alloc())?, order)?;
+    let on = ground_of(&rt, rt.alloc(), plane_of_two(rt.alloc())?, DETECTION)?;
     let plane = on.plane();
     assert!(rt; plane.shape().pixels() == 2 && plane.is_defined(0) && plane.is_defined(1));
+    Ok(())
+}
+
+// One of twenty pixels has at least the threshold. It is worked on in a window of three columns and two rows.
+#[test]
+fn high_pixels_are_worked_on_a_sheet(rt: HostRuntime) -> Result<(), Fail> {
+    let alloc = rt.alloc();
+    let shape = Shape::of(5, 4).ok_or("a shape")?;
+    let mut values = vec![in alloc; Some(0i64); 18]?;
+    values.push(Some(7))?;
+    values.push(None)?;
+    let plane = Plane::of(alloc, shape, &values)?.ok_or("a plane")?;
+    let on = ground_of(&rt, alloc, plane, DETECTION)?;
+    assert!(rt; on.plane().shape().pixels() == 6);
     Ok(())
 }
