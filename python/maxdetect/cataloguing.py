@@ -12,11 +12,11 @@ import warnings
 from typing import Callable, Dict, List, Optional, Union
 
 import numpy
-from astropy.table import Table, vstack
 from astropy.utils.exceptions import AstropyWarning
 
 from . import __version__, asked, checks, detection, headings, kernel, measuring, planefiles, pools, resuming, tables
 from .errors import Mistake
+from .rows import Rows
 from .tasks import Task, check_files, check_options, form_of, inputs_of, outputs_of, task_of
 from .telling import about, attempted, say, text, with_image
 
@@ -84,14 +84,14 @@ def _extension(field: detection.Field, task: Task) -> str:
     return name if name and alone else str(field.plane.number)
 
 
-def _finished(table: Table, number: int, task: Task, given: argparse.Namespace) -> Table:
+def _finished(table: Rows, number: int, task: Task, given: argparse.Namespace) -> Rows:
     """What was found in one of the fields, with all that a reader wants."""
     field, unit = task.fields[number], task.units[number]
     extension = _extension(field, task) if given.hdu == "all" else None
     table.meta.update(headings.of_field(field, given.zeropoint), HDU=headings.plain(_extension(field, task)))
     zeropoints = {name: given.zeropoint for name in task.bands[number]} if given.zeropoint is not None else {}
     zeropoints.update(given.band_zeropoint or [])
-    return tables.finished(
+    return tables.finished_rows(
         table,
         field.plane.header,
         zeropoint=given.zeropoint,
@@ -101,16 +101,23 @@ def _finished(table: Table, number: int, task: Task, given: argparse.Namespace) 
     )
 
 
-def _joined(found: List[Table], task: Task, given: argparse.Namespace) -> Table:
+def _behind_each_other(found: List[Rows]) -> Rows:
+    """The rows of several fields, which may have different columns: what one hasn't is masked there."""
+    from astropy.table import vstack
+
+    return Rows.of(vstack([it.table() for it in found], metadata_conflicts="silent"))
+
+
+def _joined(found: List[Rows], task: Task, given: argparse.Namespace) -> Rows:
     """The rows of all fields, with cards that say what was used for each."""
-    table = found[0] if len(found) == 1 else vstack(found, metadata_conflicts="silent")
+    table = found[0] if len(found) == 1 else _behind_each_other(found)
     table.meta = headings.joined([it.meta for it in found])
     table.meta.update(IMAGE=headings.plain(os.path.basename(task.path)), VERSION=f"maxcat {__version__}")
     table.meta["OPTIONS"] = headings.plain(given.options)
     return table
 
 
-def _count_on(table: Table, segments: Optional[numpy.ndarray], before: int) -> None:
+def _count_on(table: Rows, segments: Optional[numpy.ndarray], before: int) -> None:
     """Numbers the sources of a field, in its map too, from those that the fields before it have."""
     table["NUMBER"] += before
     if segments is not None and before:
@@ -119,7 +126,7 @@ def _count_on(table: Table, segments: Optional[numpy.ndarray], before: int) -> N
             rows[rows > 0] += before
 
 
-def _draw(table: Table, task: Task, given: argparse.Namespace, segments, names: Dict[str, str], shown=None) -> None:
+def _draw(table: Rows, task: Task, given: argparse.Namespace, segments, names: Dict[str, str], shown=None) -> None:
     """Writes the picture and the page."""
     if given.plot:
         from . import pictures
@@ -130,10 +137,10 @@ def _draw(table: Table, task: Task, given: argparse.Namespace, segments, names: 
         from . import report
 
         with about(given.report):
-            report.write(task.fields[0].image(slice(None)), table, names[given.report], shown)
+            report.write(task.fields[0].image(slice(None)), table.table(), names[given.report], shown)
 
 
-def _write(found: List[Table], task: Task, given: argparse.Namespace, names: Dict[str, str]) -> Table:
+def _write(found: List[Rows], task: Task, given: argparse.Namespace, names: Dict[str, str]) -> Rows:
     """Writes the regions and the catalogue, each file under the name that it has for now, and gives the catalogue."""
     table = _joined(found, task, given)
     if given.regions:

@@ -2,20 +2,16 @@
 import concurrent.futures
 import dataclasses
 import functools
-from typing import TYPE_CHECKING, Callable, Dict, NamedTuple, Optional, Tuple, Union
+from typing import Callable, Dict, NamedTuple, Optional, Tuple, Union
 
 import numpy
 
 from . import cleaning, cosmic, flagmap, kernel, looks, measuring, photometry, pieces, pointlike, scaling, sky, tiles
-from . import wide
 from .bands import columns as band_columns
 from .fields import Field, Settings, noise_of, sky_of
 from .limits import TILE
 from .rows import Rows, side_by_side
 from .tiles import Box
-
-if TYPE_CHECKING:
-    from astropy.table import Table
 
 __all__ = ["TILE", "Detector", "Field", "Settings", "sources"]
 
@@ -90,7 +86,7 @@ def sources(
     told: Optional[Callable] = None,
     progress: Callable[[int], None] = lambda count: None,
     program: Optional[str] = None,
-) -> "Table":
+) -> Rows:
     """The sources of a field with their photometry, in columns and rows of the image, numbered by their first pixels.
 
     Tiles and photometry run in the executor. `segments`, an array of the image's shape full of zeros, gets the map.
@@ -131,7 +127,7 @@ def sources(
         table.meta["NCOSMIC"] = int(field.struck.sum())
     # With a weight map the sky's noise is a factor, and no noise of the image.
     table.meta["NOISE" if field.weights is not None else "SIGMA"] = detector.middle_noise()
-    return table.table()
+    return table
 
 
 def _cleaned(table: Rows, cut: numpy.ndarray, segments: numpy.ndarray) -> Tuple[Rows, numpy.ndarray]:
@@ -175,6 +171,9 @@ def _with_wide(detector: Detector, table: Rows, segments: numpy.ndarray, executo
     Wide sources are measured above the sky in which they are found, and other sources as if they weren't there: their
     light is that of both.
     """
+    # SciPy, which it stands on, takes long to load.
+    from . import wide
+
     field, found = wide.beneath(detector.field)
     more = wide.found(field, found, segments, detector.program)
     if not len(more.rows):

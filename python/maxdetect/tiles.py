@@ -21,7 +21,6 @@ import os
 from typing import TYPE_CHECKING, Callable, Iterable, Iterator, List, Optional, Tuple
 
 import numpy
-from scipy import ndimage
 
 from . import kernel
 from .background import Above, lower_median, undefined_cells
@@ -208,7 +207,17 @@ def _labelled(look: Look, connect: int) -> numpy.ndarray:
 
 
 def _label(above: numpy.ndarray, connect: int) -> numpy.ndarray:
+    # An image of one window wants no components, and SciPy takes long to load.
+    from scipy import ndimage
+
     return ndimage.label(above, numpy.ones((3, 3)) if connect == 8 else None)[0]
+
+
+def _places_of(labels: numpy.ndarray) -> list:
+    """For each number of a map from 1 on the rows and columns of the box that holds it, or None."""
+    from scipy import ndimage
+
+    return ndimage.find_objects(labels)
 
 
 def _crosses(look: Look, rows: slice, columns: slice, out: numpy.ndarray, at_core: numpy.ndarray, connect: int) -> bool:
@@ -334,7 +343,7 @@ def _held(look_at: Callable[[Box], Look], plan: Plan, part: Part) -> Optional[Tu
         if labels[at] not in _reaching_out(labels, window, plan):
             return look, window, component
         parts = _sure_parts(component, window, plan)
-        box, margin = _moved_box(ndimage.find_objects(parts)[parts[at] - 1], window), 2 * margin
+        box, margin = _moved_box(_places_of(parts)[parts[at] - 1], window), 2 * margin
 
 
 def _all_held(look_at: Callable[[Box], Look], plan: Plan, core: Box, parts: List[Part]) -> Iterator[Piece]:
@@ -405,7 +414,7 @@ def look_over(look_at: Callable[[Box], Look], plan: Plan, core: Box, margin: int
 def _parts(components: numpy.ndarray, window: Box, core: Box, plan: Plan) -> List[Part]:
     """What is known of some components that a window doesn't hold: all pixels of the core are sure."""
     inner, parts = core.within(window), _sure_parts(components, window, plan)
-    at_core, boxes = parts[inner.rows, inner.columns], ndimage.find_objects(parts)
+    at_core, boxes = parts[inner.rows, inner.columns], _places_of(parts)
     return [
         Part(numpy.argwhere(at_core == number) + (core.top, core.left), _moved_box(boxes[number - 1], window))
         for number in numpy.unique(at_core[at_core > 0])
@@ -546,6 +555,8 @@ class _Windows:
         empty = undefined_cells(undefined, mesh)
         if empty is None:
             return window
+        from scipy import ndimage
+
         lone, seen = ndimage.binary_erosion(undefined, numpy.ones((3, 3)), border_value=1), window.copy()
         for down, across in numpy.argwhere(empty):
             free = numpy.argwhere(lone[down * mesh : (down + 1) * mesh, across * mesh : (across + 1) * mesh])
