@@ -14,13 +14,17 @@ from typing import Callable, Dict, List, Optional, Union
 import numpy
 from astropy.utils.exceptions import AstropyWarning
 
-from . import __version__, asked, checks, detection, headings, kernel, measuring, planefiles, pools, resuming, tables
+from . import __version__, asked, checks, detection, headings, kernel, maps, measuring, planefiles, pools, resuming
+from . import tables
 from .errors import Mistake
 from .rows import Rows
 from .tasks import Task, check_files, check_options, form_of, inputs_of, outputs_of, task_of
 from .telling import about, attempted, say, text, with_image
 
 __all__ = ["run"]
+
+# A map of more pixels isn't held in memory.
+LARGE = 2**22
 
 
 def _nothing(count: int) -> None:
@@ -56,6 +60,18 @@ def _scratch_map(shape):
         with about(tempfile.gettempdir()):
             planefiles.make_room(file, 4 * shape[0] * shape[1])
         yield numpy.memmap(file, "i4", "r+", shape=shape)
+
+
+@contextlib.contextmanager
+def _filled_map(segments: Optional[numpy.ndarray], shape):
+    """The map that is to be filled. Where none is asked for a large one stands in a file that goes away, as long as the
+    disk has room for it; None stands for one in memory.
+    """
+    with contextlib.ExitStack() as stack:
+        if segments is None and shape[0] * shape[1] > LARGE:
+            with contextlib.suppress(Mistake, OSError):
+                segments = stack.enter_context(_scratch_map(shape))
+        yield segments
 
 
 @contextlib.contextmanager
@@ -121,9 +137,9 @@ def _count_on(table: Rows, segments: Optional[numpy.ndarray], before: int) -> No
     """Numbers the sources of a field, in its map too, from those that the fields before it have."""
     table["NUMBER"] += before
     if segments is not None and before:
-        for top in range(0, len(segments), 256):
-            rows = segments[top : top + 256]
-            rows[rows > 0] += before
+        for rows in maps.bands(segments):
+            own = segments[rows]
+            own[own > 0] += before
 
 
 def _draw(table: Rows, task: Task, given: argparse.Namespace, segments, names: Dict[str, str], shown=None) -> None:
@@ -178,17 +194,18 @@ def _done(task: Task, given: argparse.Namespace, tiles, progress) -> str:
     """Finds and writes a file's sources, and says so."""
     with about(task.output), tables.whole_files(outputs_of(task, given)) as names, _maps(
         task, given, names.get(given.map)
-    ) as maps:
+    ) as planes:
         found, skies, shown = [], [], _check_images(task, given, names)
-        for number, (field, segments) in enumerate(zip(task.fields, maps)):
-            filled = checks.writer({kind: planes[number] for kind, planes in shown.items()})
+        for number, (field, segments) in enumerate(zip(task.fields, planes)):
+            filled = checks.writer({kind: each[number] for kind, each in shown.items()})
             told = _told(filled, skies) if given.report else filled
             more = {"bands": task.bands[number], "told": told, "progress": progress}
-            table = detection.sources(field, tiles, segments=segments, **more)
+            with _filled_map(segments, field.shape) as room:
+                table = detection.sources(field, tiles, segments=room, **more)
             _count_on(table, segments, sum(map(len, found)))
             found.append(_finished(table, number, task, given))
         table = _write(found, task, given, names)
-        _draw(table, task, given, maps[0], names, *skies)
+        _draw(table, task, given, planes[0], names, *skies)
     written = f"{len(table)} sources in {shlex.quote(task.output)}"
     if task.survey_field:
         from . import adding

@@ -1,12 +1,29 @@
 """From a field to its sources: by the program, a tile at a time, and then their photometry."""
 import concurrent.futures
+import contextlib
 import dataclasses
 import functools
-from typing import Callable, Dict, NamedTuple, Optional, Tuple, Union
+import multiprocessing
+import threading
+from typing import Callable, Dict, List, NamedTuple, Optional, Tuple, Union
 
 import numpy
 
-from . import cleaning, cosmic, flagmap, kernel, looks, measuring, photometry, pieces, pointlike, scaling, sky, tiles
+from . import (
+    cleaning,
+    cosmic,
+    flagmap,
+    kernel,
+    looks,
+    maps,
+    measuring,
+    photometry,
+    pieces,
+    pointlike,
+    scaling,
+    sky,
+    tiles,
+)
 from .bands import columns as band_columns
 from .fields import Field, Settings, noise_of, sky_of
 from .limits import TILE
@@ -18,6 +35,8 @@ __all__ = ["TILE", "Detector", "Field", "Settings", "sources"]
 
 # So many rows of a window are prepared at a time.
 ROWS = 256
+# How far a tile's window reaches beyond its core, in pixels.
+MARGIN = 64
 
 
 class Detector:
@@ -26,10 +45,10 @@ class Detector:
     def __init__(self, field: Field, found: sky.Sky, how: looks.Way, program: Optional[str] = None):
         self.field, self.settings, self.program, self.how = field, field.settings, program, how
         self.sky = found if self.settings.mesh else found.flat()
-        self.strips = {}
+        self.strips, self.turn = {}, contextlib.nullcontext()
         whole = Box(0, field.shape[0], 0, field.shape[1])
         reach = cleaning.reach(how.width) if self.settings.clean else 1
-        self.plan = tiles.Plan(field.shape, whole, max(self.settings.tile, 1), tiles.MARGIN, reach=reach)
+        self.plan = tiles.Plan(field.shape, whole, max(self.settings.tile, 1), MARGIN, reach=reach)
 
     def noise(self, rows: slice, columns: slice) -> Union[float, numpy.ndarray]:
         """The noise of a window's pixels, in the image's units: one number, or an array."""
@@ -60,9 +79,10 @@ class Detector:
         """
         numbers, how, settings = self.numbers(box), self.how, self.settings
         options = {"min_area": how.min_area, "contrast": settings.contrast or 0, "connect": self.plan.connect}
-        catalogue, segments = kernel.detect_stored(
-            numbers, how.threshold, program=self.program, mesh=0, **options, **self.strips
-        )
+        with self.turn:
+            catalogue, segments = kernel.detect_stored(
+                numbers, how.threshold, program=self.program, mesh=0, **options, **self.strips
+            )
         least = settings.split_sigmas if settings.contrast is None else 0
         parts = pieces.sources(numbers, catalogue, segments, how.threshold, how.significance, least, how.patch)
         if settings.clean:
@@ -108,7 +128,8 @@ def sources(
     if len(cores) == 1 and field.settings.workers > 1:
         detector.strips = {"strips": 16, "workers": field.settings.workers}
     progress(0)
-    found = tiles.gathered(tiles.each(executor, _Tile(detector), cores), segments, progress)
+    with _looked_at(detector, executor, cores) as pieces:
+        found = tiles.gathered(pieces, segments, progress)
     table, cut = _cleaned(*found, segments) if field.settings.clean else found
     cleaned = len(found[0]) - len(table)
     own = measuring.sky_of_values(detector)
@@ -130,6 +151,23 @@ def sources(
     return table
 
 
+@contextlib.contextmanager
+def _looked_at(detector: Detector, executor: Optional[concurrent.futures.Executor], cores: List[Box]):
+    """The pieces of the tiles with these cores. Where they follow each other the next one is prepared while the program
+    looks at one, but the program runs once at a time; in one of several workers each has a processor of its own.
+    """
+    work = _Tile(detector)
+    if executor is not None or len(cores) == 1 or multiprocessing.parent_process() is not None:
+        yield tiles.each(executor, work, cores)
+        return
+    detector.turn = threading.Lock()
+    try:
+        with concurrent.futures.ThreadPoolExecutor(2) as pool:
+            yield tiles.each(pool, work, cores)
+    finally:
+        detector.turn = contextlib.nullcontext()
+
+
 def _cleaned(table: Rows, cut: numpy.ndarray, segments: numpy.ndarray) -> Tuple[Rows, numpy.ndarray]:
     """The rows that are kept, numbered anew, and which of them are cut; their map too, in place."""
     kept = numpy.asarray(table["KEPT"], dtype=bool)
@@ -137,11 +175,12 @@ def _cleaned(table: Rows, cut: numpy.ndarray, segments: numpy.ndarray) -> Tuple[
     table["NUMBER"] = numpy.arange(1, len(table) + 1, dtype=table["NUMBER"].dtype)
     if kept.all():
         return table, cut
-    new = numpy.zeros(len(kept) + 1, dtype=segments.dtype)
-    new[1:][kept] = numpy.arange(1, kept.sum() + 1)
-    for top in range(0, len(segments), 256):
-        rows = numpy.asarray(segments[top : top + 256])
-        segments[top : top + 256] = numpy.sign(rows) * new[numpy.abs(rows)]
+    new = numpy.zeros(2 * len(kept) + 1, dtype=segments.dtype)
+    new[1 : len(kept) + 1][kept] = numpy.arange(1, kept.sum() + 1)
+    # A number below 0 is the place of its row from the end.
+    new[len(kept) + 1 :] = -new[len(kept) : 0 : -1]
+    for rows in maps.bands(segments):
+        segments[rows] = new[segments[rows]]
     return table, cut[kept]
 
 

@@ -52,6 +52,9 @@ LARGE_PAGES = (
     ":glibc.malloc.mmap_threshold=4194304:glibc.malloc.trim_threshold=4294967296"
 )
 
+# So many rows of an image are handed over at a time.
+AT_ONCE = 256
+
 # Stands for an undefined pixel among 32-bit numbers.
 LEAST = -(2**31)
 
@@ -284,8 +287,11 @@ def _stored_file(stored):
     """The same of 32-bit numbers as they are to be stored, the least of them for an undefined pixel."""
     height, width = stored.shape
     cards = [("SIMPLE", True), ("BITPIX", 32), ("NAXIS", 2), ("NAXIS1", width), ("NAXIS2", height), ("BLANK", LEAST)]
-    data = stored.astype(">i4", order="C")
-    return fits.Header(cards).tostring().encode("ascii"), data.reshape(-1).view("u1"), bytes(-data.nbytes % 2880)
+    yield fits.Header(cards).tostring().encode("ascii")
+    # Some rows at a time, since a copy of all of them would stand beside the program.
+    for top in range(0, height, AT_ONCE):
+        yield stored[top : top + AT_ONCE].astype(">i4", order="C").reshape(-1).view("u1")
+    yield bytes(-4 * height * width % 2880)
 
 
 def _native(array):

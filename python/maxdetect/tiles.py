@@ -22,7 +22,7 @@ from typing import TYPE_CHECKING, Callable, Iterable, Iterator, List, Optional, 
 
 import numpy
 
-from . import kernel
+from . import kernel, maps
 from .background import Above, lower_median, undefined_cells
 from .rows import Rows, behind_each_other
 from .sky import cells_along
@@ -487,8 +487,8 @@ def renumber(segments: numpy.ndarray, places: numpy.ndarray) -> None:
     numbers[-places - 1] = -numpy.arange(1, len(places) + 1)
     if (numbers[1 : len(places) + 1] == numpy.arange(1, len(places) + 1)).all():
         return
-    for top in range(0, len(segments), 256):
-        segments[top : top + 256] = numbers[segments[top : top + 256]]
+    for rows in maps.bands(segments):
+        segments[rows] = numbers[segments[rows]]
 
 
 def without_gaps(segments: numpy.ndarray) -> numpy.ndarray:
@@ -498,8 +498,8 @@ def without_gaps(segments: numpy.ndarray) -> numpy.ndarray:
 
 def hide(segments: numpy.ndarray) -> None:
     """Takes out of a map that `gathered` filled, in place, the pixels that it isn't to show."""
-    for top in range(0, len(segments), 256):
-        segments[top : top + 256] = numpy.maximum(segments[top : top + 256], 0)
+    for rows in maps.bands(segments):
+        segments[rows] = numpy.maximum(segments[rows], 0)
 
 
 def gathered(
@@ -512,6 +512,7 @@ def gathered(
     for piece in pieces:
         numbers = piece.owners + (count + 1)
         segments.reshape(-1)[piece.pixels] = numpy.where(piece.shown, numbers, -numbers)
+        maps.let_go(segments)
         count += len(piece.catalogue)
         tables.append(piece.catalogue)
         cut.append(piece.cut)
