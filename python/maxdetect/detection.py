@@ -35,8 +35,9 @@ __all__ = ["TILE", "Detector", "Field", "Settings", "sources"]
 
 # So many rows of a window are prepared at a time.
 ROWS = 256
-# How far a tile's window reaches beyond its core, in pixels.
-MARGIN = 64
+# How far a tile's window reaches beyond its core, in pixels; and how many cores along a side of the squares by which
+# components are cut that are too large for any window.
+MARGIN, SQUARE = 64, 2
 
 
 class Detector:
@@ -48,7 +49,8 @@ class Detector:
         self.strips, self.turn = {}, contextlib.nullcontext()
         whole = Box(0, field.shape[0], 0, field.shape[1])
         reach = cleaning.reach(how.width) if self.settings.clean else 1
-        self.plan = tiles.Plan(field.shape, whole, max(self.settings.tile, 1), MARGIN, reach=reach)
+        tile = max(self.settings.tile, 1)
+        self.plan = tiles.Plan(field.shape, whole, tile, MARGIN, reach=reach, square=SQUARE * tile)
 
     def noise(self, rows: slice, columns: slice) -> Union[float, numpy.ndarray]:
         """The noise of a window's pixels, in the image's units: one number, or an array."""
@@ -156,16 +158,14 @@ def _looked_at(detector: Detector, executor: Optional[concurrent.futures.Executo
     """The pieces of the tiles with these cores. Where they follow each other the next one is prepared while the program
     looks at one, but the program runs once at a time; in one of several workers each has a processor of its own.
     """
-    work = _Tile(detector)
-    if executor is not None or len(cores) == 1 or multiprocessing.parent_process() is not None:
-        yield tiles.each(executor, work, cores)
-        return
-    detector.turn = threading.Lock()
-    try:
-        with concurrent.futures.ThreadPoolExecutor(2) as pool:
-            yield tiles.each(pool, work, cores)
-    finally:
-        detector.turn = contextlib.nullcontext()
+    alone = executor is None and len(cores) > 1 and multiprocessing.parent_process() is None
+    with contextlib.ExitStack() as stack:
+        if alone:
+            stack.callback(setattr, detector, "turn", contextlib.nullcontext())
+            detector.turn = threading.Lock()
+            executor = stack.enter_context(concurrent.futures.ThreadPoolExecutor(2))
+        each = functools.partial(tiles.each, executor)
+        yield tiles.with_cut(each(_Tile(detector), cores), detector.plan, functools.partial(each, _Cut(detector)))
 
 
 def _cleaned(table: Rows, cut: numpy.ndarray, segments: numpy.ndarray) -> Tuple[Rows, numpy.ndarray]:
@@ -239,5 +239,15 @@ class _Tile:
 
     detector: Detector
 
-    def __call__(self, core: Box) -> tiles.Piece:
+    def __call__(self, core: Box) -> tiles.Seen:
         return tiles.tile_sources(self.detector, self.detector.plan, core)
+
+
+@dataclasses.dataclass
+class _Cut:
+    """The work on a square in which components are cut."""
+
+    detector: Detector
+
+    def __call__(self, item: Tuple[Box, numpy.ndarray]) -> tiles.Piece:
+        return tiles.cut_sources(self.detector, self.detector.plan, *item)

@@ -40,16 +40,23 @@ def cells_along(side: int, mesh: int) -> int:
     return -(-side // mesh)
 
 
+def _carried_on_along(grid: numpy.ndarray, axis: int) -> numpy.ndarray:
+    """The grid with one more number at both ends of an axis, in a straight line beyond the outermost two: numpy's `pad`
+    does the same, but takes as long as all else for a few cells.
+    """
+    lines = grid if axis == 0 else grid.T
+    made = numpy.empty((len(lines) + 2, lines.shape[1]), dtype=grid.dtype)
+    made[1:-1] = lines
+    next_one = min(1, len(lines) - 1)
+    made[0], made[-1] = 2 * lines[0] - lines[next_one], 2 * lines[-1] - lines[-1 - next_one]
+    if len(lines) == 1:
+        made[0] = made[-1] = lines[0]
+    return made if axis == 0 else numpy.ascontiguousarray(made.T)
+
+
 def _carried_on(grid: numpy.ndarray) -> numpy.ndarray:
     """The grid with one more number on each side, in a straight line beyond the outermost two."""
-    for axis in (0, 1):
-        if grid.shape[axis] > 1:
-            grid = numpy.pad(
-                grid, [(1, 1) if it == axis else (0, 0) for it in (0, 1)], mode="reflect", reflect_type="odd"
-            )
-        else:
-            grid = numpy.pad(grid, [(1, 1) if it == axis else (0, 0) for it in (0, 1)], mode="edge")
-    return grid
+    return _carried_on_along(_carried_on_along(grid, 0), 1)
 
 
 def medians(grid: numpy.ndarray) -> numpy.ndarray:
@@ -128,7 +135,7 @@ def between(grid: numpy.ndarray, mesh: int, rows: slice, columns: slice) -> nump
     if down.shape[1] == 1:
         return numpy.repeat(down.astype("f4"), columns.stop - columns.start, axis=1)
     # Between two centres a row changes by the same step from pixel to pixel. The first piece ends at the first centre.
-    padded = numpy.pad(down, [(0, 0), (1, 1)], mode="reflect", reflect_type="odd")
+    padded = _carried_on_along(down, 1)
     start = mesh // 2
     part = ((numpy.arange(mesh) + (0.5 if mesh % 2 == 0 else 0)) / mesh).astype("f4")
     first, last = (columns.start + mesh - start) // mesh, (columns.stop - 1 + mesh - start) // mesh

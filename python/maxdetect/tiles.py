@@ -18,7 +18,7 @@ import contextlib
 import dataclasses
 import itertools
 import os
-from typing import TYPE_CHECKING, Callable, Iterable, Iterator, List, Optional, Tuple
+from typing import TYPE_CHECKING, Callable, Dict, Iterable, Iterator, List, NamedTuple, Optional, Tuple
 
 import numpy
 
@@ -109,11 +109,22 @@ class Piece:
     cut: numpy.ndarray
 
 
+class Seen(NamedTuple):
+    """What is seen of the tile with a core: its piece, and the places of the core that belong to components which no
+    window holds, as rows and columns of the whole.
+    """
+
+    core: "Box"
+    piece: Piece
+    unheld: numpy.ndarray
+
+
 @dataclasses.dataclass(frozen=True)
 class Plan:
     """How an image is cut: its shape, the part of it whose sources are wanted, the side of a tile's core, the margin,
     the mesh of the program's background, and which pixels are neighbours. The sources' columns and rows are those of
-    the part. What is made of a component depends on the pixels up to `reach` columns and rows from it.
+    the part. What is made of a component depends on the pixels up to `reach` columns and rows from it. Components that
+    no window holds are cut by squares with the side `square`, a multiple of a core's; 0 stands for that of a core.
     """
 
     shape: Tuple[int, int]
@@ -124,6 +135,7 @@ class Plan:
     flat: bool = False
     connect: int = 8
     reach: int = 1
+    square: int = 0
 
     @property
     def whole(self) -> Box:
@@ -138,6 +150,12 @@ class Plan:
             Box(top, min(top + self.tile, part.bottom), left, min(left + self.tile, part.right))
             for top, left in corners
         ]
+
+    def square_of(self, core: Box) -> Box:
+        """The square of a core."""
+        part, side = self.part, self.square or self.tile
+        top, left = (low - (low - first) % side for low, first in ((core.top, part.top), (core.left, part.left)))
+        return Box(top, min(top + side, part.bottom), left, min(left + side, part.right))
 
     def around(self, box: Box, margin: int) -> Box:
         """The window with a margin around a box, as far as the image goes, of whole cells."""
@@ -346,29 +364,30 @@ def _held(look_at: Callable[[Box], Look], plan: Plan, part: Part) -> Optional[Tu
         box, margin = _moved_box(_places_of(parts)[parts[at] - 1], window), 2 * margin
 
 
-def _all_held(look_at: Callable[[Box], Look], plan: Plan, core: Box, parts: List[Part]) -> Iterator[Piece]:
-    """The sources of the core in the components of which parts are known, each from a window that holds it, and those
-    that no window holds as the widest one around the core shows them. Several parts may be of one component.
+def _all_held(
+    look_at: Callable[[Box], Look], plan: Plan, core: Box, parts: List[Part]
+) -> Tuple[List[Piece], numpy.ndarray]:
+    """The sources of the core in the components of which parts are known, each from a window that holds it; and the
+    places of those that no window holds. Several parts may be of one component.
     """
-    found, cut = numpy.zeros(core.shape, dtype=bool), []
+    found, pieces, unheld = numpy.zeros(core.shape, dtype=bool), [], [numpy.zeros((0, 2), dtype=int)]
     for part in parts:
         if found[tuple(part.places[0] - (core.top, core.left))]:
             continue
         held = _held(look_at, plan, part)
         if held is None:
-            cut.append(part.places)
+            unheld.append(part.places)
             continue
         look, window, component = held
         (rows, columns), inner, here = _firsts(look.catalogue), core.within(window), window.within(core)
-        yield _picked(look, window, plan, component[rows, columns] & in_box(look.catalogue, inner))
+        pieces.append(_picked(look, window, plan, component[rows, columns] & in_box(look.catalogue, inner)))
         found[here.rows, here.columns] |= component[inner.rows, inner.columns]
-    if cut:
-        yield _cut(look_at, plan, core, numpy.concatenate(cut))
+    return pieces, numpy.concatenate(unheld)
 
 
-def _cut(look_at: Callable[[Box], Look], plan: Plan, core: Box, places: numpy.ndarray) -> Piece:
-    """The sources that have some places of the core, in the widest window around it, and on the map these places."""
-    window = plan.widest_window(core)
+def cut_sources(look_at: Callable[[Box], Look], plan: Plan, square: Box, places: numpy.ndarray) -> Piece:
+    """The sources that have some places of a square, in the widest window around it, and on the map these places."""
+    window = plan.widest_window(square)
     look, among = look_at(window), numpy.zeros(window.shape, dtype=bool)
     among[tuple((places - (window.top, window.left)).T)] = True
     return _picked(look, window, plan, numpy.isin(look.catalogue["NUMBER"], look.segments[among]), among)
@@ -421,7 +440,7 @@ def _parts(components: numpy.ndarray, window: Box, core: Box, plan: Plan) -> Lis
     ]
 
 
-def complete(look_at: Callable[[Box], Look], plan: Plan, core: Box, piece: Piece, parts: List[Part]) -> Piece:
+def complete(look_at: Callable[[Box], Look], plan: Plan, core: Box, piece: Piece, parts: List[Part]) -> Seen:
     """A tile's piece with the sources that its window didn't hold: from a larger window of the tile where they are
     many, or from windows of their own.
     """
@@ -432,10 +451,11 @@ def complete(look_at: Callable[[Box], Look], plan: Plan, core: Box, piece: Piece
             break
         piece, parts = look_over(look_at, plan, core, margin)
         margin *= 2
-    return joined([piece, *_all_held(look_at, plan, core, parts)])
+    pieces, unheld = _all_held(look_at, plan, core, parts)
+    return Seen(core, joined([piece, *pieces]), unheld)
 
 
-def tile_sources(look_at: Callable[[Box], Look], plan: Plan, core: Box) -> Piece:
+def tile_sources(look_at: Callable[[Box], Look], plan: Plan, core: Box) -> Seen:
     """The sources that belong to a tile. `look_at` looks at a window."""
     return complete(look_at, plan, core, *look_over(look_at, plan, core, plan.margin))
 
@@ -466,6 +486,24 @@ def each(executor: Optional[concurrent.futures.Executor], work: Callable, items:
     finally:
         for future in waiting:
             future.cancel()
+
+
+def with_cut(
+    tiles: Iterable[Seen], plan: Plan, cut: Callable[[Iterable[Tuple[Box, numpy.ndarray]]], Iterable[Piece]]
+) -> Iterator[Piece]:
+    """A piece for each tile. The last one has the sources that are cut, too: `cut` gives a piece for each square that
+    has places in components which no window holds, and for these places.
+    """
+    unheld: Dict[Box, List[numpy.ndarray]] = {}
+    last = None
+    for seen in tiles:
+        if last is not None:
+            yield last
+        last = seen.piece
+        if len(seen.unheld):
+            unheld.setdefault(plan.square_of(seen.core), []).append(seen.unheld)
+    squares = sorted(unheld, key=lambda square: (square.top, square.left))
+    yield joined([last, *cut((square, numpy.concatenate(unheld[square])) for square in squares)])
 
 
 def numbered(tables: List[Rows]) -> Tuple[Rows, numpy.ndarray]:
@@ -697,8 +735,12 @@ def detect_tiles(
     with contextlib.ExitStack() as stack:
         pool = executor or stack.enter_context(concurrent.futures.ThreadPoolExecutor(os.cpu_count()))
         looked = each(pool, _ArrayTile(plan, threshold, options, fill), windows)
-        pieces = (complete(everything, plan, core, piece, parts) for core, piece, parts in looked)
-        table, cut = gathered(pieces, segments, progress)
+        seen = (complete(everything, plan, core, piece, parts) for core, piece, parts in looked)
+
+        def cut_at(squares):
+            return (cut_sources(everything, plan, square, places) for square, places in squares)
+
+        table, cut = gathered(with_cut(seen, plan, cut_at), segments, progress)
     if cut.any():
         table.meta["CUT"] = numpy.asarray(table["NUMBER"])[cut].tolist()
     return kernel.described(table), segments
