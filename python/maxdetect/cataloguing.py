@@ -3,6 +3,7 @@ import argparse
 import concurrent.futures
 import contextlib
 import dataclasses
+import importlib
 import math
 import os
 import shlex
@@ -278,6 +279,8 @@ def _tiles_pool(given: argparse.Namespace, good: List[Task]) -> Optional[concurr
     # A process would unpack a compressed image by itself, and be sent the pixels that cosmic rays have hit.
     if given.cosmic_rays or not all(plane.mapped for task in good for plane in task.planes):
         return concurrent.futures.ThreadPoolExecutor(given.workers)
+    # What tiles want is loaded once: the workers share it.
+    importlib.import_module("scipy.ndimage")
     return pools.workers(given.workers)
 
 

@@ -22,6 +22,7 @@ from . import (
     pointlike,
     scaling,
     sky,
+    spare,
     tiles,
 )
 from .bands import columns as band_columns
@@ -46,7 +47,7 @@ class Detector:
     def __init__(self, field: Field, found: sky.Sky, how: looks.Way, program: Optional[str] = None):
         self.field, self.settings, self.program, self.how = field, field.settings, program, how
         self.sky = found if self.settings.mesh else found.flat()
-        self.strips, self.turn = {}, contextlib.nullcontext()
+        self.strips, self.own_turn, self.program_turn = {}, contextlib.nullcontext(), contextlib.nullcontext()
         whole = Box(0, field.shape[0], 0, field.shape[1])
         reach = cleaning.reach(how.width) if self.settings.clean else 1
         tile = max(self.settings.tile, 1)
@@ -79,12 +80,20 @@ class Detector:
         """The sources of a window, and its maps. Where the field is cleaned, the column KEPT says of each source
         whether it is more than a peak of noise on faint light.
         """
-        numbers, how, settings = self.numbers(box), self.how, self.settings
+        how, settings = self.how, self.settings
         options = {"min_area": how.min_area, "contrast": settings.contrast or 0, "connect": self.plan.connect}
-        with self.turn:
+        with self.own_turn:
+            numbers = self.numbers(box)
+        with self.program_turn:
             catalogue, segments = kernel.detect_stored(
                 numbers, how.threshold, program=self.program, mesh=0, **options, **self.strips
             )
+        with self.own_turn:
+            return self._look(numbers, catalogue, segments)
+
+    def _look(self, numbers: numpy.ndarray, catalogue: Rows, segments: numpy.ndarray) -> tiles.Look:
+        """What is made of the program's answer for these numbers."""
+        how, settings = self.how, self.settings
         least = settings.split_sigmas if settings.contrast is None else 0
         parts = pieces.sources(numbers, catalogue, segments, how.threshold, how.significance, least, how.patch)
         if settings.clean:
@@ -156,13 +165,17 @@ def sources(
 @contextlib.contextmanager
 def _looked_at(detector: Detector, executor: Optional[concurrent.futures.Executor], cores: List[Box]):
     """The pieces of the tiles with these cores. Where they follow each other the next one is prepared while the program
-    looks at one, but the program runs once at a time; in one of several workers each has a processor of its own.
+    looks at one: both the program and Python have one in hand at a time, so that memory has room for both. In one of
+    several workers each has a processor of its own.
     """
     alone = executor is None and len(cores) > 1 and multiprocessing.parent_process() is None
     with contextlib.ExitStack() as stack:
+        stack.callback(spare.give_back)
         if alone:
-            stack.callback(setattr, detector, "turn", contextlib.nullcontext())
-            detector.turn = threading.Lock()
+            spare.one_heap()
+            for name in ("own_turn", "program_turn"):
+                stack.callback(setattr, detector, name, contextlib.nullcontext())
+                setattr(detector, name, threading.Lock())
             executor = stack.enter_context(concurrent.futures.ThreadPoolExecutor(2))
         each = functools.partial(tiles.each, executor)
         yield tiles.with_cut(each(_Tile(detector), cores), detector.plan, functools.partial(each, _Cut(detector)))
