@@ -26,6 +26,9 @@ STEPS = ("CDELT1", "CDELT2")
 MATRIX = [tuple(f"{kind}{row}_{column}" for row in (1, 2) for column in (1, 2)) for kind in ("CD", "PC")]
 # The northern pole of the projection lies where it always does, or its place has no meaning.
 ALWAYS, ANYWHERE = {"LONPOLE": 180.0, "WCSAXES": 2.0, "NAXIS": 2.0}, ("LATPOLE", "EQUINOX")
+# Cards as they stand in a file, with their names, and numbers or texts.
+NUMBER = re.compile(r"([A-Z0-9_]+ *)= +([-+]?(?:\d+\.?\d*|\.\d+)(?:E[-+]?\d+)?) *(?:/.*)?")
+TEXT = re.compile(r"([A-Z0-9_]+ *)= +'([^']*)' *(?:/.*)?")
 # A length below which wcslib rearranges its sum, and the sine from which on it takes a latitude by its cosine.
 SHORT, HIGH = 1e-5, 0.99
 
@@ -120,21 +123,38 @@ class Tangent(NamedTuple):
         return longitude, latitude
 
 
+def _number(card: fits.Card) -> Optional[float]:
+    """The number of a card as it will stand in a file; None where it doesn't stand there as wcslib wants it."""
+    found = NUMBER.fullmatch(card.image)
+    if found is None or found[1].rstrip() != card.keyword:
+        return None
+    value = float(found[2])
+    return value if math.isfinite(value) else None
+
+
+def _says(card: fits.Card, text: str) -> bool:
+    """A card has this text, as wcslib reads it."""
+    found = TEXT.fullmatch(card.image)
+    return found is not None and found[1].rstrip() == card.keyword and found[2].rstrip(" ") == text
+
+
 def _numbers(header: fits.Header) -> Optional[Dict[str, float]]:
-    """The numbers of a WCS's cards as they will stand in a file; None where a card is more than plain."""
-    found = {}
+    """The numbers of a WCS's cards; None where a card is more than plain."""
+    found, texts = {}, set()
     for card in header.cards:
         name = card.keyword
         if not ANY.fullmatch(name):
             continue
-        if name in TEXTS:
-            if card.value != TEXTS[name]:
-                return None
-            continue
-        value = fits.Card.fromstring(card.image).value
-        if name in found or type(value) not in (int, float) or not math.isfinite(value):
+        if name in found or name in texts:
             return None
-        found[name] = float(value)
+        if name in TEXTS:
+            if not _says(card, TEXTS[name]):
+                return None
+            texts.add(name)
+            continue
+        found[name] = _number(card)
+        if found[name] is None:
+            return None
     known = {*WANTED, *STEPS, *ALWAYS, *ANYWHERE, *MATRIX[0], *MATRIX[1]}
     usual = all(found.get(name, value) == value for name, value in ALWAYS.items())
     return found if usual and known.issuperset(found) else None
@@ -162,17 +182,17 @@ def _matrix(found: Dict[str, float]) -> Optional[Tuple[Tuple[float, ...], Option
 
 def of(header: fits.Header) -> Optional[Tangent]:
     """The projection of a header that has a plain one, or else None."""
-    if (
-        any(header.get(name) != TEXTS[name] for name in WANTED[:2])
-        or header.get("RADESYS") is None
-        and "EQUINOX" in header
-    ):
-        return None
     try:
+        if any(header.get(name) != TEXTS[name] for name in WANTED[:2]):
+            return None
+        # Of a header that astropy can't write it reads no WCS either.
+        header.tostring()
         found = _numbers(header)
-    except (fits.VerifyError, ValueError):
+    except Exception:  # noqa: BLE001  astropy raises many kinds.
         return None
-    made = _matrix(found) if found is not None and set(WANTED[2:]) <= set(found) else None
+    if found is None or not set(WANTED[2:]) <= set(found) or ("EQUINOX" in found and "RADESYS" not in header):
+        return None
+    made = _matrix(found)
     if made is None:
         return None
     (a, b, c, d), steps = made

@@ -70,6 +70,36 @@ def test_other_headers_are_left_to_astropy(more):
     assert tangent.of(plain) is None
 
 
+@pytest.mark.parametrize("value", ["-1.0D-04", "-1.0e-04", "\t-1E-4", "-1E-4 1", "'-1E-4'"])
+def test_numbers_that_wcslib_reads_otherwise_are_left_to_it(value):
+    cards = header(random.Random(3))
+    assert "CDELT1" in cards and tangent.of(cards) is not None
+    lines = [f"CDELT1  = {value}".ljust(80) if card.keyword == "CDELT1" else str(card) for card in cards.cards]
+    assert tangent.of(fits.Header.fromstring("".join(lines))) is None
+
+
+def changed(rng, cards):
+    """A header with some bytes changed, as text."""
+    text = list("".join(str(card) for card in cards.cards))
+    for _ in range(rng.randrange(1, 4)):
+        text[rng.randrange(len(text))] = rng.choice("0123456789.+-ED' =/\t,aRCT_")
+    return "".join(text)
+
+
+@pytest.mark.filterwarnings("ignore")
+@pytest.mark.parametrize("seed", range(4))
+def test_of_changed_headers_no_other_places_are_told(seed):
+    rng = random.Random(seed)
+    x, y = numpy.array([1.0, 50.0, 700.0]), numpy.array([3.0, 80.0, 20.0])
+    for _ in range(100):
+        text = changed(rng, header(rng))
+        found = tangent.of(fits.Header.fromstring(text))
+        if found is not None:
+            theirs = WCS(fits.Header.fromstring(text), naxis=2)
+            assert theirs.has_celestial and theirs.wcs.radesys in ("", "ICRS"), text
+            assert (numpy.array(found.places(x, y)) == theirs.all_pix2world(x, y, 1)).all(), text
+
+
 def test_what_is_nowhere_has_no_place():
     found = tangent.Tangent((1.0, 1.0), (150.0, 2.0), ((-1.0, 0.0), (0.0, 1.0)), (-1.0, 1.0))
     longitude, latitude = found.places(numpy.array([1.0, numpy.nan]), numpy.array([1.0, 1.0]))
