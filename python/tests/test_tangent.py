@@ -70,7 +70,7 @@ def test_other_headers_are_left_to_astropy(more):
     assert tangent.of(plain) is None
 
 
-@pytest.mark.parametrize("value", ["-1.0D-04", "-1.0e-04", "\t-1E-4", "-1E-4 1", "'-1E-4'"])
+@pytest.mark.parametrize("value", ["-1.0D-04", "\t-1E-4", "-1E-4 1", "'-1E-4'"])
 def test_numbers_that_wcslib_reads_otherwise_are_left_to_it(value):
     cards = header(random.Random(3))
     assert "CDELT1" in cards and tangent.of(cards) is not None
