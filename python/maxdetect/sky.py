@@ -21,8 +21,6 @@ SAMPLED = 32
 AT_ONCE = 8
 # The part of a cell that has to be left for its level to count.
 ENOUGH = 0.1
-# For more distances between cells SciPy is quicker than it takes to load.
-MOST_DISTANCES = 2**20
 
 # The noise that 32-bit floating-point numbers have room for.
 LEAST_NOISE, MOST_NOISE = 1e-30, 1e30
@@ -78,33 +76,13 @@ def filtered(grid: numpy.ndarray) -> numpy.ndarray:
     return medians(_carried_on(grid))[1:-1, 1:-1]
 
 
-def _nearest(known: numpy.ndarray, rows: numpy.ndarray, columns: numpy.ndarray) -> Tuple[numpy.ndarray, numpy.ndarray]:
-    """The rows and columns of the known places that lie nearest to these: of several the one in the least column, and
-    there in the least row.
-    """
-    height, far = len(known), 2 * sum(known.shape)
-    at = numpy.arange(height)[:, None]
-    above = numpy.maximum.accumulate(numpy.where(known, at, -far), axis=0)
-    below = numpy.minimum.accumulate(numpy.where(known, at, height + far)[::-1], axis=0)[::-1]
-    # In each column the nearest one of the column.
-    lines = numpy.where(at - above <= below - at, above, below)[rows]
-    distances = (lines - rows[:, None]) ** 2 + (numpy.arange(known.shape[1]) - columns[:, None]) ** 2
-    found = distances.argmin(axis=1)
-    return lines[numpy.arange(len(rows)), found], found
-
-
 def filled(grid: numpy.ndarray, known: numpy.ndarray) -> numpy.ndarray:
     """The grid with each number that isn't known replaced by the nearest one that is."""
     if known.all() or not known.any():
         return grid
-    rows, columns = numpy.nonzero(~known)
-    if len(rows) * grid.shape[1] > MOST_DISTANCES:
-        from scipy import ndimage
+    from scipy import ndimage
 
-        return grid[tuple(ndimage.distance_transform_edt(~known, return_distances=False, return_indices=True))]
-    grid = grid.copy()
-    grid[rows, columns] = grid[_nearest(known, rows, columns)]
-    return grid
+    return grid[tuple(ndimage.distance_transform_edt(~known, return_distances=False, return_indices=True))]
 
 
 def _along(grid: numpy.ndarray, mesh: int, places: slice, dtype: str) -> numpy.ndarray:

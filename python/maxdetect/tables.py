@@ -6,7 +6,6 @@ a temporary name beside the one that is wanted, which it gets at the end; so no 
 run leaves an earlier file as it was.
 """
 import contextlib
-import functools
 import os
 import pathlib
 import re
@@ -15,7 +14,7 @@ import shutil
 import stat
 import tempfile
 import warnings
-from typing import TYPE_CHECKING, Callable, Dict, Iterable, Iterator, List, NamedTuple, Optional, Tuple, Union
+from typing import TYPE_CHECKING, Dict, Iterable, Iterator, List, NamedTuple, Optional, Tuple, Union
 
 import numpy
 from astropy.io import fits
@@ -26,8 +25,6 @@ from .errors import Mistake
 from .limits import FORMATS
 from .photometry import FLAGS
 from .rows import Rows
-from .tangent import MOST, Tangent
-from .tangent import of as tangent_of
 
 if TYPE_CHECKING:
     from astropy.table import Table
@@ -126,8 +123,6 @@ STRUCTURE = re.compile(
 )
 
 Image = Tuple[str, numpy.ndarray, Optional[fits.Header]]
-# The celestial coordinates of an image.
-Coordinates = Union["WCS", Tangent]
 
 
 # ---- sky coordinates
@@ -157,12 +152,6 @@ def _wcs(header: Union[None, fits.Header, "WCS"]) -> Optional["WCS"]:
         )
         return None
     return wcs if wcs.has_celestial else None
-
-
-def _coordinates(header: Union[None, fits.Header, "WCS"], count: int) -> Optional[Coordinates]:
-    """The same for so many sources: without astropy where these are few and the header is plain."""
-    plain = tangent_of(header) if isinstance(header, fits.Header) and count <= MOST else None
-    return plain or _wcs(header)
 
 
 def _frame(wcs: "WCS"):
@@ -230,19 +219,6 @@ def _icrs(wcs: "WCS", frame, x: numpy.ndarray, y: numpy.ndarray) -> _Places:
     return _Places(found.ra.deg, found.dec.deg)
 
 
-def _icrs_by(wcs: Coordinates) -> Optional[Callable[[numpy.ndarray, numpy.ndarray], _Places]]:
-    """What gives the places in the ICRS of pixels, counted from 1; None where astropy knows no frame of the WCS."""
-    if isinstance(wcs, Tangent):
-        return functools.partial(_icrs_of_plain, wcs)
-    frame = _frame(wcs)
-    return None if frame is None else functools.partial(_icrs, wcs, frame)
-
-
-def _icrs_of_plain(wcs: Tangent, x: numpy.ndarray, y: numpy.ndarray) -> _Places:
-    longitude, latitude = wcs.places(x, y)
-    return _Places(longitude % 360, latitude)
-
-
 def icrs_places(
     header: Union[fits.Header, "WCS"], x: numpy.ndarray, y: numpy.ndarray
 ) -> Tuple[numpy.ndarray, numpy.ndarray]:
@@ -257,23 +233,23 @@ def icrs_places(
     return centre.longitude, centre.latitude
 
 
-def _add_sky(table: Rows, wcs: Coordinates) -> None:
+def _add_sky(table: Rows, wcs: "WCS") -> None:
     """The columns of the place in the sky, and of the ellipse there."""
     names = ("XWIN", "YWIN") if "XWIN" in table.colnames else ("X", "Y")
     x, y = (numpy.asarray(table[name], dtype="f8") for name in names)
-    icrs = _icrs_by(wcs)
-    if icrs is None:
+    frame = _frame(wcs)
+    if frame is None:
         for name, values in zip(_own_names(wcs), _degrees(wcs, x, y)):
             table[name] = values
             table.describe(name, "deg", "coordinate of the centre in the frame of the image's header")
         return
-    centre = icrs(x, y)
+    centre = _icrs(wcs, frame, x, y)
     table["RA"], table["DEC"] = centre
     if not {"A", "B", "THETA"} <= set(table.colnames):
         return
     angle = numpy.radians(numpy.asarray(table["THETA"]))
-    along = icrs(x + numpy.cos(angle), y + numpy.sin(angle))
-    across = icrs(x - numpy.sin(angle), y + numpy.cos(angle))
+    along = _icrs(wcs, frame, x + numpy.cos(angle), y + numpy.sin(angle))
+    across = _icrs(wcs, frame, x - numpy.sin(angle), y + numpy.cos(angle))
     table["A_SKY"] = numpy.asarray(table["A"]) * centre.apart(along)
     table["B_SKY"] = numpy.asarray(table["B"]) * centre.apart(across)
     table["PA"] = centre.angle_to(along) % 180
@@ -296,20 +272,13 @@ def _add_magnitudes(table: Rows, zeropoint: float, band: str = "") -> None:
         table.describe(f"MAGERR_{name}", "mag", "its standard deviation")
 
 
-def _square_degrees(wcs: Coordinates) -> float:
-    """The area of a pixel on the sky."""
-    if isinstance(wcs, Tangent):
-        return wcs.area
-    from astropy.wcs.utils import proj_plane_pixel_area
-
-    return proj_plane_pixel_area(wcs.celestial)
-
-
-def _add_surface(table: Rows, zeropoint: float, wcs: Optional[Coordinates]) -> None:
+def _add_surface(table: Rows, zeropoint: float, wcs: Optional["WCS"]) -> None:
     """The magnitude of the greatest pixel to a square second of arc, where the sky's scale is known."""
     if wcs is None or "FLUX_MAX" not in table.colnames:
         return
-    area = _square_degrees(wcs) * 3600.0**2
+    from astropy.wcs.utils import proj_plane_pixel_area
+
+    area = proj_plane_pixel_area(wcs.celestial) * 3600.0**2
     with numpy.errstate(invalid="ignore", divide="ignore"):
         peak = numpy.where(table["FLUX_MAX"] > 0, table["FLUX_MAX"], numpy.nan)
         table["MU_MAX"] = zeropoint - 2.5 * numpy.log10(peak / area)
@@ -367,7 +336,7 @@ def finished_rows(
         # Shifts from tile to tile leave traces in the last digits.
         if f"{axis}CEN" in table.colnames:
             table[axis] = numpy.asarray(table[f"{axis}CEN"]) / 1000
-    wcs = _coordinates(header, len(table))
+    wcs = _wcs(header)
     if wcs is not None:
         _add_sky(table, wcs)
     if zeropoint is not None:
