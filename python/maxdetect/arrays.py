@@ -1,14 +1,16 @@
 """The whole way of `maxcat` for an image that is there as an array."""
 import concurrent.futures
 import math
-from typing import Any, Dict, Optional, Tuple
+from typing import TYPE_CHECKING, Any, Dict, Optional, Tuple
 
 import numpy
 from astropy.io import fits
-from astropy.table import Table
 
 from . import detection, stored, tables
 from .estimates import floats
+
+if TYPE_CHECKING:
+    from astropy.table import Table
 
 __all__ = ["ArrayPlane", "catalogue"]
 
@@ -67,7 +69,7 @@ def catalogue(
     executor: Optional[concurrent.futures.Executor] = None,
     program: Optional[str] = None,
     **settings,
-) -> Tuple[Table, numpy.ndarray]:
+) -> Tuple["Table", numpy.ndarray]:
     """The catalogue that `maxcat` writes of an image, and the segmentation map.
 
     `image` has two dimensions and numbers of any kind; it is undefined where it is NaN or masked. `header` has its
@@ -89,4 +91,4 @@ def catalogue(
     )
     segments = numpy.zeros(plane.shape, dtype="i4")
     table = detection.sources(field, executor, segments=segments, program=program)
-    return tables.finished(table, header, zeropoint=zeropoint), segments
+    return tables.finished_rows(table, header, zeropoint=zeropoint).table(), segments

@@ -10,7 +10,7 @@ from .limits import CHECKS, FORMATS, KINDS
 from .words import called, finite, whole
 
 if TYPE_CHECKING:
-    from astropy.table import Table
+    from .rows import Rows
 
 __all__ = ["add", "add_read", "add_run", "check", "is_known", "listed", "names_of", "picked"]
 
@@ -237,7 +237,7 @@ def names_of(given: argparse.Namespace) -> Optional[List[str]]:
     return list(dict.fromkeys(match[1] for _, match in matches))
 
 
-def picked(table: "Table", names: Optional[List[str]]) -> "Table":
+def picked(table: "Rows", names: Optional[List[str]]) -> "Rows":
     """A catalogue's columns of these names, the package's own or else Source Extractor's; all where there are no names.
     Raises Mistake where it hasn't one of them.
     """
@@ -245,16 +245,17 @@ def picked(table: "Table", names: Optional[List[str]]) -> "Table":
         return table
     from . import ldac
 
-    made = type(table)(meta=table.meta)
+    made = table[[]]
     for name in names:
         if name in table.colnames:
             made[name] = table[name]
+            made.describe(name, table.units.get(name), table.texts.get(name, ""))
             continue
         values = ldac.column(name, table)
         if values is None:
             raise Mistake(f"--columns: this image's sources have no {name}{_wanting(name)}")
         made[name] = values
-        made[name].unit, made[name].description = ldac.COLUMNS[name].unit, ldac.COLUMNS[name].text
+        made.describe(name, ldac.COLUMNS[name].unit, ldac.COLUMNS[name].text)
     return made
 
 

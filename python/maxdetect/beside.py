@@ -6,9 +6,8 @@ from typing import Iterable, List, Tuple
 
 import numpy
 import sep
-from scipy import ndimage
 
-from .sky import Sky, filled, grown
+from .sky import Sky, filled, grown, medians
 
 # How far a source's light reaches beyond its pixels.
 GROWTH = 4
@@ -87,9 +86,7 @@ def joined(rows: Iterable[numpy.ndarray], found: Sky) -> Sky:
     known = numpy.isfinite(levels)
     if not known.any():
         return found
-    levels, deviations = (
-        ndimage.median_filter(filled(grid, known), size=3, mode="nearest") for grid in (levels, deviations)
-    )
+    levels, deviations = (medians(filled(grid, known)) for grid in (levels, deviations))
     offset, noise = float(numpy.median(levels)), float(numpy.median(deviations))
     return dataclasses.replace(found, levels=found.levels + offset, deviations=deviations, noise=noise)
 

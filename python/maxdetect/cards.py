@@ -2,8 +2,9 @@
 import math
 from typing import Optional, Union
 
-from astropy import units
 from astropy.io import fits
+
+from . import unittexts
 
 __all__ = ["number", "text", "unit"]
 
@@ -41,7 +42,7 @@ def unit(header: fits.Header) -> Optional[str]:
     """BUNIT, as it stands, if it is a unit or at least the name of one. Raises ValueError where it can't be."""
     name = text(header, "BUNIT")
     try:
-        units.Unit(name or "", parse_strict="silent")
+        unittexts.check(name)
     except Exception as error:  # noqa: BLE001  astropy's parsers raise many kinds.
         raise ValueError(f"BUNIT can't be read: {name} ({type(error).__name__})") from None
     return name

@@ -3,6 +3,7 @@ import argparse
 import concurrent.futures
 import contextlib
 import dataclasses
+import importlib
 import math
 import os
 import shlex
@@ -12,15 +13,19 @@ import warnings
 from typing import Callable, Dict, List, Optional, Union
 
 import numpy
-from astropy.table import Table, vstack
 from astropy.utils.exceptions import AstropyWarning
 
-from . import __version__, asked, checks, detection, headings, kernel, measuring, planefiles, pools, resuming, tables
+from . import __version__, asked, checks, detection, headings, kernel, maps, measuring, planefiles, pools, resuming
+from . import tables
 from .errors import Mistake
+from .rows import Rows
 from .tasks import Task, check_files, check_options, form_of, inputs_of, outputs_of, task_of
 from .telling import about, attempted, say, text, with_image
 
 __all__ = ["run"]
+
+# A map of more pixels isn't held in memory.
+LARGE = 2**22
 
 
 def _nothing(count: int) -> None:
@@ -59,6 +64,18 @@ def _scratch_map(shape):
 
 
 @contextlib.contextmanager
+def _filled_map(segments: Optional[numpy.ndarray], shape):
+    """The map that is to be filled. Where none is asked for a large one stands in a file that goes away, as long as the
+    disk has room for it; None stands for one in memory.
+    """
+    with contextlib.ExitStack() as stack:
+        if segments is None and shape[0] * shape[1] > LARGE:
+            with contextlib.suppress(Mistake, OSError):
+                segments = stack.enter_context(_scratch_map(shape))
+        yield segments
+
+
+@contextlib.contextmanager
 def _maps(task: Task, given: argparse.Namespace, name: Optional[str]):
     """For each field the map that is to be filled, or None; the file of this name has them, where there is one."""
     with contextlib.ExitStack() as stack:
@@ -84,14 +101,14 @@ def _extension(field: detection.Field, task: Task) -> str:
     return name if name and alone else str(field.plane.number)
 
 
-def _finished(table: Table, number: int, task: Task, given: argparse.Namespace) -> Table:
+def _finished(table: Rows, number: int, task: Task, given: argparse.Namespace) -> Rows:
     """What was found in one of the fields, with all that a reader wants."""
     field, unit = task.fields[number], task.units[number]
     extension = _extension(field, task) if given.hdu == "all" else None
     table.meta.update(headings.of_field(field, given.zeropoint), HDU=headings.plain(_extension(field, task)))
     zeropoints = {name: given.zeropoint for name in task.bands[number]} if given.zeropoint is not None else {}
     zeropoints.update(given.band_zeropoint or [])
-    return tables.finished(
+    return tables.finished_rows(
         table,
         field.plane.header,
         zeropoint=given.zeropoint,
@@ -101,25 +118,32 @@ def _finished(table: Table, number: int, task: Task, given: argparse.Namespace) 
     )
 
 
-def _joined(found: List[Table], task: Task, given: argparse.Namespace) -> Table:
+def _behind_each_other(found: List[Rows]) -> Rows:
+    """The rows of several fields, which may have different columns: what one hasn't is masked there."""
+    from astropy.table import vstack
+
+    return Rows.of(vstack([it.table() for it in found], metadata_conflicts="silent"))
+
+
+def _joined(found: List[Rows], task: Task, given: argparse.Namespace) -> Rows:
     """The rows of all fields, with cards that say what was used for each."""
-    table = found[0] if len(found) == 1 else vstack(found, metadata_conflicts="silent")
+    table = found[0] if len(found) == 1 else _behind_each_other(found)
     table.meta = headings.joined([it.meta for it in found])
     table.meta.update(IMAGE=headings.plain(os.path.basename(task.path)), VERSION=f"maxcat {__version__}")
     table.meta["OPTIONS"] = headings.plain(given.options)
     return table
 
 
-def _count_on(table: Table, segments: Optional[numpy.ndarray], before: int) -> None:
+def _count_on(table: Rows, segments: Optional[numpy.ndarray], before: int) -> None:
     """Numbers the sources of a field, in its map too, from those that the fields before it have."""
     table["NUMBER"] += before
     if segments is not None and before:
-        for top in range(0, len(segments), 256):
-            rows = segments[top : top + 256]
-            rows[rows > 0] += before
+        for rows in maps.bands(segments):
+            own = segments[rows]
+            own[own > 0] += before
 
 
-def _draw(table: Table, task: Task, given: argparse.Namespace, segments, names: Dict[str, str], shown=None) -> None:
+def _draw(table: Rows, task: Task, given: argparse.Namespace, segments, names: Dict[str, str], shown=None) -> None:
     """Writes the picture and the page."""
     if given.plot:
         from . import pictures
@@ -130,10 +154,10 @@ def _draw(table: Table, task: Task, given: argparse.Namespace, segments, names: 
         from . import report
 
         with about(given.report):
-            report.write(task.fields[0].image(slice(None)), table, names[given.report], shown)
+            report.write(task.fields[0].image(slice(None)), table.table(), names[given.report], shown)
 
 
-def _write(found: List[Table], task: Task, given: argparse.Namespace, names: Dict[str, str]) -> Table:
+def _write(found: List[Rows], task: Task, given: argparse.Namespace, names: Dict[str, str]) -> Rows:
     """Writes the regions and the catalogue, each file under the name that it has for now, and gives the catalogue."""
     table = _joined(found, task, given)
     if given.regions:
@@ -171,17 +195,18 @@ def _done(task: Task, given: argparse.Namespace, tiles, progress) -> str:
     """Finds and writes a file's sources, and says so."""
     with about(task.output), tables.whole_files(outputs_of(task, given)) as names, _maps(
         task, given, names.get(given.map)
-    ) as maps:
+    ) as planes:
         found, skies, shown = [], [], _check_images(task, given, names)
-        for number, (field, segments) in enumerate(zip(task.fields, maps)):
-            filled = checks.writer({kind: planes[number] for kind, planes in shown.items()})
+        for number, (field, segments) in enumerate(zip(task.fields, planes)):
+            filled = checks.writer({kind: each[number] for kind, each in shown.items()})
             told = _told(filled, skies) if given.report else filled
             more = {"bands": task.bands[number], "told": told, "progress": progress}
-            table = detection.sources(field, tiles, segments=segments, **more)
+            with _filled_map(segments, field.shape) as room:
+                table = detection.sources(field, tiles, segments=room, **more)
             _count_on(table, segments, sum(map(len, found)))
             found.append(_finished(table, number, task, given))
         table = _write(found, task, given, names)
-        _draw(table, task, given, maps[0], names, *skies)
+        _draw(table, task, given, planes[0], names, *skies)
     written = f"{len(table)} sources in {shlex.quote(task.output)}"
     if task.survey_field:
         from . import adding
@@ -254,6 +279,8 @@ def _tiles_pool(given: argparse.Namespace, good: List[Task]) -> Optional[concurr
     # A process would unpack a compressed image by itself, and be sent the pixels that cosmic rays have hit.
     if given.cosmic_rays or not all(plane.mapped for task in good for plane in task.planes):
         return concurrent.futures.ThreadPoolExecutor(given.workers)
+    # What tiles want is loaded once: the workers share it.
+    importlib.import_module("scipy.ndimage")
     return pools.workers(given.workers)
 
 

@@ -11,7 +11,6 @@ near it alone.
 from typing import Callable, Iterator, NamedTuple, Tuple, Union
 
 import numpy
-from scipy import ndimage
 
 from . import boxes
 from .sky import grown
@@ -59,8 +58,11 @@ def _halos(above: numpy.ndarray, labels: numpy.ndarray, segments: numpy.ndarray,
     there, and those away from sources.
     """
     away = (labels != 0) & ~grown(segments != 0, BESIDE)
-    if not away.any():
+    if away.sum() < least:
         return
+    # Seldom, and SciPy takes long to load.
+    from scipy import ndimage
+
     components, _ = ndimage.label(above, numpy.ones((3, 3)))
     found = ndimage.find_objects(components)
     count = numpy.bincount(components[away])

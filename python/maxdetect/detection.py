@@ -1,27 +1,44 @@
 """From a field to its sources: by the program, a tile at a time, and then their photometry."""
 import concurrent.futures
+import contextlib
 import dataclasses
 import functools
-from typing import TYPE_CHECKING, Callable, Dict, NamedTuple, Optional, Tuple, Union
+import multiprocessing
+import threading
+from typing import Callable, Dict, List, NamedTuple, Optional, Tuple, Union
 
 import numpy
 
-from . import cleaning, cosmic, flagmap, kernel, looks, measuring, photometry, pieces, pointlike, scaling, sky, tiles
-from . import wide
+from . import (
+    cleaning,
+    cosmic,
+    flagmap,
+    kernel,
+    looks,
+    maps,
+    measuring,
+    photometry,
+    pieces,
+    pointlike,
+    scaling,
+    sky,
+    spare,
+    tiles,
+)
 from .bands import columns as band_columns
 from .fields import Field, Settings, noise_of, sky_of
 from .limits import TILE
 from .rows import Rows, side_by_side
 from .tiles import Box
 
-if TYPE_CHECKING:
-    from astropy.table import Table
-
 __all__ = ["TILE", "Detector", "Field", "Settings", "sources"]
 
 
 # So many rows of a window are prepared at a time.
 ROWS = 256
+# How far a tile's window reaches beyond its core, in pixels; and how many cores along a side of the squares by which
+# components are cut that are too large for any window.
+MARGIN, SQUARE = 64, 2
 
 
 class Detector:
@@ -30,10 +47,11 @@ class Detector:
     def __init__(self, field: Field, found: sky.Sky, how: looks.Way, program: Optional[str] = None):
         self.field, self.settings, self.program, self.how = field, field.settings, program, how
         self.sky = found if self.settings.mesh else found.flat()
-        self.strips = {}
+        self.strips, self.own_turn, self.program_turn = {}, contextlib.nullcontext(), contextlib.nullcontext()
         whole = Box(0, field.shape[0], 0, field.shape[1])
         reach = cleaning.reach(how.width) if self.settings.clean else 1
-        self.plan = tiles.Plan(field.shape, whole, max(self.settings.tile, 1), tiles.MARGIN, reach=reach)
+        tile = max(self.settings.tile, 1)
+        self.plan = tiles.Plan(field.shape, whole, tile, MARGIN, reach=reach, square=SQUARE * tile)
 
     def noise(self, rows: slice, columns: slice) -> Union[float, numpy.ndarray]:
         """The noise of a window's pixels, in the image's units: one number, or an array."""
@@ -62,11 +80,20 @@ class Detector:
         """The sources of a window, and its maps. Where the field is cleaned, the column KEPT says of each source
         whether it is more than a peak of noise on faint light.
         """
-        numbers, how, settings = self.numbers(box), self.how, self.settings
+        how, settings = self.how, self.settings
         options = {"min_area": how.min_area, "contrast": settings.contrast or 0, "connect": self.plan.connect}
-        catalogue, segments = kernel.detect_stored(
-            numbers, how.threshold, program=self.program, mesh=0, **options, **self.strips
-        )
+        with self.own_turn:
+            numbers = self.numbers(box)
+        with self.program_turn:
+            catalogue, segments = kernel.detect_stored(
+                numbers, how.threshold, program=self.program, mesh=0, **options, **self.strips
+            )
+        with self.own_turn:
+            return self._look(numbers, catalogue, segments)
+
+    def _look(self, numbers: numpy.ndarray, catalogue: Rows, segments: numpy.ndarray) -> tiles.Look:
+        """What is made of the program's answer for these numbers."""
+        how, settings = self.how, self.settings
         least = settings.split_sigmas if settings.contrast is None else 0
         parts = pieces.sources(numbers, catalogue, segments, how.threshold, how.significance, least, how.patch)
         if settings.clean:
@@ -90,7 +117,7 @@ def sources(
     told: Optional[Callable] = None,
     progress: Callable[[int], None] = lambda count: None,
     program: Optional[str] = None,
-) -> "Table":
+) -> Rows:
     """The sources of a field with their photometry, in columns and rows of the image, numbered by their first pixels.
 
     Tiles and photometry run in the executor. `segments`, an array of the image's shape full of zeros, gets the map.
@@ -112,7 +139,8 @@ def sources(
     if len(cores) == 1 and field.settings.workers > 1:
         detector.strips = {"strips": 16, "workers": field.settings.workers}
     progress(0)
-    found = tiles.gathered(tiles.each(executor, _Tile(detector), cores), segments, progress)
+    with _looked_at(detector, executor, cores) as pieces:
+        found = tiles.gathered(pieces, segments, progress)
     table, cut = _cleaned(*found, segments) if field.settings.clean else found
     cleaned = len(found[0]) - len(table)
     own = measuring.sky_of_values(detector)
@@ -131,7 +159,26 @@ def sources(
         table.meta["NCOSMIC"] = int(field.struck.sum())
     # With a weight map the sky's noise is a factor, and no noise of the image.
     table.meta["NOISE" if field.weights is not None else "SIGMA"] = detector.middle_noise()
-    return table.table()
+    return table
+
+
+@contextlib.contextmanager
+def _looked_at(detector: Detector, executor: Optional[concurrent.futures.Executor], cores: List[Box]):
+    """The pieces of the tiles with these cores. Where they follow each other the next one is prepared while the program
+    looks at one: both the program and Python have one in hand at a time, so that memory has room for both. In one of
+    several workers each has a processor of its own.
+    """
+    alone = executor is None and len(cores) > 1 and multiprocessing.parent_process() is None
+    with contextlib.ExitStack() as stack:
+        stack.callback(spare.give_back)
+        if alone:
+            spare.one_heap()
+            for name in ("own_turn", "program_turn"):
+                stack.callback(setattr, detector, name, contextlib.nullcontext())
+                setattr(detector, name, threading.Lock())
+            executor = stack.enter_context(concurrent.futures.ThreadPoolExecutor(2))
+        each = functools.partial(tiles.each, executor)
+        yield tiles.with_cut(each(_Tile(detector), cores), detector.plan, functools.partial(each, _Cut(detector)))
 
 
 def _cleaned(table: Rows, cut: numpy.ndarray, segments: numpy.ndarray) -> Tuple[Rows, numpy.ndarray]:
@@ -141,11 +188,12 @@ def _cleaned(table: Rows, cut: numpy.ndarray, segments: numpy.ndarray) -> Tuple[
     table["NUMBER"] = numpy.arange(1, len(table) + 1, dtype=table["NUMBER"].dtype)
     if kept.all():
         return table, cut
-    new = numpy.zeros(len(kept) + 1, dtype=segments.dtype)
-    new[1:][kept] = numpy.arange(1, kept.sum() + 1)
-    for top in range(0, len(segments), 256):
-        rows = numpy.asarray(segments[top : top + 256])
-        segments[top : top + 256] = numpy.sign(rows) * new[numpy.abs(rows)]
+    new = numpy.zeros(2 * len(kept) + 1, dtype=segments.dtype)
+    new[1 : len(kept) + 1][kept] = numpy.arange(1, kept.sum() + 1)
+    # A number below 0 is the place of its row from the end.
+    new[len(kept) + 1 :] = -new[len(kept) : 0 : -1]
+    for rows in maps.bands(segments):
+        segments[rows] = new[segments[rows]]
     return table, cut[kept]
 
 
@@ -175,6 +223,9 @@ def _with_wide(detector: Detector, table: Rows, segments: numpy.ndarray, executo
     Wide sources are measured above the sky in which they are found, and other sources as if they weren't there: their
     light is that of both.
     """
+    # SciPy, which it stands on, takes long to load.
+    from . import wide
+
     field, found = wide.beneath(detector.field)
     more = wide.found(field, found, segments, detector.program)
     if not len(more.rows):
@@ -201,5 +252,15 @@ class _Tile:
 
     detector: Detector
 
-    def __call__(self, core: Box) -> tiles.Piece:
+    def __call__(self, core: Box) -> tiles.Seen:
         return tiles.tile_sources(self.detector, self.detector.plan, core)
+
+
+@dataclasses.dataclass
+class _Cut:
+    """The work on a square in which components are cut."""
+
+    detector: Detector
+
+    def __call__(self, item: Tuple[Box, numpy.ndarray]) -> tiles.Piece:
+        return tiles.cut_sources(self.detector, self.detector.plan, *item)

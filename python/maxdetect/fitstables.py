@@ -10,6 +10,8 @@ from astropy.io import fits
 __all__ = ["Described", "write"]
 
 BLOCK = 2880
+# So many rows are put together at a time.
+AT_ONCE = 2**13
 # So many letters have room in a card; the last one is no blank.
 SHORT, PRINTABLE = 67, re.compile("[ -~]*[!-~]")
 # The letters of kinds of numbers, by their kind and their bytes.
@@ -105,11 +107,13 @@ def write(path: str, columns: Dict[str, Described], told: fits.Header) -> None:
         _by_astropy(columns, rows, told).writeto(path, overwrite=True)
         return
     kinds = [(name, it.values.dtype.newbyteorder(">"), it.values.shape[1:]) for name, it in columns.items()]
-    array = numpy.empty(rows, dtype=kinds)
-    for name, column in columns.items():
-        array[name] = column.values
+    dtype = numpy.dtype(kinds)
     with open(path, "wb") as file:
         file.write(fits.PrimaryHDU().header.tostring().encode("ascii"))
-        file.write(_header(columns, array.itemsize, rows, told))
-        file.write(array.view("u1"))
-        file.write(bytes(-array.nbytes % BLOCK))
+        file.write(_header(columns, dtype.itemsize, rows, told))
+        for first in range(0, rows, AT_ONCE):
+            array = numpy.empty(min(AT_ONCE, rows - first), dtype=dtype)
+            for name, column in columns.items():
+                array[name] = column.values[first : first + AT_ONCE]
+            file.write(array.view("u1"))
+        file.write(bytes(-rows * dtype.itemsize % BLOCK))

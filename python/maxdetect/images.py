@@ -19,6 +19,8 @@ from . import cards, headers, stored
 from .errors import Mistake
 
 Name = Union[int, str, None]
+# So many rows of a file are looked at at a time.
+AT_ONCE = 256
 
 
 @contextlib.contextmanager
@@ -168,6 +170,19 @@ class Plane:
         """The pixels of some rows and columns less a whole number, NaN where they are undefined: 32 bits where these
         hold the values, and else 64.
         """
+        first, last, _ = rows.indices(self.shape[0])
+        if not self.mapped or last - first <= AT_ONCE:
+            return self._values(rows, columns, less)
+        found = None
+        # A file's pages count as memory as long as they are looked at, and they have whole rows.
+        for top in range(first, last, AT_ONCE):
+            values = self._values(slice(top, min(top + AT_ONCE, last)), columns, less)
+            found = numpy.empty((last - first, values.shape[1]), dtype=values.dtype) if found is None else found
+            found[top - first : top - first + len(values)] = values
+        return found
+
+    def _values(self, rows: slice, columns: slice, less: int) -> numpy.ndarray:
+        """The same, all of them at once."""
         return self._checked(stored.values, self._numbers(rows, columns), self._meaning, less)
 
     def _numbers(self, rows, columns) -> numpy.ndarray:

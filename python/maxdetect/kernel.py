@@ -28,6 +28,7 @@ import pathlib
 import re
 import shutil
 import subprocess
+import sys
 import tempfile
 from typing import TYPE_CHECKING, BinaryIO, Optional, Tuple, Union
 
@@ -50,6 +51,9 @@ LARGE_PAGES = (
     "glibc.malloc.hugetlb=1:glibc.malloc.arena_max=1"
     ":glibc.malloc.mmap_threshold=4194304:glibc.malloc.trim_threshold=4294967296"
 )
+
+# So many rows of an image are handed over at a time.
+AT_ONCE = 256
 
 # Stands for an undefined pixel among 32-bit numbers.
 LEAST = -(2**31)
@@ -283,8 +287,11 @@ def _stored_file(stored):
     """The same of 32-bit numbers as they are to be stored, the least of them for an undefined pixel."""
     height, width = stored.shape
     cards = [("SIMPLE", True), ("BITPIX", 32), ("NAXIS", 2), ("NAXIS1", width), ("NAXIS2", height), ("BLANK", LEAST)]
-    data = stored.astype(">i4", order="C")
-    return fits.Header(cards).tostring().encode("ascii"), data.reshape(-1).view("u1"), bytes(-data.nbytes % 2880)
+    yield fits.Header(cards).tostring().encode("ascii")
+    # Some rows at a time, since a copy of all of them would stand beside the program.
+    for top in range(0, height, AT_ONCE):
+        yield stored[top : top + AT_ONCE].astype(">i4", order="C").reshape(-1).view("u1")
+    yield bytes(-4 * height * width % 2880)
 
 
 def _native(array):
@@ -315,6 +322,32 @@ def _read_rows(file):
         return Rows({name: _native(rows[name]) for name in names}), _native(hdus["SEGMENT"].data)
 
 
+def _written_rows(file):
+    """The same of what the program wrote just now: read as it stands, since astropy loads its tables for one."""
+    found = {header.get("EXTNAME"): (header, place) for header, place in _hdus(file)}
+    header, place = found["SOURCES"]
+    fields = [
+        (header[f"TTYPE{number}"], {"J": ">i4", "K": ">i8"}[header[f"TFORM{number}"]])
+        for number in range(1, header["TFIELDS"] + 1)
+    ]
+    rows = _numbers_at(file, place, numpy.dtype(fields), header["NAXIS2"])
+    header, place = found["SEGMENT"]
+    segments = _numbers_at(file, place, numpy.dtype(">i4"), header["NAXIS1"] * header["NAXIS2"])
+    if sys.byteorder == "little":
+        segments = segments.byteswap(inplace=True)
+    segments = segments.view("i4").reshape(header["NAXIS2"], header["NAXIS1"])
+    return Rows({name: _native(rows[name]) for name, _ in fields}), segments
+
+
+def _numbers_at(file, place, dtype, count):
+    """So many numbers of a kind at a place of a file. Raises ValueError where it has fewer."""
+    file.seek(place)
+    found = numpy.fromfile(file, dtype, count)
+    if len(found) != count:
+        raise ValueError("the file ends within an HDU")
+    return found
+
+
 def described(rows: Rows) -> "Table":
     """A catalogue of the program as astropy's table, with what its columns are."""
     table = rows.table()
@@ -335,7 +368,7 @@ def _answer(output, shape, reading=read):
     """What the program wrote just now of an image of this shape, read so: its last part is an image too."""
     with output:
         try:
-            _check_whole(output)
+            _hdus(output)
             found = reading(output)
         except (OSError, EOFError, KeyError, ValueError, TypeError, IndexError, AttributeError, fits.VerifyError):
             raise Refusal(None, None, "truncated", "what maxdetect wrote is cut short, or no FITS file") from None
@@ -344,20 +377,22 @@ def _answer(output, shape, reading=read):
     return found
 
 
-def _check_whole(file):
-    """Raises ValueError where a file ends within an HDU. astropy would warn and read on, and threads can't catch
-    warnings.
+def _hdus(file):
+    """The headers of a file's HDUs, each with the place where its data begin. Raises ValueError where the file ends
+    within one: astropy would warn and read on, and threads can't catch warnings.
     """
-    size = os.fstat(file.fileno()).st_size
-    place = 0
+    size, place, found = os.fstat(file.fileno()).st_size, 0, []
+    file.seek(0)
     while place < size:
         header = fits.Header.fromfile(file)
         sides = [header[f"NAXIS{axis}"] for axis in range(1, header["NAXIS"] + 1)]
+        found.append((header, file.tell()))
         place = file.tell() - (-(abs(header["BITPIX"]) // 8 * math.prod(sides) if sides else 0) // 2880) * 2880
         file.seek(place)
     if place != size or not size:
         raise ValueError("the file ends within an HDU")
     file.seek(0)
+    return found
 
 
 def _read_plane(file):
@@ -422,7 +457,7 @@ def detect_stored(
     at its range, as plain arrays.
     """
     output = _run(program, _words("detect", {"threshold": threshold, **options}), _stored_file(stored))
-    return _answer(output, stored.shape, _read_rows)
+    return _answer(output, stored.shape, _written_rows)
 
 
 def measure(

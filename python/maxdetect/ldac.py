@@ -5,14 +5,17 @@ FITS_LDAC has two tables for each image: LDAC_IMHEAD with the image's header, an
 import io
 import itertools
 import re
-from typing import Callable, Iterable, Iterator, List, NamedTuple, Optional, Tuple
+from typing import TYPE_CHECKING, Callable, Iterable, Iterator, List, NamedTuple, Optional, Tuple, Union
 
 import numpy
 from astropy.io import fits
-from astropy.table import Table
 
 from .errors import Mistake
 from .images import Plane
+from .rows import Rows
+
+if TYPE_CHECKING:
+    from astropy.table import Table
 
 __all__ = ["COLUMNS", "Part", "column", "save", "write"]
 
@@ -26,12 +29,14 @@ FORM = re.compile(
 MOST_VALUE = 1e30
 
 Made = Optional[numpy.ndarray]
+# A catalogue in either form.
+Catalogue = Union[Rows, "Table"]
 
 
 class Part(NamedTuple):
     """The sources of an image as the package has them, and the image with its shape."""
 
-    table: Table
+    table: Catalogue
     plane: Plane
     shape: Tuple[int, int]
 
@@ -42,18 +47,18 @@ class Column(NamedTuple):
     form: str
     unit: Optional[str]
     text: str
-    made: Callable[[Table], numpy.ndarray]
+    made: Callable[[Catalogue], numpy.ndarray]
 
 
-def _own(name: str, times: float = 1.0) -> Callable[[Table], numpy.ndarray]:
+def _own(name: str, times: float = 1.0) -> Callable[[Catalogue], numpy.ndarray]:
     """A column of the package's, times a number."""
     return lambda table: numpy.asarray(table[name]) * times if times != 1 else numpy.asarray(table[name])
 
 
-def _variance(long: str, short: str, angle: str, which: int, times: float) -> Callable[[Table], numpy.ndarray]:
+def _variance(long: str, short: str, angle: str, which: int, times: float) -> Callable[[Catalogue], numpy.ndarray]:
     """The variance along x (0) or y (1), or the covariance (2), of an ellipse of `times` its standard deviations."""
 
-    def made(table: Table) -> numpy.ndarray:
+    def made(table: Catalogue) -> numpy.ndarray:
         a, b = ((numpy.asarray(table[name], dtype="f8") * times) ** 2 for name in (long, short))
         turned = numpy.radians(numpy.asarray(table[angle], dtype="f8"))
         cosine, sine = numpy.cos(turned), numpy.sin(turned)
@@ -62,7 +67,7 @@ def _variance(long: str, short: str, angle: str, which: int, times: float) -> Ca
     return made
 
 
-def _kron(table: Table) -> numpy.ndarray:
+def _kron(table: Catalogue) -> numpy.ndarray:
     """The Kron ellipse in units of A_IMAGE."""
     return numpy.asarray(table["KRON_RADIUS"]) / (numpy.asarray(table["A"]) / 2)
 
@@ -135,7 +140,7 @@ def _ellipses() -> Iterator[Tuple[str, Column]]:
 COLUMNS = dict(itertools.chain(OF_ONE.items(), _fluxes(), _places(), _ellipses()))
 
 
-def column(name: str, table: Table) -> Made:
+def column(name: str, table: Catalogue) -> Made:
     """Source Extractor's column of this name, of the package's catalogue; None where that hasn't what it is made of."""
     try:
         return COLUMNS[name].made(table) if name in COLUMNS else None
@@ -158,7 +163,7 @@ def _fits_column(name: str, values: numpy.ndarray) -> fits.Column:
     )
 
 
-def _background(table: Table) -> float:
+def _background(table: Catalogue) -> float:
     """The median level of the sky beneath an image's sources, 0 where there are none."""
     levels = numpy.asarray(table["BACKGROUND"] if "BACKGROUND" in table.colnames else [], dtype="f8")
     levels = levels[numpy.isfinite(levels)]
@@ -205,7 +210,7 @@ def _bytes(hdu: fits.BinTableHDU) -> bytes:
     return whole.getvalue()[BLOCK:]
 
 
-def _sources_table(table: Table, names: Optional[List[str]]) -> fits.BinTableHDU:
+def _sources_table(table: Catalogue, names: Optional[List[str]]) -> fits.BinTableHDU:
     """LDAC_OBJECTS with these columns, or with all that can be made. Raises Mistake where one can't be."""
     found = {name: column(name, table) for name in names or COLUMNS}
     missing = [name for name, values in found.items() if values is None]

@@ -3,7 +3,7 @@
 __all__ = ["CHECKS", "FORMATS", "KINDS", "LEAST_MESH", "MOST_MESH", "TILE"]
 
 # The side of a tile's core, in pixels.
-TILE = 2048
+TILE = 1024
 # The cells' sides: noise is told from fewer pixels badly, and of wider ones an image has few.
 LEAST_MESH, MOST_MESH = 8, 512
 # What a weight map has.

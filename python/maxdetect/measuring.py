@@ -12,7 +12,7 @@ from typing import TYPE_CHECKING, Callable, Iterator, List, Optional, Tuple
 
 import numpy
 
-from . import beside, looks, photometry, pointlike, scaling, shapes, sky, smoothing, tiles, windowed
+from . import beside, looks, maps, photometry, pointlike, scaling, shapes, sky, smoothing, tiles, windowed
 from .errors import Mistake
 from .fields import Field, noise_of
 from .rows import Rows, behind_each_other
@@ -59,6 +59,13 @@ def sky_of_values(detector: "Detector") -> Optional[sky.Sky]:
     return found if field.settings.mesh else found.flat()
 
 
+def _taken(segments: numpy.ndarray, rows: slice) -> numpy.ndarray:
+    """Some rows of a map as an array of their own."""
+    found = numpy.array(segments[rows])
+    maps.let_go(segments)
+    return found
+
+
 def sky_beside(
     detector: "Detector", segments: numpy.ndarray, executor: Executor = None, found: Optional[sky.Sky] = None
 ) -> Optional[sky.Sky]:
@@ -69,7 +76,11 @@ def sky_beside(
     found = detector.sky if found is None and field.values is None else found
     if found is None:
         return None
-    rows = ((own, seen, tiles.without_gaps(segments[seen])) for own, seen in beside.bands(field.shape[0], found.mesh))
+    rows = (
+        (own, seen, tiles.without_gaps(part))
+        for own, seen in beside.bands(field.shape[0], found.mesh)
+        for part in [_taken(segments, seen)]
+    )
     return beside.joined(tiles.each(executor, _Row(detector, found), rows), found)
 
 
@@ -213,6 +224,7 @@ def measured(
         items = ((box, table[places], segments[box.rows, box.columns]) for box, places in ahead)
         for (box, places), answer in zip(behind, tiles.each(executor, work, items)):
             progress(0)
+            maps.let_go(segments)
             wanted = numpy.maximum(answer["KRON_RADIUS"], windowed.reach(answer["FLUX_RADIUS"])) + 2
             boxes = _needed(table[places], numpy.maximum(reach[places], wanted), shape)
             held = numpy.array([box.holds(it) for it in boxes])

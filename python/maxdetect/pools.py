@@ -5,6 +5,7 @@ SEP holds Python's lock while it measures, so threads would measure one after th
 import concurrent.futures
 import contextlib
 import ctypes
+import gc
 import multiprocessing
 import os
 import queue
@@ -83,6 +84,8 @@ class _Worker(NamedTuple):
 
 def _begun() -> _Worker:
     context = multiprocessing.get_context("fork")
+    # What is there already stays in pages that all share.
+    gc.freeze()
     here, there = context.Pipe()
     process = context.Process(target=_serve, args=(there, os.getpid()), daemon=True)
     process.start()

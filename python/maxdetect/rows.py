@@ -11,14 +11,42 @@ if TYPE_CHECKING:
 __all__ = ["Rows", "behind_each_other", "side_by_side"]
 
 
+def _plain(values: Any) -> numpy.ndarray:
+    """Values as an array, a masked one where they are masked."""
+    return values if isinstance(values, numpy.ma.MaskedArray) else numpy.asarray(values)
+
+
 class Rows:
     """Columns of one length by their names, and what is told of all of them. A name gives its column, a list of names
-    some of the columns, and whatever else indexes an array some of the rows.
+    some of the columns, and whatever else indexes an array some of the rows. `units` and `texts` have the unit and the
+    description of those columns that have one.
     """
 
-    def __init__(self, columns: Mapping[str, numpy.ndarray], meta: Optional[Dict[str, Any]] = None):
-        self._columns = {name: numpy.asarray(values) for name, values in columns.items()}
-        self.meta = dict(meta or {})
+    def __init__(
+        self,
+        columns: Mapping[str, numpy.ndarray],
+        meta: Optional[Dict[str, Any]] = None,
+        units: Optional[Mapping[str, str]] = None,
+        texts: Optional[Mapping[str, str]] = None,
+    ):
+        self._columns = {name: _plain(values) for name, values in columns.items()}
+        self.meta, self.units, self.texts = dict(meta or {}), dict(units or {}), dict(texts or {})
+
+    @classmethod
+    def of(cls, table: "Table") -> "Rows":
+        """The columns of astropy's table, those that are masked as masked arrays."""
+        columns = {}
+        for name in table.colnames:
+            values = numpy.ma.asarray(table[name])
+            columns[name] = values.data if values.mask is numpy.ma.nomask else values
+        units = {name: str(table[name].unit) for name in table.colnames if table[name].unit is not None}
+        texts = {name: table[name].description for name in table.colnames if table[name].description}
+        return cls(columns, table.meta, units, texts)
+
+    def _like(self, columns: Mapping[str, numpy.ndarray]) -> "Rows":
+        """Columns of the same names, or some of them, of which the same is told."""
+        units, texts = ({name: it for name, it in told.items() if name in columns} for told in (self.units, self.texts))
+        return Rows(columns, self.meta, units, texts)
 
     @property
     def colnames(self) -> List[str]:
@@ -31,11 +59,18 @@ class Rows:
         if isinstance(what, str):
             return self._columns[what]
         if isinstance(what, list) and all(isinstance(name, str) for name in what):
-            return Rows({name: self._columns[name] for name in what}, self.meta)
-        return Rows({name: values[what] for name, values in self._columns.items()}, self.meta)
+            return self._like({name: self._columns[name] for name in what})
+        return self._like({name: values[what] for name, values in self._columns.items()})
 
     def __setitem__(self, name: str, values: numpy.ndarray) -> None:
-        self._columns[name] = numpy.asarray(values)
+        self._columns[name] = _plain(values)
+
+    def describe(self, name: str, unit: Optional[str], text: str) -> None:
+        """Gives a column a unit, or none, and a description."""
+        self.units.pop(name, None)
+        self.texts[name] = text
+        if unit is not None:
+            self.units[name] = unit
 
     def items(self) -> Iterable:
         """The columns with their names."""
@@ -43,13 +78,19 @@ class Rows:
 
     def copy(self) -> "Rows":
         """The same in arrays of its own."""
-        return Rows({name: values.copy() for name, values in self.items()}, self.meta)
+        return self._like({name: values.copy() for name, values in self.items()})
 
     def table(self) -> "Table":
         """The same as astropy's table."""
+        from astropy import units
         from astropy.table import Table
 
-        return Table(self._columns, meta=self.meta, copy=False)
+        table = Table(self._columns, meta=self.meta, copy=False)
+        for name, unit in self.units.items():
+            table[name].unit = units.Unit(unit, parse_strict="silent")
+        for name, text in self.texts.items():
+            table[name].description = text
+        return table
 
 
 def behind_each_other(parts: Sequence[Union[Rows, "Table"]]) -> Rows:

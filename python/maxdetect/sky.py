@@ -9,7 +9,6 @@ import dataclasses
 from typing import Callable, List, Optional, Tuple
 
 import numpy
-from scipy import ndimage
 
 # How many deviations off a mean of 3 by 3 pixels shows a source, how far around it its light is looked for, and from
 # where on a pixel isn't noise.
@@ -39,31 +38,51 @@ def cells_along(side: int, mesh: int) -> int:
     return -(-side // mesh)
 
 
+def _carried_on_along(grid: numpy.ndarray, axis: int) -> numpy.ndarray:
+    """The grid with one more number at both ends of an axis, in a straight line beyond the outermost two: numpy's `pad`
+    does the same, but takes as long as all else for a few cells.
+    """
+    lines = grid if axis == 0 else grid.T
+    made = numpy.empty((len(lines) + 2, lines.shape[1]), dtype=grid.dtype)
+    made[1:-1] = lines
+    next_one = min(1, len(lines) - 1)
+    made[0], made[-1] = 2 * lines[0] - lines[next_one], 2 * lines[-1] - lines[-1 - next_one]
+    if len(lines) == 1:
+        made[0] = made[-1] = lines[0]
+    return made if axis == 0 else numpy.ascontiguousarray(made.T)
+
+
 def _carried_on(grid: numpy.ndarray) -> numpy.ndarray:
     """The grid with one more number on each side, in a straight line beyond the outermost two."""
-    for axis in (0, 1):
-        if grid.shape[axis] > 1:
-            grid = numpy.pad(
-                grid, [(1, 1) if it == axis else (0, 0) for it in (0, 1)], mode="reflect", reflect_type="odd"
-            )
-        else:
-            grid = numpy.pad(grid, [(1, 1) if it == axis else (0, 0) for it in (0, 1)], mode="edge")
-    return grid
+    return _carried_on_along(_carried_on_along(grid, 0), 1)
+
+
+def medians(grid: numpy.ndarray) -> numpy.ndarray:
+    """The median of each number and its neighbours; beyond the edges stands what stands there."""
+    if not numpy.isfinite(grid).all():
+        from scipy import ndimage
+
+        return ndimage.median_filter(grid, size=3, mode="nearest")
+    # Here, since SciPy takes longer to load than a small image's sky.
+    around, (rows, columns) = numpy.pad(grid, 1, mode="edge"), grid.shape
+    near = [around[down : down + rows, across : across + columns] for down in range(3) for across in range(3)]
+    return numpy.sort(near, axis=0)[4]
 
 
 def filtered(grid: numpy.ndarray) -> numpy.ndarray:
     """The median of each number and its neighbours; at the edges the grid is carried on, so that a slope stays as it
     is.
     """
-    return ndimage.median_filter(_carried_on(grid), size=3, mode="nearest")[1:-1, 1:-1]
+    return medians(_carried_on(grid))[1:-1, 1:-1]
 
 
 def filled(grid: numpy.ndarray, known: numpy.ndarray) -> numpy.ndarray:
     """The grid with each number that isn't known replaced by the nearest one that is."""
     if known.all() or not known.any():
         return grid
-    nearest = ndimage.distance_transform_edt(~known, return_distances=False, return_indices=True)
-    return grid[tuple(nearest)]
+    from scipy import ndimage
+
+    return grid[tuple(ndimage.distance_transform_edt(~known, return_distances=False, return_indices=True))]
 
 
 def _along(grid: numpy.ndarray, mesh: int, places: slice, dtype: str) -> numpy.ndarray:
@@ -94,7 +113,7 @@ def between(grid: numpy.ndarray, mesh: int, rows: slice, columns: slice) -> nump
     if down.shape[1] == 1:
         return numpy.repeat(down.astype("f4"), columns.stop - columns.start, axis=1)
     # Between two centres a row changes by the same step from pixel to pixel. The first piece ends at the first centre.
-    padded = numpy.pad(down, [(0, 0), (1, 1)], mode="reflect", reflect_type="odd")
+    padded = _carried_on_along(down, 1)
     start = mesh // 2
     part = ((numpy.arange(mesh) + (0.5 if mesh % 2 == 0 else 0)) / mesh).astype("f4")
     first, last = (columns.start + mesh - start) // mesh, (columns.stop - 1 + mesh - start) // mesh
@@ -177,7 +196,7 @@ def _guess(rows: list, shape: Tuple[int, int], mesh: int, least: float) -> Tuple
     more = [(0, cells_along(side, mesh) - _whole_cells(side, mesh)) for side in shape]
     level = filtered(filled(middle[whole], known))
     level = _carried_on(level)[1:, 1:][: len(level) + more[0][1], : level.shape[1] + more[1][1]]
-    deviation = ndimage.median_filter(filled(deviation[whole], known), size=3, mode="nearest")
+    deviation = medians(filled(deviation[whole], known))
     return level, numpy.pad(deviation, more, mode="edge")
 
 
@@ -381,5 +400,5 @@ def _joined(guess, mean, spread, count, there):
     if not known.any():
         return filtered(guess), numpy.zeros_like(guess), 0.0
     level = numpy.where(there >= least, filled(guess + mean, known), guess + filled(mean, known))
-    deviations = ndimage.median_filter(filled(spread, known), size=3, mode="nearest")
+    deviations = medians(filled(spread, known))
     return filtered(numpy.where(known, guess + mean, level)), deviations, float(numpy.median(spread[known]))

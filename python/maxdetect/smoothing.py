@@ -3,7 +3,6 @@ import math
 from typing import Callable
 
 import numpy
-from scipy import ndimage
 
 from . import sky
 
@@ -16,6 +15,8 @@ WIDTH, REACH = 2 * math.sqrt(2 * math.log(2)), 4.0
 CELL, LEAST_CELL, MOST_BANDS = 6, 16, 24
 # How many pixels are summed up at a time.
 CACHED = 2**16
+# From this many columns on SciPy sums along rows: it is quicker, and takes as long to load as a small image to smooth.
+WIDE = 1024
 
 
 def margin(width: float) -> int:
@@ -39,10 +40,7 @@ def smoothed(image: numpy.ndarray, width: float) -> numpy.ndarray:
     finite = numpy.isfinite(image)
     defined = bool(finite.all())
     sums = _along_both(image if defined else numpy.where(finite, image, numpy.float32(0)), weights)
-    down, across = (
-        numpy.sqrt(ndimage.correlate1d(numpy.ones(side), weights**2, mode="constant")).astype("f4")
-        for side in image.shape
-    )
+    down, across = (numpy.sqrt(_along(numpy.ones((1, side)), weights**2)[0]).astype("f4") for side in image.shape)
     total = sums / down[:, None]
     total /= across[None, :]
     if defined:
@@ -57,7 +55,31 @@ def smoothed(image: numpy.ndarray, width: float) -> numpy.ndarray:
 
 def _along_both(image: numpy.ndarray, weights: numpy.ndarray) -> numpy.ndarray:
     """The sums over the neighbours, weighted along rows and columns; beyond the edge is nothing."""
-    return ndimage.correlate1d(_down(image, weights), weights, 1, output="f4", mode="constant")
+    image = _down(image, weights)
+    if image.shape[1] > WIDE:
+        from scipy import ndimage
+
+        return ndimage.correlate1d(image, weights, 1, output="f4", mode="constant")
+    band = max(1, CACHED // 4 // image.shape[1])
+    for top in range(0, len(image), band):
+        image[top : top + band] = _along(image[top : top + band], weights)
+    return image
+
+
+def _along(rows: numpy.ndarray, weights: numpy.ndarray) -> numpy.ndarray:
+    """The sums along rows in 64 bits, by weights that are alike on both sides, in SciPy's order: the neighbours that
+    lie furthest off come first.
+    """
+    reach, width = len(weights) // 2, rows.shape[1]
+    padded = numpy.zeros((len(rows), width + 2 * reach))
+    padded[:, reach : reach + width] = rows
+    sums, pair = padded[:, reach : reach + width] * weights[reach], numpy.empty(rows.shape)
+    for step in range(reach):
+        last = 2 * reach - step
+        numpy.add(padded[:, step : step + width], padded[:, last : last + width], out=pair)
+        pair *= weights[step]
+        sums += pair
+    return sums
 
 
 def _down(image: numpy.ndarray, weights: numpy.ndarray) -> numpy.ndarray:

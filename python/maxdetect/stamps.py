@@ -8,7 +8,7 @@ __all__ = ["LEFT_OUT", "Stamps", "batches", "vignets"]
 # What a vignet has where a pixel is another source's or has no value, as in Source Extractor's.
 LEFT_OUT = -1e30
 # How many pixels are looked at at once.
-MOST = 1 << 21
+MOST = 1 << 18
 
 
 class Stamps(NamedTuple):

@@ -17,22 +17,23 @@ import warnings
 from typing import TYPE_CHECKING, Dict, Iterable, Iterator, List, NamedTuple, Optional, Tuple, Union
 
 import numpy
-from astropy import units
 from astropy.io import fits
-from astropy.table import Table
 
-from . import fitstables
+from . import fitstables, unittexts
 from .columns import CATALOGUE, MEASURES, Column
 from .errors import Mistake
 from .limits import FORMATS
 from .photometry import FLAGS
+from .rows import Rows
 
 if TYPE_CHECKING:
+    from astropy.table import Table
     from astropy.wcs import WCS
 
 __all__ = [
     "FORMATS",
     "finished",
+    "finished_rows",
     "format_of",
     "icrs_places",
     "map_hdu",
@@ -232,7 +233,7 @@ def icrs_places(
     return centre.longitude, centre.latitude
 
 
-def _add_sky(table: Table, wcs: "WCS") -> None:
+def _add_sky(table: Rows, wcs: "WCS") -> None:
     """The columns of the place in the sky, and of the ellipse there."""
     names = ("XWIN", "YWIN") if "XWIN" in table.colnames else ("X", "Y")
     x, y = (numpy.asarray(table[name], dtype="f8") for name in names)
@@ -240,10 +241,7 @@ def _add_sky(table: Table, wcs: "WCS") -> None:
     if frame is None:
         for name, values in zip(_own_names(wcs), _degrees(wcs, x, y)):
             table[name] = values
-            table[name].unit, table[name].description = (
-                units.deg,
-                "coordinate of the centre in the frame of the image's header",
-            )
+            table.describe(name, "deg", "coordinate of the centre in the frame of the image's header")
         return
     centre = _icrs(wcs, frame, x, y)
     table["RA"], table["DEC"] = centre
@@ -260,7 +258,7 @@ def _add_sky(table: Table, wcs: "WCS") -> None:
 # ---- columns
 
 
-def _add_magnitudes(table: Table, zeropoint: float, band: str = "") -> None:
+def _add_magnitudes(table: Rows, zeropoint: float, band: str = "") -> None:
     """Magnitudes and their errors, of the image or of a band; NaN where a flux isn't positive."""
     for name, text in FLUXES.items():
         name = f"{name}_{band}" if band else name
@@ -270,12 +268,11 @@ def _add_magnitudes(table: Table, zeropoint: float, band: str = "") -> None:
         positive = numpy.where(flux > 0, flux, numpy.nan)
         table[f"MAG_{name}"] = zeropoint - 2.5 * numpy.log10(positive)
         table[f"MAGERR_{name}"] = 2.5 / numpy.log(10) * error / positive
-        table[f"MAG_{name}"].description = f"magnitude of the {text}, {zeropoint:g} for a flux of 1"
-        table[f"MAGERR_{name}"].description = "its standard deviation"
-        table[f"MAG_{name}"].unit = table[f"MAGERR_{name}"].unit = units.mag
+        table.describe(f"MAG_{name}", "mag", f"magnitude of the {text}, {zeropoint:g} for a flux of 1")
+        table.describe(f"MAGERR_{name}", "mag", "its standard deviation")
 
 
-def _add_surface(table: Table, zeropoint: float, wcs: Optional["WCS"]) -> None:
+def _add_surface(table: Rows, zeropoint: float, wcs: Optional["WCS"]) -> None:
     """The magnitude of the greatest pixel to a square second of arc, where the sky's scale is known."""
     if wcs is None or "FLUX_MAX" not in table.colnames:
         return
@@ -287,37 +284,42 @@ def _add_surface(table: Table, zeropoint: float, wcs: Optional["WCS"]) -> None:
         table["MU_MAX"] = zeropoint - 2.5 * numpy.log10(peak / area)
 
 
-def _describe(table: Table, unit: Optional[str]) -> None:
+def _unit(known: Optional[str], flux: Optional[str]) -> Optional[str]:
+    """The unit of a column that `COLUMNS` has, where `flux` is the image's, or None."""
+    return (flux or None) if known == "FLUX" else known
+
+
+def _describe(table: Rows, unit: Optional[str]) -> None:
     """Units and descriptions for the columns that lack them."""
-    flux = units.Unit(unit, parse_strict="silent") if unit else None
     for name in table.colnames:
         known, text = COLUMNS.get(name, (None, ""))
-        column = table[name]
-        if column.unit is None and known:
-            column.unit = flux if known == "FLUX" else units.Unit(known)
-        if name in COLUMNS or not column.description:
-            column.description = text or name.lower().replace("_", " ")
+        told = table.texts.get(name) if name not in COLUMNS else text
+        told = told or text or name.lower().replace("_", " ")
+        table.describe(name, table.units.get(name, _unit(known, unit)), told)
 
 
-def _describe_band(table: Table, band: str, unit: Optional[str]) -> None:
+def _describe_band(table: Rows, band: str, unit: Optional[str]) -> None:
     """Units and descriptions for the columns of a band."""
-    flux = units.Unit(unit, parse_strict="silent") if unit else None
     for name in table.colnames:
         known, text = COLUMNS.get(name.removesuffix(f"_{band}"), (None, ""))
         if name.endswith(f"_{band}") and text:
-            table[name].unit = flux if known == "FLUX" else known and units.Unit(known)
-            table[name].description = f"{text}, in {band}"
+            table.describe(name, _unit(known, unit), f"{text}, in {band}")
 
 
-def finished(
-    table: Table,
+def finished(table: "Table", header: Union[None, fits.Header, "WCS"], **more) -> "Table":
+    """The same as `finished_rows` of astropy's table."""
+    return finished_rows(Rows.of(table), header, **more).table()
+
+
+def finished_rows(
+    table: Rows,
     header: Union[None, fits.Header, "WCS"],
     *,
     zeropoint: Optional[float] = None,
     unit: Optional[str] = None,
     extension: Union[None, int, str] = None,
     bands: Optional[Dict[str, Tuple[Optional[float], Optional[str]]]] = None,
-) -> Table:
+) -> Rows:
     """A copy of a catalogue with all that a reader wants: sky coordinates, magnitudes, and units and descriptions of
     every column.
 
@@ -341,9 +343,8 @@ def finished(
         _add_magnitudes(table, zeropoint)
         _add_surface(table, zeropoint, wcs)
     if extension is not None:
-        table.add_column(
-            numpy.full(len(table), str(extension), dtype=f"U{max(len(str(extension)), 1)}"), index=0, name="EXTENSION"
-        )
+        names = numpy.full(len(table), str(extension), dtype=f"U{max(len(str(extension)), 1)}")
+        table = Rows({"EXTENSION": names, **dict(table.items())}, table.meta, table.units, table.texts)
     if unit is None and isinstance(header, fits.Header):
         unit = str(header.get("BUNIT", "")).strip() or None
     for band, (point, own) in (bands or {}).items():
@@ -433,16 +434,6 @@ def _fits_value(value) -> bool:
     )
 
 
-def _fits_unit(unit) -> Optional[str]:
-    """A unit as FITS spells it, or as it stands where FITS has no such unit."""
-    if unit is None:
-        return None
-    try:
-        return unit.to_string("fits")
-    except ValueError:
-        return str(unit)
-
-
 def _filled(column) -> numpy.ndarray:
     """A column's values; those that aren't there, as where one of several images has no WCS, are NaN, 0 or empty."""
     values = numpy.ma.asarray(column)
@@ -451,10 +442,11 @@ def _filled(column) -> numpy.ndarray:
     return values.filled(numpy.nan if values.dtype.kind == "f" else "" if values.dtype.kind in "US" else 0)
 
 
-def _write_fits(table: Table, path: str) -> None:
+def _write_fits(table: Rows, path: str) -> None:
     """Writes a catalogue with each column's description in a TCOMM card and what `meta` has in cards."""
+    units = {name: unittexts.in_fits(unit) for name, unit in table.units.items()}
     columns = {
-        name: fitstables.Described(_filled(table[name]), _fits_unit(table[name].unit), table[name].description or "")
+        name: fitstables.Described(_filled(table[name]), units.get(name), table.texts.get(name, ""))
         for name in table.colnames
     }
     # Some descriptions are too long for one card, and go on in the next ones.
@@ -468,9 +460,9 @@ def _write_fits(table: Table, path: str) -> None:
         fitstables.write(path, columns, told)
 
 
-def _flat(table: Table) -> Table:
+def _flat(table: "Table") -> "Table":
     """A catalogue with a column for each number of its vectors, as text has it; without squares of pixels."""
-    made = Table(meta=table.meta)
+    made = type(table)(meta=table.meta)
     for name in table.colnames:
         column = table[name]
         if column.ndim == 2:
@@ -481,7 +473,7 @@ def _flat(table: Table) -> Table:
     return made
 
 
-def write(table: Table, path: Union[str, os.PathLike], kind: Optional[str] = None) -> None:
+def write(table: Union[Rows, "Table"], path: Union[str, os.PathLike], kind: Optional[str] = None) -> None:
     """Writes a catalogue as FITS, CSV, ECSV or VOTable, by the end of its name or as `kind` says; an earlier file is
     replaced.
 
@@ -492,22 +484,29 @@ def write(table: Table, path: Union[str, os.PathLike], kind: Optional[str] = Non
     kind = kind or format_of(path)
     if kind == "ldac":
         raise Mistake(f"{path}: FITS_LDAC has the headers of its images, which a table hasn't")
-    table = _flat(table) if kind == "csv" else table
-    with whole_file(path) as name, warnings.catch_warnings():
-        warnings.simplefilter("ignore", units.UnitsWarning)
+    with whole_file(path) as name:
         if kind == "fits":
-            _write_fits(table, name)
+            _write_fits(table if isinstance(table, Rows) else Rows.of(table), name)
         else:
-            # A VOTable of 33,000 sources takes 20 seconds as text, and one in binary form.
-            form, more = {
-                "csv": ("ascii.csv", {}),
-                "ecsv": ("ascii.ecsv", {}),
-                "votable": ("votable", {"tabledata_format": "binary"}),
-            }[kind]
-            table.write(name, format=form, overwrite=True, **more)
+            _write_by_astropy(table.table() if isinstance(table, Rows) else table, name, kind)
 
 
-def _region_lines(table: Table) -> Iterator[str]:
+def _write_by_astropy(table: "Table", path: str, kind: str) -> None:
+    """Writes a catalogue as CSV, ECSV or VOTable."""
+    from astropy import units
+
+    # A VOTable of 33,000 sources takes 20 seconds as text, and one in binary form.
+    form, more = {
+        "csv": ("ascii.csv", {}),
+        "ecsv": ("ascii.ecsv", {}),
+        "votable": ("votable", {"tabledata_format": "binary"}),
+    }[kind]
+    with warnings.catch_warnings():
+        warnings.simplefilter("ignore", units.UnitsWarning)
+        (_flat(table) if kind == "csv" else table).write(path, format=form, overwrite=True, **more)
+
+
+def _region_lines(table: Union[Rows, "Table"]) -> Iterator[str]:
     """The lines of a region file: an ellipse for each source."""
     yield "# Region file format: DS9"
     if {"RA", "DEC", "A_SKY", "B_SKY", "PA"} <= set(table.colnames):
@@ -533,7 +532,7 @@ def _region_lines(table: Table) -> Iterator[str]:
             yield form.format(*values, (angle + turn) % 360, number)
 
 
-def regions(table: Table, path: Union[str, os.PathLike]) -> None:
+def regions(table: Union[Rows, "Table"], path: Union[str, os.PathLike]) -> None:
     """Writes a region file for DS9: the sources' ellipses, in sky coordinates where the table has RA and DEC, else
     in pixels.
     """

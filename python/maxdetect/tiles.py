@@ -18,12 +18,11 @@ import contextlib
 import dataclasses
 import itertools
 import os
-from typing import TYPE_CHECKING, Callable, Iterable, Iterator, List, Optional, Tuple
+from typing import TYPE_CHECKING, Callable, Dict, Iterable, Iterator, List, NamedTuple, Optional, Tuple
 
 import numpy
-from scipy import ndimage
 
-from . import kernel
+from . import kernel, maps
 from .background import Above, lower_median, undefined_cells
 from .rows import Rows, behind_each_other
 from .sky import cells_along
@@ -110,11 +109,22 @@ class Piece:
     cut: numpy.ndarray
 
 
+class Seen(NamedTuple):
+    """What is seen of the tile with a core: its piece, and the places of the core that belong to components which no
+    window holds, as rows and columns of the whole.
+    """
+
+    core: "Box"
+    piece: Piece
+    unheld: numpy.ndarray
+
+
 @dataclasses.dataclass(frozen=True)
 class Plan:
     """How an image is cut: its shape, the part of it whose sources are wanted, the side of a tile's core, the margin,
     the mesh of the program's background, and which pixels are neighbours. The sources' columns and rows are those of
-    the part. What is made of a component depends on the pixels up to `reach` columns and rows from it.
+    the part. What is made of a component depends on the pixels up to `reach` columns and rows from it. Components that
+    no window holds are cut by squares with the side `square`, a multiple of a core's; 0 stands for that of a core.
     """
 
     shape: Tuple[int, int]
@@ -125,6 +135,7 @@ class Plan:
     flat: bool = False
     connect: int = 8
     reach: int = 1
+    square: int = 0
 
     @property
     def whole(self) -> Box:
@@ -139,6 +150,12 @@ class Plan:
             Box(top, min(top + self.tile, part.bottom), left, min(left + self.tile, part.right))
             for top, left in corners
         ]
+
+    def square_of(self, core: Box) -> Box:
+        """The square of a core."""
+        part, side = self.part, self.square or self.tile
+        top, left = (low - (low - first) % side for low, first in ((core.top, part.top), (core.left, part.left)))
+        return Box(top, min(top + side, part.bottom), left, min(left + side, part.right))
 
     def around(self, box: Box, margin: int) -> Box:
         """The window with a margin around a box, as far as the image goes, of whole cells."""
@@ -208,7 +225,17 @@ def _labelled(look: Look, connect: int) -> numpy.ndarray:
 
 
 def _label(above: numpy.ndarray, connect: int) -> numpy.ndarray:
+    # An image of one window wants no components, and SciPy takes long to load.
+    from scipy import ndimage
+
     return ndimage.label(above, numpy.ones((3, 3)) if connect == 8 else None)[0]
+
+
+def _places_of(labels: numpy.ndarray) -> list:
+    """For each number of a map from 1 on the rows and columns of the box that holds it, or None."""
+    from scipy import ndimage
+
+    return ndimage.find_objects(labels)
 
 
 def _crosses(look: Look, rows: slice, columns: slice, out: numpy.ndarray, at_core: numpy.ndarray, connect: int) -> bool:
@@ -334,32 +361,33 @@ def _held(look_at: Callable[[Box], Look], plan: Plan, part: Part) -> Optional[Tu
         if labels[at] not in _reaching_out(labels, window, plan):
             return look, window, component
         parts = _sure_parts(component, window, plan)
-        box, margin = _moved_box(ndimage.find_objects(parts)[parts[at] - 1], window), 2 * margin
+        box, margin = _moved_box(_places_of(parts)[parts[at] - 1], window), 2 * margin
 
 
-def _all_held(look_at: Callable[[Box], Look], plan: Plan, core: Box, parts: List[Part]) -> Iterator[Piece]:
-    """The sources of the core in the components of which parts are known, each from a window that holds it, and those
-    that no window holds as the widest one around the core shows them. Several parts may be of one component.
+def _all_held(
+    look_at: Callable[[Box], Look], plan: Plan, core: Box, parts: List[Part]
+) -> Tuple[List[Piece], numpy.ndarray]:
+    """The sources of the core in the components of which parts are known, each from a window that holds it; and the
+    places of those that no window holds. Several parts may be of one component.
     """
-    found, cut = numpy.zeros(core.shape, dtype=bool), []
+    found, pieces, unheld = numpy.zeros(core.shape, dtype=bool), [], [numpy.zeros((0, 2), dtype=int)]
     for part in parts:
         if found[tuple(part.places[0] - (core.top, core.left))]:
             continue
         held = _held(look_at, plan, part)
         if held is None:
-            cut.append(part.places)
+            unheld.append(part.places)
             continue
         look, window, component = held
         (rows, columns), inner, here = _firsts(look.catalogue), core.within(window), window.within(core)
-        yield _picked(look, window, plan, component[rows, columns] & in_box(look.catalogue, inner))
+        pieces.append(_picked(look, window, plan, component[rows, columns] & in_box(look.catalogue, inner)))
         found[here.rows, here.columns] |= component[inner.rows, inner.columns]
-    if cut:
-        yield _cut(look_at, plan, core, numpy.concatenate(cut))
+    return pieces, numpy.concatenate(unheld)
 
 
-def _cut(look_at: Callable[[Box], Look], plan: Plan, core: Box, places: numpy.ndarray) -> Piece:
-    """The sources that have some places of the core, in the widest window around it, and on the map these places."""
-    window = plan.widest_window(core)
+def cut_sources(look_at: Callable[[Box], Look], plan: Plan, square: Box, places: numpy.ndarray) -> Piece:
+    """The sources that have some places of a square, in the widest window around it, and on the map these places."""
+    window = plan.widest_window(square)
     look, among = look_at(window), numpy.zeros(window.shape, dtype=bool)
     among[tuple((places - (window.top, window.left)).T)] = True
     return _picked(look, window, plan, numpy.isin(look.catalogue["NUMBER"], look.segments[among]), among)
@@ -405,14 +433,14 @@ def look_over(look_at: Callable[[Box], Look], plan: Plan, core: Box, margin: int
 def _parts(components: numpy.ndarray, window: Box, core: Box, plan: Plan) -> List[Part]:
     """What is known of some components that a window doesn't hold: all pixels of the core are sure."""
     inner, parts = core.within(window), _sure_parts(components, window, plan)
-    at_core, boxes = parts[inner.rows, inner.columns], ndimage.find_objects(parts)
+    at_core, boxes = parts[inner.rows, inner.columns], _places_of(parts)
     return [
         Part(numpy.argwhere(at_core == number) + (core.top, core.left), _moved_box(boxes[number - 1], window))
         for number in numpy.unique(at_core[at_core > 0])
     ]
 
 
-def complete(look_at: Callable[[Box], Look], plan: Plan, core: Box, piece: Piece, parts: List[Part]) -> Piece:
+def complete(look_at: Callable[[Box], Look], plan: Plan, core: Box, piece: Piece, parts: List[Part]) -> Seen:
     """A tile's piece with the sources that its window didn't hold: from a larger window of the tile where they are
     many, or from windows of their own.
     """
@@ -423,10 +451,11 @@ def complete(look_at: Callable[[Box], Look], plan: Plan, core: Box, piece: Piece
             break
         piece, parts = look_over(look_at, plan, core, margin)
         margin *= 2
-    return joined([piece, *_all_held(look_at, plan, core, parts)])
+    pieces, unheld = _all_held(look_at, plan, core, parts)
+    return Seen(core, joined([piece, *pieces]), unheld)
 
 
-def tile_sources(look_at: Callable[[Box], Look], plan: Plan, core: Box) -> Piece:
+def tile_sources(look_at: Callable[[Box], Look], plan: Plan, core: Box) -> Seen:
     """The sources that belong to a tile. `look_at` looks at a window."""
     return complete(look_at, plan, core, *look_over(look_at, plan, core, plan.margin))
 
@@ -459,6 +488,24 @@ def each(executor: Optional[concurrent.futures.Executor], work: Callable, items:
             future.cancel()
 
 
+def with_cut(
+    tiles: Iterable[Seen], plan: Plan, cut: Callable[[Iterable[Tuple[Box, numpy.ndarray]]], Iterable[Piece]]
+) -> Iterator[Piece]:
+    """A piece for each tile. The last one has the sources that are cut, too: `cut` gives a piece for each square that
+    has places in components which no window holds, and for these places.
+    """
+    unheld: Dict[Box, List[numpy.ndarray]] = {}
+    last = None
+    for seen in tiles:
+        if last is not None:
+            yield last
+        last = seen.piece
+        if len(seen.unheld):
+            unheld.setdefault(plan.square_of(seen.core), []).append(seen.unheld)
+    squares = sorted(unheld, key=lambda square: (square.top, square.left))
+    yield joined([last, *cut((square, numpy.concatenate(unheld[square])) for square in squares)])
+
+
 def numbered(tables: List[Rows]) -> Tuple[Rows, numpy.ndarray]:
     """The tables' rows as one, numbered from 1 by their first pixels; and where each row stood."""
     some = [table for table in tables if len(table)] or tables[:1]
@@ -478,8 +525,8 @@ def renumber(segments: numpy.ndarray, places: numpy.ndarray) -> None:
     numbers[-places - 1] = -numpy.arange(1, len(places) + 1)
     if (numbers[1 : len(places) + 1] == numpy.arange(1, len(places) + 1)).all():
         return
-    for top in range(0, len(segments), 256):
-        segments[top : top + 256] = numbers[segments[top : top + 256]]
+    for rows in maps.bands(segments):
+        segments[rows] = numbers[segments[rows]]
 
 
 def without_gaps(segments: numpy.ndarray) -> numpy.ndarray:
@@ -489,8 +536,8 @@ def without_gaps(segments: numpy.ndarray) -> numpy.ndarray:
 
 def hide(segments: numpy.ndarray) -> None:
     """Takes out of a map that `gathered` filled, in place, the pixels that it isn't to show."""
-    for top in range(0, len(segments), 256):
-        segments[top : top + 256] = numpy.maximum(segments[top : top + 256], 0)
+    for rows in maps.bands(segments):
+        segments[rows] = numpy.maximum(segments[rows], 0)
 
 
 def gathered(
@@ -503,6 +550,7 @@ def gathered(
     for piece in pieces:
         numbers = piece.owners + (count + 1)
         segments.reshape(-1)[piece.pixels] = numpy.where(piece.shown, numbers, -numbers)
+        maps.let_go(segments)
         count += len(piece.catalogue)
         tables.append(piece.catalogue)
         cut.append(piece.cut)
@@ -546,6 +594,8 @@ class _Windows:
         empty = undefined_cells(undefined, mesh)
         if empty is None:
             return window
+        from scipy import ndimage
+
         lone, seen = ndimage.binary_erosion(undefined, numpy.ones((3, 3)), border_value=1), window.copy()
         for down, across in numpy.argwhere(empty):
             free = numpy.argwhere(lone[down * mesh : (down + 1) * mesh, across * mesh : (across + 1) * mesh])
@@ -685,8 +735,12 @@ def detect_tiles(
     with contextlib.ExitStack() as stack:
         pool = executor or stack.enter_context(concurrent.futures.ThreadPoolExecutor(os.cpu_count()))
         looked = each(pool, _ArrayTile(plan, threshold, options, fill), windows)
-        pieces = (complete(everything, plan, core, piece, parts) for core, piece, parts in looked)
-        table, cut = gathered(pieces, segments, progress)
+        seen = (complete(everything, plan, core, piece, parts) for core, piece, parts in looked)
+
+        def cut_at(squares):
+            return (cut_sources(everything, plan, square, places) for square, places in squares)
+
+        table, cut = gathered(with_cut(seen, plan, cut_at), segments, progress)
     if cut.any():
         table.meta["CUT"] = numpy.asarray(table["NUMBER"])[cut].tolist()
     return kernel.described(table), segments

@@ -6,7 +6,8 @@ import pytest
 from scipy import ndimage
 
 import maxdetect
-from maxdetect import background, tiles
+from maxdetect import background, detection, photometry, tiles
+from maxdetect.arrays import ArrayPlane
 
 WORDS = {"min_area": 3, "connect": 8}
 
@@ -232,3 +233,22 @@ def test_tiles_of_a_crowd(tile):
     whole = maxdetect.detect(image, 68, **options)
     assert len(whole[0]) > 500
     are_the_same(whole, maxdetect.detect_tiles(image, 68, tile, **options))
+
+
+def test_components_are_cut_by_squares_whatever_the_tiles(monkeypatch, stars):
+    """Where no window holds them: halves of tiles in squares give what the tiles gave."""
+    rows, columns = numpy.mgrid[:256, :256]
+    image = (stars[0] + 900 * numpy.exp(-((rows - 128) ** 2 + (columns - 120) ** 2) / 8000)).astype("f4")
+    found = []
+    monkeypatch.setattr(tiles, "MOST_PIXELS", 100**2)
+    for tile, margin, square in ((64, 16, 1), (32, 8, 2)):
+        monkeypatch.setattr(detection, "MARGIN", margin)
+        monkeypatch.setattr(detection, "SQUARE", square)
+        segments = numpy.zeros(image.shape, dtype="i4")
+        settings = detection.Settings(tile=tile, mesh=0, fwhm=2.5)
+        found.append((detection.sources(detection.Field(ArrayPlane(image), settings), segments=segments), segments))
+    (one, segments), (other, others) = found
+    assert (numpy.asarray(one["FLAGS"]) & photometry.CUT != 0).sum() > 5 and len(one) == len(other)
+    assert (segments == others).all()
+    for name in one.colnames:
+        numpy.testing.assert_array_equal(one[name], other[name], name)

@@ -1,0 +1,80 @@
+"""What a small image doesn't load, and that what stands in its place gives the same to the last bit."""
+import os
+import subprocess
+import sys
+
+import numpy
+import pytest
+from astropy import units
+from astropy.io import fits
+from scipy import ndimage
+
+from conftest import TOP
+from maxdetect import sky, smoothing, unittexts
+from maxdetect.tables import COLUMNS
+
+HEAVY = (
+    "astropy.table",
+    "astropy.units",
+    "astropy.wcs",
+    "astropy.coordinates",
+    "scipy.ndimage",
+    "scipy.special",
+    "tqdm",
+)
+SCRIPT = f"""
+import sys
+from maxdetect import cli
+status = cli.main(sys.argv[1:])
+print([name for name in {HEAVY} if name in sys.modules])
+sys.exit(status)
+"""
+
+
+def test_a_small_image_loads_no_more_than_it_wants(tmp_path, stars):
+    fits.writeto(tmp_path / "image.fits", stars[0], fits.Header({"BUNIT": "adu"}))
+    words = [sys.executable, "-c", SCRIPT, "image.fits", "-o", "cat.fits", "--zeropoint", "25", "--regions", "all.reg"]
+    environment = {**os.environ, "PYTHONPATH": str(TOP / "python")}
+    done = subprocess.run(words, cwd=tmp_path, env=environment, stdout=subprocess.PIPE, text=True, check=True)
+    assert done.stdout.splitlines()[-1] == "[]"
+    assert "MAG_AUTO" in fits.getdata(tmp_path / "cat.fits", 1).names
+
+
+def spelled(text):
+    """A unit as astropy spells it for FITS."""
+    unit = units.Unit(text, parse_strict="silent")
+    try:
+        return unit.to_string("fits")
+    except ValueError:
+        return str(unit)
+
+
+@pytest.mark.filterwarnings("ignore::astropy.units.UnitsWarning")
+def test_units_are_spelled_as_astropy_does():
+    assert unittexts.IN_FITS == {text: spelled(text) for text in unittexts.IN_FITS}
+    assert {unit for unit, _ in COLUMNS.values() if unit not in (None, "FLUX")} <= set(unittexts.IN_FITS)
+    for text in ("furlongs", "1e-20 erg/s/cm^2/Angstrom", "nanomaggy", "m"):
+        assert unittexts.in_fits(text) == spelled(text)
+
+
+def grids(count, most):
+    """Grids of random numbers, of which some are alike."""
+    rng = numpy.random.default_rng(count)
+    for _ in range(count):
+        grid = rng.normal(size=rng.integers(1, most, 2))
+        grid[rng.random(grid.shape) < 0.2] = 0.5
+        yield rng, grid
+
+
+def test_medians_are_those_of_scipy():
+    for _, grid in grids(200, 9):
+        assert (sky.medians(grid) == ndimage.median_filter(grid, size=3, mode="nearest")).all()
+
+
+@pytest.mark.parametrize("width", [0.5, 2.0, 3.7, 15.0])
+def test_sums_along_rows_are_those_of_scipy(width):
+    reach = smoothing.margin(width)
+    weights = numpy.exp(-0.5 * (numpy.arange(-reach, reach + 1) * smoothing.WIDTH / width) ** 2)
+    for _, grid in grids(50, 90):
+        own, theirs = smoothing._along(grid, weights), ndimage.correlate1d(grid, weights, 1, mode="constant")
+        assert (own == theirs).all()
