@@ -5,8 +5,8 @@ usage: python3 scripts/check_documents.py      (at the top of the repository; ex
 The crates stand in docs/ARCHITECTURE.md, docs/PROVED.md and bench/RESULTS.md as crates.txt has them, in its order; each
 name that docs/DEFINITIONS.md explains is a definition's; each file that a document links to or names is there; what
 speaks of the catalogue's columns has those of `fits_write`, in their order; no two documents share a paragraph; and a
-byte's way through `detect`, as docs/ARCHITECTURE.md draws it, is through at most thirteen crates. What is amiss among the
-definitions themselves `scripts/definitions.py --check` says.
+byte's way through `detect`, as docs/ARCHITECTURE.md draws it, is through at most thirteen crates. What is amiss among
+the definitions themselves `scripts/definitions.py --check` says.
 """
 import itertools
 import pathlib
