@@ -1,6 +1,6 @@
 -- Bands of the pixels of a plane.
 use Rattle.std.proofs.Common.{◌≡◌, ℕ, ◌+◌, ◌*◌, ◌/◌, ◌%◌, ◌<◌, ◌≤◌, min, sym, ◌∙◌, ap, subst, arith, ◌⊎◌, inl, inr, List, length}
-use Rattle.std.specs.Prelude.{ℤ, Option, Some, None, IfSome, Result, Ok, Err, OnOk, OnErr}
+use Rattle.std.specs.Prelude.{ℤ, Option, Some, None, IfSome}
 use Rattle.std.specs.Fork.{IsChunk, AllInChunks}
 use Rattle.std.proofs.lemmas.Bool.{cases_lt}
 use Rattle.std.proofs.lemmas.Nat.{mod-mul-add}
@@ -9,9 +9,9 @@ use Rattle.std.proofs.Math.Nat.{mul-le-mul_right, zero-mul}
 use Rattle.std.proofs.lemmas.Option.{get_or_from_slice_get, slice_get_within}
 use denote.Ref.{MutBor}
 use denote.Param.Members.{Shared}
-use Rattle.comp_tree.specs.Limits.{IsWithin, value_bound}
-use Rattle.comp_tree.specs.Raster.{HasValuesInRange, HasValuesWithin, value_at}
-use Rattle.comp_tree.specs.Bands.{LeavesInRange}
+use Rattle.comp_tree.specs.Limits.{IsWithin}
+use Rattle.comp_tree.specs.Raster.{HasValuesWithin, value_at}
+use Rattle.comp_tree.specs.Bands.{LeavesWithin}
 use Rattle.comp_tree.proofs.Values.{in_range-value}
 
 -- ---- how many pixels a band has
@@ -53,20 +53,12 @@ in_range-band bound values band size start range chunk p v is =
     read bound (value_at values (start + p)) (in_range-value bound values (start + p) range)
     (sym (chunk.elements p None lt) ∙ get_or_from_slice_get band p (Some v) None is)
 
--- values that calls left, each in its band, are within their range if all that a call may leave is
-pub in_range-bands : {F : Type 0} (g : Shared F (ℕ × (MutBor (List (Option ℤ)) × Unit {0})) (Unit {0} × (MutBor (List (Option ℤ)) × Unit {0})))
-    (f : F) (size : ℕ) (values new : List (Option ℤ)) → LeavesInRange g f size values → length new ≡ length values → AllInChunks g f size values new
-    → HasValuesWithin (value_bound (length values)) new
-in_range-bands g f size values new leaves same all p v is =
+-- values that calls left, each in its band, are within a bound if all that a call may leave is
+pub within-bands : {F : Type 0} (most : ℕ) (g : Shared F (ℕ × (MutBor (List (Option ℤ)) × Unit {0})) (Unit {0} × (MutBor (List (Option ℤ)) × Unit {0})))
+    (f : F) (size : ℕ) (values new : List (Option ℤ)) → LeavesWithin most g f size values → length new ≡ length values → AllInChunks g f size values new
+    → HasValuesWithin most new
+within-bands most g f size values new leaves same all p v is =
     let in_band = (all p None (omega (arith, same, slice_get_within new p (Some v) is))).1 in
-    read (value_bound (length values)) (value_at in_band.after_call.now in_band.offset)
-    (in_range-value (value_bound (length values)) in_band.after_call.now in_band.offset (leaves in_band.start in_band.argument in_band.after_call in_band.argument_is in_band.call))
+    read most (value_at in_band.after_call.now in_band.offset)
+    (in_range-value most in_band.after_call.now in_band.offset (leaves in_band.start in_band.argument in_band.after_call in_band.argument_is in_band.call))
     (in_band.new_element ∙ get_or_from_slice_get new p (Some v) None is)
-
--- also where there was none
-pub in_range-changed : {F X E : Type 0} (g : Shared F (ℕ × (MutBor (List (Option ℤ)) × Unit {0})) (Unit {0} × (MutBor (List (Option ℤ)) × Unit {0})))
-    (f : F) (size : ℕ) (values new : List (Option ℤ)) (r : Result X E) → HasValuesInRange values → LeavesInRange g f size values
-    → length new ≡ length values → OnOk r (AllInChunks g f size values new) → OnErr r (new ≡ values) → HasValuesInRange new
-in_range-changed g f size values new (Ok x) range leaves same all none =
-    subst (λ n. HasValuesWithin (value_bound n) new) (sym same) (in_range-bands g f size values new leaves same all)
-in_range-changed g f size values new (Err e) range leaves same all none = subst HasValuesInRange (sym none) range

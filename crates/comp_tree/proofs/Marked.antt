@@ -5,7 +5,7 @@ use Rattle.std.specs.List.{range_with_len}
 use Rattle.std.proofs.lemmas.List.{length-map, ext_get_or}
 use Rattle.std.proofs.lemmas.List.FromFn.{get_or-map-range_with_len, length-range_with_len}
 use Rattle.comp_tree.specs.declared.shape.Shape.{Shape}
-use Rattle.comp_tree.specs.Raster.{Raster, HasValuesInRange, HasValuesWithin, pixels, value_at, without_unmarked}
+use Rattle.comp_tree.specs.Raster.{Raster, HasValuesWithin, pixels, value_at, without_unmarked}
 use Rattle.comp_tree.specs.Limits.{IsWithin, value_bound}
 use Rattle.std.proofs.lemmas.Option.{get_or_from_slice_get, slice_get_within}
 use Rattle.comp_tree.proofs.Values.{in_range-value}
@@ -35,7 +35,7 @@ unfolding without_unmarked marked_values pixels
 from-marked_values r marks = refl
 
 -- a marked pixel's value is one of the plane's
-within-marked : (bound : ℕ) (values : List (Option ℤ)) (marks : List Bool) → HasValuesWithin bound values → HasValuesWithin bound (marked_values values marks)
+pub within-marked : (bound : ℕ) (values : List (Option ℤ)) (marks : List Bool) → HasValuesWithin bound values → HasValuesWithin bound (marked_values values marks)
 within-marked bound values marks range p v is = got (value_at (marked_values values marks) p) inside value
   where
     lt : p < length values
@@ -54,8 +54,3 @@ within-marked bound values marks range p v is = got (value_at (marked_values val
     got : (o : Option ℤ) → IfSome o (λ w. IsWithin bound w) → o ≡ Some v → IsWithin bound v
     got None h e = absurd cc
     got (Some w) h e = let same : w ≡ v = cc in subst (λ (z : ℤ). IsWithin bound z) same h
-
-pub in_range-marked : (values : List (Option ℤ)) (marks : List Bool) → HasValuesInRange values → HasValuesInRange (marked_values values marks)
-in_range-marked values marks range =
-    subst (λ n. HasValuesWithin (value_bound n) (marked_values values marks)) (sym (length-marked values marks))
-    (within-marked (value_bound (length values)) values marks range)

@@ -83,17 +83,18 @@ usual_half count few = cond-true (nat_le count (2 ^ 24)) (2 ^ 36) (2 ^ 29) (grin
 pub within_half : (count : ℕ) (v : ℤ) → IsWithin (half_bound count) v → IsInHalfRange v
 within_half count v h = within_more (half_bound count) (2 ^ 36) v (half_most count) h
 
-pub some_within_range : (count : ℕ) (o : Option ℤ) → IfSome o (λ v. IsWithin (value_bound count) v) → IfSome o (λ v. IsWithinRange v)
-some_within_range count None h = tt
-some_within_range count (Some v) h = within_range count v h
+pub some_within_most : (most count : ℕ) (o : Option ℤ) → most ≤ value_bound count → IfSome o (λ v. IsWithin most v) → IfSome o (λ v. IsWithinRange v)
+some_within_most most count None le h = tt
+some_within_most most count (Some v) le h = within_range count v (within_more most (value_bound count) v le h)
 
-within-blank : (bound n : ℕ) → HasValuesWithin bound (replicate n None)
+-- values within a bound that is none above that of the plane
+pub in_range-of_within : (most : ℕ) (values : List (Option ℤ)) → HasValuesWithin most values → most ≤ value_bound (length values) → HasValuesInRange values
+in_range-of_within most values within bounded p v e = within_more most (value_bound (length values)) v bounded (within p v e)
+
+pub within-blank : (bound n : ℕ) → HasValuesWithin bound (replicate n None)
 within-blank bound zero p v h = absurd (none_some v h)
 within-blank bound (suc n) zero v h = absurd (undefined_some v h)
 within-blank bound (suc n) (suc p) v h = within-blank bound n p v h
-
-pub in_range-blank : (n : ℕ) → HasValuesInRange (replicate n None)
-in_range-blank n = within-blank (value_bound (length (replicate n None))) n
 
 pub within-set : (bound : ℕ) (xs : List (Option ℤ)) (p : ℕ) (value : Option ℤ) → HasValuesWithin bound xs → IfSome value (λ v. IsWithin bound v)
     → HasValuesWithin bound (slice_set xs p value)
@@ -107,12 +108,6 @@ within-set bound (x ∷ xs) zero value old new (suc q) v h = old (suc q) v h
 within-set bound (x ∷ xs) (suc p) value old new zero v h = old zero v h
 within-set bound (x ∷ xs) (suc p) value old new (suc q) v h = within-set bound xs p value (λ j w k. old (suc j) w k) new q v h
 
-pub in_range-set : (xs : List (Option ℤ)) (p : ℕ) (value : Option ℤ) → HasValuesInRange xs → IfSome value (λ v. IsWithin (value_bound (length xs)) v)
-    → HasValuesInRange (slice_set xs p value)
-in_range-set xs p value old new =
-    subst (λ n. HasValuesWithin (value_bound n) (slice_set xs p value)) (sym (length-set xs p value))
-    (within-set (value_bound (length xs)) xs p value old new)
-
 pub in_range-get : (bound : ℕ) (xs : List (Option ℤ)) (p : ℕ) (o : Option ℤ) → HasValuesWithin bound xs → slice_get xs p ≡ Some o
     → IfSome o (λ v. IsWithin bound v)
 in_range-get bound xs p None h e = tt
@@ -125,7 +120,7 @@ in_range-value bound (x ∷ xs) (suc p) h = in_range-value bound xs p (λ j v e.
 
 -- so it is a value that any pixel may have
 pub in_range-of_value : (values : List (Option ℤ)) (p : ℕ) → HasValuesInRange values → IfSome (value_at values p) (λ v. IsWithinRange v)
-in_range-of_value values p h = some_within_range (length values) (value_at values p) (in_range-value (value_bound (length values)) values p h)
+in_range-of_value values p h = some_within_most (value_bound (length values)) (length values) (value_at values p) (omega arith) (in_range-value (value_bound (length values)) values p h)
 
 -- ---- pixels as numbers
 

@@ -1,52 +1,75 @@
 //! Planes that are being painted.
 
-ghost use Rattle.std.specs.Prelude.{◌≡◌, ◌*◌, ◌<◌, None, replicate, slice_set, IfOk, IfSome, length};
+ghost use Rattle.std.specs.Prelude.{◌≡◌, ◌*◌, ◌<◌, ◌≤◌, None, replicate, slice_set, IfOk, IfSome, length};
 ghost use Rattle.comp_tree.specs.Limits.{IsWithin, value_bound};
+ghost use Rattle.comp_tree.specs.Raster.{raster_painted};
 
 use crate::pixel::Pixel;
 use crate::plane::Plane;
+use crate::plane::bound_of;
 use crate::shape::Shape;
 use costs::OutOfMemory;
 use std::alloc::Global;
 use std::marker::Model;
 
-/// A plane that is being painted: each pixel can still get any value.
+/// A plane that is being painted: each pixel can still get any value from `-most` to `most`.
 ///
 /// It keeps each pixel, where a plane may keep fewer, so it is here that an undefined pixel becomes a defined one.
 #[derive(Drop)]
 pub struct Canvas {
     shape: Shape,
+    most: u64,
     pixels: Vec<Pixel>,
 }
 
 impl Model for Canvas {
-    ghost use Rattle.std.specs.Prelude.{◌≡◌, ◌*◌, length};
-    ghost use Rattle.comp_tree.specs.Raster.{Raster, HasValuesInRange};
+    ghost use Rattle.std.specs.Prelude.{◌≡◌, ◌*◌, ◌≤◌, length};
+    ghost use Rattle.comp_tree.specs.Limits.{value_bound};
+    ghost use Rattle.comp_tree.specs.Raster.{Painting, HasValuesWithin};
 
-    ghost Value = { Raster };
+    ghost Value = { Painting };
 
-    ghost view = { λ canvas. record { shape = canvas.shape; values = canvas.pixels.items } };
+    ghost view = { λ canvas. record { shape = canvas.shape; values = canvas.pixels.items; most = canvas.most } };
 
     ghost invariant = { λ canvas. (length canvas.pixels.items ≡ canvas.shape.width * canvas.shape.height)
-        × HasValuesInRange canvas.pixels.items };
+        × HasValuesWithin canvas.most canvas.pixels.items
+        × (canvas.most ≤ value_bound (canvas.shape.width * canvas.shape.height)) };
 }
 
 impl Canvas {
-    /// A canvas on which every pixel is undefined.
+    /// A canvas on which every pixel is undefined, for all values that a plane may have.
     pub fn blank(alloc: Global, shape: Shape) -> Result<Canvas, OutOfMemory>
         ensures shape { IfOk result (λ canvas. canvas.shape ≡ shape) }
         ensures undefined { IfOk result
             (λ canvas. canvas.values ≡ replicate (shape.width * shape.height) None) }
+        ensures most { IfOk result (λ canvas. canvas.most ≡ value_bound (shape.width * shape.height)) }
+    {
+        Canvas::blank_within(alloc, shape, bound_of(shape.pixels() as usize))
+    }
+
+    /// A canvas on which every pixel is undefined, for values from `-most` to `most`. Where `most` is below 2^31 it takes four bytes a
+    /// pixel, and else eight.
+    pub fn blank_within(alloc: Global, shape: Shape, most: u64) -> Result<Canvas, OutOfMemory>
+        requires { most ≤ value_bound (shape.width * shape.height) }
+        ensures shape { IfOk result (λ canvas. canvas.shape ≡ shape) }
+        ensures undefined { IfOk result
+            (λ canvas. canvas.values ≡ replicate (shape.width * shape.height) None) }
+        ensures most { IfOk result (λ canvas. canvas.most ≡ most) }
     {
         let count = shape.pixels() as usize;
         let pixels = vec![in alloc; Pixel::of(None); count]?;
-        Ok(Canvas { shape, pixels })
+        Ok(Canvas {
+            shape,
+            most,
+            pixels,
+        })
     }
 
     /// The width and the height. They never change.
     pub fn shape(&self) -> Shape
         ensures same { result ≡ self.now.shape }
         ensures pixels { length self.now.values ≡ result.width * result.height }
+        ensures bounded { self.now.most ≤ value_bound (length self.now.values) }
     {
         self.shape
     }
@@ -54,17 +77,17 @@ impl Canvas {
     /// Gives a pixel a value, or makes it undefined.
     pub fn set(&mut self, p: u32, value: Option<i64>)
         requires pixel { p < length self.old.values }
-        requires in_range { IfSome value
-            (λ v. IsWithin (value_bound (length self.old.values)) v) }
+        requires in_range { IfSome value (λ v. IsWithin self.old.most v) }
         ensures { self.new ≡ record self.old { values = slice_set self.old.values p value } }
     {
-        self.pixels[p as usize] = Pixel::of(value);
+        let pixels = &mut self.pixels;
+        pixels[p as usize] = Pixel::of(value);
     }
 
     /// The plane that was painted.
     pub fn into_plane(self) -> Plane
-        ensures { result ≡ self }
+        ensures { result ≡ raster_painted self }
     {
-        Plane::of_pixels(self.shape, self.pixels)
+        Plane::of_pixels(self.shape, self.most, self.pixels)
     }
 }

@@ -88,15 +88,14 @@ impl Pixels {
         }
     }
 
-    // Gives a defined pixel another value, or makes a pixel undefined.
+    // Makes a pixel undefined.
     #[inline]
-    pub(crate) fn set(&mut self, p: usize, pixel: Pixel)
-        requires inside { p < length self.old }
-        requires defined { IfSome pixel (λ _. IsTrue (is_some (value_at self.old p))) }
-        ensures { self.new ≡ slice_set self.old p pixel }
+    pub(crate) fn clear(&mut self, p: usize)
+        requires { p < length self.old }
+        ensures { self.new ≡ slice_set self.old p None }
     {
         if let Some(place) = place_of(&self.runs, p) {
-            self.kept[place] = pixel;
+            self.kept[place] = Pixel::of(None);
         }
     }
 

@@ -1,12 +1,12 @@
 //! Planes: images of whole numbers with undefined pixels.
 
-ghost use Rattle.std.specs.Prelude.{◌≡◌, ◌*◌, ◌^◌, ◌<◌, ◌≤◌, true, length, is_some, slice_set, IfOk, IfSome, OnOk, OnErr, IsTrue};
+ghost use Rattle.std.specs.Prelude.{◌≡◌, ◌*◌, ◌^◌, ◌<◌, ◌≤◌, true, None, length, is_some, slice_set, IfOk, IfSome, OnOk, OnErr, IsTrue};
 ghost use Rattle.std.specs.List.{list_all};
 ghost use Rattle.std.specs.Fork.{AcceptsChunksMut, AllInChunks};
-ghost use Rattle.comp_tree.specs.Bands.{LeavesInRange};
+ghost use Rattle.comp_tree.specs.Bands.{LeavesWithin};
 ghost use Rattle.comp_tree.specs.Limits.{IsWithin, IsWithinRange, value_bound};
 ghost use Rattle.comp_tree.specs.Raster.{is_pixel_value as may_stand, raster_of};
-ghost use Rattle.comp_tree.specs.Raster.{Raster, HasValuesInRange, HasGap, value_at, is_defined, level, is_at_least, is_earlier, without_unmarked};
+ghost use Rattle.comp_tree.specs.Raster.{HasValuesInRange, HasValuesWithin, HasGap, value_at, is_defined, level, is_at_least, is_earlier, without_unmarked};
 
 use crate::pixel::Pixel;
 use crate::pixels::Pixels;
@@ -22,30 +22,35 @@ use std::thread::Threads;
 #[derive(Drop)]
 pub struct Plane {
     shape: Shape,
+    // no value is below `-most` or above `most`
+    most: u64,
     pixels: Pixels,
 }
 
 impl Model for Plane {
-    ghost use Rattle.std.specs.Prelude.{◌≡◌, ◌*◌, length};
-    ghost use Rattle.comp_tree.specs.Raster.{Raster, HasValuesInRange};
+    ghost use Rattle.std.specs.Prelude.{◌≡◌, ◌*◌, ◌≤◌, length};
+    ghost use Rattle.comp_tree.specs.Limits.{value_bound};
+    ghost use Rattle.comp_tree.specs.Raster.{Raster, HasValuesWithin};
 
     ghost Value = { Raster };
 
     ghost view = { λ plane. record { shape = plane.shape; values = plane.pixels } };
 
     ghost invariant = { λ plane. (length plane.pixels ≡ plane.shape.width * plane.shape.height)
-        × HasValuesInRange plane.pixels };
+        × HasValuesWithin plane.most plane.pixels × (plane.most ≤ value_bound (length plane.pixels)) };
 }
 
 impl Plane {
-    // The plane of these pixels, row by row.
-    pub(crate) fn of_pixels(shape: Shape, pixels: Vec<Pixel>) -> Plane
+    // The plane of these pixels, row by row, whose values are from `-most` to `most`.
+    pub(crate) fn of_pixels(shape: Shape, most: u64, pixels: Vec<Pixel>) -> Plane
         requires one_each { length pixels.items ≡ shape.width * shape.height }
-        requires in_range { HasValuesInRange pixels.items }
+        requires within { HasValuesWithin most pixels.items }
+        requires bounded { most ≤ value_bound (length pixels.items) }
         ensures { result ≡ record { shape = shape; values = pixels.items } }
     {
         Plane {
             shape,
+            most,
             pixels: Pixels::of(pixels),
         }
     }
@@ -63,7 +68,7 @@ impl Plane {
             return Ok(None);
         }
         match pixels_of(alloc, values)? {
-            Some(pixels) => Ok(Some(Plane::of_pixels(shape, pixels))),
+            Some(pixels) => Ok(Some(Plane::of_pixels(shape, bound_of(values.len()), pixels))),
             None => Ok(None),
         }
     }
@@ -75,6 +80,7 @@ impl Plane {
         let pixels = self.pixels.copied(alloc)?;
         Ok(Plane {
             shape: self.shape,
+            most: self.most,
             pixels,
         })
     }
@@ -86,6 +92,14 @@ impl Plane {
         ensures in_range { HasValuesInRange self.now.values }
     {
         self.shape
+    }
+
+    /// A bound of its values: none is below `-most` or above it. A value may be nearer to 0 than any bound that it tells.
+    pub fn most(&self) -> u64
+        ensures within { HasValuesWithin result self.now.values }
+        ensures bounded { result ≤ value_bound (length self.now.values) }
+    {
+        self.most
     }
 
     /// The value of a pixel, where it is defined.
@@ -158,14 +172,12 @@ impl Plane {
         }
     }
 
-    /// Gives a defined pixel another value, or makes a pixel undefined. On a `Canvas` an undefined pixel can get a value too.
-    pub fn set(&mut self, p: u32, value: Option<i64>)
-        requires pixel { p < length self.old.values }
-        requires defined { IfSome value (λ _. IsTrue (is_defined self.old p)) }
-        requires in_range { IfSome value (λ v. IsWithin (value_bound (length self.old.values)) v) }
-        ensures { self.new ≡ record self.old { values = slice_set self.old.values p value } }
+    /// Makes a pixel undefined. On a `Canvas` an undefined pixel can get a value too.
+    pub fn clear(&mut self, p: u32)
+        requires { p < length self.old.values }
+        ensures { self.new ≡ record self.old { values = slice_set self.old.values p None } }
     {
-        self.pixels.set(p as usize, Pixel::of(value));
+        self.pixels.clear(p as usize);
     }
 
     /// A second plane, in which the pixels that aren't marked are undefined. Where few are left it takes little memory. The one error is
@@ -179,6 +191,7 @@ impl Plane {
         if let Some(pixels) = self.pixels.in_blocks(alloc, Some(marks))? {
             return Ok(Plane {
                 shape: self.shape,
+                most: self.most,
                 pixels,
             });
         }
@@ -194,7 +207,7 @@ impl Plane {
         let count = self.shape().pixels();
         for p in 0..count {
             if !marks[p as usize] {
-                self.set(p, None);
+                self.clear(p);
             }
         }
     }
@@ -202,25 +215,30 @@ impl Plane {
     /// Changes the pixels in bands of `size`, each in a thread of its own where one can be made. `change` is called with the
     /// number of a band's first pixel, and the band. The last band may have fewer pixels.
     ///
-    /// The one error is that memory was refused, which only a plane of few pixels takes (it is kept in full afterwards); the
-    /// plane is as it was then.
+    /// What `change` leaves is from `-most` to `most`. The one error is that memory was refused; the plane is as it was then.
     pub fn change_bands<R: Threads + Sync, F: Fn(usize, &mut [Pixel]) + Sync>(
         &mut self,
         rt: &R,
         alloc: Global,
         size: u32,
+        most: u64,
         change: &F,
     ) -> Result<(), OutOfMemory>
         requires some { 0 < size }
         requires accepts { AcceptsChunksMut F.Fn change.now size self.old.values }
-        requires in_range { LeavesInRange F.Fn change.now size self.old.values }
+        requires within { LeavesWithin most F.Fn change.now size self.old.values }
+        requires bounded { most ≤ value_bound (length self.old.values) }
         ensures shape { self.new.shape ≡ self.old.shape }
         ensures one_each { length self.new.values ≡ length self.old.values }
         ensures changed { OnOk result
             (AllInChunks F.Fn change.now size self.old.values self.new.values) }
         ensures unchanged { OnErr result (self.new ≡ self.old) }
     {
-        self.pixels.change_bands(rt, alloc, size as usize, change)
+        match self.pixels.change_bands(rt, alloc, size as usize, change) {
+            Ok(()) => self.most = most,
+            Err(refused) => return Err(refused),
+        }
+        Ok(())
     }
 
     /// Keeps the pixels in less memory, where few of them are defined. For a moment it takes more.
@@ -270,7 +288,7 @@ fn is_pixel_value(bound: u64, value: Option<i64>) -> bool
 
 // The bound of the values of a plane with so many pixels.
 #[tactic(auto, unfolding(crate::specs::Limits::value_bound))]
-fn bound_of(count: usize) -> u64
+pub(crate) fn bound_of(count: usize) -> u64
     ensures is { result ≡ value_bound count }
     ensures most { result ≤ 2 ^ 37 }
 {

@@ -221,13 +221,11 @@ fn a_full_plane_stays(rt: HostRuntime) {
     assert!(rt; is_kept_alike(rt.alloc(), plane_of(rt.alloc(), 2, 2, b"43.1")));
 }
 
-// Gives one of the few pixels another value, and one none.
+// Makes one of the few pixels undefined, and one that is so.
 fn change_two(plane: &mut Plane) {
     if plane.shape().pixels() == 70 {
-        if plane.is_defined(37) {
-            plane.set(37, Some(1));
-        }
-        plane.set(69, None);
+        plane.clear(38);
+        plane.clear(69);
     }
 }
 
@@ -246,10 +244,10 @@ fn has_sums(plane: Option<Plane>, numbers: u32, values: i64) -> bool {
     }
 }
 
-// Its pixels can be changed.
+// Its pixels can be made undefined.
 #[test]
 fn a_compact_plane_is_changed(rt: HostRuntime) {
-    assert!(rt; has_sums(changed_plane(rt.alloc()), 69, 8));
+    assert!(rt; has_sums(changed_plane(rt.alloc()), 69, 15));
 }
 
 // One finds the defined pixels one after the other, with each pixel kept as in blocks.
@@ -339,6 +337,7 @@ fn number_bands<R: Threads + Sync>(
         rt,
         alloc,
         size,
+        1 << 37,
         &|start: usize, band: &mut [Pixel]|
             requires { (start < 2 ^ 24) × HasValuesWithin (2 ^ 37) band.now }
             ensures { HasValuesWithin (2 ^ 37) band.exit.now }

@@ -1,20 +1,15 @@
-use Rattle.std.proofs.Common.{◌≡◌, ◌∙◌, sym, ap, subst, length, replicate}
-use Rattle.std.specs.Prelude.{None}
-use Rattle.std.proofs.lemmas.List.{length-replicate}
-use Rattle.comp_tree.specs.Raster.{HasValuesInRange}
-use Rattle.comp_tree.proofs.Values.{in_range-blank}
+use Rattle.std.proofs.Common.{◌≡◌, ◌*◌, ◌∙◌, ap, subst, arith}
+use Rattle.std.specs.Prelude.{IfOk}
+use Rattle.comp_tree.specs.Limits.{value_bound}
 use Rattle.comp_tree.proofs.canvas.Canvas.blank.Goals as goal
 
-pub invariant_of-result : goal.invariant_of-result
-invariant_of-result c =
-    let items : c.in_ok-pixels.pixels.items ≡ replicate c.pixels-count.result None =
-    c.in_ok-pixels.ensures.items_if_clones_equal (λ y e. e) ∙ ap (replicate c.pixels-count.result) c.of.ensures in (
-      ap length items ∙ length-replicate c.pixels-count.result None ∙ c.pixels-count.ensures.product,
-      subst HasValuesInRange (sym items) (in_range-blank c.pixels-count.result),
-    )
+pub blank_within-requires : goal.blank_within-requires
+blank_within-requires c =
+    let is : c.bound_of.result ≡ value_bound (c.args.shape.width * c.args.shape.height) =
+    c.bound_of.ensures.is ∙ ap value_bound c.pixels.ensures.product in
+    omega (arith, is)
 
-pub returns-clause-undefined : goal.returns-clause-undefined
-returns-clause-undefined c =
-    let items : c.in_ok-pixels.pixels.items ≡ replicate c.pixels-count.result None =
-    c.in_ok-pixels.ensures.items_if_clones_equal (λ y e. e) ∙ ap (replicate c.pixels-count.result) c.of.ensures in
-    items ∙ ap (λ n. replicate n None) c.pixels-count.ensures.product
+pub returns-clause-most : goal.returns-clause-most
+returns-clause-most c =
+    subst (λ n. IfOk c.blank_within.result (λ canvas. canvas.most ≡ n)) (c.bound_of.ensures.is ∙ ap value_bound c.pixels.ensures.product)
+    c.blank_within.ensures.most
