@@ -1,8 +1,9 @@
 -- Bands of the pixels of a plane.
-use Rattle.std.proofs.Common.{◌≡◌, ℕ, ◌+◌, ◌*◌, ◌/◌, ◌%◌, ◌<◌, ◌≤◌, min, sym, ◌∙◌, ap, subst, arith, ◌⊎◌, inl, inr, List, length}
+use Rattle.std.proofs.Common.{◌≡◌, ℕ, ◌+◌, ◌*◌, ◌/◌, ◌%◌, ◌<◌, ◌≤◌, min, take, drop, sym, ◌∙◌, ap, subst, arith, ◌⊎◌, inl, inr, List, length}
 use Rattle.std.specs.Prelude.{ℤ, Option, Some, None, IfSome}
 use Rattle.std.specs.Fork.{IsChunk, AllInChunks}
 use Rattle.std.proofs.lemmas.Bool.{cases_lt}
+use Rattle.std.proofs.lemmas.List.{ext_get_or, get_or-take, get_or-drop, length-take, length-drop}
 use Rattle.std.proofs.lemmas.Nat.{mod-mul-add}
 use Rattle.std.proofs.lemmas.Grind.{div_ceil_times}
 use Rattle.std.proofs.Math.Nat.{mul-le-mul_right, zero-mul}
@@ -62,3 +63,13 @@ within-bands most g f size values new leaves same all p v is =
     read most (value_at in_band.after_call.now in_band.offset)
     (in_range-value most in_band.after_call.now in_band.offset (leaves in_band.start in_band.argument in_band.after_call in_band.argument_is in_band.call))
     (in_band.new_element ∙ get_or_from_slice_get new p (Some v) None is)
+
+-- values that are, one by one, those of a list from a place on
+pub band_taken : (values band : List (Option ℤ)) (start count : ℕ) → length band ≡ count → start + count ≤ length values
+    → ((k : ℕ) → k < count → value_at band k ≡ value_at values (start + k)) → band ≡ take count (drop start values)
+band_taken values band start count size inside same = ext_get_or None band (take count (drop start values)) (size ∙ sym long) (λ k lt.
+    let below : k < count = omega (arith, lt, size) in
+    same k below ∙ sym (get_or-take count (drop start values) k None below ∙ get_or-drop start values k None))
+  where
+    long : length (take count (drop start values)) ≡ count
+    long = let a = length-take count (drop start values) in let b = length-drop start values in omega (arith, a, b, inside)

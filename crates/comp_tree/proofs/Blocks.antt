@@ -399,10 +399,10 @@ unfolding shown_values
 shown-some values marks = refl
 
 -- a pixel without marks, and one with them
-pub shown-all : (values : List (Option ℤ)) (marks : Option (Bor (List Bool))) (value : Option ℤ) (p : ℕ) → marks ≡ None → p < length values
-    → value ≡ get_or values p value → value ≡ value_at (shown_values values marks) p
-shown-all values marks value p e inside is =
-    is ∙ get_or_default values p value None inside ∙ sym (ap (λ o. value_at (shown_values values o) p) e ∙ ap (λ vs. get_or vs p None) (shown-none values))
+pub shown-all : (values : List (Option ℤ)) (marks : Option (Bor (List Bool))) (value : Option ℤ) (p : ℕ) → marks ≡ None
+    → value ≡ value_at values p → value ≡ value_at (shown_values values marks) p
+shown-all values marks value p e is =
+    is ∙ sym (ap (λ o. value_at (shown_values values o) p) e ∙ ap (λ vs. get_or vs p None) (shown-none values))
 
 pub shown-marked : (values : List (Option ℤ)) (marks : Option (Bor (List Bool))) (m : Bor (List Bool)) (p : ℕ) → marks ≡ Some m → p < length values
     → cond (slice_index_or m.now p false) (value_at values p) None ≡ value_at (shown_values values marks) p

@@ -29,4 +29,5 @@ mod Along
 mod Alike
 mod Windows
 mod Bands
+mod ShortBands
 pub mod Exported

@@ -6,7 +6,7 @@ use Rattle.std.proofs.lemmas.List.{length-map, ext_get_or}
 use Rattle.std.proofs.lemmas.List.FromFn.{get_or-map-range_with_len, length-range_with_len}
 use Rattle.comp_tree.specs.declared.shape.Shape.{Shape}
 use Rattle.comp_tree.specs.Raster.{Raster, HasValuesWithin, pixels, value_at, without_unmarked}
-use Rattle.comp_tree.specs.Limits.{IsWithin, value_bound}
+use Rattle.comp_tree.specs.Limits.{IsWithin}
 use Rattle.std.proofs.lemmas.Option.{get_or_from_slice_get, slice_get_within}
 use Rattle.comp_tree.proofs.Values.{in_range-value}
 use Rattle.comp_tree.proofs.Blocks.{length-marked, marked-at}

@@ -5,12 +5,12 @@ use Rattle.std.specs.Prelude.{ℤ, pos, neg_ℤ, int_le, nat_le, if◌then◌els
 use Rattle.std.specs.Ordering.{int_eq}
 use Rattle.std.proofs.lemmas.Int.{ints}
 use Rattle.std.specs.List.{list_all}
-use Rattle.std.proofs.lemmas.List.{take_more, length-set}
+use Rattle.std.proofs.lemmas.List.{take_more}
 use Rattle.std.proofs.lemmas.List.Folds.{list_all_more}
 use Rattle.comp_tree.specs.Limits.{most_pixels, IsWithin, IsWithinRange, IsInHalfRange, value_bound, half_bound}
 use Rattle.comp_tree.specs.declared.shape.Shape.{Shape}
 use Rattle.comp_tree.specs.Raster.{Raster, HasValuesInRange, HasValuesWithin, value_at, is_pixel_value, raster_of}
-use Rattle.comp_tree.specs.Numbers.{undefined_number, pixel_of}
+use Rattle.comp_tree.specs.Numbers.{undefined_number, undefined_short, most_short, pixel_of}
 use Rattle.lemmas.proofs.Exported.{int_eq-true, int_le-true}
 use Rattle.std.proofs.lemmas.Bool.{and_parts, ne_eqb, cond-true}
 use Rattle.std.proofs.lemmas.Bool.Decides.{nat_tests}
@@ -30,17 +30,20 @@ bound_most count = go (nat_le count (2 ^ 24))
     go true = omega arith
     go false = omega arith
 
+-- it is never below 2 ^ 30
+pub bound_least : (count : ℕ) → 2 ^ 30 ≤ value_bound count
+unfolding value_bound
+bound_least count = go (nat_le count (2 ^ 24))
+  where
+    go : (b : Bool) → 2 ^ 30 ≤ cond b (2 ^ 37) (2 ^ 30)
+    go true = omega arith
+    go false = omega arith
+
 pub within_more : (a b : ℕ) (v : ℤ) → a ≤ b → IsWithin a v → IsWithin b v
 within_more a b v le h = let low : _ = h.low in let high : _ = h.high in record { low = omega (arith, ints); high = omega (arith, ints) }
 
--- it is never below 2 ^ 30
 pub within_small : (count : ℕ) (v : ℤ) → IsWithin (2 ^ 30) v → IsWithin (value_bound count) v
-unfolding value_bound
-within_small count v h = go (nat_le count (2 ^ 24))
-  where
-    go : (b : Bool) → IsWithin (cond b (2 ^ 37) (2 ^ 30)) v
-    go true = within_more (2 ^ 30) (2 ^ 37) v (omega arith) h
-    go false = h
+within_small count v h = within_more (2 ^ 30) (value_bound count) v (bound_least count) h
 
 pub within_range : (count : ℕ) (v : ℤ) → IsWithin (value_bound count) v → IsWithinRange v
 within_range count v h = within_more (value_bound count) (2 ^ 37) v (bound_most count) h
@@ -83,6 +86,10 @@ usual_half count few = cond-true (nat_le count (2 ^ 24)) (2 ^ 36) (2 ^ 29) (grin
 pub within_half : (count : ℕ) (v : ℤ) → IsWithin (half_bound count) v → IsInHalfRange v
 within_half count v h = within_more (half_bound count) (2 ^ 36) v (half_most count) h
 
+pub some_within : (a b : ℕ) (o : Option ℤ) → a ≤ b → IfSome o (λ v. IsWithin a v) → IfSome o (λ v. IsWithin b v)
+some_within a b None le h = tt
+some_within a b (Some v) le h = within_more a b v le h
+
 pub some_within_most : (most count : ℕ) (o : Option ℤ) → most ≤ value_bound count → IfSome o (λ v. IsWithin most v) → IfSome o (λ v. IsWithinRange v)
 some_within_most most count None le h = tt
 some_within_most most count (Some v) le h = within_range count v (within_more most (value_bound count) v le h)
@@ -124,21 +131,29 @@ in_range-of_value values p h = some_within_most (value_bound (length values)) (l
 
 -- ---- pixels as numbers
 
-pub pixel_of-undefined : pixel_of undefined_number ≡ None
+pub pixel_of-undefined : pixel_of undefined_number undefined_number ≡ None
 unfolding pixel_of
 pixel_of-undefined = refl
 
--- no value of a pixel is the number of the undefined ones
-pub pixel_of-in_range : (v : ℤ) → IsWithinRange v → pixel_of v ≡ Some v
+pub pixel_of-undefined_short : pixel_of undefined_short undefined_short ≡ None
 unfolding pixel_of
-pixel_of-in_range v r = go (int_eq v undefined_number) refl
+pixel_of-undefined_short = refl
+
+-- another number than that of the undefined ones is a value
+pixel_of-other : (undefined v : ℤ) → (v ≡ undefined → ⊥) → pixel_of undefined v ≡ Some v
+unfolding pixel_of
+pixel_of-other undefined v other = go (int_eq v undefined) refl
   where
-    go : (b : Bool) → int_eq v undefined_number ≡ b → cond b None (Some v) ≡ Some v
-    go true e = absurd (
-        let same : v ≡ undefined_number = int_eq-true v undefined_number e in
-        let low : _ = r.low in
-        omega (arith, ints))
+    go : (b : Bool) → int_eq v undefined ≡ b → cond b None (Some v) ≡ Some v
+    go true e = absurd (other (int_eq-true v undefined e))
     go false e = refl
+
+-- no value of a pixel is the number of the undefined ones
+pub pixel_of-in_range : (v : ℤ) → IsWithinRange v → pixel_of undefined_number v ≡ Some v
+pixel_of-in_range v r = pixel_of-other undefined_number v (λ same. let low : _ = r.low in omega (arith, ints, same))
+
+pub pixel_of-short : (v : ℤ) → IsWithin most_short v → pixel_of undefined_short v ≡ Some v
+pixel_of-short v r = pixel_of-other undefined_short v (λ same. let low : _ = r.low in omega (arith, ints, same))
 
 -- ---- pixels that were kept
 

@@ -3,6 +3,7 @@ pub mod Shapes
 pub mod Raster
 pub mod Defined
 pub mod Numbers
+pub mod Kept
 pub mod Stored
 pub mod Bands
 pub mod Grid

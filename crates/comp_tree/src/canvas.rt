@@ -4,9 +4,8 @@ ghost use Rattle.std.specs.Prelude.{◌≡◌, ◌*◌, ◌<◌, ◌≤◌, None
 ghost use Rattle.comp_tree.specs.Limits.{IsWithin, value_bound};
 ghost use Rattle.comp_tree.specs.Raster.{raster_painted};
 
-use crate::pixel::Pixel;
-use crate::plane::Plane;
-use crate::plane::bound_of;
+use crate::kept::Kept;
+use crate::plane::{Plane, bound_of};
 use crate::shape::Shape;
 use costs::OutOfMemory;
 use std::alloc::Global;
@@ -19,21 +18,22 @@ use std::marker::Model;
 pub struct Canvas {
     shape: Shape,
     most: u64,
-    pixels: Vec<Pixel>,
+    pixels: Kept,
 }
 
 impl Model for Canvas {
     ghost use Rattle.std.specs.Prelude.{◌≡◌, ◌*◌, ◌≤◌, length};
     ghost use Rattle.comp_tree.specs.Limits.{value_bound};
+    ghost use Rattle.comp_tree.specs.Kept.{kept_items, room_of};
     ghost use Rattle.comp_tree.specs.Raster.{Painting, HasValuesWithin};
 
     ghost Value = { Painting };
 
-    ghost view = { λ canvas. record { shape = canvas.shape; values = canvas.pixels.items; most = canvas.most } };
+    ghost view = { λ canvas. record { shape = canvas.shape; values = kept_items canvas.pixels; most = canvas.most } };
 
-    ghost invariant = { λ canvas. (length canvas.pixels.items ≡ canvas.shape.width * canvas.shape.height)
-        × HasValuesWithin canvas.most canvas.pixels.items
-        × (canvas.most ≤ value_bound (canvas.shape.width * canvas.shape.height)) };
+    ghost invariant = { λ canvas. (length (kept_items canvas.pixels) ≡ canvas.shape.width * canvas.shape.height)
+        × HasValuesWithin canvas.most (kept_items canvas.pixels)
+        × (canvas.most ≤ value_bound (canvas.shape.width * canvas.shape.height)) × (canvas.most ≤ room_of canvas.pixels) };
 }
 
 impl Canvas {
@@ -57,7 +57,7 @@ impl Canvas {
         ensures most { IfOk result (λ canvas. canvas.most ≡ most) }
     {
         let count = shape.pixels() as usize;
-        let pixels = vec![in alloc; Pixel::of(None); count]?;
+        let pixels = Kept::blank(alloc, count, most)?;
         Ok(Canvas {
             shape,
             most,
@@ -80,8 +80,7 @@ impl Canvas {
         requires in_range { IfSome value (λ v. IsWithin self.old.most v) }
         ensures { self.new ≡ record self.old { values = slice_set self.old.values p value } }
     {
-        let pixels = &mut self.pixels;
-        pixels[p as usize] = Pixel::of(value);
+        self.pixels.set(p as usize, value);
     }
 
     /// The plane that was painted.

@@ -9,6 +9,7 @@
 mod canvas;
 mod forest;
 mod grid;
+mod kept;
 pub mod laws;
 mod pixel;
 mod pixels;

@@ -1,13 +1,17 @@
 //! A pixel as a plane keeps it.
 
 ghost use Rattle.std.specs.Prelude.{◌≡◌, IfSome};
-ghost use Rattle.comp_tree.specs.Limits.{IsWithinRange};
+ghost use Rattle.comp_tree.specs.Limits.{IsWithin, IsWithinRange};
+ghost use Rattle.comp_tree.specs.Numbers.{most_short};
 
 use std::marker::Model;
 
 // Stands for an undefined pixel. No value is so small, so a pixel takes 8 bytes: an `Option<i64>` would take 16, and
 // reading pixels is most of what flooding does.
 const UNDEFINED: i64 = i64::MIN;
+
+// Stands for one among short pixels.
+const UNDEFINED_SHORT: i32 = i32::MIN;
 
 /// A pixel as a plane keeps it: its value, or none where it is undefined. It takes eight bytes.
 #[derive(Clone, Copy)]
@@ -18,17 +22,17 @@ pub struct Pixel {
 
 impl Model for Pixel {
     ghost use Rattle.std.specs.Prelude.{Option, ℤ};
-    ghost use Rattle.comp_tree.specs.Numbers.{pixel_of, kept_number, kept_number-same};
+    ghost use Rattle.comp_tree.specs.Numbers.{undefined_number, pixel_of, kept_number, kept_number-same};
 
     ghost Value = { Option ℤ };
 
-    ghost view = { λ pixel. pixel_of pixel.number };
+    ghost view = { λ pixel. pixel_of undefined_number pixel.number };
 
-    ghost inverse = { λ value. record { number = kept_number value } };
+    ghost inverse = { λ value. record { number = kept_number undefined_number value } };
 
     ghost use Rattle.std.proofs.Common.{ap};
 
-    ghost inverse_ok = { λ pixel _. ap (λ number. record { number = number }) (kept_number-same pixel.number) };
+    ghost inverse_ok = { λ pixel _. ap (λ number. record { number = number }) (kept_number-same undefined_number pixel.number) };
 }
 
 impl Pixel {
@@ -54,5 +58,66 @@ impl Pixel {
             return None;
         }
         Some(self.number)
+    }
+}
+
+/// A pixel of which the value is below 2^31 and above its negative. It takes four bytes.
+#[derive(Clone, Copy)]
+pub struct ShortPixel {
+    // the value, or `UNDEFINED_SHORT`
+    number: i32,
+}
+
+impl Model for ShortPixel {
+    ghost use Rattle.std.specs.Prelude.{Option, ℤ};
+    ghost use Rattle.comp_tree.specs.Numbers.{undefined_short, pixel_of, kept_number, kept_number-same};
+
+    ghost Value = { Option ℤ };
+
+    ghost view = { λ pixel. pixel_of undefined_short pixel.number };
+
+    ghost inverse = { λ value. record { number = kept_number undefined_short value } };
+
+    ghost use Rattle.std.proofs.Common.{ap};
+
+    ghost inverse_ok = { λ pixel _. ap (λ number. record { number = number }) (kept_number-same undefined_short pixel.number) };
+}
+
+impl ShortPixel {
+    /// The pixel with this value, or without one.
+    #[inline(always)]
+    pub(crate) fn of(value: Option<i64>) -> ShortPixel
+        requires { IfSome value (λ v. IsWithin most_short v) }
+        ensures { result ≡ value }
+    {
+        match value {
+            Some(number) => ShortPixel {
+                number: number as i32,
+            },
+            None => ShortPixel {
+                number: UNDEFINED_SHORT,
+            },
+        }
+    }
+
+    /// The same in eight bytes.
+    #[inline(always)]
+    pub(crate) fn wide(self) -> Pixel
+        ensures { result ≡ self }
+    {
+        Pixel::of(self.value())
+    }
+
+    /// Its value, if it is defined.
+    #[inline(always)]
+    #[tactic(auto, unfolding(crate::specs::Numbers::pixel_of))]
+    pub(crate) fn value(self) -> Option<i64>
+        ensures same { result ≡ self }
+        ensures near { IfSome result (λ v. IsWithinRange v) }
+    {
+        if self.number == UNDEFINED_SHORT {
+            return None;
+        }
+        Some(i64::from(self.number))
     }
 }

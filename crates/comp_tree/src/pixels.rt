@@ -5,12 +5,16 @@ ghost use Rattle.std.specs.Prelude.{◌≡◌, ℕ, [], true, ◌+◌, ◌-◌, 
 ghost use Rattle.std.specs.Prelude.{map, IfOk, OnOk, OnErr, IfSome, IsTrue, is_some, slice_set};
 ghost use Rattle.std.specs.Fork.{AcceptsChunksMut, AllInChunks};
 ghost use Rattle.comp_tree.specs.Limits.{most_pixels};
-ghost use Rattle.comp_tree.specs.Raster.{value_at, HasGap, HasValuesInRange};
+ghost use Rattle.comp_tree.specs.Bands.{LeavesWithin};
+ghost use Rattle.comp_tree.specs.Kept.{kept_items};
+ghost use Rattle.comp_tree.specs.Numbers.{most_short};
+ghost use Rattle.comp_tree.specs.Raster.{value_at, HasGap};
 ghost use Rattle.std.specs.Option.{option_map};
 ghost use Rattle.comp_tree.specs.Stored.{kept_place, place_in_run as place_in_run_of, AreBlocksOf, AreAllInBlocks};
 ghost use Rattle.comp_tree.specs.Stored.{shown_values};
 ghost use Rattle.std.specs.List.{range_with_len};
 
+use crate::kept::{Kept, SHORT_END, copy_of};
 use crate::pixel::Pixel;
 use costs::OutOfMemory;
 use std::alloc::Global;
@@ -36,38 +40,53 @@ pub(crate) struct Pixels {
     count: usize,
     // A run for each block, or no list while each pixel is kept.
     runs: Option<Vec<Run>>,
-    kept: Vec<Pixel>,
+    kept: Kept,
 }
 
 impl Model for Pixels {
     ghost use Rattle.std.specs.Prelude.{List, Option, ℤ};
     ghost use Rattle.std.specs.Option.{option_map};
+    ghost use Rattle.comp_tree.specs.Kept.{kept_items};
     ghost use Rattle.comp_tree.specs.Stored.{kept_pixels, AreKept};
 
     ghost Value = { List (Option ℤ) };
 
-    ghost view = { λ pixels. kept_pixels pixels.count (option_map (λ runs. runs.items) pixels.runs) pixels.kept.items };
+    ghost view = { λ pixels. kept_pixels pixels.count (option_map (λ runs. runs.items) pixels.runs) (kept_items pixels.kept) };
 
-    ghost invariant = { λ pixels. AreKept pixels.count (option_map (λ runs. runs.items) pixels.runs) pixels.kept.items };
+    ghost invariant = { λ pixels. AreKept pixels.count (option_map (λ runs. runs.items) pixels.runs) (kept_items pixels.kept) };
 }
 
 impl Pixels {
     // These pixels.
-    pub(crate) fn of(pixels: Vec<Pixel>) -> Pixels
-        ensures { result ≡ pixels.items }
+    pub(crate) fn of(kept: Kept) -> Pixels
+        ensures { result ≡ kept_items kept }
     {
         Pixels {
-            count: pixels.len(),
+            count: kept.len(),
             runs: None,
-            kept: pixels,
+            kept,
         }
+    }
+
+    // Takes others in their place.
+    pub(crate) fn replace_by(&mut self, pixels: Pixels)
+        ensures { self.new ≡ pixels }
+    {
+        *self = pixels;
+    }
+
+    // How many there are.
+    fn len(&self) -> usize
+        ensures { result ≡ length self.now }
+    {
+        self.count
     }
 
     // The same pixels a second time.
     pub(crate) fn copied(&self, alloc: Global) -> Result<Pixels, OutOfMemory>
         ensures { IfOk result (λ copy. copy ≡ self.now) }
     {
-        let kept = copy_of(alloc, &self.kept)?;
+        let kept = self.kept.copied(alloc)?;
         let runs = copy_if_there(alloc, &self.runs)?;
         Ok(Pixels {
             count: self.count,
@@ -83,8 +102,20 @@ impl Pixels {
         ensures { result ≡ value_at self.now p }
     {
         match place_of(&self.runs, p) {
-            Some(place) => self.kept[place].value(),
+            Some(place) => self.kept.get(place),
             None => None,
+        }
+    }
+
+    // The same as a pixel.
+    #[inline(always)]
+    fn pixel(&self, p: usize) -> Pixel
+        requires { p < length self.now }
+        ensures { result ≡ value_at self.now p }
+    {
+        match place_of(&self.runs, p) {
+            Some(place) => self.kept.pixel(place),
+            None => Pixel::of(None),
         }
     }
 
@@ -95,12 +126,61 @@ impl Pixels {
         ensures { self.new ≡ slice_set self.old p None }
     {
         if let Some(place) = place_of(&self.runs, p) {
-            self.kept[place] = Pixel::of(None);
+            self.kept.set(place, None);
         }
     }
 
-    // Changes the pixels in bands of `size`, as a plane's `change_bands` does. Those that are kept in blocks are spread out before.
+    // Changes the pixels in bands of `size`, as a plane's `change_bands` does. Those that are kept in blocks are spread out before, and short
+    // ones made wide where what is left wants it.
     pub(crate) fn change_bands<R: Threads + Sync, F: Fn(usize, &mut [Pixel]) + Sync>(
+        &mut self,
+        rt: &R,
+        alloc: Global,
+        size: usize,
+        most: u64,
+        change: &F,
+    ) -> Result<(), OutOfMemory>
+        requires some { 0 < size }
+        requires accepts { AcceptsChunksMut F.Fn change.now size self.old }
+        requires within { LeavesWithin most F.Fn change.now size self.old }
+        ensures one_each { length self.new ≡ length self.old }
+        ensures changed { OnOk result (AllInChunks F.Fn change.now size self.old self.new) }
+        ensures unchanged { OnErr result (self.new ≡ self.old) }
+    {
+        if most < SHORT_END {
+            match self.change_if_short(alloc, size, change) {
+                Ok(false) => {}
+                Ok(true) => return Ok(()),
+                Err(refused) => return Err(refused),
+            }
+        }
+        self.change_wide(rt, alloc, size, change)
+    }
+
+    // The same where they are short and each is kept, and whether they are.
+    fn change_if_short<F: Fn(usize, &mut [Pixel])>(
+        &mut self,
+        alloc: Global,
+        size: usize,
+        change: &F,
+    ) -> Result<bool, OutOfMemory>
+        requires some { 0 < size }
+        requires accepts { AcceptsChunksMut F.Fn change.now size self.old }
+        requires within { LeavesWithin most_short F.Fn change.now size self.old }
+        ensures one_each { length self.new ≡ length self.old }
+        ensures changed { IfOk result (λ short. short ≡ true
+            → AllInChunks F.Fn change.now size self.old self.new) }
+        ensures wide { IfOk result (λ short. short ≡ false → self.new ≡ self.old) }
+        ensures unchanged { OnErr result (self.new ≡ self.old) }
+    {
+        if self.runs.is_some() {
+            return Ok(false);
+        }
+        self.kept.change_if_short(alloc, size, change)
+    }
+
+    // The same where they are made wide.
+    fn change_wide<R: Threads + Sync, F: Fn(usize, &mut [Pixel]) + Sync>(
         &mut self,
         rt: &R,
         alloc: Global,
@@ -108,7 +188,6 @@ impl Pixels {
         change: &F,
     ) -> Result<(), OutOfMemory>
         requires some { 0 < size }
-        requires in_range { HasValuesInRange self.old }
         requires accepts { AcceptsChunksMut F.Fn change.now size self.old }
         ensures one_each { length self.new ≡ length self.old }
         ensures changed { OnOk result (AllInChunks F.Fn change.now size self.old self.new) }
@@ -116,32 +195,32 @@ impl Pixels {
     {
         let mut pixels = self.take_each(alloc)?;
         thread::for_each_chunk_mut(rt, &mut pixels, size, change);
-        *self = Pixels::of(pixels);
+        *self = Pixels::of(Kept::Wide(pixels));
         Ok(())
     }
 
-    // Takes all pixels out, so that none is left here.
+    // Takes all pixels out, so that none is left here, or copies them where they aren't kept one by one in eight bytes.
     fn take_each(&mut self, alloc: Global) -> Result<Vec<Pixel>, OutOfMemory>
-        requires { HasValuesInRange self.old }
         ensures taken { IfOk result (λ pixels. pixels.items ≡ self.old) }
         ensures unchanged { OnErr result (self.new ≡ self.old) }
     {
         if self.runs.is_none() {
-            self.count = 0;
-            return Ok(mem::replace(&mut self.kept, Vec::new(alloc)));
+            if let Kept::Wide(pixels) = &mut self.kept {
+                self.count = 0;
+                return Ok(mem::replace(pixels, Vec::new(alloc)));
+            }
         }
         self.spread_out(alloc)
     }
 
     // All pixels.
     fn spread_out(&self, alloc: Global) -> Result<Vec<Pixel>, OutOfMemory>
-        requires { HasValuesInRange self.now }
         ensures { IfOk result (λ pixels. pixels.items ≡ self.now) }
     {
         let count = self.count;
         let mut pixels = Vec::with_capacity(alloc, count)?;
         for p in 0..count {
-            pixels.push(Pixel::of(self.get(p)))?;
+            pixels.push(self.pixel(p))?;
         }
         Ok(pixels)
     }
@@ -173,7 +252,7 @@ impl Pixels {
             (λ pixels. pixels ≡ shown_values self.now marks.entry)) }
     {
         match &self.runs {
-            None => blocks_of(alloc, &self.kept, marks),
+            None => blocks_of(alloc, self, marks),
             Some(_) => Ok(None),
         }
     }
@@ -230,19 +309,10 @@ fn copy_if_there(alloc: Global, runs: &Option<Vec<Run>>) -> Result<Option<Vec<Ru
     Ok(Some(copy))
 }
 
-// The same items a second time.
-fn copy_of<T: Copy>(alloc: Global, items: &[T]) -> Result<Vec<T>, OutOfMemory>
-    ensures { IfOk result (λ copy. copy.items ≡ items.now) }
-{
-    let mut copy = Vec::with_capacity(alloc, items.len())?;
-    copy.extend_from_slice(items)?;
-    Ok(copy)
-}
-
 // These pixels in blocks, those undefined that aren't marked, if at most a quarter of them remains. Without marks all are shown.
 fn blocks_of(
     alloc: Global,
-    pixels: &[Pixel],
+    pixels: &Pixels,
     marks: Option<&[bool]>,
 ) -> Result<Option<Pixels>, OutOfMemory>
     requires few { length pixels.now ≤ most_pixels }
@@ -259,7 +329,7 @@ fn blocks_of(
     Ok(Some(Pixels {
         count: pixels.len(),
         runs: Some(runs),
-        kept,
+        kept: Kept::Wide(kept),
     }))
 }
 
@@ -267,7 +337,7 @@ fn blocks_of(
 fn add_blocks(
     runs: &mut Vec<Run>,
     kept: &mut Vec<Pixel>,
-    pixels: &[Pixel],
+    pixels: &Pixels,
     marks: Option<&[bool]>,
 ) -> Result<bool, OutOfMemory>
     requires few { length pixels.now ≤ most_pixels }
@@ -290,7 +360,7 @@ fn add_blocks(
 fn add_block(
     runs: &mut Vec<Run>,
     kept: &mut Vec<Pixel>,
-    pixels: &[Pixel],
+    pixels: &Pixels,
     marks: Option<&[bool]>,
     block: usize,
 ) -> Result<(), OutOfMemory>
@@ -318,7 +388,7 @@ fn add_block(
 // Adds some pixels as they are shown.
 fn push_shown(
     kept: &mut Vec<Pixel>,
-    pixels: &[Pixel],
+    pixels: &Pixels,
     marks: Option<&[bool]>,
     first: usize,
     end: usize,
@@ -337,7 +407,7 @@ fn push_shown(
 }
 
 // The first of some pixels that is shown, or their end where none is.
-fn first_shown(pixels: &[Pixel], marks: Option<&[bool]>, low: usize, high: usize) -> usize
+fn first_shown(pixels: &Pixels, marks: Option<&[bool]>, low: usize, high: usize) -> usize
     requires one_each { IfSome marks (λ marks. length marks.now ≡ length pixels.now) }
     requires order { low ≤ high }
     requires inside { high ≤ length pixels.now }
@@ -354,7 +424,7 @@ fn first_shown(pixels: &[Pixel], marks: Option<&[bool]>, low: usize, high: usize
 }
 
 // The pixel after the last of some that is shown, or the first where none is.
-fn end_of_shown(pixels: &[Pixel], marks: Option<&[bool]>, low: usize, high: usize) -> usize
+fn end_of_shown(pixels: &Pixels, marks: Option<&[bool]>, low: usize, high: usize) -> usize
     requires one_each { IfSome marks (λ marks. length marks.now ≡ length pixels.now) }
     requires order { low ≤ high }
     requires inside { high ≤ length pixels.now }
@@ -372,24 +442,28 @@ fn end_of_shown(pixels: &[Pixel], marks: Option<&[bool]>, low: usize, high: usiz
 
 // A pixel as it is shown: an undefined one where it isn't marked.
 #[inline(always)]
-fn shown(pixels: &[Pixel], marks: Option<&[bool]>, p: usize) -> Pixel
+fn shown(pixels: &Pixels, marks: Option<&[bool]>, p: usize) -> Pixel
     requires one_each { IfSome marks (λ marks. length marks.now ≡ length pixels.now) }
     requires inside { p < length pixels.now }
     ensures { result
         ≡ value_at (shown_values pixels.now marks.entry) p }
 {
     match marks {
-        None => pixels[p],
+        None => pixels.pixel(p),
         Some(marks) => pixel_if(pixels, marks, p),
     }
 }
 
 // The pixel if it is marked, and else an undefined one.
 #[inline(always)]
-fn pixel_if(pixels: &[Pixel], marks: &[bool], p: usize) -> Pixel
+fn pixel_if(pixels: &Pixels, marks: &[bool], p: usize) -> Pixel
     requires one_each { length marks.now ≡ length pixels.now }
     requires inside { p < length pixels.now }
     ensures { result ≡ cond (slice_index_or marks.now p false) (value_at pixels.now p) None }
 {
-    if marks[p] { pixels[p] } else { Pixel::of(None) }
+    if marks[p] {
+        pixels.pixel(p)
+    } else {
+        Pixel::of(None)
+    }
 }

@@ -5,9 +5,11 @@ ghost use Rattle.std.specs.List.{list_all};
 ghost use Rattle.std.specs.Fork.{AcceptsChunksMut, AllInChunks};
 ghost use Rattle.comp_tree.specs.Bands.{LeavesWithin};
 ghost use Rattle.comp_tree.specs.Limits.{IsWithin, IsWithinRange, value_bound};
+ghost use Rattle.comp_tree.specs.Kept.{kept_items};
 ghost use Rattle.comp_tree.specs.Raster.{is_pixel_value as may_stand, raster_of};
 ghost use Rattle.comp_tree.specs.Raster.{HasValuesInRange, HasValuesWithin, HasGap, value_at, is_defined, level, is_at_least, is_earlier, without_unmarked};
 
+use crate::kept::Kept;
 use crate::pixel::Pixel;
 use crate::pixels::Pixels;
 use crate::shape::Shape;
@@ -42,11 +44,11 @@ impl Model for Plane {
 
 impl Plane {
     // The plane of these pixels, row by row, whose values are from `-most` to `most`.
-    pub(crate) fn of_pixels(shape: Shape, most: u64, pixels: Vec<Pixel>) -> Plane
-        requires one_each { length pixels.items ≡ shape.width * shape.height }
-        requires within { HasValuesWithin most pixels.items }
-        requires bounded { most ≤ value_bound (length pixels.items) }
-        ensures { result ≡ record { shape = shape; values = pixels.items } }
+    pub(crate) fn of_pixels(shape: Shape, most: u64, pixels: Kept) -> Plane
+        requires one_each { length (kept_items pixels) ≡ shape.width * shape.height }
+        requires within { HasValuesWithin most (kept_items pixels) }
+        requires bounded { most ≤ value_bound (length (kept_items pixels)) }
+        ensures { result ≡ record { shape = shape; values = kept_items pixels } }
     {
         Plane {
             shape,
@@ -68,7 +70,11 @@ impl Plane {
             return Ok(None);
         }
         match pixels_of(alloc, values)? {
-            Some(pixels) => Ok(Some(Plane::of_pixels(shape, bound_of(values.len()), pixels))),
+            Some(pixels) => Ok(Some(Plane::of_pixels(
+                shape,
+                bound_of(values.len()),
+                Kept::Wide(pixels),
+            ))),
             None => Ok(None),
         }
     }
@@ -234,7 +240,10 @@ impl Plane {
             (AllInChunks F.Fn change.now size self.old.values self.new.values) }
         ensures unchanged { OnErr result (self.new ≡ self.old) }
     {
-        match self.pixels.change_bands(rt, alloc, size as usize, change) {
+        match self
+            .pixels
+            .change_bands(rt, alloc, size as usize, most, change)
+        {
             Ok(()) => self.most = most,
             Err(refused) => return Err(refused),
         }
@@ -250,7 +259,7 @@ impl Plane {
         // for its clauses alone: how many pixels there are
         let _count = self.shape.pixels();
         if let Some(pixels) = self.pixels.in_blocks(alloc, None)? {
-            self.pixels = pixels;
+            self.pixels.replace_by(pixels);
         }
         Ok(())
     }

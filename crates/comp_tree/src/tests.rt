@@ -1,5 +1,5 @@
-ghost use Rattle.std.specs.Prelude.{◌≡◌, ◌^◌, ◌<◌, IfSome};
-ghost use Rattle.comp_tree.specs.Limits.{IsWithinRange};
+ghost use Rattle.std.specs.Prelude.{◌≡◌, ◌^◌, ◌<◌, ◌≤◌, IfSome};
+ghost use Rattle.comp_tree.specs.Limits.{IsWithin};
 ghost use Rattle.comp_tree.specs.Raster.{HasValuesWithin};
 ghost use Rattle.comp_tree.specs.Windows.{Window, in_whole};
 
@@ -93,13 +93,27 @@ fn values_of_no_plane(rt: HostRuntime) {
     assert!(rt; are_refused(rt.alloc(), &[Some(-MOST - 1), Some(0)]));
 }
 
-fn blank_row(alloc: Global, width: u32) -> Option<Canvas> {
+// A blank row for all values, or, where it is short, for those from -9 to 9.
+fn blank_row(alloc: Global, width: u32, short: bool) -> Option<Canvas>
+    ensures { IfSome result (λ canvas. 9 ≤ canvas.most) }
+{
     let shape = Shape::of(width, 1)?;
-    Canvas::blank(alloc, shape).ok()
+    if !short {
+        return match Canvas::blank(alloc, shape) {
+            Ok(canvas) => Some(canvas),
+            Err(_) => None,
+        };
+    }
+    match Canvas::blank_within(alloc, shape, 9) {
+        Ok(canvas) => Some(canvas),
+        Err(_) => None,
+    }
 }
 
 // Paints two of three pixels, and one of these once more.
-fn paint_two(canvas: &mut Canvas) {
+fn paint_two(canvas: &mut Canvas)
+    requires { 9 ≤ canvas.old.most }
+{
     if canvas.shape().pixels() == 3 {
         canvas.set(0, Some(5));
         canvas.set(2, Some(-6));
@@ -108,8 +122,8 @@ fn paint_two(canvas: &mut Canvas) {
 }
 
 // A plane of three pixels that were painted so.
-fn painted(alloc: Global) -> Option<Plane> {
-    let mut canvas = blank_row(alloc, 3)?;
+fn painted(alloc: Global, short: bool) -> Option<Plane> {
+    let mut canvas = blank_row(alloc, 3, short)?;
     paint_two(&mut canvas);
     Some(canvas.into_plane())
 }
@@ -125,11 +139,14 @@ fn is_plane_of(plane: Option<Plane>, wanted: &[Option<i64>]) -> bool {
 // A canvas becomes the plane that was painted on it.
 #[test]
 fn a_canvas_is_painted(rt: HostRuntime) {
-    assert!(rt; is_plane_of(painted(rt.alloc()), &[None, None, Some(-6)]));
+    assert!(rt; is_plane_of(painted(rt.alloc(), false), &[None, None, Some(-6)]));
+    assert!(rt; is_plane_of(painted(rt.alloc(), true), &[None, None, Some(-6)]));
 }
 
 // Paints some of 70 pixels: two in a block of their own, and the last.
-fn paint_few(canvas: &mut Canvas) {
+fn paint_few(canvas: &mut Canvas)
+    requires { 9 ≤ canvas.old.most }
+{
     if canvas.shape().pixels() == 70 {
         canvas.set(32, Some(7));
         canvas.set(37, Some(8));
@@ -138,8 +155,8 @@ fn paint_few(canvas: &mut Canvas) {
 }
 
 // A plane of 70 pixels, of which these are defined.
-fn plane_of_few(alloc: Global) -> Option<Plane> {
-    let mut canvas = blank_row(alloc, 70)?;
+fn plane_of_few(alloc: Global, short: bool) -> Option<Plane> {
+    let mut canvas = blank_row(alloc, 70, short)?;
     paint_few(&mut canvas);
     Some(canvas.into_plane())
 }
@@ -154,8 +171,8 @@ fn compacted(alloc: Global, plane: &Plane) -> Option<Plane> {
 }
 
 // The plane of few pixels, kept in less memory.
-fn compact_plane_of_few(alloc: Global) -> Option<Plane> {
-    let plane = plane_of_few(alloc)?;
+fn compact_plane_of_few(alloc: Global, short: bool) -> Option<Plane> {
+    let plane = plane_of_few(alloc, short)?;
     compacted(alloc, &plane)
 }
 
@@ -212,7 +229,8 @@ fn is_kept_alike(alloc: Global, first: Option<Plane>) -> bool {
 // Where few pixels are defined, a plane that is kept in less memory has the same ones.
 #[test]
 fn a_compact_plane_is_the_same(rt: HostRuntime) {
-    assert!(rt; is_kept_alike(rt.alloc(), plane_of_few(rt.alloc())));
+    assert!(rt; is_kept_alike(rt.alloc(), plane_of_few(rt.alloc(), false)));
+    assert!(rt; is_kept_alike(rt.alloc(), plane_of_few(rt.alloc(), true)));
 }
 
 // Where many are defined, it stays as it is.
@@ -230,8 +248,8 @@ fn change_two(plane: &mut Plane) {
 }
 
 // The compact plane of few pixels after that.
-fn changed_plane(alloc: Global) -> Option<Plane> {
-    let mut plane = compact_plane_of_few(alloc)?;
+fn changed_plane(alloc: Global, short: bool) -> Option<Plane> {
+    let mut plane = compact_plane_of_few(alloc, short)?;
     change_two(&mut plane);
     Some(plane)
 }
@@ -247,14 +265,16 @@ fn has_sums(plane: Option<Plane>, numbers: u32, values: i64) -> bool {
 // Its pixels can be made undefined.
 #[test]
 fn a_compact_plane_is_changed(rt: HostRuntime) {
-    assert!(rt; has_sums(changed_plane(rt.alloc()), 69, 15));
+    assert!(rt; has_sums(changed_plane(rt.alloc(), false), 69, 15));
+    assert!(rt; has_sums(changed_plane(rt.alloc(), true), 69, 15));
 }
 
 // One finds the defined pixels one after the other, with each pixel kept as in blocks.
 #[test]
 fn defined_pixels_are_found(rt: HostRuntime) {
-    assert!(rt; has_sums(plane_of_few(rt.alloc()), 138, 6));
-    assert!(rt; has_sums(compact_plane_of_few(rt.alloc()), 138, 6));
+    assert!(rt; has_sums(plane_of_few(rt.alloc(), false), 138, 6));
+    assert!(rt; has_sums(plane_of_few(rt.alloc(), true), 138, 6));
+    assert!(rt; has_sums(compact_plane_of_few(rt.alloc(), false), 138, 6));
 }
 
 fn marked_plane(alloc: Global, plane: &Plane, marks: &[bool]) -> Option<Plane> {
@@ -273,15 +293,15 @@ fn two_marks(alloc: Global) -> Option<Vec<bool>> {
 }
 
 // The plane of few pixels, with these marks.
-fn marked_plane_of_few(alloc: Global, marks: &[bool]) -> Option<Plane> {
-    let plane = plane_of_few(alloc)?;
+fn marked_plane_of_few(alloc: Global, short: bool, marks: &[bool]) -> Option<Plane> {
+    let plane = plane_of_few(alloc, short)?;
     marked_plane(alloc, &plane, marks)
 }
 
 // The same with the two marks.
-fn part_of_few(alloc: Global) -> Option<Plane> {
+fn part_of_few(alloc: Global, short: bool) -> Option<Plane> {
     let marks = two_marks(alloc)?;
-    marked_plane_of_few(alloc, &marks)
+    marked_plane_of_few(alloc, short, &marks)
 }
 
 // A plane of three pixels, with the first and the last marked.
@@ -293,14 +313,15 @@ fn part_of_full(alloc: Global) -> Option<Plane> {
 // Of the marked pixels a second plane is made, in blocks where they are few, and with each pixel kept where they are many.
 #[test]
 fn marked_pixels_stay(rt: HostRuntime) {
-    assert!(rt; has_sums(part_of_few(rt.alloc()), 37, 8));
+    assert!(rt; has_sums(part_of_few(rt.alloc(), false), 37, 8));
+    assert!(rt; has_sums(part_of_few(rt.alloc(), true), 37, 8));
     assert!(rt; has_sums(part_of_full(rt.alloc()), 2, 5));
 }
 
 // A defined pixel with this number in place of its value, or an undefined one.
 fn numbered(pixel: Pixel, number: usize) -> Pixel
     requires { number < 2 ^ 24 }
-    ensures { IfSome result (λ v. IsWithinRange v) }
+    ensures { IfSome result (λ v. IsWithin (2 ^ 24) v) }
 {
     match pixel.value() {
         Some(_) => Pixel::of(Some(number as i64)),
@@ -308,40 +329,44 @@ fn numbered(pixel: Pixel, number: usize) -> Pixel
     }
 }
 
-// Gives the defined pixels of a band the number of its first one.
-fn number_band(start: usize, band: &mut [Pixel])
+// Gives the defined pixels of a band the number of its first one. All values are from -most to most, before and afterwards.
+fn number_band(start: usize, _most: u64, band: &mut [Pixel])
     requires few { start < 2 ^ 24 }
-    requires in_range { HasValuesWithin (2 ^ 37) band.old }
-    ensures { HasValuesWithin (2 ^ 37) band.new }
+    requires room { 2 ^ 24 ≤ _most }
+    requires within { HasValuesWithin _most band.old }
+    ensures { HasValuesWithin _most band.new }
 {
     for k in 0..band.len() {
         band[k] = numbered(band[k], start);
     }
 }
 
-// Does so with each band of this size.
+// Does so with each band of this size, if the plane has no other values.
 fn number_bands<R: Threads + Sync>(
     rt: &R,
     alloc: Global,
     plane: &mut Plane,
     size: u32,
+    most: u64,
 ) -> Result<(), OutOfMemory>
-    requires { 0 < size }
+    requires some { 0 < size }
+    requires room { 2 ^ 24 ≤ most }
+    requires bounded { most ≤ 2 ^ 37 }
 {
     // so few that values may be up to 2^37, and that the first of each band is a value
     let count = plane.shape().pixels();
-    if count > 1 << 24 {
+    if count > 1 << 24 || plane.most() > most {
         return Ok(());
     }
     plane.change_bands(
         rt,
         alloc,
         size,
-        1 << 37,
+        most,
         &|start: usize, band: &mut [Pixel]|
-            requires { (start < 2 ^ 24) × HasValuesWithin (2 ^ 37) band.now }
-            ensures { HasValuesWithin (2 ^ 37) band.exit.now }
-        { number_band(start, band) },
+            requires { (start < 2 ^ 24) × HasValuesWithin most band.now × (2 ^ 24 ≤ most) }
+            ensures { HasValuesWithin most band.exit.now }
+        { number_band(start, most, band) },
     )
 }
 
@@ -351,11 +376,14 @@ fn in_bands<R: Threads + Sync>(
     alloc: Global,
     plane: Option<Plane>,
     size: u32,
+    most: u64,
 ) -> Option<Plane>
-    requires { 0 < size }
+    requires some { 0 < size }
+    requires room { 2 ^ 24 ≤ most }
+    requires bounded { most ≤ 2 ^ 37 }
 {
     let mut plane = plane?;
-    match number_bands(rt, alloc, &mut plane, size) {
+    match number_bands(rt, alloc, &mut plane, size, most) {
         Ok(()) => Some(plane),
         Err(_) => None,
     }
@@ -363,22 +391,37 @@ fn in_bands<R: Threads + Sync>(
 
 // A plane of six pixels in bands of three.
 fn in_threes<R: Threads + Sync>(rt: &R, alloc: Global) -> Option<Plane> {
-    in_bands(rt, alloc, plane_of(alloc, 3, 2, b"5.6507"), 3)
+    in_bands(rt, alloc, plane_of(alloc, 3, 2, b"5.6507"), 3, 1 << 37)
 }
 
 // Bands of three pixels are all, and of four the last is shorter.
 #[test]
 fn pixels_are_changed_in_bands(rt: HostRuntime) {
     assert!(rt; has_sums(in_threes(&rt, rt.alloc()), 14, 9));
-    let fours = in_bands(&rt, rt.alloc(), in_threes(&rt, rt.alloc()), 4);
+    let fours = in_bands(&rt, rt.alloc(), in_threes(&rt, rt.alloc()), 4, 1 << 37);
     assert!(rt; has_sums(fours, 14, 8));
 }
 
 // A plane in blocks is changed as well.
 #[test]
 fn pixels_in_blocks_are_changed(rt: HostRuntime) {
-    let plane = in_bands(&rt, rt.alloc(), compact_plane_of_few(rt.alloc()), 32);
+    let plane = in_bands(
+        &rt,
+        rt.alloc(),
+        compact_plane_of_few(rt.alloc(), false),
+        32,
+        1 << 37,
+    );
     assert!(rt; has_sums(plane, 138, 128));
+}
+
+// So is a short one, which stays short where the values that are left are small, and else is made wide.
+#[test]
+fn short_pixels_are_changed(rt: HostRuntime) {
+    let short = in_bands(&rt, rt.alloc(), plane_of_few(rt.alloc(), true), 32, 1 << 30);
+    assert!(rt; has_sums(short, 138, 128));
+    let wide = in_bands(&rt, rt.alloc(), plane_of_few(rt.alloc(), true), 32, 1 << 37);
+    assert!(rt; has_sums(wide, 138, 128));
 }
 
 #[derive(Clone, Copy)]

@@ -17,7 +17,7 @@ returns c =
     let order : c.first_shown-first.result ≤ c.end_of_shown-end.result = c.end_of_shown-end.ensures.low in
     let low : c.args.block * 32 ≤ c.first_shown-first.result = c.first_shown-first.ensures.low in
     let reach : (c.args.block * 32 + 32 ≤ c.min-high.result) ⊎ (length c.args.pixels.now ≤ c.min-high.result) =
-    min-reaches _ _ _ c.min-high.ensures in
+    subst (λ n. (c.args.block * 32 + 32 ≤ c.min-high.result) ⊎ (n ≤ c.min-high.result)) c.len.ensures (min-reaches _ _ _ c.min-high.ensures) in
     let most : c.end_of_shown-end.result ≤ c.args.block * 32 + 32 = search rules in
     if-done c.push_shown.result
     (c.push_shown.new.kept.items ≡ c.args.kept.now.items
@@ -32,7 +32,7 @@ returns c =
     values)
     (sym c.in_ok-push.ensures.items)
     (block-added c.args.block c.first_shown-first.result c.end_of_shown-end.result c.args.runs.now.items _ c.args.kept.now.items _
-    values c.requires.before (c.len.ensures ∙ size) (omega (arith, low))
+    values c.requires.before (c.len-2.ensures ∙ size) (omega (arith, low))
     (omega (arith, low, order)) order most c.first_shown-first.ensures.none_before
     (gap-to values c.end_of_shown-end.result c.min-high.result (c.args.block * 32 + 32) c.end_of_shown-end.ensures.none_behind
     (subst (λ n. (c.args.block * 32 + 32 ≤ c.min-high.result) ⊎ (n ≤ c.min-high.result)) (sym all) reach))

@@ -3,8 +3,7 @@ use Rattle.comp_tree.proofs.Blocks.{shown-all, shown-marked}
 use Rattle.comp_tree.proofs.pixels.shown.Goals as goal
 
 pub returns-in-None : goal.returns-in-None
-returns-in-None c =
-    shown-all c.args.pixels.now c.args.marks c.index-pixels-p.result c.args.p c.in-None.is c.requires.inside c.index-pixels-p.is
+returns-in-None c = shown-all c.args.pixels.now c.args.marks c.pixel.result c.args.p c.in-None.is c.pixel.ensures
 
 pub returns-in-Some : goal.returns-in-Some
 returns-in-Some c =

@@ -1,6 +1,8 @@
-use Rattle.std.proofs.Common.{◌^◌}
-use Rattle.comp_tree.proofs.Values.{within-set}
+use Rattle.comp_tree.proofs.Values.{within-set, some_within}
 use Rattle.comp_tree.proofs.tests.number_band.Goals as goal
+use Rattle.std.proofs.Common.{◌^◌}
 
 pub loop-k-preserved : goal.loop-k-preserved
-loop-k-preserved c = within-set (2 ^ 37) c.loop-k.band c.loop-k.k c.numbered.result c.loop-k.invariant c.numbered.ensures
+loop-k-preserved c =
+    within-set c.args._most c.loop-k.band c.loop-k.k c.numbered.result c.loop-k.invariant
+    (some_within (2 ^ 24) c.args._most c.numbered.result c.requires.room c.numbered.ensures)

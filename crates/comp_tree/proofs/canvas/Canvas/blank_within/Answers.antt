@@ -1,21 +1,20 @@
-use Rattle.std.proofs.Common.{◌≡◌, ◌∙◌, sym, ap, subst, length, replicate}
+use Rattle.std.proofs.Common.{◌∙◌, ◌*◌, sym, ap, subst, length, replicate, arith}
 use Rattle.std.specs.Prelude.{None}
 use Rattle.std.proofs.lemmas.List.{length-replicate}
 use Rattle.comp_tree.specs.Raster.{HasValuesWithin}
-use Rattle.comp_tree.proofs.Values.{within-blank}
+use Rattle.comp_tree.proofs.Values.{within-blank, bound_most}
 use Rattle.comp_tree.proofs.canvas.Canvas.blank_within.Goals as goal
 
+pub blank-requires : goal.blank-requires
+blank-requires c = let most : _ = bound_most (c.args.shape.width * c.args.shape.height) in omega (arith, c.requires, most)
+
 pub invariant_of-result : goal.invariant_of-result
-invariant_of-result c =
-    let items : c.in_ok-pixels.pixels.items ≡ replicate c.pixels-count.result None =
-    c.in_ok-pixels.ensures.items_if_clones_equal (λ y e. e) ∙ ap (replicate c.pixels-count.result) c.of.ensures in (
-      ap length items ∙ length-replicate c.pixels-count.result None ∙ c.pixels-count.ensures.product,
-      subst (HasValuesWithin c.args.most) (sym items) (within-blank c.args.most c.pixels-count.result),
-      c.requires,
-    )
+invariant_of-result c = (
+  ap length c.in_ok-pixels.ensures.items ∙ length-replicate c.pixels-count.result None ∙ c.pixels-count.ensures.product,
+  subst (HasValuesWithin c.args.most) (sym c.in_ok-pixels.ensures.items) (within-blank c.args.most c.pixels-count.result),
+  c.requires,
+  c.in_ok-pixels.ensures.room,
+)
 
 pub returns-clause-undefined : goal.returns-clause-undefined
-returns-clause-undefined c =
-    let items : c.in_ok-pixels.pixels.items ≡ replicate c.pixels-count.result None =
-    c.in_ok-pixels.ensures.items_if_clones_equal (λ y e. e) ∙ ap (replicate c.pixels-count.result) c.of.ensures in
-    items ∙ ap (λ n. replicate n None) c.pixels-count.ensures.product
+returns-clause-undefined c = c.in_ok-pixels.ensures.items ∙ ap (λ n. replicate n None) c.pixels-count.ensures.product

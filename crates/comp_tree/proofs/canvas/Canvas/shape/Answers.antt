@@ -1,4 +1,4 @@
-use Rattle.std.proofs.Common.{◌≤◌, ◌∙◌, sym, subst, ap, length}
+use Rattle.std.proofs.Common.{◌≤◌, sym, subst, length}
 use Rattle.comp_tree.specs.Limits.{value_bound}
 use Rattle.comp_tree.specs.Raster.{Painting}
 use Rattle.comp_tree.proofs.canvas.Canvas.shape.Goals as goal

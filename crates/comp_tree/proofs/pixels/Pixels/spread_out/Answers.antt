@@ -1,25 +1,19 @@
 use Rattle.std.proofs.Common.{◌≡◌, ◌<◌, ◌∙◌, ◌++◌, [], ◌∷◌, List, length, take_all, ap, sym, subst, arith}
-use Rattle.std.specs.Prelude.{ℤ, Option, None, IfSome}
+use Rattle.std.specs.Prelude.{ℤ, Option, None}
 use Rattle.std.proofs.lemmas.List.{take_more}
-use Rattle.comp_tree.specs.Limits.{IsWithinRange}
 use Rattle.comp_tree.specs.Raster.{value_at}
 use Rattle.comp_tree.proofs.Blocks.{kept-length}
-use Rattle.comp_tree.proofs.Values.{in_range-of_value}
 use Rattle.comp_tree.proofs.pixels.Pixels.spread_out.Goals as goal
 
-pub get-requires : goal.get-requires
-get-requires c = subst (λ n. c.loop-p.p < n) (sym (kept-length _ _ _) ∙ ap length c.self.view_is) c.loop-p-test.true
-
-pub of-requires : goal.of-requires
-of-requires c =
-    subst (λ (v : Option ℤ). IfSome v (λ w. IsWithinRange w)) (sym c.get.ensures) (in_range-of_value c.args.self.now c.loop-p.p c.requires)
+pub pixel-requires : goal.pixel-requires
+pixel-requires c = subst (λ n. c.loop-p.p < n) (sym (kept-length _ _ _) ∙ ap length c.self.view_is) c.loop-p-test.true
 
 pub loop-p-preserved : goal.loop-p-preserved
 loop-p-preserved c =
     let within : c.loop-p.p < length c.args.self.now =
     subst (λ n. c.loop-p.p < n) (sym (kept-length _ _ _) ∙ ap length c.self.view_is) c.loop-p-test.true in
     c.in_ok-push.ensures.items
-    ∙ ap (λ (v : Option ℤ). c.loop-p.pixels.items ++ v ∷ []) (c.of.ensures ∙ c.get.ensures)
+    ∙ ap (λ (v : Option ℤ). c.loop-p.pixels.items ++ v ∷ []) c.pixel.ensures
     ∙ ap (λ (vs : List (Option ℤ)). vs ++ value_at c.args.self.now c.loop-p.p ∷ []) c.loop-p.invariant
     ∙ sym (take_more c.args.self.now c.loop-p.p None within)
 

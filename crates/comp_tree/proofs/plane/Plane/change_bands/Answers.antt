@@ -5,15 +5,14 @@ use Rattle.comp_tree.specs.Limits.{value_bound}
 use Rattle.comp_tree.specs.Raster.{Raster, HasValuesWithin}
 use Rattle.comp_tree.specs.Bands.{LeavesWithin}
 use Rattle.comp_tree.proofs.Bands.{within-bands}
-use Rattle.comp_tree.proofs.Values.{in_range-of_within}
 use Rattle.comp_tree.proofs.plane.Plane.change_bands.Goals as goal
 
 pub change_bands-requires-clause-some : goal.change_bands-requires-clause-some
 change_bands-requires-clause-some g c κs within = c.requires.some
 
-pub change_bands-requires-clause-in_range : goal.change_bands-requires-clause-in_range
-change_bands-requires-clause-in_range g c κs within =
-    in_range-of_within c.self.inside.most c.self.inside.pixels c.self.invariant.1 c.self.invariant.2
+pub change_bands-requires-clause-within : goal.change_bands-requires-clause-within
+change_bands-requires-clause-within g c κs within =
+    subst (λ (r : Raster). LeavesWithin c.args.most g.F.Fn c.args.change.now c.args.size r.values) (sym c.self.view_is) c.requires.within
 
 pub change_bands-requires-clause-accepts : goal.change_bands-requires-clause-accepts
 change_bands-requires-clause-accepts g c κs within =
@@ -31,5 +30,5 @@ invariant_of-self g c = (
 pub invariant_of-self-in-Err : goal.invariant_of-self-in-Err
 invariant_of-self-in-Err g c =
     subst (λ (values : List (Option ℤ)). (length values ≡ c.self.inside.shape.width * c.self.inside.shape.height)
-        × HasValuesWithin c.self.inside.most values × (c.self.inside.most ≤ value_bound (length values)))
+    × HasValuesWithin c.self.inside.most values × (c.self.inside.most ≤ value_bound (length values)))
     (sym c.in-Err.ensures.unchanged) c.self.invariant

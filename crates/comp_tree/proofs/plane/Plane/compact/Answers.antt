@@ -8,9 +8,9 @@ use Rattle.comp_tree.proofs.plane.Plane.compact.Goals as goal
 pub invariant_of-self : goal.invariant_of-self
 invariant_of-self c =
     subst (λ l. (length l ≡ c.self.inside.shape.width * c.self.inside.shape.height) × HasValuesWithin c.self.inside.most l × (c.self.inside.most ≤ value_bound (length l)))
-    (sym ((rw c.in-Some.is at c.in_ok-pixels.ensures) ∙ shown-none c.self.inside.pixels)) c.self.invariant
+    (sym (c.replace_by.ensures ∙ (rw c.in-Some.is at c.in_ok-pixels.ensures) ∙ shown-none c.self.inside.pixels)) c.self.invariant
 
 pub returns-in-Some : goal.returns-in-Some
 returns-in-Some c =
     ap (λ (values : List (Option ℤ)). let x : Raster = record { shape = c.self.inside.shape; values = values } in x)
-    ((rw c.in-Some.is at c.in_ok-pixels.ensures) ∙ shown-none c.self.inside.pixels) ∙ c.self.view_is
+    (c.replace_by.ensures ∙ (rw c.in-Some.is at c.in_ok-pixels.ensures) ∙ shown-none c.self.inside.pixels) ∙ c.self.view_is

@@ -1,6 +1,5 @@
 use Rattle.std.proofs.Common.{length}
-use Rattle.comp_tree.specs.Limits.{value_bound, IsWithin}
-use Rattle.comp_tree.specs.Raster.{Raster}
+use Rattle.comp_tree.specs.Limits.{value_bound}
 use Rattle.comp_tree.proofs.Values.{in_range-of_within, in_range-value, in_range-of_value}
 use Rattle.comp_tree.proofs.plane.Plane.get.Goals as goal
 

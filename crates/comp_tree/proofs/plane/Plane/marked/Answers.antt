@@ -9,10 +9,11 @@ use Rattle.comp_tree.proofs.plane.Plane.marked.Goals as goal
 pub invariant_of-result : goal.invariant_of-result
 invariant_of-result c =
     subst (λ l. (length l ≡ c.self.inside.shape.width * c.self.inside.shape.height) × HasValuesWithin c.self.inside.most l × (c.self.inside.most ≤ value_bound (length l)))
-    (sym ((rw c.in-Some.is at c.in_ok-pixels.ensures) ∙ shown-some c.self.inside.pixels c.args.marks))
-    (length-marked c.self.inside.pixels c.args.marks.now ∙ c.self.invariant.0,
-    within-marked c.self.inside.most c.self.inside.pixels c.args.marks.now c.self.invariant.1,
-    subst (λ n. c.self.inside.most ≤ value_bound n) (sym (length-marked c.self.inside.pixels c.args.marks.now)) c.self.invariant.2)
+    (sym ((rw c.in-Some.is at c.in_ok-pixels.ensures) ∙ shown-some c.self.inside.pixels c.args.marks)) (
+      length-marked c.self.inside.pixels c.args.marks.now ∙ c.self.invariant.0,
+      within-marked c.self.inside.most c.self.inside.pixels c.args.marks.now c.self.invariant.1,
+      subst (λ n. c.self.inside.most ≤ value_bound n) (sym (length-marked c.self.inside.pixels c.args.marks.now)) c.self.invariant.2,
+    )
 
 pub returns-in-Some : goal.returns-in-Some
 returns-in-Some c =
