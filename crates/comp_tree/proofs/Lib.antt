@@ -29,5 +29,5 @@ mod Along
 mod Alike
 mod Windows
 mod Bands
-mod ShortBands
+mod InTurn
 pub mod Exported

@@ -6,6 +6,7 @@ pub mod Numbers
 pub mod Kept
 pub mod Stored
 pub mod Bands
+pub mod ShortBands
 pub mod Grid
 pub mod Joined
 pub mod Forest

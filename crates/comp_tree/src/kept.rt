@@ -2,7 +2,8 @@
 
 ghost use Rattle.std.specs.Prelude.{◌≡◌, ◌+◌, ◌^◌, ◌<◌, ◌≤◌, ℕ, true, false, None, replicate, slice_set, length, min, take, drop, IfOk, OnOk, OnErr, IfSome};
 ghost use Rattle.std.specs.Fork.{AcceptsAt, ChangesAt, AcceptsChunksMut, AllInChunks};
-ghost use Rattle.comp_tree.specs.Bands.{LeavesWithin, LeavesBandWithin, IsBandChanged};
+ghost use Rattle.comp_tree.specs.Bands.{LeavesWithin};
+ghost use Rattle.comp_tree.specs.ShortBands.{LeavesBandWithin, IsBandChanged};
 ghost use Rattle.comp_tree.specs.Limits.{IsWithin};
 ghost use Rattle.comp_tree.specs.Numbers.{most_short};
 ghost use Rattle.comp_tree.specs.Raster.{value_at, HasValuesWithin};

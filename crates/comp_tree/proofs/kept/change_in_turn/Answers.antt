@@ -1,5 +1,5 @@
 use Rattle.std.proofs.Common.{◌≡◌, ◌*◌, ◌<◌, ◌∙◌, length, take, arith}
-use Rattle.comp_tree.proofs.ShortBands.{band_inside, bands_all, front_long, band_accepted, band_within, band_more, none_changed, all_changed}
+use Rattle.comp_tree.proofs.InTurn.{band_inside, bands_all, front_long, band_accepted, band_within, band_more, none_changed, all_changed}
 use Rattle.comp_tree.proofs.kept.change_in_turn.Goals as goal
 
 pub change_short_band-requires-clause-inside : goal.change_short_band-requires-clause-inside

@@ -1,5 +1,5 @@
 -- The first n bands are changed, and the others are as they were.
-use Rattle.comp_tree.specs.Bands.{AreChangedUpTo}
+use Rattle.comp_tree.specs.ShortBands.{AreChangedUpTo}
 use Rattle.std.proofs.Common.{◌*◌}
 use Rattle.comp_tree.proofs.kept.change_in_turn.Given as goal
 

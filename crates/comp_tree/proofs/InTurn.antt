@@ -10,7 +10,8 @@ use Rattle.std.proofs.Math.Nat.{mul-le-mul_right, add-mul, one-mul}
 use denote.Ref.{MutBor}
 use denote.Param.Members.{Shared}
 use Rattle.comp_tree.specs.Raster.{value_at, HasValuesWithin}
-use Rattle.comp_tree.specs.Bands.{LeavesWithin, LeavesBandWithin, IsBandChanged, AreChangedUpTo}
+use Rattle.comp_tree.specs.Bands.{LeavesWithin}
+use Rattle.comp_tree.specs.ShortBands.{LeavesBandWithin, IsBandChanged, AreChangedUpTo}
 use Rattle.comp_tree.proofs.Bands.{band_taken}
 
 -- ---- how many bands there are
