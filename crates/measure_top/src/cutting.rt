@@ -25,7 +25,7 @@ pub(crate) fn cut_below(plane: &mut Plane, level: i64)
     let count = plane.shape().pixels();
     for p in 0..count {
         if !plane.is_at_least(level, p) {
-            plane.set(p, None);
+            plane.clear(p);
         }
     }
 }

@@ -11,7 +11,7 @@ use Rattle.std.proofs.lemmas.Nat.{div-add-mod', div_below, div-mul-add}
 use Rattle.std.proofs.lemmas.Option.{unwrap_or-slice_get}
 use Rattle.comp_tree.specs.declared.shape.Shape.{Shape}
 use Rattle.comp_tree.specs.Limits.{IsWithin, IsInHalfRange, value_bound, half_bound}
-use Rattle.comp_tree.proofs.Exported.{half_twice, within_half}
+use Rattle.comp_tree.proofs.Exported.{half_twice, within_half, within_more}
 use Rattle.comp_tree.specs.Raster.{Raster, IsPlane, HasValuesInHalfRange, HasValuesWithin, value_at}
 use Rattle.mesh_background.specs.Mesh.{mesh_cell_of}
 use Rattle.mesh_background.specs.Lessened.{numbers_under, number_of_cell, level_of, AreNumbers, IsInHalfRangeFrom, IsBand, IsLessened}
@@ -231,19 +231,28 @@ numbers-within b r mesh flat numbers h is = subst (λ (ns : List ℤ). All (IsWi
     go true = within-values b r mesh h
     go false = within-smooth b r mesh h
 
--- what a band leaves is in the range
-pub band-in_range : (r : Raster) (mesh : ℕ) (own : Shape) (flat : Bool) (numbers : List ℤ) (size start : ℕ) (band after : List (Option ℤ)) → 0 < mesh
-    → HasValuesInHalfRange r.values → numbers ≡ numbers_under r mesh flat → IsChunk r.values size start band
+-- what a band leaves is within a bound, where the values are within half of it
+pub band-within : (most : ℕ) (r : Raster) (mesh : ℕ) (own : Shape) (flat : Bool) (numbers : List ℤ) (size start : ℕ) (band after : List (Option ℤ)) → 0 < mesh
+    → HasValuesWithin (most / 2) r.values → numbers ≡ numbers_under r mesh flat → IsChunk r.values size start band
     → IsLessened band (λ k. level_of flat mesh own numbers (start + k)) 0 (length band) after
-    → HasValuesWithin (value_bound (length r.values)) after
-band-in_range r mesh own flat numbers size start band after some h is chunk less =
-    subst (λ (n : ℕ). HasValuesWithin n after) (half_twice (length r.values))
-    (lessened-within b band after (λ k. level_of flat mesh own numbers (start + k))
-    (λ k v lt e. within-of b r (start + k) v h.each (sym (chunk.elements k None lt) ∙ e))
-    (λ k. within-level_of b flat mesh own numbers (start + k) some (numbers-within b r mesh flat numbers h.each is)) less)
+    → HasValuesWithin most after
+band-within most r mesh own flat numbers size start band after some h is chunk less p v e =
+    within_more (most / 2 + most / 2) most v (omega arith)
+    (lessened-within (most / 2) band after (λ k. level_of flat mesh own numbers (start + k))
+    (λ k w lt f. within-of (most / 2) r (start + k) w h (sym (chunk.elements k None lt) ∙ f))
+    (λ k. within-level_of (most / 2) flat mesh own numbers (start + k) some (numbers-within (most / 2) r mesh flat numbers h is)) less p v e)
+
+-- values within one of two bounds, and within half of the other, are within half of the least of twice the first and the second
+pub half-of_least : (own range : ℕ) (values : List (Option ℤ)) → HasValuesWithin own values → range ≡ value_bound (length values)
+    → HasValuesInHalfRange values → HasValuesWithin (min (own * 2) range / 2) values
+half-of_least own range values within is half p v e = go (cases_lt (own * 2) range)
   where
-    b : ℕ
-    b = half_bound (length r.values)
+    twice : half_bound (length values) + half_bound (length values) ≡ value_bound (length values)
+    twice = half_twice (length values)
+
+    go : (own * 2 < range) ⊎ (range ≤ own * 2) → IsWithin (min (own * 2) range / 2) v
+    go (inl lt) = within_more own _ v (omega (arith, lt)) (within p v e)
+    go (inr le) = within_more (half_bound (length values)) _ v (omega (arith, le, is, twice)) (half.each p v e)
 
 -- a pixel of a plane, which stands in one of its bands
 pub pixel-lessened : (old new band after : List (Option ℤ)) (own shape : Shape) (mesh : ℕ) (flat : Bool) (numbers : List ℤ) (start offset p : ℕ) → own ≡ shape

@@ -7,10 +7,10 @@
 //! in whole pixels: half of (2 * next - 1) * mesh - 1, rounded up, is next * mesh less half of mesh + 1, rounded down.
 //! For `next` = 0 this would lie before the row, which starts at 0 then; and no run reaches past the row's end.
 
-ghost use Rattle.std.specs.Prelude.{◌≡◌, ℕ, ◌+◌, ◌-◌, ◌*◌, ◌^◌, ◌<◌, ◌≤◌, ◌-ℤ◌, true, false, length, IfOk, IfSome, OnOk, OnErr};
+ghost use Rattle.std.specs.Prelude.{◌≡◌, ℕ, ◌+◌, ◌-◌, ◌*◌, ◌/◌, ◌^◌, ◌<◌, ◌≤◌, ◌-ℤ◌, true, false, length, IfOk, IfSome, OnOk, OnErr};
 ghost use Rattle.std.specs.Option.{option_map};
-ghost use Rattle.comp_tree.specs.Limits.{IsInHalfRange};
-ghost use Rattle.comp_tree.specs.Raster.{HasValuesInHalfRange};
+ghost use Rattle.comp_tree.specs.Limits.{IsInHalfRange, value_bound};
+ghost use Rattle.comp_tree.specs.Raster.{HasValuesInHalfRange, HasValuesWithin};
 ghost use Rattle.mesh_background.specs.Mesh.{values_of_mesh};
 ghost use Rattle.mesh_background.specs.Residuals.{filtered_values, pixel_level, residual_of};
 ghost use Rattle.mesh_background.specs.Interpolation.{past_centre, cell_before, cell_after};
@@ -35,7 +35,7 @@ use std::thread::Threads;
 /// cells whose centres lie around the pixel's. With mesh 0 it is 0 everywhere, so the residual equals the plane.
 ///
 /// The residual is made in the place of the plane. The one error is that memory was refused. The pixels are lessened in
-/// `parts` bands, as by `subtract_background`.
+/// `parts` bands, and at least 64 where values are small, as by `subtract_background`.
 pub fn residual<R: Threads + Sync>(
     rt: &R,
     alloc: Global,
@@ -55,7 +55,8 @@ pub fn residual<R: Threads + Sync>(
 /// Makes of a plane its residual, in place.
 ///
 /// The pixels are lessened in `parts` bands of whole rows, each in a thread of its own where one can be made; 0 counts
-/// as 1. The one error is that memory was refused; the plane is as it was then.
+/// as 1. Where values are small, so that what is left is sure to be below 2^31, less than 64 counts as 64. The one error
+/// is that memory was refused; the plane is as it was then.
 pub fn subtract_background<R: Threads + Sync>(
     rt: &R,
     alloc: Global,
@@ -139,11 +140,13 @@ fn subtract_by_bands<R: Threads + Sync>(
     ensures subtracted { OnOk result (plane.new ≡ residual_of plane.old grid.now.mesh flat) }
     ensures kept { OnErr result (plane.new ≡ plane.old) }
 {
-    let size = plane.shape().band_size(parts);
+    let most = most_left(plane);
+    let size = plane.shape().band_size(parts_for(most, parts));
     plane.change_bands(
         rt,
         alloc,
         size,
+        most,
         &|start: usize, band: &mut [Pixel]|
             requires { IsBand grid.now.shape start band.now
                 × AreNumbers grid.now.mesh grid.now.shape numbers.now }
@@ -152,6 +155,30 @@ fn subtract_by_bands<R: Threads + Sync>(
                 0 (length band.entry.now) band.exit.now }
         { lessen_band(grid, numbers, flat, start, band) },
     )
+}
+
+// A bound of what is left of the values. A background is within any bound of its plane's values, so what is left is
+// within twice that; nor is it beyond the range, since each value is within half of it.
+fn most_left(plane: &Plane) -> u64
+    requires in_range { HasValuesInHalfRange plane.now.values }
+    ensures half { HasValuesWithin (result / 2) plane.now.values }
+    ensures bounded { result ≤ value_bound (length plane.now.values) }
+{
+    (plane.most() * 2).min(range_of(plane.shape().pixels()))
+}
+
+// The bound of the values that a plane with so many pixels may have.
+#[tactic(auto, unfolding(comp_tree::specs::Limits::value_bound))]
+fn range_of(count: u32) -> u64
+    ensures { result ≡ value_bound count }
+{
+    if count <= 1 << 24 { 1 << 37 } else { 1 << 30 }
+}
+
+// How many bands are asked for. Values below 2^31 may be kept in four bytes a pixel; then the bands are changed one after
+// the other, in a buffer of eight bytes a pixel. Small bands keep it small.
+fn parts_for(most: u64, parts: u32) -> u32 {
+    if most < 1 << 31 { parts.max(64) } else { parts }
 }
 
 // Lessens the pixels of a band, of which the first one is pixel `start` of the image.

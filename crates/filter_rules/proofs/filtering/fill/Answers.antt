@@ -1,4 +1,4 @@
-use Rattle.std.proofs.Common.{ℕ, ◌*◌, ◌∙◌, arith, subst, sym}
+use Rattle.std.proofs.Common.{ℕ, ◌*◌, arith, subst, sym}
 use Rattle.std.specs.Prelude.{ℤ, Option, IfSome}
 use Rattle.comp_tree.specs.Limits.{IsWithin, value_bound}
 use Rattle.filter_rules.proofs.Filling.{filled_all, filled_within}
@@ -12,7 +12,7 @@ returns-clause-values c =
 
 pub set-requires-clause-in_range : goal.set-requires-clause-in_range
 set-requires-clause-in_range c =
-    subst (λ (n : ℕ). IfSome c.filled_pixel.result (λ v. IsWithin (value_bound n) v)) (sym c.requires.pixels ∙ sym c.loop-p.invariant.filled.one_each)
+    subst (λ (n : ℕ). IfSome c.filled_pixel.result (λ v. IsWithin n v)) (sym c.loop-p.invariant.same_most)
     (subst (λ (o : Option ℤ). IfSome o (λ v. IsWithin (value_bound (c.args.shape.width * c.args.shape.height)) v)) (sym c.filled_pixel.ensures)
     (filled_within c.args.values.now (value_bound (c.args.shape.width * c.args.shape.height)) _
     (c.requires.nodes c.loop-p.p (omega (arith, c.loop-p-test.true, c.requires.pixels, c.pixels-p-end.ensures.product))) c.requires.values))

@@ -9,7 +9,7 @@ pub loop-p-preserved : goal.loop-p-preserved
 loop-p-preserved c =
     elim c.if-not-is_at_least.branch [
       | then-not-is_at_least w ↦
-          subst (IsCutUpTo c.args.plane.now (to_z w64 (of_z w64 c.args.level)) (c.loop-p.p + 1)) (sym (w.plane-is ∙ w.set.ensures))
+          subst (IsCutUpTo c.args.plane.now (to_z w64 (of_z w64 c.args.level)) (c.loop-p.p + 1)) (sym (w.plane-is ∙ w.clear.ensures))
           (cut_more c.args.plane.now c.loop-p.plane (to_z w64 (of_z w64 c.args.level)) c.loop-p.p c.loop-p.invariant
           (omega (arith, c.loop-p-test.true, c.shape.ensures.pixels, c.pixels-count.ensures.product)) (sym c.is_at_least.ensures ∙ w.if-not-is_at_least.true))
       | else-not-is_at_least w ↦

@@ -4,7 +4,7 @@ use Rattle.std.proofs.lemmas.Result.{on_ok_weaker}
 use Rattle.comp_tree.specs.declared.shape.Shape.{Shape}
 use Rattle.comp_tree.specs.Raster.{Raster, IsPlane}
 use Rattle.mesh_background.proofs.Lessening.{lessened-all}
-use Rattle.mesh_background.proofs.Bands.{band-of, band-in_range, numbers-known, pixel-lessened}
+use Rattle.mesh_background.proofs.Bands.{band-of, band-within, numbers-known, pixel-lessened}
 use Rattle.mesh_background.proofs.subtraction.subtract_by_bands.Goals as goal
 
 pub change_bands-requires-clause-accepts : goal.change_bands-requires-clause-accepts
@@ -18,12 +18,12 @@ change_bands-requires-clause-accepts g c = λ κs within start p chunk.
       numbers-known r grid.shape grid.mesh c.args.flat c.args.numbers.now c.requires.shape c.requires.in_range c.requires.numbers,
     )
 
-pub change_bands-requires-clause-in_range : goal.change_bands-requires-clause-in_range
-change_bands-requires-clause-in_range g c = λ κs within start band after chunk less.
+pub change_bands-requires-clause-within : goal.change_bands-requires-clause-within
+change_bands-requires-clause-within g c = λ κs within start band after chunk less.
     let grid = c.args.grid.now in
     let r : Raster = c.args.plane.now in
-    band-in_range r grid.mesh grid.shape c.args.flat c.args.numbers.now c.band_size-size.result start band.now after.now grid.some c.requires.in_range
-    c.requires.numbers chunk less
+    band-within c.most_left-most.result r grid.mesh grid.shape c.args.flat c.args.numbers.now c.band_size-size.result start band.now after.now grid.some
+    c.most_left-most.ensures.half c.requires.numbers chunk less
 
 pub returns-clause-subtracted : goal.returns-clause-subtracted
 returns-clause-subtracted g c = on_ok_weaker c.change_bands.result (λ changed.
