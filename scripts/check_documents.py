@@ -2,7 +2,7 @@
 
 usage: python3 scripts/check_documents.py      (at the top of the repository; exit status 1 where something is amiss)
 
-The crates stand in docs/ARCHITECTURE.md, docs/PROVED.md and bench/RESULTS.md as crates.txt has them, in its order; each
+The crates stand in docs/ARCHITECTURE.md, docs/PROVED.md and docs/RESULTS.md as crates.txt has them, in its order; each
 name that docs/DEFINITIONS.md explains is a definition's; each file that a document links to or names is there; what
 speaks of the catalogue's columns has those of `fits_write`, in their order; no two documents share a paragraph; and a
 byte's way through `detect`, as docs/ARCHITECTURE.md draws it, is through at most thirteen crates. What is amiss among
@@ -37,7 +37,7 @@ def crates():
 
 def documents():
     """The documents' names and texts."""
-    for path in [TOP / "README.md", *sorted((TOP / "docs").glob("*.md")), *sorted((TOP / "bench").glob("*.md"))]:
+    for path in [TOP / "README.md", *sorted((TOP / "docs").glob("*.md"))]:
         yield path.relative_to(TOP).as_posix(), path.read_text(encoding="utf-8")
 
 
@@ -66,7 +66,7 @@ def other_crates(text):
     told = {
         "docs/ARCHITECTURE.md": [name for name, _ in rows(text["docs/ARCHITECTURE.md"], "| Crate | Stands on |")],
         "docs/PROVED.md": re.findall(r"^## `(\w+)`", text["docs/PROVED.md"], flags=re.M),
-        "bench/RESULTS.md": [name for name, _ in rows(text["bench/RESULTS.md"], "| Crate | Build |")],
+        "docs/RESULTS.md": [name for name, _ in rows(text["docs/RESULTS.md"], "| Crate | Build |")],
     }
     for name, found in told.items():
         if found != list(wanted):
