@@ -12,8 +12,7 @@ use Rattle.std.specs.List.{position, position_or_len}
 use Rattle.std.proofs.lemmas.List.Sums.{position_or_len_is}
 use Rattle.std.proofs.lemmas.List.Quantifiers.{position-Some}
 use Rattle.std.proofs.lemmas.Bool.Decides.{nat_tests}
-use Rattle.comp_tree.specs.Limits.{IsWithin, half_bound, value_bound}
-use Rattle.comp_tree.proofs.Exported.{half_twice, within_more}
+use Rattle.comp_tree.specs.Limits.{IsWithin, half_bound}
 use Rattle.comp_tree.specs.Raster.{HasValuesInHalfRange, value_at}
 use Rattle.pixel_plane.specs.declared.limits.Limits.{Limits}
 use Rattle.pixel_plane.specs.WithinLimits.{IsInRange, HasValuesInLimits, SuitCount}
@@ -72,13 +71,6 @@ half_of limits count v suited it =
     let low = it.low in
     let high = it.high in
     record { low = omega (arith, ints); high = omega (arith, ints) }
-
--- a canvas with so many pixels takes it
-pub settable : (limits : Limits) (count : ℕ) (value : Option ℤ) → SuitCount limits count → IfSome value (λ v. IsInRange limits v)
-    → IfSome value (λ v. IsWithin (value_bound count) v)
-settable limits count None suited h = tt
-settable limits count (Some v) suited h =
-    within_more (half_bound count) (value_bound count) v (omega (arith, half_twice count)) (half_of limits count v suited h)
 
 -- a plane of so many is in half of its range
 pub in_half_range : (limits : Limits) (values : List (Option ℤ)) → SuitCount limits (length values) → HasValuesInLimits limits values → HasValuesInHalfRange values

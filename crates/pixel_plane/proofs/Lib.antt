@@ -5,6 +5,7 @@ mod Decoding
 mod Planes
 mod Naming
 mod Narrow
+mod Nearness
 mod Narrowing
 mod OneLimits
 mod UsualLimits

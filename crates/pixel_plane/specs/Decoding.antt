@@ -8,10 +8,15 @@ use Rattle.pixel_plane.specs.declared.fault.PlaneFault.TheVariants.{TruncatedDat
 use Rattle.pixel_plane.specs.declared.fault.PlaneStop.{PlaneStop}
 use Rattle.pixel_plane.specs.declared.fault.PlaneStop.TheVariants.{Fault, ReadFault, OutOfMemory}
 use Rattle.pixel_plane.specs.Stored.{stored_number, value_stored_as, pixel_at, is_out_of_range, holds_narrow}
+use Rattle.pixel_plane.specs.Nearness.{most_of}
 
 -- the value of pixel p, where the numbers are encoded so
 abbrev pub decoded : Encoding → List ℕ → ℕ → Option ℤ
 decoded encoding bytes p = pixel_at encoding.size encoding.zero encoding.blank bytes p
+
+-- a bound of the values of numbers that are encoded so
+abbrev pub most_in : Encoding → ℕ
+most_in encoding = most_of encoding.size encoding.zero encoding.blank encoding.limits
 
 -- the pixels from the first up to the end have the values of the numbers in these bytes, and those before them stayed
 pub record IsDecoded (encoding : Encoding) (bytes : List ℕ) (first end : ℕ) (old new : List (Option ℤ)) : Type 0 where

@@ -5,6 +5,7 @@ pub mod WithinLimits
 pub mod Images
 pub mod Stored
 pub mod Sizes
+pub mod Nearness
 pub mod Reading
 pub mod Decoding
 pub mod Verdicts

@@ -2,7 +2,9 @@
 ghost use Rattle.std.specs.Prelude.{◌≡◌, ◌≢◌, ◌≤◌, ◌==◌, ◌&&◌, not, true, length, IsTrue, None, Some, IfSome, IfOk, MatchResult, ◌+ℤ◌, ◌≤ℤ◌, pos, neg_ℤ, ◌^◌};
 ghost use Rattle.pixel_plane.specs.Images.{image_fault};
 ghost use Rattle.pixel_plane.specs.WithinLimits.{IsInRange};
+ghost use Rattle.comp_tree.specs.Limits.{IsWithin};
 ghost use Rattle.pixel_plane.specs.Sizes.{is_number_size, IsFarNumber};
+ghost use Rattle.pixel_plane.specs.Nearness.{IsNumberOf, leaves_out_least, limits_most, numbers_most, most_of};
 ghost use Rattle.pixel_plane.specs.Stored.{size_of, stored_number, value_stored_as, is_out_of_range, holds_narrow, value_limits, whole_or_zero, blank_of};
 
 use crate::Limits;
@@ -13,6 +15,9 @@ use fits_hdu::Hdu;
 
 // The values of all numbers of fewer than 64 bits are nearer to 0 than this, whatever BZERO is accepted.
 const MOST_NARROW: i64 = 1 << 33;
+
+// The least number of 32 bits.
+const LEAST_OF_32: i64 = -(1 << 31);
 
 /// The size of the stored numbers in bytes, what is added to each, the number that stands for an undefined pixel, and the limits of the values.
 #[derive(Clone, Copy)]
@@ -50,6 +55,47 @@ impl Encoding {
         self.size != 8 && self.limits.least <= -MOST_NARROW && MOST_NARROW <= self.limits.greatest
     }
 
+    /// A bound of the values: none that a number stands for and that is in the limits is below `-most` or above it.
+    #[tactic(auto, unfolding(crate::specs::Nearness::most_of))]
+    pub(crate) fn most(&self) -> u64
+        ensures { result ≡ most_of self.now.size self.now.zero self.now.blank self.now.limits }
+    {
+        self.numbers_most().min(self.limits_most())
+    }
+
+    // That of the numbers, whatever the limits are. With eight bytes it is the one of all limits.
+    #[tactic(auto, unfolding(crate::specs::Nearness::numbers_most))]
+    fn numbers_most(&self) -> u64
+        ensures { result ≡ numbers_most self.now.size self.now.zero self.now.blank }
+    {
+        if self.size == 8 {
+            return 1 << 36;
+        }
+        if self.size != 4 {
+            return self.zero.unsigned_abs() + (1 << 15);
+        }
+        if self.leaves_out_least() {
+            return (1 << 31) - 1;
+        }
+        1 << 33
+    }
+
+    // Whether the least number of 32 bits has no value, and the others are values as they are: all these are below 2^31 on either side
+    // of 0.
+    fn leaves_out_least(&self) -> bool
+        ensures { result ≡ leaves_out_least self.now.zero self.now.blank }
+    {
+        self.zero == 0 && self.blank == Some(LEAST_OF_32)
+    }
+
+    // That of the limits, whatever the numbers are.
+    fn limits_most(&self) -> u64
+        ensures { result ≡ limits_most self.now.limits }
+    {
+        let farthest = self.limits.greatest.max(-self.limits.least).max(0);
+        farthest.unsigned_abs()
+    }
+
     /// The value that the first number of these bytes stands for, where it is never out of range.
     pub(crate) fn value(&self, bytes: &[u8]) -> Option<i64>
         requires room { self.now.size ≤ length bytes.now }
@@ -58,6 +104,8 @@ impl Encoding {
         ensures value { result ≡
             value_stored_as self.now.zero self.now.blank (stored_number self.now.size bytes.now) }
         ensures within { IfSome result (λ v. IsInRange self.now.limits v) }
+        ensures near { IfSome result (λ v. IsWithin
+            (most_of self.now.size self.now.zero self.now.blank self.now.limits) v) }
     {
         let stored = self.stored(bytes);
         if self.blank == Some(stored) {
@@ -73,6 +121,7 @@ impl Encoding {
         ensures number { result ≡ stored_number self.now.size bytes.now }
         ensures low { self.now.size ≢ 8 → neg_ℤ (pos (2 ^ 32)) ≤ℤ result }
         ensures high { self.now.size ≢ 8 → result ≤ℤ pos (2 ^ 32) }
+        ensures of_size { IsNumberOf self.now.size result }
     {
         match self.size {
             1 => i64::from(bytes[0]),
@@ -91,6 +140,8 @@ impl Encoding {
             (λ stored. IsFarNumber self.now.limits self.now.zero self.now.blank stored
             (stored_number self.now.size bytes.now)) }
         ensures within { IfOk result (λ value. IfSome value (λ v. IsInRange self.now.limits v)) }
+        ensures near { IfOk result (λ value. IfSome value (λ v. IsWithin
+            (most_of self.now.size self.now.zero self.now.blank self.now.limits) v)) }
     {
         let stored = self.stored(bytes);
         if self.blank == Some(stored) {

@@ -5,11 +5,11 @@ ghost use Rattle.dev_io.specs.Causes.{Rose};
 ghost use Rattle.dev_io.specs.Streams.{Fills};
 ghost use Rattle.comp_tree.specs.Raster.{HasValuesInHalfRange};
 ghost use Rattle.pixel_plane.specs.ImageLimits.{usual_limits};
-ghost use Rattle.pixel_plane.specs.WithinLimits.{HasValuesInLimits, SuitCount};
+ghost use Rattle.pixel_plane.specs.WithinLimits.{HasValuesInLimits};
 ghost use Rattle.pixel_plane.specs.Stored.{holds_narrow};
 ghost use Rattle.pixel_plane.specs.Images.{checked};
 ghost use Rattle.pixel_plane.specs.Reading.{PlaneRead, PlaneStopped, NamesPixel};
-ghost use Rattle.pixel_plane.specs.Decoding.{PixelsRead, PixelsStopped, BytesStopped, RestStopped, IsDecoded, FarInside, NamesNone, NamesOnly, NamesFar};
+ghost use Rattle.pixel_plane.specs.Decoding.{most_in, PixelsRead, PixelsStopped, BytesStopped, RestStopped, IsDecoded, FarInside, NamesNone, NamesOnly, NamesFar};
 
 use crate::encoding::Encoding;
 use crate::{Limits, PixelPlace, PlaneFault, PlaneStop};
@@ -64,10 +64,10 @@ pub fn read_plane_within<S: Source>(
     ensures fault { IsErrOf result PlaneStop.ReadFault →
         Rose (S.faults src.old) (S.faults src.new) }
 {
-    let Ok(mut canvas) = Canvas::blank(alloc, shape) else {
+    let encoding = Encoding::of(hdu, shape, limits);
+    let Ok(mut canvas) = Canvas::blank_within(alloc, shape, encoding.most()) else {
         return Err(PlaneStop::OutOfMemory);
     };
-    let encoding = Encoding::of(hdu, shape, limits);
     match read_pixels(src, &encoding, &mut canvas) {
         Ok(()) => Ok(canvas.into_plane()),
         Err(stop) => Err(stop),
@@ -80,10 +80,11 @@ fn read_pixels<S: Source>(
     encoding: &Encoding,
     canvas: &mut Canvas,
 ) -> Result<(), PlaneStop>
-    requires suited { SuitCount encoding.now.limits (length canvas.old.values) }
+    requires most { canvas.old.most ≡ most_in encoding.now }
     requires in_limits { HasValuesInLimits encoding.now.limits canvas.old.values }
     ensures shape { canvas.new.shape ≡ canvas.old.shape }
     ensures count { length canvas.new.values ≡ length canvas.old.values }
+    ensures most { canvas.new.most ≡ canvas.old.most }
     ensures in_limits { HasValuesInLimits encoding.now.limits canvas.new.values }
     ensures told { ForSome (S.left src.old) (λ bytes. MatchResult result
         (λ _. PixelsRead encoding.now bytes (S.left src.new) canvas.new.values)
@@ -166,10 +167,11 @@ fn decode(
     requires order { first ≤ end }
     requires room { (end - first) * encoding.now.size ≤ length bytes.now }
     requires within { end ≤ length canvas.old.values }
-    requires suited { SuitCount encoding.now.limits (length canvas.old.values) }
+    requires most { canvas.old.most ≡ most_in encoding.now }
     requires in_limits { HasValuesInLimits encoding.now.limits canvas.old.values }
     ensures shape { canvas.new.shape ≡ canvas.old.shape }
     ensures count { length canvas.new.values ≡ length canvas.old.values }
+    ensures most { canvas.new.most ≡ canvas.old.most }
     ensures in_limits { HasValuesInLimits encoding.now.limits canvas.new.values }
     ensures decoded { MatchResult result
         (λ _. IsDecoded encoding.now bytes.now first end canvas.old.values canvas.new.values)
@@ -188,10 +190,11 @@ fn decode_narrow(encoding: &Encoding, bytes: &[u8], canvas: &mut Canvas, first: 
     requires holds { holds_narrow encoding.now.limits ≡ true }
     requires room { (end - first) * encoding.now.size ≤ length bytes.now }
     requires within { end ≤ length canvas.old.values }
-    requires suited { SuitCount encoding.now.limits (length canvas.old.values) }
+    requires most { canvas.old.most ≡ most_in encoding.now }
     requires in_limits { HasValuesInLimits encoding.now.limits canvas.old.values }
     ensures shape { canvas.new.shape ≡ canvas.old.shape }
     ensures count { length canvas.new.values ≡ length canvas.old.values }
+    ensures most { canvas.new.most ≡ canvas.old.most }
     ensures in_limits { HasValuesInLimits encoding.now.limits canvas.new.values }
     ensures decoded { IsDecoded encoding.now bytes.now first end canvas.old.values canvas.new.values }
 {
@@ -211,10 +214,11 @@ fn decode_compared(
     requires wide { holds_narrow encoding.now.limits ≡ true → encoding.now.size ≡ 8 }
     requires room { (end - first) * encoding.now.size ≤ length bytes.now }
     requires within { end ≤ length canvas.old.values }
-    requires suited { SuitCount encoding.now.limits (length canvas.old.values) }
+    requires most { canvas.old.most ≡ most_in encoding.now }
     requires in_limits { HasValuesInLimits encoding.now.limits canvas.old.values }
     ensures shape { canvas.new.shape ≡ canvas.old.shape }
     ensures count { length canvas.new.values ≡ length canvas.old.values }
+    ensures most { canvas.new.most ≡ canvas.old.most }
     ensures in_limits { HasValuesInLimits encoding.now.limits canvas.new.values }
     ensures decoded { MatchResult result
         (λ _. IsDecoded encoding.now bytes.now first end canvas.old.values canvas.new.values)

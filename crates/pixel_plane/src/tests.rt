@@ -170,6 +170,66 @@ fn numbers_of_32_bits_begin_with_the_most_significant_byte(rt: HostRuntime) -> R
     Ok(())
 }
 
+// What is added is as far from 0 as it may be.
+#[test]
+fn values_of_16_bits_reach_their_bounds(rt: HostRuntime) -> Result<(), Fail> {
+    let hdu = Hdu {
+        bzero: Whole::Is(-4_294_967_296),
+        blank: None,
+        ..IMAGE
+    };
+    let shape = check_image(&hdu)?;
+    let mut source = PlainSource::new(&[0x80, 0, 0x7f, 0xff]);
+    let plane = read_plane(rt.alloc(), &mut source, &hdu, shape).expect(&rt, "a plane");
+    assert_eq!(rt; plane.shape().pixels(), 2);
+    assert_eq!(rt; plane.get(0), Some(-4_295_000_064));
+    assert_eq!(rt; plane.shape().pixels(), 2);
+    assert_eq!(rt; plane.get(1), Some(-4_294_934_529));
+    Ok(())
+}
+
+// The least number of 32 bits is BLANK: all values are below 2^31 on either side of 0.
+#[test]
+fn values_of_32_bits_reach_their_bounds(rt: HostRuntime) -> Result<(), Fail> {
+    let hdu = Hdu {
+        bitpix: 32,
+        width: 3,
+        data_bytes: 12,
+        bzero: Whole::Is(0),
+        blank: Some(Whole::Is(-2_147_483_648)),
+        ..IMAGE
+    };
+    let shape = check_image(&hdu)?;
+    let bytes = [0x7f, 0xff, 0xff, 0xff, 0x80, 0, 0, 1, 0x80, 0, 0, 0];
+    let mut source = PlainSource::new(&bytes);
+    let plane = read_plane(rt.alloc(), &mut source, &hdu, shape).expect(&rt, "a plane");
+    assert_eq!(rt; plane.shape().pixels(), 3);
+    assert_eq!(rt; plane.get(0), Some(2_147_483_647));
+    assert_eq!(rt; plane.shape().pixels(), 3);
+    assert_eq!(rt; plane.get(1), Some(-2_147_483_647));
+    assert_eq!(rt; plane.shape().pixels(), 3);
+    assert_eq!(rt; plane.get(2), None);
+    Ok(())
+}
+
+// Without BLANK the least number of 32 bits is a value.
+#[test]
+fn the_least_number_of_32_bits_is_read(rt: HostRuntime) -> Result<(), Fail> {
+    let hdu = Hdu {
+        bitpix: 32,
+        width: 1,
+        bzero: Whole::Is(0),
+        blank: None,
+        ..IMAGE
+    };
+    let shape = check_image(&hdu)?;
+    let mut source = PlainSource::new(&[0x80, 0, 0, 0]);
+    let plane = read_plane(rt.alloc(), &mut source, &hdu, shape).expect(&rt, "a plane");
+    assert_eq!(rt; plane.shape().pixels(), 1);
+    assert_eq!(rt; plane.get(0), Some(-2_147_483_648));
+    Ok(())
+}
+
 // More pixels than are read at once.
 #[test]
 fn a_pixel_behind_the_first_block_is_read(rt: HostRuntime) -> Result<(), Fail> {

@@ -8,6 +8,7 @@ abbrev pub invariant-loop-p : goal.invariant-loop-p
 invariant-loop-p l = record {
   shape : l.canvas.shape ≡ l.initial.canvas.shape;
   count : length l.canvas.values ≡ length l.initial.canvas.values;
+  most : l.canvas.most ≡ l.initial.canvas.most;
   in_limits : HasValuesInLimits l.encoding.limits l.canvas.values;
   decoded : IsDecoded l.encoding l.bytes l.first l.p l.initial.canvas.values l.canvas.values;
 }

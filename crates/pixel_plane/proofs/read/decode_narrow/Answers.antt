@@ -1,8 +1,8 @@
 use Rattle.std.proofs.Common.{◌≡◌, ◌-◌, ◌∙◌, ◌<◌, length, sym, subst, arith}
 use Rattle.std.proofs.lemmas.List.{length-set}
-use Rattle.pixel_plane.specs.WithinLimits.{SuitCount}
-use Rattle.pixel_plane.specs.Decoding.{decoded}
-use Rattle.pixel_plane.proofs.HalfRange.{set_in_range, settable}
+use Rattle.pixel_plane.specs.Decoding.{decoded, most_in}
+use Rattle.pixel_plane.proofs.HalfRange.{set_in_range}
+use Rattle.pixel_plane.proofs.Nearness.{settable}
 use Rattle.pixel_plane.proofs.Decoding.{decoded_next, value_from}
 use Rattle.pixel_plane.proofs.read.decode_narrow.Goals as goal
 
@@ -14,12 +14,11 @@ loop-p-preserved c =
     rw c.set.ensures (record {
       shape = c.loop-p.invariant.shape;
       count = length-set _ _ _ ∙ c.loop-p.invariant.count;
+      most = c.loop-p.invariant.most;
       in_limits = set_in_range _ _ _ _ c.value.ensures.within c.loop-p.invariant.in_limits;
       decoded = decoded_next _ _ _ _ _ _ _ c.loop-p.auto.p inside value c.loop-p.invariant.decoded;
     })
 
 pub set-requires-clause-in_range : goal.set-requires-clause-in_range
 set-requires-clause-in_range c =
-    let suited : SuitCount c.args.encoding.now.limits (length c.loop-p.canvas.values) =
-    subst (λ n. SuitCount c.args.encoding.now.limits n) (sym c.loop-p.invariant.count) c.requires.suited in
-    settable c.args.encoding.now.limits (length c.loop-p.canvas.values) c.value.result suited c.value.ensures.within
+    settable c.loop-p.canvas.most (most_in c.args.encoding.now) c.value.result (c.loop-p.invariant.most ∙ c.requires.most) c.value.ensures.near

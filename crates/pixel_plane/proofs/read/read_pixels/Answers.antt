@@ -12,6 +12,7 @@ loop-first-preserved g c =
       within = search rules;
       shape = search rules;
       values = search rules;
+      most = search rules;
       in_limits = search rules;
       told = λ x e.
           let before = c.loop-first.invariant.told x e in

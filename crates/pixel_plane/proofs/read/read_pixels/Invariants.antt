@@ -10,6 +10,7 @@ invariant-loop-first g l = record {
   within : l.first ≤ l.count;
   shape : l.canvas.shape ≡ l.initial.canvas.shape;
   values : length l.canvas.values ≡ length l.initial.canvas.values;
+  most : l.canvas.most ≡ l.initial.canvas.most;
   in_limits : HasValuesInLimits l.encoding.limits l.canvas.values;
   told : ForSome (g.S.Source.left l.initial.src) (λ bytes. ReadSoFar l.encoding bytes (g.S.Source.left l.src) l.canvas.values l.first);
   later : g.S.Source.faults l.initial.src ≤ g.S.Source.faults l.src;

@@ -1,9 +1,10 @@
-use Rattle.std.proofs.Common.{◌∙◌, ◌≡◌, ◌*◌, ap, length, subst}
+use Rattle.std.proofs.Common.{◌∙◌, ◌≡◌, ◌*◌, ap, length, refl, subst}
 use Rattle.std.proofs.lemmas.List.{length-replicate}
 use Rattle.pixel_plane.specs.declared.limits.Limits.{Limits}
 use Rattle.pixel_plane.specs.WithinLimits.{HasValuesInLimits}
 use Rattle.pixel_plane.proofs.Readable.{shape_without_fault}
 use Rattle.pixel_plane.proofs.HalfRange.{blank_in_range, in_half_range, suited_by}
+use Rattle.pixel_plane.proofs.Nearness.{most_fits}
 use Rattle.pixel_plane.proofs.Planes.{IsEncodingOf, plane_is_read, plane_stopped}
 use Rattle.pixel_plane.proofs.Naming.{pixel_named}
 use Rattle.pixel_plane.proofs.read.read_plane_within.Goals as goal
@@ -27,10 +28,9 @@ returns-in-Ok-read_pixels-clause-told g c = λ x e.
 pub read_pixels-requires-clause-in_limits : goal.read_pixels-requires-clause-in_limits
 read_pixels-requires-clause-in_limits g c = blank_in_range _ _ _ c.in-Ok.ensures.undefined
 
-pub read_pixels-requires-clause-suited : goal.read_pixels-requires-clause-suited
-read_pixels-requires-clause-suited g c =
-    let blank : length c.in-Ok.canvas.values ≡ c.args.shape.width * c.args.shape.height = ap length c.in-Ok.ensures.undefined ∙ length-replicate _ _ in
-    suited_by c.args.limits.now c.args.shape c.of-encoding.result.limits (length c.in-Ok.canvas.values) c.of-encoding.ensures.limits blank
+pub blank_within-requires : goal.blank_within-requires
+blank_within-requires g c = rw c.most.ensures (most_fits _ _ _ c.of-encoding.result.limits (c.args.shape.width * c.args.shape.height)
+    (suited_by c.args.limits.now c.args.shape c.of-encoding.result.limits (c.args.shape.width * c.args.shape.height) c.of-encoding.ensures.limits refl))
 
 pub returns-in-Err-clause-told : goal.returns-in-Err-clause-told
 returns-in-Err-clause-told g c = λ x e.
