@@ -17,6 +17,7 @@ use Rattle.comp_tree.proofs.Exported.{some_columns, adjacent_ends, adjacent_near
 use Rattle.source_pick.specs.Sheets.{WindowPair, IsCopied, window_size, is_high_there}
 use Rattle.source_sheet.specs.declared.sheet.Place.{Place}
 use Rattle.source_sheet.specs.Laid.{windows_of}
+use Rattle.source_sheet.proofs.Around.{linked_near}
 use Rattle.source_sheet.specs.Checks.{LiesInside, IsSeen, StaysWithin, IsPixelCopied, ArePixelsCopied, AreAllCopied}
 
 -- ---- lists of neighbours
@@ -87,50 +88,45 @@ seen_from width w p left top columns rows = (q, mul-add-lt y w.shape.width x w.s
         ∙ ap (λ (z : ℕ). p / width * width + z) column
         ∙ div-add-mod' p width
 
--- the columns of neighbours are the same or next to each other
-near_columns : (connect : Connect) (width p q : ℕ) → are_neighbours connect width p q ≡ true → (p % width ≤ q % width + 1) × (q % width ≤ p % width + 1)
-unfolding distance
-near_columns Four width p q e = let n : distance (p / width) (q / width) + distance (p % width) (q % width) ≡ 1 =
-    (neighbours_four width p q).0 e in (omega arith, omega arith)
-near_columns Eight width p q e = let n : max (distance (p / width) (q / width)) (distance (p % width) (q % width)) ≡ 1 =
-    (neighbours_eight width p q).0 e in (omega arith, omega arith)
-
 -- what is adjacent to a pixel that isn't at the window's edge lies in the window
-pub inside_stays : (r : Raster) (connect : Connect) (w : Window) (q : ℕ) → IsInside r.shape w → LiesInside w.shape q
-    → StaysWithin r connect w (in_whole r.shape.width w q)
-inside_stays r connect w q inside within a adjacent = seen_from r.shape.width w a
-    (omega (arith, column, near.0, near.1, left)) (omega (arith, row, rows.0, rows.1, top))
-    (omega (arith, column, near.0, near.1, left, right)) (omega (arith, row, rows.0, rows.1, top, bottom))
+pub inside_stays : (r : Raster) (connect : Connect) (w : Window) (column row : ℕ) → IsInside r.shape w → LiesInside w.shape column row
+    → StaysWithin r connect w (in_whole r.shape.width w (row * w.shape.width + column))
+unfolding are_neighbours
+inside_stays r connect w column row inside within a adjacent = seen_from r.shape.width w a
+    (omega (arith, x, near.0, near.1, left)) (omega (arith, y, near.2, near.3, top))
+    (omega (arith, x, near.0, near.1, left, right)) (omega (arith, y, near.2, near.3, top, bottom))
   where
+    left : 0 < column
+    left = within.left
+
+    right : column + 1 < w.shape.width
+    right = within.right
+
+    top : 0 < row
+    top = within.top
+
+    bottom : row + 1 < w.shape.height
+    bottom = within.bottom
+
+    q : ℕ
+    q = row * w.shape.width + column
+
     p : ℕ
     p = in_whole r.shape.width w q
 
     at : IsAt r.shape.width w.shape.width w.left w.top p q
     at = in_whole-at r.shape w q inside
 
-    column : p % r.shape.width ≡ q % w.shape.width + w.left
-    column = at.column
+    x : p % r.shape.width ≡ column + w.left
+    x = at.column ∙ ap (λ (z : ℕ). z + w.left) (mod-mul-add row w.shape.width column (omega (arith, right)))
 
-    row : p / r.shape.width ≡ q / w.shape.width + w.top
-    row = at.row
-
-    rows : (p / r.shape.width ≤ a / r.shape.width + 1) × (a / r.shape.width ≤ p / r.shape.width + 1)
-    rows = adjacent_near r.values r.shape.width connect p a adjacent
+    y : p / r.shape.width ≡ row + w.top
+    y = at.row ∙ ap (λ (z : ℕ). z + w.top) (div-mul-add row w.shape.width column (omega (arith, right)))
 
     near : (p % r.shape.width ≤ a % r.shape.width + 1) × (a % r.shape.width ≤ p % r.shape.width + 1)
-    near = near_columns connect r.shape.width p a (adjacent_ends r.values r.shape.width connect p a adjacent).2
-
-    left : 0 < q % w.shape.width
-    left = within.left
-
-    right : q % w.shape.width + 1 < w.shape.width
-    right = within.right
-
-    top : 0 < q / w.shape.width
-    top = within.top
-
-    bottom : q / w.shape.width + 1 < w.shape.height
-    bottom = within.bottom
+        × (p / r.shape.width ≤ a / r.shape.width + 1) × (a / r.shape.width ≤ p / r.shape.width + 1)
+    near = linked_near connect (p % r.shape.width) (a % r.shape.width) (p / r.shape.width) (a / r.shape.width)
+        (adjacent_ends r.values r.shape.width connect p a adjacent).2
 
 -- where a window's pixel stands, by its column and row
 pub in_whole-by : (width : ℕ) (w : Window) (q : ℕ)

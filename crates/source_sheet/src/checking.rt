@@ -6,8 +6,9 @@ ghost use Rattle.comp_tree.specs.Grid.{are_neighbours};
 ghost use Rattle.comp_tree.specs.Windows.{IsInside, in_whole};
 ghost use Rattle.source_pick.specs.Sheets.{IsCopied, window_size, is_high_there};
 ghost use Rattle.source_sheet.specs.Laid.{windows_of, AreApartThere, window_at};
-ghost use Rattle.source_sheet.specs.Checks.{IsSeen, StaysWithin, IsSameAt, IsPixelCopied, ArePixelsCopied, LieInside, AreNewlyMarked, AreAllApart, AreAllCopied, AreGoodPlaces, IsBetween, IsInRows, LiesInside};
+ghost use Rattle.source_sheet.specs.Checks.{IsSeen, StaysWithin, IsSameAt, IsRowSame, AreSameAround, IsPixelCopied, ArePixelsCopied, LieInside, AreNewlyMarked, AreAllApart, AreAllCopied, AreGoodPlaces, IsBetween, IsInRows, LiesInside};
 
+use crate::beside::{end_beside, reach_in};
 use crate::holding::hold_all;
 use crate::sheet::Place;
 use comp_tree::{Connect, Plane, Shape, neighbours};
@@ -155,69 +156,104 @@ fn is_copied_at(
     if !sheet.is_at_least(choice.threshold, there) {
         return true;
     }
-    is_pixel_copied(
+    is_pixel_copied(plane, sheet, connect, place, column, row)
+}
+
+// Whether the pixel in this column and row of the place is a copy, with what is around it.
+fn is_pixel_copied(
+    plane: &Plane,
+    sheet: &Plane,
+    connect: Connect,
+    place: &Place,
+    column: u32,
+    row: u32,
+) -> bool
+    requires inside { IsInside plane.now.shape (windows_of place.now).from }
+    requires inside_sheet { IsInside sheet.now.shape (windows_of place.now).to }
+    requires column { column < place.now.shape.width }
+    requires row { row < place.now.shape.height }
+    ensures { IsTrue result → IsPixelCopied plane.now sheet.now connect (windows_of place.now) (row * place.now.shape.width + column) }
+{
+    if !are_same_around(plane, sheet, connect, place, column, row) {
+        return false;
+    }
+    if is_inner(place.shape, column, row) {
+        return true;
+    }
+    has_around(
         plane,
+        connect,
+        place.left,
+        place.top,
+        place.shape,
+        column,
+        row,
+    ) && has_around(
         sheet,
         connect,
-        place,
-        pixel_at(place.shape, column, row),
+        place.to_left,
+        place.to_top,
+        place.shape,
+        column,
+        row,
     )
 }
 
-// Whether pixel q of the place is a copy, with what is around it.
-fn is_pixel_copied(plane: &Plane, sheet: &Plane, connect: Connect, place: &Place, q: u32) -> bool
+// Whether the pixel in this column and row, and each of its neighbours within the window, is the same in both planes.
+fn are_same_around(
+    plane: &Plane,
+    sheet: &Plane,
+    connect: Connect,
+    place: &Place,
+    column: u32,
+    row: u32,
+) -> bool
     requires inside { IsInside plane.now.shape (windows_of place.now).from }
     requires inside_sheet { IsInside sheet.now.shape (windows_of place.now).to }
-    requires pixel { q < window_size (windows_of place.now).to }
-    ensures { IsTrue result → IsPixelCopied plane.now sheet.now connect (windows_of place.now) q }
+    requires column { column < place.now.shape.width }
+    requires row { row < place.now.shape.height }
+    ensures { IsTrue result → AreSameAround plane.now sheet.now connect (windows_of place.now) column row place.now.shape.height }
 {
-    if !is_same(plane, sheet, place, q) {
-        return false;
-    }
-    if !are_same_beside(plane, sheet, connect, place, q) {
-        return false;
-    }
-    stays_within(plane, connect, place.left, place.top, place.shape, q)
-        && stays_within(sheet, connect, place.to_left, place.to_top, place.shape, q)
-}
-
-// Whether each neighbour of q within the window is the same in both planes.
-fn are_same_beside(plane: &Plane, sheet: &Plane, connect: Connect, place: &Place, q: u32) -> bool
-    requires inside { IsInside plane.now.shape (windows_of place.now).from }
-    requires inside_sheet { IsInside sheet.now.shape (windows_of place.now).to }
-    requires pixel { q < window_size (windows_of place.now).to }
-    ensures { IsTrue result → (b : ℕ) → b < window_size (windows_of place.now).to
-        → IsTrue (are_neighbours connect place.now.shape.width q b) → IsSameAt plane.now sheet.now (windows_of place.now) b }
-{
-    let near = neighbours(place.shape, connect, q);
-    are_all_same(plane, sheet, place, &near)
-}
-
-// Whether each of these pixels of the window is the same in both planes.
-fn are_all_same(plane: &Plane, sheet: &Plane, place: &Place, near: &[u32]) -> bool
-    requires inside { IsInside plane.now.shape (windows_of place.now).from }
-    requires inside_sheet { IsInside sheet.now.shape (windows_of place.now).to }
-    requires pixels { All (λ b. b < window_size (windows_of place.now).to) near.now }
-    ensures { IsTrue result → All (IsSameAt plane.now sheet.now (windows_of place.now)) near.now }
-{
-    for b in near {
-        if !is_same(plane, sheet, place, *b) {
+    let bottom = end_beside(row, 1, place.shape.height);
+    for y in row.saturating_sub(1)..bottom {
+        let reach = reach_in(connect, row, y);
+        let first = column.saturating_sub(reach);
+        let end = end_beside(column, reach, place.shape.width);
+        if !is_row_same(plane, sheet, place, y, first, end) {
             return false;
         }
     }
     true
 }
 
-// Whether pixel q of the window is the same in both planes.
-fn is_same(plane: &Plane, sheet: &Plane, place: &Place, q: u32) -> bool
+// Whether the pixels of this row of the window, from column `first` up to `end`, are the same in both planes.
+fn is_row_same(plane: &Plane, sheet: &Plane, place: &Place, row: u32, first: u32, end: u32) -> bool
     requires inside { IsInside plane.now.shape (windows_of place.now).from }
     requires inside_sheet { IsInside sheet.now.shape (windows_of place.now).to }
-    requires pixel { q < window_size (windows_of place.now).to }
-    ensures { IsTrue result → IsSameAt plane.now sheet.now (windows_of place.now) q }
+    requires row { row < place.now.shape.height }
+    requires end { end ≤ place.now.shape.width }
+    ensures { IsTrue result → IsRowSame plane.now sheet.now (windows_of place.now) row first end }
 {
-    let value = value_in(plane, place.left, place.top, place.shape, q);
-    let copy = value_in(sheet, place.to_left, place.to_top, place.shape, q);
-    is_same_value(value, copy)
+    for column in first..end {
+        if !is_same(plane, sheet, place, column, row) {
+            return false;
+        }
+    }
+    true
+}
+
+// Whether the pixel in this column and row of the window is the same in both planes.
+#[inline]
+fn is_same(plane: &Plane, sheet: &Plane, place: &Place, column: u32, row: u32) -> bool
+    requires inside { IsInside plane.now.shape (windows_of place.now).from }
+    requires inside_sheet { IsInside sheet.now.shape (windows_of place.now).to }
+    requires column { column < place.now.shape.width }
+    requires row { row < place.now.shape.height }
+    ensures { IsTrue result → IsSameAt plane.now sheet.now (windows_of place.now) (row * place.now.shape.width + column) }
+{
+    let from = pixel_at(plane.shape(), column + place.left, row + place.top);
+    let to = pixel_at(sheet.shape(), column + place.to_left, row + place.to_top);
+    is_same_value(plane.get(from), sheet.get(to))
 }
 
 // Whether both are none, or the same.
@@ -231,44 +267,34 @@ fn is_same_value(value: Option<i64>, copy: Option<i64>) -> bool
     }
 }
 
-// The value that the window's pixel q has in the plane.
-fn value_in(plane: &Plane, left: u32, top: u32, shape: Shape, q: u32) -> Option<i64>
-    requires inside { IsInside plane.now.shape (window_at left top shape) }
-    requires pixel { q < window_size (window_at left top shape) }
-    ensures { result ≡ value_at plane.now.values (in_whole plane.now.shape.width (window_at left top shape) q) }
+// Whether the window has a pixel on each side of this column and row: then nothing that is adjacent to that pixel lies beyond.
+fn is_inner(shape: Shape, column: u32, row: u32) -> bool
+    requires column { column < shape.width }
+    requires row { row < shape.height }
+    ensures { IsTrue result → LiesInside shape column row }
 {
-    plane.get(pixel_in(plane.shape(), left, top, shape, q))
-}
-
-// Whether what is adjacent to the window's pixel q lies in the window.
-fn stays_within(plane: &Plane, connect: Connect, left: u32, top: u32, shape: Shape, q: u32) -> bool
-    requires inside { IsInside plane.now.shape (window_at left top shape) }
-    requires pixel { q < window_size (window_at left top shape) }
-    ensures { IsTrue result → StaysWithin plane.now connect (window_at left top shape)
-        (in_whole plane.now.shape.width (window_at left top shape) q) }
-{
-    is_inner(shape, q) || has_around(plane, connect, left, top, shape, q)
-}
-
-// Whether the window has a pixel on each side of its pixel q: then nothing that is adjacent to it lies beyond.
-fn is_inner(shape: Shape, q: u32) -> bool
-    requires pixel { q < shape.width * shape.height }
-    ensures { IsTrue result → LiesInside shape q }
-{
-    let column = q % shape.width;
-    let row = q / shape.width;
     0 < column && column + 1 < shape.width && 0 < row && row + 1 < shape.height
 }
 
-// The same, by a look at what is adjacent.
-fn has_around(plane: &Plane, connect: Connect, left: u32, top: u32, shape: Shape, q: u32) -> bool
+// Whether what is adjacent to the pixel in this column and row of the window lies in the window.
+fn has_around(
+    plane: &Plane,
+    connect: Connect,
+    left: u32,
+    top: u32,
+    shape: Shape,
+    column: u32,
+    row: u32,
+) -> bool
     requires inside { IsInside plane.now.shape (window_at left top shape) }
-    requires pixel { q < window_size (window_at left top shape) }
+    requires column { column < shape.width }
+    requires row { row < shape.height }
     ensures { IsTrue result → StaysWithin plane.now connect (window_at left top shape)
-        (in_whole plane.now.shape.width (window_at left top shape) q) }
+        (in_whole plane.now.shape.width (window_at left top shape) (row * shape.width + column)) }
 {
     let whole = plane.shape();
-    let near = neighbours(whole, connect, pixel_in(whole, left, top, shape, q));
+    let p = pixel_at(whole, column + left, row + top);
+    let near = neighbours(whole, connect, p);
     are_all_seen(plane, left, top, shape, &near)
 }
 
@@ -307,16 +333,6 @@ fn is_among(x: u32, first: u32, count: u32) -> bool
     ensures { IsTrue result → (first ≤ x) × (x - first < count) }
 {
     first <= x && x - first < count
-}
-
-// The number that the window's pixel q has in an image.
-fn pixel_in(whole: Shape, left: u32, top: u32, shape: Shape, q: u32) -> u32
-    requires inside { IsInside whole (window_at left top shape) }
-    requires pixel { q < window_size (window_at left top shape) }
-    ensures is { result ≡ in_whole whole.width (window_at left top shape) q }
-    ensures below { result < whole.width * whole.height }
-{
-    pixel_at(whole, q % shape.width + left, q / shape.width + top)
 }
 
 // The number of the pixel in a column and a row.
