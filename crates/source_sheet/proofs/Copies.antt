@@ -18,7 +18,7 @@ use Rattle.source_pick.specs.Sheets.{WindowPair, IsCopied, window_size, is_high_
 use Rattle.source_sheet.specs.declared.sheet.Place.{Place}
 use Rattle.source_sheet.specs.Laid.{windows_of}
 use Rattle.source_sheet.proofs.Around.{linked_near}
-use Rattle.source_sheet.specs.Checks.{LiesInside, IsSeen, StaysWithin, IsPixelCopied, ArePixelsCopied, AreAllCopied}
+use Rattle.source_sheet.specs.Checks.{LiesInside, IsInWindow, StaysWithin, IsPixelCopied, ArePixelsCopied, AreAllCopied}
 
 -- ---- lists of neighbours
 
@@ -48,11 +48,11 @@ near_has connect width count p a near e l k =
 -- so what is adjacent to a pixel lies in the window where each defined neighbour does
 pub stays_from : (r : Raster) (connect : Connect) (w : Window) (count p : ℕ) (near : List ℕ)
     → near ≡ filter (are_neighbours connect r.shape.width p) (range_with_len 0 count) → length r.values ≡ count
-    → All (λ a. IsTrue (is_defined r a) → IsSeen r.shape.width w a) near → StaysWithin r connect w p
+    → All (λ a. IsTrue (is_defined r a) → IsInWindow r.shape.width w a) near → StaysWithin r connect w p
 stays_from r connect w count p near e one_each seen a adjacent =
     let ends : _ = adjacent_ends r.values r.shape.width connect p a adjacent in
     let below : a < length r.values = below_from_defined r a ends.1 in
-    at_member (λ b. IsTrue (is_defined r b) → IsSeen r.shape.width w b) near a seen
+    at_member (λ b. IsTrue (is_defined r b) → IsInWindow r.shape.width w b) near a seen
     (near_has connect r.shape.width count p a near e (omega arith) ends.2) ends.1
 
 -- what holds at each place
@@ -63,9 +63,9 @@ all_by_place P xs each k d l = subst P (sym (get_or_default_zero xs k d l)) (eac
 
 -- a pixel whose column and row are the window's lies in it
 pub seen_from : (width : ℕ) (w : Window) (p : ℕ) → w.left ≤ p % width → w.top ≤ p / width → p % width - w.left < w.shape.width
-    → p / width - w.top < w.shape.height → IsSeen width w p
+    → p / width - w.top < w.shape.height → IsInWindow width w p
 unfolding in_whole
-seen_from width w p left top columns rows = (q, mul-add-lt y w.shape.width x w.shape.height rows columns, place)
+seen_from width w p left top columns rows = record { it = q; below = mul-add-lt y w.shape.width x w.shape.height rows columns; place = place }
   where
     x : ℕ
     x = p % width - w.left
@@ -196,8 +196,9 @@ copied_from r s connect h c inside inside_sheet copied = record {
   inside_sheet = inside_sheet;
   same = λ q k. (at q k).same;
   beside = λ q b k. (at q k).beside b;
-  beyond = λ q a k. (at q k).beyond a;
-  beyond_sheet = λ q a k. (at q k).beyond_sheet a;
+  beyond = λ q a k adjacent. let w : IsInWindow r.shape.width (windows_of c).from a = (at q k).beyond a adjacent in (w.it, w.below, w.place);
+  beyond_sheet = λ q a k adjacent.
+      let w : IsInWindow s.shape.width (windows_of c).to a = (at q k).beyond_sheet a adjacent in (w.it, w.below, w.place);
 }
   where
     at : (q : ℕ) → IsTrue (is_high_there s h (windows_of c).to q) → IsPixelCopied r s connect (windows_of c) q

@@ -10,15 +10,27 @@ use Rattle.source_pick.specs.Sheets.{WindowPair, IsCopied, window_size, is_high_
 use Rattle.source_sheet.specs.declared.sheet.Place.{Place}
 use Rattle.source_sheet.specs.Laid.{windows_of, AreApartThere, AreHeldOnce, HoldsPixel}
 
--- ---- copies
+-- ---- places
+
+-- both windows of a place lie in their images
+pub record LiesInBoth (whole onto : Shape) (c : Place) : Type 0 where
+  pub from : IsInside whole (windows_of c).from
+  pub to : IsInside onto (windows_of c).to
+
+abbrev pub LieInBoth : Shape → Shape → List Place → Type 0
+LieInBoth whole onto places = (i : ℕ) (c : Place) → slice_get places i ≡ Some c → LiesInBoth whole onto c
 
 -- pixel p of an image with so many columns lies in the window
-abbrev pub IsSeen : ℕ → Window → ℕ → Type 0
-IsSeen width w p = (b : ℕ) × (b < window_size w) × (in_whole width w b ≡ p)
+pub record IsInWindow (width : ℕ) (w : Window) (p : ℕ) : Type 0 where
+  pub it : ℕ
+  pub below : it < window_size w
+  pub place : in_whole width w it ≡ p
+
+-- ---- copies
 
 -- what is adjacent to pixel p lies in the window
 abbrev pub StaysWithin : Raster → Connect → Window → ℕ → Type 0
-StaysWithin r connect w p = (a : ℕ) → IsAdjacency r.values r.shape.width connect p a → IsSeen r.shape.width w a
+StaysWithin r connect w p = (a : ℕ) → IsAdjacency r.values r.shape.width connect p a → IsInWindow r.shape.width w a
 
 -- the pixel in this column and row of a window of this shape isn't at its edge
 pub record LiesInside (shape : Shape) (column row : ℕ) : Type 0 where
@@ -53,10 +65,6 @@ pub record ArePixelsCopied (r s : Raster) (connect : Connect) (h : ℤ) (c : Win
   pub each : (q : ℕ) → first ≤ q → q < end → IsTrue (is_high_there s h c.to q) → IsPixelCopied r s connect c q
 
 -- ---- marks
-
--- each place lies inside the sheet
-abbrev pub LieInside : Shape → List Place → Type 0
-LieInside whole places = (i : ℕ) (c : Place) → slice_get places i ≡ Some c → IsInside whole (windows_of c).to
 
 -- no pixel that lies there had a mark, each has one now, and other marks are kept
 pub record AreNewlyMarked (old new : List Bool) (LiesThere : ℕ → Type 0) : Type 0 where

@@ -6,7 +6,7 @@ ghost use Rattle.comp_tree.specs.Grid.{are_neighbours};
 ghost use Rattle.comp_tree.specs.Windows.{IsInside, in_whole};
 ghost use Rattle.source_pick.specs.Sheets.{IsCopied, window_size, is_high_there};
 ghost use Rattle.source_sheet.specs.Laid.{windows_of, AreApartThere, window_at};
-ghost use Rattle.source_sheet.specs.Checks.{IsSeen, StaysWithin, IsSameAt, IsRowSame, AreSameAround, IsPixelCopied, ArePixelsCopied, LieInside, AreNewlyMarked, AreAllApart, AreAllCopied, AreGoodPlaces, IsBetween, IsInRows, LiesInside};
+ghost use Rattle.source_sheet.specs.Checks.{LiesInBoth, LieInBoth, IsInWindow, StaysWithin, IsSameAt, IsRowSame, AreSameAround, IsPixelCopied, ArePixelsCopied, AreNewlyMarked, AreAllApart, AreAllCopied, AreGoodPlaces, IsBetween, IsInRows, LiesInside};
 
 use crate::beside::{end_beside, reach_in};
 use crate::holding::hold_all;
@@ -36,7 +36,7 @@ pub(crate) fn is_laid_out(
     if !are_copied(plane, sheet, connect, choice, places) {
         return Ok(false);
     }
-    let apart = are_apart(alloc, sheet, places)?;
+    let apart = are_apart(alloc, plane, sheet, places)?;
     if !apart {
         return Ok(false);
     }
@@ -74,7 +74,7 @@ fn is_copied(plane: &Plane, sheet: &Plane, connect: Connect, choice: &Choice, pl
 
 // Whether a place lies in an image and a sheet of these shapes.
 fn lies_inside(whole: Shape, sheet: Shape, place: &Place) -> bool
-    ensures { IsTrue result → IsInside whole (windows_of place.now).from × IsInside sheet (windows_of place.now).to }
+    ensures { IsTrue result → LiesInBoth whole sheet place.now }
 {
     is_inside(whole, place.left, place.top, place.shape)
         && is_inside(sheet, place.to_left, place.to_top, place.shape)
@@ -98,8 +98,7 @@ fn are_rows_copied(
     choice: &Choice,
     place: &Place,
 ) -> bool
-    requires inside { IsInside plane.now.shape (windows_of place.now).from }
-    requires inside_sheet { IsInside sheet.now.shape (windows_of place.now).to }
+    requires placed { LiesInBoth plane.now.shape sheet.now.shape place.now }
     ensures { IsTrue result → ArePixelsCopied plane.now sheet.now connect choice.now.threshold (windows_of place.now) 0
         (place.now.shape.height * place.now.shape.width) }
 {
@@ -120,8 +119,7 @@ fn is_row_copied(
     place: &Place,
     row: u32,
 ) -> bool
-    requires inside { IsInside plane.now.shape (windows_of place.now).from }
-    requires inside_sheet { IsInside sheet.now.shape (windows_of place.now).to }
+    requires placed { LiesInBoth plane.now.shape sheet.now.shape place.now }
     requires row { row < place.now.shape.height }
     ensures { IsTrue result → ArePixelsCopied plane.now sheet.now connect choice.now.threshold (windows_of place.now)
         (row * place.now.shape.width) ((row + 1) * place.now.shape.width) }
@@ -145,8 +143,7 @@ fn is_copied_at(
     column: u32,
     row: u32,
 ) -> bool
-    requires inside { IsInside plane.now.shape (windows_of place.now).from }
-    requires inside_sheet { IsInside sheet.now.shape (windows_of place.now).to }
+    requires placed { LiesInBoth plane.now.shape sheet.now.shape place.now }
     requires column { column < place.now.shape.width }
     requires row { row < place.now.shape.height }
     ensures { IsTrue result → IsTrue (is_high_there sheet.now choice.now.threshold (windows_of place.now).to (row * place.now.shape.width + column))
@@ -168,8 +165,7 @@ fn is_pixel_copied(
     column: u32,
     row: u32,
 ) -> bool
-    requires inside { IsInside plane.now.shape (windows_of place.now).from }
-    requires inside_sheet { IsInside sheet.now.shape (windows_of place.now).to }
+    requires placed { LiesInBoth plane.now.shape sheet.now.shape place.now }
     requires column { column < place.now.shape.width }
     requires row { row < place.now.shape.height }
     ensures { IsTrue result → IsPixelCopied plane.now sheet.now connect (windows_of place.now) (row * place.now.shape.width + column) }
@@ -208,8 +204,7 @@ fn are_same_around(
     column: u32,
     row: u32,
 ) -> bool
-    requires inside { IsInside plane.now.shape (windows_of place.now).from }
-    requires inside_sheet { IsInside sheet.now.shape (windows_of place.now).to }
+    requires placed { LiesInBoth plane.now.shape sheet.now.shape place.now }
     requires column { column < place.now.shape.width }
     requires row { row < place.now.shape.height }
     ensures { IsTrue result → AreSameAround plane.now sheet.now connect (windows_of place.now) column row place.now.shape.height }
@@ -228,8 +223,7 @@ fn are_same_around(
 
 // Whether the pixels of this row of the window, from column `first` up to `end`, are the same in both planes.
 fn is_row_same(plane: &Plane, sheet: &Plane, place: &Place, row: u32, first: u32, end: u32) -> bool
-    requires inside { IsInside plane.now.shape (windows_of place.now).from }
-    requires inside_sheet { IsInside sheet.now.shape (windows_of place.now).to }
+    requires placed { LiesInBoth plane.now.shape sheet.now.shape place.now }
     requires row { row < place.now.shape.height }
     requires end { end ≤ place.now.shape.width }
     ensures { IsTrue result → IsRowSame plane.now sheet.now (windows_of place.now) row first end }
@@ -245,8 +239,7 @@ fn is_row_same(plane: &Plane, sheet: &Plane, place: &Place, row: u32, first: u32
 // Whether the pixel in this column and row of the window is the same in both planes.
 #[inline]
 fn is_same(plane: &Plane, sheet: &Plane, place: &Place, column: u32, row: u32) -> bool
-    requires inside { IsInside plane.now.shape (windows_of place.now).from }
-    requires inside_sheet { IsInside sheet.now.shape (windows_of place.now).to }
+    requires placed { LiesInBoth plane.now.shape sheet.now.shape place.now }
     requires column { column < place.now.shape.width }
     requires row { row < place.now.shape.height }
     ensures { IsTrue result → IsSameAt plane.now sheet.now (windows_of place.now) (row * place.now.shape.width + column) }
@@ -302,7 +295,7 @@ fn has_around(
 fn are_all_seen(plane: &Plane, left: u32, top: u32, shape: Shape, near: &[u32]) -> bool
     requires { All (λ a. a < length plane.now.values) near.now }
     ensures { IsTrue result → All (λ a. IsTrue (is_defined plane.now a)
-        → IsSeen plane.now.shape.width (window_at left top shape) a) near.now }
+        → IsInWindow plane.now.shape.width (window_at left top shape) a) near.now }
 {
     for a in near {
         if !is_seen_or_undefined(plane, left, top, shape, *a) {
@@ -316,14 +309,14 @@ fn are_all_seen(plane: &Plane, left: u32, top: u32, shape: Shape, near: &[u32]) 
 fn is_seen_or_undefined(plane: &Plane, left: u32, top: u32, shape: Shape, p: u32) -> bool
     requires { p < length plane.now.values }
     ensures { IsTrue result → IsTrue (is_defined plane.now p)
-        → IsSeen plane.now.shape.width (window_at left top shape) p }
+        → IsInWindow plane.now.shape.width (window_at left top shape) p }
 {
     !plane.is_defined(p) || is_seen(plane.shape(), left, top, shape, p)
 }
 
 // Whether pixel p of an image lies in the window.
 fn is_seen(whole: Shape, left: u32, top: u32, shape: Shape, p: u32) -> bool
-    ensures { IsTrue result → IsSeen whole.width (window_at left top shape) p }
+    ensures { IsTrue result → IsInWindow whole.width (window_at left top shape) p }
 {
     is_among(p % whole.width, left, shape.width) && is_among(p / whole.width, top, shape.height)
 }
@@ -346,24 +339,30 @@ pub(crate) fn pixel_at(whole: Shape, column: u32, row: u32) -> u32
 }
 
 // Whether no pixel of the sheet lies in two places.
-fn are_apart(alloc: Global, sheet: &Plane, places: &[Place]) -> Result<bool, OutOfMemory>
-    requires { LieInside sheet.now.shape places.now }
+fn are_apart(
+    alloc: Global,
+    plane: &Plane,
+    sheet: &Plane,
+    places: &[Place],
+) -> Result<bool, OutOfMemory>
+    requires { LieInBoth plane.now.shape sheet.now.shape places.now }
     ensures { IfOk result (λ apart. IsTrue apart → AreApartThere sheet.now places.now) }
 {
-    let whole = sheet.shape();
-    let mut marks = vec![in alloc; false; whole.pixels() as usize]?;
-    let apart = mark_places(whole, places, &mut marks);
+    let whole = plane.shape();
+    let onto = sheet.shape();
+    let mut marks = vec![in alloc; false; onto.pixels() as usize]?;
+    let apart = mark_windows(whole, onto, places, &mut marks);
     Ok(apart)
 }
 
-// Marks the pixels of the places, up to one of which a pixel has a mark.
-fn mark_places(whole: Shape, places: &[Place], marks: &mut [bool]) -> bool
-    requires one_each { length marks.old ≡ whole.width * whole.height }
-    requires inside { LieInside whole places.now }
-    ensures { IsTrue result → AreAllApart whole.width places.now (length places.now) marks.new }
+// Marks the pixels of the places' windows on the sheet, up to a window of which a pixel has a mark.
+fn mark_windows(whole: Shape, onto: Shape, places: &[Place], marks: &mut [bool]) -> bool
+    requires one_each { length marks.old ≡ onto.width * onto.height }
+    requires placed { LieInBoth whole onto places.now }
+    ensures { IsTrue result → AreAllApart onto.width places.now (length places.now) marks.new }
 {
     for place in places {
-        if !mark_window(whole, place.to_left, place.to_top, place.shape, marks) {
+        if !mark_window(onto, place.to_left, place.to_top, place.shape, marks) {
             return false;
         }
     }

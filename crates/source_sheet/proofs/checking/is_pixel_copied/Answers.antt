@@ -11,10 +11,10 @@ returns-then-is_inner c = λ _. record {
       around_beside c.args.plane.now c.args.sheet.now c.args.connect (windows_of c.args.place.now) c.args.column c.args.row b c.requires.column
       (c.are_same_around.ensures c.if-not-are_same_around.false);
   beyond =
-      inside_stays c.args.plane.now c.args.connect (windows_of c.args.place.now).from c.args.column c.args.row c.requires.inside
+      inside_stays c.args.plane.now c.args.connect (windows_of c.args.place.now).from c.args.column c.args.row c.requires.placed.from
       (c.is_inner.ensures c.if-is_inner.true);
   beyond_sheet =
-      inside_stays c.args.sheet.now c.args.connect (windows_of c.args.place.now).to c.args.column c.args.row c.requires.inside_sheet
+      inside_stays c.args.sheet.now c.args.connect (windows_of c.args.place.now).to c.args.column c.args.row c.requires.placed.to
       (c.is_inner.ensures c.if-is_inner.true);
 }
 

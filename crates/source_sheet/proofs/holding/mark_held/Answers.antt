@@ -1,7 +1,7 @@
 use Rattle.std.proofs.Common.{◌*◌, sym, arith}
 use Rattle.std.proofs.Math.Nat.{zero-mul}
 use Rattle.source_sheet.proofs.Held.{first_at, first_none, first_all, rows_all}
-use Rattle.source_sheet.proofs.holding.mark_place.Goals as goal
+use Rattle.source_sheet.proofs.holding.mark_held.Goals as goal
 
 pub loop-row-init : goal.loop-row-init
 loop-row-init c =

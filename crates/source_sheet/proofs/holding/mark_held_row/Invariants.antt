@@ -1,6 +1,6 @@
 use Rattle.std.proofs.Common.{◌+◌, ◌*◌, Bool, List}
 use Rattle.source_sheet.specs.Holding.{HasHeldFirst}
-use Rattle.source_sheet.proofs.holding.mark_row.Given as goal
+use Rattle.source_sheet.proofs.holding.mark_held_row.Given as goal
 
 abbrev pub invariant-loop-column : goal.invariant-loop-column
 invariant-loop-column l = (first : List Bool)

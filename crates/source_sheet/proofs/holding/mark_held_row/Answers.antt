@@ -3,7 +3,7 @@ use Rattle.comp_tree.specs.declared.shape.Shape.{Shape}
 use Rattle.comp_tree.specs.Windows.{in_whole}
 use Rattle.source_sheet.specs.Laid.{windows_of}
 use Rattle.source_sheet.proofs.Held.{first_at, first_step, below_size, place_of}
-use Rattle.source_sheet.proofs.holding.mark_row.Goals as goal
+use Rattle.source_sheet.proofs.holding.mark_held_row.Goals as goal
 
 pub loop-column-preserved : goal.loop-column-preserved
 loop-column-preserved c = λ first m.
