@@ -1,19 +1,17 @@
 -- What is found about the pixels of a place, one after the other, and around each.
-use Rattle.std.proofs.Common.{true, max, ◌≡◌, ℕ, ◌+◌, ◌-◌, ◌*◌, ◌/◌, ◌%◌, ◌<◌, ◌≤◌, false, List, length, get_or, refl, sym, ◌∙◌, ap, subst, arith, ◌⊎◌, inl, inr}
+use Rattle.std.proofs.Common.{◌≡◌, ℕ, ◌+◌, ◌-◌, ◌*◌, ◌/◌, ◌%◌, ◌<◌, ◌≤◌, false, List, length, get_or, refl, sym, ◌∙◌, ap, subst, arith, ◌⊎◌, inl, inr}
 use Rattle.std.specs.Prelude.{IsTrue, ℤ, All, filter, nat_lt, slice_get, Some}
 use Rattle.std.specs.List.{range_with_len}
 use Rattle.std.proofs.lemmas.Bool.{and_parts, ltb-true, cases_lt, true≢false}
-use Rattle.std.proofs.lemmas.Nat.{div-add-mod', div-mul-add, mod-mul-add, mod_below, div_below, mul-add-lt}
+use Rattle.std.proofs.lemmas.Nat.{div-add-mod', div-mul-add, mod-mul-add, mul-add-lt}
 use Rattle.std.proofs.lemmas.Grind.{get_or_default_zero}
 use Rattle.std.proofs.lemmas.Option.{get_or_from_slice_get, slice_get_within, same_Some}
 use Rattle.lemmas.proofs.Exported.{IsAmong, all_from_among, among-filter, among-range, among_from_filter, among_from_range, among_get}
 use Rattle.comp_tree.specs.declared.shape.Connect.{Connect}
-use Rattle.comp_tree.specs.declared.shape.Shape.{Shape}
 use Rattle.comp_tree.specs.Raster.{Raster, is_defined, is_at_least}
-use Rattle.comp_tree.specs.declared.shape.Connect.TheVariants.{Four, Eight}
-use Rattle.comp_tree.specs.Grid.{distance, are_neighbours}
+use Rattle.comp_tree.specs.Grid.{are_neighbours}
 use Rattle.comp_tree.specs.Windows.{Window, IsInside, in_whole}
-use Rattle.comp_tree.proofs.Exported.{some_columns, adjacent_ends, adjacent_near, below_from_defined, neighbours_eight, neighbours_four, IsAt, in_whole-at}
+use Rattle.comp_tree.proofs.Exported.{adjacent_ends, below_from_defined, IsAt, in_whole-at}
 use Rattle.source_pick.specs.Sheets.{WindowPair, IsCopied, window_size, is_high_there}
 use Rattle.source_sheet.specs.declared.sheet.Place.{Place}
 use Rattle.source_sheet.specs.Laid.{windows_of}
@@ -129,26 +127,11 @@ inside_stays r connect w column row inside within a adjacent = seen_from r.shape
         (adjacent_ends r.values r.shape.width connect p a adjacent).2
 
 -- where a window's pixel stands, by its column and row
-pub in_whole-by : (width : ℕ) (w : Window) (q : ℕ)
-    → in_whole width w q ≡ (q / w.shape.width + w.top) * width + (q % w.shape.width + w.left)
-unfolding in_whole
-in_whole-by width w q = refl
-
 pub in_whole-row : (width : ℕ) (w : Window) (row column : ℕ) → column < w.shape.width
     → in_whole width w (row * w.shape.width + column) ≡ (row + w.top) * width + (column + w.left)
 unfolding in_whole
 in_whole-row width w row column l =
     rw (div-mul-add row w.shape.width column l, mod-mul-add row w.shape.width column l) refl
-
--- its column and row lie in the image
-pub columns_inside : (whole : Shape) (w : Window) (q : ℕ) → IsInside whole w → q < window_size w
-    → (q % w.shape.width + w.left < whole.width) × (q / w.shape.width + w.top < whole.height)
-columns_inside whole w q inside l =
-    let column : q % w.shape.width < w.shape.width = mod_below q w.shape.width (some_columns w.shape) in
-    let row : q / w.shape.width < w.shape.height = div_below q w.shape.width w.shape.height (some_columns w.shape) (omega arith) in
-    let right : w.left + w.shape.width ≤ whole.width = inside.columns in
-    let bottom : w.top + w.shape.height ≤ whole.height = inside.rows in
-    (omega arith, omega arith)
 
 -- ---- pixel by pixel
 

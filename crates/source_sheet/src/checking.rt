@@ -1,10 +1,9 @@
 //! The check that a sheet may stand for a plane.
 
-ghost use Rattle.std.specs.Prelude.{◌≡◌, ℕ, ◌+◌, ◌-◌, ◌*◌, ◌<◌, ◌≤◌, length, IsTrue, IfOk, All};
-ghost use Rattle.comp_tree.specs.Raster.{value_at, is_defined};
-ghost use Rattle.comp_tree.specs.Grid.{are_neighbours};
+ghost use Rattle.std.specs.Prelude.{◌≡◌, ◌+◌, ◌-◌, ◌*◌, ◌<◌, ◌≤◌, length, IsTrue, IfOk, All};
+ghost use Rattle.comp_tree.specs.Raster.{is_defined};
 ghost use Rattle.comp_tree.specs.Windows.{IsInside, in_whole};
-ghost use Rattle.source_pick.specs.Sheets.{IsCopied, window_size, is_high_there};
+ghost use Rattle.source_pick.specs.Sheets.{IsCopied, is_high_there};
 ghost use Rattle.source_sheet.specs.Laid.{windows_of, AreApartThere, window_at};
 ghost use Rattle.source_sheet.specs.Checks.{LiesInBoth, LieInBoth, IsInWindow, StaysWithin, IsSameAt, IsRowSame, AreSameAround, IsPixelCopied, ArePixelsCopied, AreNewlyMarked, AreAllApart, AreAllCopied, AreGoodPlaces, IsBetween, IsInRows, LiesInside};
 

@@ -1,4 +1,4 @@
-use Rattle.std.proofs.Common.{◌<◌, ◌≤◌, ◌+◌, ℕ, arith}
+use Rattle.std.proofs.Common.{◌<◌, ◌≤◌, arith}
 use Rattle.source_sheet.specs.Laid.{windows_of}
 use Rattle.source_sheet.proofs.Around.{around_none, around_more, around_all}
 use Rattle.source_sheet.proofs.checking.are_same_around.Goals as goal

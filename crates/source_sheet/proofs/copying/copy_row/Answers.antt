@@ -1,4 +1,4 @@
-use Rattle.std.proofs.Common.{◌∙◌, ℕ, sym, subst}
+use Rattle.std.proofs.Common.{ℕ, sym, subst}
 use Rattle.std.specs.Prelude.{Option, ℤ, IfSome}
 use Rattle.comp_tree.specs.Limits.{IsWithin}
 use Rattle.source_sheet.proofs.Bounds.{value_within}
