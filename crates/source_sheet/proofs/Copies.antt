@@ -8,6 +8,7 @@ use Rattle.std.proofs.lemmas.Grind.{get_or_default_zero}
 use Rattle.std.proofs.lemmas.Option.{get_or_from_slice_get, slice_get_within, same_Some}
 use Rattle.lemmas.proofs.Exported.{IsAmong, all_from_among, among-filter, among-range, among_from_filter, among_from_range, among_get}
 use Rattle.comp_tree.specs.declared.shape.Connect.{Connect}
+use Rattle.comp_tree.specs.declared.shape.Shape.{Shape}
 use Rattle.comp_tree.specs.Raster.{Raster, is_defined, is_at_least}
 use Rattle.comp_tree.specs.Grid.{are_neighbours}
 use Rattle.comp_tree.specs.Windows.{Window, IsInside, in_whole}
@@ -15,6 +16,7 @@ use Rattle.comp_tree.proofs.Exported.{adjacent_ends, below_from_defined, IsAt, i
 use Rattle.source_pick.specs.Sheets.{WindowPair, IsCopied, window_size, is_high_there}
 use Rattle.source_sheet.specs.declared.sheet.Place.{Place}
 use Rattle.source_sheet.specs.Laid.{windows_of}
+use Rattle.source_sheet.proofs.Apart.{row_inside}
 use Rattle.source_sheet.proofs.Around.{linked_near}
 use Rattle.source_sheet.specs.Checks.{LiesInside, IsInWindow, StaysWithin, IsPixelCopied, ArePixelsCopied, AreAllCopied}
 
@@ -132,6 +134,18 @@ pub in_whole-row : (width : ℕ) (w : Window) (row column : ℕ) → column < w.
 unfolding in_whole
 in_whole-row width w row column l =
     rw (div-mul-add row w.shape.width column l, mod-mul-add row w.shape.width column l) refl
+
+-- where its row begins in a plane, the column alone is added
+pub row_pixel : (r : Raster) (whole : Shape) (w : Window) (row column first : ℕ) → whole ≡ r.shape → length r.values ≡ whole.width * whole.height
+    → IsInside r.shape w → row < w.shape.height → column < w.shape.width → first ≡ (row + w.top) * whole.width + w.left
+    → (first + column < length r.values) × (first + column ≡ in_whole r.shape.width w (row * w.shape.width + column))
+row_pixel r whole w row column first same one_each inside k l e =
+    let size : length r.values ≡ r.shape.width * r.shape.height = one_each ∙ ap (λ (x : Shape). x.width * x.height) same in
+    let begins : first ≡ (row + w.top) * r.shape.width + w.left = e ∙ ap (λ (x : Shape). (row + w.top) * x.width + w.left) same in
+    let end : first + w.shape.width ≤ r.shape.width * r.shape.height = row_inside r.shape w row first (first + w.shape.width) inside k begins refl in
+    let at : in_whole r.shape.width w (row * w.shape.width + column) ≡ (row + w.top) * r.shape.width + (column + w.left) =
+    in_whole-row r.shape.width w row column l in
+    (omega (arith, size, end, l), omega (arith, begins, at))
 
 -- ---- pixel by pixel
 

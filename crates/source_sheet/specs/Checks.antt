@@ -17,6 +17,7 @@ pub record LiesInBoth (whole onto : Shape) (c : Place) : Type 0 where
   pub from : IsInside whole (windows_of c).from
   pub to : IsInside onto (windows_of c).to
 
+-- so do those of each place
 abbrev pub LieInBoth : Shape → Shape → List Place → Type 0
 LieInBoth whole onto places = (i : ℕ) (c : Place) → slice_get places i ≡ Some c → LiesInBoth whole onto c
 

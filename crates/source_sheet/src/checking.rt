@@ -227,29 +227,19 @@ fn is_row_same(plane: &Plane, sheet: &Plane, place: &Place, row: u32, first: u32
     requires end { end ≤ place.now.shape.width }
     ensures { IsTrue result → IsRowSame plane.now sheet.now (windows_of place.now) row first end }
 {
+    let from = pixel_at(plane.shape(), place.left, row + place.top);
+    let to = pixel_at(sheet.shape(), place.to_left, row + place.to_top);
     for column in first..end {
-        if !is_same(plane, sheet, place, column, row) {
+        if !is_same(plane.get(from + column), sheet.get(to + column)) {
             return false;
         }
     }
     true
 }
 
-// Whether the pixel in this column and row of the window is the same in both planes.
-#[inline]
-fn is_same(plane: &Plane, sheet: &Plane, place: &Place, column: u32, row: u32) -> bool
-    requires placed { LiesInBoth plane.now.shape sheet.now.shape place.now }
-    requires column { column < place.now.shape.width }
-    requires row { row < place.now.shape.height }
-    ensures { IsTrue result → IsSameAt plane.now sheet.now (windows_of place.now) (row * place.now.shape.width + column) }
-{
-    let from = pixel_at(plane.shape(), column + place.left, row + place.top);
-    let to = pixel_at(sheet.shape(), column + place.to_left, row + place.to_top);
-    is_same_value(plane.get(from), sheet.get(to))
-}
-
 // Whether both are none, or the same.
-fn is_same_value(value: Option<i64>, copy: Option<i64>) -> bool
+#[inline]
+fn is_same(value: Option<i64>, copy: Option<i64>) -> bool
     ensures { IsTrue result → value ≡ copy }
 {
     match (value, copy) {
