@@ -1,23 +1,24 @@
 -- What is found about the pixels of a place, one after the other, and around each.
-use Rattle.std.proofs.Common.{true, max, ◌≡◌, ℕ, ◌+◌, ◌-◌, ◌*◌, ◌/◌, ◌%◌, ◌<◌, ◌≤◌, false, List, length, get_or, refl, sym, ◌∙◌, ap, subst, arith, ◌⊎◌, inl, inr}
+use Rattle.std.proofs.Common.{◌≡◌, ℕ, ◌+◌, ◌-◌, ◌*◌, ◌/◌, ◌%◌, ◌<◌, ◌≤◌, false, List, length, get_or, refl, sym, ◌∙◌, ap, subst, arith, ◌⊎◌, inl, inr}
 use Rattle.std.specs.Prelude.{IsTrue, ℤ, All, filter, nat_lt, slice_get, Some}
 use Rattle.std.specs.List.{range_with_len}
 use Rattle.std.proofs.lemmas.Bool.{and_parts, ltb-true, cases_lt, true≢false}
-use Rattle.std.proofs.lemmas.Nat.{div-add-mod', div-mul-add, mod-mul-add, mod_below, div_below, mul-add-lt}
+use Rattle.std.proofs.lemmas.Nat.{div-add-mod', div-mul-add, mod-mul-add, mul-add-lt}
 use Rattle.std.proofs.lemmas.Grind.{get_or_default_zero}
 use Rattle.std.proofs.lemmas.Option.{get_or_from_slice_get, slice_get_within, same_Some}
 use Rattle.lemmas.proofs.Exported.{IsAmong, all_from_among, among-filter, among-range, among_from_filter, among_from_range, among_get}
 use Rattle.comp_tree.specs.declared.shape.Connect.{Connect}
 use Rattle.comp_tree.specs.declared.shape.Shape.{Shape}
 use Rattle.comp_tree.specs.Raster.{Raster, is_defined, is_at_least}
-use Rattle.comp_tree.specs.declared.shape.Connect.TheVariants.{Four, Eight}
-use Rattle.comp_tree.specs.Grid.{distance, are_neighbours}
+use Rattle.comp_tree.specs.Grid.{are_neighbours}
 use Rattle.comp_tree.specs.Windows.{Window, IsInside, in_whole}
-use Rattle.comp_tree.proofs.Exported.{some_columns, adjacent_ends, adjacent_near, below_from_defined, neighbours_eight, neighbours_four, IsAt, in_whole-at}
+use Rattle.comp_tree.proofs.Exported.{adjacent_ends, below_from_defined, IsAt, in_whole-at}
 use Rattle.source_pick.specs.Sheets.{WindowPair, IsCopied, window_size, is_high_there}
 use Rattle.source_sheet.specs.declared.sheet.Place.{Place}
 use Rattle.source_sheet.specs.Laid.{windows_of}
-use Rattle.source_sheet.specs.Checks.{LiesInside, IsSeen, StaysWithin, IsPixelCopied, ArePixelsCopied, AreAllCopied}
+use Rattle.source_sheet.proofs.Apart.{row_inside}
+use Rattle.source_sheet.proofs.Around.{linked_near}
+use Rattle.source_sheet.specs.Checks.{LiesInside, IsInWindow, StaysWithin, IsPixelCopied, ArePixelsCopied, AreAllCopied}
 
 -- ---- lists of neighbours
 
@@ -47,11 +48,11 @@ near_has connect width count p a near e l k =
 -- so what is adjacent to a pixel lies in the window where each defined neighbour does
 pub stays_from : (r : Raster) (connect : Connect) (w : Window) (count p : ℕ) (near : List ℕ)
     → near ≡ filter (are_neighbours connect r.shape.width p) (range_with_len 0 count) → length r.values ≡ count
-    → All (λ a. IsTrue (is_defined r a) → IsSeen r.shape.width w a) near → StaysWithin r connect w p
+    → All (λ a. IsTrue (is_defined r a) → IsInWindow r.shape.width w a) near → StaysWithin r connect w p
 stays_from r connect w count p near e one_each seen a adjacent =
     let ends : _ = adjacent_ends r.values r.shape.width connect p a adjacent in
     let below : a < length r.values = below_from_defined r a ends.1 in
-    at_member (λ b. IsTrue (is_defined r b) → IsSeen r.shape.width w b) near a seen
+    at_member (λ b. IsTrue (is_defined r b) → IsInWindow r.shape.width w b) near a seen
     (near_has connect r.shape.width count p a near e (omega arith) ends.2) ends.1
 
 -- what holds at each place
@@ -62,9 +63,9 @@ all_by_place P xs each k d l = subst P (sym (get_or_default_zero xs k d l)) (eac
 
 -- a pixel whose column and row are the window's lies in it
 pub seen_from : (width : ℕ) (w : Window) (p : ℕ) → w.left ≤ p % width → w.top ≤ p / width → p % width - w.left < w.shape.width
-    → p / width - w.top < w.shape.height → IsSeen width w p
+    → p / width - w.top < w.shape.height → IsInWindow width w p
 unfolding in_whole
-seen_from width w p left top columns rows = (q, mul-add-lt y w.shape.width x w.shape.height rows columns, place)
+seen_from width w p left top columns rows = record { it = q; below = mul-add-lt y w.shape.width x w.shape.height rows columns; place = place }
   where
     x : ℕ
     x = p % width - w.left
@@ -87,72 +88,64 @@ seen_from width w p left top columns rows = (q, mul-add-lt y w.shape.width x w.s
         ∙ ap (λ (z : ℕ). p / width * width + z) column
         ∙ div-add-mod' p width
 
--- the columns of neighbours are the same or next to each other
-near_columns : (connect : Connect) (width p q : ℕ) → are_neighbours connect width p q ≡ true → (p % width ≤ q % width + 1) × (q % width ≤ p % width + 1)
-unfolding distance
-near_columns Four width p q e = let n : distance (p / width) (q / width) + distance (p % width) (q % width) ≡ 1 =
-    (neighbours_four width p q).0 e in (omega arith, omega arith)
-near_columns Eight width p q e = let n : max (distance (p / width) (q / width)) (distance (p % width) (q % width)) ≡ 1 =
-    (neighbours_eight width p q).0 e in (omega arith, omega arith)
-
 -- what is adjacent to a pixel that isn't at the window's edge lies in the window
-pub inside_stays : (r : Raster) (connect : Connect) (w : Window) (q : ℕ) → IsInside r.shape w → LiesInside w.shape q
-    → StaysWithin r connect w (in_whole r.shape.width w q)
-inside_stays r connect w q inside within a adjacent = seen_from r.shape.width w a
-    (omega (arith, column, near.0, near.1, left)) (omega (arith, row, rows.0, rows.1, top))
-    (omega (arith, column, near.0, near.1, left, right)) (omega (arith, row, rows.0, rows.1, top, bottom))
+pub inside_stays : (r : Raster) (connect : Connect) (w : Window) (column row : ℕ) → IsInside r.shape w → LiesInside w.shape column row
+    → StaysWithin r connect w (in_whole r.shape.width w (row * w.shape.width + column))
+unfolding are_neighbours
+inside_stays r connect w column row inside within a adjacent = seen_from r.shape.width w a
+    (omega (arith, x, near.0, near.1, left)) (omega (arith, y, near.2, near.3, top))
+    (omega (arith, x, near.0, near.1, left, right)) (omega (arith, y, near.2, near.3, top, bottom))
   where
+    left : 0 < column
+    left = within.left
+
+    right : column + 1 < w.shape.width
+    right = within.right
+
+    top : 0 < row
+    top = within.top
+
+    bottom : row + 1 < w.shape.height
+    bottom = within.bottom
+
+    q : ℕ
+    q = row * w.shape.width + column
+
     p : ℕ
     p = in_whole r.shape.width w q
 
     at : IsAt r.shape.width w.shape.width w.left w.top p q
     at = in_whole-at r.shape w q inside
 
-    column : p % r.shape.width ≡ q % w.shape.width + w.left
-    column = at.column
+    x : p % r.shape.width ≡ column + w.left
+    x = at.column ∙ ap (λ (z : ℕ). z + w.left) (mod-mul-add row w.shape.width column (omega (arith, right)))
 
-    row : p / r.shape.width ≡ q / w.shape.width + w.top
-    row = at.row
-
-    rows : (p / r.shape.width ≤ a / r.shape.width + 1) × (a / r.shape.width ≤ p / r.shape.width + 1)
-    rows = adjacent_near r.values r.shape.width connect p a adjacent
+    y : p / r.shape.width ≡ row + w.top
+    y = at.row ∙ ap (λ (z : ℕ). z + w.top) (div-mul-add row w.shape.width column (omega (arith, right)))
 
     near : (p % r.shape.width ≤ a % r.shape.width + 1) × (a % r.shape.width ≤ p % r.shape.width + 1)
-    near = near_columns connect r.shape.width p a (adjacent_ends r.values r.shape.width connect p a adjacent).2
-
-    left : 0 < q % w.shape.width
-    left = within.left
-
-    right : q % w.shape.width + 1 < w.shape.width
-    right = within.right
-
-    top : 0 < q / w.shape.width
-    top = within.top
-
-    bottom : q / w.shape.width + 1 < w.shape.height
-    bottom = within.bottom
+        × (p / r.shape.width ≤ a / r.shape.width + 1) × (a / r.shape.width ≤ p / r.shape.width + 1)
+    near = linked_near connect (p % r.shape.width) (a % r.shape.width) (p / r.shape.width) (a / r.shape.width)
+        (adjacent_ends r.values r.shape.width connect p a adjacent).2
 
 -- where a window's pixel stands, by its column and row
-pub in_whole-by : (width : ℕ) (w : Window) (q : ℕ)
-    → in_whole width w q ≡ (q / w.shape.width + w.top) * width + (q % w.shape.width + w.left)
-unfolding in_whole
-in_whole-by width w q = refl
-
 pub in_whole-row : (width : ℕ) (w : Window) (row column : ℕ) → column < w.shape.width
     → in_whole width w (row * w.shape.width + column) ≡ (row + w.top) * width + (column + w.left)
 unfolding in_whole
 in_whole-row width w row column l =
     rw (div-mul-add row w.shape.width column l, mod-mul-add row w.shape.width column l) refl
 
--- its column and row lie in the image
-pub columns_inside : (whole : Shape) (w : Window) (q : ℕ) → IsInside whole w → q < window_size w
-    → (q % w.shape.width + w.left < whole.width) × (q / w.shape.width + w.top < whole.height)
-columns_inside whole w q inside l =
-    let column : q % w.shape.width < w.shape.width = mod_below q w.shape.width (some_columns w.shape) in
-    let row : q / w.shape.width < w.shape.height = div_below q w.shape.width w.shape.height (some_columns w.shape) (omega arith) in
-    let right : w.left + w.shape.width ≤ whole.width = inside.columns in
-    let bottom : w.top + w.shape.height ≤ whole.height = inside.rows in
-    (omega arith, omega arith)
+-- where its row begins in a plane, the column alone is added
+pub row_pixel : (r : Raster) (whole : Shape) (w : Window) (row column first : ℕ) → whole ≡ r.shape → length r.values ≡ whole.width * whole.height
+    → IsInside r.shape w → row < w.shape.height → column < w.shape.width → first ≡ (row + w.top) * whole.width + w.left
+    → (first + column < length r.values) × (first + column ≡ in_whole r.shape.width w (row * w.shape.width + column))
+row_pixel r whole w row column first same one_each inside k l e =
+    let size : length r.values ≡ r.shape.width * r.shape.height = one_each ∙ ap (λ (x : Shape). x.width * x.height) same in
+    let begins : first ≡ (row + w.top) * r.shape.width + w.left = e ∙ ap (λ (x : Shape). (row + w.top) * x.width + w.left) same in
+    let end : first + w.shape.width ≤ r.shape.width * r.shape.height = row_inside r.shape w row first (first + w.shape.width) inside k begins refl in
+    let at : in_whole r.shape.width w (row * w.shape.width + column) ≡ (row + w.top) * r.shape.width + (column + w.left) =
+    in_whole-row r.shape.width w row column l in
+    (omega (arith, size, end, l), omega (arith, begins, at))
 
 -- ---- pixel by pixel
 
@@ -200,8 +193,9 @@ copied_from r s connect h c inside inside_sheet copied = record {
   inside_sheet = inside_sheet;
   same = λ q k. (at q k).same;
   beside = λ q b k. (at q k).beside b;
-  beyond = λ q a k. (at q k).beyond a;
-  beyond_sheet = λ q a k. (at q k).beyond_sheet a;
+  beyond = λ q a k adjacent. let w : IsInWindow r.shape.width (windows_of c).from a = (at q k).beyond a adjacent in (w.it, w.below, w.place);
+  beyond_sheet = λ q a k adjacent.
+      let w : IsInWindow s.shape.width (windows_of c).to a = (at q k).beyond_sheet a adjacent in (w.it, w.below, w.place);
 }
   where
     at : (q : ℕ) → IsTrue (is_high_there s h (windows_of c).to q) → IsPixelCopied r s connect (windows_of c) q

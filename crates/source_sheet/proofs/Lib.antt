@@ -2,6 +2,7 @@ mod Grouping
 mod Held
 mod Apart
 mod Bounds
+mod Around
 mod Copies
 mod Laying
 mod Spots

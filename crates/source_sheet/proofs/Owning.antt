@@ -8,7 +8,8 @@ use Rattle.comp_tree.specs.Windows.{Window, in_whole}
 use Rattle.source_pick.specs.Sheets.{window_size}
 use Rattle.source_sheet.specs.declared.sheet.Place.{Place}
 use Rattle.source_sheet.specs.Laid.{windows_of}
-use Rattle.source_sheet.specs.Backs.{IsInWindow, AreMarkedIn, IsOwned, AreOwners}
+use Rattle.source_sheet.specs.Checks.{IsInWindow}
+use Rattle.source_sheet.specs.Backs.{AreMarkedIn, IsOwned, AreOwners}
 
 -- ---- one window
 

@@ -19,7 +19,8 @@ use Rattle.source_pick.proofs.Exported.{top_high, in_node_reached}
 use Rattle.source_sheet.specs.declared.sheet.Place.{Place}
 use Rattle.source_sheet.specs.declared.sheet.Sheet.{Sheet}
 use Rattle.source_sheet.specs.Laid.{windows_of, part_of, IsLaidOut, HasFewAround, HoldsPixel}
-use Rattle.source_sheet.specs.Backs.{LiesInBoth, IsInWindow, SheetLaws, parts_of}
+use Rattle.source_sheet.specs.Checks.{LiesInBoth, IsInWindow}
+use Rattle.source_sheet.specs.Backs.{SheetLaws, parts_of}
 
 -- ---- members
 

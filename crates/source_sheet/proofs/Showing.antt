@@ -24,7 +24,8 @@ use Rattle.source_sheet.specs.declared.sheet.Place.{Place}
 use Rattle.source_sheet.specs.declared.sheet.Sheet.{Sheet}
 use Rattle.source_sheet.specs.declared.back.Taken.{Taken}
 use Rattle.source_sheet.specs.Laid.{windows_of, part_of, IsLaidOut}
-use Rattle.source_sheet.specs.Backs.{SheetLaws, LiesInBoth, LieInBoth, IsNear, IsNodeAt, AreOwners, IsInWindow, found_as, found_of, nodes_in, AreListed, IsFromPlace, AreTakenTo, ShowsNodes, parts_of}
+use Rattle.source_sheet.specs.Checks.{LiesInBoth, LieInBoth, IsInWindow}
+use Rattle.source_sheet.specs.Backs.{SheetLaws, IsNear, IsNodeAt, AreOwners, found_as, found_of, nodes_in, AreListed, IsFromPlace, AreTakenTo, ShowsNodes, parts_of}
 use Rattle.source_sheet.proofs.Sheeted.{is_sheet_of, placed, held_lies, held_all, IsPlacedSource, one_source}
 use Rattle.source_sheet.proofs.Taking.{get_mapped, got_mapped}
 

@@ -9,7 +9,7 @@ use Rattle.comp_tree.proofs.Exported.{IsAt, in_whole-at, some_columns}
 use Rattle.source_pick.specs.Sheets.{taken_back}
 use Rattle.source_sheet.specs.declared.sheet.Place.{Place}
 use Rattle.source_sheet.specs.Laid.{windows_of, part_of}
-use Rattle.source_sheet.specs.Backs.{LiesInBoth, IsInWindow}
+use Rattle.source_sheet.specs.Checks.{LiesInBoth, IsInWindow}
 
 -- where a pixel of the place's window on the sheet stands, there and in the plane
 pub record IsBack (whole onto : Shape) (c : Place) (p : ℕ) : Type 0 where

@@ -35,7 +35,8 @@ use Rattle.source_sheet.specs.declared.sheet.Place.{Place}
 use Rattle.source_sheet.specs.declared.sheet.Sheet.{Sheet}
 use Rattle.source_sheet.specs.declared.back.Taken.{Taken}
 use Rattle.source_sheet.specs.Laid.{windows_of, part_of, IsLaidOut, AreApartThere}
-use Rattle.source_sheet.specs.Backs.{SheetLaws, IsInWindow, AreOwners, IsOwned, first_in, has_owner, IsTakenAs, AreTaken, found_as, found_of, nodes_in, parts_of}
+use Rattle.source_sheet.specs.Checks.{IsInWindow}
+use Rattle.source_sheet.specs.Backs.{SheetLaws, AreOwners, IsOwned, first_in, has_owner, IsTakenAs, AreTaken, found_as, found_of, nodes_in, parts_of}
 use Rattle.source_sheet.proofs.Spots.{back_is}
 use Rattle.source_sheet.proofs.Sheeted.{IsMapped, mapped_from, among_got, placed, held_lies, held_all, held_top, IsPlacedSource, one_source}
 

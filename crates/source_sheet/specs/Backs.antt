@@ -2,11 +2,10 @@
 use Rattle.std.specs.Prelude.{◌≡◌, ℕ, ◌+◌, ◌==◌, ◌<◌, ◌≤◌, ◌⊎◌, Bool, not, ℤ, pos, ◌≤ℤ◌, List, length, map, filter, take, Option, Some, None, slice_get, slice_index}
 use Rattle.std.specs.List.{All, flat_map}
 use Rattle.comp_tree.specs.declared.shape.Connect.{Connect}
-use Rattle.comp_tree.specs.declared.shape.Shape.{Shape}
 use Rattle.comp_tree.specs.Raster.{Raster}
 use Rattle.comp_tree.specs.ComponentTree.{ComponentTree}
 use Rattle.comp_tree.specs.Components.{tree_of}
-use Rattle.comp_tree.specs.Windows.{Window, IsInside, in_whole}
+use Rattle.comp_tree.specs.Windows.{Window, in_whole}
 use Rattle.node_sums.specs.declared.entry.Sums.{Sums}
 use Rattle.source_pick.specs.declared.choice.Choice.{Choice}
 use Rattle.source_pick.specs.declared.catalogue.CatRow.{CatRow}
@@ -19,6 +18,7 @@ use Rattle.source_sheet.specs.declared.sheet.Place.{Place}
 use Rattle.source_sheet.specs.declared.sheet.Sheet.{Sheet}
 use Rattle.source_sheet.specs.declared.back.Taken.{Taken}
 use Rattle.source_sheet.specs.Laid.{windows_of, part_of}
+use Rattle.source_sheet.specs.Checks.{IsInWindow}
 
 -- the laws that this rests on
 pub record SheetLaws : Type 0 where
@@ -34,20 +34,6 @@ pub record SheetLaws : Type 0 where
 -- the parts that the places show
 abbrev pub parts_of : Raster → ℤ → List Place → List Part
 parts_of s h places = map (part_of s h) places
-
--- both windows of a place lie in their images
-pub record LiesInBoth (whole onto : Shape) (c : Place) : Type 0 where
-  pub from : IsInside whole (windows_of c).from
-  pub to : IsInside onto (windows_of c).to
-
-abbrev pub LieInBoth : Shape → Shape → List Place → Type 0
-LieInBoth whole onto places = (i : ℕ) (c : Place) → slice_get places i ≡ Some c → LiesInBoth whole onto c
-
--- pixel p of an image with so many columns lies in the window
-pub record IsInWindow (width : ℕ) (w : Window) (p : ℕ) : Type 0 where
-  pub it : ℕ
-  pub below : it < window_size w
-  pub place : in_whole width w it ≡ p
 
 -- ---- owners
 

@@ -1,35 +1,58 @@
 -- Bookkeeping: what the checks of a sheet find, pixel by pixel.
-use Rattle.std.specs.Prelude.{◌≡◌, ℕ, ◌+◌, ◌*◌, ◌/◌, ◌%◌, ◌<◌, ◌≤◌, Bool, false, IsTrue, ℤ, List, length, Contains, Some, slice_get, slice_index_or}
+use Rattle.std.specs.Prelude.{◌≡◌, ℕ, ◌+◌, ◌*◌, ◌<◌, ◌≤◌, Bool, false, IsTrue, ℤ, List, length, Contains, Some, slice_get}
 use Rattle.comp_tree.specs.declared.shape.Connect.{Connect}
 use Rattle.comp_tree.specs.declared.shape.Shape.{Shape}
 use Rattle.comp_tree.specs.Raster.{Raster, IsPlane, value_at}
 use Rattle.comp_tree.specs.Marks.{is_marked}
-use Rattle.comp_tree.specs.Grid.{are_neighbours, IsAdjacency}
+use Rattle.comp_tree.specs.Grid.{distance, are_linked, are_neighbours, IsAdjacency}
 use Rattle.comp_tree.specs.Windows.{Window, IsInside, in_whole}
 use Rattle.source_pick.specs.Sheets.{WindowPair, IsCopied, window_size, is_high_there}
 use Rattle.source_sheet.specs.declared.sheet.Place.{Place}
 use Rattle.source_sheet.specs.Laid.{windows_of, AreApartThere, AreHeldOnce, HoldsPixel}
 
--- ---- copies
+-- ---- places
+
+-- both windows of a place lie in their images
+pub record LiesInBoth (whole onto : Shape) (c : Place) : Type 0 where
+  pub from : IsInside whole (windows_of c).from
+  pub to : IsInside onto (windows_of c).to
+
+-- so do those of each place
+abbrev pub LieInBoth : Shape → Shape → List Place → Type 0
+LieInBoth whole onto places = (i : ℕ) (c : Place) → slice_get places i ≡ Some c → LiesInBoth whole onto c
 
 -- pixel p of an image with so many columns lies in the window
-abbrev pub IsSeen : ℕ → Window → ℕ → Type 0
-IsSeen width w p = (b : ℕ) × (b < window_size w) × (in_whole width w b ≡ p)
+pub record IsInWindow (width : ℕ) (w : Window) (p : ℕ) : Type 0 where
+  pub it : ℕ
+  pub below : it < window_size w
+  pub place : in_whole width w it ≡ p
+
+-- ---- copies
 
 -- what is adjacent to pixel p lies in the window
 abbrev pub StaysWithin : Raster → Connect → Window → ℕ → Type 0
-StaysWithin r connect w p = (a : ℕ) → IsAdjacency r.values r.shape.width connect p a → IsSeen r.shape.width w a
+StaysWithin r connect w p = (a : ℕ) → IsAdjacency r.values r.shape.width connect p a → IsInWindow r.shape.width w a
 
--- pixel q of a window of this shape isn't at its edge
-pub record LiesInside (shape : Shape) (q : ℕ) : Type 0 where
-  pub left : 0 < q % shape.width
-  pub right : q % shape.width + 1 < shape.width
-  pub top : 0 < q / shape.width
-  pub bottom : q / shape.width + 1 < shape.height
+-- the pixel in this column and row of a window of this shape isn't at its edge
+pub record LiesInside (shape : Shape) (column row : ℕ) : Type 0 where
+  pub left : 0 < column
+  pub right : column + 1 < shape.width
+  pub top : 0 < row
+  pub bottom : row + 1 < shape.height
 
 -- pixel q of the windows has the same value in both planes, or none
 abbrev pub IsSameAt : Raster → Raster → WindowPair → ℕ → Type 0
 IsSameAt r s c q = value_at r.values (in_whole r.shape.width c.from q) ≡ value_at s.values (in_whole s.shape.width c.to q)
+
+-- so have those of a row from the column `first` up to `end`
+pub record IsRowSame (r s : Raster) (c : WindowPair) (row first end : ℕ) : Type 0 where
+  pub each : (column : ℕ) → first ≤ column → column < end → IsSameAt r s c (row * c.to.shape.width + column)
+
+-- and so have the pixel in this column and row and its neighbours, as far as they stand in rows above the end
+pub record AreSameAround (r s : Raster) (connect : Connect) (c : WindowPair) (column row end : ℕ) : Type 0 where
+  pub own : row < end → IsSameAt r s c (row * c.to.shape.width + column)
+  pub beside : (x y : ℕ) → x < c.to.shape.width → y < end → IsTrue (are_linked connect (distance column x) (distance row y))
+      → IsSameAt r s c (y * c.to.shape.width + x)
 
 -- pixel q of the windows is a copy, with what is around it
 pub record IsPixelCopied (r s : Raster) (connect : Connect) (c : WindowPair) (q : ℕ) : Type 0 where
@@ -43,10 +66,6 @@ pub record ArePixelsCopied (r s : Raster) (connect : Connect) (h : ℤ) (c : Win
   pub each : (q : ℕ) → first ≤ q → q < end → IsTrue (is_high_there s h c.to q) → IsPixelCopied r s connect c q
 
 -- ---- marks
-
--- each place lies inside the sheet
-abbrev pub LieInside : Shape → List Place → Type 0
-LieInside whole places = (i : ℕ) (c : Place) → slice_get places i ≡ Some c → IsInside whole (windows_of c).to
 
 -- no pixel that lies there had a mark, each has one now, and other marks are kept
 pub record AreNewlyMarked (old new : List Bool) (LiesThere : ℕ → Type 0) : Type 0 where

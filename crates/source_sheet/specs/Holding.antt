@@ -2,19 +2,10 @@
 use Rattle.std.specs.Prelude.{◌≡◌, ℕ, ◌<◌, ◌⊎◌, Bool, false, IsTrue, ℤ, List, length, slice_get, Some}
 use Rattle.comp_tree.specs.Raster.{Raster, is_at_least}
 use Rattle.comp_tree.specs.Marks.{is_marked}
-use Rattle.comp_tree.specs.Windows.{IsInside, in_whole}
+use Rattle.comp_tree.specs.Windows.{in_whole}
 use Rattle.source_pick.specs.Sheets.{is_high_there}
 use Rattle.source_sheet.specs.declared.sheet.Place.{Place}
 use Rattle.source_sheet.specs.Laid.{windows_of, HoldsPixel}
-
--- a place lies in the plane and on the sheet
-pub record IsPlaceInside (r s : Raster) (c : Place) : Type 0 where
-  pub from : IsInside r.shape (windows_of c).from
-  pub to : IsInside s.shape (windows_of c).to
-
--- each of the places does
-abbrev pub AreInside : Raster → Raster → List Place → Type 0
-AreInside r s places = (i : ℕ) (c : Place) → slice_get places i ≡ Some c → IsPlaceInside r s c
 
 -- pixel p, which had no mark, got one, if pixel `there` of the sheet is high
 pub record HasHeld (s : Raster) (h : ℤ) (there p : ℕ) (old new : List Bool) : Type 0 where

@@ -14,7 +14,8 @@ ghost use Rattle.comp_tree.specs.Windows.{IsInside, in_whole};
 ghost use Rattle.source_pick.specs.Sheets.{taken_back, row_back, sheet_rows, AreTakenBack};
 ghost use Rattle.source_sheet.specs.declared.back.Taken.{Taken as Source};
 ghost use Rattle.source_sheet.specs.Laid.{windows_of, part_of, IsLaidOut, IsTreeOfSheet};
-ghost use Rattle.source_sheet.specs.Backs.{SheetLaws, LiesInBoth, LieInBoth, IsInWindow, AreMarkedIn, AreOwners, first_in, IsTakenIfOwned, AreTaken, found_of, nodes_in, IsNear, IsNodeAt, AreListed, parts_of};
+ghost use Rattle.source_sheet.specs.Checks.{LiesInBoth, LieInBoth, IsInWindow};
+ghost use Rattle.source_sheet.specs.Backs.{SheetLaws, AreMarkedIn, AreOwners, first_in, IsTakenIfOwned, AreTaken, found_of, nodes_in, IsNear, IsNodeAt, AreListed, parts_of};
 
 use crate::map::map_of_sheet;
 use crate::sheet::{Place, Sheet};
@@ -69,11 +70,11 @@ fn owners(
     ensures one_each { IfOk result (λ owners. length owners.items ≡ onto.width * onto.height) }
 {
     let mut owners = vec![in alloc; 0u32; onto.pixels() as usize]?;
-    mark_places(whole, onto, places, &mut owners);
+    mark_owners(whole, onto, places, &mut owners);
     Ok(owners)
 }
 
-fn mark_places(whole: Shape, onto: Shape, places: &[Place], owners: &mut [u32])
+fn mark_owners(whole: Shape, onto: Shape, places: &[Place], owners: &mut [u32])
     requires placed { LieInBoth whole onto places.now }
     requires few { length places.now ≤ 2147483647 }
     requires blank { (p : ℕ) → slice_index owners.old p ≡ 0 }
@@ -81,12 +82,12 @@ fn mark_places(whole: Shape, onto: Shape, places: &[Place], owners: &mut [u32])
     ensures { AreOwners onto.width places.now (length places.now) owners.new }
 {
     for (i, place) in places.iter().enumerate() {
-        mark_window(onto, place, i as u32 + 1, owners);
+        mark_owner(onto, place, i as u32 + 1, owners);
     }
 }
 
 // Marks the pixels of the place's window on the sheet.
-fn mark_window(onto: Shape, place: &Place, number: u32, owners: &mut [u32])
+fn mark_owner(onto: Shape, place: &Place, number: u32, owners: &mut [u32])
     requires inside { IsInside onto (windows_of place.now).to }
     requires one_each { length owners.old ≡ onto.width * onto.height }
     ensures { AreMarkedIn onto.width (windows_of place.now).to number (place.now.shape.width * place.now.shape.height) owners.old owners.new }

@@ -1,13 +1,13 @@
 //! The check that a sheet may stand for a plane.
 
-ghost use Rattle.std.specs.Prelude.{◌≡◌, ℕ, ◌+◌, ◌-◌, ◌*◌, ◌<◌, ◌≤◌, length, IsTrue, IfOk, All};
-ghost use Rattle.comp_tree.specs.Raster.{value_at, is_defined};
-ghost use Rattle.comp_tree.specs.Grid.{are_neighbours};
+ghost use Rattle.std.specs.Prelude.{◌≡◌, ◌+◌, ◌-◌, ◌*◌, ◌<◌, ◌≤◌, length, IsTrue, IfOk, All};
+ghost use Rattle.comp_tree.specs.Raster.{is_defined};
 ghost use Rattle.comp_tree.specs.Windows.{IsInside, in_whole};
-ghost use Rattle.source_pick.specs.Sheets.{IsCopied, window_size, is_high_there};
+ghost use Rattle.source_pick.specs.Sheets.{IsCopied, is_high_there};
 ghost use Rattle.source_sheet.specs.Laid.{windows_of, AreApartThere, window_at};
-ghost use Rattle.source_sheet.specs.Checks.{IsSeen, StaysWithin, IsSameAt, IsPixelCopied, ArePixelsCopied, LieInside, AreNewlyMarked, AreAllApart, AreAllCopied, AreGoodPlaces, IsBetween, IsInRows, LiesInside};
+ghost use Rattle.source_sheet.specs.Checks.{LiesInBoth, LieInBoth, IsInWindow, StaysWithin, IsSameAt, IsRowSame, AreSameAround, IsPixelCopied, ArePixelsCopied, AreNewlyMarked, AreAllApart, AreAllCopied, AreGoodPlaces, IsBetween, IsInRows, LiesInside};
 
+use crate::beside::{end_beside, reach_in};
 use crate::holding::hold_all;
 use crate::sheet::Place;
 use comp_tree::{Connect, Plane, Shape, neighbours};
@@ -35,7 +35,7 @@ pub(crate) fn is_laid_out(
     if !are_copied(plane, sheet, connect, choice, places) {
         return Ok(false);
     }
-    let apart = are_apart(alloc, sheet, places)?;
+    let apart = are_apart(alloc, plane, sheet, places)?;
     if !apart {
         return Ok(false);
     }
@@ -73,7 +73,7 @@ fn is_copied(plane: &Plane, sheet: &Plane, connect: Connect, choice: &Choice, pl
 
 // Whether a place lies in an image and a sheet of these shapes.
 fn lies_inside(whole: Shape, sheet: Shape, place: &Place) -> bool
-    ensures { IsTrue result → IsInside whole (windows_of place.now).from × IsInside sheet (windows_of place.now).to }
+    ensures { IsTrue result → LiesInBoth whole sheet place.now }
 {
     is_inside(whole, place.left, place.top, place.shape)
         && is_inside(sheet, place.to_left, place.to_top, place.shape)
@@ -97,8 +97,7 @@ fn are_rows_copied(
     choice: &Choice,
     place: &Place,
 ) -> bool
-    requires inside { IsInside plane.now.shape (windows_of place.now).from }
-    requires inside_sheet { IsInside sheet.now.shape (windows_of place.now).to }
+    requires placed { LiesInBoth plane.now.shape sheet.now.shape place.now }
     ensures { IsTrue result → ArePixelsCopied plane.now sheet.now connect choice.now.threshold (windows_of place.now) 0
         (place.now.shape.height * place.now.shape.width) }
 {
@@ -119,8 +118,7 @@ fn is_row_copied(
     place: &Place,
     row: u32,
 ) -> bool
-    requires inside { IsInside plane.now.shape (windows_of place.now).from }
-    requires inside_sheet { IsInside sheet.now.shape (windows_of place.now).to }
+    requires placed { LiesInBoth plane.now.shape sheet.now.shape place.now }
     requires row { row < place.now.shape.height }
     ensures { IsTrue result → ArePixelsCopied plane.now sheet.now connect choice.now.threshold (windows_of place.now)
         (row * place.now.shape.width) ((row + 1) * place.now.shape.width) }
@@ -144,8 +142,7 @@ fn is_copied_at(
     column: u32,
     row: u32,
 ) -> bool
-    requires inside { IsInside plane.now.shape (windows_of place.now).from }
-    requires inside_sheet { IsInside sheet.now.shape (windows_of place.now).to }
+    requires placed { LiesInBoth plane.now.shape sheet.now.shape place.now }
     requires column { column < place.now.shape.width }
     requires row { row < place.now.shape.height }
     ensures { IsTrue result → IsTrue (is_high_there sheet.now choice.now.threshold (windows_of place.now).to (row * place.now.shape.width + column))
@@ -155,73 +152,94 @@ fn is_copied_at(
     if !sheet.is_at_least(choice.threshold, there) {
         return true;
     }
-    is_pixel_copied(
+    is_pixel_copied(plane, sheet, connect, place, column, row)
+}
+
+// Whether the pixel in this column and row of the place is a copy, with what is around it.
+fn is_pixel_copied(
+    plane: &Plane,
+    sheet: &Plane,
+    connect: Connect,
+    place: &Place,
+    column: u32,
+    row: u32,
+) -> bool
+    requires placed { LiesInBoth plane.now.shape sheet.now.shape place.now }
+    requires column { column < place.now.shape.width }
+    requires row { row < place.now.shape.height }
+    ensures { IsTrue result → IsPixelCopied plane.now sheet.now connect (windows_of place.now) (row * place.now.shape.width + column) }
+{
+    if !are_same_around(plane, sheet, connect, place, column, row) {
+        return false;
+    }
+    if is_inner(place.shape, column, row) {
+        return true;
+    }
+    has_around(
         plane,
+        connect,
+        place.left,
+        place.top,
+        place.shape,
+        column,
+        row,
+    ) && has_around(
         sheet,
         connect,
-        place,
-        pixel_at(place.shape, column, row),
+        place.to_left,
+        place.to_top,
+        place.shape,
+        column,
+        row,
     )
 }
 
-// Whether pixel q of the place is a copy, with what is around it.
-fn is_pixel_copied(plane: &Plane, sheet: &Plane, connect: Connect, place: &Place, q: u32) -> bool
-    requires inside { IsInside plane.now.shape (windows_of place.now).from }
-    requires inside_sheet { IsInside sheet.now.shape (windows_of place.now).to }
-    requires pixel { q < window_size (windows_of place.now).to }
-    ensures { IsTrue result → IsPixelCopied plane.now sheet.now connect (windows_of place.now) q }
+// Whether the pixel in this column and row, and each of its neighbours within the window, is the same in both planes.
+fn are_same_around(
+    plane: &Plane,
+    sheet: &Plane,
+    connect: Connect,
+    place: &Place,
+    column: u32,
+    row: u32,
+) -> bool
+    requires placed { LiesInBoth plane.now.shape sheet.now.shape place.now }
+    requires column { column < place.now.shape.width }
+    requires row { row < place.now.shape.height }
+    ensures { IsTrue result → AreSameAround plane.now sheet.now connect (windows_of place.now) column row place.now.shape.height }
 {
-    if !is_same(plane, sheet, place, q) {
-        return false;
-    }
-    if !are_same_beside(plane, sheet, connect, place, q) {
-        return false;
-    }
-    stays_within(plane, connect, place.left, place.top, place.shape, q)
-        && stays_within(sheet, connect, place.to_left, place.to_top, place.shape, q)
-}
-
-// Whether each neighbour of q within the window is the same in both planes.
-fn are_same_beside(plane: &Plane, sheet: &Plane, connect: Connect, place: &Place, q: u32) -> bool
-    requires inside { IsInside plane.now.shape (windows_of place.now).from }
-    requires inside_sheet { IsInside sheet.now.shape (windows_of place.now).to }
-    requires pixel { q < window_size (windows_of place.now).to }
-    ensures { IsTrue result → (b : ℕ) → b < window_size (windows_of place.now).to
-        → IsTrue (are_neighbours connect place.now.shape.width q b) → IsSameAt plane.now sheet.now (windows_of place.now) b }
-{
-    let near = neighbours(place.shape, connect, q);
-    are_all_same(plane, sheet, place, &near)
-}
-
-// Whether each of these pixels of the window is the same in both planes.
-fn are_all_same(plane: &Plane, sheet: &Plane, place: &Place, near: &[u32]) -> bool
-    requires inside { IsInside plane.now.shape (windows_of place.now).from }
-    requires inside_sheet { IsInside sheet.now.shape (windows_of place.now).to }
-    requires pixels { All (λ b. b < window_size (windows_of place.now).to) near.now }
-    ensures { IsTrue result → All (IsSameAt plane.now sheet.now (windows_of place.now)) near.now }
-{
-    for b in near {
-        if !is_same(plane, sheet, place, *b) {
+    let bottom = end_beside(row, 1, place.shape.height);
+    for y in row.saturating_sub(1)..bottom {
+        let reach = reach_in(connect, row, y);
+        let first = column.saturating_sub(reach);
+        let end = end_beside(column, reach, place.shape.width);
+        if !is_row_same(plane, sheet, place, y, first, end) {
             return false;
         }
     }
     true
 }
 
-// Whether pixel q of the window is the same in both planes.
-fn is_same(plane: &Plane, sheet: &Plane, place: &Place, q: u32) -> bool
-    requires inside { IsInside plane.now.shape (windows_of place.now).from }
-    requires inside_sheet { IsInside sheet.now.shape (windows_of place.now).to }
-    requires pixel { q < window_size (windows_of place.now).to }
-    ensures { IsTrue result → IsSameAt plane.now sheet.now (windows_of place.now) q }
+// Whether the pixels of this row of the window, from column `first` up to `end`, are the same in both planes.
+fn is_row_same(plane: &Plane, sheet: &Plane, place: &Place, row: u32, first: u32, end: u32) -> bool
+    requires placed { LiesInBoth plane.now.shape sheet.now.shape place.now }
+    requires row { row < place.now.shape.height }
+    requires end { end ≤ place.now.shape.width }
+    ensures { IsTrue result → IsRowSame plane.now sheet.now (windows_of place.now) row first end }
 {
-    let value = value_in(plane, place.left, place.top, place.shape, q);
-    let copy = value_in(sheet, place.to_left, place.to_top, place.shape, q);
-    is_same_value(value, copy)
+    let from = pixel_at(plane.shape(), place.left, row + place.top);
+    let to = pixel_at(sheet.shape(), place.to_left, row + place.to_top);
+    for column in first..end {
+        if !is_same(plane.get(from + column), sheet.get(to + column)) {
+            return false;
+        }
+    }
+    true
 }
 
 // Whether both are none, or the same.
-fn is_same_value(value: Option<i64>, copy: Option<i64>) -> bool
+#[inline]
+fn is_same(value: Option<i64>, copy: Option<i64>) -> bool
     ensures { IsTrue result → value ≡ copy }
 {
     match (value, copy) {
@@ -231,44 +249,34 @@ fn is_same_value(value: Option<i64>, copy: Option<i64>) -> bool
     }
 }
 
-// The value that the window's pixel q has in the plane.
-fn value_in(plane: &Plane, left: u32, top: u32, shape: Shape, q: u32) -> Option<i64>
-    requires inside { IsInside plane.now.shape (window_at left top shape) }
-    requires pixel { q < window_size (window_at left top shape) }
-    ensures { result ≡ value_at plane.now.values (in_whole plane.now.shape.width (window_at left top shape) q) }
+// Whether the window has a pixel on each side of this column and row: then nothing that is adjacent to that pixel lies beyond.
+fn is_inner(shape: Shape, column: u32, row: u32) -> bool
+    requires column { column < shape.width }
+    requires row { row < shape.height }
+    ensures { IsTrue result → LiesInside shape column row }
 {
-    plane.get(pixel_in(plane.shape(), left, top, shape, q))
-}
-
-// Whether what is adjacent to the window's pixel q lies in the window.
-fn stays_within(plane: &Plane, connect: Connect, left: u32, top: u32, shape: Shape, q: u32) -> bool
-    requires inside { IsInside plane.now.shape (window_at left top shape) }
-    requires pixel { q < window_size (window_at left top shape) }
-    ensures { IsTrue result → StaysWithin plane.now connect (window_at left top shape)
-        (in_whole plane.now.shape.width (window_at left top shape) q) }
-{
-    is_inner(shape, q) || has_around(plane, connect, left, top, shape, q)
-}
-
-// Whether the window has a pixel on each side of its pixel q: then nothing that is adjacent to it lies beyond.
-fn is_inner(shape: Shape, q: u32) -> bool
-    requires pixel { q < shape.width * shape.height }
-    ensures { IsTrue result → LiesInside shape q }
-{
-    let column = q % shape.width;
-    let row = q / shape.width;
     0 < column && column + 1 < shape.width && 0 < row && row + 1 < shape.height
 }
 
-// The same, by a look at what is adjacent.
-fn has_around(plane: &Plane, connect: Connect, left: u32, top: u32, shape: Shape, q: u32) -> bool
+// Whether what is adjacent to the pixel in this column and row of the window lies in the window.
+fn has_around(
+    plane: &Plane,
+    connect: Connect,
+    left: u32,
+    top: u32,
+    shape: Shape,
+    column: u32,
+    row: u32,
+) -> bool
     requires inside { IsInside plane.now.shape (window_at left top shape) }
-    requires pixel { q < window_size (window_at left top shape) }
+    requires column { column < shape.width }
+    requires row { row < shape.height }
     ensures { IsTrue result → StaysWithin plane.now connect (window_at left top shape)
-        (in_whole plane.now.shape.width (window_at left top shape) q) }
+        (in_whole plane.now.shape.width (window_at left top shape) (row * shape.width + column)) }
 {
     let whole = plane.shape();
-    let near = neighbours(whole, connect, pixel_in(whole, left, top, shape, q));
+    let p = pixel_at(whole, column + left, row + top);
+    let near = neighbours(whole, connect, p);
     are_all_seen(plane, left, top, shape, &near)
 }
 
@@ -276,7 +284,7 @@ fn has_around(plane: &Plane, connect: Connect, left: u32, top: u32, shape: Shape
 fn are_all_seen(plane: &Plane, left: u32, top: u32, shape: Shape, near: &[u32]) -> bool
     requires { All (λ a. a < length plane.now.values) near.now }
     ensures { IsTrue result → All (λ a. IsTrue (is_defined plane.now a)
-        → IsSeen plane.now.shape.width (window_at left top shape) a) near.now }
+        → IsInWindow plane.now.shape.width (window_at left top shape) a) near.now }
 {
     for a in near {
         if !is_seen_or_undefined(plane, left, top, shape, *a) {
@@ -290,14 +298,14 @@ fn are_all_seen(plane: &Plane, left: u32, top: u32, shape: Shape, near: &[u32]) 
 fn is_seen_or_undefined(plane: &Plane, left: u32, top: u32, shape: Shape, p: u32) -> bool
     requires { p < length plane.now.values }
     ensures { IsTrue result → IsTrue (is_defined plane.now p)
-        → IsSeen plane.now.shape.width (window_at left top shape) p }
+        → IsInWindow plane.now.shape.width (window_at left top shape) p }
 {
     !plane.is_defined(p) || is_seen(plane.shape(), left, top, shape, p)
 }
 
 // Whether pixel p of an image lies in the window.
 fn is_seen(whole: Shape, left: u32, top: u32, shape: Shape, p: u32) -> bool
-    ensures { IsTrue result → IsSeen whole.width (window_at left top shape) p }
+    ensures { IsTrue result → IsInWindow whole.width (window_at left top shape) p }
 {
     is_among(p % whole.width, left, shape.width) && is_among(p / whole.width, top, shape.height)
 }
@@ -307,16 +315,6 @@ fn is_among(x: u32, first: u32, count: u32) -> bool
     ensures { IsTrue result → (first ≤ x) × (x - first < count) }
 {
     first <= x && x - first < count
-}
-
-// The number that the window's pixel q has in an image.
-fn pixel_in(whole: Shape, left: u32, top: u32, shape: Shape, q: u32) -> u32
-    requires inside { IsInside whole (window_at left top shape) }
-    requires pixel { q < window_size (window_at left top shape) }
-    ensures is { result ≡ in_whole whole.width (window_at left top shape) q }
-    ensures below { result < whole.width * whole.height }
-{
-    pixel_at(whole, q % shape.width + left, q / shape.width + top)
 }
 
 // The number of the pixel in a column and a row.
@@ -330,24 +328,30 @@ pub(crate) fn pixel_at(whole: Shape, column: u32, row: u32) -> u32
 }
 
 // Whether no pixel of the sheet lies in two places.
-fn are_apart(alloc: Global, sheet: &Plane, places: &[Place]) -> Result<bool, OutOfMemory>
-    requires { LieInside sheet.now.shape places.now }
+fn are_apart(
+    alloc: Global,
+    plane: &Plane,
+    sheet: &Plane,
+    places: &[Place],
+) -> Result<bool, OutOfMemory>
+    requires { LieInBoth plane.now.shape sheet.now.shape places.now }
     ensures { IfOk result (λ apart. IsTrue apart → AreApartThere sheet.now places.now) }
 {
-    let whole = sheet.shape();
-    let mut marks = vec![in alloc; false; whole.pixels() as usize]?;
-    let apart = mark_places(whole, places, &mut marks);
+    let whole = plane.shape();
+    let onto = sheet.shape();
+    let mut marks = vec![in alloc; false; onto.pixels() as usize]?;
+    let apart = mark_windows(whole, onto, places, &mut marks);
     Ok(apart)
 }
 
-// Marks the pixels of the places, up to one of which a pixel has a mark.
-fn mark_places(whole: Shape, places: &[Place], marks: &mut [bool]) -> bool
-    requires one_each { length marks.old ≡ whole.width * whole.height }
-    requires inside { LieInside whole places.now }
-    ensures { IsTrue result → AreAllApart whole.width places.now (length places.now) marks.new }
+// Marks the pixels of the places' windows on the sheet, up to a window of which a pixel has a mark.
+fn mark_windows(whole: Shape, onto: Shape, places: &[Place], marks: &mut [bool]) -> bool
+    requires one_each { length marks.old ≡ onto.width * onto.height }
+    requires placed { LieInBoth whole onto places.now }
+    ensures { IsTrue result → AreAllApart onto.width places.now (length places.now) marks.new }
 {
     for place in places {
-        if !mark_window(whole, place.to_left, place.to_top, place.shape, marks) {
+        if !mark_window(onto, place.to_left, place.to_top, place.shape, marks) {
             return false;
         }
     }

@@ -1,12 +1,14 @@
 //! The pixels of groups, and what is beside them, as they are copied to a sheet.
 
 ghost use Rattle.std.specs.Prelude.{◌≡◌, ◌*◌, ◌<◌, ◌≤◌, length, IfSome, All};
+ghost use Rattle.comp_tree.specs.Raster.{HasValuesWithin};
 
+use crate::beside::{end_beside, reach_in};
 use crate::checking::pixel_at;
 use crate::groups::Groups;
 use crate::layout::Layout;
 use crate::sheet::Place;
-use comp_tree::{Canvas, Connect, Plane, Shape, neighbours};
+use comp_tree::{Canvas, Connect, Plane};
 use costs::OutOfMemory;
 use std::alloc::Global;
 
@@ -21,7 +23,7 @@ pub(crate) fn copy_groups(
     requires pixels { All (λ p. p < length plane.now.values) groups.now.pixels.items }
     requires few { layout.now.shape.width * layout.now.shape.height ≤ length plane.now.values }
 {
-    let mut canvas = Canvas::blank(alloc, layout.shape)?;
+    let mut canvas = Canvas::blank_within(alloc, layout.shape, plane.most())?;
     let mut start = 0;
     for (end, place) in groups.ends.iter().zip(&layout.places) {
         let end = *end as usize;
@@ -50,69 +52,58 @@ fn copy_group(
     canvas: &mut Canvas,
 )
     requires pixels { All (λ p. p < length plane.now.values) pixels.now }
-    requires few { length canvas.old.values ≤ length plane.now.values }
-    ensures { length canvas.new.values ≡ length canvas.old.values }
+    requires within { HasValuesWithin canvas.old.most plane.now.values }
+    ensures same_size { length canvas.new.values ≡ length canvas.old.values }
+    ensures same_bound { canvas.new.most ≡ canvas.old.most }
 {
     for k in start..end.min(pixels.len()) {
         copy_around(plane, connect, pixels[k], place, canvas);
     }
 }
 
-// Copies a pixel and its neighbours.
+// Copies a pixel and its neighbours, row by row.
 fn copy_around(plane: &Plane, connect: Connect, p: u32, place: &Place, canvas: &mut Canvas)
     requires pixel { p < length plane.now.values }
-    requires few { length canvas.old.values ≤ length plane.now.values }
-    ensures { length canvas.new.values ≡ length canvas.old.values }
+    requires within { HasValuesWithin canvas.old.most plane.now.values }
+    ensures same_size { length canvas.new.values ≡ length canvas.old.values }
+    ensures same_bound { canvas.new.most ≡ canvas.old.most }
 {
-    copy_pixel(plane, p, place, canvas);
-    let near = neighbours(plane.shape(), connect, p);
-    copy_all(plane, &near, place, canvas);
-}
-
-// Copies each of these pixels.
-fn copy_all(plane: &Plane, near: &[u32], place: &Place, canvas: &mut Canvas)
-    requires pixels { All (λ p. p < length plane.now.values) near.now }
-    requires few { length canvas.old.values ≤ length plane.now.values }
-    ensures { length canvas.new.values ≡ length canvas.old.values }
-{
-    for p in near {
-        copy_pixel(plane, *p, place, canvas);
+    let whole = plane.shape();
+    let column = p % whole.width;
+    let row = p / whole.width;
+    for y in row.saturating_sub(1)..end_beside(row, 1, whole.height) {
+        let reach = reach_in(connect, row, y);
+        let first = column.saturating_sub(reach);
+        let end = end_beside(column, reach, whole.width);
+        copy_row(plane, y, first, end, place, canvas);
     }
 }
 
-// Copies a pixel to where the place has it, if it does.
-fn copy_pixel(plane: &Plane, p: u32, place: &Place, canvas: &mut Canvas)
-    requires pixel { p < length plane.now.values }
-    requires few { length canvas.old.values ≤ length plane.now.values }
-    ensures { length canvas.new.values ≡ length canvas.old.values }
+// Copies the pixels of this row, from column `first` up to `end`, to where the place has them, as far as it does.
+fn copy_row(plane: &Plane, row: u32, first: u32, end: u32, place: &Place, canvas: &mut Canvas)
+    requires row { row < plane.now.shape.height }
+    requires end { end ≤ plane.now.shape.width }
+    requires within { HasValuesWithin canvas.old.most plane.now.values }
+    ensures same_size { length canvas.new.values ≡ length canvas.old.values }
+    ensures same_bound { canvas.new.most ≡ canvas.old.most }
 {
-    if let Some(q) = shown_at(plane.shape(), canvas.shape(), place, p) {
-        canvas.set(q, plane.get(p));
+    let whole = plane.shape();
+    let sheet = canvas.shape();
+    let height = place.shape.height;
+    let Some(y) = moved(row, place.top, height, place.to_top, sheet.height) else {
+        return;
+    };
+    let width = place.shape.width;
+    for column in first..end {
+        if let Some(x) = moved(column, place.left, width, place.to_left, sheet.width) {
+            let p = pixel_at(whole, column, row);
+            canvas.set(pixel_at(sheet, x, y), plane.get(p));
+        }
     }
-}
-
-// The pixel of the sheet where the place has pixel p of the plane, if it does.
-fn shown_at(whole: Shape, sheet: Shape, place: &Place, p: u32) -> Option<u32>
-    ensures { IfSome result (λ q. q < sheet.width * sheet.height) }
-{
-    let x = moved(
-        p % whole.width,
-        place.left,
-        place.shape.width,
-        place.to_left,
-        sheet.width,
-    )?;
-    let y = moved(
-        p / whole.width,
-        place.top,
-        place.shape.height,
-        place.to_top,
-        sheet.height,
-    )?;
-    Some(pixel_at(sheet, x, y))
 }
 
 // The number x as one of `count` numbers from `first` on, moved to as many from `to` on, if it is one and still below `end`.
+#[inline]
 fn moved(x: u32, first: u32, count: u32, to: u32, end: u32) -> Option<u32>
     ensures { IfSome result (λ y. y < end) }
 {

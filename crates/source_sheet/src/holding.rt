@@ -4,7 +4,8 @@ ghost use Rattle.std.specs.Prelude.{◌≡◌, ℕ, ◌+◌, ◌*◌, ◌<◌, t
 ghost use Rattle.comp_tree.specs.Marks.{is_marked};
 ghost use Rattle.source_sheet.specs.declared.sheet.Place.{Place};
 ghost use Rattle.source_sheet.specs.Laid.{AreHeldOnce, HoldsPixel};
-ghost use Rattle.source_sheet.specs.Holding.{AreInside, IsPlaceInside, HasHeld, HasHeldFirst, HasHeldAll, AreHeldApart};
+ghost use Rattle.source_sheet.specs.Checks.{LiesInBoth, LieInBoth};
+ghost use Rattle.source_sheet.specs.Holding.{HasHeld, HasHeldFirst, HasHeldAll, AreHeldApart};
 
 use crate::checking::pixel_at;
 use crate::groups::no_marks;
@@ -23,7 +24,7 @@ pub(crate) fn hold_all(
     places: &[Place],
     listed: &[u32],
 ) -> Result<bool, OutOfMemory>
-    requires inside { AreInside plane.now sheet.now places.now }
+    requires placed { LieInBoth plane.now.shape sheet.now.shape places.now }
     requires listed { All (λ p. p < length plane.now.values) listed.now }
     ensures apart { IfOk result (λ all. all ≡ true → AreHeldOnce plane.now sheet.now choice.now.threshold places.now) }
     ensures held { IfOk result (λ all. all ≡ true → (p : ℕ) → Contains listed.now p
@@ -42,14 +43,14 @@ fn hold_listed(
     listed: &[u32],
     marks: &mut [bool],
 ) -> bool
-    requires inside { AreInside plane.now sheet.now places.now }
+    requires placed { LieInBoth plane.now.shape sheet.now.shape places.now }
     requires listed { All (λ p. p < length plane.now.values) listed.now }
     requires blank { marks.old ≡ replicate (length plane.now.values) false }
     ensures apart { result ≡ true → AreHeldOnce plane.now sheet.now choice.now.threshold places.now }
     ensures held { result ≡ true → (p : ℕ) → Contains listed.now p
         → (i : ℕ) × ((c : Place) × (slice_get places.now i ≡ Some c) × HoldsPixel plane.now sheet.now choice.now.threshold c p) }
 {
-    if !mark_places(plane, sheet, choice, places, marks) {
+    if !mark_all_held(plane, sheet, choice, places, marks) {
         return false;
     }
     are_marked(marks, listed)
@@ -69,48 +70,48 @@ fn are_marked(marks: &[bool], listed: &[u32]) -> bool
 }
 
 // Marks what each place holds. It stops where a pixel would be marked twice, and tells whether it didn't.
-fn mark_places(
+fn mark_all_held(
     plane: &Plane,
     sheet: &Plane,
     choice: &Choice,
     places: &[Place],
     marks: &mut [bool],
 ) -> bool
-    requires inside { AreInside plane.now sheet.now places.now }
+    requires placed { LieInBoth plane.now.shape sheet.now.shape places.now }
     requires blank { marks.old ≡ replicate (length plane.now.values) false }
     ensures { result ≡ true
         → AreHeldApart plane.now sheet.now choice.now.threshold places.now (length places.now) marks.new }
 {
     for place in places {
-        if !mark_place(plane, sheet, choice, place, marks) {
+        if !mark_held(plane, sheet, choice, place, marks) {
             return false;
         }
     }
     true
 }
 
-// Marks what a place holds, row by row, as `mark_places` does.
-fn mark_place(
+// Marks what a place holds, row by row, as `mark_all_held` does.
+fn mark_held(
     plane: &Plane,
     sheet: &Plane,
     choice: &Choice,
     place: &Place,
     marks: &mut [bool],
 ) -> bool
-    requires inside { IsPlaceInside plane.now sheet.now place.now }
+    requires placed { LiesInBoth plane.now.shape sheet.now.shape place.now }
     requires one_each { length marks.old ≡ length plane.now.values }
     ensures { result ≡ true → HasHeldAll plane.now sheet.now choice.now.threshold place.now marks.old marks.new }
 {
     for row in 0..place.shape.height {
-        if !mark_row(plane, sheet, choice, place, row, marks) {
+        if !mark_held_row(plane, sheet, choice, place, row, marks) {
             return false;
         }
     }
     true
 }
 
-// Marks what a place holds of this row of its window, as `mark_places` does.
-fn mark_row(
+// Marks what a place holds of this row of its window, as `mark_all_held` does.
+fn mark_held_row(
     plane: &Plane,
     sheet: &Plane,
     choice: &Choice,
@@ -118,7 +119,7 @@ fn mark_row(
     row: u32,
     marks: &mut [bool],
 ) -> bool
-    requires inside { IsPlaceInside plane.now sheet.now place.now }
+    requires placed { LiesInBoth plane.now.shape sheet.now.shape place.now }
     requires row { row < place.now.shape.height }
     requires one_each { length marks.old ≡ length plane.now.values }
     ensures one_each { length marks.new ≡ length marks.old }

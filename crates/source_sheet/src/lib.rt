@@ -4,6 +4,7 @@
 #![tactic(auto)]
 
 mod back;
+mod beside;
 mod checking;
 mod copying;
 mod groups;

@@ -2,13 +2,8 @@
 
 ghost use Rattle.std.specs.Prelude.{◌≡◌, ◌≤◌, ◌*◌, ℕ, IfOk, length, slice_index};
 ghost use Rattle.source_pick.specs.Segmentation.{AreDisjointNodes};
-ghost use Rattle.source_sheet.specs.Backs.{
-  LiesInBoth,
-  LieInBoth,
-  ArePutIn,
-  AreTakenTo,
-  ShowsNodes,
-};
+ghost use Rattle.source_sheet.specs.Checks.{LiesInBoth, LieInBoth};
+ghost use Rattle.source_sheet.specs.Backs.{ArePutIn, AreTakenTo, ShowsNodes};
 
 use crate::back::stands_at;
 use crate::sheet::{Place, Sheet};

@@ -1,6 +1,6 @@
 //! A sheet, and where its places are.
 
-ghost use Rattle.std.specs.Prelude.{◌≡◌, IfOk, IfSome};
+ghost use Rattle.std.specs.Prelude.{IfOk, IfSome};
 ghost use Rattle.source_sheet.specs.Laid.{IsLaidOut};
 
 use crate::checking::is_laid_out;

@@ -1,9 +1,8 @@
-use Rattle.std.proofs.Common.{◌∙◌, ◌+◌, ◌*◌, ℕ, ℤ, sym, ap, subst, rules, w64}
+use Rattle.std.proofs.Common.{◌∙◌, ◌+◌, ◌*◌, ℤ, sym, ap, rules, w64}
 use Rattle.std.proofs.lemmas.Int.{to_z-of_z}
 use Rattle.comp_tree.specs.declared.shape.Shape.{Shape}
 use Rattle.comp_tree.specs.Raster.{is_at_least}
 use Rattle.source_sheet.specs.Laid.{windows_of}
-use Rattle.source_sheet.specs.Checks.{IsPixelCopied}
 use Rattle.source_sheet.proofs.Copies.{low_there, in_whole-row}
 use Rattle.source_sheet.proofs.checking.is_copied_at.Goals as goal
 
@@ -18,6 +17,4 @@ returns-then-not-is_at_least c = λ _.
     ∙ sym c.is_at_least.ensures ∙ c.if-not-is_at_least.true)
 
 pub returns : goal.returns
-returns c = λ k _.
-    subst (λ (q : ℕ). IsPixelCopied c.args.plane.now c.args.sheet.now c.args.connect (windows_of c.args.place.now) q) c.pixel_at.ensures.is
-    (c.is_pixel_copied.ensures k)
+returns c = λ k _. c.is_pixel_copied.ensures k

@@ -5,10 +5,11 @@ use Rattle.source_sheet.proofs.checking.is_laid_out.Goals as goal
 
 pub are_apart-requires : goal.are_apart-requires
 are_apart-requires c = λ i d g.
-    (c.are_copied.ensures c.if-not-are_copied.false i d (slice_get_within c.args.places.now i d g) g).inside_sheet
+    let copied : _ = c.are_copied.ensures c.if-not-are_copied.false i d (slice_get_within c.args.places.now i d g) g in
+    record { from = copied.inside; to = copied.inside_sheet }
 
-pub hold_all-requires-clause-inside : goal.hold_all-requires-clause-inside
-hold_all-requires-clause-inside c = λ i d g.
+pub hold_all-requires-clause-placed : goal.hold_all-requires-clause-placed
+hold_all-requires-clause-placed c = λ i d g.
     let copied : _ = c.are_copied.ensures c.if-not-are_copied.false i d (slice_get_within c.args.places.now i d g) g in
     record { from = copied.inside; to = copied.inside_sheet }
 

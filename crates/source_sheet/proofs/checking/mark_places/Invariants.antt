@@ -1,5 +1,0 @@
-use Rattle.source_sheet.specs.Checks.{AreAllApart}
-use Rattle.source_sheet.proofs.checking.mark_places.Given as goal
-
-abbrev pub invariant-loop-place : goal.invariant-loop-place
-invariant-loop-place l = AreAllApart l.whole.width l.places l.place-index l.marks

@@ -1,0 +1,5 @@
+use Rattle.source_sheet.specs.Checks.{AreAllApart}
+use Rattle.source_sheet.proofs.checking.mark_windows.Given as goal
+
+abbrev pub invariant-loop-place : goal.invariant-loop-place
+invariant-loop-place l = AreAllApart l.onto.width l.places l.place-index l.marks

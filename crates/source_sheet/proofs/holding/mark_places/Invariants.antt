@@ -1,5 +1,0 @@
-use Rattle.source_sheet.specs.Holding.{AreHeldApart}
-use Rattle.source_sheet.proofs.holding.mark_places.Given as goal
-
-abbrev pub invariant-loop-place : goal.invariant-loop-place
-invariant-loop-place l = AreHeldApart l.plane l.sheet l.choice.threshold l.places l.place-index l.marks
