@@ -54,7 +54,7 @@ def find_survey_program(program: Optional[str] = None) -> str:
     found = (
         program
         or os.environ.get("MAXSURVEY")
-        or shutil.which(package / "bin" / "maxsurvey")
+        or shutil.which(os.fspath(package / "bin" / "maxsurvey"))
         or shutil.which("maxsurvey")
         or (built if built.exists() else None)
     )

@@ -23,8 +23,9 @@ class ArrayPlane:
     def __init__(self, image: numpy.ndarray, label: str = "the image"):
         if numpy.ndim(image) != 2 or not numpy.size(image):
             raise ValueError(f"an image has two dimensions and a pixel, not the sides {numpy.shape(image)}")
-        self.array, self.shape, self.label = image, numpy.shape(image), label
-        self.header, self.unit = fits.Header(), None
+        height, width = numpy.shape(image)
+        self.array, self.label, self.shape = image, label, (height, width)
+        self.unit: Optional[str] = None
         self.origin = stored.origin(image)
 
     def window(self, rows: slice, columns: slice = slice(None), less: int = 0) -> numpy.ndarray:

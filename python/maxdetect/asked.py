@@ -38,10 +38,10 @@ def diameters(text: str) -> Tuple[float, ...]:
 @called("two numbers")
 def radii(text: str) -> Tuple[float, float]:
     """Kron radii and deviations, parted by a comma."""
-    found = tuple(float(each) for each in text.split(","))
+    found = [float(each) for each in text.split(",")]
     if len(found) != 2 or not all(0 < each <= MOST_RADII for each in found):
         raise argparse.ArgumentTypeError(f"{text} isn't two numbers above 0 and up to {MOST_RADII:g}")
-    return found
+    return found[0], found[1]
 
 
 @called("whole number")
@@ -221,20 +221,21 @@ def names_of(given: argparse.Namespace) -> Optional[List[str]]:
     """
     if given.columns is None:
         return None
-    matches = [(text, NAME.fullmatch(text)) for text in listed(given.columns)]
-    unknown = [text for text, _ in matches if not is_known(text)]
+    texts = listed(given.columns)
+    unknown = [text for text in texts if not is_known(text)]
     if unknown:
         more = f" and {len(unknown) - SHOWN} more" if len(unknown) > SHOWN else ""
         raise Mistake(f"--columns: maxcat has no {', '.join(unknown[:SHOWN])}{more}")
+    matches = [match for match in map(NAME.fullmatch, texts) if match]
     if not matches:
         raise Mistake(f"--columns: {given.columns or 'it'} has no name")
-    for _, match in matches:
+    for match in matches:
         if match[1] == "VIGNET" and not given.vignet:
             try:
                 given.vignet = side((match[2] or "").split(",")[0])
             except (ValueError, argparse.ArgumentTypeError):
                 raise Mistake("--columns: VIGNET wants its side, an odd number, by --vignet N") from None
-    return list(dict.fromkeys(match[1] for _, match in matches))
+    return list(dict.fromkeys(match[1] for match in matches))
 
 
 def picked(table: "Rows", names: Optional[List[str]]) -> "Rows":

@@ -1,7 +1,7 @@
 """The program's own background again, in whole numbers as docs/FORMATS.md defines it: tiles need to know where an
 image is at least the threshold.
 """
-from typing import Optional, Tuple
+from typing import Optional, Tuple, Union
 
 import numpy
 
@@ -27,7 +27,8 @@ def _cells(values: numpy.ndarray, mesh: int, fill) -> numpy.ndarray:
 def _numbers(values: numpy.ndarray, undefined: Optional[numpy.ndarray], mesh: int) -> numpy.ndarray:
     """The lower median of each cell's defined pixels, or of the image's where it has none: a grid of 64-bit numbers."""
     cells, shape = _cells(values, mesh, 0), tuple(cells_along(side, mesh) for side in values.shape)
-    missing = _cells(numpy.zeros(values.shape, dtype=bool) if undefined is None else undefined, mesh, True)
+    unseen = numpy.zeros(values.shape, dtype=bool) if undefined is None else undefined
+    missing = _cells(unseen, mesh, True)
     whole, half = ~missing.any(axis=1), (mesh * mesh - 1) // 2
     medians = numpy.zeros(len(cells), dtype="i8")
     medians[whole] = numpy.partition(cells if whole.all() else cells[whole], half, axis=1)[:, half]
@@ -36,7 +37,7 @@ def _numbers(values: numpy.ndarray, undefined: Optional[numpy.ndarray], mesh: in
         count = (others != UNDEFINED).sum(axis=1)
         found = numpy.take_along_axis(others, numpy.maximum(count - 1, 0)[:, None] // 2, axis=1)[:, 0]
         if not count.all():
-            found[count == 0] = lower_median(values[~undefined])
+            found[count == 0] = lower_median(values[~unseen])
         medians[~whole] = found
     return medians.reshape(shape)
 
@@ -91,13 +92,14 @@ class Above:
         self, values: numpy.ndarray, undefined: Optional[numpy.ndarray], threshold: int, mesh: int, flat: bool = False
     ):
         self._values, self._undefined, self._threshold = values, undefined, threshold
-        self._mesh, self._flat, self._background = mesh, flat, None
+        self._mesh, self._flat = mesh, flat
+        self._background: Optional[KernelBackground] = None
 
     def __call__(self, rows: slice, columns: slice) -> numpy.ndarray:
         """The same for some rows and columns, as truth values."""
         if self._mesh and self._background is None:
             self._background = KernelBackground(self._values, self._undefined, self._mesh, self._flat)
-        level = self._background.at(rows, columns) if self._mesh else 0
+        level: Union[int, numpy.ndarray] = 0 if self._background is None else self._background.at(rows, columns)
         above = self._values[rows, columns] >= level + self._threshold
         return above if self._undefined is None else above & ~self._undefined[rows, columns]
 

@@ -2,7 +2,7 @@
 cells of a mesh. A row of cells is looked at by itself, so all of it is one function of the image and its map.
 """
 import dataclasses
-from typing import Iterable, List, Tuple
+from typing import Iterable, List, Tuple, Union
 
 import numpy
 import sep
@@ -16,15 +16,15 @@ GROWTH = 4
 LEAST_SHARE, ENOUGH = 0.4, 0.5
 
 
-def unit_of(values: numpy.ndarray) -> float:
+def unit_of(values: Union[float, numpy.ndarray]) -> float:
     """The power of two next to the median of what is positive, or 1 where nothing is.
 
     SEP squares numbers of 32 bits, which have no room for the squares of an image in very small or very large units.
     Over a power of two all numbers keep their digits.
     """
-    values = numpy.asarray(values, dtype="f8").ravel()
-    values = values[numpy.isfinite(values) & (values > 0)]
-    return 2.0 ** round(float(numpy.log2(numpy.median(values)))) if values.size else 1.0
+    every = numpy.asarray(values, dtype="f8").ravel()
+    positive = every[numpy.isfinite(every) & (every > 0)]
+    return 2.0 ** round(float(numpy.log2(numpy.median(positive)))) if positive.size else 1.0
 
 
 def bands(height: int, mesh: int) -> List[Tuple[slice, slice]]:
@@ -66,10 +66,9 @@ def of_row(
     lefts = numpy.arange(0, residual.shape[1], mesh)
     area = len(residual) * numpy.diff(lefts, append=residual.shape[1])
     share = numpy.add.reduceat(left_out.sum(axis=0), lefts) / area
-    low, high = (
-        function.reduceat(function.reduce(numpy.where(left_out, beyond, scaled)), lefts)
-        for function, beyond in ((numpy.minimum, numpy.float32(numpy.inf)), (numpy.maximum, -numpy.float32(numpy.inf)))
-    )
+    beyond = numpy.float32(numpy.inf)
+    low = numpy.minimum.reduceat(numpy.minimum.reduce(numpy.where(left_out, beyond, scaled)), lefts)
+    high = numpy.maximum.reduceat(numpy.maximum.reduce(numpy.where(left_out, -beyond, scaled)), lefts)
     cells = numpy.array([low, numpy.zeros(len(lefts))])
     cells[:, share > 1 - ENOUGH] = numpy.nan
     for number in numpy.flatnonzero((share <= 1 - ENOUGH) & (low < high)).tolist():

@@ -10,7 +10,7 @@ import shlex
 import sys
 import tempfile
 import warnings
-from typing import Callable, Dict, List, Optional, Union
+from typing import TYPE_CHECKING, Callable, ContextManager, Dict, List, Optional, Tuple, Union
 
 import numpy
 from astropy.utils.exceptions import AstropyWarning
@@ -18,12 +18,17 @@ from astropy.utils.exceptions import AstropyWarning
 from . import __version__, asked, checks, detection, headings, kernel, maps, measuring, planefiles, pools, resuming
 from . import tables
 from .errors import Mistake
+from .images import Plane
 from .rows import Rows
 from .tasks import Task, check_files, check_options, form_of, inputs_of, outputs_of, task_of
 from .telling import about, attempted, say, text, with_image
 
+if TYPE_CHECKING:
+    from . import report
+
 __all__ = ["run"]
 
+Executor = concurrent.futures.Executor
 # A map of more pixels isn't held in memory.
 LARGE = 2**22
 
@@ -94,7 +99,7 @@ def _planes_in(path: str, name: str, task: Task, dtype: str, **cards: str) -> Li
         return planefiles.made(name, heads, dtype, **cards)
 
 
-def _extension(field: detection.Field, task: Task) -> str:
+def _extension(field: detection.Field[Plane], task: Task) -> str:
     """The name of an image's HDU where no other has it, and else its number."""
     name = field.plane.name
     alone = [other.plane.name for other in task.fields].count(name) == 1
@@ -114,7 +119,7 @@ def _finished(table: Rows, number: int, task: Task, given: argparse.Namespace) -
         zeropoint=given.zeropoint,
         unit=unit,
         extension=extension,
-        bands={name: (zeropoints.get(name), other.values.unit) for name, other in task.bands[number].items()},
+        bands={name: (zeropoints.get(name), other.measured.plane.unit) for name, other in task.bands[number].items()},
     )
 
 
@@ -196,7 +201,9 @@ def _done(task: Task, given: argparse.Namespace, tiles, progress) -> str:
     with about(task.output), tables.whole_files(outputs_of(task, given)) as names, _maps(
         task, given, names.get(given.map)
     ) as planes:
-        found, skies, shown = [], [], _check_images(task, given, names)
+        found: List[Rows] = []
+        skies: List["report.Skies"] = []
+        shown = _check_images(task, given, names)
         for number, (field, segments) in enumerate(zip(task.fields, planes)):
             filled = checks.writer({kind: each[number] for kind, each in shown.items()})
             told = _told(filled, skies) if given.report else filled
@@ -236,7 +243,7 @@ class _File:
     """The work on a file, whose tiles run in a pool where there is one."""
 
     given: argparse.Namespace
-    pool: Optional[concurrent.futures.Executor] = None
+    pool: Optional[Executor] = None
     progress: Callable[[int], None] = _nothing
 
     def __call__(self, item: Union[Task, Exception]) -> Union[str, Exception]:
@@ -253,7 +260,7 @@ class _Elsewhere:
     """The same by one of several workers."""
 
     given: argparse.Namespace
-    pool: concurrent.futures.Executor
+    pool: Executor
     progress: Callable[[int], None]
 
     def __call__(self, item: Union[Task, Exception]) -> Union[str, Exception]:
@@ -268,7 +275,7 @@ class _Elsewhere:
         return found
 
 
-def _tiles_pool(given: argparse.Namespace, good: List[Task]) -> Optional[concurrent.futures.Executor]:
+def _tiles_pool(given: argparse.Namespace, good: List[Task]) -> Optional[ContextManager[Executor]]:
     """What tiles run in, or None where that isn't worth while. Raises Mistake."""
     if given.scheduler is not None:
         from . import cluster
@@ -284,7 +291,9 @@ def _tiles_pool(given: argparse.Namespace, good: List[Task]) -> Optional[concurr
     return pools.workers(given.workers)
 
 
-def _executors(stack: contextlib.ExitStack, given: argparse.Namespace, good: List[Task]):
+def _executors(
+    stack: contextlib.ExitStack, given: argparse.Namespace, good: List[Task]
+) -> Tuple[Optional[Executor], Optional[Executor], Optional[Executor]]:
     """What so many images run in, what their tiles do, and what does the work on a whole file; None where they follow
     each other. Raises Mistake.
     """
@@ -328,7 +337,9 @@ def run(given: argparse.Namespace) -> bool:
         files, tiles, elsewhere = _executors(stack, given, good)
         progress = _Progress(_count(good))
         stack.callback(progress.close)
-        work = _File(given, tiles, progress) if elsewhere is None else _Elsewhere(given, elsewhere, progress)
+        work: Union[_File, _Elsewhere] = _File(given, tiles, progress)
+        if elsewhere is not None:
+            work = _Elsewhere(given, elsewhere, progress)
         for answer in detection.tiles.each(files, work, every):
             if isinstance(answer, str):
                 print(answer, flush=True)

@@ -54,7 +54,10 @@ def writer(images: Dict[str, numpy.ndarray]) -> Callable[..., None]:
         for kind, image in images.items():
             for top in range(0, image.shape[0], ROWS):
                 rows = slice(top, min(top + ROWS, image.shape[0]))
-                image[rows] = numpy.nan if found is None else rows_of(kind, detector, found, own, rows)
+                if found is None or own is None:
+                    image[rows] = numpy.nan
+                else:
+                    image[rows] = rows_of(kind, detector, found, own, rows)
             if kind == "apertures":
                 _draw(table, image)
 

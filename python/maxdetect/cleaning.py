@@ -38,7 +38,7 @@ def _half(width: float) -> int:
 class _Around(NamedTuple):
     """For each of some pixels how many pixels of its box lie beside sources, and the sum of their numbers."""
 
-    count: numpy.ndarray
+    pixels: numpy.ndarray
     total: numpy.ndarray
 
 
@@ -49,8 +49,8 @@ def _around(
     bounds = []
     for at, side in ((rows, numbers.shape[0]), (columns, numbers.shape[1])):
         bounds += [numpy.maximum(at - half, 0), numpy.minimum(at + half + 1, side)]
-    count = boxes.within(boxes.sums(beside, "i4"), *bounds)
-    return _Around(count, boxes.within(boxes.sums(numpy.where(beside, numbers, 0)), *bounds))
+    pixels = boxes.within(boxes.sums(beside, "i4"), *bounds)
+    return _Around(pixels, boxes.within(boxes.sums(numpy.where(beside, numbers, 0)), *bounds))
 
 
 def _halos(above: numpy.ndarray, labels: numpy.ndarray, segments: numpy.ndarray, least: float) -> Iterator[Tuple]:
@@ -96,7 +96,7 @@ def kept(
         rows, columns = numpy.nonzero(own & (segments[at] != 0))
         more = _around(numbers[at], away, half, rows, columns)
         here = numpy.searchsorted(places, (rows + at[0].start) * numbers.shape[1] + columns + at[1].start)
-        count[here] += more.count
+        count[here] += more.pixels
         total[here] += more.total
     light = numpy.where(count >= least, numpy.maximum(total / numpy.maximum(count, 1), 0), 0)
     stand_out = numbers.ravel()[places] >= light + threshold * numpy.sqrt(variance(light))

@@ -47,7 +47,8 @@ class Detector:
     def __init__(self, field: Field, found: sky.Sky, how: looks.Way, program: Optional[str] = None):
         self.field, self.settings, self.program, self.how = field, field.settings, program, how
         self.sky = found if self.settings.mesh else found.flat()
-        self.strips, self.own_turn, self.program_turn = {}, contextlib.nullcontext(), contextlib.nullcontext()
+        self.strips: Dict[str, int] = {}
+        self.own_turn, self.program_turn = contextlib.nullcontext(), contextlib.nullcontext()
         whole = Box(0, field.shape[0], 0, field.shape[1])
         reach = cleaning.reach(how.width) if self.settings.clean else 1
         tile = max(self.settings.tile, 1)
@@ -62,7 +63,7 @@ class Detector:
         if self.field.weights is None:
             return self.sky.noise
         middle = self.field.shape[0] // 2
-        noise = self.noise(slice(middle, middle + 1), slice(0, self.field.shape[1]))
+        noise = numpy.asarray(self.noise(slice(middle, middle + 1), slice(0, self.field.shape[1])))
         return float(numpy.median(noise[numpy.isfinite(noise)])) if numpy.isfinite(noise).any() else self.sky.noise
 
     def numbers(self, box: Box) -> numpy.ndarray:
@@ -140,9 +141,10 @@ def sources(
         detector.strips = {"strips": 16, "workers": field.settings.workers}
     progress(0)
     with _looked_at(detector, executor, cores) as pieces:
-        found = tiles.gathered(pieces, segments, progress)
-    table, cut = _cleaned(*found, segments) if field.settings.clean else found
-    cleaned = len(found[0]) - len(table)
+        table, cut = tiles.gathered(pieces, segments, progress)
+    count = len(table)
+    if field.settings.clean:
+        table, cut = _cleaned(table, cut, segments)
     own = measuring.sky_of_values(detector)
     level = measuring.sky_beside(detector, segments, executor, own)
     points = measuring.points_of(detector, level)
@@ -154,7 +156,7 @@ def sources(
     if field.settings.wide:
         table = _with_wide(detector, table, segments, executor, bands or {})
     tiles.hide(segments)
-    table.meta.update(detector.how.meta, GROWTH=points is not None, NCLEANED=cleaned)
+    table.meta.update(detector.how.meta, GROWTH=points is not None, NCLEANED=count - len(table))
     if field.struck is not None:
         table.meta["NCOSMIC"] = int(field.struck.sum())
     # With a weight map the sky's noise is a factor, and no noise of the image.
@@ -231,8 +233,8 @@ def _with_wide(detector: Detector, table: Rows, segments: numpy.ndarray, executo
     if not len(more.rows):
         return table
     more.rows["NUMBER"] = numpy.arange(len(table) + 1, len(table) + len(more.rows) + 1, dtype="i4")
-    for number, (box, own) in zip(more.rows["NUMBER"].tolist(), more.places):
-        segments[box.rows, box.columns][own] = number
+    for number, (box, pixels) in zip(more.rows["NUMBER"].tolist(), more.places):
+        segments[box.rows, box.columns][pixels] = number
     how = dataclasses.replace(detector.how, threshold=wide.THRESHOLD)
     detector = Detector(field, found, how, detector.program)
     own = measuring.sky_of_values(detector)

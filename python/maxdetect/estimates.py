@@ -21,9 +21,8 @@ def of_array(image: numpy.ndarray, mesh: int = 64, relative: Optional[numpy.ndar
     values = floats(image)
     if values.ndim != 2 or not values.size:
         raise ValueError(f"an image has two dimensions and a pixel, not the sides {values.shape}")
-    return sky.of(
-        lambda rows: values[rows], values.shape, mesh, None if relative is None else lambda rows: relative[rows]
-    )
+    height, width = values.shape
+    return sky.of(values.__getitem__, (height, width), mesh, None if relative is None else relative.__getitem__)
 
 
 def noise(image: numpy.ndarray, mesh: int = 64) -> float:

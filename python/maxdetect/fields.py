@@ -1,14 +1,14 @@
 """An image with what belongs to it, and how its sources are looked for."""
 import dataclasses
 import math
-from typing import Callable, List, Optional, Tuple, Union
+from typing import Callable, Generic, List, Optional, Tuple, Union
 
 import numpy
 
 from . import sky
 from .errors import Mistake
-from .images import Plane
 from .limits import LEAST_MESH, MOST_MESH, TILE
+from .planes import AnyPlane, OwnPlane
 
 __all__ = ["Field", "Settings", "noise_of", "sky_of"]
 
@@ -66,26 +66,26 @@ def relative_noise(weights: numpy.ndarray, kind: str) -> numpy.ndarray:
 
 
 @dataclasses.dataclass
-class Field:
+class Field(Generic[OwnPlane]):
     """An image with what belongs to it: a mask, whose pixels other than 0 are undefined, a weight map, and another
     image to measure in with a weight map of its own; and a map of flags.
     """
 
-    plane: Plane
+    plane: OwnPlane
     settings: Settings
-    mask: Optional[Plane] = None
-    weights: Optional[Plane] = None
-    values: Optional[Plane] = None
+    mask: Optional[OwnPlane] = None
+    weights: Optional[OwnPlane] = None
+    values: Optional[OwnPlane] = None
     struck: Optional[numpy.ndarray] = None
-    value_weights: Optional[Plane] = None
-    flag_map: Optional[Plane] = None
+    value_weights: Optional[OwnPlane] = None
+    flag_map: Optional[OwnPlane] = None
 
     @property
     def shape(self) -> Tuple[int, int]:
         return self.plane.shape
 
     @property
-    def planes(self) -> List[Plane]:
+    def planes(self) -> List[OwnPlane]:
         """All its images."""
         every = (self.plane, self.mask, self.weights, self.values, self.value_weights, self.flag_map)
         return [plane for plane in every if plane is not None]
@@ -105,7 +105,9 @@ class Field:
         return image
 
     def relative(self, rows: slice, columns: slice = slice(None)) -> numpy.ndarray:
-        """Its noise in a window, up to a factor."""
+        """Its noise in a window, up to a factor. Raises ValueError where it has no weight map."""
+        if self.weights is None:
+            raise ValueError(f"{self.plane.label} has no weight map")
         return relative_noise(self.weights.window(rows, columns), self.settings.weight_type)
 
     def to_measure(self, rows: slice, columns: slice) -> numpy.ndarray:
@@ -113,7 +115,7 @@ class Field:
         return self.image(rows, columns) if self.values is None else self._masked(self.values, rows, columns)
 
     @property
-    def measured(self) -> "Field":
+    def measured(self) -> "Field[OwnPlane]":
         """What fluxes are measured in as a field of its own."""
         if self.values is None:
             return self
@@ -138,7 +140,7 @@ class Field:
         return self.settings.gain if self.values is None else self.settings.own_gain
 
 
-def _less_origin(limit: Optional[float], plane: Plane) -> Optional[float]:
+def _less_origin(limit: Optional[float], plane: AnyPlane) -> Optional[float]:
     """A number of a plane's pixels less its origin."""
     # Where there is an origin the pixels have whole numbers, which 64 bits of floating point don't hold.
     return math.ceil(limit) - plane.origin if plane.origin and limit is not None else limit

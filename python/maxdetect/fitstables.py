@@ -88,8 +88,8 @@ def _by_astropy(columns: Dict[str, Described], rows: int, told: fits.Header) -> 
     for name, column in columns.items():
         array[name] = column.values
     made = fits.BinTableHDU(array).columns if columns else []
-    for column, described in zip(made, columns.values()):
-        column.unit = described.unit
+    for own, described in zip(made, columns.values()):
+        own.unit = described.unit
     table = fits.BinTableHDU.from_columns(made, nrows=rows, name="SOURCES")
     for number, described in enumerate(columns.values(), 1):
         table.header.set(f"TCOMM{number}", described.text, after=f"TFORM{number}")
@@ -115,5 +115,5 @@ def write(path: str, columns: Dict[str, Described], told: fits.Header) -> None:
             array = numpy.empty(min(AT_ONCE, rows - first), dtype=dtype)
             for name, column in columns.items():
                 array[name] = column.values[first : first + AT_ONCE]
-            file.write(array.view("u1"))
+            file.write(array.view("u1").data)
         file.write(bytes(-rows * dtype.itemsize % BLOCK))

@@ -2,7 +2,7 @@
 import numpy
 
 from .errors import Mistake
-from .images import Plane
+from .planes import AnyPlane
 from .rows import Rows
 
 __all__ = ["over"]
@@ -10,7 +10,7 @@ __all__ = ["over"]
 MOST, ROWS = 2**31, 256
 
 
-def _bits(plane: Plane, rows: slice) -> numpy.ndarray:
+def _bits(plane: AnyPlane, rows: slice) -> numpy.ndarray:
     """The map's whole numbers in some rows. Raises Mistake for others."""
     values = plane.window(rows)
     if not (numpy.isfinite(values) & (values >= 0) & (values < MOST) & (values == numpy.floor(values))).all():
@@ -18,7 +18,7 @@ def _bits(plane: Plane, rows: slice) -> numpy.ndarray:
     return values.astype("i4")
 
 
-def over(plane: Plane, table: Rows, segments: numpy.ndarray) -> numpy.ndarray:
+def over(plane: AnyPlane, table: Rows, segments: numpy.ndarray) -> numpy.ndarray:
     """For each source of a map the bits that any of its pixels has, in the table's order."""
     found = numpy.zeros(int(numpy.max(table["NUMBER"], initial=0)) + 1, dtype="i4")
     for top in range(0, len(segments), ROWS):

@@ -11,7 +11,7 @@ import math
 import os
 import re
 import zipfile
-from typing import BinaryIO, Dict, Iterator, List, Optional, Tuple
+from typing import IO, Dict, Generator, Iterator, List, Optional, Tuple, Union
 
 from astropy.io import fits
 
@@ -37,9 +37,11 @@ MOST_PIXELS = 2048
 PLAUSIBLE = 100
 
 Cards = Dict[str, object]
+# A file that is open, as it stands or decompressed.
+Opened = Union[IO[bytes], gzip.GzipFile, bz2.BZ2File]
 
 
-def walked(path: str) -> Iterator[int]:
+def walked(path: str) -> Generator[int, None, None]:
     """The numbers of a file's HDUs, each when its header has been looked at. Of a compressed file no more is read
     than what stands before the header.
 
@@ -64,7 +66,7 @@ def walked(path: str) -> Iterator[int]:
             number, start = number + 1, start + -(-length // BLOCK) * BLOCK
 
 
-def _holds(path: str, file: BinaryIO, size: Optional[int], start: int, length: int) -> bool:
+def _holds(path: str, file: Opened, size: Optional[int], start: int, length: int) -> bool:
     """Whether a file has so many bytes from here on. A compressed one is read for it where they are many for it."""
     if size is not None:
         return start + length <= size
@@ -84,7 +86,7 @@ def check_sums(path: str) -> None:
 
 
 @contextlib.contextmanager
-def _opened(path: str) -> Iterator[Tuple[BinaryIO, Optional[int]]]:
+def _opened(path: str) -> Iterator[Tuple[Opened, Optional[int]]]:
     """A file, decompressed as astropy would do it, and its size where it isn't compressed."""
     with contextlib.ExitStack() as stack:
         file = stack.enter_context(open(path, "rb"))
@@ -100,7 +102,7 @@ def _opened(path: str) -> Iterator[Tuple[BinaryIO, Optional[int]]]:
             yield file, os.fstat(file.fileno()).st_size
 
 
-def _header(file: BinaryIO, path: str, number: int, start: int) -> Tuple[Optional[List[bytes]], int]:
+def _header(file: Opened, path: str, number: int, start: int) -> Tuple[Optional[List[bytes]], int]:
     """The cards of the header that begins here, and where its data begin; None where the file has no further HDU."""
     header, first = [], b"SIMPLE  =" if number == 0 else b"XTENSION="
     for count in range(1, MOST_BLOCKS + 1):
@@ -124,7 +126,7 @@ def _cards(header: List[bytes]) -> Cards:
     """The values of those cards that astropy reads at once. Raises ValueError for one that can't be read, or that
     stands twice with two values: of such astropy takes now the first and now the last.
     """
-    found = {}
+    found: Cards = {}
     for card in header:
         keyword = card[:8].decode("latin-1").rstrip().upper()
         if not READ.fullmatch(keyword):
@@ -151,9 +153,10 @@ def _whole(cards: Cards, keyword: str, least: int, most: Optional[int] = None, d
 
 def _bits(cards: Cards, keyword: str) -> int:
     """BITPIX, or ZBITPIX."""
-    if cards.get(keyword) not in BITS or type(cards[keyword]) is not int:
-        raise ValueError(f"{keyword} is none of {', '.join(str(bits) for bits in BITS)}: {cards.get(keyword)}")
-    return cards[keyword]
+    value = cards.get(keyword)
+    if type(value) is not int or value not in BITS:
+        raise ValueError(f"{keyword} is none of {', '.join(str(bits) for bits in BITS)}: {value}")
+    return value
 
 
 def _sides(cards: Cards, keyword: str) -> List[int]:

@@ -23,10 +23,11 @@ def inherited(plane: Plane) -> List[str]:
     return [name for name in INHERITED if plane.inherits(name) and plane.positive(name) is not None]
 
 
-def of_field(field: Field, zeropoint: Optional[float]) -> Dict[str, Any]:
+def of_field(field: Field[Plane], zeropoint: Optional[float]) -> Dict[str, Any]:
     """Cards that say what an image of a file was measured with, and what its own header says of it."""
     plane, settings = field.values or field.plane, field.settings
-    told = {"GAIN": settings.gain, "SATURATE": settings.saturation, "ZEROPNT": zeropoint, "SIGMAS": settings.sigmas}
+    told: Dict[str, Any] = {"GAIN": settings.gain, "SATURATE": settings.saturation}
+    told.update(ZEROPNT=zeropoint, SIGMAS=settings.sigmas)
     told.update({name: plane.in_passing(name) for name in CARDS})
     return {name: plain(it) if isinstance(it, str) else it for name, it in told.items() if it is not None}
 

@@ -9,7 +9,7 @@ import os
 import pathlib
 import threading
 import warnings
-from typing import Dict, Iterator, List, Optional, Tuple, Union
+from typing import Any, Dict, Iterator, List, Optional, Tuple, Union
 
 import numpy
 from astropy.io import fits
@@ -41,7 +41,7 @@ def _readable(path: str) -> Iterator[None]:
 
 
 @contextlib.contextmanager
-def _opened(path: str) -> Iterator[Iterator[Tuple[int, object]]]:
+def _opened(path: str) -> Iterator[Iterator[Tuple[int, Any]]]:
     """The HDUs of a file with their numbers, one by one, each after its header was looked at. Raises Mistake."""
     with _readable(path), warnings.catch_warnings(), contextlib.closing(headers.walked(path)) as looked_at:
         warnings.simplefilter("ignore", AstropyWarning)
@@ -91,7 +91,7 @@ class Plane:
         self.name = "" if hdu.name == "COMPRESSED_IMAGE" else hdu.name
         self.header, sides = hdu.header.copy(), hdu.shape
         self.primary = None if number == 0 or self.header.get("INHERIT") is False else primary
-        self.shape = tuple(sides[-2:])
+        self.shape: Tuple[int, int] = (sides[-2], sides[-1])
         planes = int(numpy.prod(sides[:-2], dtype=int))
         if beside and planes == 1:
             plane = None
@@ -99,7 +99,8 @@ class Plane:
             raise Mistake(f"{self.label}: it has {planes} planes; say which with --plane")
         if not 1 <= (plane or 1) <= planes:
             raise Mistake(f"{self.label}: it has no plane {plane}, but {planes}")
-        self._plane, self._whole, self._lock = (plane or 1) - 1, None, threading.Lock()
+        self._plane, self._lock = (plane or 1) - 1, threading.Lock()
+        self._whole: Optional[numpy.ndarray] = None
         self._meaning = self._checked(stored.meaning, hdu)
         self._place = self._place_in_file(hdu)
 
@@ -173,11 +174,12 @@ class Plane:
         first, last, _ = rows.indices(self.shape[0])
         if not self.mapped or last - first <= AT_ONCE:
             return self._values(rows, columns, less)
-        found = None
         # A file's pages count as memory as long as they are looked at, and they have whole rows.
-        for top in range(first, last, AT_ONCE):
+        values = self._values(slice(first, first + AT_ONCE), columns, less)
+        found = numpy.empty((last - first, values.shape[1]), dtype=values.dtype)
+        found[:AT_ONCE] = values
+        for top in range(first + AT_ONCE, last, AT_ONCE):
             values = self._values(slice(top, min(top + AT_ONCE, last)), columns, less)
-            found = numpy.empty((last - first, values.shape[1]), dtype=values.dtype) if found is None else found
             found[top - first : top - first + len(values)] = values
         return found
 
@@ -198,12 +200,12 @@ class Plane:
             if self._whole is None:
                 with _opened(self.path) as hdus:
                     _, hdu, _ = _found(self.path, hdus, self.number)
-                    self._whole = stored.raw(hdu).reshape((-1,) + self.shape)[self._plane]
+                    self._whole = numpy.asarray(stored.raw(hdu)).reshape((-1,) + self.shape)[self._plane]
                     _check_sums(self.path, *_state(self.path))
-        return self._whole[rows, columns]
+            return self._whole[rows, columns]
 
 
-def _found(path: str, hdus: Iterator[Tuple[int, object]], which: Name):
+def _found(path: str, hdus: Iterator[Tuple[int, Any]], which: Name):
     """An HDU that is named by its number or its name, or the first one with an image, with its number and the primary
     header.
     """

@@ -126,12 +126,12 @@ def _places() -> Iterator[Tuple[str, Column]]:
 def _ellipses() -> Iterator[Tuple[str, Column]]:
     """Error ellipses and second moments."""
     for kind in ("", "WIN"):
-        error = tuple(f"ERR{part}{kind}" for part in ("A", "B", "THETA"))
-        for name, unit in zip(error, ("pixel", "pixel", "deg")):
+        long, short, angle = (f"ERR{part}{kind}" for part in ("A", "B", "THETA"))
+        for name, unit in ((long, "pixel"), (short, "pixel"), (angle, "deg")):
             yield f"{name}_IMAGE", Column("E", unit, "Error ellipse of the position", _own(name))
         for which, axes in enumerate(("X2", "Y2", "XY")):
             text = "Error ellipse of the position as a matrix"
-            yield f"ERR{axes}{kind}_IMAGE", Column("D", "pixel**2", text, _variance(*error, which, 1.0))
+            yield f"ERR{axes}{kind}_IMAGE", Column("D", "pixel**2", text, _variance(long, short, angle, which, 1.0))
     for which, axes in enumerate(("X2", "Y2", "XY")):
         yield f"{axes}_IMAGE", Column("D", "pixel**2", "Second moments", _variance("A", "B", "THETA", which, 0.5))
 

@@ -165,9 +165,9 @@ class _Window:
         )
         how, level = self.detector.how, self._sky(box)[0]
         noise = self.detector.noise(box.rows, box.columns)
-        level, noise = (numpy.broadcast_to(numpy.asarray(it, dtype="f8"), sides)[at] for it in (level, noise))
+        levels, noises = (numpy.broadcast_to(numpy.asarray(it, dtype="f8"), sides)[at] for it in (level, noise))
         plane = self.detector.field.values or self.detector.field.plane
-        return level + plane.origin, noise * how.threshold * self.seen.scale
+        return levels + plane.origin, noises * how.threshold * self.seen.scale
 
 
 def _needed(table: Rows, reach: numpy.ndarray, shape: Tuple[int, int]) -> List[Box]:

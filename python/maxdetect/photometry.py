@@ -158,7 +158,7 @@ def reach(catalogue: Rows, points: Optional[PointSources] = None, least: float =
     return numpy.maximum(KRON_REACH * ellipses(catalogue)[0] / 2, circle) + 2
 
 
-def _noise(noise: Numbers, shape: Tuple[int, int]) -> Numbers:
+def _noise(noise: Numbers, shape: Tuple[int, ...]) -> Numbers:
     """The noise as SEP takes it: one number, or an array of the image's shape."""
     if numpy.ndim(noise) == 0:
         return float(noise)
@@ -204,7 +204,7 @@ def _isophotal(
     if numpy.ndim(noise) == 0:
         variance = pixels.summed(numpy.full(len(pixels.places), float(noise) ** 2))
     else:
-        variance = pixels.summed(noise.ravel()[pixels.places].astype("f8") ** 2)
+        variance = pixels.summed(numpy.asarray(noise).ravel()[pixels.places].astype("f8") ** 2)
     if gain:
         variance += numpy.maximum(flux, 0) / gain
     seen = numpy.bincount(pixels.numbers, minlength=pixels.length) > 0
@@ -316,7 +316,9 @@ class _Apertures:
     def _sum(self, image, chosen=slice(None), **how):
         return self.sums(image, *(it[chosen] for it in self.places), subpix=self.subpix, **how)
 
-    def fluxes(self, residual, noise, gain, holes, alone) -> Tuple[numpy.ndarray, ...]:
+    def fluxes(
+        self, residual, noise, gain, holes, alone
+    ) -> Tuple[numpy.ndarray, numpy.ndarray, numpy.ndarray, numpy.ndarray]:
         """Fluxes, their errors, SEP's flags, and which apertures have undefined pixels; fluxes are NaN where no pixel
         has a value.
         """
@@ -384,7 +386,8 @@ def measured(
     pixels = _pixels_of(segments, numbers)
     unit = unit_of(noise)
     residual *= numpy.float32(1 / unit)
-    noise, gain = noise / (unit if numpy.ndim(noise) == 0 else numpy.float32(unit)), gain and gain * unit
+    noise = noise / unit if isinstance(noise, float) else numpy.asarray(noise / numpy.float32(unit))
+    gain = gain and gain * unit
     defined = pixels.among(~undefined)
     flux, error = _isophotal(defined, residual, noise, gain)
     flags = _flags(pixels, image, undefined, catalogue, numbers, saturation, threshold)
@@ -416,7 +419,7 @@ def _in_units(name: str, values: numpy.ndarray, unit: float) -> numpy.ndarray:
 
 def _apertures(how, segments, catalogue, gathered, diameters, points, split, kron) -> Dict[str, numpy.ndarray]:
     """The columns that SEP measures, and the flags that it tells."""
-    numbers, residual = numpy.asarray(catalogue["NUMBER"], dtype="i4"), how[0]
+    numbers, (residual, noise, gain, holes) = numpy.asarray(catalogue["NUMBER"], dtype="i4"), how
     x, y = (numpy.asarray(catalogue[name], dtype="f8") / 1000 - 1 for name in ("XCEN", "YCEN"))
     long, short, angle = ellipses(catalogue)
     # SEP takes standard deviations along the axes, which are half of the half axes, and radians.
@@ -427,12 +430,13 @@ def _apertures(how, segments, catalogue, gathered, diameters, points, split, kro
     # Noise may leave no light to average over, or a mean that lies outside of where it was sought.
     radius = numpy.where(numpy.isfinite(radius) & (radius > 0), numpy.minimum(radius, KRON_REACH), 0)
     radius = numpy.maximum(kron[0] * radius, kron[1])
-    flux, error, told, holed = _Apertures(sep.sum_ellipse, (*shape, radius), radius * axes[0], 1).fluxes(*how, alone)
+    kron_ellipse = _Apertures(sep.sum_ellipse, (*shape, radius), radius * axes[0], 1)
+    flux, error, told, holed = kron_ellipse.fluxes(residual, noise, gain, holes, alone)
 
     def circle(size: float) -> Tuple[numpy.ndarray, numpy.ndarray]:
         """The fluxes in circles of this radius, and their errors."""
         sizes = numpy.full(len(x), float(size))
-        return _Apertures(sep.sum_circle, (x, y, sizes), sizes, 5).fluxes(*how, alone)[:2]
+        return _Apertures(sep.sum_circle, (x, y, sizes), sizes, 5).fluxes(residual, noise, gain, holes, alone)[:2]
 
     circles = [numpy.stack(it, axis=-1) for it in zip(*(circle(diameter / 2) for diameter in diameters))]
     in_circle, circle_error = (it[:, 0] if len(diameters) == 1 else it for it in circles)

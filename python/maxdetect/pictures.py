@@ -29,7 +29,7 @@ EVEN = 3.0
 Crop = Tuple[int, int, int, int]
 
 
-def _window(shape: Tuple[int, int], crop: Optional[Crop]) -> Tuple[slice, slice]:
+def _window(shape: Tuple[int, ...], crop: Optional[Crop]) -> Tuple[slice, slice]:
     """The rows and columns that are drawn."""
     height, width = shape
     if crop is None:
@@ -91,8 +91,8 @@ def outlines(segments: numpy.ndarray) -> Tuple[numpy.ndarray, numpy.ndarray]:
             numbers.append(inner[place, along])
             # The padding moved all by one, and pixel k reaches from k - 1/2 to k + 1/2.
             ends = [numpy.column_stack([place - 0.5, along + side]) for side in (-1.5, -0.5)]
-            ends = numpy.stack(ends, axis=1)
-            lines.append(ends[:, :, ::-1] if axis == 0 else ends)
+            both = numpy.stack(ends, axis=1)
+            lines.append(both[:, :, ::-1] if axis == 0 else both)
     return numpy.concatenate(lines), numpy.concatenate(numbers)
 
 

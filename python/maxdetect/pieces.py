@@ -9,7 +9,7 @@ meets the next one. So what is made of a component depends on its own pixels alo
 """
 import bisect
 import math
-from typing import Callable, List, NamedTuple, Tuple
+from typing import Callable, Dict, List, NamedTuple, Tuple
 
 import numpy
 
@@ -188,7 +188,7 @@ def sources(
         return Parts(catalogue, segments, grid.map())
     grid.labels = owner.astype("i4")[grid.labels]
     labels = grid.map()
-    level = {}
+    level: Dict[int, int] = {}
     for one, other, at in zip(*meetings):
         one, other = owner[one], owner[other]
         if one != other:

@@ -4,7 +4,7 @@ They are told from the image itself: among its bright sources those of one size 
 galaxies, which are wider, and of cosmic rays, which are narrower.
 """
 import dataclasses
-from typing import Iterable, Optional, Tuple
+from typing import Iterable, Optional, Tuple, Union
 
 import numpy
 import sep
@@ -33,7 +33,7 @@ class PointSources:
     shares: numpy.ndarray
     count: int
 
-    def share(self, radius: numpy.ndarray) -> numpy.ndarray:
+    def share(self, radius: Union[float, numpy.ndarray]) -> numpy.ndarray:
         """The share of a point source's light within a circle of this radius."""
         return numpy.interp(radius, self.radii, self.shares)
 
@@ -48,7 +48,7 @@ def _radius_of_half(radii: numpy.ndarray, shares: numpy.ndarray) -> float:
     return float(numpy.interp(0.5 * shares[-1], numpy.maximum.accumulate(shares), radii))
 
 
-def _growth(image: numpy.ndarray, undefined: numpy.ndarray, limit: numpy.ndarray) -> numpy.ndarray:
+def _growth(image: numpy.ndarray, undefined: numpy.ndarray, limit: float) -> numpy.ndarray:
     """The light of an image's bright sources within each of `RADII`: of those that stand alone and below a limit, as
     far from the image's edges as the last circle reaches. A row for each.
     """
@@ -63,7 +63,8 @@ def _growth(image: numpy.ndarray, undefined: numpy.ndarray, limit: numpy.ndarray
     x, y, _ = sep.winpos(image, sources["x"][numbers], sources["y"][numbers], numpy.full(len(numbers), 1.0))
     alone = {"seg_id": (numbers + 1).astype("i4"), "segmap": segments, "mask": undefined}
     sums = [sep.sum_circle(image, x, y, radius, subpix=0, **alone) for radius in RADII]
-    whole = numpy.all([(told & sep.APER_HASMASKED) == 0 for _, _, told in sums[: numpy.searchsorted(RADII, 4)]], axis=0)
+    small = sums[: int(numpy.searchsorted(RADII, 4))]
+    whole = numpy.all([(told & sep.APER_HASMASKED) == 0 for _, _, told in small], axis=0)
     return numpy.array([flux for flux, _, _ in sums]).T[whole]
 
 

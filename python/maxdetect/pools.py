@@ -5,14 +5,16 @@ SEP holds Python's lock while it measures, so threads would measure one after th
 import concurrent.futures
 import contextlib
 import ctypes
+import functools
 import gc
 import multiprocessing
+import multiprocessing.process
 import os
 import queue
 import signal
 import sys
 import threading
-from typing import Any, Callable, NamedTuple, NoReturn
+from typing import Any, Callable, Iterator, NamedTuple, NoReturn, Optional, Tuple
 
 from .errors import Mistake
 
@@ -65,7 +67,8 @@ def _serve(connection, parent: int) -> NoReturn:
     """The whole of a worker: it does what it is sent, until it is sent nothing more."""
     try:
         _hear(parent)
-        for work, given in iter(connection.recv, None):
+        sent: Iterator[Tuple[Callable, tuple]] = iter(connection.recv, None)
+        for work, given in sent:
             answer = _answer(work, given)
             try:
                 connection.send(answer)
@@ -78,7 +81,7 @@ def _serve(connection, parent: int) -> NoReturn:
 
 
 class _Worker(NamedTuple):
-    process: multiprocessing.Process
+    process: multiprocessing.process.BaseProcess
     connection: Any
 
 
@@ -101,13 +104,16 @@ class Processes(concurrent.futures.Executor):
 
     def __init__(self, count: int):
         self._max_workers, self._left, self._lock = count, count, threading.Lock()
-        self._free, self._workers = queue.SimpleQueue(), [_begun() for _ in range(count)]
+        self._free: "queue.SimpleQueue[Optional[_Worker]]" = queue.SimpleQueue()
+        self._workers = [_begun() for _ in range(count)]
         for worker in self._workers:
             self._free.put(worker)
         self._threads = concurrent.futures.ThreadPoolExecutor(count)
 
-    def submit(self, work: Callable, /, *given) -> concurrent.futures.Future:
+    def submit(self, work: Callable[..., Any], /, *given: Any, **named: Any) -> concurrent.futures.Future:
         """What a worker will give for some work, which is pickled, as is what it gives."""
+        if named:
+            work = functools.partial(work, **named)
         return self._threads.submit(self._ask, work, given)
 
     def _ask(self, work: Callable, given: tuple) -> Any:

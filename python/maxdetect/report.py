@@ -74,7 +74,7 @@ def _places(side: int, longer: int) -> numpy.ndarray:
 
 def skies(detector, found: Optional[Sky], own: Optional[Sky]) -> Skies:
     """The sky of a field at some places, from what is known of it when its sources are: as check images have it."""
-    if found is None:
+    if found is None or own is None:
         return Skies()
     height, width = detector.field.shape
     rows, columns = (_places(side, max(height, width)) for side in (height, width))

@@ -21,11 +21,8 @@ def threshold(sigmas: float) -> int:
 def _along(image: numpy.ndarray, axis: int) -> numpy.ndarray:
     """The sums over three neighbours along one axis, weighted 1 2 1; beyond the edge is nothing."""
     total = image * image.dtype.type(KERNEL[1])
-    before, behind = (
-        (slice(None, -1), slice(1, None))
-        if axis == 0
-        else ((slice(None), slice(None, -1)), (slice(None), slice(1, None)))
-    )
+    across = (slice(None),) * axis
+    before, behind = (*across, slice(None, -1)), (*across, slice(1, None))
     total[before] += image[behind]
     total[behind] += image[before]
     return total

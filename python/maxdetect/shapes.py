@@ -75,7 +75,7 @@ def _of_centres(scene: Scene, seen: Seen, pixels, catalogue: Rows) -> Dict[str, 
     )
     variance = numpy.ones(len(pixels.places))
     if scene.gain and seen.same:
-        noise = scene.noise if numpy.ndim(scene.noise) == 0 else scene.noise.ravel()[pixels.places]
+        noise = scene.noise if numpy.ndim(scene.noise) == 0 else numpy.asarray(scene.noise).ravel()[pixels.places]
         light = numpy.maximum(scene.residual.ravel()[pixels.places], 0).astype("f8")
         with numpy.errstate(divide="ignore", invalid="ignore"):
             variance += numpy.nan_to_num(light / scene.gain / noise**2, posinf=0)

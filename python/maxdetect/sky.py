@@ -380,13 +380,13 @@ def _defined_by(band: numpy.ndarray, relative: numpy.ndarray) -> numpy.ndarray:
 
 def _in_units(deviation: numpy.ndarray, relative: Reader, bands: list, mesh: int) -> numpy.ndarray:
     """The deviations of the cells in units of the noise map: over its median in each cell."""
-    medians = []
+    found = []
     for rows in bands:
         cells = _in_cells(relative(rows), mesh, numpy.nan)[:: max(1, mesh // 8), :, :: max(1, mesh // 8)].swapaxes(0, 1)
         cells = numpy.sort(cells.reshape(len(cells), -1), axis=1)
-        medians.append(cells[numpy.arange(len(cells)), numpy.isfinite(cells).sum(axis=1) // 2])
-    medians = numpy.array(medians)
-    return deviation / filled(medians, numpy.isfinite(medians))
+        found.append(cells[numpy.arange(len(cells)), numpy.isfinite(cells).sum(axis=1) // 2])
+    grid = numpy.array(found)
+    return deviation / filled(grid, numpy.isfinite(grid))
 
 
 def _joined(guess, mean, spread, count, there):

@@ -54,7 +54,7 @@ class _Wide:
         return Stamps(numpy.arange(len(numbers)), rows, columns, values, own)
 
 
-def _beyond(middle: Tuple[numpy.ndarray, numpy.ndarray], half: numpy.ndarray, shape: Tuple[int, int]) -> int:
+def _beyond(middle: Tuple[numpy.ndarray, numpy.ndarray], half: numpy.ndarray, shape: Tuple[int, ...]) -> int:
     """How many pixels windows reach beyond an image."""
     ends = [(half - at, at + half + 1 - side) for at, side in zip(middle, shape)]
     return max(0, int(max(end.max(initial=0) for pair in ends for end in pair)))
@@ -71,14 +71,14 @@ def batches(
     """The windows of sources with these numbers in the map around these rows and columns, counted from 0, a batch for
     those that reach as many whole pixels, `half`, from their middles.
     """
-    middle = tuple(numpy.round(it).astype(int) for it in centre)
-    wide = _Wide(image, undefined, segments, _beyond(middle, half, image.shape))
+    down, across = (numpy.round(it).astype(int) for it in centre)
+    wide = _Wide(image, undefined, segments, _beyond((down, across), half, image.shape))
     for size in numpy.unique(half):
         places = numpy.flatnonzero(half == size)
         count = max(1, MOST // (2 * int(size) + 1) ** 2)
         for first in range(0, len(places), count):
             some = places[first : first + count]
-            found = wide.cut(numbers[some], tuple(it[some] for it in middle), int(size))
+            found = wide.cut(numbers[some], (down[some], across[some]), int(size))
             yield found._replace(places=some)
 
 

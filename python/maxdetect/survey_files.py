@@ -13,14 +13,14 @@ import struct
 import tempfile
 import time
 import urllib.parse
-from typing import Iterator, List, Tuple
+from typing import Iterator, List, Optional, Tuple
 
 from .errors import Mistake
 
 try:
     import fcntl
 except ImportError:
-    fcntl = None
+    fcntl = None  # type: ignore[assignment]  # Systems without it have no locks of this kind, and none is taken.
 
 __all__ = ["BUSY", "PATIENCE", "alone", "asked", "cause"]
 
@@ -137,7 +137,7 @@ def _asked_of_file(path: str, text: str, values: Tuple, until: float) -> List[Tu
             return _rows(_connected(copy, "mode=rw"), text, values)
 
 
-def _state(path: str) -> List[Tuple]:
+def _state(path: str) -> List[Optional[Tuple[int, int, int]]]:
     """What changes where another program's SQLite writes the file."""
     found = [os.stat(it) if os.path.exists(it) else None for it in (path, path + "-wal", path + "-shm")]
     return [it and (it.st_ino, it.st_size, it.st_mtime_ns) for it in found]

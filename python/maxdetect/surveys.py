@@ -131,7 +131,7 @@ class Survey(collections.abc.Mapping):
         """
         if not self._asked("SELECT 1 FROM sqlite_master WHERE type = 'table' AND name = 'source_sum'"):
             raise Mistake(f"{self.path} was never sealed")
-        sealed = dict(self._asked("SELECT field, sum FROM source_sum"))
+        sealed = {name: told for name, told in self._asked("SELECT field, sum FROM source_sum")}
         now = {name: _sum(cells) for name, cells in self._asked("SELECT field, cells FROM source")}
         return sorted(name for name in {*sealed, *now} if sealed.get(name) != now.get(name))
 

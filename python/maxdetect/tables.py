@@ -178,9 +178,8 @@ def _degrees(wcs: "WCS", x: numpy.ndarray, y: numpy.ndarray) -> Tuple[numpy.ndar
 
 def _own_names(wcs: "WCS") -> Tuple[str, str]:
     """What the frame calls its longitude and latitude, such as ELON and ELAT."""
-    return tuple(
-        wcs.wcs.ctype[axis].split("-")[0] or name for axis, name in ((wcs.wcs.lng, "LON"), (wcs.wcs.lat, "LAT"))
-    )
+    longitude, latitude = (wcs.wcs.ctype[axis].split("-")[0] for axis in (wcs.wcs.lng, wcs.wcs.lat))
+    return longitude or "LON", latitude or "LAT"
 
 
 class _Places(NamedTuple):

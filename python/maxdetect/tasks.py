@@ -18,9 +18,9 @@ class Task:
 
     path: str
     output: str
-    fields: List[detection.Field]
+    fields: List[detection.Field[images.Plane]]
     units: List[Optional[str]]
-    bands: List[Dict[str, detection.Field]]
+    bands: List[Dict[str, detection.Field[images.Plane]]]
     survey_field: Optional[str] = None
 
     @property
@@ -35,10 +35,10 @@ def _default_output(path: str, kind: Optional[str] = None) -> str:
     base = pathlib.Path(path)
     while base.suffix.lower() in (".gz", ".fz", ".bz2", ".fits", ".fit", ".fts"):
         base = base.with_suffix("")
-    return os.fspath(base) + {"ldac": ".ldac", "votable": ".cat.xml"}.get(kind, f".cat.{kind or 'fits'}")
+    return os.fspath(base) + {"ldac": ".ldac", "votable": ".cat.xml"}.get(kind or "fits", f".cat.{kind or 'fits'}")
 
 
-def _field(plane: images.Plane, given: argparse.Namespace) -> detection.Field:
+def _field(plane: images.Plane, given: argparse.Namespace) -> detection.Field[images.Plane]:
     """An image with what belongs to it."""
     beside = given.hdu == "all"
     texts = (
@@ -69,10 +69,18 @@ def _field(plane: images.Plane, given: argparse.Namespace) -> detection.Field:
         vignet=given.vignet or 0,
         workers=1 if beside or len(given.images) > 1 else given.workers,
     )
-    return detection.Field(plane, settings, **others)
+    return detection.Field(
+        plane,
+        settings,
+        mask=others.get("mask"),
+        weights=others.get("weights"),
+        values=others.get("values"),
+        value_weights=others.get("value_weights"),
+        flag_map=others.get("flag_map"),
+    )
 
 
-def _bands(field: detection.Field, given: argparse.Namespace) -> Dict[str, detection.Field]:
+def _bands(field: detection.Field[images.Plane], given: argparse.Namespace) -> Dict[str, detection.Field[images.Plane]]:
     """For each band that is asked for the same field with the band's image to measure in."""
     found = {}
     for name, text in given.band or []:

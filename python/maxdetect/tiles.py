@@ -127,7 +127,7 @@ class Plan:
     no window holds are cut by squares with the side `square`, a multiple of a core's; 0 stands for that of a core.
     """
 
-    shape: Tuple[int, int]
+    shape: Tuple[int, ...]
     part: Box
     tile: int
     margin: int
@@ -495,15 +495,14 @@ def with_cut(
     has places in components which no window holds, and for these places.
     """
     unheld: Dict[Box, List[numpy.ndarray]] = {}
-    last = None
+    last: List[Piece] = []
     for seen in tiles:
-        if last is not None:
-            yield last
-        last = seen.piece
+        yield from last
+        last = [seen.piece]
         if len(seen.unheld):
             unheld.setdefault(plan.square_of(seen.core), []).append(seen.unheld)
     squares = sorted(unheld, key=lambda square: (square.top, square.left))
-    yield joined([last, *cut((square, numpy.concatenate(unheld[square])) for square in squares)])
+    yield joined([*last, *cut((square, numpy.concatenate(unheld[square])) for square in squares)])
 
 
 def numbered(tables: List[Rows]) -> Tuple[Rows, numpy.ndarray]:
@@ -604,9 +603,9 @@ class _Windows:
         return seen
 
 
-def _extended(window: numpy.ma.MaskedArray, shape: Tuple[int, int]) -> numpy.ma.MaskedArray:
+def _extended(window: numpy.ma.MaskedArray, shape: Tuple[int, ...]) -> numpy.ma.MaskedArray:
     """A window with undefined pixels behind its last row and column."""
-    whole = numpy.ma.MaskedArray(numpy.zeros(shape, dtype=window.dtype), mask=True)
+    whole: numpy.ma.MaskedArray = numpy.ma.MaskedArray(numpy.zeros(shape, dtype=window.dtype), mask=True)
     whole[: window.shape[0], : window.shape[1]] = window
     return whole
 
@@ -633,8 +632,8 @@ def _empty_cells(image: numpy.ndarray, blank: Optional[int], mesh: int) -> Optio
         undefined = numpy.ma.getmaskarray(kernel.masked(image[rows], blank))
         empty = undefined_cells(undefined, mesh)
         found.append(numpy.zeros((1, cells_along(image.shape[1], mesh)), dtype=bool) if empty is None else empty)
-    found = numpy.concatenate(found)
-    return found if found.any() else None
+    grid = numpy.concatenate(found)
+    return grid if grid.any() else None
 
 
 def _bands(image: numpy.ndarray, mesh: int) -> List[slice]:
@@ -646,7 +645,7 @@ def _tight(image: numpy.ndarray, empty: numpy.ndarray, mesh: int) -> bool:
     pixels, or cells of one at the image's end.
     """
     height, width = image.shape
-    return mesh < 3 or height % mesh == 1 and empty[-1].any() or width % mesh == 1 and empty[:, -1].any()
+    return bool(mesh < 3 or height % mesh == 1 and empty[-1].any() or width % mesh == 1 and empty[:, -1].any())
 
 
 def _median(image: numpy.ndarray, blank: Optional[int], mesh: int) -> int:

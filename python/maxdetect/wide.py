@@ -52,7 +52,7 @@ class _Blocks(NamedTuple):
     """
 
     light: numpy.ndarray
-    count: numpy.ndarray
+    pixels: numpy.ndarray
     large: numpy.ndarray
 
 
@@ -83,8 +83,8 @@ def _numbers(blocks: _Blocks) -> numpy.ndarray:
     all their pixels counted.
     """
     deviation = WIDTH / smoothing.WIDTH
-    light, count = (ndimage.gaussian_filter(it, deviation, mode="nearest") for it in (blocks.light, blocks.count))
-    squares = ndimage.gaussian_filter(blocks.count, deviation / 2**0.5, mode="nearest")
+    light, count = (ndimage.gaussian_filter(it, deviation, mode="nearest") for it in (blocks.light, blocks.pixels))
+    squares = ndimage.gaussian_filter(blocks.pixels, deviation / 2**0.5, mode="nearest")
     known = count > LEAST_SHARE * BLOCK**2
     values = light / numpy.sqrt(numpy.maximum(squares, 0.05 * BLOCK**2))
     low, middle = numpy.percentile(values[known], (15.87, 50)) if known.any() else (0.0, 0.0)

@@ -77,7 +77,7 @@ def _centred(found: stamps.Stamps, values, x, y, sigma) -> Tuple[numpy.ndarray, 
             at, values = at[going], values[going]
         if not at.size:
             break
-    return (*places, (last <= STILL) & (numpy.hypot(*(places - start)) < sigma))
+    return places[0], places[1], (last <= STILL) & (numpy.hypot(*(places - start)) < sigma)
 
 
 def ellipse(xx: numpy.ndarray, yy: numpy.ndarray, xy: numpy.ndarray) -> Tuple[numpy.ndarray, ...]:
@@ -109,7 +109,7 @@ def _errors(sums: numpy.ndarray, noise: numpy.ndarray, sigma: numpy.ndarray) -> 
 
 def _variance(found: stamps.Stamps, values: numpy.ndarray, noise: Noise, gain: Optional[float]) -> numpy.ndarray:
     """That of the pixels' noise, with the light's own where the gain is known."""
-    even = numpy.asarray(noise if numpy.ndim(noise) == 0 else found.taken(noise), dtype="f8") ** 2
+    even = numpy.asarray(noise if numpy.ndim(noise) == 0 else found.taken(numpy.asarray(noise)), dtype="f8") ** 2
     return even + numpy.maximum(values, 0) / gain if gain else numpy.broadcast_to(even, values.shape)
 
 
