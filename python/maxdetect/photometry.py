@@ -17,13 +17,13 @@ from typing import Callable, Dict, NamedTuple, Optional, Sequence, Tuple, Union
 import numpy
 import sep
 
-from . import beside, boxes, shapes, totals
-from .beside import unit_of
-from .estimates import of_array
-from .pointlike import PointSources
-from .rows import Rows
-from .sky import grown
-from .stamps import LEFT_OUT
+from . import _beside as beside, _boxes as boxes, _shapes as shapes, _totals as totals
+from ._beside import unit_of
+from ._estimates import of_array
+from ._pointlike import PointSources
+from ._rows import Rows
+from ._sky import grown
+from ._stamps import LEFT_OUT
 
 __all__ = [
     "APERTURE",

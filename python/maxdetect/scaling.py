@@ -4,7 +4,9 @@ from typing import Optional, Tuple, Union
 
 import numpy
 
-from .estimates import floats, of_array
+from ._estimates import floats, of_array
+
+__all__ = ["BLANK", "SIGMA", "deviations", "prepared", "smoothed", "threshold", "whole_numbers"]
 
 SIGMA = 30
 BLANK = -(2**31)

@@ -5,7 +5,7 @@ from astropy.io import fits
 from conftest import add_star
 
 import maxdetect
-from maxdetect import cli, photometry
+from maxdetect import _cli as cli, photometry
 
 SKY, NOISE, SIDE = 900, 30, 520
 DISCS = [(130, 140, 25), (380, 150, 30), (260, 390, 35)]
