@@ -100,7 +100,9 @@ def case(seed, number):
 def small(library):
     """A stand-in for `_kernel.detect`."""
 
-    def detect(image, threshold, *, blank=None, min_area=1, min_flux=0, contrast=5, mesh=0, flat=False, connect=4):
+    def detect(
+        image, threshold, *, blank=None, min_area=1, min_flux=0, contrast=5, mesh=0, flat=False, connect=4, **others
+    ):
         image = kernel.masked(image, blank)
         values = numpy.ascontiguousarray(numpy.ma.getdata(image).astype("i8"))
         defined = numpy.ascontiguousarray(~numpy.ma.getmaskarray(image)).view("u1")

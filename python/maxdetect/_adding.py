@@ -147,10 +147,27 @@ def _answer(words: List[str], written: bytes, path: str) -> Tuple[int, str, str]
 def add(
     path: Union[str, os.PathLike], field: str, table: Table, *, unit: float = 1.0, program: Optional[str] = None
 ) -> None:
-    """Gives a catalogue to a field of the survey in this file, through `maxsurvey`; what the field had is replaced.
+    """Gives a catalogue to a field of a survey, through `maxsurvey`; what the field had is replaced.
 
-    Other processes are waited for: without end those that add, some seconds those that read. Raises Mistake where the
-    name is none, the program isn't there, or it answers a fault; the survey is then as it was.
+    Other processes are waited for: without end those that add, some seconds those that read.
+
+    Parameters
+    ----------
+    path : str or os.PathLike
+        The survey's file, which is made where it isn't there.
+    field : str
+        The field's name: 1 to 16 letters, digits, underscores or hyphens.
+    table : astropy.table.Table
+        The catalogue, as `maxcat`, `catalogue` or `detect` gives it.
+    unit : float, default: 1.0
+        Fluxes are kept in whole numbers of this unit, which is in the image's units.
+    program : str, optional
+        The path of `maxsurvey`; by default the environment's MAXSURVEY, the package, the PATH or the repository has it.
+
+    Raises
+    ------
+    Mistake
+        Where the name is none, the program isn't there, or it answers a fault; the survey is then as it was.
     """
     path = os.fspath(path)
     if not surveys.NAME.fullmatch(field):

@@ -44,7 +44,7 @@ MARGIN, SQUARE = 64, 2
 class Detector:
     """Looks at windows of a field: at what stands above its sky, in thirtieths of the noise."""
 
-    def __init__(self, field: Field, found: sky.Sky, how: looks.Way, program: Optional[str] = None):
+    def __init__(self, field: Field, found: sky.Sky, how: looks.Way, program: Optional[kernel.Path] = None):
         self.field, self.settings, self.program, self.how = field, field.settings, program, how
         self.sky = found if self.settings.mesh else found.flat()
         self.strips: Dict[str, int] = {}
@@ -117,7 +117,7 @@ def sources(
     bands: Optional[Dict[str, Field]] = None,
     told: Optional[Callable] = None,
     progress: Callable[[int], None] = lambda count: None,
-    program: Optional[str] = None,
+    program: Optional[kernel.Path] = None,
 ) -> Rows:
     """The sources of a field with their photometry, in columns and rows of the image, numbered by their first pixels.
 

@@ -26,18 +26,64 @@ def of_array(image: numpy.ndarray, mesh: int = 64, relative: Optional[numpy.ndar
 
 
 def noise(image: numpy.ndarray, mesh: int = 64) -> float:
-    """The standard deviation of a pixel's noise, in the image's units: the median over cells of `mesh` by `mesh`
-    pixels, without their sources.
+    """The standard deviation of a pixel's noise: the median over cells of the image, without their sources.
 
-    The image has two dimensions and numbers of any kind; pixels that are masked or not finite don't count. On whole
-    numbers it is that of the pixels as they stand, rounding and all.
+    On whole numbers it is that of the pixels as they stand, rounding and all.
+
+    Parameters
+    ----------
+    image : array_like, shape (height, width)
+        The image, with numbers of any kind. Pixels that are masked or not finite don't count.
+    mesh : int, default: 64
+        The side of the square cells, in pixels.
+
+    Returns
+    -------
+    float
+        The noise, in the image's units.
+
+    Raises
+    ------
+    ValueError
+        Where the image hasn't two dimensions, or no pixel that is defined.
+
+    See Also
+    --------
+    noise_map : The same for every pixel.
+
+    Examples
+    --------
+    >>> import numpy
+    >>> image = numpy.random.default_rng(1).normal(100, 5, (256, 256))
+    >>> round(noise(image), 1)
+    5.0
     """
     return of_array(image, mesh or 64).noise
 
 
 def noise_map(image: numpy.ndarray, mesh: int = 64) -> numpy.ndarray:
-    """The same for every pixel, by the cells around it: an array of 32-bit floating-point numbers of the image's
-    shape.
+    """The standard deviation of the noise of every pixel, by the cells around it.
+
+    Parameters
+    ----------
+    image : array_like, shape (height, width)
+        The image, with numbers of any kind. Pixels that are masked or not finite don't count.
+    mesh : int, default: 64
+        The side of the square cells, in pixels.
+
+    Returns
+    -------
+    numpy.ndarray of float32, shape (height, width)
+        The noise, in the image's units.
+
+    Raises
+    ------
+    ValueError
+        Where the image hasn't two dimensions, or no pixel that is defined.
+
+    See Also
+    --------
+    noise : One number for the whole image.
     """
     found = of_array(image, mesh or 64)
     return found.noises(slice(0, found.shape[0]), slice(0, found.shape[1]))

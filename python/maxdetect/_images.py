@@ -306,10 +306,27 @@ def _counterpart(path: str, like: Plane) -> int:
     return found[0]
 
 
-def save(image: numpy.ndarray, path: str, header: Optional[fits.Header] = None) -> None:
-    """Writes an image as a FITS file that other programs read: whole numbers in 32 bits where they fit (BLANK where
-    they are masked), others as 32-bit floating-point numbers (NaN where they are masked). `header` gives the other
-    cards. The file appears whole or not at all. Raises ValueError for whole numbers beyond 64 bits.
+def save(image: numpy.ndarray, path: Union[str, os.PathLike], header: Optional[fits.Header] = None) -> None:
+    """Writes an image as a FITS file that other programs read.
+
+    Whole numbers are written in 32 bits where they fit, and else in 64, others as 32-bit floating-point numbers. The
+    file appears whole or not at all.
+
+    Parameters
+    ----------
+    image : array_like, shape (height, width)
+        The image. Pixels that are masked become BLANK among whole numbers, and NaN among others.
+    path : str or os.PathLike
+        The file's name. A file of this name is replaced.
+    header : astropy.io.fits.Header, optional
+        Has further cards; those that say how an image is stored are left out.
+
+    Raises
+    ------
+    ValueError
+        Where whole numbers don't fit 64 bits.
+    Mistake
+        Where the file can't be written.
     """
     from ._tables import whole_file
 

@@ -86,12 +86,27 @@ FAULTS = {
 class Refusal(Mistake):
     """The program ended without an answer.
 
-    `status` is its exit status: 1 an option's value is out of its range, 2 the image is refused, 3 a read failed, 4 a
-    write failed, 5 memory is wanted; it is None where a signal ended the program (`name` is "killed") or what it
-    wrote is cut short ("truncated"). For an image that is refused `number` and `name` are those of its first fault,
-    as in the man page; for an option `number` is the place of the word at fault and `name` is "usage"; else `number`
-    is None. `text` says what it means.
+    Parameters
+    ----------
+    status : int or None
+        The program's exit status: 1 an option's value is out of its range, 2 the image is refused, 3 a read failed, 4 a
+        write failed, 5 memory is wanted; None where a signal ended the program or what it wrote is cut short.
+    number : int or None
+        For an image that is refused the number of its first fault, as in the man page; for an option the place of the
+        word at fault; else None.
+    name : str
+        The fault's name: that of the man page for an image that is refused, "usage" for an option, "killed" where a
+        signal ended the program, "truncated" where what it wrote is cut short.
+    text : str
+        What it means.
 
+    Attributes
+    ----------
+    status, number, name, text
+        What was given.
+
+    Examples
+    --------
     >>> import numpy
     >>> try:
     ...     tree(numpy.zeros((1, 70000), dtype="u1"))
@@ -118,8 +133,25 @@ class NoProgram(Mistake, FileNotFoundError):
 
 
 def find_program(program: Optional[Path] = None) -> str:
-    """The path of the program: `program`, or where MAXDETECT, the package, the PATH or the repository has it. Raises
-    NoProgram where none of them does.
+    """The path of the program `maxdetect`.
+
+    It is `program`, or where the environment's MAXDETECT, the package, the PATH or the repository has it; the
+    repository's own is proved and built first where it isn't there yet.
+
+    Parameters
+    ----------
+    program : str or os.PathLike, optional
+        The path that goes before all others.
+
+    Returns
+    -------
+    str
+        The path.
+
+    Raises
+    ------
+    NoProgram
+        Where no program is found, or it can't be built.
     """
     named = program or os.environ.get("MAXDETECT")
     if named:
@@ -300,11 +332,28 @@ def _native(array):
 
 
 def load(file: Union[Path, BinaryIO], hdu: Union[int, str] = 0) -> numpy.ndarray:
-    """The image of an HDU with its whole numbers as they stand in the file, BZERO added: a masked array where the
-    header has a BLANK.
+    """The image of an HDU with its whole numbers as they stand in the file, BZERO added.
 
-    astropy by itself makes floating-point numbers of an image with a BLANK or a BZERO. Raises ValueError where the HDU
-    has no two-dimensional image of whole numbers, and what astropy raises where it can't read the file.
+    astropy by itself makes floating-point numbers of an image with a BLANK or a BZERO.
+
+    Parameters
+    ----------
+    file : str, os.PathLike or binary file
+        The FITS file.
+    hdu : int or str, default: 0
+        The HDU's number, from 0, or its name.
+
+    Returns
+    -------
+    numpy.ndarray of int, shape (height, width)
+        The image; a masked array where the header has a BLANK.
+
+    Raises
+    ------
+    ValueError
+        Where the HDU has no two-dimensional image of whole numbers.
+    OSError
+        Where astropy can't read the file; it raises other errors too.
     """
     with fits.open(file, memmap=False, do_not_scale_image_data=True) as hdus:
         means = meaning(hdus[hdu]) if hdus[hdu].is_image else None
@@ -357,8 +406,19 @@ def described(rows: Rows) -> "Table":
 
 
 def read(file: Union[Path, BinaryIO]) -> Tuple["Table", numpy.ndarray]:
-    """The catalogue and the segmentation map of what `maxdetect detect` or `measure` wrote: a path, or a file that is
-    open for reading bytes. Raises what astropy raises of another file.
+    """The catalogue and the segmentation map of what `maxdetect detect` or `measure` wrote.
+
+    Parameters
+    ----------
+    file : str, os.PathLike or binary file
+        The FITS file. Of another file it raises what astropy raises.
+
+    Returns
+    -------
+    catalogue : astropy.table.Table
+        A row for each source, as `detect` has them.
+    segments : numpy.ndarray of int32, shape (height, width)
+        The number of the source to which each pixel belongs, or 0.
     """
     rows, segments = _read_rows(file)
     return described(rows), segments
@@ -416,21 +476,58 @@ def detect(
     blank: Optional[int] = None,
     program: Optional[Path] = None,
 ) -> Tuple["Table", numpy.ndarray]:
-    """The sources of an image: their catalogue, and their segmentation map.
+    """The sources of an image of whole numbers: their catalogue, and their segmentation map.
 
-    `threshold` is in the image's own units, above the background where `mesh` is not 0. `min_area` is in pixels,
-    `min_flux` in the units of value times pixel, `contrast` in thousandths of the flux of a source's entry, `mesh` in
-    pixels; `flat` takes the background in steps. `strips` and `workers` change nothing but the time. The defaults are
-    the command's; for noisy images docs/GUIDE.md has better ones.
+    The defaults are those of the command `maxdetect detect`; for noisy images docs/GUIDE.md has better ones.
 
-    The catalogue is an astropy `Table` with a row for each source and the columns of the command, all of them
-    whole numbers: positions count pixels from 1, XCEN and YCEN in thousandths of a pixel, XVAR, YVAR and XYCOV in
-    thousandths of a square pixel. The map is an array of 32-bit numbers of the image's shape, with the source's
-    number, or 0.
+    Parameters
+    ----------
+    image : numpy.ndarray of int, shape (height, width)
+        The image, with values from -2^36 to 2^36. Pixels that are masked are undefined, and belong to no source.
+    threshold : int
+        What a pixel of a source has at least, in the image's units; with `mesh` above the background.
+    min_area : int, default: 1
+        The least area of a source, in pixels.
+    min_flux : int, default: 0
+        The least flux of a source, in the image's units times pixels.
+    contrast : int, default: 5
+        Which part of its component's flux a source that is split from it has at least, in thousandths.
+    mesh : int, default: 0
+        The side of the square cells by which the background is told, in pixels; 0 for none.
+    flat : bool, default: False
+        Takes the background in steps, one for each cell.
+    connect : int, default: 4
+        How many neighbours a pixel has, 4 or 8.
+    strips : int, default: 1
+        Into how many strips the image is cut, which changes nothing but the time.
+    workers : int, default: 1
+        How many threads work on the strips, which changes nothing but the time.
+    blank : int, optional
+        The value of further pixels that are undefined.
+    program : str or os.PathLike, optional
+        The path of the program, by default that of `find_program`.
 
-    Raises ValueError or TypeError where the image isn't as the module says or an option is no whole number, Refusal
-    where the program refuses either, and NoProgram where it isn't found.
+    Returns
+    -------
+    catalogue : astropy.table.Table
+        A row for each source, with the columns of the command, all of them whole numbers: positions count pixels from
+        1, XCEN and YCEN are in thousandths of a pixel, XVAR, YVAR and XYCOV in thousandths of a square pixel.
+    segments : numpy.ndarray of int32, shape (height, width)
+        The number of the source to which each pixel belongs, or 0.
 
+    Raises
+    ------
+    ValueError
+        Where the image hasn't two dimensions, or values lie too far from 0.
+    TypeError
+        Where the image or an option hasn't whole numbers.
+    Refusal
+        Where the program refuses the image or an option.
+    NoProgram
+        Where the program isn't found.
+
+    Examples
+    --------
     >>> import numpy
     >>> image = numpy.full((5, 6), 10)
     >>> image[1:4, 1:4] = [[20, 20, 20], [20, 50, 20], [20, 20, 20]]
@@ -476,13 +573,59 @@ def measure(
     blank: Optional[int] = None,
     program: Optional[Path] = None,
 ) -> Tuple["Table", numpy.ndarray]:
-    """The sources of an image, measured in `values`, a second image of the same shape: another band of the same pixels.
+    """The sources of an image, measured in a second image of the same pixels, such as another band.
 
-    All is as in `detect`, with seven columns more: SEEN and MISSING count the source's pixels that have a value in
-    the second image and that have none; VSUM, VLOW and VPEAK are the sum, the least and the greatest of these values;
-    VMEAN is their mean, and VBACK that around the source, both in thousandths. `mesh`, `flat` and `blank` hold for
-    both images. It raises what `detect` does.
+    Parameters
+    ----------
+    image : numpy.ndarray of int, shape (height, width)
+        The image in which sources are found, as that of `detect`.
+    values : numpy.ndarray of int, shape (height, width)
+        The image in which they are measured.
+    threshold : int
+        What a pixel of a source has at least, in the image's units; with `mesh` above the background.
+    min_area : int, default: 1
+        The least area of a source, in pixels.
+    min_flux : int, default: 0
+        The least flux of a source, in the image's units times pixels.
+    contrast : int, default: 5
+        Which part of its component's flux a source that is split from it has at least, in thousandths.
+    mesh : int, default: 0
+        The side of the square cells by which the background of both images is told, in pixels; 0 for none.
+    flat : bool, default: False
+        Takes the backgrounds in steps, one for each cell.
+    connect : int, default: 4
+        How many neighbours a pixel has, 4 or 8.
+    strips : int, default: 1
+        Into how many strips the image is cut, which changes nothing but the time.
+    workers : int, default: 1
+        How many threads work on the strips, which changes nothing but the time.
+    blank : int, optional
+        The value of further pixels that are undefined, in both images.
+    program : str or os.PathLike, optional
+        The path of the program, by default that of `find_program`.
 
+    Returns
+    -------
+    catalogue : astropy.table.Table
+        What `detect` gives, with seven columns more: SEEN and MISSING count the source's pixels that have a value in
+        the second image and that have none; VSUM, VLOW and VPEAK are the sum, the least and the greatest of these
+        values; VMEAN is their mean, and VBACK that around the source, both in thousandths.
+    segments : numpy.ndarray of int32, shape (height, width)
+        The number of the source to which each pixel belongs, or 0.
+
+    Raises
+    ------
+    ValueError
+        Where an image hasn't two dimensions, or values lie too far from 0.
+    TypeError
+        Where an image or an option hasn't whole numbers.
+    Refusal
+        Where the program refuses an image or an option.
+    NoProgram
+        Where the program isn't found.
+
+    Examples
+    --------
     >>> import numpy
     >>> image = numpy.array([[1, 6, 2, 5, 1]])
     >>> values = numpy.ma.masked_equal([[10, 20, 255, 40, 7]], 255)
@@ -519,13 +662,57 @@ def filter(
 ) -> numpy.ndarray:
     """The image with some nodes of its tree taken out.
 
-    `rule` is "min", "max", "direct" or "subtractive"; a node satisfies where its area is from `min_area` to
-    `max_area` pixels, its flux at least `min_flux`, and where it fills at least `min_fill` thousandths of its box.
-    With the defaults all nodes stay, so `filter(image, "direct", mesh=64)` is the image less its background.
+    A node satisfies where its area, its flux and its filling are within the bounds. With the defaults all nodes stay,
+    so `filter(image, "direct", mesh=64)` is the image less its background.
 
-    The answer has the image's shape and 64-bit numbers; it is a masked array where `image` is one or `blank` is
-    given, with the undefined pixels masked, and else an ordinary array. It raises what `detect` does.
+    Parameters
+    ----------
+    image : numpy.ndarray of int, shape (height, width)
+        The image, as that of `detect`.
+    rule : {"min", "max", "direct", "subtractive"}
+        What becomes of the nodes that don't satisfy.
+    min_area : int, default: 0
+        The least area, in pixels.
+    max_area : int, default: 16777216
+        The greatest area, in pixels.
+    min_flux : int, default: 0
+        The least flux, in the image's units times pixels.
+    min_fill : int, default: 0
+        Which part of its box a node fills at least, in thousandths.
+    mesh : int, default: 0
+        The side of the square cells by which the background is told, in pixels; 0 for none.
+    flat : bool, default: False
+        Takes the background in steps, one for each cell.
+    connect : int, default: 4
+        How many neighbours a pixel has, 4 or 8.
+    strips : int, default: 1
+        Into how many strips the image is cut, which changes nothing but the time.
+    workers : int, default: 1
+        How many threads work on the strips, which changes nothing but the time.
+    blank : int, optional
+        The value of further pixels that are undefined.
+    program : str or os.PathLike, optional
+        The path of the program, by default that of `find_program`.
 
+    Returns
+    -------
+    numpy.ndarray of int64, shape (height, width)
+        The image that is left: a masked array where `image` is one or `blank` is given, with the undefined pixels
+        masked, and else an ordinary array.
+
+    Raises
+    ------
+    ValueError
+        Where the image hasn't two dimensions, or values lie too far from 0.
+    TypeError
+        Where the image or an option hasn't whole numbers.
+    Refusal
+        Where the program refuses the image or an option.
+    NoProgram
+        Where the program isn't found.
+
+    Examples
+    --------
     >>> import numpy
     >>> filter(numpy.array([[0, 1, 3, 2, 0]]), "direct", min_area=2).tolist()
     [[0, 1, 2, 2, 0]]
@@ -551,12 +738,48 @@ def tree(
     blank: Optional[int] = None,
     program: Optional[Path] = None,
 ) -> "Table":
-    """The nodes of an image's max-tree, as a `Table` with the columns NUMBER, LEVEL, REP, PARENT and AREA.
+    """The nodes of an image's max-tree.
 
-    Nodes are numbered from 0, in the order of level and then representative, so the number is the row. REP is the
-    least pixel of the component that has this level, with pixels counted from 0 row by row: `image.flat[REP]`. PARENT
-    is -1 at a root. AREA is in pixels. It raises what `detect` does.
+    Parameters
+    ----------
+    image : numpy.ndarray of int, shape (height, width)
+        The image, as that of `detect`.
+    mesh : int, default: 0
+        The side of the square cells by which the background is told, in pixels; 0 for none.
+    flat : bool, default: False
+        Takes the background in steps, one for each cell.
+    connect : int, default: 4
+        How many neighbours a pixel has, 4 or 8.
+    strips : int, default: 1
+        Into how many strips the image is cut, which changes nothing but the time.
+    workers : int, default: 1
+        How many threads work on the strips, which changes nothing but the time.
+    blank : int, optional
+        The value of further pixels that are undefined.
+    program : str or os.PathLike, optional
+        The path of the program, by default that of `find_program`.
 
+    Returns
+    -------
+    astropy.table.Table
+        A row for each node, with the columns NUMBER, LEVEL, REP, PARENT and AREA. Nodes are numbered from 0, in the
+        order of level and then representative, so the number is the row. REP is the least pixel of the component that
+        has this level, with pixels counted from 0 row by row: `image.flat[REP]`. PARENT is -1 at a root. AREA is in
+        pixels.
+
+    Raises
+    ------
+    ValueError
+        Where the image hasn't two dimensions, or values lie too far from 0.
+    TypeError
+        Where the image or an option hasn't whole numbers.
+    Refusal
+        Where the program refuses the image or an option.
+    NoProgram
+        Where the program isn't found.
+
+    Examples
+    --------
     >>> import numpy
     >>> for node in tree(numpy.array([[1, 2, 1]])):
     ...     print(*node)

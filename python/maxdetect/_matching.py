@@ -18,12 +18,31 @@ def _places(table: Table, which: str) -> SkyCoord:
 
 
 def match(first: Table, second: Table, radius: float) -> Table:
-    """For each source of `first` the nearest one of `second`, where it lies within `radius` arcseconds.
+    """For each source of one catalogue the nearest one of another, where it lies near enough on the sky.
 
-    Both have RA and DEC in degrees in the ICRS, as the tables of `maxcat` and of `Survey.table(sky=..)` do; rows
-    without a place have no match. The answer has the columns of both, those of the same name with _1 and _2, and
-    SEPARATION in arcseconds. A source of `second` may stand in several rows.
+    A source of `second` may stand in several rows; rows without a place have no match.
 
+    Parameters
+    ----------
+    first : astropy.table.Table
+        Has the columns RA and DEC, in degrees in the ICRS, as the tables of `maxcat` and of `Survey.table(sky=...)` do.
+    second : astropy.table.Table
+        Has them too.
+    radius : float
+        The greatest angle between two sources, in arcseconds.
+
+    Returns
+    -------
+    astropy.table.Table
+        The columns of both, those of the same name with _1 and _2, and SEPARATION, in arcseconds.
+
+    Raises
+    ------
+    Mistake
+        Where a catalogue has no RA and DEC.
+
+    Examples
+    --------
     >>> from astropy.table import Table
     >>> one, other = Table({"RA": [10.0, 20.0], "DEC": [0.0, 0.0]}), Table({"RA": [20.0001], "DEC": [0.0]})
     >>> print(match(one, other, 1)["RA_1", "RA_2"].as_array())

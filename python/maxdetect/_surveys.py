@@ -42,8 +42,24 @@ class Survey(collections.abc.Mapping):
     X and Y, the centre in pixels from 1; each column has its unit and a description. Iteration gives the names in
     their order. The file is opened read-only at each look, so what another process adds is seen at the next one, and
     no look makes a file, or locks one for longer than it takes. A process that writes is waited for, for some seconds.
-    Raises Mistake where it takes longer, the file isn't a survey's, or a field's rows have another form.
 
+    Parameters
+    ----------
+    path : str or os.PathLike
+        The survey's file, as `maxsurvey --file` keeps it.
+
+    Attributes
+    ----------
+    path : str
+        The file's name.
+
+    Raises
+    ------
+    Mistake
+        Where a writer takes too long, the file isn't a survey's, or a field's rows have another form.
+
+    Examples
+    --------
     >>> import maxdetect
     >>> opened = maxdetect.survey("survey.db")                                      # doctest: +SKIP
     >>> opened["NORTH"]["NUMBER", "FLUX"], list(opened)                             # doctest: +SKIP
@@ -86,14 +102,49 @@ class Survey(collections.abc.Mapping):
     def table(self, names: Optional[Iterable[str]] = None, sky: Optional[Skies] = None) -> Table:
         """The sources of all fields, or of those that are named, as one table with the column FIELD in front.
 
-        With `sky`, the header or WCS of fields by their names, there are RA and DEC, in degrees in the ICRS; they are
-        NaN in the fields that it doesn't name, and in those whose frame astropy doesn't know.
+        Parameters
+        ----------
+        names : iterable of str, optional
+            The fields' names, by default those of all.
+        sky : mapping from str to astropy.io.fits.Header or astropy.wcs.WCS, optional
+            The headers or WCS of fields, by their names: the table has RA and DEC then, in degrees in the ICRS; they
+            are NaN in the fields that it doesn't name, and in those whose frame astropy doesn't know.
+
+        Returns
+        -------
+        astropy.table.Table
+            The sources, field by field.
+
+        Raises
+        ------
+        KeyError
+            Where there is no field of a name.
+        Mistake
+            Where the file can't be read as a survey's.
         """
         return _together(list(self._fields(names)), sky)
 
     def brightest(self, count: int, sky: Optional[Skies] = None) -> Table:
-        """The sources of the greatest FLUX among all fields, in the order of `maxsurvey brightest`: of equal fluxes
-        the field whose name comes first goes first, and within a field the smaller number.
+        """The sources of the greatest FLUX among all fields, in the order of `maxsurvey brightest`.
+
+        Of equal fluxes the field whose name comes first goes first, and within a field the smaller number.
+
+        Parameters
+        ----------
+        count : int
+            How many sources are wanted at most.
+        sky : mapping from str to astropy.io.fits.Header or astropy.wcs.WCS, optional
+            The headers or WCS of fields, by their names, as for `table`.
+
+        Returns
+        -------
+        astropy.table.Table
+            The sources, the brightest first.
+
+        Raises
+        ------
+        Mistake
+            Where the file can't be read as a survey's.
         """
         best: List[Tuple[str, numpy.ndarray]] = []
         least, held = None, 0
@@ -110,10 +161,20 @@ class Survey(collections.abc.Mapping):
     # ---- sums
 
     def seal(self) -> int:
-        """Puts a sum of each field's bytes into the file, in a table `source_sum`, and answers how many there are.
+        """Puts a sum of each field's bytes into the file, in a table `source_sum`.
 
-        `changed` tells later which fields aren't what they were: by `maxsurvey`, by another program, or by a disk
-        that lost bits, which SQLite itself doesn't tell.
+        `changed` tells later which fields aren't what they were: by `maxsurvey`, by another program, or by a disk that
+        lost bits, which SQLite itself doesn't tell.
+
+        Returns
+        -------
+        int
+            How many fields there are.
+
+        Raises
+        ------
+        Mistake
+            Where the file can't be written.
         """
         try:
             with contextlib.closing(sqlite3.connect(self.path)) as connection, connection as writing:
@@ -126,8 +187,17 @@ class Survey(collections.abc.Mapping):
         return len(rows)
 
     def changed(self) -> List[str]:
-        """The names of the fields that aren't what they were when the file was sealed: others, new ones, and those
-        that are gone. Raises Mistake where it never was.
+        """The names of the fields that aren't what they were when the file was sealed.
+
+        Returns
+        -------
+        list of str
+            The fields that are others, new ones, and those that are gone, in the order of their names.
+
+        Raises
+        ------
+        Mistake
+            Where the file was never sealed, or can't be read as a survey's.
         """
         if not self._asked("SELECT 1 FROM sqlite_master WHERE type = 'table' AND name = 'source_sum'"):
             raise Mistake(f"{self.path} was never sealed")
@@ -137,7 +207,23 @@ class Survey(collections.abc.Mapping):
 
 
 def survey(path: Union[str, os.PathLike]) -> Survey:
-    """The survey in this file, read-only. Raises Mistake where there is none."""
+    """The survey in a file, read-only.
+
+    Parameters
+    ----------
+    path : str or os.PathLike
+        The survey's file, as `maxsurvey --file` keeps it.
+
+    Returns
+    -------
+    Survey
+        Its fields' catalogues, by their names.
+
+    Raises
+    ------
+    Mistake
+        Where there is no survey in the file.
+    """
     return Survey(path)
 
 

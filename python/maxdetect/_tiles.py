@@ -18,7 +18,7 @@ import contextlib
 import dataclasses
 import itertools
 import os
-from typing import TYPE_CHECKING, Callable, Dict, Iterable, Iterator, List, NamedTuple, Optional, Tuple
+from typing import TYPE_CHECKING, Any, Callable, Dict, Iterable, Iterator, List, NamedTuple, Optional, Tuple
 
 import numpy
 
@@ -698,32 +698,87 @@ def detect_tiles(
     tile: int = TILE,
     executor: Optional[concurrent.futures.Executor] = None,
     *,
+    min_area: int = 1,
+    min_flux: int = 0,
+    contrast: int = 5,
     mesh: int = 0,
     flat: bool = False,
     connect: int = 4,
+    strips: int = 1,
+    workers: int = 1,
     blank: Optional[int] = None,
     segments: Optional[numpy.ndarray] = None,
     progress: Callable[[int], None] = lambda count: None,
-    **options,
+    program: Optional[kernel.Path] = None,
 ) -> Tuple["Table", numpy.ndarray]:
-    """What `detect` answers, for an image of any size: the catalogue and the map of the whole, with its columns,
-    rows, centres and numbers.
+    """What `detect` answers, for an image of any size: the catalogue and the map of the whole.
 
-    `image` and the options are those of `detect`; it may be a memory-mapped array, of which windows are read. It is
-    cut into tiles with cores of `tile` by `tile` pixels, a multiple of the mesh, and margins of two cells, or 128
-    pixels without a mesh. `executor` is any `concurrent.futures.Executor`, such as that of a Dask client; by default
-    threads run the tiles. `segments` may be an array of 32-bit numbers of the image's shape, full of zeros, such as a
-    memory-mapped one, that gets the map. `progress` is called with 1 for each tile.
+    The image is cut into tiles with cores of `tile` by `tile` pixels, a multiple of the mesh, and margins of two cells,
+    or 128 pixels without a mesh. Columns, rows, centres and numbers are those of the whole.
 
     Where a component of the threshold set is too large for any window that the program takes, its sources are cut by
     the tiles; their numbers stand in the catalogue's `meta["CUT"]`. All others are exactly those of `detect`. An image
-    whose cells have one or two pixels, and some of them no defined one, is looked at as a whole; ValueError is raised
-    where the program doesn't take that.
+    whose cells have one or two pixels, and some of them no defined one, is looked at as a whole.
+
+    Parameters
+    ----------
+    image : numpy.ndarray of int, shape (height, width)
+        The image, as that of `detect`; it may be a memory-mapped array, of which windows are read.
+    threshold : int
+        What a pixel of a source has at least, in the image's units; with `mesh` above the background.
+    tile : int, default: 1024
+        The side of a tile's core, in pixels.
+    executor : concurrent.futures.Executor, optional
+        What the tiles run in, such as that of a Dask client; by default threads do.
+    min_area : int, default: 1
+        The least area of a source, in pixels.
+    min_flux : int, default: 0
+        The least flux of a source, in the image's units times pixels.
+    contrast : int, default: 5
+        Which part of its component's flux a source that is split from it has at least, in thousandths.
+    mesh : int, default: 0
+        The side of the square cells by which the background is told, in pixels; 0 for none.
+    flat : bool, default: False
+        Takes the background in steps, one for each cell.
+    connect : int, default: 4
+        How many neighbours a pixel has, 4 or 8.
+    strips : int, default: 1
+        Into how many strips each tile is cut, which changes nothing but the time.
+    workers : int, default: 1
+        How many threads work on a tile's strips, which changes nothing but the time.
+    blank : int, optional
+        The value of further pixels that are undefined.
+    segments : numpy.ndarray of int32, shape (height, width), optional
+        An array full of zeros, such as a memory-mapped one, that gets the map; by default one is made.
+    progress : callable, optional
+        Is called with 1 for each tile that is done.
+    program : str or os.PathLike, optional
+        The path of the program, by default that of `find_program`.
+
+    Returns
+    -------
+    catalogue : astropy.table.Table
+        A row for each source, as `detect` has them.
+    segments : numpy.ndarray of int32, shape (height, width)
+        The number of the source to which each pixel belongs, or 0.
+
+    Raises
+    ------
+    ValueError
+        Where the image hasn't two dimensions and a pixel, a tile can't hold its cells, or the program doesn't take an
+        image that is looked at as a whole.
+    TypeError
+        Where the image or an option hasn't whole numbers.
+    Refusal
+        Where the program refuses a tile or an option.
+    NoProgram
+        Where the program isn't found.
     """
     if numpy.ndim(image) != 2 or 0 in numpy.shape(image):
         raise ValueError(f"an image has two dimensions and a pixel, not the sides {numpy.shape(image)}")
     plan, fill = plan_of(image, tile, mesh, bool(flat), connect, blank)
-    options.update(mesh=mesh, flat=bool(flat), connect=connect, blank=blank)
+    options: Dict[str, Any] = dict(min_area=min_area, min_flux=min_flux, contrast=contrast, mesh=mesh, flat=bool(flat))
+    options.update(connect=connect, strips=strips, workers=workers, blank=blank, program=program)
     segments = numpy.zeros(image.shape, dtype="i4") if segments is None else segments
     windows = (
         (core, window, image[window.rows, window.columns])
