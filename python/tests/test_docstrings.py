@@ -2,10 +2,12 @@
 import doctest
 import importlib
 import inspect
+import re
 
 import pytest
 
 import maxdetect
+from conftest import TOP
 
 validate = pytest.importorskip("numpydoc.validate").validate
 
@@ -45,6 +47,18 @@ def test_docstrings_have_numpydocs_form(name):
 def test_examples_hold(module):
     """Those of `_kernel` are tried beside its other tests."""
     assert doctest.testmod(importlib.import_module(f"maxdetect.{module}")).failed == 0
+
+
+def test_each_public_name_stands_on_a_page():
+    told = set()
+    for page in (TOP / "docs/sphinx").glob("*.rst"):
+        module = "maxdetect"
+        for word, name in re.findall(r"^ *(?:\.\. (\w+)::|:members:) (.+)$", page.read_text(encoding="utf-8"), re.M):
+            if word in ("currentmodule", "automodule"):
+                module = name
+            told |= {f"{module}.{name}"} if word else {f"{module}.Survey.{it}" for it in name.split(", ")}
+    assert set(NAMES) - {"maxdetect", "maxdetect.photometry", "maxdetect.scaling"} <= told
+    assert {"maxdetect.FAULTS", "maxdetect.DESCRIPTIONS"} <= told
 
 
 @pytest.mark.parametrize("name", NAMES)
