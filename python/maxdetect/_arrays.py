@@ -9,6 +9,7 @@ from astropy.io import fits
 from . import _detection as detection, _kernel as kernel, _stored as stored, _tables as tables
 from ._estimates import floats
 from ._limits import TILE
+from ._nddata import AnyImage, parts_of
 
 if TYPE_CHECKING:
     from astropy.table import Table
@@ -62,7 +63,7 @@ def _check(settings: detection.Settings) -> None:
 
 
 def catalogue(
-    image: numpy.ndarray,
+    image: AnyImage,
     *,
     header: Optional[fits.Header] = None,
     noise: Optional[numpy.ndarray] = None,
@@ -91,8 +92,10 @@ def catalogue(
 
     Parameters
     ----------
-    image : array_like, shape (height, width)
-        The image, with numbers of any kind; it is undefined where it is NaN or masked.
+    image : array_like or astropy.nddata.NDData, shape (height, width)
+        The image, with numbers of any kind; it is undefined where it is NaN or masked. Of NDData, and so of CCDData,
+        mask, unit and WCS are taken too, and as noise an uncertainty by standard deviations, variances or inverse
+        variances.
     header : astropy.io.fits.Header, optional
         Has the image's WCS and its BUNIT.
     noise : array_like, shape (height, width), optional
@@ -156,7 +159,7 @@ def catalogue(
     TypeError
         Where the image or the noise hasn't numbers.
     Mistake
-        Where the image has no noise to tell sources from.
+        Where the image has no noise to tell sources from, or noise, unit or WCS are given twice, by NDData and besides.
     NoProgram
         Where the program isn't found.
     """
@@ -183,12 +186,15 @@ def catalogue(
         workers=workers,
     )
     _check(settings)
-    image = _numbers(image, "an image")
+    parts = parts_of(image, noise=noise, header=header)
+    values, noise = _numbers(parts.array, "an image"), noise if parts.noise is None else parts.noise
     weights = None if noise is None else ArrayPlane(_numbers(noise, "the noise"), "the noise")
-    if weights is not None and weights.shape != numpy.shape(image):
-        raise ValueError(f"the noise has the sides {weights.shape}, the image {numpy.shape(image)}")
-    plane = ArrayPlane(image)
+    if weights is not None and weights.shape != numpy.shape(values):
+        raise ValueError(f"the noise has the sides {weights.shape}, the image {numpy.shape(values)}")
+    plane = ArrayPlane(values)
     field = detection.Field(plane, settings, weights=weights)
     segments = numpy.zeros(plane.shape, dtype="i4")
     table = detection.sources(field, executor, segments=segments, program=program)
-    return tables.finished_rows(table, header, zeropoint=zeropoint).table(), segments
+    unit = parts.unit if parts.unit or header is None else tables.unit_of(header)
+    finished = tables.finished_rows(table, header if parts.wcs is None else parts.wcs, zeropoint=zeropoint, unit=unit)
+    return finished.table(), segments

@@ -4,6 +4,7 @@ from typing import Optional
 import numpy
 
 from . import _sky as sky, _stored as stored
+from ._nddata import AnyImage, array_of
 
 
 def floats(image: numpy.ndarray, less: int = 0) -> numpy.ndarray:
@@ -25,14 +26,14 @@ def of_array(image: numpy.ndarray, mesh: int = 64, relative: Optional[numpy.ndar
     return sky.of(values.__getitem__, (height, width), mesh, None if relative is None else relative.__getitem__)
 
 
-def noise(image: numpy.ndarray, mesh: int = 64) -> float:
+def noise(image: AnyImage, mesh: int = 64) -> float:
     """The standard deviation of a pixel's noise: the median over cells of the image, without their sources.
 
     On whole numbers it is that of the pixels as they stand, rounding and all.
 
     Parameters
     ----------
-    image : array_like, shape (height, width)
+    image : array_like or astropy.nddata.NDData, shape (height, width)
         The image, with numbers of any kind. Pixels that are masked or not finite don't count.
     mesh : int, default: 64
         The side of the square cells, in pixels.
@@ -58,15 +59,15 @@ def noise(image: numpy.ndarray, mesh: int = 64) -> float:
     >>> round(noise(image), 1)
     5.0
     """
-    return of_array(image, mesh or 64).noise
+    return of_array(array_of(image), mesh or 64).noise
 
 
-def noise_map(image: numpy.ndarray, mesh: int = 64) -> numpy.ndarray:
+def noise_map(image: AnyImage, mesh: int = 64) -> numpy.ndarray:
     """The standard deviation of the noise of every pixel, by the cells around it.
 
     Parameters
     ----------
-    image : array_like, shape (height, width)
+    image : array_like or astropy.nddata.NDData, shape (height, width)
         The image, with numbers of any kind. Pixels that are masked or not finite don't count.
     mesh : int, default: 64
         The side of the square cells, in pixels.
@@ -85,5 +86,5 @@ def noise_map(image: numpy.ndarray, mesh: int = 64) -> numpy.ndarray:
     --------
     noise : One number for the whole image.
     """
-    found = of_array(image, mesh or 64)
+    found = of_array(array_of(image), mesh or 64)
     return found.noises(slice(0, found.shape[0]), slice(0, found.shape[1]))

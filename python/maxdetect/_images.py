@@ -17,6 +17,7 @@ from astropy.utils.exceptions import AstropyWarning
 
 from . import _cards as cards, _headers as headers, _stored as stored
 from ._errors import Mistake
+from ._nddata import AnyImage, parts_of
 
 Name = Union[int, str, None]
 # So many rows of a file are looked at at a time.
@@ -306,7 +307,7 @@ def _counterpart(path: str, like: Plane) -> int:
     return found[0]
 
 
-def save(image: numpy.ndarray, path: Union[str, os.PathLike], header: Optional[fits.Header] = None) -> None:
+def save(image: AnyImage, path: Union[str, os.PathLike], header: Optional[fits.Header] = None) -> None:
     """Writes an image as a FITS file that other programs read.
 
     Whole numbers are written in 32 bits where they fit, and else in 64, others as 32-bit floating-point numbers. The
@@ -314,8 +315,9 @@ def save(image: numpy.ndarray, path: Union[str, os.PathLike], header: Optional[f
 
     Parameters
     ----------
-    image : array_like, shape (height, width)
-        The image. Pixels that are masked become BLANK among whole numbers, and NaN among others.
+    image : array_like or astropy.nddata.NDData, shape (height, width)
+        The image. Pixels that are masked become BLANK among whole numbers, and NaN among others. Of NDData, and so of
+        CCDData, mask, unit and WCS are written too, and an uncertainty isn't.
     path : str or os.PathLike
         The file's name. A file of this name is replaced.
     header : astropy.io.fits.Header, optional
@@ -326,12 +328,17 @@ def save(image: numpy.ndarray, path: Union[str, os.PathLike], header: Optional[f
     ValueError
         Where whole numbers don't fit 64 bits.
     Mistake
-        Where the file can't be written.
+        Where the file can't be written, or unit or WCS are given twice, by NDData and by the header.
     """
     from ._tables import whole_file
 
-    values, undefined = numpy.ma.getdata(image), numpy.ma.getmaskarray(image)
+    parts = parts_of(image, header=header)
+    values, undefined = numpy.ma.getdata(parts.array), numpy.ma.getmaskarray(parts.array)
     cards = fits.Header() if header is None else _without_layout(header)
+    if parts.wcs is not None:
+        cards.update(parts.wcs.to_header(relax=True))
+    if parts.unit is not None:
+        cards["BUNIT"] = parts.unit
     if values.dtype.kind in "iub":
         defined = values[~undefined]
         low, high = (int(defined.min()), int(defined.max())) if defined.size else (0, 0)

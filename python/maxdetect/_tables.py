@@ -305,6 +305,11 @@ def _describe_band(table: Rows, band: str, unit: Optional[str]) -> None:
             table.describe(name, _unit(known, unit), f"{text}, in {band}")
 
 
+def unit_of(header: fits.Header) -> Optional[str]:
+    """The unit of an image's values by its header, or None."""
+    return str(header.get("BUNIT", "")).strip() or None
+
+
 def finished(table: "Table", header: Union[None, fits.Header, "WCS"], **more) -> "Table":
     """The same as `finished_rows` of astropy's table."""
     return finished_rows(Rows.of(table), header, **more).table()
@@ -345,7 +350,7 @@ def finished_rows(
         names = numpy.full(len(table), str(extension), dtype=f"U{max(len(str(extension)), 1)}")
         table = Rows({"EXTENSION": names, **dict(table.items())}, table.meta, table.units, table.texts)
     if unit is None and isinstance(header, fits.Header):
-        unit = str(header.get("BUNIT", "")).strip() or None
+        unit = unit_of(header)
     for band, (point, own) in (bands or {}).items():
         if point is not None:
             _add_magnitudes(table, point, band)

@@ -19,7 +19,9 @@ import sep
 
 from . import _beside as beside, _boxes as boxes, _shapes as shapes, _totals as totals
 from ._beside import unit_of
+from ._errors import Mistake
 from ._estimates import of_array
+from ._nddata import AnyImage, array_of, parts_of
 from ._pointlike import PointSources
 from ._rows import Rows
 from ._sky import grown
@@ -107,7 +109,7 @@ def _undefined(image: numpy.ndarray, mask: Optional[numpy.ndarray]) -> numpy.nda
 
 
 def sky(
-    image: numpy.ndarray,
+    image: AnyImage,
     segments: numpy.ndarray,
     mesh: int = 64,
     *,
@@ -122,7 +124,7 @@ def sky(
 
     Parameters
     ----------
-    image : array_like, shape (height, width)
+    image : array_like or astropy.nddata.NDData, shape (height, width)
         The image; it is undefined where it is NaN or masked.
     segments : array_like of int, shape (height, width)
         The segmentation map: the number of the source to which each pixel belongs, or 0.
@@ -144,16 +146,19 @@ def sky(
     ------
     ValueError
         Where `mesh` is below 0.
+    Mistake
+        Where a mask is given twice, by NDData and by `mask`.
     """
     if mesh < 0:
         raise ValueError(f"mesh is 0 or a number of pixels, not {mesh}")
-    undefined = _undefined(image, mask)
+    values = array_of(image, mask)
+    undefined = _undefined(values, mask)
     if undefined.all():
         unknown = numpy.full(undefined.shape, numpy.nan, dtype="f4")
         return unknown, unknown if local else numpy.nan
-    found = of_array(numpy.ma.MaskedArray(numpy.ma.getdata(image), mask=undefined), mesh or 64)
+    found = of_array(numpy.ma.MaskedArray(numpy.ma.getdata(values), mask=undefined), mesh or 64)
     found, everywhere = found if mesh else found.flat(), tuple(slice(0, side) for side in found.shape)
-    residual = residual_of(image, found.level(*everywhere), undefined)
+    residual = residual_of(values, found.level(*everywhere), undefined)
     found = beside.of_array(residual, undefined, numpy.asarray(segments), found)
     return found.level(*everywhere), found.noises(*everywhere) if local else found.noise
 
@@ -369,9 +374,9 @@ class _Apertures:
 
 
 def measured(
-    image: numpy.ndarray,
+    image: AnyImage,
     background: Numbers,
-    noise: Numbers,
+    noise: Optional[Numbers],
     segments: numpy.ndarray,
     catalogue: Rows,
     *,
@@ -390,12 +395,13 @@ def measured(
 
     Parameters
     ----------
-    image : array_like, shape (height, width)
+    image : array_like or astropy.nddata.NDData, shape (height, width)
         The image, in any units; it is undefined where it is NaN or masked, `mask` is true or the noise isn't finite.
     background : float or array_like, shape (height, width)
         The level of the sky, in the image's units; `sky` estimates it.
-    noise : float or array_like, shape (height, width)
-        One standard deviation of a pixel, in the image's units; `sky` estimates it too.
+    noise : float or array_like, shape (height, width), or None
+        One standard deviation of a pixel, in the image's units; `sky` estimates it too. None takes it of an image of
+        NDData, and so of CCDData, by its uncertainty.
     segments : array_like of int, shape (height, width)
         The segmentation map that the program answers for this image, of whatever scale. Where a source's number is
         below 0, the pixel is none of the source's own, but is shared out to it, and counts as another source's for the
@@ -437,7 +443,13 @@ def measured(
     ------
     ValueError
         Where the map or the noise has another shape than the image.
+    Mistake
+        Where mask or noise are given twice, by NDData and besides, or no noise is given.
     """
+    parts = parts_of(image, mask=mask, noise=noise)
+    image, noise = parts.array, noise if parts.noise is None else parts.noise
+    if noise is None:
+        raise Mistake("the noise is wanted: the image has no uncertainty, and noise= is None")
     shape = numpy.shape(image)
     if numpy.shape(segments) != shape:
         raise ValueError(f"the map has the sides {numpy.shape(segments)}, the image {shape}")

@@ -5,6 +5,7 @@ from typing import Optional, Tuple, Union
 import numpy
 
 from ._estimates import floats, of_array
+from ._nddata import AnyImage, array_of
 
 __all__ = ["BLANK", "SIGMA", "deviations", "prepared", "smoothed", "threshold", "whole_numbers"]
 
@@ -113,7 +114,7 @@ def deviations(
 
 
 def prepared(
-    image: numpy.ndarray, smooth: bool = False, mesh: Optional[int] = 64
+    image: AnyImage, smooth: bool = False, mesh: Optional[int] = 64
 ) -> Tuple[numpy.ma.MaskedArray, float, float]:
     """An image in whole numbers whose noise is 30, for the program.
 
@@ -121,7 +122,7 @@ def prepared(
 
     Parameters
     ----------
-    image : array_like, shape (height, width)
+    image : array_like or astropy.nddata.NDData, shape (height, width)
         The image; it is undefined where it is NaN or masked.
     smooth : bool, default: False
         Smooths it by 1 2 1 / 2 4 2 / 1 2 1.
@@ -142,8 +143,9 @@ def prepared(
     ValueError
         Where the image has no noise to scale by.
     """
-    found = of_array(image, mesh or 64)
+    values = array_of(image)
+    found = of_array(values, mesh or 64)
     if not found.noise > 0:
         raise ValueError("the image has no noise to scale by")
-    scaled = deviations(floats(image), found.zero, found.noise, SIGMA)
+    scaled = deviations(floats(values), found.zero, found.noise, SIGMA)
     return whole_numbers(smoothed(scaled) if smooth else scaled), found.zero, SIGMA / found.noise
