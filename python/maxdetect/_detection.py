@@ -142,9 +142,10 @@ def sources(
     progress(0)
     with _looked_at(detector, executor, cores) as pieces:
         table, cut = tiles.gathered(pieces, segments, progress)
-    count = len(table)
+    seen = len(table)
     if field.settings.clean:
         table, cut = _cleaned(table, cut, segments)
+    cleaned = seen - len(table)
     own = measuring.sky_of_values(detector)
     level = measuring.sky_beside(detector, segments, executor, own)
     points = measuring.points_of(detector, level)
@@ -156,7 +157,7 @@ def sources(
     if field.settings.wide:
         table = _with_wide(detector, table, segments, executor, bands or {})
     tiles.hide(segments)
-    table.meta.update(detector.how.meta, GROWTH=points is not None, NCLEANED=count - len(table))
+    table.meta.update(detector.how.meta, GROWTH=points is not None, NCLEANED=cleaned)
     if field.struck is not None:
         table.meta["NCOSMIC"] = int(field.struck.sum())
     # With a weight map the sky's noise is a factor, and no noise of the image.

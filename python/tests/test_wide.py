@@ -37,6 +37,7 @@ def test_discs_are_found_besides():
     table, segments = maxdetect.catalogue(image, gain=1.0, wide=True)
     wide = is_wide(table)
     assert wide.sum() == len(DISCS) and not is_wide(plain).any()
+    assert table.meta["NCLEANED"] == plain.meta["NCLEANED"]
     for x, y, radius in DISCS:
         at = numpy.hypot(table["X"][wide] - 1 - x, table["Y"][wide] - 1 - y).argmin()
         row = table[wide][at]
