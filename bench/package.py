@@ -12,7 +12,7 @@ import guide
 import maxdetect
 import numpy
 from maxdetect import photometry
-from maxdetect.arrays import catalogue
+from maxdetect._arrays import catalogue
 
 try:
     import sep

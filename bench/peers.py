@@ -69,7 +69,7 @@ def _run(words: List[str], folder: pathlib.Path, **more) -> float:
 def maxcat(image: numpy.ndarray, *words: str) -> Found:
     with _written(image) as folder:
         environment = {**os.environ, "PYTHONPATH": str(TOP / "python"), "OMP_NUM_THREADS": "1"}
-        words = [sys.executable, "-m", "maxdetect.cli", "image.fits", "-o", "found.fits", "--gain", "1", *words]
+        words = [sys.executable, "-m", "maxdetect._cli", "image.fits", "-o", "found.fits", "--gain", "1", *words]
         seconds = _run(words, folder, env=environment)
         table = Table.read(folder / "found.fits")
         return _columns(table, ("X", "Y", "FLUX_TOTAL", "FLUXERR_TOTAL", "AREA"), seconds)

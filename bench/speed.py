@@ -222,7 +222,7 @@ def main():
     parser.add_argument("--many", type=int)
     given = parser.parse_args()
     program, package = os.fspath(given.maxdetect.resolve()), os.fspath(TOP / "python")
-    maxcat = [sys.executable, "-m", "maxdetect.cli"]
+    maxcat = [sys.executable, "-m", "maxdetect._cli"]
     with tempfile.TemporaryDirectory() as name:
         folder = pathlib.Path(name)
         rows = Printed(folder, given.runs, {**os.environ, "MAXDETECT": program, "PYTHONPATH": package})

@@ -19,7 +19,7 @@ from astropy.table import Table
 TOP = pathlib.Path(__file__).resolve().parent.parent
 sys.path.insert(0, str(TOP / "python"))
 
-from maxdetect import adding, exporting, surveys  # noqa: E402
+from maxdetect import _adding as adding, _exporting as exporting, _surveys as surveys  # noqa: E402
 
 RUN = 1000
 

@@ -25,8 +25,8 @@ from scipy import ndimage
 HERE = pathlib.Path(__file__).resolve().parent
 sys.path.insert(0, str(HERE.parent / "python"))
 import maxdetect  # noqa: E402
-from maxdetect import background, kernel, tiles  # noqa: E402
-from maxdetect.rows import Rows  # noqa: E402
+from maxdetect import _background as background, _kernel as kernel, _tiles as tiles  # noqa: E402
+from maxdetect._rows import Rows  # noqa: E402
 
 SIDE, TOLD = 48, 1000
 
@@ -98,9 +98,11 @@ def case(seed, number):
 
 
 def small(library):
-    """A stand-in for `kernel.detect`."""
+    """A stand-in for `_kernel.detect`."""
 
-    def detect(image, threshold, *, blank=None, min_area=1, min_flux=0, contrast=5, mesh=0, flat=False, connect=4):
+    def detect(
+        image, threshold, *, blank=None, min_area=1, min_flux=0, contrast=5, mesh=0, flat=False, connect=4, **others
+    ):
         image = kernel.masked(image, blank)
         values = numpy.ascontiguousarray(numpy.ma.getdata(image).astype("i8"))
         defined = numpy.ascontiguousarray(~numpy.ma.getmaskarray(image)).view("u1")

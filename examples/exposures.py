@@ -17,7 +17,7 @@ from astropy.table import Table
 from astropy.wcs import WCS
 
 sys.path.insert(0, str(pathlib.Path(__file__).resolve().parent.parent / "python"))
-from maxdetect import ldac  # noqa: E402
+from maxdetect import _ldac as ldac  # noqa: E402
 
 SCALE, CENTRE, GAP = 0.3, (150.0, 2.0), 20
 # The sky and the read-out in electrons, the electrons for a unit, from where on pixels are saturated, the zero point.

@@ -3,6 +3,6 @@ import pathlib
 import sys
 
 sys.path.insert(0, str(pathlib.Path(__file__).resolve().parent.parent / "python"))
-from maxdetect import prepare  # noqa: E402
+from maxdetect import _prepare as prepare  # noqa: E402
 
 sys.exit(prepare.main())

@@ -16,7 +16,7 @@ from astropy.io import fits
 from astropy.table import Table
 
 sys.path.insert(0, str(pathlib.Path(__file__).resolve().parent.parent / "python"))
-from maxdetect import cli, photometry  # noqa: E402
+from maxdetect import _cli as cli, photometry  # noqa: E402
 
 # The part that is shown close by: first and last column, first and last row, from 1.
 PART = (401, 700, 301, 560)

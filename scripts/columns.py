@@ -55,7 +55,7 @@ def first_other(where: str, found: List[Column], wanted: List[Column]) -> Iterat
 
 def pythons() -> List[List[Column]]:
     """Python's own columns, and those of measures."""
-    path = TOP / "python/maxdetect/columns.py"
+    path = TOP / "python/maxdetect/_columns.py"
     spec = importlib.util.spec_from_file_location("columns_of_python", path)
     module = importlib.util.module_from_spec(spec)
     spec.loader.exec_module(module)
@@ -141,7 +141,7 @@ def other_columns() -> Iterator[str]:
     """Where other columns, other forms, other units or other meanings stand than in the list."""
     lists = [listed("CATALOGUE"), listed("MEASURES")]
     for found, wanted in zip(pythons(), lists):
-        yield from first_other("python/maxdetect/columns.py", found, wanted)
+        yield from first_other("python/maxdetect/_columns.py", found, wanted)
     for where, tables in (
         ("tests/model/sources.py", models()),
         ("docs/FORMATS.md", formats()),

@@ -47,7 +47,7 @@ def surroundings(folder, program):
     tools = folder / "tools"
     tools.mkdir()
     command = tools / "maxcat"
-    command.write_text(f'#!/bin/sh\nexec "{sys.executable}" -m maxdetect.cli "$@"\n')
+    command.write_text(f'#!/bin/sh\nexec "{sys.executable}" -m maxdetect._cli "$@"\n')
     command.chmod(0o755)
     (tools / "python3").symlink_to(sys.executable)
     (tools / "maxsurvey").symlink_to(survey_program(program))

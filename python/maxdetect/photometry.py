@@ -8,8 +8,8 @@ weights: A and B are the half axes of a full ellipse with these moments, so they
 
 FLUX_AUTO is the sum in an ellipse of the source's shape as Source Extractor takes it: 2.5 Kron radii large, where the
 Kron radius is the mean distance of the light, and at least 3.5 standard deviations of the light of the source's
-pixels. FLUX_TOTAL has besides what point sources of the same image have further out (`totals`). Pixels of other
-sources count as sky in each aperture.
+pixels. FLUX_TOTAL has besides what point sources of the same image have further out. Pixels of other sources count as
+sky in each aperture.
 """
 import functools
 from typing import Callable, Dict, NamedTuple, Optional, Sequence, Tuple, Union
@@ -17,13 +17,15 @@ from typing import Callable, Dict, NamedTuple, Optional, Sequence, Tuple, Union
 import numpy
 import sep
 
-from . import beside, boxes, shapes, totals
-from .beside import unit_of
-from .estimates import of_array
-from .pointlike import PointSources
-from .rows import Rows
-from .sky import grown
-from .stamps import LEFT_OUT
+from . import _beside as beside, _boxes as boxes, _shapes as shapes, _totals as totals
+from ._beside import unit_of
+from ._errors import Mistake
+from ._estimates import of_array
+from ._nddata import AnyImage, array_of, parts_of
+from ._pointlike import PointSources
+from ._rows import Rows
+from ._sky import grown
+from ._stamps import LEFT_OUT
 
 __all__ = [
     "APERTURE",
@@ -107,41 +109,76 @@ def _undefined(image: numpy.ndarray, mask: Optional[numpy.ndarray]) -> numpy.nda
 
 
 def sky(
-    image: numpy.ndarray,
+    image: AnyImage,
     segments: numpy.ndarray,
     mesh: int = 64,
     *,
     mask: Optional[numpy.ndarray] = None,
     local: bool = False,
 ) -> Tuple[numpy.ndarray, Numbers]:
-    """The background and the noise of an image beside its sources, in the image's units.
+    """The background and the noise of an image beside its sources.
 
-    `image` has two dimensions, and NaN or a true `mask` where it is undefined; `segments` is the segmentation map of
-    the same shape. The first estimate of the background is the package's own in cells of `mesh` by `mesh` pixels (with
-    `mesh` 0 it is one number): means, which the light of faint sources draws up. By how much SEP tells, from the
-    residual's pixels that lie at least four pixels from every source, or closer where these are too few in a row of
-    cells; the median over the cells is taken off everywhere. The background is an array of the image's shape. The
-    noise is one standard deviation of a pixel: one number, or with `local` an array. Where no pixel has a value both
-    are NaN.
+    The first estimate of the background is the package's own by cells: means, which the light of faint sources draws
+    up. By how much SEP tells, from the residual's pixels that lie at least four pixels from every source, or closer
+    where these are too few in a row of cells; the median over the cells is taken off everywhere.
+
+    Parameters
+    ----------
+    image : array_like or astropy.nddata.NDData, shape (height, width)
+        The image; it is undefined where it is NaN or masked.
+    segments : array_like of int, shape (height, width)
+        The segmentation map: the number of the source to which each pixel belongs, or 0.
+    mesh : int, default: 64
+        The side of the square cells, in pixels; with 0 the background is one number.
+    mask : array_like of bool, shape (height, width), optional
+        Where it is true, the image is undefined too.
+    local : bool, default: False
+        Tells the noise of each pixel, by the cells.
+
+    Returns
+    -------
+    background : numpy.ndarray of float32, shape (height, width)
+        The background, in the image's units; NaN where no pixel has a value.
+    noise : float or numpy.ndarray of float32, shape (height, width)
+        One standard deviation of a pixel, in the image's units: one number, or with `local` an array.
+
+    Raises
+    ------
+    ValueError
+        Where `mesh` is below 0.
+    Mistake
+        Where a mask is given twice, by NDData and by `mask`.
     """
     if mesh < 0:
         raise ValueError(f"mesh is 0 or a number of pixels, not {mesh}")
-    undefined = _undefined(image, mask)
+    values = array_of(image, mask)
+    undefined = _undefined(values, mask)
     if undefined.all():
         unknown = numpy.full(undefined.shape, numpy.nan, dtype="f4")
         return unknown, unknown if local else numpy.nan
-    found = of_array(numpy.ma.MaskedArray(numpy.ma.getdata(image), mask=undefined), mesh or 64)
+    found = of_array(numpy.ma.MaskedArray(numpy.ma.getdata(values), mask=undefined), mesh or 64)
     found, everywhere = found if mesh else found.flat(), tuple(slice(0, side) for side in found.shape)
-    residual = residual_of(image, found.level(*everywhere), undefined)
+    residual = residual_of(values, found.level(*everywhere), undefined)
     found = beside.of_array(residual, undefined, numpy.asarray(segments), found)
     return found.level(*everywhere), found.noises(*everywhere) if local else found.noise
 
 
 def ellipses(catalogue: Rows) -> Tuple[numpy.ndarray, numpy.ndarray, numpy.ndarray]:
-    """Half axes A and B in pixels, and the angle of A in degrees from the x axis towards the y axis, of the ellipses
-    with a kernel catalogue's moments.
+    """The ellipses of sources, by the second moments of their pixels' places without weights.
 
-    The moments are those of the pixels' places without weights: a full ellipse has these half axes.
+    Parameters
+    ----------
+    catalogue : astropy.table.Table or mapping from str to array_like
+        Has the columns XVAR, YVAR and XYCOV of the program.
+
+    Returns
+    -------
+    long : numpy.ndarray of float64
+        The half axes A of full ellipses with these moments, in pixels.
+    short : numpy.ndarray of float64
+        The half axes B, in pixels.
+    angle : numpy.ndarray of float64
+        The angles of A from the x axis towards the y axis, in degrees.
     """
     # A pixel is a square of side 1, whose own variance is a twelfth.
     xx, yy, xy = (numpy.asarray(catalogue[name], dtype="f8") / 1000 for name in ("XVAR", "YVAR", "XYCOV"))
@@ -158,7 +195,7 @@ def reach(catalogue: Rows, points: Optional[PointSources] = None, least: float =
     return numpy.maximum(KRON_REACH * ellipses(catalogue)[0] / 2, circle) + 2
 
 
-def _noise(noise: Numbers, shape: Tuple[int, int]) -> Numbers:
+def _noise(noise: Numbers, shape: Tuple[int, ...]) -> Numbers:
     """The noise as SEP takes it: one number, or an array of the image's shape."""
     if numpy.ndim(noise) == 0:
         return float(noise)
@@ -204,7 +241,7 @@ def _isophotal(
     if numpy.ndim(noise) == 0:
         variance = pixels.summed(numpy.full(len(pixels.places), float(noise) ** 2))
     else:
-        variance = pixels.summed(noise.ravel()[pixels.places].astype("f8") ** 2)
+        variance = pixels.summed(numpy.asarray(noise).ravel()[pixels.places].astype("f8") ** 2)
     if gain:
         variance += numpy.maximum(flux, 0) / gain
     seen = numpy.bincount(pixels.numbers, minlength=pixels.length) > 0
@@ -316,7 +353,9 @@ class _Apertures:
     def _sum(self, image, chosen=slice(None), **how):
         return self.sums(image, *(it[chosen] for it in self.places), subpix=self.subpix, **how)
 
-    def fluxes(self, residual, noise, gain, holes, alone) -> Tuple[numpy.ndarray, ...]:
+    def fluxes(
+        self, residual, noise, gain, holes, alone
+    ) -> Tuple[numpy.ndarray, numpy.ndarray, numpy.ndarray, numpy.ndarray]:
         """Fluxes, their errors, SEP's flags, and which apertures have undefined pixels; fluxes are NaN where no pixel
         has a value.
         """
@@ -335,9 +374,9 @@ class _Apertures:
 
 
 def measured(
-    image: numpy.ndarray,
+    image: AnyImage,
     background: Numbers,
-    noise: Numbers,
+    noise: Optional[Numbers],
     segments: numpy.ndarray,
     catalogue: Rows,
     *,
@@ -352,29 +391,65 @@ def measured(
     seen: Optional[shapes.Seen] = None,
     vignet: int = 0,
 ) -> Rows:
-    """The photometry of the sources of a segmentation map, a row for each row of `catalogue`.
+    """The photometry of the sources of a segmentation map, a row for each row of a catalogue.
 
-    `image` has two dimensions and any units; it is undefined where it is NaN or masked, `mask` is true or the noise
-    isn't finite. `background` and `noise`, the standard deviation of a pixel, are in the same units, each one number
-    or an array of the image's shape; `sky` estimates both. `segments` and `catalogue` are what the kernel answers for
-    this image, of whatever scale: of the catalogue's values NUMBER, centres, boxes and moments are used, and LEVEL
-    and BASE for a flag. Where a source's number is below 0 in the map, the pixel is none of the source's own, but is
-    shared out to it, and counts as another source's for the others. With `gain`, in electrons for a unit of the
-    image, the errors have the sources' own noise too. Pixels from `saturation` on are saturated. `apertures` are the
-    diameters of circles in pixels, and `kron` says how many Kron radii the ellipse of FLUX_AUTO reaches, and how many
-    standard deviations of the light at least. `points` are the image's point sources: without them FLUX_TOTAL is
-    FLUX_AUTO.
-    `threshold` is the one that the kernel was given; by default it is taken for the least LEVEL. `struck` says which
-    pixels cosmic rays have hit, for a flag. `seen` says how the kernel saw the image: without it there are no errors of
-    X and Y. `vignet` is the side of the squares of pixels in the column VIGNET, an odd number, or 0 for none.
+    Parameters
+    ----------
+    image : array_like or astropy.nddata.NDData, shape (height, width)
+        The image, in any units; it is undefined where it is NaN or masked, `mask` is true or the noise isn't finite.
+    background : float or array_like, shape (height, width)
+        The level of the sky, in the image's units; `sky` estimates it.
+    noise : float or array_like, shape (height, width), or None
+        One standard deviation of a pixel, in the image's units; `sky` estimates it too. None takes it of an image of
+        NDData, and so of CCDData, by its uncertainty.
+    segments : array_like of int, shape (height, width)
+        The segmentation map that the program answers for this image, of whatever scale. Where a source's number is
+        below 0, the pixel is none of the source's own, but is shared out to it, and counts as another source's for the
+        others.
+    catalogue : astropy.table.Table or mapping from str to array_like
+        The catalogue that it answers. NUMBER, centres, boxes and moments are used, and LEVEL and BASE for a flag.
+    mask : array_like of bool, shape (height, width), optional
+        Where it is true, the image is undefined too.
+    gain : float, optional
+        Electrons for a unit of the image; errors have the sources' own noise then.
+    saturation : float, optional
+        From this value on pixels are saturated, in the image's units.
+    apertures : sequence of float, default: (10.0,)
+        The diameters of circles, in pixels.
+    kron : tuple of float, default: (2.5, 3.5)
+        How many Kron radii the ellipse of FLUX_AUTO reaches, and how many standard deviations of the light at least.
+    points : PointSources, optional
+        The image's point sources; without them FLUX_TOTAL is FLUX_AUTO.
+    threshold : int, optional
+        The threshold that the program was given; by default it is taken for the least LEVEL.
+    struck : array_like of bool, shape (height, width), optional
+        Which pixels cosmic rays have hit, for a flag.
+    seen : Seen, optional
+        How the program saw the image; without it there are no errors of X and Y.
+    vignet : int, default: 0
+        The side of the squares of pixels in the column VIGNET, an odd number; 0 for none.
 
-    Columns: X, Y, FLUX_ISO, FLUXERR_ISO, FLUX_AUTO, FLUXERR_AUTO, FLUX_TOTAL, FLUXERR_TOTAL, KRON_RADIUS (half the
-    long axis of the ellipse of FLUX_AUTO, in pixels), FLUX_APER, FLUXERR_APER (rows of numbers where there are several
-    circles), A, B, ELONGATION (A over B), THETA, FWHM (the diameter that holds half of FLUX_AUTO: that of a Gaussian is
-    its full width at half its height; NaN where there is none), FLAGS, a sum of the bits in `FLAGS`, and
-    those of `shapes.columns`. Errors are standard deviations; they know nothing of the background's error.
-    Fluxes are NaN where no pixel has a value.
+    Returns
+    -------
+    Rows
+        Columns by their names: X, Y, FLUX_ISO, FLUXERR_ISO, FLUX_AUTO, FLUXERR_AUTO, FLUX_TOTAL, FLUXERR_TOTAL,
+        KRON_RADIUS (half the long axis of the ellipse of FLUX_AUTO, in pixels), FLUX_APER, FLUXERR_APER (rows of
+        numbers where there are several circles), A, B, ELONGATION (A over B), THETA, FWHM (the diameter that holds half
+        of FLUX_AUTO: that of a Gaussian is its full width at half its height; NaN where there is none), FLAGS, a sum of
+        the bits in `FLAGS`, and further ones beside the fluxes. Errors are standard deviations; they know nothing of
+        the background's error. Fluxes are NaN where no pixel has a value. `table()` of it is astropy's.
+
+    Raises
+    ------
+    ValueError
+        Where the map or the noise has another shape than the image.
+    Mistake
+        Where mask or noise are given twice, by NDData and besides, or no noise is given.
     """
+    parts = parts_of(image, mask=mask, noise=noise)
+    image, noise = parts.array, noise if parts.noise is None else parts.noise
+    if noise is None:
+        raise Mistake("the noise is wanted: the image has no uncertainty, and noise= is None")
     shape = numpy.shape(image)
     if numpy.shape(segments) != shape:
         raise ValueError(f"the map has the sides {numpy.shape(segments)}, the image {shape}")
@@ -384,7 +459,8 @@ def measured(
     pixels = _pixels_of(segments, numbers)
     unit = unit_of(noise)
     residual *= numpy.float32(1 / unit)
-    noise, gain = noise / (unit if numpy.ndim(noise) == 0 else numpy.float32(unit)), gain and gain * unit
+    noise = noise / unit if isinstance(noise, float) else numpy.asarray(noise / numpy.float32(unit))
+    gain = gain and gain * unit
     defined = pixels.among(~undefined)
     flux, error = _isophotal(defined, residual, noise, gain)
     flags = _flags(pixels, image, undefined, catalogue, numbers, saturation, threshold)
@@ -416,7 +492,7 @@ def _in_units(name: str, values: numpy.ndarray, unit: float) -> numpy.ndarray:
 
 def _apertures(how, segments, catalogue, gathered, diameters, points, split, kron) -> Dict[str, numpy.ndarray]:
     """The columns that SEP measures, and the flags that it tells."""
-    numbers, residual = numpy.asarray(catalogue["NUMBER"], dtype="i4"), how[0]
+    numbers, (residual, noise, gain, holes) = numpy.asarray(catalogue["NUMBER"], dtype="i4"), how
     x, y = (numpy.asarray(catalogue[name], dtype="f8") / 1000 - 1 for name in ("XCEN", "YCEN"))
     long, short, angle = ellipses(catalogue)
     # SEP takes standard deviations along the axes, which are half of the half axes, and radians.
@@ -427,12 +503,13 @@ def _apertures(how, segments, catalogue, gathered, diameters, points, split, kro
     # Noise may leave no light to average over, or a mean that lies outside of where it was sought.
     radius = numpy.where(numpy.isfinite(radius) & (radius > 0), numpy.minimum(radius, KRON_REACH), 0)
     radius = numpy.maximum(kron[0] * radius, kron[1])
-    flux, error, told, holed = _Apertures(sep.sum_ellipse, (*shape, radius), radius * axes[0], 1).fluxes(*how, alone)
+    kron_ellipse = _Apertures(sep.sum_ellipse, (*shape, radius), radius * axes[0], 1)
+    flux, error, told, holed = kron_ellipse.fluxes(residual, noise, gain, holes, alone)
 
     def circle(size: float) -> Tuple[numpy.ndarray, numpy.ndarray]:
         """The fluxes in circles of this radius, and their errors."""
         sizes = numpy.full(len(x), float(size))
-        return _Apertures(sep.sum_circle, (x, y, sizes), sizes, 5).fluxes(*how, alone)[:2]
+        return _Apertures(sep.sum_circle, (x, y, sizes), sizes, 5).fluxes(residual, noise, gain, holes, alone)[:2]
 
     circles = [numpy.stack(it, axis=-1) for it in zip(*(circle(diameter / 2) for diameter in diameters))]
     in_circle, circle_error = (it[:, 0] if len(diameters) == 1 else it for it in circles)

@@ -4,7 +4,10 @@ from typing import Optional, Tuple, Union
 
 import numpy
 
-from .estimates import floats, of_array
+from ._estimates import floats, of_array
+from ._nddata import AnyImage, array_of
+
+__all__ = ["BLANK", "SIGMA", "deviations", "prepared", "smoothed", "threshold", "whole_numbers"]
 
 SIGMA = 30
 BLANK = -(2**31)
@@ -14,26 +17,43 @@ KERNEL = (1, 2, 1)
 
 
 def threshold(sigmas: float) -> int:
-    """The program's threshold for so many deviations of the noise."""
+    """The program's threshold for so many deviations of the noise, in an image that `prepared` made.
+
+    Parameters
+    ----------
+    sigmas : float
+        The deviations of the noise.
+
+    Returns
+    -------
+    int
+        The threshold, in thirtieths of the noise.
+    """
     return math.ceil(sigmas * SIGMA)
 
 
 def _along(image: numpy.ndarray, axis: int) -> numpy.ndarray:
     """The sums over three neighbours along one axis, weighted 1 2 1; beyond the edge is nothing."""
     total = image * image.dtype.type(KERNEL[1])
-    before, behind = (
-        (slice(None, -1), slice(1, None))
-        if axis == 0
-        else ((slice(None), slice(None, -1)), (slice(None), slice(1, None)))
-    )
+    across = (slice(None),) * axis
+    before, behind = (*across, slice(None, -1)), (*across, slice(1, None))
     total[before] += image[behind]
     total[behind] += image[before]
     return total
 
 
 def smoothed(image: numpy.ndarray) -> numpy.ndarray:
-    """The mean of each pixel and its neighbours that are finite, weighted 1 2 1 / 2 4 2 / 1 2 1; a pixel that isn't
-    finite is NaN.
+    """The mean of each pixel and its neighbours that are finite, weighted 1 2 1 / 2 4 2 / 1 2 1.
+
+    Parameters
+    ----------
+    image : numpy.ndarray of float, shape (height, width)
+        The image.
+
+    Returns
+    -------
+    numpy.ndarray of float, shape (height, width)
+        The means; a pixel that isn't finite is NaN.
     """
     finite = numpy.isfinite(image)
     filled = image if finite.all() else numpy.where(finite, image, image.dtype.type(0))
@@ -45,7 +65,18 @@ def smoothed(image: numpy.ndarray) -> numpy.ndarray:
 
 
 def whole_numbers(scaled: numpy.ndarray) -> numpy.ma.MaskedArray:
-    """The nearest whole numbers, in 32 bits; what isn't finite is masked. It changes what it is given."""
+    """The nearest whole numbers; what isn't finite is masked.
+
+    Parameters
+    ----------
+    scaled : numpy.ndarray of float, shape (height, width)
+        The numbers. They are changed in place.
+
+    Returns
+    -------
+    numpy.ma.MaskedArray of int32, shape (height, width)
+        The whole numbers.
+    """
     undefined = ~numpy.isfinite(scaled)
     some = undefined.any()
     if some:
@@ -57,10 +88,23 @@ def whole_numbers(scaled: numpy.ndarray) -> numpy.ma.MaskedArray:
 def deviations(
     image: numpy.ndarray, background: Union[float, numpy.ndarray], noise: Union[float, numpy.ndarray], times: float = 1
 ) -> numpy.ndarray:
-    """What stands above the background, in so many parts of the noise, as 32-bit floating-point numbers.
+    """What stands above the background, in parts of the noise.
 
-    The three are in the image's units, the last two of its shape or one number. Pixels whose value or noise isn't
-    defined aren't finite.
+    Parameters
+    ----------
+    image : array_like, shape (height, width)
+        The image.
+    background : float or array_like, shape (height, width)
+        The background, in the image's units.
+    noise : float or array_like, shape (height, width)
+        The noise, in the image's units.
+    times : float, default: 1
+        How many parts a deviation of the noise has.
+
+    Returns
+    -------
+    numpy.ndarray of float32, shape (height, width)
+        The deviations; pixels whose value or noise isn't defined aren't finite.
     """
     scaled = numpy.subtract(image, background, dtype="f4" if numpy.asarray(image).dtype == "f4" else "f8")
     scaled = scaled.astype("f4", copy=False)
@@ -70,16 +114,38 @@ def deviations(
 
 
 def prepared(
-    image: numpy.ndarray, smooth: bool = False, mesh: Optional[int] = 64
+    image: AnyImage, smooth: bool = False, mesh: Optional[int] = 64
 ) -> Tuple[numpy.ma.MaskedArray, float, float]:
-    """An image in whole numbers whose noise is 30, masked where it isn't finite; the number that was taken off; and
-    the scale.
+    """An image in whole numbers whose noise is 30, for the program.
 
-    The sky is left in, so that the program can take its own background off. Raises ValueError where the image has no
-    noise.
+    The sky is left in, so that the program can take its own background off.
+
+    Parameters
+    ----------
+    image : array_like or astropy.nddata.NDData, shape (height, width)
+        The image; it is undefined where it is NaN or masked.
+    smooth : bool, default: False
+        Smooths it by 1 2 1 / 2 4 2 / 1 2 1.
+    mesh : int, default: 64
+        The side of the square cells by which the noise is told, in pixels.
+
+    Returns
+    -------
+    image : numpy.ma.MaskedArray of int32, shape (height, width)
+        The whole numbers, masked where the image isn't defined.
+    zero : float
+        The number that was taken off, in the image's units.
+    scale : float
+        How many of the whole numbers a unit of the image is.
+
+    Raises
+    ------
+    ValueError
+        Where the image has no noise to scale by.
     """
-    found = of_array(image, mesh or 64)
+    values = array_of(image)
+    found = of_array(values, mesh or 64)
     if not found.noise > 0:
         raise ValueError("the image has no noise to scale by")
-    scaled = deviations(floats(image), found.zero, found.noise, SIGMA)
+    scaled = deviations(floats(values), found.zero, found.noise, SIGMA)
     return whole_numbers(smoothed(scaled) if smooth else scaled), found.zero, SIGMA / found.noise

@@ -6,7 +6,7 @@ from astropy.io import fits
 pytest.importorskip("sep", reason="the package wants SEP (Debian: python3-sep)")
 
 from maxdetect import photometry  # noqa: E402
-from maxdetect.arrays import catalogue  # noqa: E402
+from maxdetect._arrays import catalogue  # noqa: E402
 
 
 def star_field():

@@ -6,7 +6,7 @@ import pytest
 from astropy.io import fits
 from astropy.table import Table
 
-from maxdetect import cli
+from maxdetect import _cli as cli
 
 
 @pytest.fixture

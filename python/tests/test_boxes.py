@@ -2,7 +2,7 @@
 import numpy
 import pytest
 
-from maxdetect import boxes
+from maxdetect import _boxes as boxes
 
 
 @pytest.mark.parametrize("dtype", ("i8", "i4"))

@@ -5,7 +5,7 @@ from conftest import add_star
 from scipy import ndimage
 
 import maxdetect
-from maxdetect import cleaning, kernel, pieces, smoothing
+from maxdetect import _cleaning as cleaning, _kernel as kernel, _pieces as pieces, _smoothing as smoothing
 
 WIDTH, SMOOTH, THRESHOLD, AREA = 3.2, 2.6, 132, 3
 

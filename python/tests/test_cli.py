@@ -13,8 +13,8 @@ from astropy.table import Table
 from astropy.wcs import WCS
 
 from conftest import TOP
-from maxdetect import cataloguing, cli, detection, photometry, tables
-from maxdetect.columns import CATALOGUE
+from maxdetect import _cataloguing as cataloguing, _cli as cli, _detection as detection, photometry, _tables as tables
+from maxdetect._columns import CATALOGUE
 
 
 def header(**cards):
@@ -313,7 +313,7 @@ def test_the_launcher(here):
     assert result.stdout.startswith("maxcat ")
     environment = {**os.environ, "PYTHONPATH": str(TOP / "python")}
     for words, status in (["--help"], 0), (["none.fits"], 2):
-        command = [sys.executable, "-m", "maxdetect.cli", *words]
+        command = [sys.executable, "-m", "maxdetect._cli", *words]
         result = subprocess.run(command, capture_output=True, text=True, check=False, env=environment)
         assert result.returncode == status and "Traceback" not in result.stderr
 
@@ -397,7 +397,7 @@ def test_a_signal_leaves_nothing(here, number, workers, images):
     os.link("image.fits", "other.fits")
     environment = {**os.environ, "PYTHONPATH": str(TOP / "python"), "MAXDETECT": str(here / "slow")}
     words = ["image.fits", "other.fits"][:images] + ([] if images > 1 else ALL[1:])
-    command = [sys.executable, "-m", "maxdetect.cli", *words, "--workers", str(workers)]
+    command = [sys.executable, "-m", "maxdetect._cli", *words, "--workers", str(workers)]
     before = sorted(os.listdir("."))
     # The tests may run where it is ignored, as by nohup.
     heard = {"preexec_fn": lambda: signal.signal(number, signal.SIG_DFL)}

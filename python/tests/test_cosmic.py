@@ -7,7 +7,7 @@ from astropy.io import fits
 from conftest import add_star
 
 import maxdetect
-from maxdetect import cli, photometry
+from maxdetect import _cli as cli, photometry
 
 pytest.importorskip("astroscrappy")
 

@@ -5,7 +5,7 @@ import numpy
 import pytest
 from astropy.io import fits
 
-from maxdetect import fitstables
+from maxdetect import _fitstables as fitstables
 
 TEXTS = ("", "short", "it's", "ends in an '", "x" * 68, "a description that goes on and on, " * 5)
 

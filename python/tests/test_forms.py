@@ -6,7 +6,7 @@ from astropy.table import Table
 
 import forms
 import maxdetect
-from maxdetect import cli, images
+from maxdetect import _cli as cli, _images as images
 
 WHOLE = ("u1", "i2", "i4", "i8")
 # Each of them stands for other values, and one of the stored numbers for none.

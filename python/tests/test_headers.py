@@ -8,7 +8,7 @@ import pytest
 from astropy.io import fits
 
 import mutated
-from maxdetect import cataloguing, cli, headers
+from maxdetect import _cataloguing as cataloguing, _cli as cli, _headers as headers
 
 FILES = mutated.corpus()
 

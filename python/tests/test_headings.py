@@ -5,7 +5,7 @@ import pytest
 from astropy.io import fits
 from astropy.table import Table
 
-from maxdetect import cli, headings
+from maxdetect import _cli as cli, _headings as headings
 
 
 @pytest.fixture

@@ -7,7 +7,7 @@ import pytest
 from astropy.io import fits
 
 import maxdetect
-from maxdetect import images
+from maxdetect import _images as images
 
 ROWS, COLUMNS = slice(3, 11), slice(2, 7)
 WHOLE = numpy.arange(12 * 9).reshape(12, 9)

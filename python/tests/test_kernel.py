@@ -16,8 +16,8 @@ from astropy.io import fits
 
 import maxdetect
 from conftest import TOP
-from maxdetect import kernel
-from maxdetect.columns import CATALOGUE
+from maxdetect import _kernel as kernel
+from maxdetect._columns import CATALOGUE
 
 SMALL = numpy.arange(6).reshape(2, 3)
 WORDS = {"min_area": 5, "mesh": 64, "connect": 8}
@@ -57,8 +57,8 @@ while :; do sleep 0.1; done
 """
 FINDS = """
 import sys
-from maxdetect import kernel, starting
-kernel.__file__ = "{folder}/python/maxdetect/kernel.py"
+from maxdetect import _kernel as kernel, _starting as starting
+kernel.__file__ = "{folder}/python/maxdetect/_kernel.py"
 with starting.ended_by_signals():
     kernel.find_program()
 """

@@ -7,7 +7,7 @@ import pytest
 from astropy.io import fits
 from astropy.table import Table
 
-from maxdetect import cli, ldac, photometry
+from maxdetect import _cli as cli, _ldac as ldac, photometry
 
 
 @pytest.fixture

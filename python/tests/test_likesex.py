@@ -3,8 +3,8 @@ import pytest
 from astropy.io import fits
 from astropy.table import Table
 
-from maxdetect import cli, likesex
-from maxdetect.errors import Mistake
+from maxdetect import _cli as cli, _likesex as likesex
+from maxdetect._errors import Mistake
 
 SETTINGS = """# a default.sex
 CATALOG_NAME    wanted.ldac

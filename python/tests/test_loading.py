@@ -10,8 +10,8 @@ from astropy.io import fits
 from scipy import ndimage
 
 from conftest import TOP
-from maxdetect import sky, smoothing, unittexts
-from maxdetect.tables import COLUMNS
+from maxdetect import _sky as sky, _smoothing as smoothing, _unittexts as unittexts
+from maxdetect._tables import COLUMNS
 
 HEAVY = (
     "astropy.table",
@@ -24,7 +24,7 @@ HEAVY = (
 )
 SCRIPT = f"""
 import sys
-from maxdetect import cli
+from maxdetect import _cli as cli
 status = cli.main(sys.argv[1:])
 print([name for name in {HEAVY} if name in sys.modules])
 sys.exit(status)

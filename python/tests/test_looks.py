@@ -6,8 +6,8 @@ import pytest
 from conftest import add_star
 from scipy import ndimage
 
-from maxdetect import fields, looks, pointlike, scaling, smoothing
-from maxdetect.arrays import ArrayPlane
+from maxdetect import _fields as fields, _looks as looks, _pointlike as pointlike, scaling, _smoothing as smoothing
+from maxdetect._arrays import ArrayPlane
 
 
 def white(shape=(512, 512), seed=1, noise=1.0):

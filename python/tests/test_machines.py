@@ -8,7 +8,7 @@ from astropy.io import fits
 from astropy.table import Table
 
 from conftest import TOP
-from maxdetect import cataloguing, cli, detection
+from maxdetect import _cataloguing as cataloguing, _cli as cli, _detection as detection
 
 
 @pytest.fixture
@@ -48,7 +48,7 @@ def test_a_worker_that_is_killed(images, monkeypatch):
 
 def test_a_scheduler_that_is_not_there(images, capsys, monkeypatch):
     pytest.importorskip("distributed", reason="wants Dask (Debian: python3-distributed)")
-    monkeypatch.setattr("maxdetect.cluster.PATIENCE", 0.5)
+    monkeypatch.setattr("maxdetect._cluster.PATIENCE", 0.5)
     assert cli.main(["a.fits", "--scheduler", "tcp://127.0.0.1:1"]) == 2
     out, err = capsys.readouterr()
     assert out == "" and "no scheduler of Dask's answers" in err and "Traceback" not in err

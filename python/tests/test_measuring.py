@@ -6,8 +6,8 @@ import pytest
 from scipy import ndimage
 
 import maxdetect
-from maxdetect import detection, measuring
-from maxdetect.arrays import ArrayPlane
+from maxdetect import _detection as detection, _measuring as measuring
+from maxdetect._arrays import ArrayPlane
 
 
 @pytest.fixture(scope="module")

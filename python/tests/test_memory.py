@@ -7,8 +7,16 @@ import numpy
 import pytest
 from astropy.io import fits
 
-from maxdetect import cataloguing, cli, detection, fitstables, images, kernel, maps
-from maxdetect.arrays import ArrayPlane
+from maxdetect import (
+    _cataloguing as cataloguing,
+    _cli as cli,
+    _detection as detection,
+    _fitstables as fitstables,
+    _images as images,
+    _kernel as kernel,
+    _maps as maps,
+)
+from maxdetect._arrays import ArrayPlane
 
 
 def pages(array):

@@ -3,7 +3,7 @@ import numpy
 import pytest
 from scipy import ndimage
 
-from maxdetect import kernel, nodes
+from maxdetect import _kernel as kernel, _nodes as nodes
 
 
 def image_of(seed, shape=(60, 70)):

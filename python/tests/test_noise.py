@@ -5,8 +5,8 @@ from scipy import ndimage
 
 import maxdetect
 from conftest import add_star
-from maxdetect import scaling, sky
-from maxdetect.estimates import of_array
+from maxdetect import scaling, _sky as sky
+from maxdetect._estimates import of_array
 
 
 @pytest.mark.parametrize("sigma", [0.8, 1, 1.5, 2.2, 5, 30, 1000])

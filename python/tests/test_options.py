@@ -6,7 +6,7 @@ import pytest
 
 pytest.importorskip("astropy", reason="the package wants astropy (Debian: python3-astropy)")
 
-from maxdetect.options import parser  # noqa: E402
+from maxdetect._options import parser  # noqa: E402
 
 TOP = pathlib.Path(__file__).resolve().parent.parent.parent
 OPTION = re.compile(r"(?<![\w-])--[a-z][a-z-]+")

@@ -6,7 +6,7 @@ from scipy import ndimage
 
 sep = pytest.importorskip("sep", reason="photometry wants SEP (Debian: python3-sep)")
 
-from maxdetect import photometry, pointlike, totals  # noqa: E402
+from maxdetect import photometry, _pointlike as pointlike, _totals as totals  # noqa: E402
 
 SKY, SIGMA, SIDE = 100.0, 2.0, 200
 FLUXES = [f"{name}_{of}" for of in ("ISO", "AUTO", "TOTAL", "APER") for name in ("FLUX", "FLUXERR")]

@@ -8,8 +8,8 @@ from astropy.table import Table
 pytest.importorskip("sep", reason="the package wants SEP (Debian: python3-sep)")
 pytest.importorskip("matplotlib", reason="pictures want matplotlib (Debian: python3-matplotlib)")
 
-from maxdetect import pictures  # noqa: E402
-from maxdetect.errors import Mistake  # noqa: E402
+from maxdetect import _pictures as pictures  # noqa: E402
+from maxdetect._errors import Mistake  # noqa: E402
 
 
 def scene(height, width):

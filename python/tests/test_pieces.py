@@ -5,7 +5,7 @@ import numpy
 import pytest
 from scipy import ndimage
 
-from maxdetect import kernel, pieces
+from maxdetect import _kernel as kernel, _pieces as pieces
 
 ALL = numpy.ones((3, 3))
 THRESHOLD = 40

@@ -4,7 +4,7 @@ import pytest
 from conftest import add_star
 from scipy import ndimage
 
-from maxdetect import pointlike
+from maxdetect import _pointlike as pointlike
 
 UNLIMITED = numpy.inf
 

@@ -11,8 +11,8 @@ import pytest
 from astropy.io import fits
 
 from conftest import add_star
-from maxdetect import cataloguing, cli, pools
-from maxdetect.errors import Mistake
+from maxdetect import _cataloguing as cataloguing, _cli as cli, _pools as pools
+from maxdetect._errors import Mistake
 
 TOP = pathlib.Path(__file__).resolve().parent.parent.parent
 ENVIRONMENT = {**os.environ, "PYTHONPATH": str(TOP / "python")}
@@ -105,7 +105,7 @@ def left(folder):
 @pytest.mark.parametrize("names", [["image.fits"], ["0.fits", "1.fits", "2.fits"]])
 def test_a_signal_leaves_nothing(here, names, number, monkeypatch):
     monkeypatch.chdir(TOP)
-    words = [sys.executable, "-m", "maxdetect.cli", *names, "--workers", "2"]
+    words = [sys.executable, "-m", "maxdetect._cli", *names, "--workers", "2"]
     heard = {"preexec_fn": lambda: signal.signal(signal.SIGINT, signal.SIG_DFL)}
     with subprocess.Popen(words, cwd=here, env=ENVIRONMENT, stderr=subprocess.PIPE, text=True, **heard) as running:
         until = time.monotonic() + 60

@@ -15,7 +15,7 @@ from astropy.table import Table
 import forms
 import maxdetect
 import mutated
-from maxdetect import cli, images
+from maxdetect import _cli as cli, _images as images
 
 hypothesis = pytest.importorskip("hypothesis", reason="properties want python3-hypothesis")
 st = hypothesis.strategies

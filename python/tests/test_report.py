@@ -12,7 +12,7 @@ from astropy.table import Table
 
 pytest.importorskip("sep", reason="the package wants SEP (Debian: python3-sep)")
 
-from maxdetect import report  # noqa: E402
+from maxdetect import _report as report  # noqa: E402
 
 BROWSER = shutil.which("chromium")
 # Clicks on the middle of the image, once the page is there.

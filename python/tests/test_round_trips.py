@@ -22,8 +22,8 @@ from hypothesis import HealthCheck, given, settings  # noqa: E402
 from hypothesis import strategies as st  # noqa: E402
 
 import maxdetect  # noqa: E402
-from maxdetect import exporting, surveys, tables  # noqa: E402
-from maxdetect.columns import CATALOGUE  # noqa: E402
+from maxdetect import _exporting as exporting, _surveys as surveys, _tables as tables  # noqa: E402
+from maxdetect._columns import CATALOGUE  # noqa: E402
 
 pytestmark = pytest.mark.filterwarnings("ignore::astropy.utils.exceptions.AstropyWarning")
 tried = settings(

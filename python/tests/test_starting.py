@@ -10,7 +10,7 @@ import pytest
 
 TOP = pathlib.Path(__file__).resolve().parent.parent.parent
 ENVIRONMENT = {**os.environ, "PYTHONPATH": str(TOP / "python")}
-SCRIPT = "import sys\n\nfrom maxdetect.cli import main\n\nsys.exit(main())\n"
+SCRIPT = "import sys\n\nfrom maxdetect._cli import main\n\nsys.exit(main())\n"
 MOMENTS = 24
 
 
@@ -20,7 +20,7 @@ def said(*words):
     return done.returncode, done.stderr.splitlines()
 
 
-@pytest.mark.parametrize("words", [["-m", "maxdetect.cli", "--version"], ["-m", "maxdetect", "survey"], ["maxcat"]])
+@pytest.mark.parametrize("words", [["-m", "maxdetect._cli", "--version"], ["-m", "maxdetect", "survey"], ["maxcat"]])
 def test_what_python_lacks_is_told_in_one_line(tmp_path, monkeypatch, words):
     monkeypatch.chdir(tmp_path)
     (tmp_path / "maxcat").write_text(SCRIPT)

@@ -17,8 +17,15 @@ from astropy.table import Table
 from astropy.wcs import WCS
 
 import maxdetect
-from maxdetect import adding, cli, exporting, survey_files, surveys, telling
-from maxdetect.errors import Mistake
+from maxdetect import (
+    _adding as adding,
+    _cli as cli,
+    _exporting as exporting,
+    _survey_files as survey_files,
+    _surveys as surveys,
+    _telling as telling,
+)
+from maxdetect._errors import Mistake
 
 SCHEMA = "CREATE TABLE IF NOT EXISTS source (field TEXT NOT NULL PRIMARY KEY, cells BLOB NOT NULL) STRICT"
 

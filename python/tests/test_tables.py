@@ -11,8 +11,8 @@ from astropy.table import Table, vstack
 
 pytest.importorskip("sep", reason="the package wants SEP (Debian: python3-sep)")
 
-from maxdetect import tables  # noqa: E402
-from maxdetect.errors import Mistake  # noqa: E402
+from maxdetect import _tables as tables  # noqa: E402
+from maxdetect._errors import Mistake  # noqa: E402
 
 # Of units that FITS or VOTable don't know.
 pytestmark = pytest.mark.filterwarnings("ignore::astropy.utils.exceptions.AstropyWarning")

@@ -18,7 +18,7 @@ hypothesis = pytest.importorskip("hypothesis", reason="wants hypothesis (Debian:
 from hypothesis import strategies  # noqa: E402
 
 import maxdetect  # noqa: E402
-from maxdetect import background, detection, tiles  # noqa: E402
+from maxdetect import _background as background, _detection as detection, _tiles as tiles  # noqa: E402
 
 SEED = int(os.environ.get("SEED") or datetime.date.today().strftime("%Y%m%d"))
 EXAMPLES = int(os.environ.get("EXAMPLES") or 100)
@@ -166,7 +166,7 @@ def test_columns_are_the_same_for_all_tiles_and_workers(number):
 
 
 def plane(array):
-    return maxdetect.arrays.ArrayPlane(array)
+    return maxdetect._arrays.ArrayPlane(array)
 
 
 @law(strategies.integers(0, 2**32))

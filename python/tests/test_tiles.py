@@ -6,8 +6,8 @@ import pytest
 from scipy import ndimage
 
 import maxdetect
-from maxdetect import background, detection, photometry, tiles
-from maxdetect.arrays import ArrayPlane
+from maxdetect import _background as background, _detection as detection, photometry, _tiles as tiles
+from maxdetect._arrays import ArrayPlane
 
 WORDS = {"min_area": 3, "connect": 8}
 

@@ -5,7 +5,7 @@ from astropy.io import fits
 from conftest import add_star
 
 import maxdetect
-from maxdetect import cli, photometry
+from maxdetect import _cli as cli, photometry
 
 SKY, NOISE, SIDE = 900, 30, 520
 DISCS = [(130, 140, 25), (380, 150, 30), (260, 390, 35)]
@@ -37,6 +37,7 @@ def test_discs_are_found_besides():
     table, segments = maxdetect.catalogue(image, gain=1.0, wide=True)
     wide = is_wide(table)
     assert wide.sum() == len(DISCS) and not is_wide(plain).any()
+    assert table.meta["NCLEANED"] == plain.meta["NCLEANED"]
     for x, y, radius in DISCS:
         at = numpy.hypot(table["X"][wide] - 1 - x, table["Y"][wide] - 1 - y).argmin()
         row = table[wide][at]

@@ -7,7 +7,7 @@ from astropy.table import Table
 
 import maxdetect
 from conftest import add_star
-from maxdetect import cli, stamps, windowed
+from maxdetect import _cli as cli, _stamps as stamps, _windowed as windowed
 
 
 def field(seed, step=32, side=288, brightest=1e5):

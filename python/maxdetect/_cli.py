@@ -1,0 +1,47 @@
+"""The command `maxcat`: from images to catalogues."""
+import argparse
+import shlex
+import sys
+import warnings
+from typing import List, Optional
+
+from . import _likesex as likesex
+from ._options import parser
+from ._starting import ended_by_signals
+from ._telling import say, told
+
+__all__ = ["main"]
+
+
+def _given(words: List[str]) -> argparse.Namespace:
+    """What the words ask for, with the settings of another program's that they name. Raises Mistake."""
+    given = parser().parse_intermixed_args(words)
+    if given.like_sextractor is not None:
+        more, untold = likesex.words(given.like_sextractor)
+        given = parser().parse_intermixed_args([*more, *words])
+        if untold:
+            say(f"maxcat: {given.like_sextractor}: not taken: {', '.join(untold)}")
+    given.options = shlex.join(words)
+    return given
+
+
+def run(words: Optional[List[str]] = None) -> bool:
+    """Does what the words say, and tells for each image what came of it: False where one of several wasn't done.
+    Raises Mistake.
+    """
+    given = _given(sys.argv[1:] if words is None else words)
+    # Until all is loaded a signal ends the command at once: there is nothing to clean up.
+    from . import _cataloguing as cataloguing
+
+    with ended_by_signals():
+        return cataloguing.run(given)
+
+
+def main(words: Optional[List[str]] = None) -> int:
+    """The command `maxcat`."""
+    warnings.showwarning = lambda message, *rest, **more: say(f"maxcat: {' '.join(str(message).split())}")
+    return told("maxcat", run, words)
+
+
+if __name__ == "__main__":
+    sys.exit(main())

@@ -1,0 +1,269 @@
+"""From a field to its sources: by the program, a tile at a time, and then their photometry."""
+import concurrent.futures
+import contextlib
+import dataclasses
+import functools
+import multiprocessing
+import threading
+from typing import Callable, Dict, List, NamedTuple, Optional, Tuple, Union
+
+import numpy
+
+from . import (
+    _cleaning as cleaning,
+    _cosmic as cosmic,
+    _flagmap as flagmap,
+    _kernel as kernel,
+    _looks as looks,
+    _maps as maps,
+    _measuring as measuring,
+    photometry,
+    _pieces as pieces,
+    _pointlike as pointlike,
+    scaling,
+    _sky as sky,
+    _spare as spare,
+    _tiles as tiles,
+)
+from ._bands import columns as band_columns
+from ._fields import Field, Settings, noise_of, sky_of
+from ._limits import TILE
+from ._rows import Rows, side_by_side
+from ._tiles import Box
+
+__all__ = ["TILE", "Detector", "Field", "Settings", "sources"]
+
+
+# So many rows of a window are prepared at a time.
+ROWS = 256
+# How far a tile's window reaches beyond its core, in pixels; and how many cores along a side of the squares by which
+# components are cut that are too large for any window.
+MARGIN, SQUARE = 64, 2
+
+
+class Detector:
+    """Looks at windows of a field: at what stands above its sky, in thirtieths of the noise."""
+
+    def __init__(self, field: Field, found: sky.Sky, how: looks.Way, program: Optional[kernel.Path] = None):
+        self.field, self.settings, self.program, self.how = field, field.settings, program, how
+        self.sky = found if self.settings.mesh else found.flat()
+        self.strips: Dict[str, int] = {}
+        self.own_turn, self.program_turn = contextlib.nullcontext(), contextlib.nullcontext()
+        whole = Box(0, field.shape[0], 0, field.shape[1])
+        reach = cleaning.reach(how.width) if self.settings.clean else 1
+        tile = max(self.settings.tile, 1)
+        self.plan = tiles.Plan(field.shape, whole, tile, MARGIN, reach=reach, square=SQUARE * tile)
+
+    def noise(self, rows: slice, columns: slice) -> Union[float, numpy.ndarray]:
+        """The noise of a window's pixels, in the image's units: one number, or an array."""
+        return noise_of(self.field, self.sky, rows, columns)
+
+    def middle_noise(self) -> float:
+        """The noise of a pixel, with a weight map the median along the middle row."""
+        if self.field.weights is None:
+            return self.sky.noise
+        middle = self.field.shape[0] // 2
+        noise = numpy.asarray(self.noise(slice(middle, middle + 1), slice(0, self.field.shape[1])))
+        return float(numpy.median(noise[numpy.isfinite(noise)])) if numpy.isfinite(noise).any() else self.sky.noise
+
+    def numbers(self, box: Box) -> numpy.ndarray:
+        """What the program is to see of a window: 32-bit numbers, kernel.LEAST where it is undefined."""
+        numbers = numpy.empty(box.shape, dtype="i4")
+        # Some rows at a time stay in the processor's cache.
+        for top in range(box.top, box.bottom, ROWS):
+            rows = slice(top, min(top + ROWS, box.bottom))
+            seen = looks.seen(self.field, self.sky, self.how.smooth, rows, box.columns)
+            seen *= numpy.float32(scaling.SIGMA / self.how.noise)
+            numbers[top - box.top : rows.stop - box.top] = scaling.whole_numbers(seen).filled(kernel.LEAST)
+        return numbers
+
+    def __call__(self, box: Box) -> tiles.Look:
+        """The sources of a window, and its maps. Where the field is cleaned, the column KEPT says of each source
+        whether it is more than a peak of noise on faint light.
+        """
+        how, settings = self.how, self.settings
+        options = {"min_area": how.min_area, "contrast": settings.contrast or 0, "connect": self.plan.connect}
+        with self.own_turn:
+            numbers = self.numbers(box)
+        with self.program_turn:
+            catalogue, segments = kernel.detect_stored(
+                numbers, how.threshold, program=self.program, mesh=0, **options, **self.strips
+            )
+        with self.own_turn:
+            return self._look(numbers, catalogue, segments)
+
+    def _look(self, numbers: numpy.ndarray, catalogue: Rows, segments: numpy.ndarray) -> tiles.Look:
+        """What is made of the program's answer for these numbers."""
+        how, settings = self.how, self.settings
+        least = settings.split_sigmas if settings.contrast is None else 0
+        parts = pieces.sources(numbers, catalogue, segments, how.threshold, how.significance, least, how.patch)
+        if settings.clean:
+            parts.catalogue["KEPT"] = cleaning.kept(
+                numbers, parts.segments, parts.labels, how.threshold, how.min_area, how.width, how.variance
+            )
+        return tiles.Look(
+            parts.catalogue,
+            parts.segments,
+            lambda rows, columns: numbers[rows, columns] >= how.threshold,
+            parts.labels,
+        )
+
+
+def sources(
+    field: Field,
+    executor: Optional[concurrent.futures.Executor] = None,
+    *,
+    segments: Optional[numpy.ndarray] = None,
+    bands: Optional[Dict[str, Field]] = None,
+    told: Optional[Callable] = None,
+    progress: Callable[[int], None] = lambda count: None,
+    program: Optional[kernel.Path] = None,
+) -> Rows:
+    """The sources of a field with their photometry, in columns and rows of the image, numbered by their first pixels.
+
+    Tiles and photometry run in the executor. `segments`, an array of the image's shape full of zeros, gets the map.
+    `bands` are fields with the same image and others to measure in: each adds columns with its name. `told` is called
+    with the detector, the sky beside the sources of what is measured in and that with them, and the table.
+    `progress` is called with 1 for each tile, after a first call with 0, and with 0 now and then. The table's meta has
+    the program's threshold (THRESH), the width by which the image was smoothed (SMOOTH) and that of its point sources
+    (FWHM, where it has enough of them), whether FLUX_TOTAL is told by point sources (GROWTH), how many sources were
+    left out as peaks of noise on faint light (NCLEANED), and the noise: SIGMA, or with a weight map NOISE, about the
+    middle of the image.
+    """
+    # A small image is done before it is handed out.
+    found = sky_of(field, functools.partial(tiles.each, executor if min(field.shape) >= TILE else None))
+    if field.settings.cosmic_rays:
+        field = dataclasses.replace(field, struck=cosmic.struck(field, found))
+    detector = Detector(field, found, looks.way(field, found), program)
+    segments = numpy.zeros(field.shape, dtype="i4") if segments is None else segments
+    cores = detector.plan.cores()
+    if len(cores) == 1 and field.settings.workers > 1:
+        detector.strips = {"strips": 16, "workers": field.settings.workers}
+    progress(0)
+    with _looked_at(detector, executor, cores) as pieces:
+        table, cut = tiles.gathered(pieces, segments, progress)
+    seen = len(table)
+    if field.settings.clean:
+        table, cut = _cleaned(table, cut, segments)
+    cleaned = seen - len(table)
+    own = measuring.sky_of_values(detector)
+    level = measuring.sky_beside(detector, segments, executor, own)
+    points = measuring.points_of(detector, level)
+    skies = _Skies(own, level, points)
+    table = _measured(detector, skies, table, segments, executor, bands or {}, progress)
+    if told is not None:
+        told(detector, level, own, table)
+    table["FLAGS"] |= numpy.where(cut, photometry.CUT, 0).astype(table["FLAGS"].dtype)
+    if field.settings.wide:
+        table = _with_wide(detector, table, segments, executor, bands or {})
+    tiles.hide(segments)
+    table.meta.update(detector.how.meta, GROWTH=points is not None, NCLEANED=cleaned)
+    if field.struck is not None:
+        table.meta["NCOSMIC"] = int(field.struck.sum())
+    # With a weight map the sky's noise is a factor, and no noise of the image.
+    table.meta["NOISE" if field.weights is not None else "SIGMA"] = detector.middle_noise()
+    return table
+
+
+@contextlib.contextmanager
+def _looked_at(detector: Detector, executor: Optional[concurrent.futures.Executor], cores: List[Box]):
+    """The pieces of the tiles with these cores. Where they follow each other the next one is prepared while the program
+    looks at one: both the program and Python have one in hand at a time, so that memory has room for both. In one of
+    several workers each has a processor of its own.
+    """
+    alone = executor is None and len(cores) > 1 and multiprocessing.parent_process() is None
+    with contextlib.ExitStack() as stack:
+        stack.callback(spare.give_back)
+        if alone:
+            spare.one_heap()
+            for name in ("own_turn", "program_turn"):
+                stack.callback(setattr, detector, name, contextlib.nullcontext())
+                setattr(detector, name, threading.Lock())
+            executor = stack.enter_context(concurrent.futures.ThreadPoolExecutor(2))
+        each = functools.partial(tiles.each, executor)
+        yield tiles.with_cut(each(_Tile(detector), cores), detector.plan, functools.partial(each, _Cut(detector)))
+
+
+def _cleaned(table: Rows, cut: numpy.ndarray, segments: numpy.ndarray) -> Tuple[Rows, numpy.ndarray]:
+    """The rows that are kept, numbered anew, and which of them are cut; their map too, in place."""
+    kept = numpy.asarray(table["KEPT"], dtype=bool)
+    table = table[[name for name in table.colnames if name != "KEPT"]][kept]
+    table["NUMBER"] = numpy.arange(1, len(table) + 1, dtype=table["NUMBER"].dtype)
+    if kept.all():
+        return table, cut
+    new = numpy.zeros(2 * len(kept) + 1, dtype=segments.dtype)
+    new[1 : len(kept) + 1][kept] = numpy.arange(1, kept.sum() + 1)
+    # A number below 0 is the place of its row from the end.
+    new[len(kept) + 1 :] = -new[len(kept) : 0 : -1]
+    for rows in maps.bands(segments):
+        segments[rows] = new[segments[rows]]
+    return table, cut[kept]
+
+
+class _Skies(NamedTuple):
+    """The sky of what is measured in, that beside the sources, and its point sources."""
+
+    own: Optional[sky.Sky]
+    beside: Optional[sky.Sky]
+    points: Optional[pointlike.PointSources]
+
+
+def _measured(detector: Detector, skies: _Skies, table: Rows, segments: numpy.ndarray, executor, bands, progress):
+    """Rows with their photometry in what is measured and in each band, and what the flag map has over them."""
+    own, level, points = skies
+    parts = [table, measuring.measured(detector, level, points, table, segments, executor, progress, own)]
+    for name, other in bands.items():
+        parts.append(band_columns(detector, name, other, table, segments, executor, progress))
+    table = side_by_side(parts)
+    if detector.field.flag_map is not None:
+        table["IMAFLAGS"] = flagmap.over(detector.field.flag_map, table, segments)
+    return table
+
+
+def _with_wide(detector: Detector, table: Rows, segments: numpy.ndarray, executor, bands) -> Rows:
+    """The sources of a field with the wide ones that are found besides; its map gets them too.
+
+    Wide sources are measured above the sky in which they are found, and other sources as if they weren't there: their
+    light is that of both.
+    """
+    # SciPy, which it stands on, takes long to load.
+    from . import _wide as wide
+
+    field, found = wide.beneath(detector.field)
+    more = wide.found(field, found, segments, detector.program)
+    if not len(more.rows):
+        return table
+    more.rows["NUMBER"] = numpy.arange(len(table) + 1, len(table) + len(more.rows) + 1, dtype="i4")
+    for number, (box, pixels) in zip(more.rows["NUMBER"].tolist(), more.places):
+        segments[box.rows, box.columns][pixels] = number
+    how = dataclasses.replace(detector.how, threshold=wide.THRESHOLD)
+    detector = Detector(field, found, how, detector.program)
+    own = measuring.sky_of_values(detector)
+    skies = _Skies(own, measuring.sky_beside(detector, segments, executor, own), None)
+    rows = _measured(detector, skies, more.rows, segments, executor, bands, lambda count: None)
+    rows["FLAGS"] |= photometry.WIDE
+    meta = table.meta
+    table, places = tiles.numbered([table, rows])
+    tiles.renumber(segments, places)
+    table.meta = meta
+    return table
+
+
+@dataclasses.dataclass
+class _Tile:
+    """The work on one tile."""
+
+    detector: Detector
+
+    def __call__(self, core: Box) -> tiles.Seen:
+        return tiles.tile_sources(self.detector, self.detector.plan, core)
+
+
+@dataclasses.dataclass
+class _Cut:
+    """The work on a square in which components are cut."""
+
+    detector: Detector
+
+    def __call__(self, item: Tuple[Box, numpy.ndarray]) -> tiles.Piece:
+        return tiles.cut_sources(self.detector, self.detector.plan, *item)

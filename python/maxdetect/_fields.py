@@ -1,0 +1,170 @@
+"""An image with what belongs to it, and how its sources are looked for."""
+import dataclasses
+import math
+from typing import Callable, Generic, List, Optional, Tuple, Union
+
+import numpy
+
+from . import _sky as sky
+from ._errors import Mistake
+from ._limits import LEAST_MESH, MOST_MESH, TILE
+from ._planes import AnyPlane, OwnPlane
+
+__all__ = ["Field", "Settings", "noise_of", "sky_of"]
+
+
+@dataclasses.dataclass(frozen=True)
+class Settings:
+    """How sources are looked for.
+
+    `sigmas` is the threshold in deviations of the noise of what is looked at, `fwhm` the width of the Gaussian that
+    smooths the image before, in pixels: by default that of its point sources, 0 for none. `mesh` is the side of the
+    cells of the background, 0 for one level; `min_area` is in pixels. `contrast` is the program's, in thousandths;
+    without one a component is split as far as its parts stand `split_sigmas` deviations above where they meet, and
+    more on a wide source. `clean` leaves out the peaks of noise on faint light, and `cosmic_rays` the pixels that these
+    have hit; with `wide` wide faint sources are looked for besides. `weight_type` says what the weight map has,
+    `value_weight_type` what that of the image has that is measured in, and `local` takes the noise by cells. `gain`
+    is in electrons for a unit of the image, and from `saturation` on pixels are saturated: both those of the image
+    that is measured in. Where that is another one than sources are looked for in, `own_gain` and `own_saturation`
+    are those of the latter. `apertures` are the diameters of circles in which fluxes are summed, `kron` says how
+    many Kron radii the ellipse of FLUX_AUTO reaches and how many deviations of the light at least, and `vignet` is the
+    side of the squares of pixels that the catalogue has, 0 for none: both in pixels.
+    """
+
+    sigmas: Optional[float] = None
+    fwhm: Optional[float] = None
+    mesh: int = 64
+    min_area: Optional[int] = None
+    contrast: Optional[int] = None
+    split_sigmas: float = 1.0
+    clean: bool = True
+    cosmic_rays: bool = False
+    wide: bool = False
+    weight_type: str = "weight"
+    value_weight_type: str = "weight"
+    local: bool = False
+    gain: Optional[float] = None
+    saturation: Optional[float] = None
+    own_gain: Optional[float] = None
+    own_saturation: Optional[float] = None
+    apertures: Tuple[float, ...] = (10.0,)
+    kron: Tuple[float, float] = (2.5, 3.5)
+    vignet: int = 0
+    tile: int = TILE
+    workers: int = 1
+
+    def __post_init__(self):
+        if self.mesh and not LEAST_MESH <= self.mesh <= MOST_MESH:
+            raise ValueError(f"mesh is 0, or from {LEAST_MESH} to {MOST_MESH}, not {self.mesh}")
+
+
+def relative_noise(weights: numpy.ndarray, kind: str) -> numpy.ndarray:
+    """The noise that a weight map tells, up to a factor for weights; NaN where there is none."""
+    with numpy.errstate(divide="ignore", invalid="ignore"):
+        noise = weights if kind == "rms" else numpy.sqrt(weights) if kind == "variance" else 1 / numpy.sqrt(weights)
+    return numpy.where(numpy.isfinite(noise) & (noise > 0), noise, numpy.nan).astype("f4")
+
+
+@dataclasses.dataclass
+class Field(Generic[OwnPlane]):
+    """An image with what belongs to it: a mask, whose pixels other than 0 are undefined, a weight map, and another
+    image to measure in with a weight map of its own; and a map of flags.
+    """
+
+    plane: OwnPlane
+    settings: Settings
+    mask: Optional[OwnPlane] = None
+    weights: Optional[OwnPlane] = None
+    values: Optional[OwnPlane] = None
+    struck: Optional[numpy.ndarray] = None
+    value_weights: Optional[OwnPlane] = None
+    flag_map: Optional[OwnPlane] = None
+
+    @property
+    def shape(self) -> Tuple[int, int]:
+        return self.plane.shape
+
+    @property
+    def planes(self) -> List[OwnPlane]:
+        """All its images."""
+        every = (self.plane, self.mask, self.weights, self.values, self.value_weights, self.flag_map)
+        return [plane for plane in every if plane is not None]
+
+    def image(self, rows: slice, columns: slice = slice(None)) -> numpy.ndarray:
+        """Its pixels in a window less the plane's origin, NaN where they are undefined."""
+        image = self._masked(self.plane, rows, columns)
+        if self.struck is not None:
+            image[self.struck[rows, columns]] = numpy.nan
+        return image
+
+    def _masked(self, plane, rows, columns):
+        image = plane.window(rows, columns, plane.origin)
+        if self.mask is not None:
+            mask = self.mask.window(rows, columns)
+            image[(mask != 0) | ~numpy.isfinite(mask)] = numpy.nan
+        return image
+
+    def relative(self, rows: slice, columns: slice = slice(None)) -> numpy.ndarray:
+        """Its noise in a window, up to a factor. Raises ValueError where it has no weight map."""
+        if self.weights is None:
+            raise ValueError(f"{self.plane.label} has no weight map")
+        return relative_noise(self.weights.window(rows, columns), self.settings.weight_type)
+
+    def to_measure(self, rows: slice, columns: slice) -> numpy.ndarray:
+        """What fluxes are measured in, less its plane's origin."""
+        return self.image(rows, columns) if self.values is None else self._masked(self.values, rows, columns)
+
+    @property
+    def measured(self) -> "Field[OwnPlane]":
+        """What fluxes are measured in as a field of its own."""
+        if self.values is None:
+            return self
+        settings = dataclasses.replace(self.settings, weight_type=self.settings.value_weight_type)
+        return dataclasses.replace(
+            self, plane=self.values, settings=settings, weights=self.value_weights, values=None, value_weights=None
+        )
+
+    @property
+    def saturation(self) -> Optional[float]:
+        """From which number on pixels of `to_measure` are saturated."""
+        return _less_origin(self.settings.saturation, self.values or self.plane)
+
+    @property
+    def own_saturation(self) -> Optional[float]:
+        """From which number on pixels of `image` are saturated."""
+        return self.saturation if self.values is None else _less_origin(self.settings.own_saturation, self.plane)
+
+    @property
+    def own_gain(self) -> Optional[float]:
+        """The electrons for a unit of `image`."""
+        return self.settings.gain if self.values is None else self.settings.own_gain
+
+
+def _less_origin(limit: Optional[float], plane: AnyPlane) -> Optional[float]:
+    """A number of a plane's pixels less its origin."""
+    # Where there is an origin the pixels have whole numbers, which 64 bits of floating point don't hold.
+    return math.ceil(limit) - plane.origin if plane.origin and limit is not None else limit
+
+
+def noise_of(field: Field, found: sky.Sky, rows: slice, columns: slice) -> Union[float, numpy.ndarray]:
+    """The noise of a field's pixels in a window, in the image's units: one number, or an array."""
+    if field.weights is not None:
+        factor = found.noise if field.settings.weight_type == "weight" else 1
+        return field.relative(rows, columns) * numpy.float32(factor)
+    return found.noises(rows, columns) if field.settings.local else found.noise
+
+
+def sky_of(field: Field, each: Callable = map) -> sky.Sky:
+    """The sky of a field; `each` calls a function for each of several items, as `map` does. Raises Mistake where it has
+    none to speak of.
+    """
+    relative = None if field.weights is None else field.relative
+    try:
+        found = sky.of(field.image, field.shape, field.settings.mesh or 64, relative, each)
+    except ValueError as error:
+        beside = [other.label for other in (field.mask, field.weights) if other is not None]
+        with_them = f" (with {' and '.join(beside)})" if beside else ""
+        raise Mistake(f"{field.plane.label}{with_them}: {error}") from None
+    if not found.noise > 0:
+        raise Mistake(f"{field.plane.label}: it has no noise to tell sources from")
+    return found

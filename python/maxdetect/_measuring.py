@@ -1,0 +1,250 @@
+"""The photometry of a field's sources once all of them are known: each in a window that the image and its sources tell,
+so that no column depends on how the image was cut into tiles.
+
+Sources are measured by blocks of the image; those that reach further than a block's window, each in a window of its
+own.
+"""
+import concurrent.futures
+import dataclasses
+import itertools
+import math
+from typing import TYPE_CHECKING, Callable, Iterator, List, Optional, Tuple
+
+import numpy
+
+from . import (
+    _beside as beside,
+    _looks as looks,
+    _maps as maps,
+    photometry,
+    _pointlike as pointlike,
+    scaling,
+    _shapes as shapes,
+    _sky as sky,
+    _smoothing as smoothing,
+    _tiles as tiles,
+    _windowed as windowed,
+)
+from ._errors import Mistake
+from ._fields import Field, noise_of
+from ._rows import Rows, behind_each_other
+from ._tiles import Box
+
+if TYPE_CHECKING:
+    from ._detection import Detector
+
+# The side of a block, and how far its window reaches beyond it, in pixels.
+BLOCK, REACH = 1024, 128
+
+Executor = Optional[concurrent.futures.Executor]
+
+
+class _Row:
+    """The sky beside sources in one row of cells: of its rows, those of the map around, and the map there."""
+
+    def __init__(self, detector: "Detector", found: sky.Sky):
+        self.detector, self.found = detector, found
+
+    def __call__(self, item: Tuple[slice, slice, numpy.ndarray]) -> numpy.ndarray:
+        rows, seen, segments = item
+        columns, within = slice(0, self.found.shape[1]), slice(rows.start - seen.start, rows.stop - seen.start)
+        image = self.detector.field.to_measure(rows, columns)
+        undefined = ~numpy.isfinite(image)
+        residual = photometry.residual_of(image, self.found.level(rows, columns), undefined)
+        return beside.of_row(residual, undefined, segments, within, self.found.mesh)
+
+
+def sky_of_values(detector: "Detector") -> Optional[sky.Sky]:
+    """The sky of what a field is measured in; None where no pixel of that is defined. Raises Mistake where it has none
+    to speak of.
+    """
+    field, found = detector.field, detector.sky
+    if field.values is None:
+        return found
+    other = field.measured
+    try:
+        found = sky.of(other.image, field.shape, found.mesh, None if other.weights is None else other.relative)
+    except sky.Undefined:
+        return None
+    except ValueError as error:
+        raise Mistake(f"{field.values.label}: {error}") from None
+    return found if field.settings.mesh else found.flat()
+
+
+def _taken(segments: numpy.ndarray, rows: slice) -> numpy.ndarray:
+    """Some rows of a map as an array of their own."""
+    found = numpy.array(segments[rows])
+    maps.let_go(segments)
+    return found
+
+
+def sky_beside(
+    detector: "Detector", segments: numpy.ndarray, executor: Executor = None, found: Optional[sky.Sky] = None
+) -> Optional[sky.Sky]:
+    """A sky of what a field is measured in, by default that of the field itself, beside the sources of its map; None
+    where there is none.
+    """
+    field = detector.field
+    found = detector.sky if found is None and field.values is None else found
+    if found is None:
+        return None
+    rows = (
+        (own, seen, tiles.without_gaps(part))
+        for own, seen in beside.bands(field.shape[0], found.mesh)
+        for part in [_taken(segments, seen)]
+    )
+    return beside.joined(tiles.each(executor, _Row(detector, found), rows), found)
+
+
+def points_of(detector: "Detector", found: Optional[sky.Sky]) -> Optional[pointlike.PointSources]:
+    """The point sources of what a field is measured in, above this sky; None where it has too few."""
+    field = detector.field
+    if field.values is None:
+        return detector.how.points
+    if found is None or not found.noise > 0:
+        return None
+    return looks.point_sources(dataclasses.replace(field.measured, weights=None, struck=None), found)
+
+
+def noise_beside(field: Field, found: sky.Sky, own: sky.Sky, rows: slice, columns: slice) -> photometry.Numbers:
+    """The noise of what a field is measured in, in its units: by its weight map and its own sky, or by the one beside
+    sources.
+    """
+    other = field.measured
+    if other.weights is not None:
+        return noise_of(other, own, rows, columns)
+    return found.noises(rows, columns) if other.settings.local else found.noise
+
+
+class _Window:
+    """Measures sources in a window of a field, given with their rows and the map there."""
+
+    def __init__(
+        self,
+        detector: "Detector",
+        found: Optional[sky.Sky],
+        points: Optional[pointlike.PointSources],
+        own: Optional[sky.Sky] = None,
+    ):
+        self.detector, self.found, self.points = detector, found, points
+        self.own = own if own is not None else detector.sky
+
+    def _sky(self, box: Box) -> Tuple[photometry.Numbers, photometry.Numbers]:
+        """The level and the noise there, in the units of what is measured."""
+        if self.found is None:
+            return numpy.nan, numpy.nan
+        level = self.found.level(box.rows, box.columns)
+        return level, noise_beside(self.detector.field, self.found, self.own, box.rows, box.columns)
+
+    def __call__(self, item: Tuple[Box, Rows, numpy.ndarray]) -> Rows:
+        box, rows, segments = item
+        field, settings = self.detector.field, self.detector.settings
+        found = photometry.measured(
+            field.to_measure(box.rows, box.columns),
+            *self._sky(box),
+            segments,
+            tiles.moved(rows.copy(), -box.left, -box.top),
+            gain=settings.gain,
+            saturation=field.saturation,
+            apertures=settings.apertures,
+            kron=settings.kron,
+            points=self.points,
+            threshold=self.detector.how.threshold,
+            struck=None if field.struck is None else field.struck[box.rows, box.columns],
+            seen=self.seen,
+            vignet=settings.vignet,
+        )
+        found["STELLARITY"] = shapes.stellarity(2 * found["FLUX_RADIUS"], self.points)
+        found["BACKGROUND"], found["THRESHOLD"] = self._beside(box, found)
+        return tiles.moved(found, box.left, box.top)
+
+    @property
+    def seen(self) -> shapes.Seen:
+        """How the program saw the image."""
+        how, field = self.detector.how, self.detector.field
+        # The smoothed image has a pixel's noise, so its light is more by the root of how many pixels share noise.
+        scale = how.noise / scaling.SIGMA / math.sqrt(smoothing.correlated(how.smooth))
+        return shapes.Seen(scale, how.smooth, field.values is None)
+
+    def _beside(self, box: Box, found: Rows) -> Tuple[numpy.ndarray, numpy.ndarray]:
+        """The level of the sky at the middles of sources in a window, and by how much a pixel of the smoothed image has
+        to stand above the level there to be a source's, in the image's units.
+        """
+        sides = (box.bottom - box.top, box.right - box.left)
+        at = tuple(
+            numpy.clip(numpy.round(numpy.asarray(found[name])).astype(int) - 1, 0, side - 1)
+            for name, side in zip("YX", sides)
+        )
+        how, level = self.detector.how, self._sky(box)[0]
+        noise = self.detector.noise(box.rows, box.columns)
+        levels, noises = (numpy.broadcast_to(numpy.asarray(it, dtype="f8"), sides)[at] for it in (level, noise))
+        plane = self.detector.field.values or self.detector.field.plane
+        return levels + plane.origin, noises * how.threshold * self.seen.scale
+
+
+def _needed(table: Rows, reach: numpy.ndarray, shape: Tuple[int, int]) -> List[Box]:
+    """For each source the box of the image that holds it with its neighbours, and all that is so near its centre."""
+    sides = []
+    for name, side in zip("YX", shape):
+        centre = numpy.asarray(table[f"{name}CEN"]) / 1000 - 1
+        low = numpy.minimum(numpy.asarray(table[f"{name}MIN"]) - 2, numpy.floor(centre - reach))
+        high = numpy.maximum(numpy.asarray(table[f"{name}MAX"]) + 1, numpy.ceil(centre + reach) + 1)
+        sides += [numpy.clip(low, 0, side).astype(int).tolist(), numpy.clip(high, 0, side).astype(int).tolist()]
+    return [Box(*bounds) for bounds in zip(*sides)]
+
+
+def _blocks(table: Rows, shape: Tuple[int, int]) -> Iterator[Tuple[Box, numpy.ndarray]]:
+    """The windows of the blocks that have sources, each with the places of their rows."""
+    at = [
+        numpy.clip((numpy.asarray(table[name]) - 1000) // (1000 * BLOCK), 0, (side - 1) // BLOCK)
+        for name, side in zip(("YCEN", "XCEN"), shape)
+    ]
+    numbers = at[0] * ((shape[1] - 1) // BLOCK + 1) + at[1]
+    order = numpy.argsort(numbers, kind="stable")
+    for places in numpy.split(order, numpy.flatnonzero(numpy.diff(numbers[order])) + 1):
+        top, left = (int(it[places[0]]) * BLOCK for it in at)
+        yield Box(
+            max(0, top - REACH),
+            min(shape[0], top + BLOCK + REACH),
+            max(0, left - REACH),
+            min(shape[1], left + BLOCK + REACH),
+        ), places
+
+
+def measured(
+    detector: "Detector",
+    found: Optional[sky.Sky],
+    points: Optional[pointlike.PointSources],
+    table: Rows,
+    segments: numpy.ndarray,
+    executor: Executor = None,
+    progress: Callable[[int], None] = lambda count: None,
+    own: Optional[sky.Sky] = None,
+) -> Rows:
+    """The columns of photometry for the sources of a field, whose map this is, above this sky and by these point
+    sources. `own` is the sky of what is measured in with all that is in it, by default the detector's.
+    """
+    shape, work = detector.field.shape, _Window(detector, found, points, own)
+    if not len(table):
+        return work((Box(0, 1, 0, 1), table, numpy.zeros((1, 1), dtype="i4")))
+    least = max(*detector.settings.apertures, detector.settings.vignet) / 2
+    reach, answers, where = photometry.reach(table, points, least), [], []
+    waiting = _blocks(table, shape)
+    while True:
+        windows = []
+        ahead, behind = itertools.tee(waiting)
+        items = ((box, table[places], segments[box.rows, box.columns]) for box, places in ahead)
+        for (box, places), answer in zip(behind, tiles.each(executor, work, items)):
+            progress(0)
+            maps.let_go(segments)
+            wanted = numpy.maximum(answer["KRON_RADIUS"], windowed.reach(answer["FLUX_RADIUS"])) + 2
+            boxes = _needed(table[places], numpy.maximum(reach[places], wanted), shape)
+            held = numpy.array([box.holds(it) for it in boxes])
+            answers.append(answer[held])
+            where.append(places[held])
+            windows += [(boxes[number], places[[number]]) for number in numpy.flatnonzero(~held)]
+        if not windows:
+            break
+        waiting = iter(windows)
+    order = numpy.argsort(numpy.concatenate(where))
+    return behind_each_other(answers)[order]

@@ -1,0 +1,121 @@
+"""What an image's point sources look like: their width, and which share of their light lies within which radius.
+
+They are told from the image itself: among its bright sources those of one size are most, whatever there are besides of
+galaxies, which are wider, and of cosmic rays, which are narrower.
+"""
+import dataclasses
+from typing import Iterable, Optional, Tuple, Union
+
+import numpy
+import sep
+
+__all__ = ["FEWEST", "PointSources", "of"]
+
+# How many deviations of the noise a pixel of a source that is looked at has, how many such pixels there are, how
+# many sources are looked at in a window, the brightest first, and how many alike tell enough.
+BRIGHT, LEAST_AREA, MOST, FEWEST = 10.0, 4, 100, 5
+# Half-light radii that are alike lie so far, as a part of it, from the one that most have.
+ALIKE = 0.15
+# Radii in pixels within which light is summed up; the first circle that is taken for all of a source; and how many
+# half-light radii later ones have.
+RADII = numpy.concatenate([numpy.arange(0.5, 8, 0.25), numpy.arange(8, 31, 2.0)])
+FIRST, REACH = 8.0, 6.0
+
+
+@dataclasses.dataclass(frozen=True)
+class PointSources:
+    """The full width at half of the height of a point source, in pixels; the share of its light within each of some
+    radii; and how many sources tell so. All of the light is what lies within the last radius.
+    """
+
+    width: float
+    radii: numpy.ndarray
+    shares: numpy.ndarray
+    count: int
+
+    def share(self, radius: Union[float, numpy.ndarray]) -> numpy.ndarray:
+        """The share of a point source's light within a circle of this radius."""
+        return numpy.interp(radius, self.radii, self.shares)
+
+    @property
+    def half(self) -> float:
+        """The diameter that holds half of the light."""
+        return 2 * _radius_of_half(self.radii, self.shares)
+
+
+def _radius_of_half(radii: numpy.ndarray, shares: numpy.ndarray) -> float:
+    """The radius that holds half of what the last one holds."""
+    return float(numpy.interp(0.5 * shares[-1], numpy.maximum.accumulate(shares), radii))
+
+
+def _growth(image: numpy.ndarray, undefined: numpy.ndarray, limit: float) -> numpy.ndarray:
+    """The light of an image's bright sources within each of `RADII`: of those that stand alone and below a limit, as
+    far from the image's edges as the last circle reaches. A row for each.
+    """
+    sources, segments = sep.extract(
+        image, BRIGHT, minarea=LEAST_AREA, mask=undefined, filter_kernel=None, segmentation_map=True
+    )
+    inside = (sources["flag"] == 0) & (sources["peak"] < limit)
+    for name, side in zip("yx", image.shape):
+        inside &= (sources[name] > RADII[-1]) & (sources[name] < side - 1 - RADII[-1])
+    numbers = numpy.flatnonzero(inside)
+    numbers = numbers[numpy.argsort(-sources["flux"][numbers], kind="stable")][:MOST]
+    x, y, _ = sep.winpos(image, sources["x"][numbers], sources["y"][numbers], numpy.full(len(numbers), 1.0))
+    alone = {"seg_id": (numbers + 1).astype("i4"), "segmap": segments, "mask": undefined}
+    sums = [sep.sum_circle(image, x, y, radius, subpix=0, **alone) for radius in RADII]
+    small = sums[: int(numpy.searchsorted(RADII, 4))]
+    whole = numpy.all([(told & sep.APER_HASMASKED) == 0 for _, _, told in small], axis=0)
+    return numpy.array([flux for flux, _, _ in sums]).T[whole]
+
+
+def _most_common(values: numpy.ndarray) -> float:
+    """The value around which most lie: the half that lies closest together, and its half, and so on."""
+    values = numpy.sort(values)
+    while len(values) > 2:
+        half = (len(values) + 1) // 2
+        first = int((values[half - 1 :] - values[: len(values) - half + 1]).argmin())
+        if half == len(values):
+            break
+        values = values[first : first + half]
+    return float(values.mean())
+
+
+def _alike(growth: numpy.ndarray, reach: float) -> Tuple[numpy.ndarray, float]:
+    """Which sources have the half-light radius that most have, where all their light lies within some radius."""
+    upto = RADII <= reach
+    halves = numpy.array([_radius_of_half(RADII[upto], one[upto]) for one in growth])
+    middle = numpy.exp(_most_common(numpy.log(halves)))
+    return numpy.abs(halves / middle - 1) <= ALIKE, middle
+
+
+def _width(radii: numpy.ndarray, shares: numpy.ndarray) -> float:
+    """The full width at half of the height, from the light in rings."""
+    area = numpy.pi * numpy.diff(numpy.concatenate([[0.0], radii**2]))
+    height = numpy.diff(numpy.concatenate([[0.0], shares])) / area
+    middle = numpy.concatenate([[0.0], (radii[1:] + radii[:-1]) / 2])
+    below = int(numpy.argmax(height < height[0] / 2))
+    steps = slice(below, below - 2 if below > 1 else None, -1)
+    return 2 * float(numpy.interp(height[0] / 2, height[steps], middle[steps]))
+
+
+def of(windows: Iterable[Tuple[numpy.ndarray, float]]) -> Optional[PointSources]:
+    """The point sources of an image, or None where fewer than `FEWEST` bright ones are alike.
+
+    Windows of the image are given less its sky in deviations of its noise, as 32-bit floating-point numbers with NaN
+    where they are undefined, and beside each from which number on pixels are saturated.
+    """
+    light = []
+    for window, limit in windows:
+        undefined = ~numpy.isfinite(window)
+        light.append(_growth(numpy.where(undefined, numpy.float32(0), window), undefined, limit))
+    growth = numpy.concatenate(light) if light else numpy.zeros((0, len(RADII)))
+    growth = growth[(growth > 0).all(axis=1)]
+    if len(growth) < FEWEST:
+        return None
+    _, middle = _alike(growth, FIRST)
+    alike, middle = _alike(growth, reach=min(RADII[-1], max(FIRST, REACH * middle)))
+    if alike.sum() < FEWEST:
+        return None
+    upto = RADII <= min(RADII[-1], max(FIRST, REACH * middle))
+    shares = numpy.median(growth[alike][:, upto] / growth[alike][:, upto][:, -1:], axis=0)
+    return PointSources(_width(RADII[upto], shares), RADII[upto], shares, int(alike.sum()))

@@ -1,0 +1,404 @@
+"""The sky of an image: its level and its noise in the cells of a mesh, and both between them.
+
+All of it is in floating point, and outside of what is proved of the program. A cell's level is the mean of its pixels
+and its noise their standard deviation, without the pixels near sources: those within three pixels of a place whose
+mean over 3 by 3 pixels lies three deviations of such means off, and those five deviations off by themselves. So
+neither comes in steps on images of whole numbers, and a crowd of stars hardly moves them.
+"""
+import dataclasses
+from typing import Callable, List, Optional, Tuple
+
+import numpy
+
+# How many deviations off a mean of 3 by 3 pixels shows a source, how far around it its light is looked for, and from
+# where on a pixel isn't noise.
+HOT, REACH, CLIP = 3.5, 3, 5.0
+# The part of the deviation that is left where noise alone is looked at so.
+KEPT = 0.997
+# Sampled pixels along a side of a cell, for the first guess.
+SAMPLED = 32
+# Rows of cells that are looked at in one go.
+AT_ONCE = 8
+# The part of a cell that has to be left for its level to count.
+ENOUGH = 0.1
+
+# The noise that 32-bit floating-point numbers have room for.
+LEAST_NOISE, MOST_NOISE = 1e-30, 1e30
+
+
+class Undefined(ValueError):
+    """An image has no pixel with a value."""
+
+
+Reader = Callable[[slice], numpy.ndarray]
+
+
+def cells_along(side: int, mesh: int) -> int:
+    """How many cells of so many pixels cover a side."""
+    return -(-side // mesh)
+
+
+def _carried_on_along(grid: numpy.ndarray, axis: int) -> numpy.ndarray:
+    """The grid with one more number at both ends of an axis, in a straight line beyond the outermost two: numpy's `pad`
+    does the same, but takes as long as all else for a few cells.
+    """
+    lines = grid if axis == 0 else grid.T
+    made = numpy.empty((len(lines) + 2, lines.shape[1]), dtype=grid.dtype)
+    made[1:-1] = lines
+    next_one = min(1, len(lines) - 1)
+    made[0], made[-1] = 2 * lines[0] - lines[next_one], 2 * lines[-1] - lines[-1 - next_one]
+    if len(lines) == 1:
+        made[0] = made[-1] = lines[0]
+    return made if axis == 0 else numpy.ascontiguousarray(made.T)
+
+
+def _carried_on(grid: numpy.ndarray) -> numpy.ndarray:
+    """The grid with one more number on each side, in a straight line beyond the outermost two."""
+    return _carried_on_along(_carried_on_along(grid, 0), 1)
+
+
+def medians(grid: numpy.ndarray) -> numpy.ndarray:
+    """The median of each number and its neighbours; beyond the edges stands what stands there."""
+    if not numpy.isfinite(grid).all():
+        from scipy import ndimage
+
+        return ndimage.median_filter(grid, size=3, mode="nearest")
+    # Here, since SciPy takes longer to load than a small image's sky.
+    around, (rows, columns) = numpy.pad(grid, 1, mode="edge"), grid.shape
+    near = [around[down : down + rows, across : across + columns] for down in range(3) for across in range(3)]
+    return numpy.sort(near, axis=0)[4]
+
+
+def filtered(grid: numpy.ndarray) -> numpy.ndarray:
+    """The median of each number and its neighbours; at the edges the grid is carried on, so that a slope stays as it
+    is.
+    """
+    return medians(_carried_on(grid))[1:-1, 1:-1]
+
+
+def filled(grid: numpy.ndarray, known: numpy.ndarray) -> numpy.ndarray:
+    """The grid with each number that isn't known replaced by the nearest one that is."""
+    if known.all() or not known.any():
+        return grid
+    from scipy import ndimage
+
+    return grid[tuple(ndimage.distance_transform_edt(~known, return_distances=False, return_indices=True))]
+
+
+def _along(grid: numpy.ndarray, mesh: int, places: slice, dtype: str) -> numpy.ndarray:
+    """The rows of a grid at these places of its first axis: linear between the cells' centres, and on in a straight
+    line beyond the outermost.
+    """
+    at = (numpy.arange(places.start, places.stop) + 0.5) / mesh - 0.5
+    before = numpy.clip(numpy.floor(at).astype(int), 0, max(len(grid) - 2, 0))
+    after = numpy.minimum(before + 1, len(grid) - 1)
+    part = (at - before)[:, None]
+    return (grid[before] * (1 - part) + grid[after] * part).astype(dtype)
+
+
+def anywhere(grid: numpy.ndarray, mesh: int, rows: slice, columns: slice) -> numpy.ndarray:
+    """A grid's numbers at the pixels of a window, which may lie beyond it, as 32-bit floating-point numbers of its
+    shape. A pixel has the same number in each window.
+    """
+    return _along(numpy.ascontiguousarray(_along(grid, mesh, rows, "f8").T), mesh, columns, "f4").T
+
+
+def between(grid: numpy.ndarray, mesh: int, rows: slice, columns: slice) -> numpy.ndarray:
+    """The same, quicker for windows whose columns lie within the grid; the last digit may be another there."""
+    if columns.start < 0 or columns.stop > grid.shape[1] * mesh:
+        return anywhere(grid, mesh, rows, columns)
+    if grid.size == 1:
+        return numpy.full((rows.stop - rows.start, columns.stop - columns.start), grid[0, 0], dtype="f4")
+    down = _along(grid, mesh, rows, "f8")
+    if down.shape[1] == 1:
+        return numpy.repeat(down.astype("f4"), columns.stop - columns.start, axis=1)
+    # Between two centres a row changes by the same step from pixel to pixel. The first piece ends at the first centre.
+    padded = _carried_on_along(down, 1)
+    start = mesh // 2
+    part = ((numpy.arange(mesh) + (0.5 if mesh % 2 == 0 else 0)) / mesh).astype("f4")
+    first, last = (columns.start + mesh - start) // mesh, (columns.stop - 1 + mesh - start) // mesh
+    low = padded[:, first : last + 1].astype("f4")
+    step = (padded[:, first + 1 : last + 2] - padded[:, first : last + 1]).astype("f4")
+    pixels = step[:, :, None] * part
+    pixels += low[:, :, None]
+    offset = columns.start - (first * mesh + start - mesh)
+    return pixels.reshape(len(low), -1)[:, offset : offset + columns.stop - columns.start]
+
+
+# ---- the first guess: medians of samples
+
+
+def quantum(values: numpy.ndarray) -> float:
+    """The step between an image's values, told from some of them; 0 where they come in no steps."""
+    values = values.ravel()
+    values = values[numpy.isfinite(values)][:4000]
+    steps = numpy.diff(numpy.unique(values))
+    if not steps.size:
+        return 0.0
+    return float(numpy.quantile(steps, 0.1)) if len(steps) < len(values) / 4 else 0.0
+
+
+def _in_cells(band: numpy.ndarray, mesh: int, fill) -> numpy.ndarray:
+    """A row of cells, with `fill` in the columns behind its last pixel, as an array of rows, cells, columns."""
+    wide = cells_along(band.shape[1], mesh) * mesh
+    if wide != band.shape[1]:
+        band = numpy.pad(band, [(0, 0), (0, wide - band.shape[1])], constant_values=fill)
+    return band.reshape(len(band), -1, mesh)
+
+
+def _first_row(band: numpy.ndarray, mesh: int, rng: numpy.random.Generator) -> Tuple[numpy.ndarray, ...]:
+    """The median of each cell in a row of cells, how far below it a deviation lies, how many pixels were looked at,
+    and the step of the values.
+    """
+    step = max(1, mesh // SAMPLED)
+    sample = _in_cells(band, mesh, numpy.nan)[::step, :, ::step].swapaxes(0, 1)
+    sample = sample.reshape(len(sample), -1)
+    quant = quantum(sample)
+    if quant:
+        sample = sample + ((rng.random(sample.shape) - 0.5) * quant).astype(sample.dtype)
+    sample = numpy.sort(numpy.where(numpy.isfinite(sample), sample, sample.dtype.type(numpy.nan)), axis=1)
+    count = numpy.isfinite(sample).sum(axis=1)
+
+    def part(of):
+        return numpy.take_along_axis(
+            sample, numpy.clip((count[:, None] * of).astype(int), 0, sample.shape[1] - 1), axis=1
+        )[:, 0].astype("f8")
+
+    middle = part(0.5)
+    return (
+        middle,
+        _less_rounding(middle - part(0.1587), quant),
+        count,
+        numpy.full(len(count), quant),
+    )
+
+
+def _less_rounding(deviation: numpy.ndarray, quant: float) -> numpy.ndarray:
+    """Deviations without what spreading the values over their steps added, but not less than that."""
+    with numpy.errstate(all="ignore"):
+        spread = numpy.float64(quant) ** 2 / 12
+        return numpy.sqrt(numpy.maximum(deviation**2 - spread, spread))
+
+
+def _whole_cells(side: int, mesh: int) -> int:
+    return max(1, side // mesh)
+
+
+def _guess(rows: list, shape: Tuple[int, int], mesh: int, least: float) -> Tuple[numpy.ndarray, numpy.ndarray]:
+    """Level and deviation of every cell, from those of the whole ones with enough pixels: the cells that the image's
+    edge cuts carry them on.
+    """
+    middle, deviation, count, _ = (numpy.array(part) for part in zip(*rows))
+    whole = tuple(slice(0, _whole_cells(side, mesh)) for side in shape)
+    known = count[whole] >= least
+    if not known.any():
+        known = count[whole] > 0
+    more = [(0, cells_along(side, mesh) - _whole_cells(side, mesh)) for side in shape]
+    level = filtered(filled(middle[whole], known))
+    level = _carried_on(level)[1:, 1:][: len(level) + more[0][1], : level.shape[1] + more[1][1]]
+    deviation = medians(filled(deviation[whole], known))
+    return level, numpy.pad(deviation, more, mode="edge")
+
+
+# ---- the second look: means without sources
+
+
+def _shifted(image: numpy.ndarray, by: int, axis: int) -> Tuple[numpy.ndarray, numpy.ndarray]:
+    """All but the first places of an axis, and all but the last."""
+    return (image[by:], image[:-by]) if axis == 0 else (image[:, by:], image[:, :-by])
+
+
+def box_sums(image: numpy.ndarray) -> numpy.ndarray:
+    """The sum over each pixel and its neighbours, as far as there are some."""
+    for axis in (0, 1):
+        total = image.copy()
+        later, earlier = _shifted(image, 1, axis)
+        to_earlier, to_later = _shifted(total, 1, axis)[::-1]
+        to_earlier += later
+        to_later += earlier
+        image = total
+    return image
+
+
+def grown(mask: numpy.ndarray, reach: int) -> numpy.ndarray:
+    """The mask with all pixels up to so many columns and rows away."""
+    mask, done = mask.copy(), 0
+    while done < reach:
+        # So far that no gap is left, also at an edge, behind which half of what has grown is cut off.
+        step = min(reach - done, done + 1)
+        for axis in (0, 1):
+            later, earlier = _shifted(mask.copy(), step, axis)
+            to_earlier, to_later = _shifted(mask, step, axis)[::-1]
+            to_earlier |= later
+            to_later |= earlier
+        done += step
+    return mask
+
+
+def _quiet(scaled: numpy.ndarray) -> numpy.ndarray:
+    """Which pixels of a row of cells lie far from sources; it is in units of its noise, 0 where it is undefined."""
+    sums = box_sums(scaled)
+    low, middle = numpy.quantile(sums[::3, ::3], (0.1587, 0.5))
+    # Nine independent pixels have a deviation of three; neighbours that share their noise have more.
+    reach = HOT * max(middle - low, 1.5)
+    hot = sums > middle + reach
+    hot |= sums < middle - reach
+    return ~grown(hot, REACH)
+
+
+def _second_row(residual, relative, deviation, quant, mesh):
+    """For each cell in a row of cells the mean of the residual, its deviation in units of `relative`, and how many of
+    its pixels counted and how many are there.
+    """
+    noise = residual if relative is None else residual / relative
+    finite = numpy.isfinite(noise)
+    noise = noise if finite.all() else numpy.where(finite, noise, numpy.float32(0))
+    with numpy.errstate(divide="ignore"):
+        inverse = numpy.where(deviation > 0, 1 / deviation, 0).astype("f4")
+    scaled = noise * numpy.repeat(inverse, mesh)[: noise.shape[1]]
+    keep = _quiet(scaled)
+    keep &= finite
+    clip = CLIP + 1.5 * float((quant * inverse).max())
+    keep &= scaled < clip
+    keep &= scaled > -clip
+    keep, noise = _in_cells(keep, mesh, False), _in_cells(noise, mesh, 0)
+    count = keep.sum(axis=(0, 2))
+    kept = noise * keep
+    mean = kept.sum(axis=0).sum(axis=1, dtype="f8") / numpy.maximum(count, 1)
+    # Squares are taken in units of the deviation: 32 bits don't hold those of an image in very small or large units.
+    unit = numpy.where(deviation > 0, deviation, 1.0)
+    kept *= (1 / unit).astype("f4")[:, None]
+    square = numpy.einsum("ijk,ijk->j", kept, kept).astype("f8") / numpy.maximum(count, 1)
+    spread = unit * numpy.sqrt(numpy.maximum(square - (mean / unit) ** 2, 0)) / KEPT
+    if relative is not None:
+        mean = (_in_cells(numpy.where(finite, residual, 0), mesh, 0) * keep).sum(
+            axis=(0, 2), dtype="f8"
+        ) / numpy.maximum(count, 1)
+    return mean, spread, count, _in_cells(finite, mesh, False).sum(axis=(0, 2))
+
+
+# ---- the sky of an image
+
+
+@dataclasses.dataclass(frozen=True)
+class Sky:
+    """Level and noise of an image's sky. `zero` stands near the level; `levels` are above it, one for each cell, and
+    `deviations` the noise of each, in the image's units or in those of its noise map. `noise` is the median of these.
+    """
+
+    shape: Tuple[int, int]
+    mesh: int
+    zero: float
+    levels: numpy.ndarray
+    deviations: numpy.ndarray
+    noise: float
+
+    def background(self, rows: slice, columns: slice) -> numpy.ndarray:
+        """The level above `zero` at the pixels of a window, as 32-bit floating-point numbers."""
+        return between(self.levels, self.mesh, rows, columns)
+
+    def level(self, rows: slice, columns: slice) -> numpy.ndarray:
+        """The level in the image's units there, in 64 bits where 32 don't hold it beside the noise."""
+        above = self.background(rows, columns)
+        return (above if abs(self.zero) < 4096 * self.noise else above.astype("f8")) + self.zero
+
+    def noises(self, rows: slice, columns: slice) -> numpy.ndarray:
+        """The noise at the pixels of a window, by its cells."""
+        return numpy.maximum(
+            between(self.deviations, self.mesh, rows, columns), numpy.float32(self.deviations.min() / 2)
+        )
+
+    def flat(self) -> "Sky":
+        """The same with one level for the whole image."""
+        return dataclasses.replace(self, levels=numpy.full((1, 1), numpy.median(self.levels)))
+
+
+def _bands(height: int, mesh: int):
+    return [slice(top, min(top + mesh, height)) for top in range(0, height, mesh)]
+
+
+@dataclasses.dataclass
+class _SecondLook:
+    """The second look at some rows of cells, whose numbers are given: by the first look at all of them."""
+
+    read: Reader
+    relative: Optional[Reader]
+    shape: Tuple[int, int]
+    mesh: int
+    zero: float
+    guess: numpy.ndarray
+    deviation: numpy.ndarray
+    quanta: List[numpy.ndarray]
+
+    def __call__(self, numbers: range) -> list:
+        found, columns = [], slice(0, self.shape[1])
+        for row in numbers:
+            rows = slice(row * self.mesh, min((row + 1) * self.mesh, self.shape[0]))
+            residual = (self.read(rows) - self.zero).astype("f4", copy=False)
+            residual -= between(self.guess, self.mesh, rows, columns)
+            relative = None if self.relative is None else self.relative(rows)
+            found.append(_second_row(residual, relative, self.deviation[row], self.quanta[row], self.mesh))
+        return found
+
+
+def of(
+    read: Reader, shape: Tuple[int, int], mesh: int = 64, relative: Optional[Reader] = None, each: Callable = map
+) -> Sky:
+    """The sky of an image that is read by rows, NaN where it is undefined: twice, a row of cells at a time.
+
+    `relative` reads a map of its noise, in any units; the deviations are then in these. `each` calls a function for
+    each of several items, in order, as `map` does. Raises ValueError where no pixel is defined.
+    """
+    rng, bands = numpy.random.default_rng(1), _bands(shape[0], mesh)
+    first = [
+        _first_row(read(rows) if relative is None else _defined_by(read(rows), relative(rows)), mesh, rng)
+        for rows in bands
+    ]
+    zero = numpy.concatenate([row[0] for row in first])
+    if not numpy.isfinite(zero).any():
+        raise Undefined("no pixel of the image is defined")
+    zero = float(numpy.nanmedian(zero))
+    guess, deviation = _guess(
+        [(row[0] - zero, *row[1:]) for row in first], shape, mesh, ENOUGH * min(mesh, SAMPLED) ** 2
+    )
+    middle = float(numpy.median(deviation))
+    if middle and not LEAST_NOISE < middle < MOST_NOISE:
+        raise ValueError(f"its noise of {middle:.3g} is too far from 1; scale the image")
+    if relative is not None:
+        deviation = _in_units(deviation, relative, bands, mesh)
+    look = _SecondLook(read, relative, shape, mesh, zero, guess, deviation, [row[3] for row in first])
+    parts = (range(row, min(row + AT_ONCE, len(bands))) for row in range(0, len(bands), AT_ONCE))
+    second = [row for part in each(look, parts) for row in part]
+    mean, spread, count, there = (numpy.array(part) for part in zip(*second))
+    return Sky(shape, mesh, zero, *_joined(guess, mean, spread, count, there))
+
+
+def _defined_by(band: numpy.ndarray, relative: numpy.ndarray) -> numpy.ndarray:
+    """The rows without the pixels whose noise isn't defined."""
+    return numpy.where(numpy.isfinite(relative), band, numpy.nan)
+
+
+def _in_units(deviation: numpy.ndarray, relative: Reader, bands: list, mesh: int) -> numpy.ndarray:
+    """The deviations of the cells in units of the noise map: over its median in each cell."""
+    found = []
+    for rows in bands:
+        cells = _in_cells(relative(rows), mesh, numpy.nan)[:: max(1, mesh // 8), :, :: max(1, mesh // 8)].swapaxes(0, 1)
+        cells = numpy.sort(cells.reshape(len(cells), -1), axis=1)
+        found.append(cells[numpy.arange(len(cells)), numpy.isfinite(cells).sum(axis=1) // 2])
+    grid = numpy.array(found)
+    return deviation / filled(grid, numpy.isfinite(grid))
+
+
+def _joined(guess, mean, spread, count, there):
+    """Levels and deviations of the cells, and the noise: what the second look adds to the first guess. A cell that
+    sources fill, or that has few pixels, takes what its nearest neighbour has.
+    """
+    least = ENOUGH * there.max()
+    known = count >= least
+    if not known.any():
+        known = count > 0
+    if not known.any():
+        return filtered(guess), numpy.zeros_like(guess), 0.0
+    level = numpy.where(there >= least, filled(guess + mean, known), guess + filled(mean, known))
+    deviations = medians(filled(spread, known))
+    return filtered(numpy.where(known, guess + mean, level)), deviations, float(numpy.median(spread[known]))
