@@ -10,7 +10,7 @@ use mir.Syntax.{w64}
 use mir.Val.{SFits, of_z, to_z}
 use Rattle.comp_tree.specs.declared.shape.Shape.{Shape}
 use Rattle.comp_tree.specs.declared.shape.Connect.{Connect}
-use Rattle.comp_tree.specs.Limits.{IsWithin, value_bound}
+use Rattle.comp_tree.specs.Limits.{IsWithin}
 use Rattle.comp_tree.specs.Raster.{Raster, value_at}
 use Rattle.comp_tree.specs.ComponentTree.{ComponentTree}
 use Rattle.comp_tree.specs.Components.{tree_of}
@@ -18,7 +18,7 @@ use Rattle.node_sums.specs.declared.entry.Sums.{Sums}
 use Rattle.node_sums.specs.Flux.{base_of, flux_of}
 use Rattle.tree_products.specs.Trials.{next_state, value_of_state, trial_image, total_flux}
 use Rattle.tree_products.specs.TrialSizes.{HasSmallFluxes, flux_bound}
-use Rattle.tree_products.proofs.Trials.{state_at, state-next, trial_value, byte-of_state, byte_in_range}
+use Rattle.tree_products.proofs.Trials.{state_at, state-next, trial_value, byte-of_state, byte_within}
 
 -- ---- the image
 
@@ -28,8 +28,8 @@ value-fits state h = fits_signed_from_abs w64 (pos (state / 2 ^ 24)) (omega arit
 pub value-read : (state : ℕ) (got : ℤ) → state < 2 ^ 32 → got ≡ pos (state / 2 ^ 24) → to_z w64 (of_z w64 got) ≡ pos (state / 2 ^ 24)
 value-read state got h e = ap (λ (z : ℤ). to_z w64 (of_z w64 z)) e ∙ to_z-of_z w64 (pos (state / 2 ^ 24)) (value-fits state h)
 
-pub value-in_range : (count state : ℕ) (z : ℤ) → state < 2 ^ 32 → z ≡ pos (state / 2 ^ 24) → IsWithin (value_bound count) z
-value-in_range count state z h e = subst (λ (v : ℤ). IsWithin (value_bound count) v) (sym e) (byte_in_range count _ (byte-of_state state h))
+pub value-within : (most state : ℕ) (z : ℤ) → most ≡ 255 → state < 2 ^ 32 → z ≡ pos (state / 2 ^ 24) → IsWithin most z
+value-within most state z m h e = subst (λ (b : ℕ). IsWithin b z) (sym m) (subst (λ (v : ℤ). IsWithin 255 v) (sym e) (byte_within _ (byte-of_state state h)))
 
 pub state_more : (seed p state next : ℕ) → state ≡ state_at seed p → next ≡ next_state state → next ≡ state_at seed (p + 1)
 state_more seed p state next is e = e ∙ ap next_state is ∙ sym (state-next seed p) ∙ ap (state_at seed) (let f : suc p ≡ p + 1 = omega arith in f)

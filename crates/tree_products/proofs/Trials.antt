@@ -111,11 +111,12 @@ trial_is_small seed shape few = record {
   few = omega (arith, few, trial_length seed shape);
 }
 
--- such a value stands in any plane
-pub byte_in_range : (count : ℕ) (v : ℤ) → IsByte v → IsWithin (value_bound count) v
-byte_in_range count v b =
-    let small : IsWithin 255 v = record { low = omega (arith, ints, b.low); high = b.high } in
-    within_more 255 (value_bound count) v (omega (arith, bytes_half count, half_twice count)) small
+-- such a value is within 255, and a canvas of any shape can have that bound
+pub byte_within : (v : ℤ) → IsByte v → IsWithin 255 v
+byte_within v b = record { low = omega (arith, ints, b.low); high = b.high }
+
+pub bytes_bounded : (count : ℕ) → 255 ≤ value_bound count
+bytes_bounded count = omega (arith, bytes_half count, half_twice count)
 
 -- ---- the level of a pixel
 

@@ -56,7 +56,7 @@ fn step(state: u32) -> u32
 pub fn trial_image(alloc: Global, seed: u32, shape: Shape) -> Result<Plane, OutOfMemory>
     ensures { IfOk result (λ plane. plane ≡ image_of seed shape) }
 {
-    let mut canvas = Canvas::blank(alloc, shape)?;
+    let mut canvas = Canvas::blank_within(alloc, shape, 255)?;
     let mut state = seed;
     for p in 0..shape.pixels() {
         let next = step(state);
