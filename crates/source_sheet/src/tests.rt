@@ -35,6 +35,16 @@ fn a_group_stands_on_the_sheet(rt: HostRuntime) -> Result<(), Fail> {
     Ok(())
 }
 
+// With `Connect::Eight` it does so too: the pixels at the corners are copied with it.
+#[test]
+fn a_group_stands_with_its_corners(rt: HostRuntime) -> Result<(), Fail> {
+    let alloc = rt.alloc();
+    let plane = plane_with(alloc, &[(0, 6), (17, 7), (18, 9)])?;
+    let sheet = lay_out(alloc, &plane, Connect::Eight, &CHOICE)?.ok_or("a sheet")?;
+    assert_eq!(rt; sheet.plane.shape().pixels(), 8);
+    Ok(())
+}
+
 // Where most pixels are high the plane is worked on whole.
 #[test]
 fn a_plane_of_high_pixels_has_no_sheet(rt: HostRuntime) -> Result<(), Fail> {
