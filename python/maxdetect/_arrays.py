@@ -187,8 +187,8 @@ def catalogue(
     )
     _check(settings)
     parts = parts_of(image, noise=noise, header=header)
-    values, noise = _numbers(parts.array, "an image"), noise if parts.noise is None else parts.noise
-    weights = None if noise is None else ArrayPlane(_numbers(noise, "the noise"), "the noise")
+    values = _numbers(parts.array, "an image")
+    weights = None if parts.noise is None else ArrayPlane(_numbers(parts.noise, "the noise"), "the noise")
     if weights is not None and weights.shape != numpy.shape(values):
         raise ValueError(f"the noise has the sides {weights.shape}, the image {numpy.shape(values)}")
     plane = ArrayPlane(values)

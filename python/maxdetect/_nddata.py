@@ -14,7 +14,7 @@ if TYPE_CHECKING:
     from astropy.nddata import NDData
     from astropy.wcs import WCS
 
-__all__ = ["AnyImage", "Parts", "array_of", "parts_of"]
+__all__ = ["AnyImage", "Parts", "array_of", "noise_of", "parts_of"]
 
 AnyImage = Union[numpy.ndarray, "NDData"]
 
@@ -24,11 +24,11 @@ POWERS = {"std": 1, "var": 2, "ivar": -2}
 
 class Parts(NamedTuple):
     """An image's array, a masked one where the image has a mask; the noise of its pixels, in its units; its unit as
-    FITS spells it; and its WCS. Of an image that isn't astropy's there is the array alone.
+    FITS spells it; and its WCS. Of an image that isn't astropy's there are the array and the noise that is given.
     """
 
     array: Any
-    noise: Optional[numpy.ndarray] = None
+    noise: Any = None
     unit: Optional[str] = None
     wcs: Optional["WCS"] = None
 
@@ -103,19 +103,21 @@ def array_of(image: AnyImage, mask: Optional[numpy.ndarray] = None) -> numpy.nda
     return _masked(own)
 
 
-def parts_of(
-    image: AnyImage,
-    *,
-    mask: Optional[numpy.ndarray] = None,
-    noise: Any = None,
-    header: Optional[fits.Header] = None,
-) -> Parts:
+def noise_of(image: AnyImage, noise: Any = None) -> Any:
+    """The noise of an image's pixels: `noise`, or what astropy's tells, in the image's units; None where neither does.
+    Raises Mistake where both do.
+    """
+    own = _noise(image) if _is_nddata(image) else None
+    if noise is not None and own is not None:
+        raise Mistake("the noise is given twice: the image has an uncertainty, and noise= is another")
+    return noise if own is None else own
+
+
+def parts_of(image: AnyImage, *, noise: Any = None, header: Optional[fits.Header] = None) -> Parts:
     """The parts of an image. Raises Mistake for one that is given besides, and for one of a kind that isn't taken."""
     if not _is_nddata(image):
-        return Parts(image)
-    parts = Parts(array_of(image, mask), _noise(image), _unit(image), _wcs(image))
-    if noise is not None and parts.noise is not None:
-        raise Mistake("the noise is given twice: the image has an uncertainty, and noise= is another")
+        return Parts(image, noise)
+    parts = Parts(array_of(image), noise_of(image, noise), _unit(image), _wcs(image))
     if header is not None:
         _check_header(parts, header)
     return parts

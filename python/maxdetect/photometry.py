@@ -21,7 +21,7 @@ from . import _beside as beside, _boxes as boxes, _shapes as shapes, _totals as 
 from ._beside import unit_of
 from ._errors import Mistake
 from ._estimates import of_array
-from ._nddata import AnyImage, array_of, parts_of
+from ._nddata import AnyImage, array_of, noise_of
 from ._pointlike import PointSources
 from ._rows import Rows
 from ._sky import grown
@@ -446,8 +446,7 @@ def measured(
     Mistake
         Where mask or noise are given twice, by NDData and besides, or no noise is given.
     """
-    parts = parts_of(image, mask=mask, noise=noise)
-    image, noise = parts.array, noise if parts.noise is None else parts.noise
+    image, noise = array_of(image, mask), noise_of(image, noise)
     if noise is None:
         raise Mistake("the noise is wanted: the image has no uncertainty, and noise= is None")
     shape = numpy.shape(image)

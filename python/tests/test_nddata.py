@@ -58,6 +58,12 @@ def test_an_uncertainty_has_a_unit_of_its_own(stars):
     same(maxdetect.catalogue(image), wanted)
 
 
+def test_a_part_of_an_image_has_its_places(stars):
+    image = CCDData(stars[0], unit="adu", wcs=placed())
+    whole, part = maxdetect.catalogue(image)[0], maxdetect.catalogue(image[40:, 30:])[0]
+    assert len(maxdetect.match(part, whole, 0.3)) > 0.8 * len(part) > 8
+
+
 def test_an_array_alone_is_an_image(stars):
     same(maxdetect.catalogue(NDData(stars[0])), maxdetect.catalogue(stars[0]))
     table, _ = maxdetect.catalogue(NDData(stars[0], wcs=placed()), header=fits.Header({"BUNIT": "adu"}))

@@ -40,6 +40,11 @@ def table(path):
         return hdus["SOURCES"].data.tobytes()
 
 
+def test_work_is_given_values_by_name():
+    with pools.workers(1) as pool:
+        assert pool.submit(int, "11", base=2).result() == 3
+
+
 def test_any_number_of_workers_finds_the_same(here):
     assert cli.main(["image.fits", "--workers", "1", "-o", "one.fits", "--map", "one.map.fits"]) == 0
     assert cli.main(["image.fits", "--workers", "3", "-o", "three.fits", "--map", "three.map.fits"]) == 0
