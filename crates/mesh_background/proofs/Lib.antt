@@ -13,6 +13,7 @@ mod HalfRanges
 mod Lessening
 mod Rows
 mod Bands
+mod Greatest
 mod Differences
 mod Sides
 mod Seeing

@@ -9,7 +9,7 @@
 
 ghost use Rattle.std.specs.Prelude.{◌≡◌, ℕ, ◌+◌, ◌-◌, ◌*◌, ◌/◌, ◌^◌, ◌<◌, ◌≤◌, ◌-ℤ◌, true, false, length, IfOk, IfSome, OnOk, OnErr};
 ghost use Rattle.std.specs.Option.{option_map};
-ghost use Rattle.comp_tree.specs.Limits.{IsInHalfRange, value_bound};
+ghost use Rattle.comp_tree.specs.Limits.{IsInHalfRange, IsWithin, IsWithinRange, value_bound};
 ghost use Rattle.comp_tree.specs.Raster.{HasValuesInHalfRange, HasValuesWithin};
 ghost use Rattle.mesh_background.specs.Mesh.{values_of_mesh};
 ghost use Rattle.mesh_background.specs.Residuals.{filtered_values, pixel_level, residual_of};
@@ -164,7 +164,46 @@ fn most_left(plane: &Plane) -> u64
     ensures half { HasValuesWithin (result / 2) plane.now.values }
     ensures bounded { result ≤ value_bound (length plane.now.values) }
 {
-    (plane.most() * 2).min(range_of(plane.shape().pixels()))
+    (bound_of_values(plane) * 2).min(range_of(plane.shape().pixels()))
+}
+
+// A bound of the values. That of a plane of 32-bit numbers doesn't tell whether what is left stays below 2^31: so where it
+// is large each value is looked at.
+fn bound_of_values(plane: &Plane) -> u64
+    ensures within { HasValuesWithin result plane.now.values }
+    ensures bounded { result ≤ value_bound (length plane.now.values) }
+{
+    let told = plane.most();
+    if told < 1 << 30 {
+        return told;
+    }
+    greatest_value(plane)
+}
+
+// How far from 0 a value lies at the most.
+fn greatest_value(plane: &Plane) -> u64
+    ensures within { HasValuesWithin result plane.now.values }
+    ensures bounded { result ≤ value_bound (length plane.now.values) }
+{
+    let mut greatest = 0;
+    for p in 0..plane.shape().pixels() {
+        greatest = with_value(greatest, plane.get(p));
+    }
+    greatest
+}
+
+// A bound, or how far from 0 a pixel's value lies where that is farther.
+#[inline(always)]
+fn with_value(bound: u64, value: Option<i64>) -> u64
+    requires { IfSome value (λ v. IsWithinRange v) }
+    ensures kept { bound ≤ result }
+    ensures within { IfSome value (λ v. IsWithin result v) }
+    ensures least { (most : ℕ) → bound ≤ most → IfSome value (λ v. IsWithin most v) → result ≤ most }
+{
+    match value {
+        Some(value) => bound.max(value.unsigned_abs()),
+        None => bound,
+    }
 }
 
 // The bound of the values that a plane with so many pixels may have.
