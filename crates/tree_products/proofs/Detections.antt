@@ -1,5 +1,5 @@
 -- What is written of the sources of a plane.
-use Rattle.std.proofs.Common.{◌≡◌, ◌∙◌, ap, subst, subst₂, ℕ, ◌*◌, ◌^◌, ◌≤◌, List, ◌++◌, length, Option, Result, ℤ}
+use Rattle.std.proofs.Common.{◌≡◌, ◌∙◌, ap, subst, subst₂, ℕ, ◌*◌, ◌≤◌, List, ◌++◌, length, Option, Result, ℤ}
 use Rattle.std.specs.Prelude.{slice_index}
 use Rattle.std.specs.List.{flat_map}
 use Rattle.std.proofs.lemmas.List.{get_or_default}

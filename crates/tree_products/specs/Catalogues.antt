@@ -1,5 +1,5 @@
 -- Model: what is written of the sources of a plane: a primary HDU without data, their segmentation map, and their catalogue.
-use Rattle.std.specs.Prelude.{◌≡◌, ℕ, ◌*◌, ◌^◌, ◌≤◌, List, ◌++◌, length, ℤ}
+use Rattle.std.specs.Prelude.{◌≡◌, ℕ, ◌*◌, ◌≤◌, List, ◌++◌, length, ℤ}
 use Rattle.std.specs.List.{flat_map, All}
 use Rattle.comp_tree.specs.declared.shape.Shape.{Shape}
 use Rattle.comp_tree.specs.declared.shape.Connect.{Connect}
