@@ -1,8 +1,8 @@
 //! Written HDUs beside literals, and cells that are read back.
-ghost use Rattle.std.specs.Prelude.{◌+◌, ◌*◌, ◌<◌, ◌≤◌, length};
+ghost use Rattle.std.specs.Prelude.{◌+◌, ◌*◌, ◌≤◌, length};
 
 use crate::*;
-use comp_tree::{Canvas, Shape};
+use comp_tree::{Canvas, Plane, Shape};
 use dev_io::MemSink;
 use std::test::Fail;
 
@@ -16,20 +16,10 @@ fn is_card(bytes: &[u8], place: usize, text: &[u8]) -> bool
     front == text && rest.iter().all(|b| *b == b' ')
 }
 
-// Gives the second pixel a value.
-fn paint_second(canvas: &mut Canvas)
-    requires { 1 < length canvas.old.values }
-{
-    canvas.set(1, Some(-2));
-}
-
 #[test]
 fn a_plane_is_written(rt: HostRuntime) -> Result<(), Fail> {
     let shape = Shape::of(2, 1).ok_or("sides")?;
-    let mut canvas = Canvas::blank(rt.alloc(), shape).expect(&rt, "memory");
-    assert_eq!(rt; canvas.shape().pixels(), 2);
-    paint_second(&mut canvas);
-    let plane = canvas.into_plane();
+    let plane = Plane::of(rt.alloc(), shape, &[None, Some(-2)])?.ok_or("a plane")?;
     let mut sink = MemSink::new(vec![in rt.alloc(); 1; 5760]?, &[], 0);
     assert_eq!(rt; put_plane(&mut sink, &plane), Ok(()));
     let bytes = sink.bytes();
