@@ -508,6 +508,19 @@ def _write_by_astropy(table: "Table", path: str, kind: str) -> None:
     with warnings.catch_warnings():
         warnings.simplefilter("ignore", units.UnitsWarning)
         (_flat(table) if kind == "csv" else table).write(path, format=form, overwrite=True, **more)
+    if kind == "ecsv" and table.columns[0].dtype.kind in "US":
+        _quote_number_signs(path)
+
+
+def _quote_number_signs(path: str) -> None:
+    """Puts the first field of a row of an ECSV file into quotes where it begins with a number sign, since readers take
+    the row for a comment else.
+    """
+    lines = pathlib.Path(path).read_text(encoding="utf-8").split("\n")
+    names = next(place for place, line in enumerate(lines) if not line.startswith("#"))
+    rows = [re.sub("^#[^ ]*", r'"\g<0>"', line) for line in lines[names:]]
+    if rows != lines[names:]:
+        pathlib.Path(path).write_text("\n".join(lines[:names] + rows), encoding="utf-8")
 
 
 def _region_lines(table: Union[Rows, "Table"]) -> Iterator[str]:

@@ -75,6 +75,12 @@ def test_ellipses_on_the_sky():
     assert table["PA"][1] == pytest.approx(135, abs=1e-3)
 
 
+def test_rows_that_begin_with_a_number_sign(tmp_path):
+    table = Table({"EXTENSION": ["#", "SCI", "#2"], "NUMBER": numpy.array([1, 2, 3], dtype="i4")})
+    tables.write(table, tmp_path / "cat.ecsv")
+    assert Table.read(tmp_path / "cat.ecsv")["EXTENSION"].tolist() == ["#", "SCI", "#2"]
+
+
 def test_without_a_wcs():
     for none in (None, fits.Header({"BUNIT": "adu"})):
         table = tables.finished(catalogue(), none)
